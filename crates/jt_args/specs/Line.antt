@@ -134,8 +134,8 @@ IsNumber bits text = IsNumeral 10 (without_leading_plus text)
     × (digits_value 10 (without_leading_plus text) < 2 ^ bits)
 
 -- The number of an option: the number that its text spells, or the default if the line lacks the
--- option. The text is read without the minus of `-0`. A line that gives an option twice, or with a
--- text that is not a number in its range, is not taken.
+-- option. The text is read without the minus of `-0`. A line that contains an option twice, or with
+-- a text that is not a number in its range, is not taken.
 abbrev pub IsGiven : ℕ → ℕ → Option Text → ℕ → Type 0
 IsGiven bits default None number = number ≡ default
 IsGiven bits default (Some text) number =
@@ -163,15 +163,15 @@ abbrev pub IsSlice : List Row → ℕ → Type 0
 IsSlice rows slice = IsGiven 32 usual_slice (one_of (codes "slice") rows) slice
     × (1 ≤ slice) × (slice ≤ max_slice)
 
--- A flag, by the text of its row: `true` if the flag is given, and `false` or no row if it is not.
--- A line that gives a flag twice, or with a value, is not taken.
+-- A flag, by the text of its row: `true` if the line contains the flag, and `false` or no row if it
+-- is not. A line that contains a flag twice, or with a value, is not taken.
 abbrev pub IsFlag : Option Text → Bool → Type 0
 IsFlag None given = given ≡ false
 IsFlag (Some text) given =
     ((text ≡ codes "true") × (given ≡ true)) ⊎ ((text ≡ codes "false") × (given ≡ false))
 
--- The options under which templates are read: those of the flags. Printed values are escaped unless
--- the flag forbids it.
+-- The options under which templates are read, from the flags. Printed values are escaped unless the
+-- flag forbids it.
 abbrev pub IsOptions : List Row → Options → Type 0
 IsOptions rows options = IsFlag (one_of (codes "trim-blocks") rows) options.trim_blocks
     × IsFlag (one_of (codes "lstrip-blocks") rows) options.lstrip_blocks
@@ -251,7 +251,7 @@ IfUsage P job_error.NoMemory = Unit {0}
 abbrev pub IsSwitch : Text → Type 0
 IsSwitch text = (text ≡ codes "true") ⊎ (text ≡ codes "false")
 
--- Each option of a budget that the line gives has a number in the range of its type.
+-- Each option of a budget that the line contains has a number in the range of its type.
 abbrev pub HasNumbers : List Row → Type 0
 HasNumbers rows = IfSome (one_of (codes "fuel") rows) (IsNumber 64)
     × IfSome (one_of (codes "depth") rows) (IsNumber 32)
@@ -259,13 +259,13 @@ HasNumbers rows = IfSome (one_of (codes "fuel") rows) (IsNumber 64)
     × IfSome (one_of (codes "size") rows) (IsNumber 32)
     × IfSome (one_of (codes "nesting") rows) (IsNumber 8)
 
--- The option of a turn, if the line gives it, has a number in its range.
+-- The option of a turn, if the line contains it, has a number in its range.
 abbrev pub HasSlice : List Row → Type 0
 HasSlice rows = IfSome (one_of (codes "slice") rows) (λ text. IsNumber 32 text
     × (1 ≤ digits_value 10 (without_leading_plus text))
     × (digits_value 10 (without_leading_plus text) ≤ max_slice))
 
--- Each flag that the line has is given with the text of a flag.
+-- Each flag that the line contains has the text of a flag.
 abbrev pub HasSwitches : List Row → Type 0
 HasSwitches rows = IfSome (one_of (codes "trim-blocks") rows) IsSwitch
     × IfSome (one_of (codes "lstrip-blocks") rows) IsSwitch

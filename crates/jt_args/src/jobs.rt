@@ -1,4 +1,4 @@
-//! The jobs that a command line can request.
+//! Defines the jobs that a command line can request.
 
 use jt_budget::Budget;
 use jt_scan::Options;
@@ -49,8 +49,8 @@ pub struct Pair {
     pub context: String,
 }
 
-/// A command with its options and numbers. Those that the command does not take have their
-/// defaults.
+/// A command with its options and numbers. Options and numbers that the command does not take have
+/// their defaults.
 #[derive(Debug, Drop, PartialEq, Eq)]
 pub struct Job {
     pub command: Command,
@@ -61,13 +61,13 @@ pub struct Job {
     pub slice: u32,
 }
 
-/// Why a command line requests no job.
+/// The reason why a command line requests no job.
 #[derive(Debug, Drop, Error)]
 pub enum JobError {
     /// The text for standard error: the mistake in the line, or the help that the line requests.
     #[error("{0}")]
     Usage(String),
-    /// A growth was refused.
+    /// A refused growth.
     #[error("no memory")]
     NoMemory,
 }

@@ -20,7 +20,7 @@ abbrev pub repeated : List Text → Bool
 repeated [] = false
 repeated (x ∷ xs) = among x xs || repeated xs
 
--- The ascending list with a text inserted in its place. A text that is in the list is not inserted
+-- The ascending list with a text inserted in order. A text that is in the list is not inserted
 -- again.
 abbrev pub inserted : Text → List Text → List Text
 inserted x [] = x ∷ []

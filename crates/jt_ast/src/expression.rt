@@ -1,4 +1,4 @@
-//! The syntax trees of expressions, as written: no name is resolved yet.
+//! Defines the syntax trees of expressions, as written: no name is resolved yet.
 
 ghost use Rattle.std.specs.Prelude.{◌≡◌};
 ghost use Rattle.jt_ast.specs.ExpressionView.{is_negated};

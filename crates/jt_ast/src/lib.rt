@@ -1,4 +1,4 @@
-//! The syntax trees of templates and expressions, as written: no name is resolved yet.
+//! Defines the syntax trees of templates and expressions, as written: no name is resolved yet.
 //!
 //! `expression` defines expressions, `statement` defines statements, and `written` finds the texts
 //! and filters that parts of an expression denote. Read first: specs/Statements.antt and

@@ -1,4 +1,4 @@
-//! The syntax trees of templates, as written: no name is resolved yet.
+//! Defines the syntax trees of templates, as written: no name is resolved yet.
 
 ghost use Rattle.std.specs.Prelude.{◌≡◌};
 ghost use Rattle.jt_ast.specs.StatementView.{is_ignored, passes_context, body_view, body_of};

@@ -10,7 +10,7 @@ use Rattle.jt_ast.specs.Expressions.{Text}
 use Rattle.jt_chains.specs.Chain.{Namespace, a_chain, a_library, same_namespace, listed}
 use Rattle.jt_rules.specs.CompileEnv.{CompileEnv}
 use Rattle.jt_ir.specs.Slots as slots
-use Rattle.jt_semantics.specs.Layout.{Key, of_chain, of_body, same_key, place_of, entry_keys, chain_keys, names}
+use Rattle.jt_semantics.specs.Layout.{Key, of_chain, of_body, same_key, index_of, entry_keys, chain_keys, names}
 use Rattle.jt_semantics.specs.Layout.{names_in, first_slot, unit, block_parameters, Table}
 use Rattle.jt_semantics.specs.Resolve.{StaticEnv, place, left_out, followed, alone, handed_on, reads, placed_body}
 use Rattle.jt_bind.specs.internal.Chains.{Chains}
@@ -45,17 +45,17 @@ absent_names cenv (k ∷ ks) h e = search (arith, rules, neither, if_false, flat
 
 -- A key that differs from all of these comes after them.
 mapped_past : {A : Type 0} (f : A → Key) (k : Key) → ((a : A) → same_key (f a) k ≡ false)
-    → (xs : List A) (ys : List Key) → place_of k (map f xs ++ ys) ≡ length (map f xs) + place_of k ys
+    → (xs : List A) (ys : List Key) → index_of k (map f xs ++ ys) ≡ length (map f xs) + index_of k ys
 mapped_past f k h [] ys = omega arith
 mapped_past f k h (x ∷ xs) ys = search (arith, rules, mapped_past f k h xs ys)
 
 entry_past : (cenv : CompileEnv) (k : Namespace) (x : Text) (ys : List Key) → same_namespace k (a_chain x) ≡ false
-    → place_of (of_chain x) (entry_keys cenv k ++ ys) ≡ length (entry_keys cenv k) + place_of (of_chain x) ys
-entry_past cenv (a_chain n) x ys e = if_false (bytes_eq n x) 0 (suc (place_of (of_chain x) ys)) e ∙ omega arith
+    → index_of (of_chain x) (entry_keys cenv k ++ ys) ≡ length (entry_keys cenv k) + index_of (of_chain x) ys
+entry_past cenv (a_chain n) x ys e = if_false (bytes_eq n x) 0 (suc (index_of (of_chain x) ys)) e ∙ omega arith
 entry_past cenv (a_library n) x ys e = omega arith
 
 pub absent_unit : (cenv : CompileEnv) (ks : List Namespace) (x : Text) → listed (a_chain x) ks ≡ false
-    → place_of (of_chain x) (flat_map (chain_keys cenv) ks) ≡ length (flat_map (chain_keys cenv) ks)
+    → index_of (of_chain x) (flat_map (chain_keys cenv) ks) ≡ length (flat_map (chain_keys cenv) ks)
 absent_unit cenv [] x e = refl
 absent_unit cenv (k ∷ ks) x e =
     search

@@ -13,10 +13,12 @@ use Rattle.jt_ir.specs.Pool.{placed_condition, placed_stmt, placed_body}
 use Rattle.jt_ir.specs.Slots as slots
 use Rattle.jt_ir.specs.Slots.{SlotExpr, SRow, SBody}
 use Rattle.jt_ir.specs.View.{Front, slot_view, targets_view, place_view, expr_view, stmt_view, body_view, choice_view}
+use Rattle.jt_ir.specs.View.{filtered_view}
 use Rattle.jt_ir.specs.declared.program.Place as code_place
 use Rattle.jt_ir.specs.declared.program.Slot as code_slot
 use Rattle.jt_ir.specs.declared.program.Targets as code_targets
 use Rattle.jt_ir.specs.declared.program.SlotExpr as code
+use Rattle.jt_ir.specs.declared.program.Filtered.{Filtered}
 use Rattle.jt_ir.specs.declared.program.SlotStmt as code_stmt
 use Rattle.jt_ir.specs.declared.program.SlotStmt.TheVariants as s
 use Rattle.jt_semantics.specs.Resolve.{followed, alone}
@@ -119,9 +121,9 @@ module _ (templates : List Text) where
     pooled = ap (λ l. l ++ body_values left) f ∙ append_assoc p (stmt_values c) (body_values left);
   }
 
-  pub print_led : (at : code_place.Place) (pl : Place) (escaping : Bool) (c : SlotExpr Constant) (e : code.SlotExpr)
+  pub print_led : (at : code_place.Place) (pl : Place) (escaping : Bool) (c : SlotExpr Constant) (e : Filtered)
       (ss ts : List code_stmt.SlotStmt) (p q : List Tree)
-      → place_view templates at ≡ pl → IsPlaced c (expr_view e) p q
+      → place_view templates at ≡ pl → IsPlaced c (filtered_view e) p q
       → ts ≡ ss ++ s.Print at escaping e ∷ [] → Led templates (alone (slots.print pl escaping c)) ss ts p q
   print_led at pl escaping c e ss ts p q f h = search (arith, rules, stmt_led, view_Print)
 

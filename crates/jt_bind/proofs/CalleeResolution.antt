@@ -19,7 +19,7 @@ use Rattle.jt_ir.specs.Pool.{Constant, own}
 use Rattle.jt_ir.specs.Slots.{SlotExpr, absent, invoke, SRow, item, variable, local, made, a_list, field, pooled}
 use Rattle.jt_ir.specs.View.{slot_view}
 use Rattle.jt_ir.specs.declared.program.Slot.{Slot}
-use Rattle.jt_semantics.specs.Layout.{Table, slot_in, of_macro, of_body, unit, default_place}
+use Rattle.jt_semantics.specs.Layout.{Table, slot_in, of_macro, of_body, unit, default_index}
 use Rattle.jt_semantics.specs.Resolve.{operation_of, read_from, filled, invoked_body, reads, first_locals}
 use Rattle.jt_bind.specs.internal.Callees.{IsSignature, unit_of}
 use Rattle.jt_bind.specs.declared.callee.Signature.{Signature}
@@ -33,7 +33,7 @@ pub macro_called : (cenv : CompileEnv) (order : List Namespace) (h : Namespace) 
     → IsSignature cenv order h s m → (escaping : Bool) (front : SRow Constant → SRow Constant) (n : ℕ) (ks : Table)
     → invoke s.unit escaping (front (filled (parameters_view s.parameters.now) n s.first_default ks))
     ≡ invoke (unit cenv order (of_macro h m.name)) escaping
-    (front (filled m.parameters n (default_place cenv order h m.name) ks))
+    (front (filled m.parameters n (default_index cenv order h m.name) ks))
 macro_called cenv order h s m is escaping front n ks = search (arith, rules)
 
 -- The call of a block, by the unit of its first body.

@@ -1,15 +1,21 @@
 -- The filters of a filter tag, in order.
 use Rattle.std.proofs.Common.{◌≡◌, ℕ, ◌+◌, ◌<◌, List, [], ◌∷◌, ◌++◌, length, take, get_or, refl, sym, ap, ◌∙◌}
+use Rattle.std.proofs.Common.{append-nil}
+use Rattle.jt_value.specs.Tree.{Tree}
 use Rattle.std.proofs.lemmas.List.{take_more, map-append}
 use Rattle.jt_ast.specs.Statements as trees
 use Rattle.jt_ast.specs.StatementView.{filter_call_view, filter_calls_view}
 use Rattle.jt_ast.specs.declared.statement.FilterCall.{FilterCall}
-use Rattle.jt_ir.specs.Pool.{Constant}
-use Rattle.jt_ir.specs.Slots.{SlotExpr}
+use Rattle.jt_ir.specs.Pool.{Constant, expr_values, row_values, placed_expr, placed_row}
+use Rattle.jt_ir.specs.Slots as slots
+use Rattle.jt_ir.specs.Slots.{SlotExpr, SRow, NaryOp}
+use Rattle.jt_ir.specs.View.{row_view}
+use Rattle.jt_ir.proofs.ExpressionViews.{Entry}
 use Rattle.jt_semantics.specs.Resolve.{resolved_filters}
 use Rattle.jt_bind.specs.internal.Chains.{Chains}
 use Rattle.jt_bind.specs.declared.senv.StaticEnv.{StaticEnv}
-use Rattle.jt_bind.specs.internal.Scoped.{cenv_in, order_in, senv_in, filtered_in}
+use Rattle.jt_bind.specs.internal.Scoped.{IsPlaced, RowLeads, cenv_in, order_in, senv_in, filtered_in}
+use Rattle.jt_bind.proofs.RowConcatenation.{grown_by, both_pooled}
 
 filters_push : (s : Chains) (senv : StaticEnv) (fs : List trees.FilterCall) (f : trees.FilterCall)
     (e : SlotExpr Constant)
@@ -38,3 +44,16 @@ filters_next s senv fs i f e lt is =
     resolved_filters (cenv_in s) (order_in s) (filter_calls_view (take i fs ++ g ∷ [])) (senv_in s senv) e) is
     ∙ ap (λ (l : List FilterCall). resolved_filters (cenv_in s) (order_in s) (filter_calls_view l) (senv_in s senv) e)
     (sym (take_more fs i f lt))
+
+-- One more filter of a resolved value.
+pub filter_placed : (k : NaryOp) (c : SlotExpr Constant) (es : SRow Constant) (x : SlotExpr ℕ) (row : List Entry)
+    (p q r : List Tree)
+    → IsPlaced c x p q → RowLeads es slots.none [] row q r
+    → IsPlaced (slots.made k (slots.item c es)) (slots.made k (slots.item x (row_view row slots.none))) p r
+filter_placed k c es x row p q r h g = record {
+  shown =
+      ap (λ z. slots.made k (slots.item z (row_view row slots.none))) h.shown
+      ∙ ap (λ z. slots.made k (slots.item (placed_expr c (length p)) z))
+      (g.shown ∙ ap (placed_row es) (grown_by p (expr_values c) q h.pooled));
+  pooled = both_pooled p (expr_values c) (row_values es) q r h.pooled (sym (append-nil r) ∙ g.pooled);
+}

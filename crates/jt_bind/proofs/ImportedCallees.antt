@@ -8,7 +8,7 @@ use Rattle.jt_chains.specs.Chain.{Sources, Namespace, a_library, same_namespace,
 use Rattle.jt_chains.specs.Chain.{is_private, public_macro, Definition, given_to, a_macro, no_callee, of_library}
 use Rattle.jt_chains.specs.Chain.{in_library, callee}
 use Rattle.jt_chains.specs.Includes.{InOrder}
-use Rattle.jt_chains.specs.Places.{namespace_at}
+use Rattle.jt_chains.specs.Indices.{namespace_at}
 use Rattle.jt_rules.specs.CompileEnv.{CompileEnv}
 use Rattle.jt_semantics.proofs.RoutineLookup.{macro_named}
 use Rattle.jt_semantics.proofs.DefinedNames.{LeadsTo, called_macro}

@@ -13,6 +13,8 @@ use Rattle.jt_ir.specs.View.{Front, slot_view, targets_view, expr_view, row_view
 use Rattle.jt_ir.specs.declared.program.Slot as code_slot
 use Rattle.jt_ir.specs.declared.program.Place.{Place}
 use Rattle.jt_ir.specs.declared.program.Targets.{Targets}
+use Rattle.jt_ir.specs.View.{filter_after, filters_after}
+use Rattle.jt_ir.specs.declared.program.SlotFilter.{SlotFilter}
 use Rattle.jt_ir.specs.declared.program.SlotExpr as code
 use Rattle.jt_ir.specs.declared.program.SlotStmt as code_stmt
 use Rattle.jt_ir.specs.declared.program.SlotStmt.TheVariants as s
@@ -21,7 +23,7 @@ use Rattle.jt_ir.proofs.StatementViews.{SBranch}
 use Rattle.jt_ir.proofs.ExpressionViews.{Entry}
 use Rattle.jt_ir.proofs.StatementViews.{view_If, view_For, view_Capture}
 
--- ---- the count does not depend on pool places
+-- ---- the count does not depend on pool indices
 
 both_counted : (a b c d : ℕ) → a ≡ b → c ≡ d → max a c ≡ max b d
 both_counted a b c d e f = ap (λ n. max n c) e ∙ ap (max b) f
@@ -95,6 +97,26 @@ pub row_step : (es : List Entry) (i : ℕ) (b : Entry) (n k m m' r : ℕ) → i 
     → max m (row_locals (row_view (drop i es) slots.none)) ≡ r
     → max m' (row_locals (row_view (drop (i + 1) es) slots.none)) ≡ r
 row_step es i b n k m m' r lt is given kept checked_sum so = search (arith, rules, drop_more, counted_on)
+
+-- The locals of the arguments of filters.
+abbrev pub filters_locals : List SlotFilter → ℕ
+filters_locals [] = 0
+filters_locals (f ∷ fs) = max (row_locals (row_view f.row.items slots.none)) (filters_locals fs)
+
+max_again : (a b c : ℕ) → max (max a b) c ≡ max a (max b c)
+max_again a b c = omega arith
+
+pub filters_counted : (fs : List SlotFilter) (x : SlotExpr ℕ)
+    → expr_locals (filters_after fs x) ≡ max (expr_locals x) (filters_locals fs)
+filters_counted [] x = sym (max_zero (expr_locals x))
+filters_counted (f ∷ fs) x =
+    filters_counted fs (filter_after f x)
+    ∙ max_again (expr_locals x) (row_locals (row_view f.row.items slots.none)) (filters_locals fs)
+
+pub filter_step : (fs : List SlotFilter) (i : ℕ) (f : SlotFilter) (n m m' r : ℕ) → i < length fs → f ≡ get_or fs i f
+    → n ≡ row_locals (row_view f.row.items slots.none) → m' ≡ max m n → max m (filters_locals (drop i fs)) ≡ r
+    → max m' (filters_locals (drop (i + 1) fs)) ≡ r
+filter_step fs i f n m m' r lt is counted larger so = search (arith, rules, drop_more, counted_on)
 
 pub body_step : (templates : List Text) (ss : List code_stmt.SlotStmt) (i : ℕ) (x : code_stmt.SlotStmt) (n m m' : ℕ)
     (behind : SBody ℕ) (r : ℕ)

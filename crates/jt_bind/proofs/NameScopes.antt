@@ -6,7 +6,7 @@ use Rattle.std.proofs.lemmas.List.{take_more, map-append}
 use Rattle.jt_ast.specs.Expressions.{Text}
 use Rattle.jt_semantics.specs.Layout.{Table, slot_in}
 use Rattle.jt_semantics.specs.Resolve.{bound_table}
-use Rattle.jt_layout.specs.Names.{place_in}
+use Rattle.jt_layout.specs.Names.{index_in}
 use Rattle.jt_ast.specs.Texts.{texts}
 use Rattle.jt_bind.specs.internal.Scoped.{framed}
 use Rattle.jt_bind.specs.declared.name_scope.NameScope.{NameScope}
@@ -32,7 +32,7 @@ pub framed_found : (x : Text) (rs : List (Rc NameScope Global)) (i : ℕ) (f : N
     (t : Table)
     → i < length rs → f ≡ (get_or rs i r).value
     → slot_in x (framed (map (λ f. f.value) (take (i + 1) rs)) t)
-    ≡ found_or (place_in f.index.places x) (slot_in x (framed (map (λ f. f.value) (take i rs)) t))
+    ≡ found_or (index_in f.index.indices x) (slot_in x (framed (map (λ f. f.value) (take i rs)) t))
 framed_found x rs i f r t lt is =
     let inner = framed (map (λ f. f.value) (take i rs)) t in
     ap (slot_in x) (framed_more rs i r t lt)

@@ -25,9 +25,9 @@ use jt_layout::checked_sum;
 use jt_value::{NoMemory, Value};
 
 impl<'t, 's, 'a> Resolver<'t, 's, 'a> {
-    /// Appends the values of a macro's parameters after the positional ones: the keyword argument
-    /// of the parameter's name, or its default. The keyword arguments are in the locals from the
-    /// first free one on.
+    /// Appends the values of the parameters of a macro that no positional argument fills. Each
+    /// value is the keyword argument of the parameter's name, or the parameter's default. The
+    /// keyword arguments are in the locals from the first free one on.
     #[inline(never)]
     pub(crate) fn fill(
         &self,
@@ -49,8 +49,8 @@ impl<'t, 's, 'a> Resolver<'t, 's, 'a> {
         Ok(())
     }
 
-    /// Appends the values of a filter's parameters after the positional ones, up to the last one
-    /// that is given by keyword.
+    /// Appends the values of the parameters of a filter that no positional argument fills, up to
+    /// the last parameter that a keyword argument names.
     #[inline(never)]
     pub(crate) fn fill_some(
         &self,
@@ -63,8 +63,8 @@ impl<'t, 's, 'a> Resolver<'t, 's, 'a> {
             slots.none done.old done.new pool.old pool.new) }
     {
         let rest = behind(parameters, arguments.row.len());
-        for (place, parameter) in rest.iter().enumerate() {
-            let left = &rest[place..];
+        for (index, parameter) in rest.iter().enumerate() {
+            let left = &rest[index..];
             if !is_some_given(left, arguments.pairs) {
                 return Ok(());
             }
@@ -103,7 +103,7 @@ fn behind(parameters: &[Parameter], given: usize) -> &[Parameter]
     }
 }
 
-/// Returns whether one of the parameters is given by keyword.
+/// Returns whether a keyword argument names one of the parameters.
 fn is_some_given(parameters: &[Parameter], pairs: &[(String, Expr)]) -> bool
     ensures { result
         ≡ some_given (parameters_view parameters.now) (keywords (written.pairs_view pairs.now)) }
@@ -116,7 +116,7 @@ fn is_some_given(parameters: &[Parameter], pairs: &[(String, Expr)]) -> bool
     false
 }
 
-/// Returns whether a keyword argument has this name.
+/// Returns whether a keyword argument has the name.
 fn is_given(name: &str, pairs: &[(String, Expr)]) -> bool
     ensures { result ≡ among name.now (keywords (written.pairs_view pairs.now)) }
 {

@@ -21,8 +21,8 @@ impl<'a> Tables<'a> {
         ensures { IfOk result (λ u. u ≡ first_unit_in self.now name.now) }
     {
         let here = self.here();
-        match here.first_bodies.place(name) {
-            Some(place) => Ok(Some(checked_sum(here.body_unit, place)?)),
+        match here.first_bodies.index_of(name) {
+            Some(index) => Ok(Some(checked_sum(here.body_unit, index)?)),
             None => Ok(None),
         }
     }
@@ -32,7 +32,7 @@ impl<'a> Tables<'a> {
         ensures { texts result.now ≡ parameters_in self.now name.now }
     {
         let here = self.here();
-        match here.scoped.place(name) {
+        match here.scoped.index_of(name) {
             Some(_) => &here.scope_names,
             None => &here.scope_names[..0],
         }
@@ -80,13 +80,13 @@ impl<'t, 's, 'a> Resolver<'t, 's, 'a> {
         ensures { IfOk result (PutsNone (super_of self.now)) }
     {
         let here = self.tables.here();
-        let Some(place) = self.senv.body else {
+        let Some(index) = self.senv.body else {
             return Ok(absent());
         };
-        let Some(body) = here.blocks.get(place) else {
+        let Some(body) = here.blocks.get(index) else {
             return Ok(absent());
         };
-        let Some(next) = here.next_bodies[place] else {
+        let Some(next) = here.next_bodies[index] else {
             return Ok(absent());
         };
         let unit = checked_sum(here.body_unit, next)?;

@@ -7,7 +7,7 @@ ghost use Rattle.jt_ast.specs.Expressions as trees;
 ghost use Rattle.jt_ast.specs.ExpressionView as written;
 ghost use Rattle.jt_chains.specs.Chain as chain;
 ghost use Rattle.jt_chains.specs.Named.{given_view};
-ghost use Rattle.jt_chains.specs.Places.{namespace_at};
+ghost use Rattle.jt_chains.specs.Indices.{namespace_at};
 ghost use Rattle.jt_bind.specs.internal.Callees.{IsCallee, IsLaidThere, library_of};
 ghost use Rattle.jt_bind.specs.internal.Scoped.{cenv_in, order_in, given_in, given_as, IsCalled};
 ghost use Rattle.jt_bind.specs.internal.Scoped.{IsMacroOf};
@@ -19,7 +19,7 @@ use jt_chains::{Definition, is_private};
 use jt_layout::checked_sum;
 use jt_value::NoMemory;
 
-/// The signature of a macro: its parameters, its unit, and the pool place of its first default.
+/// The signature of a macro: its parameters, its unit, and the pool index of its first default.
 #[derive(Clone, Copy)]
 pub(crate) struct Signature<'s> {
     pub parameters: &'s [Parameter],
@@ -33,7 +33,7 @@ pub(crate) enum Callee<'s> {
     Macro(Signature<'s>),
     Range,
     Super,
-    /// The block of this name.
+    /// A block, by its name.
     Block(&'s str),
     Cycle,
     /// An expression that cannot be called. No chain that keeps the rules has one.
@@ -69,8 +69,8 @@ impl<'a> Tables<'a> {
             ≡ chain.given_to name.now (given_in self.now) }
     {
         let here = self.here();
-        let place = here.given_places.place(name)?;
-        Some(here.given[place].given)
+        let index = here.given_indices.index_of(name)?;
+        Some(here.given[index].given)
     }
 
     /// Returns the callee of a name with this definition. A library itself cannot be called.
@@ -87,33 +87,33 @@ impl<'a> Tables<'a> {
         }
     }
 
-    /// Returns the macro of this name in the chain or library at index `namespace`.
+    /// Returns the macro `name` of the chain or library at index `namespace`.
     fn macro_at<'s>(&'s self, namespace: usize, name: &str) -> Result<Callee<'s>, NoMemory>
         requires { namespace < length (order_in self.now) }
         ensures { IfOk result
             (λ k. IsMacroOf self.now (namespace_at (order_in self.now) namespace) name.now k) }
     {
         let there = self.at(namespace);
-        let Some(place) = there.called.place(name) else {
+        let Some(index) = there.called.index_of(name) else {
             return Ok(Callee::Unknown);
         };
-        let found = &there.macros[place];
+        let found = &there.macros[index];
         Ok(Callee::Macro(Signature {
             parameters: found.parameters,
-            unit: checked_sum(there.macro_unit, place)?,
-            first_default: there.defaults[place],
+            unit: checked_sum(there.macro_unit, index)?,
+            first_default: there.defaults[index],
         }))
     }
 
-    /// Returns the macro of this name in a library, if the library is laid out.
+    /// Returns the macro `name` of a library, if the library is laid out.
     fn library_macro<'s>(&'s self, library: &str, name: &str) -> Result<Callee<'s>, NoMemory>
         ensures { IfOk result (λ k.
             IsLaidThere (cenv_in self.now) (order_in self.now) (chain.a_library library.now)
             name.now
             → IsMacroOf self.now (chain.a_library library.now) name.now k) }
     {
-        match self.library_place(library) {
-            Some(place) => self.macro_at(place, name),
+        match self.library_index(library) {
+            Some(index) => self.macro_at(index, name),
             None => Ok(Callee::Unknown),
         }
     }

@@ -4,15 +4,15 @@ ghost use Rattle.std.specs.Prelude.{List, Option, [], IfOk};
 ghost use Rattle.jt_value.specs.Tree as tree;
 ghost use Rattle.jt_bind.specs.internal.Chains.{Chains};
 ghost use Rattle.jt_semantics.specs.Resolve.{alone};
-ghost use Rattle.jt_bind.specs.internal.Scoped.{values, IsShown, RowLeads, templates_in};
+ghost use Rattle.jt_bind.specs.internal.Scoped.{values, IsPlaced, IsShown, RowLeads, templates_in};
 ghost use Rattle.jt_ast.specs.Expressions.{Text};
 ghost use Rattle.jt_ir.specs.Pool.{Constant, own};
 ghost use Rattle.jt_ir.specs.Slots as slots;
-ghost use Rattle.jt_ir.specs.View.{slot_view, targets_view};
+ghost use Rattle.jt_ir.specs.View.{slot_view, targets_view, filtered_view};
 ghost use Rattle.jt_bind.specs.internal.Stated.{Led, Puts, IsBody, AreTurns, ChoiceLeads, line_in};
 
 use crate::senv::StaticEnv;
-use jt_ir::{Slot, SlotBranch, SlotExpr, SlotStmt, Targets};
+use jt_ir::{Filtered, Slot, SlotBranch, SlotExpr, SlotStmt, Targets};
 use jt_value::{NoMemory, Value};
 use std::alloc::Global;
 
@@ -28,9 +28,9 @@ pub(crate) fn put_data(
         → Led templates (alone (slots.put_pooled (own (tree.text text.now)))) done.old.items
         done.new.items (values pool.old) (values pool.new)) }
 {
-    let place = pool.len();
+    let index = pool.len();
     pool.push(Value::text(alloc, text)?)?;
-    done.push(SlotStmt::PutPooled(place))?;
+    done.push(SlotStmt::PutPooled(index))?;
     Ok(())
 }
 
@@ -47,10 +47,27 @@ pub(crate) fn put_print(
         → Puts s (alone (slots.print (line_in s senv.now line) senv.now.escaping c)) done.old
         done.new p q) }
 {
+    let filters = Vec::new(*done.allocator());
+    put_filtered(senv, line, Filtered { value, filters }, done)
+}
+
+/// Emits a print of a value after the filters of a tag.
+#[inline(never)]
+pub(crate) fn put_filtered(
+    senv: &StaticEnv<'_, '_>,
+    line: u32,
+    filtered: Filtered,
+    done: &mut Vec<SlotStmt>,
+) -> Result<(), NoMemory>
+    ensures { IfOk result (λ u. (s : Chains) (c : slots.SlotExpr Constant) (p q : List tree.Tree)
+        → IsPlaced c (filtered_view filtered) p q
+        → Puts s (alone (slots.print (line_in s senv.now line) senv.now.escaping c)) done.old
+        done.new p q) }
+{
     done.push(SlotStmt::Print {
         place: senv.place(line),
         escaping: senv.escaping,
-        value,
+        value: filtered,
     })?;
     Ok(())
 }
@@ -153,7 +170,7 @@ pub(crate) fn put_capture(
     Ok(())
 }
 
-/// Emits a run of a routine, which prints, with these arguments.
+/// Emits a run of the routine `unit`, which prints, with the arguments `row`.
 #[inline(never)]
 pub(crate) fn put_run(
     unit: usize,

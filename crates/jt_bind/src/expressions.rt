@@ -1,4 +1,4 @@
-//! Resolves expressions: names to slots, and literals and keys to places of a pool.
+//! Resolves expressions: names to slots, and literals and keys to indices of a pool.
 
 ghost use Rattle.std.specs.Prelude.{false, length, List, IfOk, Some};
 ghost use Rattle.jt_value.specs.Tree.{Tree};
@@ -10,12 +10,12 @@ ghost use Rattle.jt_semantics.specs.Resolve as resolve;
 ghost use Rattle.jt_ids.specs.declared.op_id.OpId.TheVariants as op;
 ghost use Rattle.jt_ir.specs.Pool.{Constant};
 ghost use Rattle.jt_ir.specs.Slots as slots;
-ghost use Rattle.jt_bind.specs.internal.Resolving.{IsResolved, RowAdds, RowPuts, by_place, by_name};
-ghost use Rattle.jt_bind.specs.internal.Resolving.{expr_of};
+ghost use Rattle.jt_bind.specs.internal.Resolving.{IsResolved, RowAdds, RowPuts, by_position};
+ghost use Rattle.jt_bind.specs.internal.Resolving.{by_name, expr_of};
 ghost use Rattle.jt_bind.specs.internal.Resolving.{row_of, asides_of, given_of, called_of};
 ghost use Rattle.jt_bind.specs.internal.Resolving.{entries_of};
-ghost use Rattle.jt_bind.specs.internal.Resolving.{filtered_of};
-ghost use Rattle.jt_bind.specs.internal.Scoped.{values, IsShown, IsAdded, turn_in};
+ghost use Rattle.jt_bind.specs.internal.Resolving.{filter_row_of};
+ghost use Rattle.jt_bind.specs.internal.Scoped.{IsAdded, turn_in};
 
 use crate::callee::{Callee, Signature};
 use crate::lookup::{absent, no_value, reading, told};
@@ -131,8 +131,8 @@ impl<'t, 's, 'a> Resolver<'t, 's, 'a> {
             return Ok(told(LoopField::by_name(key)));
         }
         let whole = self.resolve_expression(value, pool)?;
-        let place = add_text(self.alloc, key, pool)?;
-        on_two(self.alloc, OpId::Item, whole, place)
+        let item_key = add_text(self.alloc, key, pool)?;
+        on_two(self.alloc, OpId::Item, whole, item_key)
     }
 
     /// Resolves an item.
@@ -149,8 +149,8 @@ impl<'t, 's, 'a> Resolver<'t, 's, 'a> {
             pool.new) }
     {
         let whole = self.resolve_expression(value, pool)?;
-        let place = self.resolve_expression(index, pool)?;
-        on_two(self.alloc, OpId::Item, whole, place)
+        let item_key = self.resolve_expression(index, pool)?;
+        on_two(self.alloc, OpId::Item, whole, item_key)
     }
 
     /// Resolves a unary operator.
@@ -286,44 +286,43 @@ impl<'t, 's, 'a> Resolver<'t, 's, 'a> {
         pool: &mut Vec<Value>,
     ) -> Result<SlotExpr, NoMemory>
         ensures { IfOk result (λ e. IsResolved self.now
-            (trees.filter (written.expr_view value.now) name.now (by_place arguments.entry)
+            (trees.filter (written.expr_view value.now) name.now (by_position arguments.entry)
             (by_name arguments.entry)) e pool.old pool.new) }
     {
         match filter_of(name, arguments.row, arguments.pairs) {
             None => Ok(absent()),
             Some(filter) => {
                 let first = self.resolve_expression(value, pool)?;
-                self.resolve_filtered(filter, first, arguments, pool)
+                let mut given = row_of(self.alloc, first)?;
+                self.resolve_filter_row(filter, arguments, &mut given, pool)?;
+                Ok(SlotExpr::Made(
+                    NaryOp::Filter {
+                        filter,
+                        escaping: self.senv.escaping,
+                    },
+                    given,
+                ))
             }
         }
     }
 
-    /// Resolves a filter of a resolved value.
+    /// Resolves the arguments of a filter after its value and appends them.
     #[cycle(expressions)]
     #[inline(never)]
-    pub(crate) fn resolve_filtered(
+    pub(crate) fn resolve_filter_row(
         &self,
         filter: FilterId,
-        value: SlotExpr,
         arguments: Arguments<'_>,
+        done: &mut Vec<(Option<usize>, SlotExpr)>,
         pool: &mut Vec<Value>,
-    ) -> Result<SlotExpr, NoMemory>
-        ensures { IfOk result (λ e. (c : slots.SlotExpr Constant) (p : List Tree)
-            → IsShown c value p (values pool.old)
-            → IsShown (filtered_of self.now (Some (filter_id filter)) c (by_place arguments.entry)
-            (by_name arguments.entry)) e p (values pool.new)) }
+    ) -> Result<(), NoMemory>
+        ensures { IfOk result (λ u. RowAdds (filter_row_of self.now (Some (filter_id filter))
+            (by_position arguments.entry) (by_name arguments.entry)) slots.none done.old done.new
+            pool.old pool.new) }
     {
-        let mut given = row_of(self.alloc, value)?;
-        self.resolve_given(arguments, &mut given, pool)?;
+        self.resolve_given(arguments, done, pool)?;
         let parameters = filter_parameters(self.alloc, filter)?;
-        self.fill_some(&parameters, arguments, &mut given, pool)?;
-        Ok(SlotExpr::Made(
-            NaryOp::Filter {
-                filter,
-                escaping: self.senv.escaping,
-            },
-            given,
-        ))
+        self.fill_some(&parameters, arguments, done, pool)
     }
 
     /// Resolves a call.
@@ -336,7 +335,7 @@ impl<'t, 's, 'a> Resolver<'t, 's, 'a> {
         pool: &mut Vec<Value>,
     ) -> Result<SlotExpr, NoMemory>
         ensures { IfOk result (λ e. IsResolved self.now (trees.call (written.expr_view called.now)
-            (by_place arguments.entry) (by_name arguments.entry)) e pool.old pool.new) }
+            (by_position arguments.entry) (by_name arguments.entry)) e pool.old pool.new) }
     {
         match self.tables.callee_of(&*called)? {
             Callee::Macro(signature) => self.resolve_macro(signature, arguments, pool),
@@ -465,8 +464,8 @@ impl<'t, 's, 'a> Resolver<'t, 's, 'a> {
             slots.none done.old done.new pool.old pool.new) }
     {
         for (key, value) in pairs {
-            let place = add_text(self.alloc, key.as_str(), pool)?;
-            done.push((None, place))?;
+            let entry_key = add_text(self.alloc, key.as_str(), pool)?;
+            done.push((None, entry_key))?;
             let next = self.resolve_expression(value, pool)?;
             done.push((None, next))?;
         }

@@ -5,59 +5,72 @@ ghost use Rattle.jt_value.specs.Tree.{Tree};
 ghost use Rattle.jt_ast.specs.StatementView.{filter_call_view, filter_calls_view};
 ghost use Rattle.jt_ir.specs.Pool.{Constant};
 ghost use Rattle.jt_ir.specs.Slots as slots;
-ghost use Rattle.jt_ir.specs.View.{slot_view};
+ghost use Rattle.jt_ir.specs.View.{slot_view, filtered_view};
 ghost use Rattle.jt_bind.specs.internal.Resolving.{filter_call_of, filter_calls_of};
-ghost use Rattle.jt_bind.specs.internal.Scoped.{values, IsShown, IsAdded};
+ghost use Rattle.jt_bind.specs.internal.Scoped.{values, IsPlaced};
 
 use crate::lookup::absent;
 use crate::resolver::{Arguments, Resolver};
 use jt_ast::FilterCall;
 use jt_eval::filter_of;
-use jt_ir::{Slot, SlotExpr};
+use jt_ir::{Filtered, Slot, SlotExpr, SlotFilter};
 use jt_value::{NoMemory, Value};
 
 impl<'t, 's, 'a> Resolver<'t, 's, 'a> {
-    /// Returns the expression that applies each filter, in order, to the value of a slot.
+    /// Returns the value of a slot with the filters of a tag, which are applied in order.
     #[inline(never)]
     pub(crate) fn resolve_filter_calls(
         &self,
         filter_calls: &[FilterCall],
         value: Slot,
         pool: &mut Vec<Value>,
-    ) -> Result<SlotExpr, NoMemory>
-        ensures { IfOk result (λ e. IsAdded
+    ) -> Result<Filtered, NoMemory>
+        ensures { IfOk result (λ v. IsPlaced
             (filter_calls_of self.now (filter_calls_view filter_calls.now)
-            (slots.variable (slot_view value))) e pool.old pool.new) }
+            (slots.variable (slot_view value))) (filtered_view v) (values pool.old)
+            (values pool.new)) }
     {
         let start = pool.len();
-        let mut resolved = SlotExpr::Variable(value);
+        let mut resolved = Filtered {
+            value: SlotExpr::Variable(value),
+            filters: Vec::new(self.alloc),
+        };
         for filter_call in filter_calls {
-            resolved = self.resolve_filter_call(filter_call, start, resolved, pool)?;
+            self.resolve_filter_call(filter_call, start, &mut resolved, pool)?;
         }
         Ok(resolved)
     }
 
-    /// Returns the expression that applies a filter to a resolved value. For an unknown filter,
-    /// cuts the pool back to `start` and returns an absent value.
+    /// Appends a filter. For an unknown filter, cuts the pool back to `start`, and the value
+    /// becomes absent and loses its filters.
     fn resolve_filter_call(
         &self,
         filter_call: &FilterCall,
         start: usize,
-        value: SlotExpr,
+        done: &mut Filtered,
         pool: &mut Vec<Value>,
-    ) -> Result<SlotExpr, NoMemory>
-        ensures { IfOk result (λ e. (c : slots.SlotExpr Constant) (p : List Tree)
+    ) -> Result<(), NoMemory>
+        ensures { IfOk result (λ u. (c : slots.SlotExpr Constant) (p : List Tree)
             → length p ≡ start
-            → IsShown c value p (values pool.old)
-            → IsShown (filter_call_of self.now (filter_call_view filter_call.now) c) e p
-            (values pool.new)) }
+            → IsPlaced c (filtered_view done.old) p (values pool.old)
+            → IsPlaced (filter_call_of self.now (filter_call_view filter_call.now) c)
+            (filtered_view done.new) p (values pool.new)) }
     {
         let row = filter_call.arguments.as_slice();
         let pairs = filter_call.keywords.as_slice();
         let Some(filter) = filter_of(filter_call.name.as_str(), row, pairs) else {
             pool.truncate(start);
-            return Ok(absent());
+            done.value = absent();
+            done.filters.clear();
+            return Ok(());
         };
-        self.resolve_filtered(filter, value, Arguments { row, pairs }, pool)
+        let mut given = Vec::new(self.alloc);
+        self.resolve_filter_row(filter, Arguments { row, pairs }, &mut given, pool)?;
+        done.filters.push(SlotFilter {
+            filter,
+            escaping: self.senv.escaping,
+            row: given,
+        })?;
+        Ok(())
     }
 }

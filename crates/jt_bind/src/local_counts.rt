@@ -7,13 +7,13 @@ ghost use Rattle.jt_bind.specs.internal.Counts as counts;
 ghost use Rattle.jt_ir.specs.Locals as locals;
 ghost use Rattle.jt_ir.specs.Slots as slots;
 ghost use Rattle.jt_ir.specs.View.{slot_view, targets_view, expr_view, row_view, stmt_view};
-ghost use Rattle.jt_ir.specs.View.{body_view};
+ghost use Rattle.jt_ir.specs.View.{body_view, filtered_view};
 
-use jt_ir::{Slot, SlotBranch, SlotExpr, SlotStmt, Targets};
+use jt_ir::{Filtered, Slot, SlotBranch, SlotExpr, SlotStmt, Targets};
 use jt_layout::checked_sum;
 use jt_value::NoMemory;
 
-/// Returns the larger of two numbers.
+/// Returns the greater of two numbers.
 pub(crate) fn larger(left: usize, right: usize) -> usize
     ensures { result ≡ max left right }
 {
@@ -117,6 +117,17 @@ fn row_locals(row: &[(Option<usize>, SlotExpr)]) -> Result<usize, NoMemory>
     Ok(most)
 }
 
+/// Counts the locals of a value and of the filters after it.
+fn filtered_locals(filtered: &Filtered) -> Result<usize, NoMemory>
+    ensures { IfOk result (λ n. n ≡ locals.expr_locals (filtered_view filtered.now)) }
+{
+    let mut most = expr_locals(&filtered.value)?;
+    for filter in &filtered.filters {
+        most = larger(most, row_locals(&filter.row)?);
+    }
+    Ok(most)
+}
+
 /// Counts the locals of a condition, if there is one.
 fn condition_locals(condition: &Option<SlotExpr>) -> Result<usize, NoMemory>
     ensures { IfOk result
@@ -151,7 +162,10 @@ fn stmt_locals(statement: &SlotStmt) -> Result<usize, NoMemory>
 {
     match statement {
         SlotStmt::PutPooled(_) => Ok(0),
-        SlotStmt::Print { value: expr, .. } => expr_locals(expr),
+        SlotStmt::Print {
+            value: filtered,
+            ..
+        } => filtered_locals(filtered),
         SlotStmt::Assign {
             targets,
             value: expr,

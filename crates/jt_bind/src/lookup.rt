@@ -18,13 +18,13 @@ use jt_ir::{Slot, SlotExpr};
 use jt_layout::checked_sum;
 use jt_value::NoMemory;
 
-/// Returns a read of the slot, or of the pool place `place` if there is no slot.
-pub(crate) fn value_or(slot: Option<Slot>, place: usize) -> SlotExpr
-    ensures { PutsNone (resolve.value_or (option_map slot_view slot) (known place)) result }
+/// Returns a read of the slot, or of the pool index `index` if there is no slot.
+pub(crate) fn value_or(slot: Option<Slot>, index: usize) -> SlotExpr
+    ensures { PutsNone (resolve.value_or (option_map slot_view slot) (known index)) result }
 {
     match slot {
         Some(slot) => SlotExpr::Variable(slot),
-        None => SlotExpr::Pooled(place),
+        None => SlotExpr::Pooled(index),
     }
 }
 
@@ -65,7 +65,7 @@ impl<'a> Tables<'a> {
         ensures { option_map slot_view result ≡ slot_in name.now (globals_in self.now) }
     {
         let here = self.here();
-        match here.slots.place(name) {
+        match here.slots.index_of(name) {
             Some(slot) => Some(Slot::Global(slot)),
             None => None,
         }
@@ -81,14 +81,14 @@ impl<'t, 's, 'a> Resolver<'t, 's, 'a> {
         let mut left = self.senv.name_scopes.len();
         while left > 0 {
             left -= 1;
-            if let Some(local) = self.senv.name_scopes[left].index.place(name) {
+            if let Some(local) = self.senv.name_scopes[left].index.index_of(name) {
                 return Some(Slot::Local(local));
             }
         }
         self.tables.global_slot(name)
     }
 
-    /// Returns the local that holds the keyword argument of this name, if there is one.
+    /// Returns the local that holds the keyword argument of the name, if there is one.
     pub(crate) fn kept(
         &self,
         pairs: &[(String, Expr)],

@@ -2,7 +2,7 @@
 
 ghost use Rattle.std.specs.Prelude.{◌≡◌, IfOk, None};
 ghost use Rattle.jt_ast.specs.Expressions.{Text};
-ghost use Rattle.jt_layout.specs.Names.{place_in};
+ghost use Rattle.jt_layout.specs.Names.{index_in};
 ghost use Rattle.jt_ast.specs.Texts.{texts};
 ghost use Rattle.jt_bind.specs.internal.Names.{last_among};
 
@@ -10,15 +10,14 @@ use jt_layout::{NameIndex, checked_sum};
 use jt_value::NoMemory;
 use std::alloc::Global;
 
-/// Names in consecutive locals, from `first` on. Of a name that occurs twice the last occurrence
-/// counts.
+/// Names in consecutive locals, from `first` on. The last occurrence of a repeated name counts.
 #[derive(Drop)]
 pub(crate) struct NameScope<'a> {
     pub names: Vec<&'a str>,
     pub first: usize,
     pub index: NameIndex<'a>,
     pub ghost indexed: { (x : Text)
-        → place_in index.places x ≡ last_among x (texts names.items) first None },
+        → index_in index.indices x ≡ last_among x (texts names.items) first None },
 }
 
 impl<'a> NameScope<'a> {

@@ -115,7 +115,7 @@ fn join(escaping: bool) -> OpId
     }
 }
 
-/// Returns an operation on one operand.
+/// Returns the expression that applies `op` to `operand`.
 #[inline(never)]
 pub(crate) fn on_one(alloc: Global, op: OpId, operand: SlotExpr) -> Result<SlotExpr, NoMemory>
     ensures { IfOk result (MadeOfOne (λ a. slots.made (slots.operator op)
@@ -126,7 +126,7 @@ pub(crate) fn on_one(alloc: Global, op: OpId, operand: SlotExpr) -> Result<SlotE
     Ok(SlotExpr::Made(NaryOp::Operator(op), row))
 }
 
-/// Returns an operation on two operands.
+/// Returns the expression that applies `op` to `left` and `right`.
 #[inline(never)]
 pub(crate) fn on_two(
     alloc: Global,

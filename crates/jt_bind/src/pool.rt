@@ -15,9 +15,9 @@ use std::alloc::Global;
 pub(crate) fn add_value(pool: &mut Vec<Value>, value: Value) -> Result<SlotExpr, NoMemory>
     ensures { IfOk result (λ e. IsAdded (slots.pooled (own (view value))) e pool.old pool.new) }
 {
-    let place = pool.len();
+    let index = pool.len();
     pool.push(value)?;
-    Ok(SlotExpr::Pooled(place))
+    Ok(SlotExpr::Pooled(index))
 }
 
 /// Appends a text to the pool and returns the expression that reads it.

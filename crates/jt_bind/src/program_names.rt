@@ -2,7 +2,7 @@
 
 ghost use Rattle.std.specs.Prelude.{◌≡◌, map, IfOk, string_bytes};
 ghost use Rattle.jt_chains.specs.TemplateFiles.{files_view};
-ghost use Rattle.jt_chains.specs.Places.{namespace_at};
+ghost use Rattle.jt_chains.specs.Indices.{namespace_at};
 ghost use Rattle.jt_semantics.specs.Layout as layout;
 ghost use Rattle.jt_semantics.specs.Programs as programs;
 ghost use Rattle.jt_bind.specs.internal.Scoped.{cenv_in, order_in};
@@ -46,7 +46,7 @@ pub(crate) fn entry_names(alloc: Global, tables: &Tables<'_>) -> Result<Vec<Stri
     strings_of(alloc, &tables.at(0).names)
 }
 
-/// Returns how many globals the chains have.
+/// Returns the number of globals of the chains.
 pub(crate) fn count_globals(tables: &Tables<'_>) -> Result<usize, NoMemory>
     ensures { IfOk result (λ n. n ≡ programs.count_globals (cenv_in tables.now)
         (order_in tables.now) (order_in tables.now)) }

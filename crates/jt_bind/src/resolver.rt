@@ -6,7 +6,7 @@ use jt_ast::Expr;
 use std::alloc::Global;
 
 /// A resolver in a static environment. It resolves names to slots, by the layouts of the chains,
-/// and literals and data to pool places.
+/// and literals and data to pool indices.
 #[derive(Clone, Copy)]
 pub(crate) struct Resolver<'t, 's, 'a> {
     pub alloc: Global,

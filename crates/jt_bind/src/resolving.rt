@@ -1,7 +1,7 @@
-//! Resolves a chain: its names to slots, and its literals and data to places of a pool.
+//! Resolves a chain: its names to slots, and its literals and data to indices of a pool.
 
 ghost use Rattle.std.specs.Prelude.{◌≡◌, IfOk};
-ghost use Rattle.jt_chains.specs.Places.{namespace_at};
+ghost use Rattle.jt_chains.specs.Indices.{namespace_at};
 ghost use Rattle.jt_chains.specs.View.{chain_view};
 ghost use Rattle.jt_rules.specs.CompileEnv.{cenv_of};
 ghost use Rattle.jt_semantics.specs.Programs.{program};

@@ -38,7 +38,7 @@ fn top_senv<'s, 'a>(tables: &'s Tables<'a>, template: usize) -> StaticEnv<'s, 'a
 }
 
 impl<'t, 's, 'a> Resolver<'t, 's, 'a> {
-    /// Resolves a body as a routine with these parameters, in a scope of its own.
+    /// Resolves a body as a routine with `parameters`, in a scope of its own.
     fn resolve_routine(
         &self,
         body: &'a [Stmt],
@@ -60,7 +60,7 @@ impl<'t, 's, 'a> Resolver<'t, 's, 'a> {
         })
     }
 
-    /// Resolves those statements that set names, and appends them.
+    /// Resolves the statements that set names, and appends them.
     fn resolve_sets(
         &self,
         body: &'a [Stmt],
@@ -76,8 +76,8 @@ impl<'t, 's, 'a> Resolver<'t, 's, 'a> {
         Ok(())
     }
 
-    /// Resolves a template of a chain and appends it: all statements of the root, and only those
-    /// that set names of any other template.
+    /// Resolves the statements of a template of a chain, and appends them. If the template is not
+    /// the root, only the statements that set names are resolved.
     fn resolve_layer(
         &self,
         body: &'a [Stmt],
@@ -106,8 +106,8 @@ fn resolve_layers<'a>(
     ensures { IfOk result (λ u. BodyLed tables.now (layers_in tables.now layers.now) done.old
         done.new pool.old pool.new) }
 {
-    for (place, layer) in layers.iter().enumerate() {
-        let is_root = place + 1 == layers.len();
+    for (index, layer) in layers.iter().enumerate() {
+        let is_root = index + 1 == layers.len();
         let resolver = Resolver {
             alloc,
             tables,
@@ -193,11 +193,11 @@ fn resolve_blocks<'a>(
         pool.old pool.new) }
 {
     let here = tables.here();
-    for (place, block) in here.blocks.iter().enumerate() {
+    for (index, block) in here.blocks.iter().enumerate() {
         let senv = StaticEnv {
             template: block.template,
             escaping: block.escaping,
-            body: Some(place),
+            body: Some(index),
             name_scopes: &[],
             free: 0,
         };

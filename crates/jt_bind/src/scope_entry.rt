@@ -27,8 +27,8 @@ pub(crate) struct EnteredScope<'a> {
     pub free: usize,
 }
 
-/// Returns the scopes of the environment and, innermost, one with these names in locals from the
-/// first free one on.
+/// Returns the scopes of the environment with one more, the innermost. The added scope keeps
+/// `names` in locals from the first free one on.
 fn framed_by<'a>(
     alloc: Global,
     senv: &StaticEnv<'_, 'a>,
@@ -45,7 +45,7 @@ fn framed_by<'a>(
     Ok(name_scopes)
 }
 
-/// Enters a scope with these names.
+/// Enters a scope with the names `names`.
 #[inline(never)]
 pub(crate) fn entered<'a>(
     alloc: Global,

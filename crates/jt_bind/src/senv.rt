@@ -30,7 +30,7 @@ impl<'s, 'a> StaticEnv<'s, 'a> {
     ghost use Rattle.jt_bind.specs.internal.Scoped.{Enters, globals_in, senv_in, templates_in};
     ghost use Rattle.jt_bind.specs.internal.Stated.{line_in};
 
-    /// Returns this environment without scopes, so that names are globals.
+    /// Returns the environment without scopes, so that names are globals.
     pub(crate) fn outside(self) -> StaticEnv<'s, 'a>
         ensures { (scope : Chains)
             → senv_in scope result
@@ -42,7 +42,7 @@ impl<'s, 'a> StaticEnv<'s, 'a> {
         }
     }
 
-    /// Returns this environment inside an entered scope, so that the names of the scope are in
+    /// Returns the environment inside an entered scope, so that the names of the scope are in
     /// locals.
     pub(crate) fn inside(self, inner: &'s EnteredScope<'a>) -> StaticEnv<'s, 'a>
         ensures { (names : List Text) (scope : Chains)

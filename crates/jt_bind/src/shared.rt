@@ -15,7 +15,7 @@ use jt_chains::Macro;
 use jt_value::{NoMemory, Value};
 use std::alloc::Global;
 
-/// Adds the defaults of parameters.
+/// Appends the defaults of parameters to the pool.
 fn add_defaults(
     alloc: Global,
     parameters: &[Parameter],
@@ -30,7 +30,7 @@ fn add_defaults(
     Ok(())
 }
 
-/// Adds the defaults of macros.
+/// Appends the defaults of macros to the pool.
 fn add_macros(alloc: Global, macros: &[Macro<'_>], pool: &mut Vec<Value>) -> Result<(), NoMemory>
     ensures { IfOk result (λ _. (ts : List Template) → values pool.new
         ≡ values pool.old ++ layout.defaults_of (map (macro_view ts) macros.now)) }

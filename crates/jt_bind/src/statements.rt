@@ -1,4 +1,4 @@
-//! Resolves statements: names to slots, and literals and data to places of a pool.
+//! Resolves statements: names to slots, and literals and data to indices of a pool.
 
 ghost use Rattle.std.specs.Prelude.{ℕ, option_map, IfOk, if◌then◌else◌};
 ghost use Rattle.jt_ast.specs.ExpressionView as written;
@@ -18,7 +18,9 @@ ghost use Rattle.jt_ir.specs.View.{slot_view};
 ghost use Rattle.jt_ast.specs.Texts.{texts};
 ghost use Rattle.jt_bind.specs.internal.Stated.{IsAsked};
 
-use crate::emission::{Turns, put_assign, put_capture, put_choice, put_data, put_loop, put_print};
+use crate::emission::{
+    Turns, put_assign, put_capture, put_choice, put_data, put_filtered, put_loop, put_print,
+};
 use crate::resolver::Resolver;
 use crate::scope_entry::entered;
 use crate::targets::fresh_targets;
@@ -252,11 +254,11 @@ impl<'t, 's, 'a> Resolver<'t, 's, 'a> {
         inside.senv.free = checked_sum(self.senv.free, 1)?;
         inside.resolve_text(body, kept, done, pool)?;
         let shown = inside.resolve_filter_calls(filters, kept, pool)?;
-        put_print(&self.senv, line, shown, done)
+        put_filtered(&self.senv, line, shown, done)
     }
 
-    /// Resolves a body in a scope of its own, with these names in locals from the first free one
-    /// on, and appends it.
+    /// Resolves a body in a scope of its own and appends it. The scope keeps `names` in locals from
+    /// the first free one on.
     #[cycle(statements)]
     #[inline(never)]
     pub(crate) fn resolve_within(

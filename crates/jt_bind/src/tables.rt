@@ -3,7 +3,7 @@
 ghost use Rattle.std.specs.Prelude.{◌≡◌, ◌<◌, length, IfOk};
 ghost use Rattle.std.specs.Option.{is_none};
 ghost use Rattle.jt_chains.specs.Chain.{a_chain, a_library};
-ghost use Rattle.jt_chains.specs.Places.{namespace_at};
+ghost use Rattle.jt_chains.specs.Indices.{namespace_at};
 ghost use Rattle.jt_layout.specs.NamespaceLayout.{IsNamespaceAt};
 ghost use Rattle.jt_semantics.specs.Layout.{keys};
 ghost use Rattle.jt_bind.specs.internal.Scoped.{cenv_in, order_in, namespace_in, IsTable};
@@ -91,25 +91,25 @@ impl<'a> Tables<'a> {
         &self.scope.namespaces[self.scope.namespace]
     }
 
-    /// Returns the index of the chain of this name.
-    pub(crate) fn chain_place(&self, name: &str) -> Option<usize>
+    /// Returns the index of the chain `name`.
+    pub(crate) fn chain_index(&self, name: &str) -> Option<usize>
         ensures { IsNamespaceAt (order_in self.now) (a_chain name.now) result }
     {
-        self.scope.places.place(name)
+        self.scope.indices.index_of(name)
     }
 
-    /// Returns the index of the library of this name.
-    pub(crate) fn library_place(&self, name: &str) -> Option<usize>
+    /// Returns the index of the library `name`.
+    pub(crate) fn library_index(&self, name: &str) -> Option<usize>
         ensures { IsNamespaceAt (order_in self.now) (a_library name.now) result }
     {
-        self.scope.libraries.place(name)
+        self.scope.libraries.index_of(name)
     }
 
-    /// Returns whether no template of this name was read.
+    /// Returns whether no template `name` was read.
     pub(crate) fn is_missing(&self, name: &str) -> bool
         ensures { result ≡ is_none ((cenv_in self.now).sources name.now) }
     {
-        self.scope.sources.place(name).is_none()
+        self.scope.sources.index_of(name).is_none()
     }
 
     /// Returns the number of units.

@@ -26,28 +26,28 @@ impl<'t, 's, 'a> Resolver<'t, 's, 'a> {
         self.slot(name).unwrap_or(Slot::Local(0))
     }
 
-    /// Returns the slot of the name at index `place`, if this is its last occurrence.
-    fn kept_slot(&self, last: &NameScope<'_>, place: usize, name: &str) -> Option<Slot>
+    /// Returns the slot of the name at index `index`, if this is its last occurrence.
+    fn kept_slot(&self, last: &NameScope<'_>, index: usize, name: &str) -> Option<Slot>
         ensures { option_map slot_view result
-            ≡ slot_if (last_among name.now (texts last.now.names.items) last.now.first None) place
+            ≡ slot_if (last_among name.now (texts last.now.names.items) last.now.first None) index
             (slot_in name.now (table_of self.now)) }
     {
-        if last.index.place(name)? == place {
+        if last.index.index_of(name)? == index {
             self.slot(name)
         } else {
             None
         }
     }
 
-    /// Returns the slots of names that are set. Of a name that occurs twice the last value counts.
+    /// Returns the slots of names that are set. The last value of a repeated name counts.
     fn kept_slots(&self, names: &[String]) -> Result<Vec<Option<Slot>>, NoMemory>
         ensures { IfOk result (λ ss. map (option_map slot_view) ss.items
             ≡ resolve.kept_slots (table_of self.now) (names_view names.now)) }
     {
         let last = NameScope::new(self.alloc, names_of(self.alloc, names)?, 0)?;
         let mut slots = Vec::with_capacity(self.alloc, names.len())?;
-        for (place, name) in names.iter().enumerate() {
-            slots.push(self.kept_slot(&last, place, name.as_str()))?;
+        for (index, name) in names.iter().enumerate() {
+            slots.push(self.kept_slot(&last, index, name.as_str()))?;
         }
         Ok(slots)
     }

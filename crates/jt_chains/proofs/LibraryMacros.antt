@@ -15,7 +15,7 @@ use Rattle.jt_chains.specs.Chain.{macros, macros_in, imports, imports_in, librar
 use Rattle.jt_chains.specs.Chain.{same_namespace, sources_in}
 use Rattle.jt_chains.specs.TemplateFiles.{file_view, files_view, namespace_view, AreWhole}
 use Rattle.jt_chains.specs.Parts.{name_at}
-use Rattle.jt_chains.specs.Places.{namespace_at, place_of}
+use Rattle.jt_chains.specs.Indices.{namespace_at, index_of}
 use Rattle.jt_chains.specs.declared.files.TemplateFile.{TemplateFile}
 use Rattle.jt_chains.specs.declared.chain.Namespace.{Namespace}
 use Rattle.jt_chains.specs.Tables as table
@@ -33,30 +33,30 @@ here n b = by (holds_macros b)
     by true = append-nil (macros_in n b)
     by false = refl
 
-abbrev at_place : List Template → Text → List MacroBody
-at_place ts n = table.library_macros (name_at ts (place_of ts n)) (body_at ts (place_of ts n))
+abbrev at_index : List Template → Text → List MacroBody
+at_index ts n = table.library_macros (name_at ts (index_of ts n)) (body_at ts (index_of ts n))
 
-library_macros : (ts : List Template) (n : Text) → in_template n (sources_in ts n) ≡ at_place ts n
+library_macros : (ts : List Template) (n : Text) → in_template n (sources_in ts n) ≡ at_index ts n
 library_macros [] n = refl
 library_macros (t ∷ ts) n = by (bytes_eq t.name n) refl (library_macros ts n)
   where
-    by : (c : Bool) → bytes_eq t.name n ≡ c → in_template n (sources_in ts n) ≡ at_place ts n
-        → in_template n (sources_in (t ∷ ts) n) ≡ at_place (t ∷ ts) n
+    by : (c : Bool) → bytes_eq t.name n ≡ c → in_template n (sources_in ts n) ≡ at_index ts n
+        → in_template n (sources_in (t ∷ ts) n) ≡ at_index (t ∷ ts) n
     by true e rest =
         ap (λ b. in_template n (if b then Some t.body else sources_in ts n)) e ∙ here n t.body
         ∙ ap (λ x. table.library_macros x t.body) (sym ((bytes_eq-Decides t.name n).0 e))
-        ∙ ap (λ b. table.library_macros (name_at (t ∷ ts) (if b then 0 else suc (place_of ts n)))
-        (body_at (t ∷ ts) (if b then 0 else suc (place_of ts n)))) (sym e)
+        ∙ ap (λ b. table.library_macros (name_at (t ∷ ts) (if b then 0 else suc (index_of ts n)))
+        (body_at (t ∷ ts) (if b then 0 else suc (index_of ts n)))) (sym e)
     by false e rest =
         ap (λ b. in_template n (if b then Some t.body else sources_in ts n)) e ∙ rest
-        ∙ ap (λ b. table.library_macros (name_at (t ∷ ts) (if b then 0 else suc (place_of ts n)))
-        (body_at (t ∷ ts) (if b then 0 else suc (place_of ts n)))) (sym e)
+        ∙ ap (λ b. table.library_macros (name_at (t ∷ ts) (if b then 0 else suc (index_of ts n)))
+        (body_at (t ∷ ts) (if b then 0 else suc (index_of ts n)))) (sym e)
 
-pub library_at : (ts : List Template) (n : Text) (i : ℕ) → i ≡ place_of ts n
+pub library_at : (ts : List Template) (n : Text) (i : ℕ) → i ≡ index_of ts n
     → table.library_macros (name_at ts i) (body_at ts i) ≡ macros (sources_in ts) (a_library n)
 library_at ts n i e = ap (λ j. table.library_macros (name_at ts j) (body_at ts j)) e ∙ sym (library_macros ts n)
 
-pub library_nowhere : (ps : List TemplateFile) (n : Text) (i : ℕ) → length ps ≤ i → i ≡ place_of (files_view ps) n
+pub library_nowhere : (ps : List TemplateFile) (n : Text) (i : ℕ) → length ps ≤ i → i ≡ index_of (files_view ps) n
     → [] ≡ macros (sources_in (files_view ps)) (a_library n)
 library_nowhere ps n i past e =
     let ts = files_view ps in
@@ -114,26 +114,26 @@ abbrev macros_alone : Body → Body
 macros_alone b = if holds_macros b then b else end
 
 library_alone : (ts : List Template) (n : Text)
-    → first_body (library_template n (sources_in ts n)) ≡ macros_alone (body_at ts (place_of ts n))
+    → first_body (library_template n (sources_in ts n)) ≡ macros_alone (body_at ts (index_of ts n))
 library_alone [] n = refl
 library_alone (t ∷ ts) n = by (bytes_eq t.name n) refl (library_alone ts n)
   where
     by : (c : Bool) → bytes_eq t.name n ≡ c
-        → first_body (library_template n (sources_in ts n)) ≡ macros_alone (body_at ts (place_of ts n))
+        → first_body (library_template n (sources_in ts n)) ≡ macros_alone (body_at ts (index_of ts n))
         → first_body (library_template n (sources_in (t ∷ ts) n))
-        ≡ macros_alone (body_at (t ∷ ts) (place_of (t ∷ ts) n))
+        ≡ macros_alone (body_at (t ∷ ts) (index_of (t ∷ ts) n))
     by true e rest =
         ap (λ b. first_body (library_template n (if b then Some t.body else sources_in ts n))) e ∙ here_alone n t.body
-        ∙ ap (λ b. macros_alone (body_at (t ∷ ts) (if b then 0 else suc (place_of ts n)))) (sym e)
+        ∙ ap (λ b. macros_alone (body_at (t ∷ ts) (if b then 0 else suc (index_of ts n)))) (sym e)
     by false e rest =
         ap (λ b. first_body (library_template n (if b then Some t.body else sources_in ts n))) e ∙ rest
-        ∙ ap (λ b. macros_alone (body_at (t ∷ ts) (if b then 0 else suc (place_of ts n)))) (sym e)
+        ∙ ap (λ b. macros_alone (body_at (t ∷ ts) (if b then 0 else suc (index_of ts n)))) (sym e)
 
-pub body_held : (ts : List Template) (n : Text) (b : Body) → b ≡ body_at ts (place_of ts n) → holds_macros b ≡ true
+pub body_held : (ts : List Template) (n : Text) (b : Body) → b ≡ body_at ts (index_of ts n) → holds_macros b ≡ true
     → b ≡ first_body (templates (sources_in ts) (a_library n))
 body_held ts n b is e = sym (library_alone ts n ∙ ap macros_alone (sym is) ∙ ap (λ (c : Bool). if c then b else end) e)
 
-pub no_body_held : (ts : List Template) (n : Text) (b : Body) → b ≡ body_at ts (place_of ts n) → holds_macros b ≡ false
+pub no_body_held : (ts : List Template) (n : Text) (b : Body) → b ≡ body_at ts (index_of ts n) → holds_macros b ≡ false
     → end ≡ first_body (templates (sources_in ts) (a_library n))
 no_body_held ts n b is e =
     sym (library_alone ts n ∙ ap macros_alone (sym is) ∙ ap (λ (c : Bool). if c then b else end) e)

@@ -13,7 +13,7 @@ use Rattle.jt_ast.specs.Statements.{filter_block, autoescape, macro, include, im
 use Rattle.jt_ast.specs.Statements.{Body}
 use Rattle.jt_ast.specs.StatementView.{stmts_of}
 use Rattle.jt_chains.specs.Chain.{MacroBody, is_private, macro_of, macros_in, public_macro}
-use Rattle.jt_chains.specs.Tables.{Table, IsTable, library_macros, macro_place, as_macro}
+use Rattle.jt_chains.specs.Tables.{Table, IsTable, library_macros, macro_index, as_macro}
 
 module _ (x n : Text) where
   abbrev IsFound : ℕ → List Stmt → ℕ → Type 0
@@ -21,10 +21,10 @@ module _ (x n : Text) where
       (d : ℕ) × (j ≡ k + d) × (macro_of x (macros_in n (stmts_of ss)) ≡ option_and_then (as_macro n) (slice_get ss d))
 
   abbrev Finds : ℕ → List Stmt → Type 0
-  Finds k ss = (j : ℕ) → macro_place x k (stmts_of ss) ≡ Some j → IsFound k ss j
+  Finds k ss = (j : ℕ) → macro_index x k (stmts_of ss) ≡ Some j → IsFound k ss j
 
   behind : (k : ℕ) (s : Stmt) (ss : List Stmt)
-      → macro_place x k (stmts_of (s ∷ ss)) ≡ macro_place x (suc k) (stmts_of ss)
+      → macro_index x k (stmts_of (s ∷ ss)) ≡ macro_index x (suc k) (stmts_of ss)
       → macro_of x (macros_in n (stmts_of (s ∷ ss))) ≡ macro_of x (macros_in n (stmts_of ss)) → Finds (suc k) ss
       → Finds k (s ∷ ss)
   behind k s ss e f rest j at =
@@ -41,12 +41,12 @@ module _ (x n : Text) where
       by : (c : Bool) → bytes_eq y x ≡ c → Finds k (macro line y ps b ∷ ss)
       by true e = λ j at.
           let told : Some k ≡ Some j =
-          sym (ap (λ (d : Bool). if d then Some k else macro_place x (suc k) (stmts_of ss)) e) ∙ at in
+          sym (ap (λ (d : Bool). if d then Some k else macro_index x (suc k) (stmts_of ss)) e) ∙ at in
           let is : k ≡ j = cc in
           (0, omega (arith, is), ap (λ (d : Bool). if d then Some m else macro_of x (macros_in n (stmts_of ss))) e)
       by false e =
           behind k (macro line y ps b) ss
-          (ap (λ (d : Bool). if d then Some k else macro_place x (suc k) (stmts_of ss)) e)
+          (ap (λ (d : Bool). if d then Some k else macro_index x (suc k) (stmts_of ss)) e)
           (ap (λ (d : Bool). if d then Some m else macro_of x (macros_in n (stmts_of ss))) e) rest
 
   pub finds : (k : ℕ) (ss : List Stmt) → Finds k ss
@@ -68,13 +68,13 @@ module _ (x n : Text) where
   finds k (block a b c d e ∷ ss) = behind k (block a b c d e) ss refl refl (finds (suc k) ss)
 
   none_macro : (k : ℕ) (y : Text) (m : MacroBody) (b : Body) (c : Bool)
-      → (macro_place x (suc k) b ≡ None → macro_of x (macros_in n b) ≡ None)
-      → (if c then Some k else macro_place x (suc k) b) ≡ None
+      → (macro_index x (suc k) b ≡ None → macro_of x (macros_in n b) ≡ None)
+      → (if c then Some k else macro_index x (suc k) b) ≡ None
       → (if c then Some m else macro_of x (macros_in n b)) ≡ None
   none_macro k y m b true rest e = absurd (cc)
   none_macro k y m b false rest e = rest e
 
-  pub finds_none : (k : ℕ) (ss : List Stmt) → macro_place x k (stmts_of ss) ≡ None
+  pub finds_none : (k : ℕ) (ss : List Stmt) → macro_index x k (stmts_of ss) ≡ None
       → macro_of x (macros_in n (stmts_of ss)) ≡ None
   finds_none k [] e = refl
   finds_none k (data_of t ∷ ss) e = finds_none (suc k) ss e

@@ -11,14 +11,14 @@ use Rattle.std.specs.Str.{bytes_eq}
 use Rattle.jt_ast.specs.Expressions.{Text}
 use Rattle.jt_ast.specs.Statements.{Body, end}
 use Rattle.jt_ast.specs.StatementView.{body_of}
-use Rattle.jt_chains.specs.Along.{ArePlaces, body_at, along}
+use Rattle.jt_chains.specs.Along.{AreIndices, body_at, along}
 use Rattle.jt_chains.specs.Chain as chain
 use Rattle.jt_chains.specs.Chain.{Sources, Template, template, holds_macros, library_template, templates, max_templates}
 use Rattle.jt_chains.specs.Chain.{names_up, sources_in}
 use Rattle.jt_ast.specs.Texts.{among, repeated}
 use Rattle.jt_chains.specs.TemplateFiles.{file_view, files_view, namespace_view, names_at, AreWhole}
 use Rattle.jt_chains.specs.Parts.{name_at}
-use Rattle.jt_chains.specs.Places.{namespace_at}
+use Rattle.jt_chains.specs.Indices.{namespace_at}
 use Rattle.jt_chains.specs.declared.files.TemplateFile.{TemplateFile}
 use Rattle.jt_chains.specs.declared.chain.Namespace.{Namespace}
 
@@ -45,9 +45,9 @@ pub file_at : (ps : List TemplateFile) (i : ℕ) (p : TemplateFile) → i < leng
 file_at ps i p lt is = ap (λ o. unwrap_or (option_map (λ (t : Template). t.body) o) end) (map_at file_view ps i p lt is)
 
 -- An index of a template file is an index of its view.
-pub place_within : (ps : List TemplateFile) (is : List ℕ) (k : ℕ) → k < length is → ArePlaces (files_view ps) is
+pub index_within : (ps : List TemplateFile) (is : List ℕ) (k : ℕ) → k < length is → AreIndices (files_view ps) is
     → get_or is k 0 < length ps
-place_within ps is k lt a =
+index_within ps is k lt a =
     omega (arith, number_at (λ i. i < length (files_view ps)) is k lt a, length-map ps file_view)
 
 -- ---- concatenation
@@ -78,14 +78,14 @@ module _ {A : Type 0} (g : Text → Body → List A) (ts : List Template) where
       let r : map (slice_get ts) is ≡ map Some us = cc in
       ap (λ l. l ++ along ts g is) (one i u h) ∙ ap (λ l. g u.name u.body ++ l) (along_templates is us r)
 
-pub are_places : (ts : List Template) (is : List ℕ) (us : List Template) → map (slice_get ts) is ≡ map Some us
-    → ArePlaces ts is
-are_places ts [] us e = tt
-are_places ts (i ∷ is) [] e = absurd (cc)
-are_places ts (i ∷ is) (u ∷ us) e =
+pub are_indices : (ts : List Template) (is : List ℕ) (us : List Template) → map (slice_get ts) is ≡ map Some us
+    → AreIndices ts is
+are_indices ts [] us e = tt
+are_indices ts (i ∷ is) [] e = absurd (cc)
+are_indices ts (i ∷ is) (u ∷ us) e =
     let h : slice_get ts i ≡ Some u = cc in
     let r : map (slice_get ts) is ≡ map Some us = cc in
-    (slice_get_within ts i u h, are_places ts is us r)
+    (slice_get_within ts i u h, are_indices ts is us r)
 
 -- The view of the namespace at an index.
 pub name_of_namespace : (hs : List Namespace) (i : ℕ) (h : Namespace) → i < length hs → h ≡ get_or hs i h
@@ -170,13 +170,13 @@ alike : (t u : Template) → t.name ≡ u.name → t.body ≡ u.body → t ≡ u
 alike t u p q = search (arith, rules)
 
 -- If names differ, the names at the indices determine the templates.
-pub placed_by_names : (ts : List Template) (is : List ℕ) (us : List Template) → repeated (map (λ u. u.name) ts) ≡ false
+pub indexed_by_names : (ts : List Template) (is : List ℕ) (us : List Template) → repeated (map (λ u. u.name) ts) ≡ false
     → Definition (sources_in ts) us → names_at ts is ≡ map (λ t. Some t.name) us
     → map (slice_get ts) is ≡ map Some us
-placed_by_names ts [] [] once g e = refl
-placed_by_names ts [] (u ∷ us) once g e = absurd (cc)
-placed_by_names ts (i ∷ is) [] once g e = absurd (cc)
-placed_by_names ts (i ∷ is) (u ∷ us) once g e = by (slice_get ts i) refl (placed_by_names ts is us once g.1 rest)
+indexed_by_names ts [] [] once g e = refl
+indexed_by_names ts [] (u ∷ us) once g e = absurd (cc)
+indexed_by_names ts (i ∷ is) [] once g e = absurd (cc)
+indexed_by_names ts (i ∷ is) (u ∷ us) once g e = by (slice_get ts i) refl (indexed_by_names ts is us once g.1 rest)
   where
     here : option_map (λ (t : Template). t.name) (slice_get ts i) ≡ Some u.name
     here = cc
@@ -213,28 +213,28 @@ pub namespace_templates : (ts : List Template) (hs : List Namespace) (i : ℕ) (
     → h ≡ get_or hs i h → repeated (map (λ u. u.name) ts) ≡ false → AreWhole ts hs
     → map (slice_get ts) h.templates.items ≡ map Some (templates (sources_in ts) (namespace_view h))
 namespace_templates ts hs i h lt is once w =
-    placed_by_names ts h.templates.items (templates (sources_in ts) (namespace_view h)) once
+    indexed_by_names ts h.templates.items (templates (sources_in ts) (namespace_view h)) once
     (given_templates (sources_in ts) (namespace_view h)) (whole_at ts hs i h lt is w)
 
 -- `along` over the indices of a chain is `flat_map` over its templates.
 module _ (ps qs : List TemplateFile) (hs : List Namespace) (i : ℕ) (h : Namespace) (is : List ℕ) (same_files : qs ≡ ps)
-    (same_places : is ≡ h.templates.items) (lt : i < length hs) (at : h ≡ get_or hs i h)
+    (same_indices : is ≡ h.templates.items) (lt : i < length hs) (at : h ≡ get_or hs i h)
     (once : repeated (map (λ u. u.name) (files_view ps)) ≡ false) (whole : AreWhole (files_view ps) hs) where
   there : map (slice_get (files_view ps)) h.templates.items
       ≡ map Some (templates (sources_in (files_view ps)) (namespace_view h))
   there = namespace_templates (files_view ps) hs i h lt at once whole
 
-  pub namespace_places : ArePlaces (files_view qs) is
-  namespace_places =
-      subst (λ (z : List TemplateFile). ArePlaces (files_view z) is) (sym same_files)
-      (subst (ArePlaces (files_view ps)) (sym same_places)
-      (are_places (files_view ps) h.templates.items (templates (sources_in (files_view ps)) (namespace_view h)) there))
+  pub namespace_indices : AreIndices (files_view qs) is
+  namespace_indices =
+      subst (λ (z : List TemplateFile). AreIndices (files_view z) is) (sym same_files)
+      (subst (AreIndices (files_view ps)) (sym same_indices)
+      (are_indices (files_view ps) h.templates.items (templates (sources_in (files_view ps)) (namespace_view h)) there))
 
   pub namespace_along : {A : Type 0} (g : Text → Body → List A)
       → along (files_view qs) g is ≡ flat_map (λ t. g t.name t.body)
       (templates (sources_in (files_view ps)) (namespace_at (map namespace_view hs) i))
   namespace_along g =
-      ap (λ (z : List TemplateFile). along (files_view z) g is) same_files ∙ ap (along (files_view ps) g) same_places
+      ap (λ (z : List TemplateFile). along (files_view z) g is) same_files ∙ ap (along (files_view ps) g) same_indices
       ∙ along_templates g (files_view ps) h.templates.items (templates (sources_in (files_view ps)) (namespace_view h))
       there
       ∙ ap (λ n. flat_map (λ t. g t.name t.body) (templates (sources_in (files_view ps)) n))

@@ -9,8 +9,8 @@ use Rattle.jt_chains.specs.Parts.{name_at}
 
 module _ (ts : List Template) where
   -- Each number is the index of a template.
-  abbrev pub ArePlaces : List ℕ → Type 0
-  ArePlaces = AllByRecursion (λ i. i < length ts)
+  abbrev pub AreIndices : List ℕ → Type 0
+  AreIndices = AllByRecursion (λ i. i < length ts)
 
   -- The templates at the indices.
   abbrev pub templates_at : List ℕ → List Template

@@ -34,7 +34,7 @@ names_up sources zero start = []
 names_up sources (suc count) None = []
 names_up sources (suc count) (Some start) = start ∷ names_up sources count (parent_of (sources start))
 
--- The sources whose trees are those of the given templates, by their names.
+-- The sources whose trees are the trees of the templates, by their names.
 abbrev pub sources_in : List Template → Sources
 sources_in [] wanted = None
 sources_in (t ∷ ts) wanted = if bytes_eq t.name wanted then Some t.body else sources_in ts wanted

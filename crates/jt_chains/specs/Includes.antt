@@ -60,7 +60,7 @@ included sources namespace =
 
 -- ---- the order of chains and libraries
 
--- Each chain or library occurs once, before those that it leads to.
+-- Each chain or library occurs once, before the ones that it leads to.
 
 abbrev pub AllIn : List Namespace → List Namespace → Type 0
 AllIn [] namespaces = Unit {0}

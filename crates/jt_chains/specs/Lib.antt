@@ -7,7 +7,7 @@ pub mod Names
 pub mod Needs
 pub mod TemplateFiles
 pub mod Parts
-pub mod Places
+pub mod Indices
 pub mod Rules
 pub mod Supers
 pub mod Tables

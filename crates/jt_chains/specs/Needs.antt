@@ -4,7 +4,7 @@ use Rattle.jt_ast.specs.Expressions.{Text}
 use Rattle.jt_chains.specs.Along.{along}
 use Rattle.jt_chains.specs.Chain.{Namespace, a_chain, a_library, Template}
 use Rattle.jt_chains.specs.Includes.{includes_in, need}
-use Rattle.jt_chains.specs.declared.includes.Include.{Include}
+use Rattle.jt_chains.specs.declared.include_tags.NeededTemplate.{NeededTemplate}
 
 -- The name of a template, whether it may be missing, and whether it is a library.
 pub record Need : Type 0 where
@@ -27,16 +27,16 @@ library_need library_name = record { name = library_name; ignoring = false; libr
 abbrev pub need_namespace : Need → Namespace
 need_namespace n = if n.library then a_library n.name else a_chain n.name
 
--- The names of all includes, or only those of templates that may not be missing.
+-- The names of all includes, or only the names of templates that may not be missing.
 abbrev pub needed : Bool → List Need → List Text
 needed all = flat_map (λ n. need all n.name n.ignoring)
 
-abbrev pub need_view : Include → Need
+abbrev pub need_view : NeededTemplate → Need
 need_view n = record { name = n.name.now; ignoring = n.ignoring; library = n.is_library }
 
-abbrev pub needs_view : List Include → List Need
+abbrev pub needs_view : List NeededTemplate → List Need
 needs_view = map need_view
 
 -- The new list is the old one with `ns` appended.
-abbrev pub AddsNeeds : List Include → List Include → List Need → Type 0
+abbrev pub AddsNeeds : List NeededTemplate → List NeededTemplate → List Need → Type 0
 AddsNeeds old new ns = needs_view new ≡ needs_view old ++ ns

@@ -52,8 +52,8 @@ module _ (sources : Sources) (escaping : Bool) where
   extends_path (a_chain name) = names_up sources (suc max_templates) (Some name)
   extends_path (a_library name) = name ∷ []
 
-  -- The requested names: those on the path to the root, the included ones that may not be missing,
-  -- and the libraries. If `all` is true, every included name is requested.
+  -- The requested names: the names on the path to the root, the included ones that may not be
+  -- missing, and the libraries. If `all` is true, every included name is requested.
   abbrev pub asked : Bool → Namespace → List Text
   asked all namespace =
       extends_path namespace

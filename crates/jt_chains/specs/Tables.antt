@@ -8,7 +8,7 @@ use Rattle.std.specs.BTreeMap.{BTreeMap, get_by_text}
 use Rattle.jt_ast.specs.Expressions.{Text}
 use Rattle.jt_ast.specs.Statements.{Stmt, macro, Body, end, stmt}
 use Rattle.jt_chains.specs.Chain.{Template, MacroBody, holds_macros, macros_in}
-use Rattle.jt_chains.specs.Places.{place_of}
+use Rattle.jt_chains.specs.Indices.{index_of}
 
 abbrev pub Table : Type 0
 Table = BTreeMap (String Global) ℕ
@@ -18,11 +18,11 @@ abbrev pub library_macros : Text → Body → List MacroBody
 library_macros n b = if holds_macros b then macros_in n b else []
 
 -- The index of the first macro of a name among statements, which are counted from i.
-abbrev pub macro_place : Text → ℕ → Body → Option ℕ
-macro_place x i end = None
-macro_place x i (stmt (macro line macro_name parameters body) rest) =
-    if bytes_eq macro_name x then Some i else macro_place x (suc i) rest
-macro_place x i (stmt first rest) = macro_place x (suc i) rest
+abbrev pub macro_index : Text → ℕ → Body → Option ℕ
+macro_index x i end = None
+macro_index x i (stmt (macro line macro_name parameters body) rest) =
+    if bytes_eq macro_name x then Some i else macro_index x (suc i) rest
+macro_index x i (stmt first rest) = macro_index x (suc i) rest
 
 -- The macro that a statement of a template defines.
 abbrev pub as_macro : Text → Stmt → Option MacroBody
@@ -33,18 +33,18 @@ as_macro n s = None
 -- A library has a table of its macros, and no other template has one.
 abbrev pub IsTable : Body → Option Table → Type 0
 IsTable b None = holds_macros b ≡ false
-IsTable b (Some m) = (holds_macros b ≡ true) × ((x : Text) → get_by_text m x ≡ macro_place x 0 b)
+IsTable b (Some m) = (holds_macros b ≡ true) × ((x : Text) → get_by_text m x ≡ macro_index x 0 b)
 
 pub IsTable-prop : (b : Body) (o : Option Table) → IsProp (IsTable b o)
 IsTable-prop b None = Coded-set coded_bool (holds_macros b) false
 IsTable-prop b (Some m) =
     ×_prop (Coded-set coded_bool (holds_macros b) true)
-    (Π_prop (λ x. Coded-set (coded_option coded_ℕ) (get_by_text m x) (macro_place x 0 b)))
+    (Π_prop (λ x. Coded-set (coded_option coded_ℕ) (get_by_text m x) (macro_index x 0 b)))
 
 -- A table of the indices of templates by their names.
 abbrev pub AreAt : List Template → Table → Type 0
-AreAt ts m = (n : Text) → unwrap_or (get_by_text m n) (length ts) ≡ place_of ts n
+AreAt ts m = (n : Text) → unwrap_or (get_by_text m n) (length ts) ≡ index_of ts n
 
 pub AreAt-prop : (ts : List Template) (m : Table) → IsProp (AreAt ts m)
 AreAt-prop ts m =
-    Π_prop (λ n. Coded-set coded_ℕ (unwrap_or (get_by_text m n) (length ts)) (place_of ts n))
+    Π_prop (λ n. Coded-set coded_ℕ (unwrap_or (get_by_text m n) (length ts)) (index_of ts n))

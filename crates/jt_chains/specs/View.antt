@@ -8,14 +8,15 @@ use Rattle.jt_chains.specs.Along.{along}
 use Rattle.jt_chains.specs.Chain as chains
 use Rattle.jt_chains.specs.Chain.{Sources, Namespace, Template, imports_in, sources_in}
 use Rattle.jt_chains.specs.TemplateFiles.{files_view, namespace_view}
-use Rattle.jt_chains.specs.Places.{namespace_at}
+use Rattle.jt_chains.specs.Indices.{namespace_at}
 use Rattle.jt_chains.specs.declared.chain.Chain.{Chain}
 
 -- The chain of an entry, with the chains and libraries that its includes and imports reach.
 pub record Seen : Type 0 where
   -- The templates that were read, each once.
   pub templates : List Template
-  -- The chains and libraries, each before those that it leads to; the entry's chain is the first.
+  -- The chains and libraries, each before the ones that it leads to; the entry's chain is the
+  -- first.
   pub order : List Namespace
   -- Whether text outside `autoescape` tags is escaped.
   pub escaping : Bool

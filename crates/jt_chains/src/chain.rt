@@ -1,4 +1,5 @@
-//! The chain of an entry, with the chains and libraries that its includes and imports reach.
+//! Defines the chain of an entry, with the chains and libraries that its includes and imports
+//! reach.
 
 ghost use Rattle.std.specs.Prelude.{◌≡◌, ◌<◌, true, false, length, map};
 ghost use Rattle.jt_chains.specs.Chain.{sources_in};
@@ -25,13 +26,13 @@ pub struct Namespace {
 pub struct Chain {
     /// The templates that were read, each once.
     pub templates: Vec<TemplateFile>,
-    /// The chains and libraries, each before those that it leads to. The entry's chain is the
+    /// The chains and libraries, each before the ones that it leads to. The entry's chain is the
     /// first.
     pub namespaces: Vec<Namespace>,
     /// Whether text outside `autoescape` tags is escaped.
     pub autoescape: bool,
     /// The index in `templates` of each template, by its name.
-    pub places: BTreeMap<String, usize>,
+    pub indices: BTreeMap<String, usize>,
     pub ghost once: { repeated (map (λ t. t.name) (files_view templates.items)) ≡ false },
     pub ghost some: { 0 < length namespaces.items },
     pub ghost begins: { begins_with_chain (map namespace_view namespaces.items) ≡ true },
@@ -41,6 +42,6 @@ pub struct Chain {
             (map namespace_view namespaces.items) },
     pub ghost whole: { AreWhole (files_view templates.items)
         namespaces.items } by { AreWhole-prop (files_view templates.items) namespaces.items },
-    pub ghost placed: { AreAt (files_view templates.items)
-        places } by { AreAt-prop (files_view templates.items) places },
+    pub ghost indexed: { AreAt (files_view templates.items)
+        indices } by { AreAt-prop (files_view templates.items) indices },
 }

@@ -1,4 +1,4 @@
-//! Defines what the names of a chain stand for: its own macros, imported macros, or libraries.
+//! Collects the defined names of a chain: its own macros, imported macros, and libraries.
 
 ghost use Rattle.std.specs.Prelude.{◌≡◌, ◌<◌, ◌++◌, [], List, length, map, option_map, not};
 ghost use Rattle.std.specs.Prelude.{if◌then◌else◌, IfOk};
@@ -11,7 +11,7 @@ ghost use Rattle.jt_chains.specs.Chain.{imports_in, libraries_in, libraries, giv
 ghost use Rattle.jt_chains.specs.Along.{along, first_body};
 ghost use Rattle.jt_chains.specs.TemplateFiles.{files_view};
 ghost use Rattle.jt_chains.specs.Parts.{macro_view, macros_view};
-ghost use Rattle.jt_chains.specs.Places.{place_of};
+ghost use Rattle.jt_chains.specs.Indices.{index_of};
 ghost use Rattle.jt_chains.specs.Named.{Adds, names_view};
 ghost use Rattle.jt_chains.specs.View.{NoneBeyond, namespace_in, imports_along, its_sources};
 ghost use Rattle.jt_chains.specs.View.{its_templates};
@@ -22,8 +22,8 @@ use crate::parts::{Macro, body_of_file};
 use jt_ast::Stmt;
 use std::alloc::{AllocError, Global};
 
-/// The definition of a name: a macro of its own chain or library, a macro of another library with
-/// the name of that library, or a library.
+/// The definition of a name: a macro of its own chain or library, a macro of another library, by
+/// the library's name, or a library.
 #[derive(Clone, Copy)]
 pub enum Definition<'a> {
     Own(Macro<'a>),
@@ -71,10 +71,10 @@ pub fn holds_macros(body: &[Stmt]) -> bool
 
 /// Returns the index of the template of this name, or the number of templates if it does not exist.
 fn file_named(chain: &Chain, name: &str) -> usize
-    ensures { result ≡ place_of (its_templates chain.now) name.now }
+    ensures { result ≡ index_of (its_templates chain.now) name.now }
 {
-    match chain.places.get(name) {
-        Some(place) => *place,
+    match chain.indices.get(name) {
+        Some(index) => *index,
         None => chain.templates.as_slice().len(),
     }
 }
@@ -142,17 +142,17 @@ fn add_imports<'a>(
     Ok(())
 }
 
-/// Adds the names that the imports of the templates at `places` bind.
+/// Adds the names that the imports of the templates at `indices` bind.
 fn imports_at<'a>(
     chain: &'a Chain,
-    places: &[usize],
+    indices: &[usize],
     found: &mut Vec<DefinedName<'a>>,
 ) -> Result<(), AllocError>
     ensures { IfOk result (λ _. Adds (its_templates chain.now) found.old.items found.new.items
-        (λ h. imports_along chain.now places.now)) }
+        (λ h. imports_along chain.now indices.now)) }
 {
-    for place in places {
-        add_imports(chain, body_of_file(&chain.templates, *place), found)?;
+    for index in indices {
+        add_imports(chain, body_of_file(&chain.templates, *index), found)?;
     }
     Ok(())
 }
@@ -242,8 +242,8 @@ fn libraries_of<'a>(
     if namespace.is_library {
         return Ok(found);
     }
-    for place in &namespace.templates {
-        add_libraries(body_of_file(files, *place), &mut found)?;
+    for index in &namespace.templates {
+        add_libraries(body_of_file(files, *index), &mut found)?;
     }
     Ok(found)
 }
@@ -268,9 +268,9 @@ impl Chain {
         ensures { option_map (macro_view (its_templates self.now)) result
             ≡ chains.public_macro name.now (macros (its_sources self.now) (a_library library.now)) }
     {
-        let place = file_named(self, library);
-        match self.templates.get(place) {
-            Some(file) => file.public_macro(place, name),
+        let index = file_named(self, library);
+        match self.templates.get(index) {
+            Some(file) => file.public_macro(index, name),
             None => None,
         }
     }

@@ -47,33 +47,33 @@ impl TemplateFile {
         self.macros.is_some()
     }
 
-    /// Returns the macro of this name if the template is a library. `place` is the index of the
+    /// Returns the macro of this name if the template is a library. `index` is the index of the
     /// template among all that were read.
-    fn macro_named(&self, place: usize, name: &str) -> Option<Macro<'_>>
+    fn macro_named(&self, index: usize, name: &str) -> Option<Macro<'_>>
         ensures { (ts : List chain.Template) → option_map (macro_view ts) result
             ≡ chain.macro_of name.now
-            (library_macros (name_at ts place) (body_of self.now.template)) }
+            (library_macros (name_at ts index) (body_of self.now.template)) }
     {
         let Some(macros) = &self.macros else {
             return None;
         };
         match macros.get(name) {
-            Some(statement) => macro_at(place, self.template.body(), *statement),
+            Some(statement) => macro_at(index, self.template.body(), *statement),
             None => None,
         }
     }
 
     /// Returns the macro of this name that the template offers to importers, if it is a library.
-    /// `place` is the index of the template among all that were read.
-    pub fn public_macro(&self, place: usize, name: &str) -> Option<Macro<'_>>
+    /// `index` is the index of the template among all that were read.
+    pub fn public_macro(&self, index: usize, name: &str) -> Option<Macro<'_>>
         ensures { (templates : List chain.Template) → option_map (macro_view templates) result
             ≡ chain.public_macro name.now
-            (library_macros (name_at templates place) (body_of self.now.template)) }
+            (library_macros (name_at templates index) (body_of self.now.template)) }
     {
         if is_private(name) {
             return None;
         }
-        self.macro_named(place, name)
+        self.macro_named(index, name)
     }
 
     /// Returns whether the template is a library that offers the macro to importers.
@@ -85,11 +85,11 @@ impl TemplateFile {
     }
 }
 
-/// Returns the macro that a statement defines, if it is a `macro` tag. `place` is the index of its
+/// Returns the macro that a statement defines, if it is a `macro` tag. `index` is the index of its
 /// template.
-fn as_macro(place: usize, statement: &Stmt) -> Option<Macro<'_>>
+fn as_macro(index: usize, statement: &Stmt) -> Option<Macro<'_>>
     ensures { (ts : List chain.Template) → option_map (macro_view ts) result
-        ≡ spec.as_macro (name_at ts place) (stmt_view statement.now) }
+        ≡ spec.as_macro (name_at ts index) (stmt_view statement.now) }
 {
     match statement {
         Stmt::Macro {
@@ -99,7 +99,7 @@ fn as_macro(place: usize, statement: &Stmt) -> Option<Macro<'_>>
             ..
         } => Some(Macro {
             name: name.as_str(),
-            template: place,
+            template: index,
             parameters: parameters.as_slice(),
             body: body.as_slice(),
         }),
@@ -107,13 +107,13 @@ fn as_macro(place: usize, statement: &Stmt) -> Option<Macro<'_>>
     }
 }
 
-/// Returns the macro that the statement at index `place` of a template defines, if there is one.
-fn macro_at(template: usize, body: &[Stmt], place: usize) -> Option<Macro<'_>>
+/// Returns the macro that the statement at index `index` of a template defines, if there is one.
+fn macro_at(template: usize, body: &[Stmt], index: usize) -> Option<Macro<'_>>
     ensures { (ts : List chain.Template) → option_map (macro_view ts) result
         ≡ option_and_then (spec.as_macro (name_at ts template))
-        (slice_get (map stmt_view body.now) place) }
+        (slice_get (map stmt_view body.now) index) }
 {
-    match body.get(place) {
+    match body.get(index) {
         Some(statement) => as_macro(template, statement),
         None => None,
     }

@@ -1,7 +1,7 @@
 //! Lists the templates of a chain.
 
 ghost use Rattle.std.specs.Prelude.{◌≡◌, ◌<◌, length, map, IfOk};
-ghost use Rattle.jt_chains.specs.Along.{ArePlaces, layers_along};
+ghost use Rattle.jt_chains.specs.Along.{AreIndices, layers_along};
 ghost use Rattle.jt_chains.specs.Chain.{templates};
 ghost use Rattle.jt_chains.specs.TemplateFiles.{files_view};
 ghost use Rattle.jt_chains.specs.Layers.{layer_view};
@@ -19,29 +19,29 @@ pub struct Layer<'a> {
     pub body: &'a [Stmt],
 }
 
-/// Returns the templates at `places`.
+/// Returns the templates at `indices`.
 fn layers_at<'a>(
     alloc: Global,
     files: &'a [TemplateFile],
-    places: &[usize],
+    indices: &[usize],
 ) -> Result<Vec<Layer<'a>>, AllocError>
-    requires { ArePlaces (files_view files.now) places.now }
+    requires { AreIndices (files_view files.now) indices.now }
     ensures { IfOk result (λ ls. map (layer_view (files_view files.now)) ls.items
-        ≡ layers_along (files_view files.now) places.now) }
+        ≡ layers_along (files_view files.now) indices.now) }
 {
-    let mut found = Vec::with_capacity(alloc, places.len())?;
-    for place in places {
+    let mut found = Vec::with_capacity(alloc, indices.len())?;
+    for index in indices {
         found.push(Layer {
-            template: *place,
-            body: files[*place].template.body(),
+            template: *index,
+            body: files[*index].template.body(),
         })?;
     }
     Ok(found)
 }
 
 impl Chain {
-    /// Returns the templates of a chain, from the entry to the root. Returns none if `namespace` is
-    /// out of range.
+    /// Returns the templates of a chain, from the entry to the root. Returns an empty list if
+    /// `namespace` is out of range.
     pub fn layers(&self, alloc: Global, namespace: usize) -> Result<Vec<Layer<'_>>, AllocError>
         ensures there { namespace < length self.now.namespaces.items → IfOk result (λ found.
             map (layer_view (its_templates self.now)) found.items

@@ -3,7 +3,7 @@
 //! - A chain with all that it reaches: `chain`.
 //! - Its templates: `layers` and `files`.
 //! - Its macros and the bodies of its blocks: `parts`.
-//! - Includes and imports: `includes`.
+//! - Includes and imports: `include_tags`.
 //! - The definitions of its names: `definitions`.
 //! - The tables that find templates and macros by name: `tables`.
 //!
@@ -13,7 +13,7 @@
 mod chain;
 mod definitions;
 mod files;
-mod includes;
+mod include_tags;
 mod layers;
 mod parts;
 mod tables;
@@ -21,7 +21,7 @@ mod tables;
 pub use chain::{Chain, Namespace};
 pub use definitions::{DefinedName, Definition, holds_macros, is_private};
 pub use files::TemplateFile;
-pub use includes::{Include, includes_at};
+pub use include_tags::{NeededTemplate, includes_at};
 pub use layers::Layer;
 pub use parts::{Block, Macro, blocks_at, blocks_of_file, macro_names, macros_at};
-pub use tables::places_by_name;
+pub use tables::indices_by_name;

@@ -24,8 +24,8 @@ pub struct Macro<'a> {
     pub body: &'a [Stmt],
 }
 
-/// A body of a block: the index of its template, its name, whether its tag has `scoped` and
-/// `required`, the autoescape state at its tag, and its statements.
+/// A body of a block. `template` is the index of its template, and `escaping` the autoescape state
+/// at its tag.
 #[derive(Clone, Copy)]
 pub struct Block<'a> {
     pub template: usize,
@@ -171,28 +171,28 @@ fn add_statement<'a>(
     }
 }
 
-/// Returns the statements of the template at `place`, or none if the index is out of range.
-pub(crate) fn body_of_file(files: &[TemplateFile], place: usize) -> &[Stmt]
-    ensures { body_view result.now ≡ body_at (files_view files.now) place }
+/// Returns the statements of the template at `index`, or none if the index is out of range.
+pub(crate) fn body_of_file(files: &[TemplateFile], index: usize) -> &[Stmt]
+    ensures { body_view result.now ≡ body_at (files_view files.now) index }
 {
-    match files.get(place) {
+    match files.get(index) {
         Some(file) => file.template.body(),
         None => &[],
     }
 }
 
-/// Returns the macros of the templates at `places`. An index out of range adds none.
+/// Returns the macros of the templates at `indices`. An index out of range adds none.
 pub fn macros_at<'a>(
     alloc: Global,
     files: &'a [TemplateFile],
-    places: &[usize],
+    indices: &[usize],
 ) -> Result<Vec<Macro<'a>>, AllocError>
     ensures { IfOk result (λ found. macros_view (files_view files.now) found.items
-        ≡ macros_along (files_view files.now) places.now) }
+        ≡ macros_along (files_view files.now) indices.now) }
 {
     let mut found = Vec::new(alloc);
-    for place in places {
-        add_macros(files, *place, body_of_file(files, *place), &mut found)?;
+    for index in indices {
+        add_macros(files, *index, body_of_file(files, *index), &mut found)?;
     }
     Ok(found)
 }
@@ -204,52 +204,52 @@ pub fn macro_names<'a>(alloc: Global, macros: &[Macro<'a>]) -> Result<Vec<&'a st
     macros.iter().map(|one| one.name).collect(alloc)
 }
 
-/// Returns the bodies of the blocks of the template at `place`, or none if the index is out of
+/// Returns the bodies of the blocks of the template at `index`, or none if the index is out of
 /// range.
 pub fn blocks_of_file<'a>(
     alloc: Global,
     files: &'a [TemplateFile],
-    place: usize,
+    index: usize,
     escaping: bool,
 ) -> Result<Vec<Block<'a>>, AllocError>
     ensures { IfOk result (λ bodies. blocks_view (files_view files.now) bodies.items
-        ≡ blocks_in (name_at (files_view files.now) place) (body_at (files_view files.now) place)
+        ≡ blocks_in (name_at (files_view files.now) index) (body_at (files_view files.now) index)
         escaping) }
 {
     let mut found = Vec::new(alloc);
     let site = BodySite {
         files,
-        template: place,
+        template: index,
         escaping,
     };
-    add_blocks(site, body_of_file(files, place), &mut found)?;
+    add_blocks(site, body_of_file(files, index), &mut found)?;
     Ok(found)
 }
 
-/// Returns the bodies of all blocks of the templates at `places`. An index out of range adds none.
+/// Returns the bodies of all blocks of the templates at `indices`. An index out of range adds none.
 pub fn blocks_at<'a>(
     alloc: Global,
     files: &'a [TemplateFile],
-    places: &[usize],
+    indices: &[usize],
     escaping: bool,
 ) -> Result<Vec<Block<'a>>, AllocError>
     ensures { IfOk result (λ bodies. blocks_view (files_view files.now) bodies.items
-        ≡ blocks_along (files_view files.now) escaping places.now) }
+        ≡ blocks_along (files_view files.now) escaping indices.now) }
 {
     let mut found = Vec::new(alloc);
-    for place in places {
+    for index in indices {
         let site = BodySite {
             files,
-            template: *place,
+            template: *index,
             escaping,
         };
-        add_blocks(site, body_of_file(files, *place), &mut found)?;
+        add_blocks(site, body_of_file(files, *index), &mut found)?;
     }
     Ok(found)
 }
 
 impl Chain {
-    /// Returns all macros of a chain; those of the entry's template come first. Returns none if
+    /// Returns all macros of a chain, the entry template's first. Returns an empty list if
     /// `namespace` is out of range.
     pub fn macros(&self, alloc: Global, namespace: usize) -> Result<Vec<Macro<'_>>, AllocError>
         ensures there { namespace < length self.now.namespaces.items → IfOk result (λ found.
@@ -263,8 +263,8 @@ impl Chain {
         }
     }
 
-    /// Returns the bodies of all blocks of a chain; those of the entry's template come first.
-    /// Returns none if `namespace` is out of range.
+    /// Returns the bodies of all blocks of a chain, the entry template's first. Returns an empty
+    /// list if `namespace` is out of range.
     pub fn blocks(&self, alloc: Global, namespace: usize) -> Result<Vec<Block<'_>>, AllocError>
         ensures there { namespace < length self.now.namespaces.items → IfOk result (λ bodies.
             blocks_view (its_templates self.now) bodies.items

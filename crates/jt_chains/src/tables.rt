@@ -14,23 +14,23 @@ use jt_ast::Stmt;
 use std::alloc::{AllocError, Global};
 use std::collections::BTreeMap;
 
-/// Maps a name to a place and replaces an earlier entry of the name.
+/// Maps a name to an index and replaces an earlier entry of the name.
 fn put(
     alloc: Global,
     table: &mut BTreeMap<String, usize>,
     name: &str,
-    place: usize,
+    index: usize,
 ) -> Result<(), AllocError>
     ensures { OnOk result ((x : Text)
         → get_by_text table.new x
-        ≡ (if bytes_eq name.now x then Some place else get_by_text table.old x)) }
+        ≡ (if bytes_eq name.now x then Some index else get_by_text table.old x)) }
 {
-    table.insert(String::from_str(alloc, name)?, place)?;
+    table.insert(String::from_str(alloc, name)?, index)?;
     Ok(())
 }
 
 /// Returns a map from each macro name of a library to the index of its first macro statement.
-/// Returns `None` if the statements are not those of a library.
+/// Returns `None` if the statements are no library.
 pub(crate) fn macro_table(
     alloc: Global,
     body: &[Stmt],
@@ -52,7 +52,7 @@ pub(crate) fn macro_table(
 }
 
 /// Returns a map from each template name to the index of the first template of that name.
-pub fn places_by_name(
+pub fn indices_by_name(
     alloc: Global,
     files: &[TemplateFile],
 ) -> Result<BTreeMap<String, usize>, AllocError>

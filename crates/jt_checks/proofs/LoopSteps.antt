@@ -15,7 +15,7 @@ use Rattle.jt_ast.specs.StatementView.{body_view}
 use Rattle.jt_chains.specs.Chain.{Namespace, a_chain, a_library, Template, templates, libraries}
 use Rattle.jt_chains.specs.Layers.{layer_view}
 use Rattle.jt_chains.specs.declared.layers.Layer.{Layer}
-use Rattle.jt_chains.specs.Places.{namespace_at}
+use Rattle.jt_chains.specs.Indices.{namespace_at}
 use Rattle.jt_chains.specs.Uses.{count, own_names}
 use Rattle.jt_chains.specs.TemplateFiles.{namespace_view}
 use Rattle.jt_chains.proofs.TemplatesByIndex.{name_of_namespace}

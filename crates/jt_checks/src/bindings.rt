@@ -6,7 +6,7 @@ ghost use Rattle.jt_ast.specs.StatementView.{stmt_view, body_view};
 
 use jt_ast::{Branch, Stmt};
 
-/// Returns how many names a statement binds, at most the greatest `usize`.
+/// Returns the number of names that a statement binds, at most the greatest `usize`.
 #[cycle(bound)]
 fn bound_by(statement: &Stmt) -> usize
     ensures { result ≡ min (stmt_bound (stmt_view statement.now)) (2 ^ 64 - 1) }
@@ -48,7 +48,7 @@ fn bound_by(statement: &Stmt) -> usize
     }
 }
 
-/// Returns how many names statements bind, at most the greatest `usize`.
+/// Returns the number of names that statements bind, at most the greatest `usize`.
 #[cycle(bound)]
 pub(crate) fn bound_in(body: &[Stmt]) -> usize
     ensures { result ≡ min (body_bound (body_view body.now)) (2 ^ 64 - 1) }

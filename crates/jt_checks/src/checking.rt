@@ -133,7 +133,8 @@ fn libraries(alloc: Global, chain: &Chain, namespace: usize) -> Result<Vec<&str>
     list_of(alloc, in_order(alloc, &found)?)
 }
 
-/// Returns how many different names the libraries read or bind, at most the greatest `usize`.
+/// Returns the number of different names that the libraries read or bind, at most the greatest
+/// `usize`.
 fn count_in_libraries(alloc: Global, chain: &Chain, libraries: &[&str]) -> Result<usize, AllocError>
     ensures { IfOk result
         (λ n. n ≡ capped (libraries_counted (cenv_in chain.now) (texts libraries.now))) }
@@ -145,14 +146,14 @@ fn count_in_libraries(alloc: Global, chain: &Chain, libraries: &[&str]) -> Resul
     Ok(count)
 }
 
-/// Returns how many different names a library reads or binds.
+/// Returns the number of different names that a library reads or binds.
 fn count_in_library(alloc: Global, chain: &Chain, library: &str) -> Result<usize, AllocError>
     ensures { IfOk result (λ n. n ≡ own_count chain.now (a_library library.now)) }
 {
     Ok(library_names(alloc, chain, library)?.len())
 }
 
-/// Returns how many different names a chain reads or binds, without its libraries.
+/// Returns the number of different names that a chain reads or binds, without its libraries.
 fn count_own(alloc: Global, chain: &Chain, namespace: usize) -> Result<usize, AllocError>
     requires { namespace < length chain.now.namespaces.items }
     ensures { IfOk result (λ n. n ≡ own_count chain.now (namespace_in chain.now namespace)) }
@@ -160,9 +161,9 @@ fn count_own(alloc: Global, chain: &Chain, namespace: usize) -> Result<usize, Al
     Ok(own_names(alloc, chain, namespace)?.len())
 }
 
-/// Returns how many different names a chain and the libraries that it imports read or bind, at most
-/// the greatest `usize`. A library has none of its own: its names count in the chains that import
-/// it.
+/// Returns the number of different names that a chain and the libraries that it imports read or
+/// bind, at most the greatest `usize`. A library has none of its own: its names count in the chains
+/// that import it.
 fn count_names(alloc: Global, chain: &Chain, namespace: usize) -> Result<usize, AllocError>
     requires { namespace < length chain.now.namespaces.items }
     ensures { IfOk result (λ n. n ≡ capped (names_in chain.now namespace)) }

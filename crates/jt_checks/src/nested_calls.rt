@@ -3,7 +3,7 @@
 ghost use Rattle.std.specs.Prelude.{◌≡◌, option_and_then};
 ghost use Rattle.jt_ast.specs.Written.{literal_text};
 ghost use Rattle.jt_ast.specs.ExpressionView.{expr_view, exprs_view, pairs_view};
-ghost use Rattle.jt_ids.specs.FilterTable.{filter_of_name, named_at, place_of};
+ghost use Rattle.jt_ids.specs.FilterTable.{filter_of_name, named_at, position_of};
 ghost use Rattle.jt_eval.specs.Inside as inside;
 ghost use Rattle.jt_eval.specs.Tests.{test_named};
 
@@ -40,8 +40,8 @@ fn is_called_well(naming: ArgumentRole, name: &str, values: usize) -> bool
     }
 }
 
-/// Returns whether an argument that names something is a text literal, and what it names takes
-/// `values` values.
+/// Returns whether an argument that names something is a text literal. A named filter or test must
+/// also take `values` values.
 fn is_argument_well(naming: Option<ArgumentRole>, argument: &Expr, values: usize) -> bool
     ensures { result ≡ inside.argument_well naming (literal_text (expr_view argument.now)) values }
 {
@@ -66,11 +66,11 @@ fn is_row_well(filter: FilterId, row: &[Expr]) -> bool
     true
 }
 
-/// Returns what a keyword argument names, if it names something.
+/// Returns the role of a keyword argument, if it names something.
 fn naming_of(filter: FilterId, name: &str) -> Option<ArgumentRole>
-    ensures { result ≡ option_and_then (named_at filter) (place_of filter name.now) }
+    ensures { result ≡ option_and_then (named_at filter) (position_of filter name.now) }
 {
-    filter.named_at(filter.place(name)?)
+    filter.named_at(filter.position(name)?)
 }
 
 /// Returns whether each keyword argument that names something names it correctly. A named filter or

@@ -1,4 +1,4 @@
-//! Looks up by name what can be called in a chain.
+//! Looks up by name the macros, libraries and blocks of a chain.
 
 ghost use Rattle.std.specs.Prelude.{◌≡◌, ◌<◌, List, length, map, option_map, IfOk};
 ghost use Rattle.std.specs.List.{list_any};
@@ -33,7 +33,7 @@ pub(crate) enum KnownName<'a> {
     Library(&'a str),
 }
 
-/// A chain or library, and what can be called in it.
+/// A chain or library, with its macros, libraries and blocks by name.
 #[derive(Drop)]
 pub(crate) struct Scope<'a> {
     pub(crate) alloc: Global,
@@ -84,7 +84,7 @@ impl<'a> Scope<'a> {
         self.names.contains_key(name)
     }
 
-    /// Returns what the name stands for, if it is a macro or a library.
+    /// Returns the macro or the library for which the name stands, if any.
     pub(crate) fn known(&self, name: &str) -> Option<KnownName<'a>>
         ensures { option_map known_view result ≡ known_of (given_to name.now (its_given self.now)) }
     {

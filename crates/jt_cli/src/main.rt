@@ -1,4 +1,4 @@
-//! The program `jt`: `main` passes its words, files and outputs to `perform` of jt_program.
+//! Runs the program `jt`: `main` passes its words, files and outputs to `perform` of jt_program.
 #![tactic(auto)]
 
 use jt_host::CallError;

@@ -17,7 +17,7 @@ use Rattle.jt_chains.specs.Chain.{Namespace, a_chain, templates}
 use Rattle.jt_inherit.specs.Chains.{SourceTexts, IsRead, IsChain}
 use Rattle.jt_parse.specs.Names.{body_unknown}
 use Rattle.jt_chains.specs.Includes.{InOrder}
-use Rattle.jt_chains.specs.Places.{namespace_at}
+use Rattle.jt_chains.specs.Indices.{namespace_at}
 use Rattle.jt_chains.specs.Rules.{Reaches}
 use Rattle.jt_inherit.specs.Refusals as inherit
 use Rattle.jt_chains.specs.Weights.{chains_weight}

@@ -1,11 +1,11 @@
--- The units of a program that fits also fit after constants get their places in the table.
+-- The units of a program that fits also fit after constants get their indices into the table.
 use Rattle.std.proofs.Common.{◌≡◌, ℕ, ◌+◌, ◌*◌, ◌<◌, ◌≤◌, ◌^◌, List, [], ◌∷◌, length, map, refl, ap, arith}
 use Rattle.std.specs.List.{AllByRecursion}
 use Rattle.jt_image.specs.Code.{Section}
 use Rattle.jt_image.specs.IsCode.{IsInstruction, max_locals, max_instructions}
 use Rattle.jt_image.specs.Parts.{IsWritable}
 use Rattle.jt_ir.specs.Slots.{Program}
-use Rattle.jt_constants.specs.Merged.{new_places, moved_unit}
+use Rattle.jt_constants.specs.Merged.{new_indices, moved_unit}
 use Rattle.jt_constants.proofs.MergeIsNoLarger.{units_len}
 use Rattle.jt_lower.specs.Compiles.{LowLaws}
 use Rattle.jt_lower.specs.Fits.{ProgramFits}
@@ -25,9 +25,9 @@ pub moved_before : (P : ℕ → ℕ → ℕ → Type 0) (places : List ℕ) (us 
 moved_before P places [] h = tt
 moved_before P places (u ∷ us) h = (h.0, moved_before P places us h.1)
 
--- The places of a program's constants in the table.
+-- The indices of a program's constants into the table.
 abbrev pub ps : Program → List ℕ
-ps p = new_places (lowered p).constants
+ps p = new_indices (lowered p).constants
 
 writable_before : (places : List ℕ) (us : List Section) → AllByRecursion IsWritable (map (moved_unit places) us)
     → AllByRecursion (λ u. AllByRecursion IsInstruction u.code) us → AllByRecursion IsWritable us

@@ -149,7 +149,7 @@ module _ (P : Place → Type 0) where
       (all_append OnTag (places (body_asm r.body 0)) (None ∷ [])
       (asm_placed (body_asm r.body 0) (body_coded r.body 0 h.0)) (tt, tt)) (routine_coded rs h.1)
 
-  -- ---- constants with places in the pool leave the places of tags unchanged
+  -- ---- constants with indices into the pool leave the places of tags unchanged
 
   mutual
     stmt_pooled : (s : SlotStmt Constant) (n : ℕ) → StmtPlaced s → StmtPlaced (placed_stmt s n)

@@ -19,8 +19,9 @@ use Rattle.jt_rules.specs.Rules.{KeepsRules}
 use Rattle.jt_rules.specs.CompileEnv.{CompileEnv, cenv_of}
 use Rattle.jt_semantics.specs.Meaning.{mean}
 
--- The code does what the entry means. A text in which a run ends, or a fault with its place, is
--- what the entry means with calls of some depth. For what the entry means, some budget is enough.
+-- The code agrees with the meaning of the entry. A text in which a run ends, or a fault with its
+-- place, is the entry's meaning with calls of some depth. For each such meaning, some budget is
+-- enough.
 pub record DoesChain (cenv : CompileEnv) (entry : Text) (code : Code) : Type 0 where
   pub texts : (context : Pairs) (budget : Budget) (text : Text) → Run code context budget (config.text text)
       → (depth : ℕ) × (mean cenv entry context depth ≡ gives text)
@@ -38,8 +39,8 @@ pub record IsOnlyChain (given : SourceTexts) (entry : Text) (options : Options) 
   pub is : IsChain given entry options chain
   pub only : (other : Seen) → IsChain given entry options other → cenv_of other ≡ cenv_of chain
 
--- The entry's chain breaks no rule. The code is of version 2, so that it has the places of its tags;
--- it is typed and does what the chain means.
+-- The entry's chain breaks no rule. The code is of version 2, so that it has the places of its
+-- tags. It is typed and agrees with the meaning of the chain.
 pub record IsCompiled (given : SourceTexts) (entry : Text) (options : Options) (code : Code) : Type 0 where
   pub chain : Seen
   pub is : IsOnlyChain given entry options chain

@@ -53,7 +53,7 @@ pub record FitsImage (code : Code) : Type 0 where
   pub limits : KeepsLimits code
   pub writable : AllByRecursion IsWritable code.units
 
--- If the program's code fits into an image, the places of its pool fit their fields.
+-- If the program's code fits into an image, the indices of its pool fit their fields.
 abbrev pub HasFewValues : Program → Type 0
 HasFewValues p = FitsImage (compiled p) → length p.pool < 2 ^ 32
 

@@ -31,7 +31,7 @@ pub fn compile<L: Library>(
     library: &L,
     options: Options,
 ) -> Result<Image, CompileError>
-    // The code of version 2 is typed and does what the entry's lawful chain means.
+    // The code of version 2 is typed and agrees with the meaning of the entry's lawful chain.
     ensures compiled { IfOk result
         (λ image. IsCompiled (L.sources library.now) entry.now options image) }
     // The refusal holds of the library and the entry.

@@ -6,7 +6,7 @@ ghost use Rattle.jt_ast.specs.Expressions.{Text};
 ghost use Rattle.jt_image.specs.declared.instruction.Instruction.TheVariants as op;
 ghost use Rattle.jt_ir.specs.Slots as slots;
 ghost use Rattle.jt_ir.specs.View.{slot_view, targets_view, place_view, expr_view, stmt_view};
-ghost use Rattle.jt_ir.specs.View.{body_view, choice_view, routine_view};
+ghost use Rattle.jt_ir.specs.View.{filtered_view, body_view, choice_view, routine_view};
 ghost use Rattle.jt_lower.specs.Asm.{one, both, when, each};
 ghost use Rattle.jt_lower.specs.Lower.{turn_asm, kept_asm, stmt_asm, body_asm, unit_of};
 ghost use Rattle.jt_lower.specs.Lower.{routine_places};
@@ -17,8 +17,10 @@ ghost use Rattle.jt_codegen.specs.Units.{Refuses};
 use crate::targets::{emit_item, emit_targets};
 use jt_constants::TableError;
 use jt_image::{Instruction, Unit};
-use jt_ir::{Place, Routine, Slot, SlotBranch, SlotExpr, SlotStmt, Targets};
-use jt_lower::{Emitter, call_of, data_of, emit_expression, emit_row, flag, store_of};
+use jt_ir::{Filtered, Place, Routine, Slot, SlotBranch, SlotExpr, SlotStmt, Targets};
+use jt_lower::{
+    Emitter, call_of, data_of, emit_expression, emit_filtered, emit_row, flag, store_of,
+};
 use std::alloc::{AllocError, AllocFailed, Global};
 
 /// The reason why no code is emitted.
@@ -73,7 +75,7 @@ pub(crate) struct Emitted {
     pub(crate) places: Vec<Option<Place>>,
 }
 
-/// Emits the unit of a routine: its statements, then the return. It has at most `left`
+/// Emits the unit of a routine: its statements, then the return. The unit has at most `left`
 /// instructions.
 ///
 /// # Errors
@@ -143,14 +145,14 @@ fn emit_printed(
     code: &mut Emitter,
     tag: Place,
     escaping: bool,
-    expr: &SlotExpr,
+    filtered: &Filtered,
     above: usize,
 ) -> Result<(), AllocError>
-    ensures { PutsAt above code.old (λ templates h. stmt_asm
-        (slots.print (place_view templates tag) escaping (expr_view expr.now)) h) result code.new }
+    ensures { PutsAt above code.old (λ templates h. stmt_asm (slots.print
+        (place_view templates tag) escaping (filtered_view filtered.now)) h) result code.new }
 {
     let printed = flag(escaping);
-    emit_expression(code, Some(tag), expr, above)?;
+    emit_filtered(code, Some(tag), filtered, above)?;
     code.put(Some(tag), Some(Instruction::Emit { flag: printed }))?;
     Ok(())
 }
@@ -191,8 +193,8 @@ fn emit_statement(code: &mut Emitter, statement: &SlotStmt, above: usize) -> Res
         SlotStmt::Print {
             place: tag,
             escaping,
-            value: expr,
-        } => emit_printed(code, *tag, *escaping, expr, above),
+            value: filtered,
+        } => emit_printed(code, *tag, *escaping, filtered, above),
         SlotStmt::Assign {
             place: tag,
             targets,

@@ -1,4 +1,4 @@
-//! Checks how many stack entries the code of resolved statements needs.
+//! Checks the number of stack entries that the code of resolved statements needs.
 
 ghost use Rattle.std.specs.Prelude.{◌≡◌, ◌&&◌, ◌≤◌, ◌↔◌, nat_le, ℕ, List, Option, option_map, map};
 ghost use Rattle.std.specs.Prelude.{IsTrue};
@@ -11,9 +11,9 @@ ghost use Rattle.jt_ir.specs.View.{targets_view, expr_view, stmt_view, body_view
 ghost use Rattle.jt_ir.specs.View.{routine_view};
 
 use jt_ir::{Routine, SlotBranch, SlotExpr, SlotStmt, Targets};
-use jt_lower::{fits_expression, fits_row};
+use jt_lower::{fits_expression, fits_filtered, fits_row};
 
-/// Returns whether storing into these targets needs at most `room` stack entries.
+/// Returns whether code that stores into the targets needs at most `room` stack entries.
 fn fits_targets(targets: &Targets, room: usize) -> bool
     ensures { result ≡ nat_le (targets_height (targets_view targets.now)) room }
 {
@@ -42,7 +42,10 @@ fn fits_statement(statement: &SlotStmt, room: usize) -> bool
 {
     match statement {
         SlotStmt::PutPooled(_) => true,
-        SlotStmt::Print { value: expr, .. } => fits_expression(expr, room),
+        SlotStmt::Print {
+            value: filtered,
+            ..
+        } => fits_filtered(filtered, room),
         SlotStmt::Assign {
             targets,
             value: expr,

@@ -1,11 +1,11 @@
-//! Why a compilation is refused.
+//! Defines the errors of a compilation.
 
 use crate::emission::EmitError;
 use jt_inherit::ChainError;
 use jt_rules::ScopeError;
 use thiserror::Error;
 
-/// Why a compilation is refused.
+/// The reason why a compilation is refused.
 #[derive(Debug, Drop, Error, PartialEq, Eq)]
 pub enum CompileError {
     /// A template that is missing, cannot be scanned or parsed, or breaks a rule of chains.

@@ -100,7 +100,8 @@ fn add_template<'a>(
     Ok(())
 }
 
-/// Returns the number of the ascending names before `name`; all of them if it is not among them.
+/// Returns the number of the ascending names `named` before `name`, or the length of `named` if
+/// `name` is missing.
 fn number_of(name: &str, named: &[&str]) -> usize
     requires ascend { Ascends (texts named.now) }
     ensures { result ≡ number_of name.now (texts named.now) }
@@ -108,7 +109,7 @@ fn number_of(name: &str, named: &[&str]) -> usize
     named.binary_search(&name).unwrap_or(named.len())
 }
 
-/// Encodes each place by the number of its template among these names.
+/// Encodes each place by the number of its template among `named`.
 fn locs_of(
     alloc: Global,
     templates: &[String],

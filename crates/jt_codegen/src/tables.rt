@@ -46,7 +46,7 @@ pub(crate) fn parts_of(alloc: Global, program: &Program) -> Result<Parts, EmitEr
     }
     let table = constant_table(alloc, &program.pool)?;
     let mut code = units_of(alloc, &program.routines)?;
-    move_constants(&mut code.units, &table.places);
+    move_constants(&mut code.units, &table.indices);
     let named = place_table(alloc, &program.templates, &code.places)?;
     Ok(Parts {
         version: Version::Two,
@@ -66,8 +66,7 @@ struct Units {
     places: Vec<Option<Place>>,
 }
 
-/// Emits the units of routines. Each unit may have the instructions that the units before it leave
-/// of the limit.
+/// Emits the units of routines. All units together have at most `MAX_INSTRUCTIONS` instructions.
 fn units_of(alloc: Global, routines: &[Routine]) -> Result<Units, EmitError>
     ensures emitted { IfOk result (λ us. (templates : List Text)
         → each_of section_of_unit us.units.items ≡ Some (routine_units templates routines.now)) }

@@ -9,7 +9,7 @@ use Rattle.jt_image.specs.declared.instruction.Instruction.TheVariants as op
 use Rattle.jt_image.specs.Code.{Constant, Section}
 use Rattle.jt_image.specs.IsCode.{IsInstruction, total_len}
 use Rattle.jt_image.specs.Spelling.{constant_bytes}
-use Rattle.jt_constants.specs.Merged.{same, with_new, each_once, new_places, with_places, moved_unit}
+use Rattle.jt_constants.specs.Merged.{same, with_new, each_once, new_indices, with_indices, moved_unit}
 use Rattle.jt_constants.proofs.UniqueConstants.{has_room}
 
 abbrev bytes : List Constant → ℕ
@@ -33,12 +33,12 @@ bytes_once acc (c ∷ cs) =
 pub shorter : (cs : List Constant) → bytes (each_once cs) ≤ bytes cs
 shorter cs = omega (arith, bytes_once [] cs)
 
-pub units_len : (places : List ℕ) (us : List Section) → total_len (map (moved_unit places) us) ≡ total_len us
-units_len places [] = refl
-units_len places (u ∷ us) = omega (arith, length-map u.code (with_places places), units_len places us)
+pub units_len : (indices : List ℕ) (us : List Section) → total_len (map (moved_unit indices) us) ≡ total_len us
+units_len indices [] = refl
+units_len indices (u ∷ us) = omega (arith, length-map u.code (with_indices indices), units_len indices us)
 
 module _ (cs : List Constant) (le : length cs ≤ 2 ^ 32) where
-  instruction_room : (i : Instruction) → IsInstruction i → IsInstruction (with_places (new_places cs) i)
+  instruction_room : (i : Instruction) → IsInstruction i → IsInstruction (with_indices (new_indices cs) i)
   instruction_room (op.Const c) h = has_room cs c le h
   instruction_room (op.Load c) h = h
   instruction_room (op.Store c) h = h
@@ -69,11 +69,11 @@ module _ (cs : List Constant) (le : length cs ≤ 2 ^ 32) where
   instruction_room op.Return h = h
 
   code_room : (is : List Instruction) → AllByRecursion IsInstruction is
-      → AllByRecursion IsInstruction (map (with_places (new_places cs)) is)
+      → AllByRecursion IsInstruction (map (with_indices (new_indices cs)) is)
   code_room [] h = tt
   code_room (i ∷ is) h = (instruction_room i h.0, code_room is h.1)
 
   pub units_room : (us : List Section) → AllByRecursion (λ u. AllByRecursion IsInstruction u.code) us
-      → AllByRecursion (λ u. AllByRecursion IsInstruction u.code) (map (moved_unit (new_places cs)) us)
+      → AllByRecursion (λ u. AllByRecursion IsInstruction u.code) (map (moved_unit (new_indices cs)) us)
   units_room [] h = tt
   units_room (u ∷ us) h = (code_room u.code h.0, units_room us h.1)

@@ -16,22 +16,22 @@ use Rattle.jt_image.specs.Config.{MachineState}
 use Rattle.jt_image.specs.Step.{Action, straight, push, put, constant_value, text_of, calls_unit, action, fetch}
 use Rattle.jt_image.specs.Run.{entry_locals}
 use Rattle.jt_image.specs.FreeRun.{Free, on_action, exec_at, exec, start_machine, ComesTo}
-use Rattle.jt_constants.specs.Merged.{new_places, with_places, moved_unit, merged}
+use Rattle.jt_constants.specs.Merged.{new_indices, with_indices, moved_unit, merged}
 use Rattle.jt_constants.proofs.UniqueConstants.{reads}
 
-pub total_taken : (places : List ℕ) (n : ℕ) (us : List Section)
-    → total_len (take n (map (moved_unit places) us)) ≡ total_len (take n us)
-total_taken places zero us = refl
-total_taken places (suc n) [] = refl
-total_taken places (suc n) (u ∷ us) = omega (arith, length-map u.code (with_places places), total_taken places n us)
+pub total_taken : (indices : List ℕ) (n : ℕ) (us : List Section)
+    → total_len (take n (map (moved_unit indices) us)) ≡ total_len (take n us)
+total_taken indices zero us = refl
+total_taken indices (suc n) [] = refl
+total_taken indices (suc n) (u ∷ us) = omega (arith, length-map u.code (with_indices indices), total_taken indices n us)
 
-entry_same : (places : List ℕ) (us : List Section) → entry_locals (map (moved_unit places) us) ≡ entry_locals us
-entry_same places [] = refl
-entry_same places (u ∷ us) = refl
+entry_same : (indices : List ℕ) (us : List Section) → entry_locals (map (moved_unit indices) us) ≡ entry_locals us
+entry_same indices [] = refl
+entry_same indices (u ∷ us) = refl
 
 module _ (k : Code) where
   abbrev ps : List ℕ
-  ps = new_places k.constants
+  ps = new_indices k.constants
 
   place_same : (unit point : ℕ) → place_at (merged k) unit point ≡ place_at k unit point
   place_same unit point =
@@ -44,7 +44,7 @@ module _ (k : Code) where
   called_same n (Some v) m = refl
 
   action_same : (u : Section) (i : Instruction) (m : MachineState)
-      → action (merged k) (moved_unit ps u) (with_places ps i) m ≡ action k u i m
+      → action (merged k) (moved_unit ps u) (with_indices ps i) m ≡ action k u i m
   action_same u (op.Const c) m =
       ap (λ (o : Option Constant). straight (push (constant_value o) m.state.entries m.state) m) (reads k.constants c)
   action_same u (op.Load c) m = refl
@@ -79,10 +79,10 @@ module _ (k : Code) where
   action_same u op.Return m = refl
 
   abbrev both : Section × Instruction → Section × Instruction
-  both x = (moved_unit ps x.0, with_places ps x.1)
+  both x = (moved_unit ps x.0, with_indices ps x.1)
 
   in_unit : (u : Section) (p : ℕ) → option_and_then (λ i. Some (moved_unit ps u, i))
-      (slice_get (map (with_places ps) u.code) p)
+      (slice_get (map (with_indices ps) u.code) p)
       ≡ option_map both (option_and_then (λ i. Some (u, i)) (slice_get u.code p))
   in_unit u p = search (arith, rules, slice_get-map)
 

@@ -1,6 +1,6 @@
 -- The laws of merged codes hold.
 use Rattle.jt_constants.specs.Laws.{MergedLaws}
-use Rattle.jt_constants.specs.Merged.{new_places}
+use Rattle.jt_constants.specs.Merged.{new_indices}
 use Rattle.jt_constants.proofs.UniqueConstants.{fewer}
 use Rattle.jt_constants.proofs.MergeKeepsRuns.{comes, came}
 use Rattle.jt_constants.proofs.MergeKeepsTyping.{typed}
@@ -13,6 +13,6 @@ laws_hold = record {
   typed = typed;
   fewer = fewer;
   shorter = shorter;
-  sized = λ k. units_len (new_places k.constants) k.units;
+  sized = λ k. units_len (new_indices k.constants) k.units;
   written = λ cs us le h. units_room cs le us h;
 }

@@ -1,4 +1,4 @@
--- Equal constants have one place in the merged table, and it holds the same constant.
+-- Equal constants have one index in the merged table, and it holds the same constant.
 use Rattle.std.proofs.Common.{◌≡◌, ℕ, zero, suc, ◌+◌, ◌<◌, ◌≤◌, ◌^◌, Bool, true, false, ◌||◌, List, [], ◌∷◌, ◌++◌}
 use Rattle.std.proofs.Common.{length, fold, Option, Some, None, refl, sym, ap, ◌∙◌, subst, arith, length-append, rules}
 use Rattle.std.specs.Prelude.{slice_get, nat_lt, unwrap_or, option_map}
@@ -8,7 +8,7 @@ use Rattle.std.proofs.lemmas.List.Folds.{list_any-append}
 use Rattle.std.proofs.lemmas.Option.{slice_get-map, slice_get_past, slice_get_within}
 use Rattle.std.proofs.lemmas.Slice.Eq.{bytes_eq-Decides}
 use Rattle.jt_image.specs.Code.{Constant}
-use Rattle.jt_constants.specs.Merged.{same, with_new, each_once, place_in, new_places, moved}
+use Rattle.jt_constants.specs.Merged.{same, with_new, each_once, index_in, new_indices, moved}
 
 pub same_is : (c d : Constant) → same c d ≡ true → c ≡ d
 same_is a0 a1 e = search (arith, rules, bytes_eq-Decides)
@@ -45,14 +45,14 @@ has_each acc (d ∷ ds) zero c e =
     let is : d ≡ c = cc in all_kept (with_new acc d) ds c (subst (λ x. Has (with_new acc d) x) is (added acc d))
 has_each acc (d ∷ ds) (suc n) c e = has_each (with_new acc d) ds n c e
 
-pub at_place : (cs : List Constant) (c : Constant) → Has cs c → slice_get cs (place_in cs c) ≡ Some c
-at_place [] c h = absurd cc
-at_place (d ∷ ds) c h = search (arith, rules, at_place ds c, same_is)
+pub at_index : (cs : List Constant) (c : Constant) → Has cs c → slice_get cs (index_in cs c) ≡ Some c
+at_index [] c h = absurd cc
+at_index (d ∷ ds) c h = search (arith, rules, at_index ds c, same_is)
 
--- A place stays if other constants are appended.
-pub place_kept : (cs ds : List Constant) (c : Constant) → Has cs c → place_in (cs ++ ds) c ≡ place_in cs c
-place_kept [] ds c h = absurd cc
-place_kept (d ∷ cs) ds c h = search (arith, rules, place_kept cs ds c)
+-- An index stays if other constants are appended.
+pub index_kept : (cs ds : List Constant) (c : Constant) → Has cs c → index_in (cs ++ ds) c ≡ index_in cs c
+index_kept [] ds c h = absurd cc
+index_kept (d ∷ cs) ds c h = search (arith, rules, index_kept cs ds c)
 
 pub once_len : (acc cs : List Constant) → length (fold with_new acc cs) ≤ length acc + length cs
 once_len acc [] = omega arith
@@ -66,7 +66,7 @@ no_fewer acc (c ∷ cs) = search (arith, rules, no_fewer (with_new acc c) cs, le
 pub fewer : (cs : List Constant) → length (each_once cs) ≤ length cs
 fewer cs = omega (arith, once_len [] cs)
 
--- ---- the constant at the new place of a place is the constant at that place
+-- ---- the constant at the new index of an index is the constant at that index
 
 past : (cs : List Constant) (n : ℕ) → slice_get cs n ≡ None → length cs ≤ n
 past [] n e = omega arith
@@ -74,45 +74,45 @@ past (c ∷ cs) zero e = absurd cc
 past (c ∷ cs) (suc n) e = omega (arith, past cs n e)
 
 moved_by : (cs : List Constant) (n : ℕ) (o : Option Constant) → slice_get cs n ≡ o
-    → moved (new_places cs) n ≡ unwrap_or (option_map (place_in (each_once cs)) o) n
+    → moved (new_indices cs) n ≡ unwrap_or (option_map (index_in (each_once cs)) o) n
 moved_by cs n o e =
     ap (λ (x : Option ℕ). unwrap_or x n)
-    (slice_get-map (place_in (each_once cs)) cs n ∙ ap (option_map (place_in (each_once cs))) e)
+    (slice_get-map (index_in (each_once cs)) cs n ∙ ap (option_map (index_in (each_once cs))) e)
 
-pub reads : (cs : List Constant) (n : ℕ) → slice_get (each_once cs) (moved (new_places cs) n) ≡ slice_get cs n
+pub reads : (cs : List Constant) (n : ℕ) → slice_get (each_once cs) (moved (new_indices cs) n) ≡ slice_get cs n
 reads cs n = by (slice_get cs n) refl
   where
     by : (o : Option Constant) → slice_get cs n ≡ o
-        → slice_get (each_once cs) (moved (new_places cs) n) ≡ slice_get cs n
+        → slice_get (each_once cs) (moved (new_indices cs) n) ≡ slice_get cs n
     by None e =
         ap (slice_get (each_once cs)) (moved_by cs n None e)
         ∙ slice_get_past (each_once cs) n (omega (arith, fewer cs, past cs n e)) ∙ sym e
     by (Some c) e =
-        ap (slice_get (each_once cs)) (moved_by cs n (Some c) e) ∙ at_place (each_once cs) c (has_each [] cs n c e)
+        ap (slice_get (each_once cs)) (moved_by cs n (Some c) e) ∙ at_index (each_once cs) c (has_each [] cs n c e)
         ∙ sym e
 
--- A new place is in the merged table if and only if the old place is in the table.
+-- A new index is in the merged table if and only if the old index is in the table.
 pub inside : (cs : List Constant) (n : ℕ)
-    → nat_lt (moved (new_places cs) n) (length (each_once cs)) ≡ nat_lt n (length cs)
+    → nat_lt (moved (new_indices cs) n) (length (each_once cs)) ≡ nat_lt n (length cs)
 inside cs n = by (slice_get cs n) refl
   where
     by : (o : Option Constant) → slice_get cs n ≡ o
-        → nat_lt (moved (new_places cs) n) (length (each_once cs)) ≡ nat_lt n (length cs)
+        → nat_lt (moved (new_indices cs) n) (length (each_once cs)) ≡ nat_lt n (length cs)
     by None e =
-        let same_place : moved (new_places cs) n ≡ n = moved_by cs n None e in
+        let same_index : moved (new_indices cs) n ≡ n = moved_by cs n None e in
         let out = past cs n e in
         let less = fewer cs in
         grind (arith, nat_tests)
     by (Some c) e =
         let old : n < length cs = slice_get_within cs n c e in
-        let new : moved (new_places cs) n < length (each_once cs) =
-        slice_get_within (each_once cs) (moved (new_places cs) n) c (reads cs n ∙ e) in
+        let new : moved (new_indices cs) n < length (each_once cs) =
+        slice_get_within (each_once cs) (moved (new_indices cs) n) c (reads cs n ∙ e) in
         grind (arith, nat_tests)
 
-pub has_room : (cs : List Constant) (n : ℕ) → length cs ≤ 2 ^ 32 → n < 2 ^ 32 → moved (new_places cs) n < 2 ^ 32
+pub has_room : (cs : List Constant) (n : ℕ) → length cs ≤ 2 ^ 32 → n < 2 ^ 32 → moved (new_indices cs) n < 2 ^ 32
 has_room cs n le lt = by (slice_get cs n) refl
   where
-    by : (o : Option Constant) → slice_get cs n ≡ o → moved (new_places cs) n < 2 ^ 32
+    by : (o : Option Constant) → slice_get cs n ≡ o → moved (new_indices cs) n < 2 ^ 32
     by None e = omega (arith, moved_by cs n None e, lt)
     by (Some c) e =
-        omega (arith, slice_get_within (each_once cs) (moved (new_places cs) n) c (reads cs n ∙ e), fewer cs, le)
+        omega (arith, slice_get_within (each_once cs) (moved (new_indices cs) n) c (reads cs n ∙ e), fewer cs, le)

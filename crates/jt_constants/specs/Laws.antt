@@ -7,7 +7,7 @@ use Rattle.jt_image.specs.FreeRun.{Free, ComesTo}
 use Rattle.jt_image.specs.IsCode.{IsInstruction, total_len}
 use Rattle.jt_image.specs.Spelling.{constant_bytes}
 use Rattle.jt_image.specs.Typed.{IsTyped}
-use Rattle.jt_constants.specs.Merged.{each_once, new_places, moved_unit, merged}
+use Rattle.jt_constants.specs.Merged.{each_once, new_indices, moved_unit, merged}
 
 -- A merged code has the outcomes of the code, and is typed if the code is typed. It has no more
 -- constants and no more bytes of constants, and the same number of instructions.
@@ -24,4 +24,4 @@ pub record MergedLaws : Type 0 where
   pub written : (constants : List Constant) (units : List Section) → length constants ≤ 2 ^ 32
       → AllByRecursion (λ u. AllByRecursion IsInstruction u.code) units
       → AllByRecursion (λ u. AllByRecursion IsInstruction u.code)
-      (map (moved_unit (new_places constants)) units)
+      (map (moved_unit (new_indices constants)) units)

@@ -1,5 +1,5 @@
--- A code in which equal constants occur once, each at its first place; each instruction names the
--- new place of its constant.
+-- A code in which equal constants occur once, each at its first index; each instruction names the
+-- new index of its constant.
 use Rattle.std.specs.Prelude.{ℕ, suc, Bool, true, false, List, [], ◌∷◌, ◌++◌, map, fold, slice_get, unwrap_or}
 use Rattle.std.specs.Prelude.{if◌then◌else◌}
 use Rattle.std.specs.Bool.{beq}
@@ -38,35 +38,35 @@ same _ _ = false
 abbrev pub with_new : List Constant → Constant → List Constant
 with_new constants constant = if list_any (same constant) constants then constants else constants ++ constant ∷ []
 
--- Each constant once, in the order of their first places.
+-- Each constant once, in the order of their first indices.
 abbrev pub each_once : List Constant → List Constant
 each_once constants = fold with_new [] constants
 
--- The first place of a constant.
-abbrev pub place_in : List Constant → Constant → ℕ
-place_in [] constant = 0
-place_in (first ∷ rest) constant = if same constant first then 0 else suc (place_in rest constant)
+-- The first index of a constant.
+abbrev pub index_in : List Constant → Constant → ℕ
+index_in [] constant = 0
+index_in (first ∷ rest) constant = if same constant first then 0 else suc (index_in rest constant)
 
--- The new place of each constant.
-abbrev pub new_places : List Constant → List ℕ
-new_places constants = map (place_in (each_once constants)) constants
+-- The new index of each constant.
+abbrev pub new_indices : List Constant → List ℕ
+new_indices constants = map (index_in (each_once constants)) constants
 
--- The new place for a place; a place outside `places` stays.
+-- The new index for an index; an index outside `indices` stays.
 abbrev pub moved : List ℕ → ℕ → ℕ
-moved places place = unwrap_or (slice_get places place) place
+moved indices index = unwrap_or (slice_get indices index) index
 
-abbrev pub with_places : List ℕ → Instruction → Instruction
-with_places places (op.Const c) = op.Const (moved places c)
-with_places places (op.Data c) = op.Data (moved places c)
-with_places places i = i
+abbrev pub with_indices : List ℕ → Instruction → Instruction
+with_indices indices (op.Const c) = op.Const (moved indices c)
+with_indices indices (op.Data c) = op.Data (moved indices c)
+with_indices indices i = i
 
 abbrev pub moved_unit : List ℕ → Section → Section
-moved_unit places u =
+moved_unit indices u =
     record {
       parameters = u.parameters;
       kind = u.kind;
       locals = u.locals;
-      code = map (with_places places) u.code;
+      code = map (with_indices indices) u.code;
     }
 
 abbrev pub merged : Code → Code
@@ -76,7 +76,7 @@ merged code =
       globals = code.globals;
       names = code.names;
       constants = each_once code.constants;
-      units = map (moved_unit (new_places code.constants)) code.units;
+      units = map (moved_unit (new_indices code.constants)) code.units;
       templates = code.templates;
       places = code.places;
     }

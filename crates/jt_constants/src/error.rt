@@ -1,11 +1,11 @@
-//! Defines the refusals of a table of constants.
+//! Defines the errors of a table of constants.
 
 use std::alloc::{AllocError, AllocFailed};
 
 /// The reason why a pool has no table of constants.
 #[derive(Clone, Copy, Debug, Drop, PartialEq, Eq)]
 pub enum TableError {
-    /// More than 2^32 different constants, whose places do not fit into 32 bits.
+    /// More than 2^32 different constants, whose indices do not fit into 32 bits.
     TooManyConstants,
     /// A refused growth.
     NoMemory,

@@ -1,7 +1,7 @@
 //! Merges constants: equal constants occur once in a code.
 //!
 //! - table: the constants of a pool, each once.
-//! - moving: instructions that name the new places of constants.
+//! - moving: instructions that name the new indices of constants.
 //! - laws: the facts about codes with merged constants.
 //! - error: why a pool has no table.
 //!

@@ -4,7 +4,7 @@ ghost use Rattle.std.specs.Prelude.{◌≡◌, ◌≤◌, ◌^◌, map, IfOk, If
 ghost use Rattle.std.specs.BTreeMap.{get};
 ghost use Rattle.jt_value.specs.View.{view};
 ghost use Rattle.jt_image.specs.View.{constant_view, constants_view};
-ghost use Rattle.jt_constants.specs.Merged.{constant_of, each_once, new_places};
+ghost use Rattle.jt_constants.specs.Merged.{constant_of, each_once, new_indices};
 ghost use Rattle.jt_constants.specs.Refusals.{RefusesTable};
 ghost use Rattle.jt_constants.specs.internal.Keys.{key_view, key_cmp, KnowsMore};
 
@@ -17,10 +17,10 @@ use std::collections::BTreeMap;
 /// The constants of a pool, each once.
 #[derive(Drop)]
 pub struct ConstantTable {
-    /// The constants, in the order of their first places in the pool.
+    /// The constants, in the order of their first indices in the pool.
     pub constants: Vec<Constant>,
-    /// The place in `constants` of each value of the pool.
-    pub places: Vec<u32>,
+    /// The index in `constants` of each value of the pool.
+    pub indices: Vec<u32>,
 }
 
 /// The identity of a constant.
@@ -34,24 +34,24 @@ enum Key<'a> {
     Markup(&'a str),
 }
 
-/// Returns the place of a key, if it has one.
-fn known_place<'a>(known: &BTreeMap<Key<'a>, u32>, key: Key<'a>) -> Option<u32>
+/// Returns the index of a key, if it has one.
+fn known_index<'a>(known: &BTreeMap<Key<'a>, u32>, key: Key<'a>) -> Option<u32>
     ensures { result ≡ get key_cmp known.now key.entry }
 {
     known.get(&key).copied()
 }
 
-/// Adds a key with its place.
-fn add<'a>(known: &mut BTreeMap<Key<'a>, u32>, key: Key<'a>, place: u32) -> Result<(), AllocError>
-    ensures { OnOk result (KnowsMore known.old key.entry place known.new) }
+/// Adds a key with its index.
+fn add<'a>(known: &mut BTreeMap<Key<'a>, u32>, key: Key<'a>, index: u32) -> Result<(), AllocError>
+    ensures { OnOk result (KnowsMore known.old key.entry index known.new) }
 {
-    known.insert(key, place)?;
+    known.insert(key, index)?;
     Ok(())
 }
 
-/// Returns the place after `count` constants.
-fn place_after(count: usize) -> Result<u32, TableError>
-    ensures ok { IfOk result (λ place. place ≡ count) }
+/// Returns the index after `count` constants.
+fn index_after(count: usize) -> Result<u32, TableError>
+    ensures ok { IfOk result (λ index. index ≡ count) }
     ensures err { IfErr result (λ e. (e ≡ TableError.TooManyConstants) × (2 ^ 32 ≤ count)) }
 {
     u32::try_from(count).map_err(|_| TableError::TooManyConstants)
@@ -66,28 +66,28 @@ fn place_after(count: usize) -> Result<u32, TableError>
 pub fn constant_table(alloc: Global, pool: &[Value]) -> Result<ConstantTable, TableError>
     ensures once { IfOk result (λ t. constants_view t.constants.items
         ≡ each_once (map constant_of (map view pool.now))) }
-    ensures places { IfOk result (λ t. t.places.items
-        ≡ new_places (map constant_of (map view pool.now))) }
+    ensures indices { IfOk result (λ t. t.indices.items
+        ≡ new_indices (map constant_of (map view pool.now))) }
     ensures refused { IfErr result
         (λ e. RefusesTable e (map constant_of (map view pool.now))) }
 {
     let mut constants = Vec::with_capacity(alloc, pool.len())?;
-    let mut places = Vec::with_capacity(alloc, pool.len())?;
+    let mut indices = Vec::with_capacity(alloc, pool.len())?;
     let mut known: BTreeMap<Key<'_>, u32> = BTreeMap::new(alloc);
     for value in pool {
         let key = key_of(value);
-        let place = match known_place(&known, key) {
-            Some(place) => place,
+        let index = match known_index(&known, key) {
+            Some(index) => index,
             None => {
-                let place = place_after(constants.len())?;
-                add(&mut known, key, place)?;
+                let index = index_after(constants.len())?;
+                add(&mut known, key, index)?;
                 constants.push(constant_of(alloc, key)?)?;
-                place
+                index
             }
         };
-        places.push(place)?;
+        indices.push(index)?;
     }
-    Ok(ConstantTable { constants, places })
+    Ok(ConstantTable { constants, indices })
 }
 
 /// Returns the key of a value of a pool. A pool has no lists and no maps.

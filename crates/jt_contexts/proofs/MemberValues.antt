@@ -1,13 +1,13 @@
 -- The values of items and members are converted in order.
 use Rattle.std.proofs.Common.{◌≡◌, ◌∙◌, ◌++◌, ◌||◌, ℕ, Bool, true, false, List, [], ◌∷◌, Option, Some, None, String}
-use Rattle.std.proofs.Common.{Global, Less, Greater, ap, ap₂, refl, sym, map, option_map, string_bytes, string_cmp}
-use Rattle.std.proofs.Common.{nat_cmp, length, arith, rules}
+use Rattle.std.proofs.Common.{Global, Less, ap, ap₂, refl, sym, map, option_map, string_bytes, string_cmp}
+use Rattle.std.proofs.Common.{length, arith, rules}
 use Rattle.std.specs.Prelude.{OnOk, Result, Ok, Err}
 use Rattle.std.specs.Result.{is_err}
 use Rattle.std.specs.List.{AllByRecursion}
 use Rattle.std.specs.List.Sorted.{IsStrictlySortedBy}
 use Rattle.std.specs.Map.{keys_of}
-use Rattle.std.specs.Cmp.Lexicographic.{slice_cmp}
+use Rattle.std.specs.Str.{bytes_eq}
 use Rattle.std.proofs.lemmas.List.{map-append}
 use Rattle.serde_json.specs.Data.{Num}
 use Rattle.serde_json.specs.View.{view as json_view, items_view as json_items, members_view}
@@ -18,7 +18,7 @@ use Rattle.jt_value.specs.View.{view, items_view, entries_view}
 use Rattle.jt_value.specs.declared.value.Value.{Value}
 use Rattle.jt_contexts.specs.Json.{value_of, items_of, entries_of, pairs_in, has_number, items_have, members_have, Flaw}
 use Rattle.jt_contexts.specs.Json.{ItemsFlaw, MembersFlaw, is_not_whole, is_out_of_range}
-use Rattle.jt_contexts.proofs.ParseSteps.{above}
+use Rattle.jt_contexts.proofs.ParseSteps.{apart}
 use Rattle.jt_contexts.specs.declared.error.ContextError.{ContextError}
 use Rattle.jt_contexts.specs.declared.error.ContextError.TheVariants as error
 
@@ -91,7 +91,7 @@ entries_from (m ∷ ms) (x ∷ es) e =
     let rest = entries_from ms es (rest_of (shown m) (Some (string_bytes x.0, view x.1)) _ _ e) in
     rw (head.0, rest, head.1) refl
 
--- ---- a key above all keys before it is inserted at the end
+-- ---- a key above all keys before it is put at the end
 
 below_middle : (d : Member) (ms : List Member) (m : Member) (rest : List Member)
     → AllByRecursion (λ y. string_cmp d.0 y ≡ Less) (keys_of (ms ++ m ∷ rest)) → string_cmp d.0 m.0 ≡ Less
@@ -107,9 +107,8 @@ put_last [] m rest (p ∷ ps) t s e = absurd cc
 put_last (d ∷ done) m rest [] t s e = absurd cc
 put_last (d ∷ done) m rest (p ∷ ps) t s e =
     let head = named (string_bytes d.0) (value_in d.1) p (first_of (shown d) (Some p) _ _ e) in
-    let last : slice_cmp nat_cmp (string_bytes m.0) p.0 ≡ Greater = ap (λ k. slice_cmp nat_cmp (string_bytes m.0) k)
-    (sym head.1)
-    ∙ above (string_bytes d.0) (string_bytes m.0) (below_middle d done m rest s.0) in
+    let last : bytes_eq p.0 (string_bytes m.0) ≡ false = ap (λ k. bytes_eq k (string_bytes m.0)) (sym head.1)
+    ∙ apart (string_bytes d.0) (string_bytes m.0) (below_middle d done m rest s.0) in
     rw last (ap (λ qs. p ∷ qs) (put_last done m rest ps t s.1 (rest_of (shown d) (Some p) _ _ e)))
 
 -- ---- a flaw of a part is a flaw of the whole

@@ -2,14 +2,16 @@
 -- members.
 use Rattle.std.proofs.Common.{◌≡◌, ◌∙◌, ◌++◌, ℕ, ◌-◌, ◌<◌, ◌≤◌, List, [], ◌∷◌, length, map, Option, Some, None}
 use Rattle.std.proofs.Common.{option_map, option_and_then, String, Global, Ordering, Less, Equal, Greater, string_bytes}
+use Rattle.std.proofs.Common.{false}
 use Rattle.std.proofs.Common.{string_cmp, nat_cmp, refl, sym, ap, ap₂, arith, rules}
 use Rattle.std.specs.List.{AllByRecursion}
 use Rattle.std.specs.List.Sorted.{IsStrictlySortedBy}
 use Rattle.std.specs.Map.{keys_of}
 use Rattle.std.specs.BTreeMap.{insert_entry}
 use Rattle.std.specs.Cmp.Lexicographic.{slice_cmp}
-use Rattle.std.specs.Ordering.{match_ordering, ordering_reverse}
-use Rattle.std.proofs.lemmas.Cmp.{nat_list_cmp_total}
+use Rattle.std.specs.Ordering.{match_ordering, is_eq}
+use Rattle.std.specs.Str.{bytes_eq}
+use Rattle.std.proofs.lemmas.Map.Text.{is_eq-slice_cmp}
 use Rattle.json.specs.Token.{Token}
 use Rattle.json.specs.Json as json
 use Rattle.json.specs.Json.{Parse, parse_map, after_end_array, read_key, items, members, if_last}
@@ -216,15 +218,15 @@ pub entries_in : (ms : Members) (es : List Entry) → pairs_in ms ≡ Some (pair
     → entries_of ms ≡ Some (entries_view es)
 entries_in ms es e = entries_among ms (pairs es) e ∙ ap Some (sym (entries_seen es))
 
--- ---- a key above all keys before it is inserted at the end
+-- ---- a key above all keys before it is put at the end
 
 below_middle : (d : Entry) (ms : List Entry) (m : Entry) (rest : List Entry)
     → AllByRecursion (λ y. string_cmp d.0 y ≡ Less) (keys_of (ms ++ m ∷ rest)) → string_cmp d.0 m.0 ≡ Less
 below_middle d [] m rest h = h.0
 below_middle d (x ∷ ms) m rest h = below_middle d ms m rest h.1
 
-pub above : (x y : List ℕ) → slice_cmp nat_cmp x y ≡ Less → slice_cmp nat_cmp y x ≡ Greater
-above x y e = nat_list_cmp_total.antisymm y x ∙ ap ordering_reverse e
+pub apart : (x y : List ℕ) → slice_cmp nat_cmp x y ≡ Less → bytes_eq x y ≡ false
+apart x y e = sym (is_eq-slice_cmp x y) ∙ ap is_eq e
 
 pub put_last : (done : List Entry) (m : Entry) (rest : List Entry)
     → IsStrictlySortedBy string_cmp (keys_of (done ++ m ∷ rest))
@@ -232,6 +234,6 @@ pub put_last : (done : List Entry) (m : Entry) (rest : List Entry)
 unfolding IsStrictlySortedBy
 put_last [] m rest s = refl
 put_last (d ∷ done) m rest s =
-    let last : slice_cmp nat_cmp (string_bytes m.0) (string_bytes d.0) ≡ Greater =
-    above (string_bytes d.0) (string_bytes m.0) (below_middle d done m rest s.0) in
+    let last : bytes_eq (string_bytes d.0) (string_bytes m.0) ≡ false =
+    apart (string_bytes d.0) (string_bytes m.0) (below_middle d done m rest s.0) in
     rw last (ap (λ qs. (string_bytes d.0, view d.1) ∷ qs) (put_last done m rest s.1))

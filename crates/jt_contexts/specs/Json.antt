@@ -1,6 +1,6 @@
--- The values of JSON, and the reason why some JSON has none. The JSON crate states how a text is
--- read. In what it reads, an object has each key once, with the last of its values, in byte order
--- of the keys.
+-- The values of JSON, and the reason why some JSON has no value. The JSON crate states how a text
+-- is read. In the JSON that it reads, an object has each key once, with the last of its values, in
+-- byte order of the keys.
 use Rattle.std.specs.Prelude.{◌≡◌, ◌^◌, ◌||◌, ℕ, pos, Bool, true, false, List, [], ◌∷◌, Option, Some, None, option_map}
 use Rattle.std.specs.Prelude.{option_and_then, nat_lt, nat_le, if◌then◌else◌}
 use Rattle.serde_json.specs.Data.{Num, unsigned, negative, float, Data, null, boolean, number, string, array, object}
@@ -21,8 +21,8 @@ number_of (unsigned n) = if nat_lt n (2 ^ 63) then Some (tree.number (pos n)) el
 number_of (negative z) = Some (tree.number z)
 number_of (float x) = None
 
--- The value of JSON, if each number in it has one. The value of `null` is none, and that of a text
--- is a text without markup.
+-- The value of JSON, if each number in it has one. The value of `null` is `None`, and the value of
+-- a text is a text without markup.
 abbrev mutual
   pub value_of : Data → Option Tree
   value_of null = Some tree.nothing
@@ -103,7 +103,7 @@ ItemsFlaw ds = Speaks (λ p. items_have p ds)
 abbrev pub MembersFlaw : Members → ContextError → Type 0
 MembersFlaw ms = Speaks (λ p. members_have p ms)
 
--- What the error states of the text holds.
+-- The claim of the error about the text holds.
 abbrev pub Holds : List ℕ → ContextError → Type 0
 Holds text error.NotJson = read text ≡ None
 Holds text error.NotObject = (d : Data) × (read text ≡ Some d) × (as_object d ≡ None)

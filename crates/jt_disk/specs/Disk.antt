@@ -1,4 +1,4 @@
--- The contents of a disk in memory, and what is known of it.
+-- The contents of a disk in memory, and the results that calls on it may have.
 use Rattle.std.specs.Prelude.{◌≡◌, ◌↔◌, ℕ, List, Contains, Option, Some, None, IsSome, Vec, option_map}
 use Rattle.std.specs.declared.alloc.Global.{Global}
 use Rattle.std.specs.BTreeMap.{get_by_text}
@@ -13,14 +13,14 @@ file_at disk path = option_map (λ (v : Vec ℕ Global). v.items) (get_by_text d
 abbrev pub IsName : List ℕ → Type 0
 IsName name = Contains name 47 → ⊥
 
--- The names are exactly those of the files directly in the directory.
+-- The names are exactly the names of the files directly in the directory.
 abbrev pub AreNamesIn : Disk → List ℕ → List (List ℕ) → Type 0
 AreNamesIn disk dir names =
     (name : List ℕ)
     → (Contains names name) ↔ (IsName name × IsSome (file_at disk (path_in dir name)))
 
--- All that is known of a disk: a file holds its bytes and no others, a directory lists its files,
--- and each path without a file fails.
+-- The results that calls on a disk may have. A file holds its bytes and no others, a directory
+-- lists its files, and each path without a file fails.
 abbrev pub known_of : Disk → Known
 known_of disk = record {
   holds = λ path bytes. file_at disk path ≡ Some bytes;

@@ -1,4 +1,4 @@
-//! Files in memory. Contracts state their contents in full.
+//! Stores files in memory. Contracts state their contents in full.
 
 ghost use Rattle.std.specs.Prelude.{◌≡◌, ◌≢◌, ℕ, List, Some, None, OnOk, IfSome, IfNone};
 ghost use Rattle.jt_program.specs.Files.{path_in};

@@ -1,7 +1,8 @@
-//! A disk in memory whose contents are known in full, and the program's contract over such a disk.
+//! Defines a disk in memory whose contents are known in full, and the program's contract over such
+//! a disk.
 //!
-//! The disk (disk) and a line of the program over it (over_disk). Read first: over_disk.rt, whose
-//! clauses state which files a line leaves.
+//! `disk` defines the disk, and `over_disk` performs a line of the program on it. Read first:
+//! over_disk.rt, whose clauses state which files a line leaves.
 #![tactic(auto)]
 
 mod disk;

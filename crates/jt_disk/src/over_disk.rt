@@ -22,22 +22,22 @@ pub fn performed<W: Sink, E: Sink>(
     out: &mut W,
     errors: &mut E,
 ) -> u8
-    // if the status is 0 and the line is one of `compile`, the disk holds the image
+    // If the status is 0 and the line is one of `compile`, the disk holds the image.
     ensures compiled { result ≡ 0
         → IfCompiled disk.old disk.new (subcommand_of program_app (texts words.now)) }
-    // if the status is 0 and the line is one of `upgrade`, the disk holds the image of IN in
-    // version 2
+    // If the status is 0 and the line is one of `upgrade`, the disk holds the image of IN in
+    // version 2.
     ensures upgraded { result ≡ 0
         → IfUpgraded disk.old disk.new (subcommand_of program_app (texts words.now)) }
-    // whatever the status, every path other than OUT has the file that it had, or none as before
+    // Whatever the status, every path other than OUT has the file that it had, or none as before.
     ensures others { (path : List ℕ)
         → path ≢ out_of (subcommand_of program_app (texts words.now))
         → file_at disk.new path ≡ file_at disk.old path }
     ensures kept { ¬ Asks (codes "compile") (texts words.now)
         → ¬ Asks (codes "upgrade") (texts words.now)
         → disk.new ≡ disk.old }
-    // unless the status is 2 or 6, it and both outputs report how the command of the line ended on
-    // this disk
+    // Unless the status is 2 or 6, it and both outputs report how the command of the line ended on
+    // this disk.
     ensures ends { result ≢ 2
         → result ≢ 6
         → (e : Ending)

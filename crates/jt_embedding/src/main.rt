@@ -1,5 +1,5 @@
-//! A host of templates over jt_host alone: it compiles a letter from sources and prints it for each
-//! of three contexts.
+//! Hosts templates over jt_host alone: compiles a letter from sources and prints it for each of
+//! three contexts.
 //!
 //! Read first: `main`. The contract of `accepted` states what is proved of the image, that of
 //! `written` what is proved of a letter.

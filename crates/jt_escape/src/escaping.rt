@@ -17,7 +17,7 @@ pub fn escape_into(text: &str, into: &mut String) -> Result<(), NoMemory>
     ensures ok { OnOk result (string_bytes into.new ≡ string_bytes into.old ++ escaped text.now) }
     ensures unchanged { OnErr result (string_bytes into.new ≡ string_bytes into.old) }
 
-    // It fails only if the string has to grow.
+    // The call fails only if the string has to grow.
     ensures full { OnErr result
         (string_capacity into.old < string_len into.old + length (escaped text.now)) }
 {

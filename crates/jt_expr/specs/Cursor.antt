@@ -1,4 +1,4 @@
--- The tokens of a cursor, and those that its operations take.
+-- The tokens of a cursor, and the tokens that its operations take.
 use Rattle.std.specs.Prelude.{◌≡◌, ℕ, Bool, false, List, [], ◌∷◌, map, Option, Some, None, Result, Ok, Err}
 use Rattle.std.specs.Str.{chars}
 use denote.Ref.{Bor}

@@ -1,5 +1,5 @@
 -- The grammar of expressions: the trees that the tokens of a tag spell, with one rule for each
--- form. The tokens are those of Cut in jt_scan.
+-- form. The tokens are the tokens of Cut in jt_scan.
 use Rattle.std.specs.Prelude.{◌≡◌, ℤ, Bool, true, false, not, ◌||◌, List, [], ◌∷◌, ◌++◌, codes, encode_utf8_all}
 use Rattle.std.specs.Prelude.{bytes_eq, Option, Some, None, if◌then◌else◌}
 use Rattle.std.specs.List.{list_any}
@@ -277,7 +277,7 @@ mutual
     without : Arguments no_parts []
     within : {p : LeveledList} {x : Tokens} → Holds arguments p x → Arguments p (cut.sign s.LeftParen ∷ x)
 
-  -- The arguments of a test: those of a filter, or one postfix form.
+  -- The arguments of a test: the arguments of a filter, or one postfix form.
   pub data TestArguments : LeveledList → Tokens → Type 0 where
     as_filter : {p : LeveledList} {x : Tokens} → Arguments p x → TestArguments p x
     bare : {t : Expr} {x : Tokens} → begins_argument x ≡ true → Spells postfix t x

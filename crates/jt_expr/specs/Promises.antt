@@ -35,8 +35,8 @@ abbrev pub Leads : {B : Type 0} → (B → Tokens → Type 0) → B → Tokens �
 Leads NestedForm b ts rest = (x : Tokens) × (ts ≡ x ++ rest) × NestedForm b x
 
 -- The tokens begin with the result, which has at most `limit` levels, and with no other form before
--- a place where `Ends` holds. `Syntax`: they begin with no form before such a place. `TooDeep`:
--- each form before such a place has more than `limit` levels.
+-- a position where `Ends` holds. `Syntax`: they begin with no form before such a position.
+-- `TooDeep`: each form before such a position has more than `limit` levels.
 abbrev pub Reads : {A B : Type 0} → (A → B) → (B → Tokens → Type 0) → (Tokens → Type 0) → (B → ℕ)
     → ℕ → Tokens → Result A ExprError → Tokens → Type 0
 Reads {B = B} view NestedForm Ends levels limit ts (Ok a) rest =
@@ -49,8 +49,8 @@ Reads {B = B} view NestedForm Ends levels limit ts (Err e.TooDeep) rest =
     (b : B) (v : Tokens) → Leads NestedForm b ts v → Ends v → limit < levels b
 Reads view NestedForm Ends levels limit ts (Err e.NoMemory) rest = Unit {0}
 
--- An expression of the level ends before these tokens: there are none, or they begin with a comma,
--- or they begin with `if` and the expression is no inline `if`.
+-- An expression of the level ends before the tokens. They are missing or begin with a comma, or
+-- they begin with `if` and the expression is no inline `if`.
 pub data EndsAt : Level → Tokens → Type 0 where
   the_end : {k : Level} → EndsAt k []
   a_comma : {k : Level} {ts : Tokens} → EndsAt k (cut.sign s.Comma ∷ ts)

@@ -1,4 +1,4 @@
-//! A cursor over the tokens of a tag.
+//! Defines a cursor over the tokens of a tag.
 
 ghost use Rattle.std.specs.Prelude.{◌≡◌, length, map};
 ghost use Rattle.jt_scan.specs.View.{token_view};

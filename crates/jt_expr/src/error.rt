@@ -1,15 +1,15 @@
-//! The errors of the expression parser.
+//! Defines the errors of the expression parser.
 
 use std::alloc::{AllocError, AllocFailed};
 
 /// The reason why tokens are no expression. The caller reports it with the line of the tag.
 #[derive(Clone, Copy, Debug, Drop, PartialEq, Eq)]
 pub enum ExprError {
-    /// The tokens spell no tree.
+    /// Tokens that spell no tree.
     Syntax,
-    /// Each tree that the tokens spell has too many levels.
+    /// Tokens that spell only trees with too many levels.
     TooDeep,
-    /// A growth is refused.
+    /// A refused growth.
     NoMemory,
 }
 

@@ -1,4 +1,4 @@
-//! The laws of expressions, for the proofs of callers.
+//! States the laws of expressions, for the proofs of callers.
 
 ghost use Rattle.jt_expr.specs.Promises.{ExpressionLaws};
 

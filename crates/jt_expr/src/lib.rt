@@ -1,9 +1,9 @@
 //! Parses the tokens of a tag into an expression.
 //!
 //! `tag` has the entry point `expression`. `cursor` reads tokens, `grammar` and `rows` build trees,
-//! `moves` takes the tokens of one form, `reader` keeps the forms that wait for a tree, `part`
-//! counts levels, and `named` finds unknown filters and tests. Read first: specs/Grammar.antt,
-//! with one rule for each form, and reader.rt beside it.
+//! and `moves` takes the tokens of one form. `reader` keeps the forms that wait for a tree, `part`
+//! counts levels, and `named` finds unknown filters and tests. Read first: specs/Grammar.antt, with
+//! one rule for each form, and reader.rt beside it.
 #![tactic(auto)]
 
 mod builders;

@@ -179,7 +179,7 @@ impl Grammar {
         }
     }
 
-    /// Begins what extends a tree of the level, or completes the tree if nothing does.
+    /// Begins the form that extends a tree of the level, or completes the tree if no form does.
     #[tactic(auto, unfolding(crate::specs::internal::Moves::grow))]
     pub(crate) fn grow<'a>(
         &self,
@@ -271,7 +271,8 @@ impl Grammar {
         self.argument_list(cursor, Owner::Test(tree, polarity, name))
     }
 
-    /// Begins the arguments of a filter or a test, or ends it if there are none.
+    /// Begins the arguments of a filter or a test, or ends the filter or the test if it has no
+    /// arguments.
     #[tactic(auto, unfolding(crate::specs::internal::Moves::arguments_move))]
     fn argument_list<'a>(
         &self,
@@ -435,7 +436,7 @@ impl Grammar {
         Ok(Step::Grown(Level::Postscript, test))
     }
 
-    /// Begins the `else` part of an inline `if`, or ends the `if` if there is none.
+    /// Begins the `else` part of an inline `if`, or ends the `if` if no `else` follows.
     #[tactic(auto, unfolding(crate::specs::internal::Moves::end_condition))]
     fn end_condition<'a>(
         &self,

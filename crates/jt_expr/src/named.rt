@@ -87,7 +87,8 @@ fn arguments_unknown(filter: FilterId, items: &[Expr], named: Named) -> bool
     false
 }
 
-/// As `arguments_unknown`, but returns `false` if the filter is unknown.
+/// Returns whether a positional argument of the filter is an unknown name. Returns `false` if the
+/// filter itself is unknown.
 fn inside_unknown(filter: Option<FilterId>, items: &[Expr], named: Named) -> bool
     ensures { result ≡ spec.inside_unknown named filter (exprs_view items.now) }
 {

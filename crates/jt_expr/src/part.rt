@@ -1,4 +1,4 @@
-//! Expressions with their number of levels.
+//! Defines expressions with their height.
 
 ghost use Rattle.std.specs.Prelude.{◌≡◌};
 ghost use Rattle.jt_ast.specs.Expressions.{levels, exprs_levels, pairs_levels};
@@ -6,7 +6,7 @@ ghost use Rattle.jt_ast.specs.ExpressionView.{expr_view, exprs_view, pairs_view}
 
 use jt_ast::Expr;
 
-/// An expression with its number of levels.
+/// An expression with its height, which is its number of levels.
 #[derive(Drop)]
 pub struct LeveledExpr {
     pub expr: Box<Expr>,
@@ -14,7 +14,7 @@ pub struct LeveledExpr {
     ghost counted: { height ≡ levels (expr_view expr.value) },
 }
 
-/// The parts of a sequence, without and with a key, and the greatest numbers of their levels.
+/// The items and keyed pairs of a sequence, with the greatest height of each.
 #[derive(Drop)]
 pub struct LeveledList {
     pub items: Vec<Expr>,

@@ -1,4 +1,4 @@
-//! The precedence levels, the forms that wait for a tree, and the moves of a reader.
+//! Defines the precedence levels, the forms that wait for a tree, and the moves of a reader.
 
 ghost use Rattle.std.specs.Prelude.{◌≡◌, ◌<◌, ◌+◌, ◌^◌, nat_le};
 ghost use Rattle.jt_expr.specs.internal.Pending.{awaited, deeper, depth, form_view, forms_of};

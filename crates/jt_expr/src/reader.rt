@@ -1,7 +1,7 @@
 //! Reads a form without recursion: the forms that wait for a tree lie on a stack.
 //!
-//! specs/internal/Unwinding.antt states what is still to be read after each move. Read first:
-//! `read_within`.
+//! specs/internal/Unwinding.antt defines how the remaining tokens are read after each move. Read
+//! first: `read_within`.
 
 ghost use Rattle.std.specs.Prelude.{◌≡◌, ◌≤◌, ◌^◌, length};
 ghost use Rattle.jt_expr.specs.Cursor.{ahead};

@@ -1,4 +1,4 @@
-//! The nested forms, and the sequences of parts in brackets.
+//! Defines the nested forms, and the sequences of parts in brackets.
 
 ghost use Rattle.std.specs.Prelude.{◌≡◌, OnOk, Some, None, option_map, string_bytes};
 ghost use Rattle.jt_expr.specs.Grammar as grammar;

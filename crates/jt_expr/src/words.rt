@@ -1,4 +1,4 @@
-//! The words of the language.
+//! Defines the words of the language.
 
 ghost use Rattle.std.specs.Prelude.{◌≡◌, option_map};
 ghost use Rattle.std.specs.Str.{chars};

@@ -1,4 +1,4 @@
--- The answers of calls, and what they write to the caller's buffer.
+-- The answers of calls, and the bytes that they write to the caller's buffer.
 use Rattle.std.specs.Prelude.{◌≡◌, ◌⊎◌, ℕ, List, [], ◌++◌, length, drop, nat_le, Some, None, Result, Ok, Err, Vec}
 use Rattle.std.specs.Prelude.{string_bytes, if◌then◌else◌}
 use Rattle.std.specs.declared.alloc.Global.{Global}
@@ -12,7 +12,7 @@ use Rattle.jt_ffi.specs.declared.answer.Answer.{Answer}
 use Rattle.jt_ffi.specs.declared.error.FfiError.{FfiError}
 use Rattle.jt_ffi.specs.declared.error.FfiError.TheVariants as ffi_error
 
--- The result of a call: bytes, or why there are none.
+-- The result of a call: bytes, or an error.
 abbrev pub CallResult : Type 0
 CallResult = Result (Vec ℕ Global) FfiError
 
@@ -52,9 +52,9 @@ spent_number spent.Output = 3
 spent_number spent.Size = 4
 spent_number spent.Nesting = 5
 
--- An error is reported by the program's statuses: a fault by its number, its template and its
--- line, a spent budget by its number, and a refusal by a reason. Nothing is stated of the reason,
--- and lack of memory may replace it.
+-- An error is reported by a status of the program. A fault has its number, its template and its
+-- line, a spent budget its number, and a refusal a reason. Nothing is stated of the reason, and
+-- lack of memory may replace it.
 abbrev pub ReportsError : CallError → List ℕ → List ℕ → Answer → Type 0
 ReportsError (call_error.Fault f (Some place)) old new answer =
     IsAnswer (string_bytes place.template) 1 (fault_number f) place.line old new answer

@@ -20,7 +20,7 @@ use Rattle.jt_ffi.specs.declared.error.FfiError.TheVariants as ffi_error
 abbrev pub ForContext : List ℕ → (Pairs → Type 0) → Type 0
 ForContext bytes IsSo = (context : Pairs) × IsContext bytes context × IsSo context
 
--- The bytes are those of a text that is a result of this kind.
+-- The bytes spell a text that is a result of this kind.
 abbrev pub ForText : List ℕ → (Result (String Global) CallError → Type 0) → Type 0
 ForText bytes IsSo = (text : String Global) × (bytes ≡ string_bytes text) × IsSo (Ok text)
 

@@ -1,4 +1,4 @@
--- What handles hold, and the result of each call over handles.
+-- The values that handles hold, and the result of each call over handles.
 use Rattle.std.specs.Prelude.{◌≡◌, ◌⊎◌, ℕ, List, [], Option, Some, None, Ok, Err}
 use Rattle.std.specs.Arc.{arc_value}
 use Rattle.std.specs.Str.{IsUtf8}
@@ -24,7 +24,7 @@ use Rattle.jt_ffi.specs.declared.shared.Shared.TheVariants.{Image, Library}
 use Rattle.jt_ffi.specs.declared.templates.Lengths.{Lengths}
 use Rattle.jt_ffi.specs.declared.error.FfiError.TheVariants as ffi_error
 
--- ---- what a handle holds
+-- ---- the values that a handle holds
 
 -- The handle holds the templates that these bytes and lengths spell.
 abbrev pub HoldsLibrary : List Lengths → List ℕ → Option Shared → Type 0
@@ -97,7 +97,8 @@ CompilesFrom sources entry options held (Err (ffi_error.Call e)) =
     (held ≡ None) × IsUtf8 entry × CompilesTo sources entry options (Err e)
 CompilesFrom sources entry options held (Err e) = ⊥
 
--- Nothing is held, and the error is that a handle does not hold what the call needs.
+-- Nothing is held, and the error is that a handle does not hold the kind of value that the call
+-- needs.
 abbrev pub IsNotHeld : Option Shared → CallResult → Type 0
 IsNotHeld held r = (held ≡ None) × (r ≡ Err ffi_error.NotHeld)
 
@@ -132,7 +133,7 @@ SavesHeld None r = r ≡ Err ffi_error.NotHeld
 
 -- ---- runs
 
--- The code runs for what is held, if that is a context.
+-- The code runs for the held value, if it is a context.
 abbrev pub RunsFor : Code → Local → Budget → CallResult → Type 0
 RunsFor code (Context context) b (Ok bytes) =
     ForText bytes.items (RunsTo code (pairs_of context) b)
@@ -165,7 +166,7 @@ ReportsKept r held old new answer =
     ((held ≡ Some (Outcome r)) × Reports r old new answer)
     ⊎ ((held ≡ None) × Reports (Err (ffi_error.Call call_error.NoMemory)) old new answer)
 
--- The outcome that is held is reported. A context is none.
+-- The outcome that is held is reported. A context is no outcome.
 abbrev pub ReportsHeld : Local → List ℕ → List ℕ → Answer → Type 0
 ReportsHeld (Outcome outcome) old new answer = Reports outcome old new answer
 ReportsHeld (Context context) old new answer = Reports (Err ffi_error.NotHeld) old new answer

@@ -51,8 +51,8 @@ sources_in (n ∷ lengths) bytes name =
 
 -- ---- the results of reading
 
--- The result is a text of the first `n` bytes with the bytes after it, or the error states why
--- there is none.
+-- The result is a text of the first `n` bytes with the bytes after it, or the error states why it
+-- does not exist.
 abbrev pub IsCut : ℕ → List ℕ → Result (String Global × Bor (List ℕ)) FfiError → Type 0
 IsCut n bytes (Ok cut) = (n ≤ length bytes) × IsUtf8 (take n bytes)
     × (string_bytes cut.0 ≡ take n bytes) × (cut.1.now ≡ drop n bytes)

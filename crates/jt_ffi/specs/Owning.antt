@@ -1,4 +1,4 @@
--- The memory that a handle owns, by what it holds.
+-- The memory that a handle owns, by the value that it holds.
 use Rattle.std.specs.Prelude.{Option, None, Some, Bool, true, false}
 use base.Fml.{Fml, fsep, feq, fex}
 use base.Stored.{Coded}
@@ -19,6 +19,6 @@ module _ (R : RattleType) where
   handle_owns f p (Some x) = fsep (feq Bool f true) (held_owns p x)
   handle_owns f p None = feq Bool f false
 
-  -- The code by which proofs distinguish what is held.
+  -- The code by which proofs distinguish the held values.
   abbrev pub held_coded : Coded (Option R.Denot)
   held_coded = coded_option R.coded

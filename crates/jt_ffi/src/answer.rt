@@ -7,16 +7,19 @@ use crate::error::FfiError;
 use jt_host::{CallError, Fault, Spent};
 use std::alloc::Global;
 
-/// How a call ended, and the length of its result, whether or not the buffer holds it.
+/// The end of a call, and the length of its result, whether or not the buffer holds it.
 #[repr(C)]
 #[derive(Clone, Copy)]
 pub struct Answer {
     /// The exit status of the program: 0 done, 1 fault, 2 misuse, 3 refused, 4 spent, 6 memory.
     pub status: u32,
-    /// For a fault its number, 2 for F2. For a spent budget 1 fuel, 2 depth, 3 output, 4 size, 5
-    /// nesting. For misuse 1 lengths, 2 not text, 3 not held. Else 0.
+    /// The details of the status, or 0:
+    /// - of a fault its number, 2 for F2;
+    /// - of a spent budget 1 fuel, 2 depth, 3 output, 4 size, 5 nesting;
+    /// - of misuse 1 lengths, 2 not text, 3 not held.
     pub code: u32,
-    /// For a fault the line of its tag, counted from 1, or 0 if the image has no place. Else 0.
+    /// The line of the tag of a fault, counted from 1; 0 if the image has no place, and for every
+    /// other status.
     pub line: u32,
     /// Always 0.
     pub reserved: u32,

@@ -1,17 +1,17 @@
-//! The errors of a call.
+//! Defines the errors of a call.
 ghost use Rattle.std.specs.Prelude.{◌≡◌};
 
 use jt_host::CallError;
 use std::alloc::{AllocError, AllocFailed};
 
-/// Why a call returns neither a text nor an image.
+/// The reason why a call returns neither a text nor an image.
 #[derive(Debug, Drop)]
 pub enum FfiError {
-    /// The lengths of names and sources do not sum to the number of bytes.
+    /// Lengths of names and sources that do not sum to the number of bytes.
     Lengths,
-    /// A name or a source is not UTF-8.
+    /// A name or a source that is not UTF-8.
     NotText,
-    /// A handle does not hold what the call needs.
+    /// A handle that does not hold the kind of value that the call needs.
     NotHeld,
     /// The error of the call of jt_host.
     Call(CallError),

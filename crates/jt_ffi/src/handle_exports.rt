@@ -1,4 +1,4 @@
-//! The calls over handles that other languages make. `bindings/c/jt.h` declares them.
+//! Exports the calls over handles to other languages. `bindings/c/jt.h` declares them.
 //!
 //! A library, an image and a context are read once and used as often as the caller likes. An
 //! outcome is kept, so that a text that is longer than the buffer is read with no second run. A
@@ -56,11 +56,11 @@ pub extern "C" fn jt_library_compile(
     out: &mut [u8],
 ) -> Answer
     ensures library { library.new.held ≡ library.old.held }
-    // the result is that of the held library
+    // The result is that of the held library.
     ensures answer { Answers (CompilesHeld library.old.held entry.now (options_of options)
         image.new.held) out.old out.new result }
-    // the image is one that `jt_compile` may return for the templates of the library, and so is the
-    // reason of a refusal
+    // The image is one that `jt_compile` may return for the templates of the library, and so is the
+    // reason of a refusal.
     ensures compile { (lengths : List Lengths) (texts : List ℕ)
         → HoldsLibrary lengths texts library.old.held
         → Answers (CompilesInto lengths texts entry.now (options_of options) image.new.held) out.old
@@ -94,7 +94,7 @@ pub extern "C" fn jt_image_load(
 pub extern "C" fn jt_image_save(alloc: Global, image: &mut SharedHandle, out: &mut [u8]) -> Answer
     ensures image { image.new.held ≡ image.old.held }
     ensures answer { Answers (SavesHeld image.old.held) out.old out.new result }
-    // the bytes are ones that `jt_compile` may return, if the image was compiled
+    // The bytes are ones that `jt_compile` may return, if the image was compiled.
     ensures compile { (lengths : List Lengths) (texts entry : List ℕ) (options : Options)
         → IsGiven lengths texts entry
         → HoldsTemplate (sources_in lengths texts) entry options image.old.held
@@ -134,15 +134,15 @@ pub extern "C" fn jt_image_run(
 ) -> Answer
     ensures image { image.new.held ≡ image.old.held }
     ensures context { context.new.held ≡ context.old.held }
-    // the outcome is that of the image for the context; it is held, and reported
+    // The outcome is that of the image for the context. It is held, and reported.
     ensures answer { Answers (RunsAndKeeps image.old.held context.old.held (budget_of budget)
         outcome.new.held) out.old out.new result }
-    // the answer is one that `jt_run` may return for the bytes of both
+    // The answer is one that `jt_run` may return for the bytes of both.
     ensures run { (i c : List ℕ)
         → HoldsImage i image.old.held
         → HoldsContext c context.old.held
         → Answers (Runs i c (budget_of budget)) out.old out.new result }
-    // the answer is one that `jt_render` may return, if the image was compiled
+    // The answer is one that `jt_render` may return, if the image was compiled.
     ensures render { (lengths : List Lengths) (texts entry : List ℕ) (options : Options)
         (c : List ℕ)
         → IsGiven lengths texts entry
@@ -210,7 +210,7 @@ pub extern "C" fn jt_image_share(
     share(alloc, from, to)
 }
 
-/// Makes `to` a second handle of what `from` holds, and returns a status.
+/// Makes `to` a second handle of the value that `from` holds, and returns a status.
 fn share(alloc: Global, from: &mut SharedHandle, to: &mut SharedHandle) -> u32
     ensures same { from.new.held ≡ from.old.held }
     ensures done { result ≡ 0 → AreSame from.old.held to.new.held }

@@ -1,4 +1,4 @@
-//! `jt` for hosts in other languages: calls over numbers and bytes in a static library.
+//! Exports `jt` to hosts in other languages: calls over numbers and bytes in a static library.
 //! `bindings/c/jt.h` declares them.
 //!
 //! Four calls over bytes keep nothing, so calls of several threads do not affect each other. A
@@ -10,7 +10,7 @@
 //! reports the result (answer). A handle (shared_handle, local_handle) holds the pointer (parts) of
 //! a boxed value (shared, local). Read first: exports.rt, the calls over bytes, and
 //! handle_exports.rt, the calls over handles. specs/Calls.antt and specs/Handles.antt state their
-//! results, and specs/Answers.antt what they report.
+//! results, and specs/Answers.antt their answers.
 #![tactic(auto)]
 
 mod answer;

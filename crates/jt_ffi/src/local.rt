@@ -1,4 +1,4 @@
-//! Values that one handle holds, on one thread.
+//! Defines the values that one handle holds, on one thread.
 use crate::error::FfiError;
 use jt_host::Context;
 
@@ -7,6 +7,6 @@ use jt_host::Context;
 pub enum Local {
     /// A context.
     Context(Context),
-    /// The result of a run: its text, or why there is none.
+    /// The result of a run: its text, or the reason why it has none.
     Outcome(Result<Vec<u8>, FfiError>),
 }

@@ -1,4 +1,4 @@
-//! Options and budgets as other languages pass them.
+//! Defines options and budgets as other languages pass them.
 ghost use Rattle.std.specs.Prelude.{◌≡◌};
 ghost use Rattle.jt_ffi.specs.Plain.{budget_of, options_of};
 

@@ -1,4 +1,4 @@
-//! Values that handles on several threads may hold.
+//! Defines the values that handles on several threads may hold.
 use jt_host::{Templates, Verified};
 use std::sync::Arc;
 

@@ -1,4 +1,4 @@
-//! Handles of images and libraries.
+//! Defines handles of images and libraries.
 ghost use Rattle.std.specs.Prelude.{◌≡◌, ◌≢◌, None, Some, Option, is_some, option_map};
 ghost use Rattle.jt_ffi.specs.Owning.{held_coded};
 ghost use Rattle.jt_ffi.specs.declared.shared.Shared.{Shared};
@@ -26,7 +26,7 @@ impl Model for SharedHandle {
 }
 
 impl SharedHandle {
-    /// Takes out what is held. The handle then holds nothing.
+    /// Removes and returns the held value. The handle then holds nothing.
     pub(crate) fn take(&mut self, alloc: Global) -> Option<Box<Shared>>
         ensures held { self.old.held ≡ option_map (λ b. b.value) result }
         ensures empty { self.new.held ≡ None }
@@ -46,7 +46,7 @@ impl SharedHandle {
         self.fill(Parts::of(held));
     }
 
-    /// Puts back what `take` returned.
+    /// Puts back the result of `take`.
     pub(crate) fn put_back(&mut self, held: Option<Box<Shared>>)
         requires { self.old.held ≡ None }
         ensures { self.new.held ≡ option_map (λ b. b.value) held }
@@ -56,7 +56,7 @@ impl SharedHandle {
         }
     }
 
-    /// Returns whether something is held.
+    /// Returns whether the handle holds a value.
     fn is_full(&mut self) -> bool
         ensures { (result ≡ is_some self.old.held) × (self.new ≡ self.old) }
     {
@@ -73,7 +73,7 @@ impl SharedHandle {
         self.full = true;
     }
 
-    /// Takes out what is held, as the parts of its box.
+    /// Removes the held value and returns the parts of its box.
     fn empty(&mut self, alloc: Global) -> Parts<Shared, Global>
         requires { self.old.held ≢ None }
         ensures { (self.old.held ≡ Some result.value) × (self.new.held ≡ None) }
@@ -84,5 +84,5 @@ impl SharedHandle {
     }
 }
 
-// Each value that it holds may go to another thread.
+// Each value that a handle holds may go to another thread.
 unsafe impl Send for SharedHandle {}

@@ -65,8 +65,8 @@ abbrev pub reversed_items : Items → Items
 reversed_items no_items = no_items
 reversed_items (item t ts) = joined_items (reversed_items ts) (item t no_items)
 
--- `reverse`: for a text the plain text of its characters in reverse order; for a list, a map and
--- undefined the list of their items in reverse order.
+-- `reverse`. The result for a text is the plain text of its characters in reverse order. The result
+-- for a list, a map and undefined is the list of their items in reverse order.
 abbrev pub reversed : Tree → Result Tree Fault
 reversed undefined = Ok (list no_items)
 reversed (text s) = Ok (text (backwards s))

@@ -32,8 +32,8 @@ filter_named name = if_inner (filter_of_name name)
 abbrev pub takes_values : FilterId → ℕ → Bool
 takes_values f values = nat_le (least_values f) values && nat_le values (most_values f)
 
--- The items of one result followed by the items of another one. Of two faults the first one is the
--- result.
+-- The items of one result followed by the items of another one. If both are faults, the first one
+-- is the result.
 abbrev pub in_front : Result Items Fault → Result Items Fault → Result Items Fault
 in_front (Err fault) rest = Err fault
 in_front (Ok ts) (Err fault) = Err fault

@@ -12,6 +12,7 @@ pub mod FoldedCodes
 pub mod SeenCodes
 pub mod SeenNumbers
 pub mod ListAppend
+pub mod ListMembers
 pub mod TextMeasures
 pub mod Measures
 pub mod Numerals

@@ -103,7 +103,7 @@ at_first a0 a1 a2 a3 a4 a5 a6 a7 = search (arith, rules)
 
 mutual
   -- Equal values have the same code.
-  same_code : (t u : Tree) → equal t u ≡ true → code t ≡ code u
+  pub same_code : (t u : Tree) → equal t u ≡ true → code t ≡ code u
   same_code tree.undefined tree.undefined e = refl
   same_code tree.nothing tree.nothing e = refl
   same_code (tree.truth_value a) (tree.truth_value b) e = same_number (truth_number a) (truth_number b) e

@@ -1,5 +1,6 @@
 pub mod Codes
 pub mod Operands
+pub mod PlacesOf
 pub mod Ranks
 pub mod Rows
 pub mod Seen

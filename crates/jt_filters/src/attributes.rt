@@ -1,4 +1,4 @@
-//! The item of an operand at a text key. Nothing here allocates.
+//! Looks up the item of an operand at a text key. Nothing here allocates.
 ghost use Rattle.std.specs.Prelude.{◌≡◌, option_map, option_copied};
 ghost use Rattle.jt_value.specs.Tree as tree;
 ghost use Rattle.jt_value.specs.View.{view};
@@ -24,8 +24,8 @@ pub(crate) fn attribute<'a>(operand: Operand<'a>, key: &Value) -> Result<Operand
     }
 }
 
-/// Returns the item at a key: of a map the value of the key, of any other operand undefined.
-/// Undefined itself has a fault.
+/// Returns the value of a key if the operand is a map, and undefined for any other operand. Returns
+/// the fault `Undefined` if the operand is undefined itself.
 #[tactic(auto, using(crate::proofs::Payloads::map_is, crate::proofs::TextKeys::others_have_none))]
 pub(crate) fn item_of<'a>(operand: Operand<'a>, key: &str) -> Result<Operand<'a>, Fault>
     ensures { chosen result ≡ item_of (tree_of operand.entry) (tree.text key.now) }

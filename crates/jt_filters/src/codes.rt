@@ -1,5 +1,5 @@
-//! Codes of items: bytes that tell items apart. Two items have the same code exactly if they are
-//! alike.
+//! Computes codes of items: bytes that distinguish items. Two items have the same code exactly if
+//! they are alike.
 ghost use Rattle.std.specs.Prelude.{◌≡◌, ◌∷◌, [], IfOk};
 ghost use Rattle.jt_value.specs.Tree as tree;
 ghost use Rattle.jt_value.specs.View.{view, items_view, entries_view};
@@ -24,6 +24,15 @@ pub(crate) fn code_of(alloc: Global, item: Operand<'_>) -> Result<Vec<u8>, NoMem
         Some(text) => push_folded(&mut bytes, text)?,
         None => push_operand(alloc, &mut bytes, item)?,
     }
+    Ok(bytes)
+}
+
+/// Returns the code of an item in which letter case counts. Items that are equal have the same one.
+pub(crate) fn exact_code_of(alloc: Global, item: Operand<'_>) -> Result<Vec<u8>, NoMemory>
+    ensures { IfOk result (λ v. v.items ≡ code (tree_of item.entry)) }
+{
+    let mut bytes = Vec::new(alloc);
+    push_operand(alloc, &mut bytes, item)?;
     Ok(bytes)
 }
 

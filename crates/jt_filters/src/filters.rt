@@ -1,13 +1,17 @@
 //! Applies filters to values.
-ghost use Rattle.std.specs.Prelude.{◌≡◌, true, map, length, nat_le};
+ghost use Rattle.std.specs.Prelude.{◌≡◌, true, false, map, length, nat_le, Err, IfOk, IfErr};
 ghost use Rattle.jt_value.specs.View.{view};
 ghost use Rattle.jt_ops.specs.Limited.{limited_by, Answers};
-ghost use Rattle.jt_ids.specs.FilterTable.{least_values, most_values};
+ghost use Rattle.jt_ids.specs.FilterTable.{least_values, most_values, may_be_inner};
 ghost use Rattle.jt_filter_semantics.specs.Filtering.{filtered};
-ghost use Rattle.jt_filters.specs.internal.Operands.{given, measured, Builds};
+ghost use Rattle.jt_filter_semantics.specs.Mapping.{as_list, gathered};
+ghost use Rattle.jt_filters.specs.internal.Operands.{given, items_in, measured, Builds};
+ghost use Rattle.jt_filters.specs.internal.Rows.{gives, Gives};
 
 use crate::building::build;
-use crate::mapping::{mapped, mapped_measure};
+use crate::inner::ItemAction;
+use crate::item_list::{ItemList, items_of};
+use crate::mapping::{change_of, row_list_under};
 use crate::measuring::measure;
 use crate::operand::Operand;
 use crate::unique::unique_under;
@@ -65,9 +69,28 @@ pub fn apply(
 fn applied(alloc: Global, application: Application<'_>, limits: Limits) -> Result<Value, OpError>
     ensures { Answers result (limited_by limits (given application.entry)) }
 {
+    if !application.filter.may_be_inner() {
+        return mapped_under(alloc, application, limits);
+    }
     match (application.filter, application.arguments) {
         (FilterId::Unique, []) => unique_under(alloc, application.operand, limits),
         _ => measured_and_built(alloc, application, limits),
+    }
+}
+
+/// Returns the result of a filter that works on each item, under limits.
+#[tactic(auto, using(crate::proofs::ApplyCorrect::built_fault))]
+fn mapped_under(
+    alloc: Global,
+    application: Application<'_>,
+    limits: Limits,
+) -> Result<Value, OpError>
+    requires { may_be_inner application.filter ≡ false }
+    ensures { Answers result (limited_by limits (given application.entry)) }
+{
+    match application.row() {
+        Ok((items, change)) => row_list_under(alloc, items, change, limits),
+        Err(fault) => Err(OpError::Fault(fault)),
     }
 }
 
@@ -78,6 +101,7 @@ fn measured_and_built(
     application: Application<'_>,
     limits: Limits,
 ) -> Result<Value, OpError>
+    requires { may_be_inner application.filter ≡ true }
     ensures { Answers result (limited_by limits (given application.entry)) }
 {
     let (size, nesting) = match application.measure(alloc) {
@@ -95,20 +119,26 @@ fn measured_and_built(
 }
 
 impl<'a> Application<'a> {
-    /// Returns the measure of the result, also for filters that call others.
+    /// Returns the items of a filter that works on each item, and its action on them.
+    #[tactic(auto, using(crate::proofs::ItemResults::action_results))]
+    fn row(self) -> Result<(ItemList<'a>, ItemAction<'a>), Fault>
+        requires { may_be_inner self.filter ≡ false }
+        ensures gives { IfOk result (λ p. Gives p.1) }
+        ensures ok { IfOk result
+            (λ p. given self.entry ≡ as_list (gathered (gives p.1) (items_in p.0))) }
+        ensures fault { IfErr result (λ f. given self.entry ≡ Err f) }
+    {
+        let items = items_of(self.operand)?;
+        let change = change_of(self.filter, self.arguments, self.autoescape)?;
+        Ok((items, change))
+    }
+
+    /// Returns the measure of the result of a filter that works on its input as a whole.
     fn measure(self, alloc: Global) -> Result<(u64, u32), Fault>
+        requires { may_be_inner self.filter ≡ true }
         ensures { result ≡ measured (given self.entry) }
     {
-        if self.filter.may_be_inner() {
-            return measure(
-                alloc,
-                self.filter,
-                self.operand,
-                self.arguments,
-                self.autoescape,
-            );
-        }
-        mapped_measure(
+        measure(
             alloc,
             self.filter,
             self.operand,
@@ -117,20 +147,12 @@ impl<'a> Application<'a> {
         )
     }
 
-    /// Returns the result, also for filters that call others.
+    /// Returns the result of a filter that works on its input as a whole.
     fn value(self, alloc: Global) -> Result<Value, ValueError>
+        requires { may_be_inner self.filter ≡ true }
         ensures { Builds (given self.entry) result }
     {
-        if self.filter.may_be_inner() {
-            return build(
-                alloc,
-                self.filter,
-                self.operand,
-                self.arguments,
-                self.autoescape,
-            );
-        }
-        mapped(
+        build(
             alloc,
             self.filter,
             self.operand,

@@ -1,4 +1,4 @@
-//! Comparison of texts by fold, which is their ASCII lower case.
+//! Compares texts by fold, which is their ASCII lower case.
 ghost use Rattle.std.specs.Prelude.{◌≡◌};
 ghost use Rattle.jt_filter_semantics.specs.Ordering as ordering;
 

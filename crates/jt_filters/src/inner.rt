@@ -1,6 +1,6 @@
-//! The actions on each item: it is kept or dropped, or replaced by its attribute or by the result
-//! of a filter.
-ghost use Rattle.std.specs.Prelude.{◌≡◌, ◌+◌, [], ◌∷◌, ◌++◌, map, length, Ok, IfErr, OnOk};
+//! Defines the actions on each item: it is kept, dropped, or replaced by its attribute or by a
+//! filter's result.
+ghost use Rattle.std.specs.Prelude.{◌≡◌, ◌+◌, [], ◌∷◌, ◌++◌, map, length, Ok, IfSome, IfErr, OnOk};
 ghost use Rattle.std.specs.Prelude.{option_map};
 ghost use Rattle.jt_value.specs.View.{view, items_view};
 ghost use Rattle.jt_ids.specs.TestTable.{test_values};
@@ -8,11 +8,12 @@ ghost use Rattle.jt_op_semantics.specs.Testing as testing;
 ghost use Rattle.jt_filter_semantics.specs.Mapping.{attribute_or_item, if_kept, in_front, alone};
 ghost use Rattle.jt_filters.specs.internal.Operands.{tree_of, chosen};
 ghost use Rattle.jt_filters.specs.internal.Rows.{judges, Judges, kept, gives, Gives, row_measured};
-ghost use Rattle.jt_filters.specs.internal.Rows.{RowFault};
+ghost use Rattle.jt_filters.specs.internal.Rows.{RowFault, IsSought};
 
 use crate::attributes::item_of;
 use crate::building::build;
 use crate::measuring::measure;
+use crate::members::Members;
 use crate::operand::Operand;
 use jt_ids::{FilterId, TestId};
 use jt_ops::{test_of, test_of_text};
@@ -26,12 +27,14 @@ pub(crate) enum Predicate<'a> {
     Truth,
     /// A test with its arguments.
     Test(TestId, &'a [Value]),
+    /// Test `in` with a list.
+    Among(&'a Members<'a>),
 }
 
 /// The rule by which items are kept.
 #[derive(Clone, Copy)]
 pub(crate) struct Selection<'a> {
-    /// True to keep the items that pass the predicate, false to keep those that fail it.
+    /// `true` if the items that pass the predicate are kept, `false` if the items that fail it are.
     pub(crate) passes: bool,
     /// The key of the attribute that is tested. Without a key the item itself is tested.
     pub(crate) key: Option<&'a str>,
@@ -59,13 +62,15 @@ pub(crate) enum ItemAction<'a> {
 
 impl Predicate<'_> {
     /// Returns whether an operand passes.
-    fn passes(self, operand: Operand<'_>) -> Result<bool, Fault>
+    #[tactic(auto, using(crate::proofs::ListMembers::in_list))]
+    fn passes(self, alloc: Global, operand: Operand<'_>) -> Result<bool, Fault>
         requires { Judges self }
         ensures { result ≡ judges self.entry (tree_of operand.entry) }
     {
         match self {
             Predicate::Truth => Ok(operand.truth()),
             Predicate::Test(test, arguments) => test_operand(test, operand, arguments),
+            Predicate::Among(members) => Ok(members.has(alloc, operand)),
         }
     }
 }
@@ -85,15 +90,15 @@ fn test_operand(test: TestId, operand: Operand<'_>, arguments: &[Value]) -> Resu
 
 impl<'a> Selection<'a> {
     /// Returns whether an item is kept.
-    fn keeps(self, item: Operand<'a>) -> Result<bool, Fault>
+    fn keeps(self, alloc: Global, item: Operand<'a>) -> Result<bool, Fault>
         requires { Judges self.predicate }
         ensures { result ≡ kept self.entry (tree_of item.entry) }
     {
-        let passes = self.predicate.passes(self.attribute_or_item(item)?)?;
+        let passes = self.predicate.passes(alloc, self.attribute_or_item(item)?)?;
         Ok(passes == self.passes)
     }
 
-    /// Returns what the predicate tests: the item itself, or its attribute.
+    /// Returns the operand that the predicate tests: the item itself, or its attribute.
     fn attribute_or_item(self, item: Operand<'a>) -> Result<Operand<'a>, Fault>
         ensures { chosen result
             ≡ attribute_or_item (option_map (λ k. k.now) self.entry.key) (tree_of item.entry) }
@@ -106,14 +111,43 @@ impl<'a> Selection<'a> {
 }
 
 impl<'a> ItemAction<'a> {
-    /// Returns the size and the nesting of what the action makes of an item.
+    /// Returns the list in which the action looks up each item by test `in`, if it does.
+    pub(crate) fn sought(self) -> Option<&'a [Value]>
+        ensures { IfSome result (λ list. IsSought (items_view list.now) self.entry) }
+    {
+        match self {
+            ItemAction::Keep(selection) => match selection.predicate {
+                Predicate::Test(TestId::In, [Value::List(list)]) => Some(list.items()),
+                _ => None,
+            },
+            _ => None,
+        }
+    }
+
+    /// Returns the action that looks up each item in the members of its list.
+    pub(crate) fn among(self, members: &'a Members<'a>) -> ItemAction<'a>
+        requires gives { Gives self }
+        requires sought { IsSought (items_view members.now.items.now) self }
+        ensures same { gives result ≡ gives self.entry }
+        ensures gives { Gives result }
+    {
+        match self {
+            ItemAction::Keep(selection) => ItemAction::Keep(Selection {
+                predicate: Predicate::Among(members),
+                ..selection
+            }),
+            _ => self,
+        }
+    }
+
+    /// Returns the size and the nesting of the action's result on an item, or zeros if it has none.
     #[tactic(auto, using(crate::proofs::ItemResults::action_measures))]
     pub(crate) fn measure(self, alloc: Global, item: Operand<'a>) -> Result<(u64, u32), Fault>
         requires { Gives self }
         ensures { result ≡ row_measured (gives self.entry (tree_of item.entry)) }
     {
         match self {
-            ItemAction::Keep(selection) => Ok(measure_if(selection.keeps(item)?, item)),
+            ItemAction::Keep(selection) => Ok(measure_if(selection.keeps(alloc, item)?, item)),
             ItemAction::Attribute(key) => measured(item_of(item, key)),
             ItemAction::Filter(call) => measure(
                 alloc,
@@ -125,7 +159,7 @@ impl<'a> ItemAction<'a> {
         }
     }
 
-    /// Appends what the action makes of an item.
+    /// Appends the action's result on an item, if it has one.
     #[tactic(auto, using(crate::proofs::ItemResults::action_values))]
     pub(crate) fn push(
         self,
@@ -141,7 +175,7 @@ impl<'a> ItemAction<'a> {
     {
         let value = match self {
             ItemAction::Keep(selection) => {
-                if !selection.keeps(item)? {
+                if !selection.keeps(alloc, item)? {
                     return Ok(());
                 }
                 item.value(alloc)?

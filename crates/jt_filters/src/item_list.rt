@@ -1,4 +1,4 @@
-//! The items of values, in order. Nothing here allocates.
+//! Reads the items of values, in order. Nothing here allocates.
 ghost use Rattle.std.specs.Prelude.{◌≡◌, IfSome, IfNone};
 ghost use Rattle.std.specs.Str.{chars};
 ghost use Rattle.jt_value.specs.Iteration.{items_of_tree, character_items};
@@ -19,7 +19,7 @@ pub(crate) enum ItemList<'a> {
 }
 
 impl<'a> ItemList<'a> {
-    /// Returns how many items there are.
+    /// Returns the number of items.
     #[tactic(auto, using(crate::proofs::Payloads::item_counts))]
     pub(crate) fn len(self) -> usize
         ensures { result ≡ items_count (items_in self.entry) }

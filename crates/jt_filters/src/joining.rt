@@ -1,4 +1,4 @@
-//! Filter `join`: the length of its text, and the text.
+//! Implements filter `join`: the length of its text, and the text.
 ghost use Rattle.std.specs.Prelude.{◌≡◌, ◌&&◌, ◌||◌};
 ghost use Rattle.jt_op_semantics.specs.Testing.{is_markup};
 ghost use Rattle.jt_filters.specs.internal.Operands as operands;
@@ -63,7 +63,7 @@ fn has_markup(items: ItemList<'_>) -> bool
 }
 
 /// Returns the length in bytes of the joined text, at most 2^64 - 1. A fault of the separator comes
-/// before those of the items.
+/// before the faults of the items.
 #[tactic(auto, using(crate::proofs::JoinLengths::joined_lengths))]
 fn joined_len(items: ItemList<'_>, separator: Operand<'_>, escaping: bool) -> Result<u64, Fault>
     ensures { result
@@ -76,8 +76,8 @@ fn joined_len(items: ItemList<'_>, separator: Operand<'_>, escaping: bool) -> Re
     }
 }
 
-/// Returns the joined length, at most 2^64 - 1: `first` bytes, then each item of `behind` with
-/// `between` bytes before it.
+/// Returns the joined length, at most 2^64 - 1: `first` bytes, then each item of `behind` after
+/// `between` bytes.
 fn led_len(first: u64, between: u64, behind: ItemList<'_>, escaping: bool) -> Result<u64, Fault>
     ensures { result ≡ led_length escaping first between (items_in behind.entry) }
 {
@@ -92,7 +92,7 @@ fn led_len(first: u64, between: u64, behind: ItemList<'_>, escaping: bool) -> Re
     Ok(total)
 }
 
-/// Returns how many bytes an operand adds to a join, at most 2^64 - 1.
+/// Returns the number of bytes that an operand adds to a join, at most 2^64 - 1.
 #[tactic(auto, using(crate::proofs::JoinLengths::piece_is, crate::proofs::JoinLengths::no_piece))]
 fn piece_len(operand: Operand<'_>, escaping: bool) -> Result<u64, Fault>
     ensures { result ≡ text_length (piece escaping (tree_of operand.entry)) }

@@ -1,4 +1,4 @@
-//! The kinds of items that filters accept.
+//! Checks the kinds of items that filters accept.
 ghost use Rattle.std.specs.Prelude.{◌≡◌};
 ghost use Rattle.jt_filter_semantics.specs.Kinds as kinds;
 ghost use Rattle.jt_filter_semantics.specs.Kinds.{all_numbers, all_plain, have_order};

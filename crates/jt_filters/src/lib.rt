@@ -1,5 +1,5 @@
-//! Filters on values, under limits of size and nesting. Re-exports the operations of jt_ops and the
-//! ids.
+//! Implements filters on values, under limits of size and nesting. Re-exports the operations of
+//! jt_ops and the ids.
 //!
 //! `apply` (`filters`) measures the result of a filter (`measuring`) before it builds it
 //! (`building`). Both use a module per kind of filter: `texts`, `scalars`, `listing`, `sorting`,
@@ -19,6 +19,7 @@ mod kinds;
 mod listing;
 mod mapping;
 mod measuring;
+mod members;
 mod operand;
 mod replacing;
 mod scalars;

@@ -1,4 +1,5 @@
-//! Filters whose results are lists: the measure (size and nesting) of each result, and the result.
+//! Implements filters whose results are lists: the measure (size and nesting) of each result, and
+//! the result.
 ghost use Rattle.std.specs.Prelude.{◌≡◌, ◌-◌, ◌^◌, min, Bool, IfOk, Ok};
 ghost use Rattle.jt_value.specs.Tree as tree;
 ghost use Rattle.jt_value.specs.Tree.{Tree, items_size, items_nesting};

@@ -1,59 +1,89 @@
-//! Filters that call a filter or a test on each item of their input, or look up its attribute.
-ghost use Rattle.std.specs.Prelude.{◌≡◌, map, Ok, IfOk, IfErr, Some, option_map};
+//! Implements filters that call a filter or a test on each item of their input, or look up its
+//! attribute.
+ghost use Rattle.std.specs.Prelude.{◌≡◌, map, Ok, IfOk, IfErr, IfSome, Some, option_map};
 ghost use Rattle.jt_value.specs.Payload.{text_of};
 ghost use Rattle.jt_value.specs.View.{view, items_view};
-ghost use Rattle.jt_filter_semantics.specs.Listing.{on_items};
+ghost use Rattle.jt_ops.specs.Limited.{limited_by, Answers};
 ghost use Rattle.jt_filter_semantics.specs.Mapping as the;
 ghost use Rattle.jt_ids.specs.TestTable.{test_of_name};
-ghost use Rattle.jt_filter_semantics.specs.Mapping.{named_by, filter_named, gathered, gathered_by};
+ghost use Rattle.jt_filter_semantics.specs.Mapping.{named_by, filter_named, gathered};
 ghost use Rattle.jt_filter_semantics.specs.Mapping.{as_list};
-ghost use Rattle.jt_filters.specs.internal.Operands.{tree_of, items_in, measured, Builds};
+ghost use Rattle.jt_filters.specs.internal.Operands.{items_in, measured, Builds};
 ghost use Rattle.jt_filters.specs.internal.Rows.{gives, Gives, row_measured, Changes};
-ghost use Rattle.jt_filters.specs.internal.Rows.{MakesPredicate, RowFault};
+ghost use Rattle.jt_filters.specs.internal.Rows.{MakesPredicate, RowFault, IsSought};
 
 use crate::inner::{InnerCall, ItemAction, Predicate, Selection};
-use crate::item_list::{ItemList, items_of};
-use crate::operand::Operand;
+use crate::item_list::ItemList;
+use crate::members::Members;
 use jt_ids::{FilterId, TestId};
+use jt_ops::{Limits, OpError, allow};
 use jt_value::{Fault, Value, ValueError};
 use std::alloc::Global;
 
-/// Returns the measure of the result of a filter that works on each item.
-#[tactic(auto, using(crate::proofs::ItemResults::action_results))]
-pub(crate) fn mapped_measure(
+/// The least number of items, and of members of a list, for which the members are found by their
+/// keys. To compare fewer takes less time.
+const MANY: usize = 64;
+
+/// Returns the list of what the action makes of the items, under limits.
+pub(crate) fn row_list_under<'a>(
     alloc: Global,
-    filter: FilterId,
-    operand: Operand<'_>,
-    arguments: &[Value],
-    autoescape: bool,
-) -> Result<(u64, u32), Fault>
-    ensures { result
-        ≡ measured (on_items (gathered_by (the.giving filter autoescape (map view arguments.now)))
-        (tree_of operand.entry)) }
+    items: ItemList<'a>,
+    change: ItemAction<'a>,
+    limits: Limits,
+) -> Result<Value, OpError>
+    requires { Gives change }
+    ensures { Answers result (limited_by limits
+        (as_list (gathered (gives change.entry) (items_in items.entry)))) }
 {
-    let items = items_of(operand)?;
-    let change = change_of(filter, arguments, autoescape)?;
-    row_list_measure(alloc, items, change)
+    match members_of(alloc, items, change) {
+        Some(members) => limited_row_list(alloc, items, change.among(&members), limits),
+        None => limited_row_list(alloc, items, change, limits),
+    }
 }
 
-/// Returns the result of a filter that works on each item.
-#[tactic(auto, using(crate::proofs::ItemResults::action_results))]
-pub(crate) fn mapped(
-    alloc: Global,
-    filter: FilterId,
-    operand: Operand<'_>,
-    arguments: &[Value],
-    autoescape: bool,
-) -> Result<Value, ValueError>
-    ensures { Builds (on_items (gathered_by (the.giving filter autoescape (map view arguments.now)))
-        (tree_of operand.entry)) result }
+/// Returns the members of the list in which the action looks up each item. Returns `None` if it
+/// looks up none, if a comparison with each member is faster, or if memory is refused.
+fn members_of<'a>(alloc: Global, items: ItemList<'a>, change: ItemAction<'a>) -> Option<Members<'a>>
+    ensures { IfSome result (λ m. IsSought (items_view m.items.now) change.entry) }
 {
-    let items = items_of(operand)?;
-    let change = change_of(filter, arguments, autoescape)?;
-    row_list(alloc, items, change)
+    let list = change.sought()?;
+    if list.len() < MANY || items.len() < MANY {
+        return None;
+    }
+    match Members::new(alloc, list) {
+        Ok(members) => Some(members),
+        Err(_) => None,
+    }
 }
 
-/// Returns the measure of the list of what the action makes of the items.
+/// Returns the list of what the action makes of the items, under limits. It is measured before it
+/// is built.
+#[tactic(auto, using(crate::proofs::ApplyCorrect::refusals))]
+fn limited_row_list<'a>(
+    alloc: Global,
+    items: ItemList<'a>,
+    change: ItemAction<'a>,
+    limits: Limits,
+) -> Result<Value, OpError>
+    requires { Gives change }
+    ensures { Answers result (limited_by limits
+        (as_list (gathered (gives change.entry) (items_in items.entry)))) }
+{
+    let (size, nesting) = match row_list_measure(alloc, items, change) {
+        Ok(measure) => measure,
+        Err(fault) => return Err(OpError::Fault(fault)),
+    };
+    if let Err(error) = allow(size, nesting, limits) {
+        return Err(error);
+    }
+    match row_list(alloc, items, change) {
+        Ok(list) => Ok(list),
+        Err(ValueError::Fault(fault)) => Err(OpError::Fault(fault)),
+        Err(ValueError::NoMemory) => Err(OpError::NoMemory),
+    }
+}
+
+/// Returns the measure of the list of the action's results on the items.
 #[tactic(auto, using(crate::proofs::ItemResults::list_measures))]
 fn row_list_measure<'a>(
     alloc: Global,
@@ -67,8 +97,8 @@ fn row_list_measure<'a>(
     Ok((size.saturating_add(1), nesting.saturating_add(1)))
 }
 
-/// Returns the size, at most 2^64 - 1, and the nesting, at most 2^32 - 1, of what the action makes
-/// of the items.
+/// Returns the size, at most 2^64 - 1, and the nesting, at most 2^32 - 1, of the action's results
+/// on the items.
 #[tactic(auto, using(crate::proofs::ItemResults::rest_measures))]
 fn row_measure<'a>(
     alloc: Global,
@@ -93,7 +123,7 @@ fn row_measure<'a>(
     Ok((size, nesting))
 }
 
-/// Returns the list of what the action makes of the items.
+/// Returns the list of the action's results on the items.
 fn row_list<'a>(
     alloc: Global,
     items: ItemList<'a>,
@@ -106,7 +136,7 @@ fn row_list<'a>(
     Ok(Value::list(alloc, values)?)
 }
 
-/// Returns what the action makes of the items, in order.
+/// Returns the action's results on the items, in order.
 #[tactic(auto, using(crate::proofs::ItemResults::front_values))]
 fn row_values<'a>(
     alloc: Global,
@@ -146,8 +176,8 @@ pub(crate) fn change_of(
     }
 }
 
-/// Returns the action that keeps items by a test, given by its name and arguments, or by truth if
-/// there are no arguments.
+/// Returns the action that keeps items by a test, or by truth if there are no arguments. The test's
+/// name is the first of `arguments`.
 fn keeping<'a>(
     passes: bool,
     key: Option<&'a str>,
@@ -164,7 +194,8 @@ fn keeping<'a>(
     }))
 }
 
-/// As `keeping`, but the predicate tests an attribute of the item. Its key is the first argument.
+/// Returns the action that keeps items by a test of an attribute, or by the attribute's truth. The
+/// key of the attribute is the first argument.
 fn selecting_by(passes: bool, arguments: &[Value]) -> Result<ItemAction<'_>, Fault>
     ensures { Changes (the.selecting_by passes (map view arguments.now)) result }
 {
@@ -255,8 +286,8 @@ fn named_test(name: &Value) -> Option<TestId>
     }
 }
 
-/// Returns the predicate of a test, given by its name and arguments, or truth if there are no
-/// arguments.
+/// Returns the predicate of a test, or truth if there are no arguments. The test's name is the
+/// first of `arguments`.
 fn predicate_of(arguments: &[Value]) -> Result<Predicate<'_>, Fault>
     ensures { MakesPredicate (the.judgement (map view arguments.now)) result }
 {

@@ -20,7 +20,7 @@ use jt_value::{Fault, Value};
 use std::alloc::Global;
 
 /// Returns the measure of a filter's result, or its fault. A call with a number of values that the
-/// filter does not take has the fault of the definition; no caller makes one.
+/// filter does not take has the fault of the definition; no caller makes such a call.
 pub(crate) fn measure(
     alloc: Global,
     filter: FilterId,

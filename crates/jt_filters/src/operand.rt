@@ -1,4 +1,4 @@
-//! The operand of a filter: a value, or a number or a text that has not been made a value.
+//! Defines the operand of a filter: a value, or a number or a text that has not been made a value.
 ghost use Rattle.std.specs.Prelude.{◌≡◌, ◌-◌, ◌^◌, min, option_map, IfOk, IfErr, Some, None};
 ghost use Rattle.jt_value.specs.Payload.{text_of, items_of_list, entries_of_map};
 ghost use Rattle.jt_value.specs.Tree.{truth, printed, size, nesting};

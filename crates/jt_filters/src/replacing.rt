@@ -1,4 +1,4 @@
-//! Filter `replace`.
+//! Implements filter `replace`.
 ghost use Rattle.std.specs.Prelude.{◌≡◌, ◌<◌, ◌-◌, ◌^◌, min, length, IfOk, IfErr, Ok, Err};
 ghost use Rattle.std.specs.Prelude.{string_bytes};
 ghost use Rattle.jt_value.specs.Tree as tree;

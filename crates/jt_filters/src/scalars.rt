@@ -1,4 +1,4 @@
-//! Filters whose result is a number or an existing value. They allocate nothing.
+//! Implements filters whose result is a number or an existing value. They allocate nothing.
 ghost use Rattle.std.specs.Prelude.{◌≡◌, ◌||◌, ◌&&◌, not, if◌then◌else◌, Ok, pos};
 ghost use Rattle.jt_value.specs.Tree as tree;
 ghost use Rattle.jt_value.specs.Tree.{truth};
@@ -170,8 +170,8 @@ fn best(items: ItemList<'_>, reverse: bool) -> Operand<'_>
     }
 }
 
-/// Returns the first least item of `first` and `behind`, or the first greatest one if `reverse` is
-/// true.
+/// Returns the first least item among `first` and the items of `behind` after it, or the first
+/// greatest one if `reverse` is true.
 fn best_of<'a>(first: Operand<'a>, behind: ItemList<'a>, reverse: bool) -> Operand<'a>
     ensures { tree_of result
         ≡ ordering.best_of (ordering.comes_first reverse) (tree_of first.entry)

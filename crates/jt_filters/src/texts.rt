@@ -1,4 +1,5 @@
-//! Filters on printed texts: the measure (size and nesting) of each result, and the result.
+//! Implements filters on printed texts: the measure (size and nesting) of each result, and the
+//! result.
 ghost use Rattle.std.specs.Prelude.{◌≡◌, ℕ, List, reverse, IfOk, Ok, string_bytes};
 ghost use Rattle.jt_value.specs.Tree as tree;
 ghost use Rattle.std.specs.Str.{chars, str_to_ascii_lowercase as lowercase};

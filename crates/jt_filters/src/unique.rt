@@ -1,5 +1,5 @@
-//! Filter `unique`. Each item is looked up among the earlier ones, numbers by value and other items
-//! by their codes. So a list of n items takes time in proportion to n log n.
+//! Implements filter `unique`. Each item is looked up among the earlier ones, numbers by value and
+//! other items by their codes. So a list of n items takes time in proportion to n log n.
 ghost use Rattle.std.specs.Prelude.{◌≡◌, ℤ, ◌+◌, ◌-◌, ◌^◌, ◌||◌, min, max, IfOk, OnOk, Ok, Err};
 ghost use Rattle.std.specs.Prelude.{None};
 ghost use Rattle.std.specs.Ordering.{int_eq};
@@ -180,8 +180,8 @@ fn operand_values(alloc: Global, operands: &[Operand<'_>]) -> Result<Vec<Value>,
     Ok(values)
 }
 
-/// The keys of the items that were seen: the numbers that one of them equals, and for each code of
-/// any other item the first item that has it.
+/// The keys of the items that were seen. `numbers` has each number that an item equals. `codes`
+/// has, for each code of any other item, the first item with the code.
 #[derive(Drop)]
 struct SeenKeys<'a> {
     numbers: BTreeSet<i64>,
@@ -263,7 +263,7 @@ fn was_seen<'a>(
 }
 
 /// Returns the number that an item equals, if any: its own, or 0 or 1 for a truth value.
-fn number_like(item: Operand<'_>) -> Option<i64>
+pub(crate) fn number_like(item: Operand<'_>) -> Option<i64>
     ensures { result ≡ seen.number_like (tree_of item.entry) }
 {
     match item {
@@ -274,7 +274,7 @@ fn number_like(item: Operand<'_>) -> Option<i64>
     }
 }
 
-/// Returns whether the numbers have this one. Afterwards they have it.
+/// Returns whether the numbers contain `number`. Afterwards they contain it.
 #[tactic(auto, using(crate::proofs::SeenNumbers::was_there, crate::proofs::SeenNumbers::or_is))]
 fn was_number_seen(numbers: &mut BTreeSet<i64>, number: i64) -> Result<bool, NoMemory>
     ensures had { IfOk result (λ b. b ≡ has_number numbers.old number) }
@@ -354,7 +354,7 @@ fn are_alike(left: Operand<'_>, right: Operand<'_>) -> bool
 }
 
 /// Returns whether two items are equal.
-fn are_equal(left: Operand<'_>, right: Operand<'_>) -> bool
+pub(crate) fn are_equal(left: Operand<'_>, right: Operand<'_>) -> bool
     ensures { result ≡ equal (tree_of left.entry) (tree_of right.entry) }
 {
     match left {

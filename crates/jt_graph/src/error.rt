@@ -6,9 +6,9 @@ use std::alloc::{AllocError, AllocFailed};
 /// are.
 #[derive(Debug, Drop, PartialEq, Eq)]
 pub enum OrderError {
-    /// A node reaches itself.
+    /// A node that reaches itself.
     Cycle,
-    /// A growth was refused.
+    /// A refused growth.
     NoMemory,
 }
 

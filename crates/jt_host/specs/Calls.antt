@@ -44,7 +44,7 @@ IsNoImage bytes e = ⊥
 abbrev pub IsImageOf : List ℕ → Code → Type 0
 IsImageOf bytes code = (code_of bytes ≡ Ok code) × IsTyped code
 
--- The result is the code of the bytes, or the error states why there is none.
+-- The result is the code of the bytes, or the error states why it does not exist.
 abbrev pub VerifiesTo : List ℕ → Result Code CallError → Type 0
 VerifiesTo bytes (Ok code) = IsImageOf bytes code
 VerifiesTo bytes (Err e) = IsNoImage bytes e
@@ -71,7 +71,7 @@ IsNoUpgrade bytes fault = (fault ≢ image_error.NoMemory)
     × (Gives (λ (code : Code). code) (Err fault) (code_of bytes)
     ⊎ ((code : Code) × (code_of bytes ≡ Ok code) × IsNotUpgraded fault code))
 
--- The result is the image in version 2, or the error states why there is none.
+-- The result is the image in version 2, or the error states why it does not exist.
 abbrev pub UpgradesTo : List ℕ → Result (Vec ℕ Global) CallError → Type 0
 UpgradesTo bytes (Ok image) = IsUpgraded bytes image.items
 UpgradesTo bytes (Err (error.Image fault)) = IsNoUpgrade bytes fault
@@ -81,7 +81,7 @@ UpgradesTo bytes (Err other) = ⊥
 -- ---- runs
 
 -- The result is the text with which the run of the code for the context ends, or the error states
--- why there is none.
+-- why it does not exist.
 abbrev pub RunsTo : Code → Pairs → Budget → Result (String Global) CallError → Type 0
 RunsTo code context b (Ok text) =
     Run code context (budget_view b) (outcome_view (outcome.Text text))
@@ -97,7 +97,7 @@ abbrev pub IsRun : List ℕ → Pairs → Budget → Outcome → Type 0
 IsRun bytes context b o =
     (code : Code) × IsImageOf bytes code × Run code context (budget_view b) (outcome_view o)
 
--- The result is the text of the run, or the error states why there is none.
+-- The result is the text of the run, or the error states why it does not exist.
 abbrev pub ComesTo : List ℕ → Pairs → Budget → Result (String Global) CallError → Type 0
 ComesTo bytes context b (Ok text) = IsRun bytes context b (outcome.Text text)
 ComesTo bytes context b (Err (error.Fault fault place)) =
@@ -115,7 +115,7 @@ IsNoContext bytes (error.Context flaw) =
 IsNoContext bytes error.NoMemory = Unit {0}
 IsNoContext bytes e = ⊥
 
--- The result is the context that the bytes spell, or the error states why there is none.
+-- The result is the context that the bytes spell, or the error states why it does not exist.
 abbrev pub GivesContext : List ℕ → Result Context CallError → Type 0
 GivesContext bytes (Ok context) = IsContext bytes (pairs_of context)
 GivesContext bytes (Err e) = IsNoContext bytes e
@@ -130,21 +130,21 @@ pub record IsImage (sources : SourceTexts) (entry : Text) (options : Options) (b
   pub compiled : IsCompiled sources entry options code
 
 module _ (sources : SourceTexts) (entry : Text) (options : Options) where
-  -- The result is the image of the entry, or the error states why there is none.
+  -- The result is the image of the entry, or the error states why it does not exist.
   abbrev pub GivesImage : Result (Vec ℕ Global) CallError → Type 0
   GivesImage (Ok image) = IsImage sources entry options image.items
   GivesImage (Err (error.Template refusal)) = IsUncompiled sources entry options refusal
   GivesImage (Err error.NoMemory) = Unit {0}
   GivesImage (Err other) = ⊥
 
-  -- The result is a code to which the entry compiles, or the error states why there is none.
+  -- The result is a code to which the entry compiles, or the error states why it does not exist.
   abbrev pub CompilesTo : Result Code CallError → Type 0
   CompilesTo (Ok code) = IsCompiled sources entry options code
   CompilesTo (Err (error.Template refusal)) = IsUncompiled sources entry options refusal
   CompilesTo (Err error.NoMemory) = Unit {0}
   CompilesTo (Err other) = ⊥
 
-  -- The result is the text of the entry's template, or the error states why there is none.
+  -- The result is the text of the entry's template, or the error states why it does not exist.
   abbrev pub RendersTo : Pairs → Budget → Result (String Global) CallError → Type 0
   RendersTo context b (Ok text) = IsRendered sources entry options context b (outcome.Text text)
   RendersTo context b (Err (error.Fault fault place)) =

@@ -1,4 +1,4 @@
-//! The errors of the calls over bytes.
+//! Defines the errors of the calls over bytes.
 
 ghost use Rattle.std.specs.Prelude.{◌≡◌};
 ghost use Rattle.jt_host.specs.CallErrors.{of_image, of_code, of_compile, of_context, of_render};
@@ -14,28 +14,28 @@ use jt_value::{Fault, NoMemory};
 use jt_verify::Refusal;
 use thiserror::Error;
 
-/// Why a call returns neither a text nor an image.
+/// The reason why a call returns neither a text nor an image.
 #[derive(Debug, Drop, Error, PartialEq, Eq)]
 pub enum CallError {
-    /// The bytes are not an image.
+    /// Bytes that are not an image.
     #[error("{0}")]
     Image(ImageError),
-    /// The verifier refuses the image.
+    /// An image that the verifier refuses.
     #[error("{0}")]
     Code(Refusal),
-    /// The templates do not compile.
+    /// Templates that do not compile.
     #[error("{0}")]
     Template(CompileError),
-    /// The bytes spell no context.
+    /// Bytes that spell no context.
     #[error("{0}")]
     Context(ContextError),
-    /// The template ended with a fault, at its place if the image has one.
+    /// A fault of the template, at its place if the image has one.
     #[error("fault {0}")]
     Fault(Fault, Option<Place>),
-    /// The budget was spent.
+    /// A spent number of the budget.
     #[error("spent {0}")]
     Spent(Spent),
-    /// A growth was refused.
+    /// A refused growth.
     #[error("no memory")]
     NoMemory,
 }

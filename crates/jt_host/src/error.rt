@@ -1,16 +1,16 @@
-//! The errors of rendering.
+//! Defines the errors of rendering.
 
 use jt_codegen::CompileError;
 use jt_value::NoMemory;
 use thiserror::Error;
 
-/// Why `render` returns no outcome.
+/// The reason why `render` returns no outcome.
 #[derive(Debug, Drop, Error, PartialEq, Eq)]
 pub enum RenderError {
-    /// The templates do not compile.
+    /// Templates that do not compile.
     #[error("{0}")]
     Compile(CompileError),
-    /// A growth was refused.
+    /// A refused growth.
     #[error("no memory")]
     NoMemory,
 }

@@ -1,4 +1,4 @@
-//! The whole interface for a host of templates: this crate exports all that an embedder names.
+//! Exports the whole interface for a host of templates: all that an embedder names.
 //!
 //! The steps from sources to an outcome, as the program `jt_embedding` takes them:
 //!

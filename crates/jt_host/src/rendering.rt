@@ -28,10 +28,10 @@ pub fn render<L: Library>(
     context: &Context,
     budget: Budget,
 ) -> Result<Outcome, RenderError>
-    // the outcome is that of a run of a code to which the entry compiles
+    // The outcome is that of a run of a code to which the entry compiles.
     ensures rendered { IfOk result
         (IsRendered (L.sources library.now) entry.now options (pairs_of context.now) budget) }
-    // the refusal is one that the compiler may return
+    // The refusal is one that the compiler may return.
     ensures refused { IfErr result (IsUnrendered (L.sources library.now) entry.now options) }
 {
     let image = compile(alloc, entry, library, options)?;

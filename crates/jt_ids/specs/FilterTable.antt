@@ -73,23 +73,23 @@ argument_names filter.MapAttribute = codes "attribute" ∷ []
 argument_names f = []
 
 -- The position of an argument that is given by name, among the values of the filter.
-abbrev pub place_of : FilterId → List ℕ → Option ℕ
-place_of f name =
+abbrev pub position_of : FilterId → List ℕ → Option ℕ
+position_of f name =
     option_map (λ i. i + 1) (position (λ other. bytes_eq other name) (argument_names f))
 
 -- The role of the value at a position. It names the filter or the test that is called on each item
 -- with the values after it, or the key of an attribute. In a template such a value is a text
 -- literal.
 abbrev pub named_at : FilterId → ℕ → Option ArgumentRole
-named_at filter.Map place = if place == 1 then Some naming.Filter else None
-named_at filter.Select place = if place == 1 then Some naming.Test else None
-named_at filter.Reject place = if place == 1 then Some naming.Test else None
-named_at filter.SelectAttr place =
-    if place == 1 then Some naming.Key else if place == 2 then Some naming.Test else None
-named_at filter.RejectAttr place =
-    if place == 1 then Some naming.Key else if place == 2 then Some naming.Test else None
-named_at filter.MapAttribute place = if place == 1 then Some naming.Key else None
-named_at f place = None
+named_at filter.Map position = if position == 1 then Some naming.Filter else None
+named_at filter.Select position = if position == 1 then Some naming.Test else None
+named_at filter.Reject position = if position == 1 then Some naming.Test else None
+named_at filter.SelectAttr position =
+    if position == 1 then Some naming.Key else if position == 2 then Some naming.Test else None
+named_at filter.RejectAttr position =
+    if position == 1 then Some naming.Key else if position == 2 then Some naming.Test else None
+named_at filter.MapAttribute position = if position == 1 then Some naming.Key else None
+named_at f position = None
 
 -- True if `map` may call the filter. It may not call one that names a filter, a test or an
 -- attribute.

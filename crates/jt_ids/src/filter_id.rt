@@ -4,7 +4,7 @@ ghost use Rattle.std.specs.Prelude.{option_map, position};
 ghost use Rattle.std.specs.Str.{bytes_eq};
 ghost use Rattle.jt_ids.specs.FilterTable as table;
 ghost use Rattle.jt_ids.specs.FilterTable.{filter_id, filter_names, least_values, most_values};
-ghost use Rattle.jt_ids.specs.FilterTable.{place_of, filter_of_name, filter_meant, with_only};
+ghost use Rattle.jt_ids.specs.FilterTable.{position_of, filter_of_name, filter_meant, with_only};
 
 /// A filter. The variants are in the order of their ids, from 0.
 #[derive(Clone, Copy, Debug, PartialEq, Eq)]
@@ -152,7 +152,7 @@ impl FilterId {
     }
 
     /// Returns the filter that a name means. `only` is the name of the only argument, if there is
-    /// exactly one and it is given by name: `map(attribute=key)` is another filter than `map`.
+    /// exactly one and it is passed by name: `map(attribute=key)` is another filter than `map`.
     pub fn named(name: &str, only: Option<&str>) -> Option<FilterId>
         ensures { result ≡ filter_meant name.now (option_map (λ s. s.now) only.entry) }
     {
@@ -162,8 +162,8 @@ impl FilterId {
         }
     }
 
-    /// Returns the filter that this one means. `only` is the name of the only argument, if there is
-    /// exactly one and it is given by name.
+    /// Returns the filter that `self` means. `only` is the name of the only argument, if there is
+    /// exactly one and it is passed by name.
     fn with_only(self, only: Option<&str>) -> FilterId
         ensures { Some result ≡ with_only (Some self) (option_map (λ s. s.now) only.entry) }
     {
@@ -189,19 +189,19 @@ impl FilterId {
         least <= values && values <= most
     }
 
-    /// Returns the position among the values of an argument that is given by name, or `None` if the
-    /// filter has no such argument. The input has position 0.
-    pub fn place(self, argument: &str) -> Option<usize>
-        ensures { result ≡ place_of self argument.now }
+    /// Returns the position among the values of an argument that is passed by name, or `None` if
+    /// the filter has no such argument. The input has position 0.
+    pub fn position(self, argument: &str) -> Option<usize>
+        ensures { result ≡ position_of self argument.now }
     {
         match self {
-            FilterId::Attr => place_of_one("name", argument),
-            FilterId::Default => place_of_two("default_value", "boolean", argument),
-            FilterId::Int => place_of_one("default", argument),
-            FilterId::Join => place_of_one("d", argument),
-            FilterId::Replace => place_of_two("old", "new", argument),
-            FilterId::Sort => place_of_one("reverse", argument),
-            FilterId::MapAttribute => place_of_one("attribute", argument),
+            FilterId::Attr => position_of_one("name", argument),
+            FilterId::Default => position_of_two("default_value", "boolean", argument),
+            FilterId::Int => position_of_one("default", argument),
+            FilterId::Join => position_of_one("d", argument),
+            FilterId::Replace => position_of_two("old", "new", argument),
+            FilterId::Sort => position_of_one("reverse", argument),
+            FilterId::MapAttribute => position_of_one("attribute", argument),
             _ => None,
         }
     }
@@ -209,10 +209,10 @@ impl FilterId {
     /// Returns the role of the value at this position; the input has position 0. Such a value names
     /// an attribute's key, or the filter or test that is called on each item with the values after
     /// it. In a template it is a text literal.
-    pub fn named_at(self, place: usize) -> Option<ArgumentRole>
-        ensures { result ≡ table.named_at self place }
+    pub fn named_at(self, position: usize) -> Option<ArgumentRole>
+        ensures { result ≡ table.named_at self position }
     {
-        match (self, place) {
+        match (self, position) {
             (FilterId::Map, 1) => Some(ArgumentRole::Filter),
             (FilterId::Select, 1) => Some(ArgumentRole::Test),
             (FilterId::Reject, 1) => Some(ArgumentRole::Test),
@@ -243,7 +243,7 @@ impl FilterId {
 }
 
 /// Returns the position of an argument of a filter with one named argument.
-fn place_of_one(first: &str, argument: &str) -> Option<usize>
+fn position_of_one(first: &str, argument: &str) -> Option<usize>
     ensures { result
         ≡ option_map (λ i. i + 1)
         (position (λ other. bytes_eq other argument.now) (first.now ∷ [])) }
@@ -252,7 +252,7 @@ fn place_of_one(first: &str, argument: &str) -> Option<usize>
 }
 
 /// Returns the position of an argument of a filter with two named arguments.
-fn place_of_two(first: &str, second: &str, argument: &str) -> Option<usize>
+fn position_of_two(first: &str, second: &str, argument: &str) -> Option<usize>
     ensures { result
         ≡ option_map (λ i. i + 1)
         (position (λ other. bytes_eq other argument.now) (first.now ∷ second.now ∷ [])) }

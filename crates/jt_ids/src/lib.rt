@@ -1,5 +1,5 @@
-//! Defines the operators, tests, filters and loop fields of the language: their ids in an image,
-//! their names and the number of values that each takes.
+//! Defines the operators, tests, filters and loop fields of the language, with their ids in an
+//! image, their names and their numbers of values.
 //!
 //! One enum each (op_id, test_id, filter_id, loop_field). Read first: specs/FilterTable.antt, with
 //! one row per filter. specs/OpTable.antt, specs/TestTable.antt and specs/LoopTable.antt are tables

@@ -1,4 +1,4 @@
--- The code of parts, and what a refusal to assemble them claims about it.
+-- The code of parts, and the claim of a refusal to assemble them.
 use Rattle.std.specs.Prelude.{◌≡◌, ℕ, ◌<◌, ◌≤◌, ◌-◌, ◌^◌, min, Bool, not, ◌&&◌, nat_lt, List, [], ◌∷◌, ◌++◌, length}
 use Rattle.std.specs.Prelude.{Option, Some, None, option_map, Vec, Result, OnOk, IsUtf8, FitsSigned}
 use Rattle.std.specs.List.{AllByRecursion}
@@ -26,7 +26,7 @@ abbrev pub each_of : {A B : Type 0} → (A → Option B) → List A → Option (
 each_of f [] = Some []
 each_of f (x ∷ xs) = in_front (f x) (each_of f xs)
 
--- The unit, if the fields of each of its instructions are those of an instruction.
+-- The unit, if each of its instructions has a known opcode and 0 in each unused field.
 abbrev pub section_of_unit : given.Unit → Option Section
 section_of_unit u =
     option_map
@@ -182,8 +182,8 @@ pub record IsShortText (name : List ℕ) : Type 0 where
   pub fits : length name < 2 ^ 16
   pub utf8 : IsUtf8 name
 
--- Whether a name may follow those before it: its slot exists and has no name yet, and its text is
--- in order.
+-- Whether a name may follow the names before it: its slot exists and has no name yet, and its text
+-- is in order.
 abbrev pub is_next : ℕ → List Name → Name → Bool
 is_next globals before name =
     nat_lt name.slot globals

@@ -37,7 +37,7 @@ const FIXED_BYTES: usize = 14;
 // The number of bytes of an encoded place.
 const LOC_BYTES: usize = 6;
 
-// Returns whether the fields of each instruction of the unit are those of an instruction.
+// Returns whether each instruction of the unit has a known opcode, and 0 in each unused field.
 fn is_known(unit: &Unit) -> bool
     ensures known { IsTrue result ↔ IsKnownUnit unit.now }
     ensures fits { IsTrue result → IsWritable (unit_view unit.now) }
@@ -50,7 +50,7 @@ fn is_known(unit: &Unit) -> bool
     true
 }
 
-// Returns whether the fields of each instruction of each unit are those of an instruction. The
+// Returns whether each instruction of each unit has a known opcode, and 0 in each unused field. The
 // units are then the units of a code.
 fn are_known(units: &[Unit]) -> bool
     ensures known { IsTrue result → AreKnown units.now }
@@ -274,8 +274,8 @@ fn last_name(names: &[(u16, String)]) -> Option<&str>
     }
 }
 
-// Returns whether a name may follow those before it: its slot exists and has no name yet, and its
-// text is in order.
+// Returns whether a name may follow the names before it: its slot exists and has no name yet, and
+// its text is in order.
 fn is_next(globals: u16, used: &[bool], before: &[(u16, String)], name: &(u16, String)) -> bool
     requires { IsTable used.now globals (names_view before.now) }
     ensures { result ≡ is_next globals (names_view before.now) (name_view name.now) }
@@ -348,7 +348,7 @@ fn image_of(alloc: Global, parts: &Parts) -> Result<Image, ImageError>
 /// * `LimitPassed` if a table, a text or the image is too long.
 /// * `NoMemory` if a growth is refused.
 pub fn assemble(alloc: Global, parts: Parts) -> Result<Image, (Parts, ImageError)>
-    // The image is the code that the parts are.
+    // The image is the code of the parts.
     ensures ok { IfOk result (λ i. IsCode i × (code_of_parts parts ≡ Some i)) }
     // A code with a spelling is refused only for lack of memory.
     ensures only { (code : Code)

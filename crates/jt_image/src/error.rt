@@ -1,4 +1,4 @@
-//! Defines why bytes or parts are not an image.
+//! Defines the reasons why bytes or parts are not an image.
 ghost use Rattle.std.specs.Prelude.{◌≡◌};
 ghost use Rattle.jt_image.specs.declared.error.ImageError.TheVariants.{NoMemory};
 
@@ -6,7 +6,7 @@ use jt_value::NoMemory;
 use std::alloc::{AllocError, AllocFailed};
 use thiserror::Error;
 
-/// Why bytes or parts are not an image. A reader reports the first fault in the bytes.
+/// The reason why bytes or parts are not an image. A reader reports the first fault in the bytes.
 #[derive(Clone, Copy, Debug, PartialEq, Eq, Error)]
 pub enum ImageError {
     /// Bytes that do not begin with `JTBC`.

@@ -4,7 +4,7 @@ use crate::code::Code;
 use crate::offsets::{Offsets, Reader};
 use std::marker::Model;
 
-/// A constant.
+/// A constant with its own text.
 #[derive(Drop)]
 pub enum Constant {
     Undefined,

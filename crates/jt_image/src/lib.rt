@@ -1,4 +1,4 @@
-//! Defines images: codes as bytes, and what a code does.
+//! Defines images: codes as bytes, and the runs of a code.
 //!
 //! An image (`image`) or a view of bytes (`in_place`) has a code (`code`). Bytes are read once,
 //! from left to right (`reading`, `decoding`, `viewing`), and written (`spelling`, `encoding`,

@@ -72,7 +72,7 @@ fn text_in(len: usize, bytes: &[u8]) -> &str
     ensures { result.now ≡ take len bytes.now }
 {
     let (front, _) = bytes.split_at(len);
-    // SAFETY: the reader checked that these bytes are UTF-8.
+    // SAFETY: the reader checked that the bytes are UTF-8.
     unsafe { str::from_utf8_unchecked(front) }
 }
 
@@ -231,7 +231,8 @@ impl<'a> Model for Reader<'a> {
 }
 
 impl<'a> Reader<'a> {
-    // Returns the encoded place of an instruction by its number among those of all units.
+    // Returns the encoded place of an instruction by the number of the instruction among the
+    // instructions of all units.
     fn loc(&self, number: usize) -> Option<SourceLoc>
         ensures { option_map loc_view result ≡ slice_get self.now.places number }
     {

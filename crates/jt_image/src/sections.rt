@@ -1,4 +1,5 @@
-//! Reads the instructions of units, and stores the offset at which those of each unit begin.
+//! Reads the instructions of units, and stores the offset at which the instructions of each unit
+//! begin.
 ghost use Rattle.std.specs.Prelude.{◌≡◌, ◌≤◌, length, IfOk};
 ghost use Rattle.jt_image.specs.internal.HeaderView.{header_view, headers_view};
 ghost use Rattle.jt_image.specs.InPlace.{instructions_in, section_in, sections_in, HasUnit};

@@ -219,7 +219,7 @@ fn put_parts(out: &mut Vec<u8>, parts: &Parts) -> Result<(), NoMemory>
     Ok(())
 }
 
-/// Returns the spelling of the code that the parts are.
+/// Returns the spelling of the code of the parts.
 pub(crate) fn spelled(alloc: Global, parts: &Parts) -> Result<Vec<u8>, NoMemory>
     requires code { IsCode (code_seen parts.now) }
     requires known { AreKnown parts.now.units.items }

@@ -66,8 +66,8 @@ fn unplaced(alloc: Global, image: &Image) -> Result<Image, ImageError>
     Ok(Image { bytes, offsets })
 }
 
-/// Upgrades an image to version 2. An image of version 1 gets no places, and one of version 2 is
-/// returned as it is.
+/// Upgrades an image to version 2. An image of version 1 gets no places, and an image of version 2
+/// is returned unchanged.
 ///
 /// # Errors
 ///

@@ -130,7 +130,7 @@ impl Instr {
         }
     }
 
-    /// Returns the instruction with these fields, which must exist.
+    /// Returns the instruction with the fields, which must exist.
     #[tactic(auto, unfolding(crate::specs::Reading::instruction_of))]
     pub(crate) fn known(self) -> Instruction
         requires { IsSome (instruction_of self) }
@@ -174,13 +174,13 @@ impl Instr {
         }
     }
 
-    /// Returns the instruction with these fields, or `None` if the opcode is unknown or a field
-    /// that it does not use is not 0.
+    /// Returns the instruction with the fields, or `None` if the opcode is unknown or a field that
+    /// it does not use is not 0.
     pub fn instruction(self) -> Option<Instruction>
         // The result is the one that the table of opcodes has.
         ensures table { result ≡ instruction_of self }
-        // The result is the one instruction with these fields, and `None` only if no instruction
-        // has them.
+        // The result is the one instruction with the fields, and `None` only if no instruction has
+        // them.
         ensures exact { MatchOption result ((i : Instruction) → wire_of i ≢ self)
             (λ i. wire_of i ≡ self) }
         // The fields of the instruction fit the fields of the encoding.

@@ -18,7 +18,7 @@ use Rattle.jt_graph.specs.declared.error.OrderError.TheVariants as order
 use Rattle.jt_scan.specs.declared.options.Options.{Options}
 use Rattle.jt_ast.specs.Texts.{among, repeated}
 use Rattle.jt_ast.specs.Expressions.{Text}
-use Rattle.jt_chains.specs.Along.{ArePlaces, templates_at}
+use Rattle.jt_chains.specs.Along.{AreIndices, templates_at}
 use Rattle.jt_inherit.specs.internal.Along.{needs_along}
 use Rattle.jt_chains.specs.Chain.{Namespace, a_chain, listed, is_a_library, Template, templates, sources_in, all_bodies}
 use Rattle.jt_chains.specs.Chain.{given as given_in}
@@ -32,7 +32,7 @@ use Rattle.jt_inherit.specs.internal.RuleTests.{any_lacks_macros}
 use Rattle.jt_chains.specs.Names.{IsName}
 use Rattle.jt_chains.specs.Needs.{Need, needed}
 use Rattle.jt_chains.specs.TemplateFiles.{namespace_view, AreWhole}
-use Rattle.jt_chains.specs.Places.{namespace_at}
+use Rattle.jt_chains.specs.Indices.{namespace_at}
 use Rattle.jt_inherit.specs.Refusals.{Breaks}
 use Rattle.jt_inherit.specs.Refused.{gives}
 use Rattle.jt_chains.specs.Rules as rules
@@ -48,19 +48,19 @@ use Rattle.jt_inherit.specs.declared.error.ChainError.TheVariants as error
 use Rattle.jt_chains.specs.declared.chain.Namespace as linked
 use Rattle.jt_inherit.proofs.RulesCarryOver.{given_names}
 use Rattle.jt_inherit.proofs.NamespaceCount.{few_chains}
-use Rattle.jt_inherit.proofs.DiscoveryInvariant.{none_read, few_way, way_names, asked_way, placed_templates}
+use Rattle.jt_inherit.proofs.DiscoveryInvariant.{none_read, few_way, way_names, asked_way, indexed_templates}
 use Rattle.jt_inherit.proofs.DiscoveryInvariant.{included_is, whole_path, some_source}
 use Rattle.jt_inherit.proofs.ImportCollection.{all_imported, none_given, none_lacking}
-use Rattle.jt_inherit.proofs.PathsGrow.{names, few_templates, all_at_places}
+use Rattle.jt_inherit.proofs.PathsGrow.{names, few_templates, all_at_indices}
 use Rattle.jt_inherit.proofs.PathTemplates.{never, and_false, and_true, too_few, few_names, all_named, have_sources}
-use Rattle.jt_inherit.proofs.PathTemplates.{all_among, repeated_up, weigh, names_placed}
+use Rattle.jt_inherit.proofs.PathTemplates.{all_among, repeated_up, weigh, names_indexed}
 use Rattle.jt_inherit.proofs.TopologicalOrder.{namespace_among, number_of, names_in_order, reached_in_order, no_cycle}
 use Rattle.jt_inherit.proofs.TopologicalOrder.{first_in_order, named_among}
 use Rattle.jt_inherit.proofs.TreeWeights.{all_weigh}
 use Rattle.jt_chains.proofs.TemplatesByIndex.{given_templates}
 use Rattle.jt_inherit.proofs.NameMembership.{of_texts, same}
 use Rattle.jt_inherit.proofs.NamespaceMembership.{chain_among, of_namespaces}
-use Rattle.jt_inherit.proofs.Membership.{among_cases, both_false, no_more, or_false, or_true, placed_among}
+use Rattle.jt_inherit.proofs.Membership.{among_cases, both_false, no_more, or_false, or_true, indexed_among}
 
 -- ---- chains by their numbers
 
@@ -87,12 +87,12 @@ next_len given ts hs gs (w ∷ ws) [] a = absurd a
 next_len given ts hs [] (w ∷ ws) (n ∷ ns) a = absurd a
 next_len given ts hs (g ∷ gs) (w ∷ ws) (n ∷ ns) a = ap suc (next_len given ts hs gs ws ns a.1)
 
-pub ways_placed : (given : SourceTexts) (ts : List Template) (hs gs : List Namespace) (ws ns : Graph)
-    → AreFollowed given ts hs gs ws ns → AllByRecursion (ArePlaces ts) ws
-ways_placed given ts hs gs [] ns a = tt
-ways_placed given ts hs gs (w ∷ ws) [] a = absurd a
-ways_placed given ts hs [] (w ∷ ws) (n ∷ ns) a = absurd a
-ways_placed given ts hs (g ∷ gs) (w ∷ ws) (n ∷ ns) a = (a.0.led.places, ways_placed given ts hs gs ws ns a.1)
+pub ways_indexed : (given : SourceTexts) (ts : List Template) (hs gs : List Namespace) (ws ns : Graph)
+    → AreFollowed given ts hs gs ws ns → AllByRecursion (AreIndices ts) ws
+ways_indexed given ts hs gs [] ns a = tt
+ways_indexed given ts hs gs (w ∷ ws) [] a = absurd a
+ways_indexed given ts hs [] (w ∷ ws) (n ∷ ns) a = absurd a
+ways_indexed given ts hs (g ∷ gs) (w ∷ ws) (n ∷ ns) a = (a.0.led.indices, ways_indexed given ts hs gs ws ns a.1)
 
 some_within : (hs : List Namespace) (j : ℕ) (n : Namespace) → slice_get hs j ≡ Some n → j < length hs
 some_within [] j n e = absurd (cc)
@@ -121,7 +121,7 @@ numbered_among : (hs : List Namespace) (j : ℕ) (js : List ℕ) (ns : List Name
 numbered_among hs j [] ns e a = absurd (cc)
 numbered_among hs j (k ∷ js) [] e a = absurd (cc)
 numbered_among hs j (k ∷ js) (n ∷ ns) e a =
-    search (arith, rules, numbered_among hs j js ns, nat_tests, placed_among of_namespaces, or_true)
+    search (arith, rules, numbered_among hs j js ns, nat_tests, indexed_among of_namespaces, or_true)
 
 none_next : (ns : Graph) (i j : ℕ) → length ns ≤ i → graph.among j (next_of ns i) ≡ true → ⊥
 none_next [] i j le a = cc
@@ -392,7 +392,7 @@ module _ {given : SourceTexts} {options : Options} {entry : Text} {ts : List Tem
       bad_name = λ x.
           let k = way_reached x.1 in
           x.2.2 (all_asked given options ts f.known x.0 k.0 k.1 k.3 IsName
-          (all_at_places (λ t. IsName t.name) ts k.0 (all_named given options ts f.known.read.each)) named_met x.2.0
+          (all_at_indices (λ t. IsName t.name) ts k.0 (all_named given options ts f.known.read.each)) named_met x.2.0
           x.2.1);
       extends_cycle = λ x.
           let k = way_reached x.1 in
@@ -469,7 +469,7 @@ module _ {given : SourceTexts} {options : Options} {entry : Text} {ts : List Tem
     complete n x =
         let k = way_reached x.1 in
         all_asked given options ts f.known x.0 k.0 k.1 k.3 (λ x. (among x (names ts) ≡ true) ⊎ (given x ≡ None))
-        (all_at_places (λ t. (among t.name (names ts) ≡ true) ⊎ (given t.name ≡ None)) ts k.0
+        (all_at_indices (λ t. (among t.name (names ts) ≡ true) ⊎ (given t.name ≡ None)) ts k.0
         (each_known ts (λ x p. p)))
         (λ m p. ⊎_elim (λ q. inl q) (λ q. inr q.2) p) n x.2
       where
@@ -477,7 +477,7 @@ module _ {given : SourceTexts} {options : Options} {entry : Text} {ts : List Tem
             → AllByRecursion (λ t. (among t.name (names ts) ≡ true) ⊎ (given t.name ≡ None)) us
         each_known [] g = tt
         each_known (u ∷ us) g = (
-          inl (g u.name (placed_among of_texts (names (u ∷ us)) 0 u.name refl)),
+          inl (g u.name (indexed_among of_texts (names (u ∷ us)) 0 u.name refl)),
           each_known us (λ x p. g x (or_true (bytes_eq u.name x) (among x (names us)) p)),
         )
 
@@ -521,7 +521,7 @@ module _ {given : SourceTexts} {options : Options} {entry : Text} {ts : List Tem
     one_weighs h a =
         let k = way_of h a in
         subst (λ us. templates_weight us ≤ templates_len given us) (sym (whole_path ts h k.0 k.1))
-        (weigh given (templates_at ts k.0) (all_at_places (IsWithin given) ts k.0 f.known.within))
+        (weigh given (templates_at ts k.0) (all_at_indices (IsWithin given) ts k.0 f.known.within))
 
     pub weighs : chains_weight (sources_in ts) (map (namespace_at hs) is)
         ≤ chains_len given (sources_in ts) (map (namespace_at hs) is)
@@ -554,7 +554,7 @@ module _ {given : SourceTexts} {options : Options} {entry : Text} {ts : List Tem
     whole_along [] (k ∷ namespaces) w a = absurd a
     whole_along (j ∷ js) [] w a = absurd a
     whole_along (j ∷ js) (k ∷ namespaces) w a =
-        search (arith, rules, number, names_placed, placed_templates, whole_path, whole_along js namespaces w.1 a.1)
+        search (arith, rules, number, names_indexed, indexed_templates, whole_path, whole_along js namespaces w.1 a.1)
 
     pub all_whole : (namespaces : List linked.Namespace) → HasNamespaces hs ws is namespaces → AreWhole ts namespaces
     all_whole namespaces a = whole_along is namespaces within a

@@ -8,7 +8,7 @@ use Rattle.std.proofs.lemmas.List.{append-nil, append_assoc, length-map, map-app
 use Rattle.jt_scan.specs.declared.options.Options.{Options}
 use Rattle.jt_ast.specs.Texts.{among}
 use Rattle.jt_ast.specs.Expressions.{Text}
-use Rattle.jt_chains.specs.Along.{ArePlaces, templates_at}
+use Rattle.jt_chains.specs.Along.{AreIndices, templates_at}
 use Rattle.jt_inherit.specs.internal.Along.{imports_along, needs_along}
 use Rattle.jt_chains.specs.Chain.{Namespace, a_chain, a_library, namespace_name, listed, Template, templates, libraries}
 use Rattle.jt_chains.specs.Chain.{libraries_in, sources_in}
@@ -17,7 +17,7 @@ use Rattle.jt_inherit.specs.internal.Found.{AreNext, IsMet, IsNeedFault, IsNextF
 use Rattle.jt_inherit.specs.internal.Found.{chosen}
 use Rattle.jt_chains.specs.Includes.{included, includes_in, needs_in}
 use Rattle.jt_chains.specs.Needs.{Need, include_need, library_need, needed}
-use Rattle.jt_chains.specs.Places.{namespace_at}
+use Rattle.jt_chains.specs.Indices.{namespace_at}
 use Rattle.jt_inherit.specs.Refusals.{Breaks}
 use Rattle.jt_chains.specs.Rules.{Asks, Reaches, here, asked, extends_path}
 use Rattle.jt_inherit.specs.internal.ExtendsPaths.{AreKnown, IsExtendsPath}
@@ -36,35 +36,35 @@ use Rattle.jt_chains.specs.TemplateFiles.{file_view, files_view}
 use Rattle.jt_chains.specs.declared.files.TemplateFile.{TemplateFile}
 use Rattle.jt_inherit.proofs.NameMembership.{of_texts, same}
 use Rattle.jt_inherit.proofs.NamespaceMembership.{of_namespaces}
-use Rattle.jt_inherit.proofs.Membership.{among_behind, among_front, both_false, only_among, placed_among}
+use Rattle.jt_inherit.proofs.Membership.{among_behind, among_front, both_false, only_among, indexed_among}
 
 -- ---- templates at indices
 
-placed_one : (ts : List Template) (i : ℕ) → i < length ts → (t : Template) × (slice_get ts i ≡ Some t)
-placed_one [] i lt = absurd (omega arith)
-placed_one (t ∷ ts) zero lt = (t, refl)
-placed_one (t ∷ ts) (suc i) lt = placed_one ts i (omega arith)
+indexed_one : (ts : List Template) (i : ℕ) → i < length ts → (t : Template) × (slice_get ts i ≡ Some t)
+indexed_one [] i lt = absurd (omega arith)
+indexed_one (t ∷ ts) zero lt = (t, refl)
+indexed_one (t ∷ ts) (suc i) lt = indexed_one ts i (omega arith)
 
-pub placed_templates : (ts : List Template) (is : List ℕ) → ArePlaces ts is
+pub indexed_templates : (ts : List Template) (is : List ℕ) → AreIndices ts is
     → map (slice_get ts) is ≡ map Some (templates_at ts is)
-placed_templates ts [] a = refl
-placed_templates ts (i ∷ is) a =
-    let p = placed_one ts i a.0 in
+indexed_templates ts [] a = refl
+indexed_templates ts (i ∷ is) a =
+    let p = indexed_one ts i a.0 in
     let e = p.1 in
-    ap (λ o. o ∷ map (slice_get ts) is) e ∙ ap (λ l. Some p.0 ∷ l) (placed_templates ts is a.1)
+    ap (λ o. o ∷ map (slice_get ts) is) e ∙ ap (λ l. Some p.0 ∷ l) (indexed_templates ts is a.1)
     ∙ sym (ap (λ o. map Some (option_to_list o ++ templates_at ts is)) e)
 
-pub includes_told : (ts : List Template) (is : List ℕ) → ArePlaces ts is
+pub includes_told : (ts : List Template) (is : List ℕ) → AreIndices ts is
     → needs_along ts is ≡ flat_map (λ t. includes_in include_need t.body) (templates_at ts is)
     ++ map library_need (flat_map (λ t. libraries_in t.body) (templates_at ts is))
 includes_told ts is a =
     let us = templates_at ts is in
     ap (λ l. l ++ imports_along ts is)
-    (along_templates (λ n b. includes_in include_need b) ts is us (placed_templates ts is a))
+    (along_templates (λ n b. includes_in include_need b) ts is us (indexed_templates ts is a))
     ∙ ap (λ l. flat_map (λ (t : Template). includes_in include_need t.body) us ++ l)
-    (along_templates (λ n b. map library_need (libraries_in b)) ts is us (placed_templates ts is a) ∙ all_imports us)
+    (along_templates (λ n b. map library_need (libraries_in b)) ts is us (indexed_templates ts is a) ∙ all_imports us)
 
-pub includes_grow : (ts us : List Template) (is : List ℕ) → ArePlaces ts is → ArePlaces (ts ++ us) is
+pub includes_grow : (ts us : List Template) (is : List ℕ) → AreIndices ts is → AreIndices (ts ++ us) is
     → needs_along (ts ++ us) is ≡ needs_along ts is
 includes_grow ts us is a b =
     includes_told (ts ++ us) is b ∙ ap (λ vs. flat_map (λ (t : Template). includes_in include_need t.body) vs
@@ -111,7 +111,7 @@ included_is ts h is w =
     ∙ filter_same (λ m. is_some (s m)) (λ m. among m ks) (some_source ts) ls in
     ap (λ l. map a_chain l ++ map a_library (filter (λ m. is_some (s m)) (libraries s h))) chains
     ∙ ap (λ l. map a_chain (filter (λ m. among m ks) (needed true ns)) ++ map a_library l) theirs
-    ∙ sym (ap (chosen ks) (includes_told ts is w.places) ∙ chosen-append ks ns (map library_need ls)
+    ∙ sym (ap (chosen ks) (includes_told ts is w.indices) ∙ chosen-append ks ns (map library_need ls)
     ∙ ap (λ l. l ++ chosen ks (map library_need ls)) (includes_chosen ks ns (all_includes us))
     ∙ ap (λ l. map a_chain (filter (λ m. among m ks) (needed true ns)) ++ l) (imports_chosen ks ls))
 
@@ -184,7 +184,7 @@ module _ (given : SourceTexts) (options : Options) (ts us : List Template) (hs m
       → IsFollowed given (ts ++ us) (hs ++ ms) h w n
   followed_grows h w n f =
       let grown = way_grows ts us h w None f.led in
-      let needs = includes_grow ts us w f.led.places grown.places in
+      let needs = includes_grow ts us w f.led.indices grown.indices in
       let same_chosen : chosen (names (ts ++ us)) (needs_along (ts ++ us) w) ≡ chosen (names ts) (needs_along ts w) =
       ap (λ ks. chosen ks (needs_along (ts ++ us) w)) more_names ∙ ap (chosen (names ts ++ names us)) needs
       ∙ chosen_same given (names ts) (names us)
@@ -240,7 +240,7 @@ module _ {given : SourceTexts} {options : Options} {root : Text} {ts0 : List Tem
   pub reached_here : Reaches (sources_in ts1) options.autoescape (a_chain root) h
   reached_here =
       reach_more ts0 ts1 more.0 options.autoescape (a_chain root) h more.1
-      (f.reached h (placed_among of_namespaces hs (length ws) h at))
+      (f.reached h (indexed_among of_namespaces hs (length ws) h at))
 
   -- An error of an included or imported template.
   pub need_breaks : AreKnown given options ts1 (names ts1) → (e : ChainError)
@@ -259,7 +259,7 @@ module _ {given : SourceTexts} {options : Options} {root : Text} {ts0 : List Tem
     needs_there : needs_along ts2 is ≡ needs_along ts1 is
     needs_there =
         ap (λ vs. needs_along vs is) e2
-        ∙ includes_grow ts1 m2 is w.places (subst (λ vs. ArePlaces vs is) e2 way_there.places)
+        ∙ includes_grow ts1 m2 is w.indices (subst (λ vs. AreIndices vs is) e2 way_there.indices)
 
     chosen_there : included (sources_in ts2) h ≡ chosen ks2 (needs_along ts2 is)
     chosen_there = included_is ts2 h is way_there ∙ ap (λ ks. chosen ks (needs_along ts2 is)) (sym known.named)

@@ -16,7 +16,7 @@ use Rattle.jt_inherit.specs.internal.Found.{known_of, chosen, chains_of, twice}
 use Rattle.jt_chains.specs.Needs.{Need, needed, need_namespace, need_view, needs_view}
 use Rattle.jt_inherit.specs.declared.error.ChainError.{ChainError}
 use Rattle.jt_inherit.specs.declared.error.ChainError.TheVariants as error
-use Rattle.jt_chains.specs.declared.includes.Include.{Include}
+use Rattle.jt_chains.specs.declared.include_tags.NeededTemplate.{NeededTemplate}
 use Rattle.jt_inherit.proofs.NameMembership.{of_texts, reflexive}
 use Rattle.jt_inherit.proofs.NamespaceMembership.{chain_among, of_namespaces}
 use Rattle.jt_inherit.proofs.Membership.{among_behind, among_cases, among_front, both_false, once_more, only_among}
@@ -112,14 +112,14 @@ pub chosen-append : (ks : List Text) (ns ms : List Need) → chosen ks (ns ++ ms
 chosen-append ks ns ms =
     ap (map need_namespace) (known-append ks ns ms) ∙ map-append need_namespace (known_of ks ns) (known_of ks ms)
 
-views-append : (ns ms : List Include) → needs_view (ns ++ ms) ≡ needs_view ns ++ needs_view ms
+views-append : (ns ms : List NeededTemplate) → needs_view (ns ++ ms) ≡ needs_view ns ++ needs_view ms
 views-append ns ms = map-append need_view ns ms
 
-pub chosen_turn : (ks : List Text) (ns : List Include) (k : ℕ) (d : Include) → k < length ns
+pub chosen_turn : (ks : List Text) (ns : List NeededTemplate) (k : ℕ) (d : NeededTemplate) → k < length ns
     → chosen ks (needs_view (take (k + 1) ns))
     ≡ chosen ks (needs_view (take k ns)) ++ chosen ks (need_view (get_or ns k d) ∷ [])
 chosen_turn ks ns k d lt =
-    ap (λ (l : List Include). chosen ks (needs_view l)) (take_more ns k d lt)
+    ap (λ (l : List NeededTemplate). chosen ks (needs_view l)) (take_more ns k d lt)
     ∙ ap (chosen ks) (views-append (take k ns) (get_or ns k d ∷ []))
     ∙ chosen-append ks (needs_view (take k ns)) (need_view (get_or ns k d) ∷ [])
 
@@ -129,16 +129,16 @@ split [] (suc k) = refl
 split (x ∷ xs) zero = refl
 split (x ∷ xs) (suc k) = ap (λ l. x ∷ l) (split xs k)
 
-pub chosen_all : (ks : List Text) (ns : List Include) (k : ℕ) (d : Include) → k < length ns
+pub chosen_all : (ks : List Text) (ns : List NeededTemplate) (k : ℕ) (d : NeededTemplate) → k < length ns
     → chosen ks (needs_view ns) ≡ chosen ks (needs_view (take k ns))
     ++ (chosen ks (need_view (get_or ns k d) ∷ []) ++ chosen ks (needs_view (drop (k + 1) ns)))
 chosen_all ks ns k d lt =
     let n = get_or ns k d in
-    ap (λ (l : List Include). chosen ks (needs_view l)) (sym (split ns k))
+    ap (λ (l : List NeededTemplate). chosen ks (needs_view l)) (sym (split ns k))
     ∙ ap (chosen ks) (views-append (take k ns) (drop k ns))
     ∙ chosen-append ks (needs_view (take k ns)) (needs_view (drop k ns))
     ∙ ap (λ l. chosen ks (needs_view (take k ns)) ++ l)
-    (ap (λ (l : List Include). chosen ks (needs_view l)) (drop_more ns k d lt)
+    (ap (λ (l : List NeededTemplate). chosen ks (needs_view l)) (drop_more ns k d lt)
     ∙ chosen-append ks (need_view n ∷ []) (needs_view (drop (k + 1) ns)))
 
 -- ---- templates that are met
@@ -149,18 +149,19 @@ met_grows given ks ms [] a = tt
 met_grows given ks ms (n ∷ ns) a =
     (⊎_elim (λ p. inl (among_front of_texts n.name ks ms p)) (λ q. inr q) a.0, met_grows given ks ms ns a.1)
 
-pub met_turn : (P : Need → Type 0) (ns : List Include) (k : ℕ) (d : Include) → k < length ns
+pub met_turn : (P : Need → Type 0) (ns : List NeededTemplate) (k : ℕ) (d : NeededTemplate) → k < length ns
     → AllByRecursion P (needs_view (take k ns)) → P (need_view (get_or ns k d))
     → AllByRecursion P (needs_view (take (k + 1) ns))
 met_turn P ns k d lt a p =
-    subst (λ (l : List Include). AllByRecursion P (needs_view l)) (sym (take_more ns k d lt)) (more (take k ns) a)
+    subst (λ (l : List NeededTemplate). AllByRecursion P (needs_view l)) (sym (take_more ns k d lt))
+    (more (take k ns) a)
   where
-    more : (ms : List Include) → AllByRecursion P (needs_view ms)
+    more : (ms : List NeededTemplate) → AllByRecursion P (needs_view ms)
         → AllByRecursion P (needs_view (ms ++ get_or ns k d ∷ []))
     more [] b = (p, tt)
     more (m ∷ ms) b = (b.0, more ms b.1)
 
-pub next_turn : (old mid new : List Namespace) (ks : List Text) (ns : List Include) (k : ℕ) (d : Include)
+pub next_turn : (old mid new : List Namespace) (ks : List Text) (ns : List NeededTemplate) (k : ℕ) (d : NeededTemplate)
     (is js : List ℕ)
     → k < length ns → AreNext old mid (chosen ks (needs_view (take k ns))) is
     → AddsNext mid new (chosen ks (need_view (get_or ns k d) ∷ [])) is js
@@ -171,7 +172,8 @@ next_turn old mid new ks ns k d is js lt p q =
     (next_both old mid new (chosen ks (needs_view (take k ns))) (chosen ks (need_view (get_or ns k d) ∷ [])) is q.0 p
     q.2))
 
-pub fault_turn : (old mid : List Namespace) (ks : List Text) (ns : List Include) (k : ℕ) (d : Include) (is : List ℕ)
+pub fault_turn : (old mid : List Namespace) (ks : List Text) (ns : List NeededTemplate) (k : ℕ) (d : NeededTemplate)
+    (is : List ℕ)
     (e : ChainError)
     → k < length ns → AreNext old mid (chosen ks (needs_view (take k ns))) is
     → IsNextFault mid (chosen ks (need_view (get_or ns k d) ∷ [])) e → IsNextFault old (chosen ks (needs_view ns)) e
@@ -182,7 +184,7 @@ fault_turn old mid ks ns k d is e lt p f =
 
 -- ---- an error of an included template
 
-pub asked_at : (all : Bool) (ns : List Include) (k : ℕ) (d : Include) → k < length ns
+pub asked_at : (all : Bool) (ns : List NeededTemplate) (k : ℕ) (d : NeededTemplate) → k < length ns
     → (all || not (get_or ns k d).ignoring) ≡ true → among (get_or ns k d).name.now (needed all (needs_view ns)) ≡ true
 asked_at all [] k d lt e = absurd (omega arith)
 asked_at all (n ∷ ns) zero d lt e =
@@ -192,7 +194,8 @@ asked_at all (n ∷ ns) (suc k) d lt e =
     among_behind of_texts (get_or ns k d).name.now (if all || not n.ignoring then n.name.now ∷ [] else [])
     (needed all (needs_view ns)) (asked_at all ns k d (omega arith) e)
 
-pub need_fault : (given : SourceTexts) (options : Options) (ns : List Include) (ms : List Need) (k : ℕ) (d : Include)
+pub need_fault : (given : SourceTexts) (options : Options) (ns : List NeededTemplate) (ms : List Need) (k : ℕ)
+    (d : NeededTemplate)
     (e : ChainError)
     → needs_view ns ≡ ms → k < length ns → IsFaultAt given options (need_view (get_or ns k d)) e
     → IsNeedFault given options ms e

@@ -50,10 +50,11 @@ module _ {A : Type 0} (m : Members A) where
   only_among x y a = search (arith, rules, m.among_more, m.among_none, m.equal)
 
   -- The item at an index is a member.
-  pub placed_among : (xs : List A) (i : ℕ) (x : A) → slice_get xs i ≡ Some x → m.among x xs ≡ true
-  placed_among [] i x e = absurd (cc)
-  placed_among (y ∷ xs) zero x e = search (arith, rules, m.among_more, m.reflexive)
-  placed_among (y ∷ xs) (suc i) x e = m.among_more x y xs ∙ or_true (m.same y x) (m.among x xs) (placed_among xs i x e)
+  pub indexed_among : (xs : List A) (i : ℕ) (x : A) → slice_get xs i ≡ Some x → m.among x xs ≡ true
+  indexed_among [] i x e = absurd (cc)
+  indexed_among (y ∷ xs) zero x e = search (arith, rules, m.among_more, m.reflexive)
+  indexed_among (y ∷ xs) (suc i) x e = m.among_more x y xs ∙ or_true (m.same y x) (m.among x xs)
+      (indexed_among xs i x e)
 
   not_next : (x y : A) (xs : List A) → m.among x xs ≡ false → m.same y x ≡ false → m.among x (xs ++ y ∷ []) ≡ false
   not_next x y [] h e = search (arith, rules, m.among_more, m.among_none, both_false)

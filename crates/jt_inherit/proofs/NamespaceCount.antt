@@ -241,12 +241,12 @@ pub few_chains : (sources : Sources) (escaping : Bool) (entry : Namespace) (rest
 few_chains sources escaping entry rest o reached =
     let order = entry ∷ rest in
     let fewer = no_more of_namespaces rest (flat_map (included sources) order) (once_in_order sources rest o.1.1)
-    (λ h e. placed h e (tagged sources escaping order o (reached h (later sources h (same_namespace entry h) rest e))
+    (λ h e. indexed h e (tagged sources escaping order o (reached h (later sources h (same_namespace entry h) rest e))
     (ap (λ b. b || listed entry rest) (reflexive entry)))) in
     omega (arith, fewer, includes_weigh sources order)
   where
-    placed : (h : Namespace) → listed h rest ≡ true → (h ≡ entry) ⊎ HasTag sources (entry ∷ rest) h
+    indexed : (h : Namespace) → listed h rest ≡ true → (h ≡ entry) ⊎ HasTag sources (entry ∷ rest) h
         → listed h (flat_map (included sources) (entry ∷ rest)) ≡ true
-    placed h e (inl is) =
+    indexed h e (inl is) =
         (let no : true ≡ false = sym e ∙ ap (λ w. listed w rest) is ∙ not_false (listed entry rest) o.0 in absurd cc)
-    placed h e (inr t) = listed_flat sources h t.0 (entry ∷ rest) t.1 t.2
+    indexed h e (inr t) = listed_flat sources h t.0 (entry ∷ rest) t.1 t.2

@@ -8,7 +8,7 @@ use Rattle.jt_graph.specs.View.{graph_of}
 use Rattle.jt_chains.specs.Chain as chain
 use Rattle.jt_inherit.specs.internal.Found.{HasNamespaces}
 use Rattle.jt_chains.specs.TemplateFiles.{namespace_view}
-use Rattle.jt_chains.specs.Places.{namespace_at}
+use Rattle.jt_chains.specs.Indices.{namespace_at}
 use Rattle.jt_chains.specs.declared.chain.Namespace.{Namespace}
 use Rattle.jt_chains.proofs.TemplatesByIndex.{map_at}
 

@@ -90,9 +90,9 @@ pub all_short : (given : SourceTexts) (ts : List Template) → AllByRecursion (I
 all_short given [] a = tt
 all_short given (t ∷ ts) a = (a.0.short, all_short given ts a.1)
 
-pub names_placed : (ts : List Template) (is : List ℕ) (us : List Template) → map (slice_get ts) is ≡ map Some us
+pub names_indexed : (ts : List Template) (is : List ℕ) (us : List Template) → map (slice_get ts) is ≡ map Some us
     → names_at ts is ≡ map (λ t. Some t.name) us
-names_placed ts [] [] e = refl
-names_placed ts [] (u ∷ us) e = absurd (cc)
-names_placed ts (i ∷ is) [] e = absurd (cc)
-names_placed ts (i ∷ is) (u ∷ us) e = search (arith, rules, names_placed ts is us)
+names_indexed ts [] [] e = refl
+names_indexed ts [] (u ∷ us) e = absurd (cc)
+names_indexed ts (i ∷ is) [] e = absurd (cc)
+names_indexed ts (i ∷ is) (u ∷ us) e = search (arith, rules, names_indexed ts is us)

@@ -12,7 +12,7 @@ use Rattle.jt_ast.specs.Texts.{among, repeated}
 use Rattle.jt_ast.specs.Expressions.{Text}
 use Rattle.jt_ast.specs.Statements.{Body, end}
 use Rattle.jt_ast.specs.StatementView.{body_of}
-use Rattle.jt_chains.specs.Along.{ArePlaces, templates_at}
+use Rattle.jt_chains.specs.Along.{AreIndices, templates_at}
 use Rattle.jt_chains.specs.Chain.{Sources, Namespace, a_chain, a_library, Template, template, templates, libraries}
 use Rattle.jt_chains.specs.Chain.{extends_of, parent_of, names_up, sources_in}
 use Rattle.jt_inherit.specs.Chains.{SourceTexts, IsRead, IsOnly}
@@ -108,16 +108,16 @@ next_asked s e all h ts n le l =
 
 -- ---- templates at indices when more are read
 
-pub places_grow : (ts us : List Template) (is : List ℕ) → ArePlaces ts is → ArePlaces (ts ++ us) is
-places_grow ts us [] a = tt
-places_grow ts us (i ∷ is) a = (omega (arith, a.0, length-append ts us), places_grow ts us is a.1)
+pub indices_grow : (ts us : List Template) (is : List ℕ) → AreIndices ts is → AreIndices (ts ++ us) is
+indices_grow ts us [] a = tt
+indices_grow ts us (i ∷ is) a = (omega (arith, a.0, length-append ts us), indices_grow ts us is a.1)
 
 at_front : (ts us : List Template) (i : ℕ) → i < length ts → slice_get (ts ++ us) i ≡ slice_get ts i
 at_front [] us i lt = absurd (omega arith)
 at_front (t ∷ ts) us zero lt = refl
 at_front (t ∷ ts) us (suc i) lt = at_front ts us i (omega arith)
 
-pub templates_grow : (ts us : List Template) (is : List ℕ) → ArePlaces ts is
+pub templates_grow : (ts us : List Template) (is : List ℕ) → AreIndices ts is
     → templates_at (ts ++ us) is ≡ templates_at ts is
 templates_grow ts us [] a = refl
 templates_grow ts us (i ∷ is) a =
@@ -135,7 +135,7 @@ pub few_templates : (ts : List Template) (is : List ℕ) → length (templates_a
 few_templates ts [] = omega arith
 few_templates ts (i ∷ is) = search (arith, rules, few_templates ts is, length-append)
 
-pub all_templates : (ts : List Template) (is : List ℕ) → ArePlaces ts is → length (templates_at ts is) ≡ length is
+pub all_templates : (ts : List Template) (is : List ℕ) → AreIndices ts is → length (templates_at ts is) ≡ length is
 all_templates ts [] a = refl
 all_templates ts (i ∷ is) a = by (slice_get ts i) refl (all_templates ts is a.1)
   where
@@ -146,10 +146,10 @@ all_templates ts (i ∷ is) a = by (slice_get ts i) refl (all_templates ts is a.
         absurd (cc)
     by (Some t) e r = ap (λ o. length (option_to_list o ++ templates_at ts is)) e ∙ ap suc r
 
-pub all_at_places : (P : Template → Type 0) (ts : List Template) (is : List ℕ) → AllByRecursion P ts
+pub all_at_indices : (P : Template → Type 0) (ts : List Template) (is : List ℕ) → AllByRecursion P ts
     → AllByRecursion P (templates_at ts is)
-all_at_places P ts [] a = tt
-all_at_places P ts (i ∷ is) a = by (slice_get ts i) refl (all_at_places P ts is a)
+all_at_indices P ts [] a = tt
+all_at_indices P ts (i ∷ is) a = by (slice_get ts i) refl (all_at_indices P ts is a)
   where
     at : (us : List Template) (j : ℕ) (t : Template) → slice_get us j ≡ Some t → AllByRecursion P us → P t
     at [] j t e h = absurd (cc)
@@ -193,7 +193,7 @@ from_grows s r g (a_library n) ts p l = record {
 
 pub way_grows : (ts us : List Template) (h : Namespace) (is : List ℕ) (p : Option Text) → IsExtendsPath ts h is p
     → IsExtendsPath (ts ++ us) h is p
-way_grows ts us h is p w = search (arith, rules, templates_grow, places_grow, from_grows, more_sources)
+way_grows ts us h is p w = search (arith, rules, templates_grow, indices_grow, from_grows, more_sources)
 
 pub way_next : (ts : List Template) (h : Text) (is : List ℕ) (i : ℕ) (t : Template) (n : Text)
     → IsExtendsPath ts (a_chain h) is (Some n) → slice_get ts i ≡ Some t → t.name ≡ n
@@ -294,7 +294,7 @@ module _ {given : SourceTexts} {options : Options} {root : Text} {ts : List Temp
   long_breaks {is} {n} w full new =
       let s = sources_in ts in
       let us = templates_at ts is in
-      let len : length us ≡ 64 = all_templates ts is w.places ∙ full in
+      let len : length us ≡ 64 = all_templates ts is w.indices ∙ full in
       let up : extends_path s options.autoescape (a_chain h) ≡ names us ++ n ∷ [] =
       names_lead s 65 1 (Some h) us (Some n) (omega (arith, len)) w.leads in
       record {
@@ -382,22 +382,22 @@ module _ (ps qs : List TemplateFile) (more : Grow ps qs) (is : List ℕ) {js : L
       (sym more.1) (way_grows ts more.0 (a_chain h) is (Some n) w) in
       let newly_read : among n (names (templates_at us is)) ≡ false = ap (λ vs. among n (names (templates_at vs is)))
       more.1
-      ∙ ap (λ vs. among n (names vs)) (templates_grow ts more.0 is w.places) ∙ new in
+      ∙ ap (λ vs. among n (names vs)) (templates_grow ts more.0 is w.indices) ∙ new in
       let next = way_next us h is i (file_view p) n grown held (named ∙ same_name) newly_read once lt in
       subst (λ z. IsExtendsPath us (a_chain h) z o) (sym longer)
       (subst (IsExtendsPath us (a_chain h) (is ++ i ∷ [])) (sym ext) next)
 
   -- Each new name was on the path before or is that of the appended template.
-  way_from : ArePlaces ts is → (k0 k1 k2 : List Text)
+  way_from : AreIndices ts is → (k0 k1 k2 : List Text)
       → ((x : Text) → among x k1 ≡ true → (among x k0 ≡ true) ⊎ (among x (names (templates_at ts is)) ≡ true))
       → ((x : Text) → among x k2 ≡ true → (among x k1 ≡ true) ⊎ (x ≡ m))
       → (x : Text) → among x k2 ≡ true → (among x k0 ≡ true) ⊎ (among x (names (templates_at us js)) ≡ true)
-  way_from places k0 k1 k2 before last x a =
+  way_from indices k0 k1 k2 before last x a =
       let theirs : names (templates_at us js) ≡ names (templates_at ts is) ++ string_bytes p.name ∷ [] =
       ap (λ l. names (templates_at us l)) longer ∙ ap names (templates_more us is i (file_view p) held)
       ∙ map_more (λ (u : Template). u.name) (templates_at us is) (file_view p)
       ∙ ap (λ l. names l ++ string_bytes p.name ∷ [])
-      (ap (λ l. templates_at l is) more.1 ∙ templates_grow ts more.0 is places) in
+      (ap (λ l. templates_at l is) more.1 ∙ templates_grow ts more.0 is indices) in
       ⊎_elim
       (λ q. ⊎_elim (λ r. inl r) (λ r.
       inr (ap (among x) theirs ∙ among_front of_texts x (names (templates_at ts is)) (string_bytes p.name ∷ []) r))
@@ -415,7 +415,7 @@ module _ (ps qs : List TemplateFile) (more : Grow ps qs) (is : List ℕ) {js : L
       → IsExtendsPath us (a_chain h) js o × ((x : Text) → among x (names_view k2) ≡ true
       → (among x (names_view k0) ≡ true) ⊎ (among x (names (templates_at us js)) ≡ true))
   way_step w new lt once ext k0 k1 k2 before last =
-      (way_turn w new lt once ext, way_from w.places (names_view k0) (names_view k1) (names_view k2) before last)
+      (way_turn w new lt once ext, way_from w.indices (names_view k0) (names_view k1) (names_view k2) before last)
 
 pub grow_on : (ps qs rs : List TemplateFile) → Grow ps qs → Grow qs rs → Grow ps rs
 grow_on ps qs rs p q = (p.0 ++ q.0, q.1 ∙ ap (λ l. l ++ q.0) p.1 ∙ append_assoc (files_view ps) p.0 q.0)

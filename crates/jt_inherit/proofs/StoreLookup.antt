@@ -41,8 +41,8 @@ module _ (ps : List TemplateFile) (ks : List Text) (k : AreNamed (files_view ps)
   named_at : slice_get (names (files_view ps)) i ≡ Some n
   named_at = ap (λ l. slice_get l i) (sym k.0) ∙ at
 
-  pub place_read : i < length ps
-  place_read =
+  pub index_read : i < length ps
+  index_read =
       omega (
         arith,
         slice_get_within (names (files_view ps)) i n named_at,
@@ -52,7 +52,7 @@ module _ (ps : List TemplateFile) (ks : List Text) (k : AreNamed (files_view ps)
 
   module _ (p : TemplateFile) (is : p ≡ get_or ps i p) where
     there : slice_get (files_view ps) i ≡ Some (file_view p)
-    there = map_at file_view ps i p place_read is
+    there = map_at file_view ps i p index_read is
 
     name_is : string_bytes p.name ≡ n
     name_is =

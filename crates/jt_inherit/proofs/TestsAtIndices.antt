@@ -6,15 +6,15 @@ use Rattle.std.specs.List.{AllWithin, HoldsAt, list_any}
 use Rattle.std.specs.Option.{option_to_list}
 use Rattle.std.proofs.lemmas.List.{get_or_read}
 use Rattle.std.proofs.lemmas.List.Recursion.{or_is}
-use Rattle.jt_chains.specs.Along.{ArePlaces, templates_at}
+use Rattle.jt_chains.specs.Along.{AreIndices, templates_at}
 use Rattle.jt_chains.specs.Chain.{Template}
 use Rattle.jt_chains.specs.TemplateFiles.{file_view, files_view}
 use Rattle.jt_chains.specs.declared.files.TemplateFile.{TemplateFile}
-use Rattle.jt_chains.proofs.TemplatesByIndex.{map_at, place_within}
+use Rattle.jt_chains.proofs.TemplatesByIndex.{map_at, index_within}
 
-pub place_at : (ps : List TemplateFile) (is : List ℕ) (k i : ℕ) → k < length is → ArePlaces (files_view ps) is
+pub index_at : (ps : List TemplateFile) (is : List ℕ) (k i : ℕ) → k < length is → AreIndices (files_view ps) is
     → i ≡ get_or is k i → i < length ps
-place_at ps is k i lt a at = omega (arith, get_or_read is k i lt at 0, place_within ps is k lt a)
+index_at ps is k i lt a at = omega (arith, get_or_read is k i lt at 0, index_within ps is k lt a)
 
 module _ (test : Template → Bool) where
   abbrev pub passes : List Template → ℕ → Bool
@@ -40,14 +40,14 @@ module _ (test : Template → Bool) where
     Tells b i = i < length ps → passes (files_view ps) i ≡ b
 
     -- The result of `any` over indices is true if and only if one of the templates passes the test.
-    pub any_at : (is : List ℕ) (r : Bool) → ArePlaces (files_view ps) is
+    pub any_at : (is : List ℕ) (r : Bool) → AreIndices (files_view ps) is
         → MatchBool r ((k : ℕ) × (k < length is) × HoldsAt (Tells true) is k) (AllWithin (Tells false) is 0 (length is))
         → r ≡ list_any test (templates_at (files_view ps) is)
     any_at is true a m =
         or_is (list_any (passes (files_view ps))) (passes (files_view ps)) refl (λ _ _. refl) is 0 true
-        (λ e. (m.0, m.1, m.2 0 (place_within ps is m.0 m.1 a))) (λ e. absurd (cc))
+        (λ e. (m.0, m.1, m.2 0 (index_within ps is m.0 m.1 a))) (λ e. absurd (cc))
         ∙ any_passes (files_view ps) is
     any_at is false a m =
         or_is (list_any (passes (files_view ps))) (passes (files_view ps)) refl (λ _ _. refl) is 0 false
-        (λ e. absurd (cc)) (λ e i lt. m i 0 (omega arith) lt (place_within ps is i lt a))
+        (λ e. absurd (cc)) (λ e i lt. m i 0 (omega arith) lt (index_within ps is i lt a))
         ∙ any_passes (files_view ps) is

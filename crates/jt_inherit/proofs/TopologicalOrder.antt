@@ -8,7 +8,7 @@ use Rattle.jt_graph.specs.Graph as graph
 use Rattle.jt_graph.specs.Graph.{Graph, next_of, AreOrdered}
 use Rattle.jt_chains.specs.Chain.{Sources, Namespace, a_chain, same_namespace, listed}
 use Rattle.jt_chains.specs.Includes.{included, AllIn, InOrder}
-use Rattle.jt_chains.specs.Places.{namespace_at}
+use Rattle.jt_chains.specs.Indices.{namespace_at}
 use Rattle.jt_chains.specs.Rules.{Reaches, here, through}
 use Rattle.jt_inherit.specs.internal.Found.{twice}
 use Rattle.jt_inherit.proofs.NamespaceMembership.{reflexive, same}

@@ -22,8 +22,8 @@ use Rattle.jt_chains.specs.View.{Seen, sources_of}
 abbrev pub SourceTexts : Type 0
 SourceTexts = Text → Option Text
 
--- The characters that are cut into segments: those of the source, with LF as its only line end. A
--- trailing line end is dropped unless the options keep it.
+-- The characters that are cut into segments: the characters of the source, with LF as its only line
+-- end. A trailing line end is dropped unless the options keep it.
 abbrev pub scanned : Options → Text → List ℕ
 scanned options source = chars (normalized options.keep_trailing_newline source)
 

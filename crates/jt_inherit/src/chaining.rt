@@ -6,13 +6,13 @@ ghost use Rattle.std.specs.List.{AllByRecursion};
 ghost use Rattle.jt_graph.specs.Graph.{next_of};
 ghost use Rattle.jt_ast.specs.Sizes.{body_bytes};
 ghost use Rattle.jt_ast.specs.Expressions.{Text};
-ghost use Rattle.jt_chains.specs.Along.{ArePlaces};
+ghost use Rattle.jt_chains.specs.Along.{AreIndices};
 ghost use Rattle.jt_inherit.specs.Chains.{IsChain};
 ghost use Rattle.jt_inherit.specs.internal.Found.{AllKeep, BreaksAt, HasNamespaces};
 ghost use Rattle.jt_inherit.specs.internal.Found.{found_namespaces};
 ghost use Rattle.jt_inherit.specs.internal.Found.{found_templates, found_paths};
 ghost use Rattle.jt_chains.specs.TemplateFiles.{namespace_view};
-ghost use Rattle.jt_chains.specs.Places.{namespace_at};
+ghost use Rattle.jt_chains.specs.Indices.{namespace_at};
 ghost use Rattle.jt_inherit.specs.Refusals.{Breaks};
 ghost use Rattle.jt_chains.specs.Weights.{chains_weight};
 ghost use Rattle.jt_inherit.specs.internal.Sets.{names_view};
@@ -25,13 +25,13 @@ use crate::error::ChainError;
 use crate::library::{Library, Loader};
 use crate::rules::check_rules;
 use crate::store::TemplateStore;
-use jt_chains::{Chain, Namespace, places_by_name};
+use jt_chains::{Chain, Namespace, indices_by_name};
 use jt_graph::order;
 use jt_scan::Options;
 use std::alloc::{AllocError, Global};
 
-/// Returns the chain of the entry: its templates up to the root, read from the library, and the
-/// chains and libraries that their includes and imports reach.
+/// Returns the chain of the entry, read from the library. It has the templates up to the root, and
+/// the chains and libraries that their includes and imports reach.
 ///
 /// # Errors
 ///
@@ -76,19 +76,19 @@ pub fn chain<L: Library>(
     check_chains(alloc, &found, options.autoescape)?;
     let order = order(alloc, &found.next)?;
     let namespaces = namespaces_in(alloc, &found, &order)?;
-    let places = places_by_name(alloc, &found.files)?;
+    let indices = indices_by_name(alloc, &found.files)?;
     Ok(Chain {
         templates: found.files,
         namespaces,
         autoescape: options.autoescape,
-        places,
+        indices,
     })
 }
 
 /// Refuses chains and libraries whose blocks, macros or imports break a rule.
 fn check_chains(alloc: Global, found: &Discovery, escaping: bool) -> Result<(), ChainError>
     requires named { AreNamed (found_templates found.now) (names_view found.now.names) }
-    requires places { AllByRecursion (ArePlaces (found_templates found.now))
+    requires indices { AllByRecursion (AreIndices (found_templates found.now))
         (found_paths found.now) }
     ensures kept { OnOk result (AllKeep escaping found.now) }
     ensures broken { IfErr result
@@ -104,7 +104,7 @@ fn check_chains(alloc: Global, found: &Discovery, escaping: bool) -> Result<(), 
     Ok(())
 }
 
-/// Returns the chains and libraries of these numbers, in this order.
+/// Returns the chains and libraries of the numbers `order`, in order.
 fn namespaces_in(
     alloc: Global,
     found: &Discovery,

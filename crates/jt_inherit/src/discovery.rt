@@ -49,7 +49,8 @@ fn begin(alloc: Global, entry: &str) -> Result<Discovery, AllocError>
     })
 }
 
-/// Follows the next chain or library: reads its templates and those that they include or import.
+/// Follows the next chain or library: reads its templates and the templates that they include or
+/// import.
 fn follow<L: Library>(
     alloc: Global,
     found: &mut Discovery,

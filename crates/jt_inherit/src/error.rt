@@ -12,47 +12,48 @@ use thiserror::Error;
 /// The reason why an entry has no chain.
 #[derive(Debug, Drop, Error, PartialEq, Eq)]
 pub enum ChainError {
-    /// The library has no source of this name.
+    /// A name without a source in the library.
     #[error("C1 Missing")]
     Missing,
-    /// The name is not valid for a template.
+    /// A name that is not valid for a template.
     #[error("C2 BadName")]
     BadName,
-    /// A template extends itself, directly or through others.
+    /// A template that extends itself, directly or through others.
     #[error("C3 ExtendsCycle")]
     ExtendsCycle,
-    /// A chain has more than 64 templates, or the entry reaches more than 1,024 chains, its own
+    /// A chain of more than 64 templates, or an entry that reaches more than 1,024 chains, its own
     /// included.
     #[error("C4 ChainTooLong")]
     ChainTooLong,
-    /// A template has two blocks of one name.
+    /// A template with two blocks of one name.
     #[error("C5 DoubleBlock")]
     DoubleBlock,
-    /// A required block has no body.
+    /// A required block without a body.
     #[error("C6 RequiredNotGiven")]
     RequiredNotGiven,
-    /// A body calls `super()`, and each further body of its block, if any, is required.
+    /// A body that calls `super()`, although each further body of its block, if any, is required.
     #[error("C7 NoSuper")]
     NoSuper,
-    /// A chain includes itself, directly or through others.
+    /// A chain that includes itself, directly or through others.
     #[error("C8 IncludeCycle")]
     IncludeCycle,
-    /// A chain or a library has a name twice among its macros and the names that imports bind.
+    /// A name that occurs twice among the macros of a chain or a library and the names that its
+    /// imports bind.
     #[error("C9 MacroTwice")]
     MacroTwice,
-    /// A growth was refused.
+    /// A refused growth.
     #[error("C10 NoMemory")]
     NoMemory,
-    /// `from` names a macro that the library does not offer.
+    /// A macro that `from` names and the library does not offer.
     #[error("C11 NoMacro")]
     NoMacro,
-    /// An imported template holds something other than macros.
+    /// An imported template that holds something other than macros.
     #[error("C12 NotALibrary")]
     NotALibrary,
-    /// The source of the template of this name cannot be cut into segments.
+    /// The name of a template whose source cannot be cut into segments, with the error.
     #[error("{1} in {0} line {line}", line = scan_line(.1))]
     Scan(String, ScanError),
-    /// The source of the template of this name spells no tree.
+    /// The name of a template whose source spells no tree, with the error.
     #[error("{1} in {0} line {line}", line = parse_line(.1))]
     Parse(String, ParseError),
 }

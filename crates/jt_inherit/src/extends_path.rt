@@ -3,7 +3,7 @@
 ghost use Rattle.std.specs.Prelude.{◌≡◌, map, IfOk, option_map, string_bytes};
 ghost use Rattle.jt_ast.specs.Texts.{among};
 ghost use Rattle.jt_ast.specs.StatementView.{body_of};
-ghost use Rattle.jt_chains.specs.Along.{ArePlaces, templates_at};
+ghost use Rattle.jt_chains.specs.Along.{AreIndices, templates_at};
 ghost use Rattle.jt_chains.specs.Chain.{a_library, extends_of};
 ghost use Rattle.jt_chains.specs.TemplateFiles.{files_view};
 ghost use Rattle.jt_inherit.specs.internal.ExtendsPaths.{KnowTemplateFiles, Reads};
@@ -13,7 +13,7 @@ use crate::error::ChainError;
 use crate::library::{Library, Loader};
 use crate::sets::{Names, NamespaceKey};
 use crate::statements::parent_of;
-use crate::store::read_place;
+use crate::store::read_index;
 use jt_chains::{TemplateFile, holds_macros};
 use std::alloc::{AllocError, Global};
 
@@ -22,14 +22,14 @@ const MAX_TEMPLATES: usize = 64;
 
 /// Returns whether a template on the path has the name.
 fn is_on_path(files: &[TemplateFile], extends_path: &[usize], name: &str) -> bool
-    requires { ArePlaces (files_view files.now) extends_path.now }
+    requires { AreIndices (files_view files.now) extends_path.now }
     ensures { result
         ≡ among name.now
         (map (λ t. t.name) (templates_at (files_view files.now) extends_path.now)) }
 {
     extends_path
         .iter()
-        .any(|place| files[*place].name.as_str() == name)
+        .any(|index| files[*index].name.as_str() == name)
 }
 
 /// Returns the name of the template that a template extends.
@@ -56,12 +56,12 @@ fn read_library<L: Library>(
     ensures { Reads (L.sources loader.now.library.now) loader.now.options files.old.items
         files.new.items names.old names.new (a_library name.now) result }
 {
-    let place = read_place(alloc, names, files, name, loader)?;
-    if !holds_macros(files[place].template.body()) {
+    let index = read_index(alloc, names, files, name, loader)?;
+    if !holds_macros(files[index].template.body()) {
         return Err(ChainError::NotALibrary);
     }
     let mut extends_path = Vec::new(alloc);
-    extends_path.push(place)?;
+    extends_path.push(index)?;
     Ok(extends_path)
 }
 
@@ -88,9 +88,9 @@ pub(crate) fn read_namespace<L: Library>(
         if is_on_path(files, &extends_path, &name) {
             return Err(ChainError::ExtendsCycle);
         }
-        let place = read_place(alloc, names, files, &name, loader)?;
-        extends_path.push(place)?;
-        match parent_name(alloc, &files[place])? {
+        let index = read_index(alloc, names, files, &name, loader)?;
+        extends_path.push(index)?;
+        match parent_name(alloc, &files[index])? {
             Some(parent) => name = parent,
             None => return Ok(extends_path),
         }

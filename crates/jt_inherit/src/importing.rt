@@ -2,7 +2,7 @@
 
 ghost use Rattle.std.specs.Prelude.{◌≡◌, IfOk};
 ghost use Rattle.jt_ast.specs.StatementView.{body_view, given_view};
-ghost use Rattle.jt_chains.specs.Along.{ArePlaces};
+ghost use Rattle.jt_chains.specs.Along.{AreIndices};
 ghost use Rattle.jt_chains.specs.Chain.{a_library, macros};
 ghost use Rattle.jt_chains.specs.TemplateFiles.{files_view};
 ghost use Rattle.jt_chains.specs.Rules as rules;
@@ -21,11 +21,11 @@ use std::alloc::{AllocError, Global};
 fn library_file<'a>(store: TemplateStore<'a>, library: &str) -> Option<&'a TemplateFile>
     ensures { IsGiven (files_view store.entry.files.now) library.now result }
 {
-    let place = store.names.find(library)?;
-    Some(&store.files[place])
+    let index = store.names.find(library)?;
+    Some(&store.files[index])
 }
 
-/// Returns whether a template does not offer all of these macros to importers.
+/// Returns whether a template does not offer all macros of `names` to importers.
 fn has_not(file: &TemplateFile, names: &[(String, String)]) -> bool
     ensures { result ≡ spec.has_not (macros_held file.now) (given_view names.now) }
 {
@@ -33,7 +33,7 @@ fn has_not(file: &TemplateFile, names: &[(String, String)]) -> bool
 }
 
 /// Returns whether a `from` tag names a macro that the library does not offer. A template that was
-/// not read, or is no library, lacks none.
+/// not read, or is no library, lacks no macro.
 fn lacks_one(store: TemplateStore<'_>, library: &str, names: &[(String, String)]) -> bool
     ensures { result
         ≡ rules.lacks_one (its_sources store.entry) library.now (given_view names.now) }
@@ -63,13 +63,13 @@ fn lacks_macros(store: TemplateStore<'_>, body: &[Stmt]) -> bool
     false
 }
 
-/// Returns whether a template at `places` imports a macro that its library does not offer.
-pub(crate) fn any_lacks_macros(store: TemplateStore<'_>, places: &[usize]) -> bool
-    requires { ArePlaces (files_view store.files.now) places.now }
+/// Returns whether a template at `indices` imports a macro that its library does not offer.
+pub(crate) fn any_lacks_macros(store: TemplateStore<'_>, indices: &[usize]) -> bool
+    requires { AreIndices (files_view store.files.now) indices.now }
     ensures { result ≡ spec.any_lacks_macros (its_sources store.entry)
-        (its_templates store.entry places.now) }
+        (its_templates store.entry indices.now) }
 {
-    places.iter().any(|place| lacks_macros(store, store.files[*place].template.body()))
+    indices.iter().any(|index| lacks_macros(store, store.files[*index].template.body()))
 }
 
 /// Adds the names that a `from` tag binds to macros that the library offers.
@@ -128,21 +128,21 @@ fn add_imported<'a>(
     Ok(())
 }
 
-/// Returns the names of the macros of the templates at `places`, then the names that their imports
+/// Returns the names of the macros of the templates at `indices`, then the names that their imports
 /// bind.
 pub(crate) fn names_at<'a>(
     alloc: Global,
     store: TemplateStore<'a>,
-    places: &[usize],
+    indices: &[usize],
 ) -> Result<Vec<&'a str>, AllocError>
-    requires { ArePlaces (files_view store.files.now) places.now }
+    requires { AreIndices (files_view store.files.now) indices.now }
     ensures { IfOk result (λ ns. texts ns.items
-        ≡ their_names (its_sources store.entry) (its_templates store.entry places.now)) }
+        ≡ their_names (its_sources store.entry) (its_templates store.entry indices.now)) }
 {
-    let macros = macros_at(alloc, store.files, places)?;
+    let macros = macros_at(alloc, store.files, indices)?;
     let mut given = macro_names(alloc, &macros)?;
-    for place in places {
-        add_imported(store, store.files[*place].template.body(), &mut given)?;
+    for index in indices {
+        add_imported(store, store.files[*index].template.body(), &mut given)?;
     }
     Ok(given)
 }

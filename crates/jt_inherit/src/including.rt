@@ -4,7 +4,7 @@
 ghost use Rattle.std.specs.Prelude.{◌≡◌, ◌≤◌, ◌++◌, ◌∷◌, [], true, false, length, OnOk, IfOk};
 ghost use Rattle.std.specs.Prelude.{IfErr, string_bytes};
 ghost use Rattle.std.specs.List.{AllByRecursion};
-ghost use Rattle.jt_chains.specs.Along.{ArePlaces};
+ghost use Rattle.jt_chains.specs.Along.{AreIndices};
 ghost use Rattle.jt_inherit.specs.internal.Along.{imports_along, needs_of};
 ghost use Rattle.jt_chains.specs.Chain.{listed};
 ghost use Rattle.jt_inherit.specs.internal.Found.{IsMet, IsFaultAt, IsNeedRefusal, IsPutFault};
@@ -25,39 +25,39 @@ use crate::reading::read_file;
 use crate::sets::{Names, NamespaceKey, Namespaces};
 use crate::statements::add_imports;
 use crate::store::add_file;
-use jt_chains::{Include, TemplateFile, includes_at};
+use jt_chains::{NeededTemplate, TemplateFile, includes_at};
 use std::alloc::{AllocError, Global};
 
 /// The greatest number of chains that an entry may reach, its own included.
 const MAX_CHAINS: usize = 1024;
 
-/// Adds the imports of the templates at `places`.
+/// Adds the imports of the templates at `indices`.
 fn add_imports_at<'a>(
     files: &'a [TemplateFile],
-    places: &[usize],
-    found: &mut Vec<Include<'a>>,
+    indices: &[usize],
+    found: &mut Vec<NeededTemplate<'a>>,
 ) -> Result<(), AllocError>
-    requires { ArePlaces (files_view files.now) places.now }
+    requires { AreIndices (files_view files.now) indices.now }
     ensures { IfOk result (λ _. AddsNeeds found.old.items found.new.items
-        (imports_along (files_view files.now) places.now)) }
+        (imports_along (files_view files.now) indices.now)) }
 {
-    for place in places {
-        add_imports(found, files[*place].template.body())?;
+    for index in indices {
+        add_imports(found, files[*index].template.body())?;
     }
     Ok(())
 }
 
-/// Returns the includes and imports of the templates at `places`.
+/// Returns the includes and imports of the templates at `indices`.
 fn needs_at<'a>(
     alloc: Global,
     files: &'a [TemplateFile],
-    places: &[usize],
-) -> Result<Vec<Include<'a>>, AllocError>
-    requires { ArePlaces (files_view files.now) places.now }
-    ensures { IfOk result (λ found. needs_view found.items ≡ needs_of files.now places.now) }
+    indices: &[usize],
+) -> Result<Vec<NeededTemplate<'a>>, AllocError>
+    requires { AreIndices (files_view files.now) indices.now }
+    ensures { IfOk result (λ found. needs_view found.items ≡ needs_of files.now indices.now) }
 {
-    let mut found = includes_at(alloc, files, places)?;
-    add_imports_at(files, places, &mut found)?;
+    let mut found = includes_at(alloc, files, indices)?;
+    add_imports_at(files, indices, &mut found)?;
     Ok(found)
 }
 
@@ -67,7 +67,7 @@ fn read_include<L: Library>(
     alloc: Global,
     names: &mut Names,
     newly_read: &mut Vec<TemplateFile>,
-    include: Include<'_>,
+    include: NeededTemplate<'_>,
     loader: &Loader<'_, L>,
 ) -> Result<(), ChainError>
     ensures known { OnOk result (StayKnown (L.sources loader.now.library.now) loader.now.options
@@ -80,7 +80,7 @@ fn read_include<L: Library>(
         IsFaultAt (L.sources loader.now.library.now) loader.now.options
         (need_view include.entry) e) }
 {
-    if let Some(_place) = names.find(include.name) {
+    if let Some(_index) = names.find(include.name) {
         return Ok(());
     }
     match read_file(alloc, include.name, loader) {
@@ -103,7 +103,7 @@ pub(crate) fn read_includes<L: Library>(
 ) -> Result<Vec<TemplateFile>, ChainError>
     requires known { KnowTemplateFiles (L.sources loader.now.library.now) loader.now.options
         files.now names.old }
-    requires places { ArePlaces (files_view files.now) extends_path.now }
+    requires indices { AreIndices (files_view files.now) extends_path.now }
     ensures known { IfOk result (λ newly_read.
         AreKnown (L.sources loader.now.library.now) loader.now.options
         (files_view files.now ++ files_view newly_read.items) (names_view names.new)) }
@@ -126,7 +126,7 @@ pub(crate) fn read_includes<L: Library>(
 }
 
 /// Returns the key of the chain that an included template begins, or of the imported library.
-fn namespace_of(alloc: Global, include: Include<'_>) -> Result<NamespaceKey, AllocError>
+fn namespace_of(alloc: Global, include: NeededTemplate<'_>) -> Result<NamespaceKey, AllocError>
     ensures { IfOk result (λ k. key_view k ≡ need_namespace (need_view include.entry)) }
 {
     Ok(NamespaceKey {
@@ -188,7 +188,7 @@ fn add_number(
     names: &Names,
     namespaces: &mut Namespaces,
     numbers: &mut Vec<usize>,
-    include: Include<'_>,
+    include: NeededTemplate<'_>,
 ) -> Result<(), ChainError>
     requires { AreNamespaces (namespaces_view namespaces.old) }
     ensures next { OnOk result
@@ -197,7 +197,7 @@ fn add_number(
     ensures refused { IfErr result
         (IsNextFault (namespaces_view namespaces.old) (leads_to names.now include.entry)) }
 {
-    let Some(_place) = names.find(include.name) else {
+    let Some(_index) = names.find(include.name) else {
         return Ok(());
     };
     let namespace = namespace_of(alloc, include)?;
@@ -207,7 +207,7 @@ fn add_number(
 }
 
 /// Returns the numbers of the chains and libraries that the templates at `extends_path` lead to.
-/// New ones are appended to `namespaces`.
+/// New chains and libraries are appended to `namespaces`.
 pub(crate) fn next_namespaces(
     alloc: Global,
     names: &Names,
@@ -215,7 +215,7 @@ pub(crate) fn next_namespaces(
     files: &[TemplateFile],
     extends_path: &[usize],
 ) -> Result<Vec<usize>, ChainError>
-    requires places { ArePlaces (files_view files.now) extends_path.now }
+    requires indices { AreIndices (files_view files.now) extends_path.now }
     requires namespaces { AreNamespaces (namespaces_view namespaces.old) }
     ensures next { IfOk result
         (λ numbers. AreNext (namespaces_view namespaces.old) (namespaces_view namespaces.new)

@@ -10,7 +10,7 @@ pub trait Library {
     /// source for as long as the library is borrowed.
     ghost sources: { Self → List ℕ → Option (List ℕ) };
 
-    /// Returns the source of the template of this name, or `None` if the library has none.
+    /// Returns the source of the template `name`, or `None` if the library has none.
     fn source(&self, name: &str) -> Option<&str>
         ensures { option_map (λ s. s.now) result ≡ sources self.now name.now };
 }

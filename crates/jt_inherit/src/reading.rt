@@ -19,7 +19,7 @@ use jt_parse::{ParseError, parse};
 use jt_scan::{Options, ScanError, Source, scan};
 use std::alloc::Global;
 
-/// Reads the template of this name from the library.
+/// Reads the template `name` from the library.
 pub(crate) fn read_file<L: Library>(
     alloc: Global,
     name: &str,

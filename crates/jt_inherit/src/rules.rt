@@ -5,7 +5,7 @@ ghost use Rattle.std.specs.Prelude.{if◌then◌else◌};
 ghost use Rattle.std.specs.Str.{bytes_eq};
 ghost use Rattle.jt_ast.specs.Texts.{among, repeated, texts};
 ghost use Rattle.jt_ast.specs.Expressions.{Text};
-ghost use Rattle.jt_chains.specs.Along.{ArePlaces, templates_at};
+ghost use Rattle.jt_chains.specs.Along.{AreIndices, templates_at};
 ghost use Rattle.jt_chains.specs.Chain.{Template};
 ghost use Rattle.jt_inherit.specs.internal.Checks.{lacks_body, lacks_next, block_names};
 ghost use Rattle.jt_inherit.specs.internal.RuleTests as spec;
@@ -108,19 +108,19 @@ pub(crate) fn any_lacks_next(alloc: Global, mut bodies: Vec<Block<'_>>) -> Resul
     Ok(false)
 }
 
-/// Returns whether a template at `places` has two blocks of one name.
+/// Returns whether a template at `indices` has two blocks of one name.
 fn any_double(
     alloc: Global,
     files: &[TemplateFile],
-    places: &[usize],
+    indices: &[usize],
     escaping: bool,
 ) -> Result<bool, AllocError>
-    requires { ArePlaces (files_view files.now) places.now }
+    requires { AreIndices (files_view files.now) indices.now }
     ensures { IfOk result (λ found.
-        found ≡ spec.any_double escaping (templates_at (files_view files.now) places.now)) }
+        found ≡ spec.any_double escaping (templates_at (files_view files.now) indices.now)) }
 {
-    for place in places {
-        let blocks = blocks_of_file(alloc, files, *place, escaping)?;
+    for index in indices {
+        let blocks = blocks_of_file(alloc, files, *index, escaping)?;
         if blocks_repeat(alloc, &blocks)? {
             return Ok(true);
         }
@@ -128,30 +128,30 @@ fn any_double(
     Ok(false)
 }
 
-/// Refuses a chain or library, given by its templates, whose blocks, macros or imports break a
-/// rule.
+/// Refuses a chain or library whose blocks, macros or imports break a rule. `indices` are its
+/// templates.
 pub(crate) fn check_rules(
     alloc: Global,
     store: TemplateStore<'_>,
-    places: &[usize],
+    indices: &[usize],
     escaping: bool,
 ) -> Result<(), ChainError>
-    requires { ArePlaces (files_view store.files.now) places.now }
+    requires { AreIndices (files_view store.files.now) indices.now }
     ensures kept { OnOk result (spec.KeepAll (its_sources store.entry) escaping
-        (its_templates store.entry places.now)) }
+        (its_templates store.entry indices.now)) }
     ensures broken { IfErr result (spec.BreakOne (its_sources store.entry) escaping
-        (its_templates store.entry places.now)) }
+        (its_templates store.entry indices.now)) }
 {
-    if any_double(alloc, store.files, places, escaping)? {
+    if any_double(alloc, store.files, indices, escaping)? {
         return Err(ChainError::DoubleBlock);
     }
-    if any_lacks_macros(store, places) {
+    if any_lacks_macros(store, indices) {
         return Err(ChainError::NoMacro);
     }
-    if names_repeat(alloc, &names_at(alloc, store, places)?)? {
+    if names_repeat(alloc, &names_at(alloc, store, indices)?)? {
         return Err(ChainError::MacroTwice);
     }
-    let blocks = blocks_at(alloc, store.files, places, escaping)?;
+    let blocks = blocks_at(alloc, store.files, indices, escaping)?;
     if any_lacks_body(alloc, &blocks)? {
         return Err(ChainError::RequiredNotGiven);
     }

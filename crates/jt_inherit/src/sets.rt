@@ -1,6 +1,6 @@
 //! Defines sets of names and of namespaces that keep the order of insertion. The names come from
-//! untrusted templates, so the sets use ordered maps: no choice of names makes these slow, as it
-//! could make a hash table.
+//! untrusted templates, so the sets use ordered maps. No choice of names makes an ordered map slow,
+//! as it could a hash table.
 
 ghost use Rattle.std.specs.Prelude.{◌≡◌, ◌^◌, ◌<◌, ◌++◌, ◌∷◌, [], false, length, slice_get, Some};
 ghost use Rattle.std.specs.Prelude.{OnOk, string_bytes};
@@ -96,7 +96,7 @@ impl Namespaces {
         }
     }
 
-    /// Returns how many chains and libraries there are.
+    /// Returns the number of chains and libraries.
     pub(crate) fn len(&self) -> usize
         ensures len { result ≡ length self.now.items.items }
         ensures small { result < 2 ^ 63 }
@@ -141,7 +141,7 @@ impl Namespaces {
         Ok(())
     }
 
-    /// Returns how many of the namespaces are chains.
+    /// Returns the number of chains.
     pub(crate) fn count_chains(&self) -> usize
         ensures { result ≡ length (chains_of (namespaces_view self.now)) }
     {

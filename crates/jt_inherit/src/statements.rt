@@ -6,7 +6,7 @@ ghost use Rattle.jt_chains.specs.Chain.{extends_of, libraries_in};
 ghost use Rattle.jt_chains.specs.Needs.{library_need, need_view, AddsNeeds};
 
 use jt_ast::Stmt;
-use jt_chains::Include;
+use jt_chains::NeededTemplate;
 use std::alloc::AllocError;
 
 /// Returns the name of the template that the statements extend.
@@ -22,10 +22,10 @@ pub(crate) fn parent_of(body: &[Stmt]) -> Option<&str>
 }
 
 /// Returns the import of a library.
-fn imported(name: &str) -> Include<'_>
+fn imported(name: &str) -> NeededTemplate<'_>
     ensures { need_view result ≡ library_need name.now }
 {
-    Include {
+    NeededTemplate {
         name,
         ignoring: false,
         is_library: true,
@@ -34,7 +34,7 @@ fn imported(name: &str) -> Include<'_>
 
 /// Adds the imports of a template, in the order of the source.
 pub(crate) fn add_imports<'a>(
-    found: &mut Vec<Include<'a>>,
+    found: &mut Vec<NeededTemplate<'a>>,
     body: &'a [Stmt],
 ) -> Result<(), AllocError>
     ensures { IfOk result (λ _. AddsNeeds found.old.items found.new.items

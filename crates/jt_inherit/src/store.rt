@@ -43,8 +43,8 @@ pub(crate) fn add_file(
     Ok(())
 }
 
-/// Returns the index of the template of this name, and reads the template if it was not read yet.
-pub(crate) fn read_place<L: Library>(
+/// Returns the index of the template `name`, and reads the template if it was not read yet.
+pub(crate) fn read_index<L: Library>(
     alloc: Global,
     names: &mut Names,
     files: &mut Vec<TemplateFile>,
@@ -58,16 +58,16 @@ pub(crate) fn read_place<L: Library>(
         files.new.items names.new) }
     ensures grown { OnOk result (Grow files.old.items files.new.items) }
     ensures from { OnOk result (AddsName names.old names.new name.now) }
-    ensures place { IfOk result
+    ensures index { IfOk result
         (λ i. slice_get (map (λ t. t.name) (files_view files.new.items)) i ≡ Some name.now) }
     ensures refused { IfErr result (λ e.
         IsFaultOf e (L.sources loader.now.library.now) name.now loader.now.options) }
 {
-    if let Some(place) = names.find(name) {
-        return Ok(place);
+    if let Some(index) = names.find(name) {
+        return Ok(index);
     }
-    let place = files.len();
+    let index = files.len();
     let file = read_file(alloc, name, loader)?;
     add_file(alloc, names, files, file)?;
-    Ok(place)
+    Ok(index)
 }

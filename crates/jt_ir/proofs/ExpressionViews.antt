@@ -1,13 +1,15 @@
 -- Each form of resolved expression has the view of its definition.
-use Rattle.std.proofs.Common.{◌≡◌, ℕ, ◌+◌, ◌<◌, List, [], ◌∷◌, ◌++◌, length, drop, get_or, map, refl, sym, ap, ◌∙◌}
-use Rattle.std.proofs.Common.{Bool, Vec, Box, Global, Option}
-use Rattle.std.proofs.lemmas.List.{drop_more}
+use Rattle.std.proofs.Common.{◌≡◌, ℕ, ◌+◌, ◌<◌, List, [], ◌∷◌, ◌++◌, length, take, drop, get_or, map, refl, sym}
+use Rattle.std.proofs.Common.{ap, ◌∙◌, Bool, Vec, Box, Global, Option}
+use Rattle.std.proofs.lemmas.List.{drop_more, take_more}
 use Rattle.jt_ir.specs.Slots as slots
 use Rattle.jt_ir.specs.Slots.{SRow, none}
 use Rattle.jt_ir.specs.View.{slot_view, nary_op_view, entry_front, row_front, expr_step, expr_view, row_view}
+use Rattle.jt_ir.specs.View.{filter_after, filters_after}
 use Rattle.jt_ir.specs.declared.program.Slot.{Slot}
 use Rattle.jt_ids.specs.declared.loop_field.LoopField.{LoopField}
 use Rattle.jt_ir.specs.declared.program.NaryOp.{NaryOp}
+use Rattle.jt_ir.specs.declared.program.SlotFilter.{SlotFilter}
 use Rattle.jt_ir.specs.declared.program.SlotExpr.{SlotExpr, fold-roll-SlotExpr}
 use Rattle.jt_ir.specs.declared.program.SlotExpr.TheOpen.{SlotExpr-F}
 use Rattle.jt_ir.specs.declared.program.SlotExpr.TheVariants as e
@@ -119,3 +121,16 @@ pub row_left : (es : List Entry) (i : ℕ) (e : Entry) → i < length es → e �
 row_left es i e lt is =
     ap (λ l. row_view l none) (drop_more es i e lt)
     ∙ ap (λ (x : Entry). entry_front x.0 (expr_view x.1) (row_view (drop (i + 1) es) none)) (sym is)
+
+-- ---- Filters of tags
+
+pub filters_push : (fs : List SlotFilter) (f : SlotFilter) (e : slots.SlotExpr ℕ)
+    → filters_after (fs ++ f ∷ []) e ≡ filter_after f (filters_after fs e)
+filters_push [] f e = refl
+filters_push (g ∷ fs) f e = filters_push fs f (filter_after g e)
+
+pub filters_next : (fs : List SlotFilter) (i : ℕ) (f : SlotFilter) (e : slots.SlotExpr ℕ) → i < length fs
+    → f ≡ get_or fs i f → filters_after (take (i + 1) fs) e ≡ filter_after f (filters_after (take i fs) e)
+filters_next fs i f e lt is =
+    ap (λ l. filters_after l e) (take_more fs i f lt) ∙ filters_push (take i fs) (get_or fs i f) e
+    ∙ ap (λ (g : SlotFilter). filter_after g (filters_after (take i fs) e)) (sym is)

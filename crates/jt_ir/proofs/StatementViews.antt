@@ -6,12 +6,13 @@ use Rattle.jt_ast.specs.Expressions.{Text}
 use Rattle.jt_ir.specs.Slots as slots
 use Rattle.jt_ir.specs.Slots.{SBody, none}
 use Rattle.jt_ir.specs.View.{Front, slot_view, targets_view, place_view, expr_view, row_view, body_front, choice_front}
-use Rattle.jt_ir.specs.View.{stmt_step, stmt_view, body_view, choice_view}
+use Rattle.jt_ir.specs.View.{filtered_view, stmt_step, stmt_view, body_view, choice_view}
 use Rattle.jt_ir.specs.declared.program.Place.{Place}
 use Rattle.jt_ir.specs.declared.program.Slot.{Slot}
 use Rattle.jt_ir.specs.declared.program.Targets.{Targets}
 use Rattle.jt_ir.specs.declared.program.SlotBranch.{SlotBranch}
 use Rattle.jt_ir.specs.declared.program.SlotExpr.{SlotExpr}
+use Rattle.jt_ir.specs.declared.program.Filtered.{Filtered}
 use Rattle.jt_ir.specs.declared.program.SlotStmt.{SlotStmt, the_lemmas, fold-roll-SlotStmt}
 use Rattle.jt_ir.specs.declared.program.SlotStmt.TheOpen.{SlotStmt-F}
 use Rattle.jt_ir.specs.declared.program.SlotStmt.TheVariants as s
@@ -73,10 +74,10 @@ module _ (templates : List Text) where
       → stmt_view templates (s.PutPooled i) behind ≡ slots.stmt (slots.put_pooled i) behind
   view_PutPooled i behind = search (rules, the_lemmas)
 
-  pub view_Print : (p : Place) (escaping : Bool) (e : SlotExpr) (behind : SBody ℕ)
-      → stmt_view templates (s.Print p escaping e) behind
-      ≡ slots.stmt (slots.print (place_view templates p) escaping (expr_view e)) behind
-  view_Print p escaping e behind = search (rules, the_lemmas)
+  pub view_Print : (p : Place) (escaping : Bool) (v : Filtered) (behind : SBody ℕ)
+      → stmt_view templates (s.Print p escaping v) behind
+      ≡ slots.stmt (slots.print (place_view templates p) escaping (filtered_view v)) behind
+  view_Print p escaping v behind = search (rules, the_lemmas)
 
   pub view_Assign : (p : Place) (xs : Targets) (e : SlotExpr) (behind : SBody ℕ)
       → stmt_view templates (s.Assign p xs e) behind

@@ -1,7 +1,6 @@
 -- The views of resolved templates, which contracts use in place of their layout in memory.
-use Rattle.std.specs.Prelude.{ℕ, List, [], ◌∷◌, map, string_bytes, Vec, Option, Some, None, option_map, slice_get}
+use Rattle.std.specs.Prelude.{ℕ, List, [], ◌∷◌, map, string_bytes, Option, Some, None, option_map, slice_get}
 use Rattle.std.specs.Prelude.{unwrap_or}
-use Rattle.std.specs.declared.alloc.Global.{Global}
 use Rattle.jt_value.specs.View.{view}
 use Rattle.jt_ids.specs.FilterTable.{filter_id}
 use Rattle.jt_ast.specs.Expressions.{Text}
@@ -18,6 +17,8 @@ use Rattle.jt_ir.specs.declared.program.Targets.TheVariants as t
 use Rattle.jt_ir.specs.declared.program.SlotBranch.{SlotBranch}
 use Rattle.jt_ir.specs.declared.program.SlotExpr.{SlotExpr, fold-SlotExpr}
 use Rattle.jt_ir.specs.declared.program.SlotExpr.TheOpen.{SlotExpr-F}
+use Rattle.jt_ir.specs.declared.program.SlotFilter.{SlotFilter}
+use Rattle.jt_ir.specs.declared.program.Filtered.{Filtered}
 use Rattle.jt_ir.specs.declared.program.SlotStmt.{SlotStmt, fold-SlotStmt}
 use Rattle.jt_ir.specs.declared.program.SlotStmt.TheOpen.{SlotStmt-F}
 use Rattle.jt_ir.specs.declared.program.Routine.{Routine}
@@ -68,6 +69,19 @@ abbrev pub row_view : List (Option ℕ × SlotExpr) → SRow ℕ → SRow ℕ
 row_view [] behind = behind
 row_view (e ∷ es) behind = entry_front e.0 (expr_view e.1) (row_view es behind)
 
+-- The expression after one more filter of a tag, and after filters in order.
+abbrev pub filter_after : SlotFilter → slots.SlotExpr ℕ → slots.SlotExpr ℕ
+filter_after f e =
+    slots.made (slots.filter (filter_id f.filter) f.escaping)
+    (slots.item e (row_view f.row.items slots.none))
+
+abbrev pub filters_after : List SlotFilter → slots.SlotExpr ℕ → slots.SlotExpr ℕ
+filters_after [] e = e
+filters_after (f ∷ fs) e = filters_after fs (filter_after f e)
+
+abbrev pub filtered_view : Filtered → slots.SlotExpr ℕ
+filtered_view v = filters_after v.filters.items (expr_view v.value)
+
 -- A function that puts statements before a body.
 abbrev pub Front : Type 0
 Front = SBody ℕ → SBody ℕ
@@ -92,8 +106,8 @@ module _ (templates : List Text) where
   -- The view of a statement, from the views of its parts.
   abbrev pub stmt_step : SlotStmt-F Front → Front
   stmt_step (SlotStmt-F.PutPooled i) behind = slots.stmt (slots.put_pooled i) behind
-  stmt_step (SlotStmt-F.Print p escaping e) behind =
-      slots.stmt (slots.print (place_view p) escaping (expr_view e)) behind
+  stmt_step (SlotStmt-F.Print p escaping v) behind =
+      slots.stmt (slots.print (place_view p) escaping (filtered_view v)) behind
   stmt_step (SlotStmt-F.Assign p xs e) behind =
       slots.stmt (slots.assign (place_view p) (targets_view xs) (expr_view e)) behind
   stmt_step (SlotStmt-F.If bs other) behind = choice_front bs.items (body_front other.items) behind

@@ -6,4 +6,7 @@
 
 mod program;
 
-pub use program::{NaryOp, Place, Program, Routine, Slot, SlotBranch, SlotExpr, SlotStmt, Targets};
+pub use program::{
+    Filtered, NaryOp, Place, Program, Routine, Slot, SlotBranch, SlotExpr, SlotFilter, SlotStmt,
+    Targets,
+};

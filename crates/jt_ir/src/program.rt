@@ -69,6 +69,22 @@ pub enum SlotExpr {
     },
 }
 
+/// A filter of a tag: the filter, whether escaping is on, and the arguments after its value.
+#[derive(Drop)]
+pub struct SlotFilter {
+    pub filter: FilterId,
+    pub escaping: bool,
+    pub row: Vec<(Option<usize>, SlotExpr)>,
+}
+
+/// A printed expression: a value and the filters of its tag, which are applied in order. A tag may
+/// have any number of filters, so they are a list, and no walk needs more stack for more of them.
+#[derive(Drop)]
+pub struct Filtered {
+    pub value: SlotExpr,
+    pub filters: Vec<SlotFilter>,
+}
+
 /// The target of an assignment.
 #[derive(Debug, Drop)]
 pub enum Targets {
@@ -96,7 +112,7 @@ pub enum SlotStmt {
     Print {
         place: Place,
         escaping: bool,
-        value: SlotExpr,
+        value: Filtered,
     },
     /// A statement that assigns a value to targets.
     Assign {

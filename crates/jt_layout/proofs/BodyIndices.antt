@@ -10,7 +10,7 @@ use Rattle.jt_chains.specs.Parts.{block_view}
 use Rattle.jt_chains.specs.declared.parts.Block.{Block}
 use Rattle.jt_semantics.specs.Layout.{counted_from}
 use Rattle.jt_semantics.specs.Resolve.{next_given}
-use Rattle.jt_layout.specs.internal.Places.{nexts}
+use Rattle.jt_layout.specs.internal.Indices.{nexts}
 
 pub length-counted : {A : Type 0} (n : ℕ) (xs : List A) → length (counted_from n xs) ≡ length xs
 length-counted n [] = refl

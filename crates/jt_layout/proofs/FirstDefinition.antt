@@ -8,7 +8,7 @@ use Rattle.jt_chains.specs.Chain as chain
 use Rattle.jt_chains.specs.Chain.{Namespace, Template, given_to}
 use Rattle.jt_chains.specs.Named.{given_view, names_view}
 use Rattle.jt_chains.specs.declared.definitions.DefinedName.{DefinedName}
-use Rattle.jt_layout.specs.internal.Places.{first_of}
+use Rattle.jt_layout.specs.internal.Indices.{first_of}
 
 module _ (ts : List Template) (h : Namespace) (x : Text) where
   -- The first definition of the name, at its index.

@@ -8,8 +8,8 @@ use Rattle.jt_ast.specs.StatementView.{parameters_view}
 use Rattle.jt_chains.specs.Chain.{Namespace, Template, macro_of}
 use Rattle.jt_chains.specs.Parts.{macro_view}
 use Rattle.jt_chains.specs.declared.parts.Macro.{Macro}
-use Rattle.jt_semantics.specs.Layout.{Key, of_macro, place_of, first_default}
-use Rattle.jt_layout.specs.internal.Places.{first_of, defaults_from}
+use Rattle.jt_semantics.specs.Layout.{Key, of_macro, index_of, first_default}
+use Rattle.jt_layout.specs.internal.Indices.{first_of, defaults_from}
 use Rattle.jt_layout.proofs.NamespacesByName.{itself}
 
 module _ (ts : List Template) (x : Text) where
@@ -22,7 +22,7 @@ module _ (ts : List Template) (x : Text) where
     pub default : (d : ℕ)
         → slice_get (defaults_from d (map (macro_view ts) ms)) j ≡ Some (d + first_default x (map (macro_view ts) ms))
     pub unit : (h : Namespace) (rest : List Key)
-        → place_of (of_macro h x) (map (λ m. of_macro h m.name) (map (macro_view ts) ms) ++ rest) ≡ j
+        → index_of (of_macro h x) (map (λ m. of_macro h m.name) (map (macro_view ts) ms) ++ rest) ≡ j
 
   pub first_macro : (ms : List Macro) (n i : ℕ) → first_of x n (map (λ m. m.name.now) ms) ≡ Some i
       → (j : ℕ) × (i ≡ n + j) × AtFirst ms j
@@ -55,10 +55,10 @@ module _ (ts : List Template) (x : Text) where
                   ∙ ap (λ c. Some (d + (if c then 0 else size + front))) (sym q);
               unit =
                   λ h ks. ap (λ a. if a && bytes_eq m.name.now x then 0
-                  else suc (place_of (of_macro h x) (map (λ k. of_macro h k.name) (map (macro_view ts) ms) ++ ks)))
+                  else suc (index_of (of_macro h x) (map (λ k. of_macro h k.name) (map (macro_view ts) ms) ++ ks)))
                   (itself h)
                   ∙ ap (λ a. if a then 0
-                  else suc (place_of (of_macro h x) (map (λ k. of_macro h k.name) (map (macro_view ts) ms) ++ ks))) q;
+                  else suc (index_of (of_macro h x) (map (λ k. of_macro h k.name) (map (macro_view ts) ms) ++ ks))) q;
             },
           )
       by false q g =
@@ -76,10 +76,10 @@ module _ (ts : List Template) (x : Text) where
                   ∙ ap (λ c. Some (d + (if c then 0 else size + front))) (sym q);
               unit =
                   λ h ks. ap (λ a. if a && bytes_eq m.name.now x then 0
-                  else suc (place_of (of_macro h x) (map (λ k. of_macro h k.name) (map (macro_view ts) ms) ++ ks)))
+                  else suc (index_of (of_macro h x) (map (λ k. of_macro h k.name) (map (macro_view ts) ms) ++ ks)))
                   (itself h)
                   ∙ ap (λ a. if a then 0
-                  else suc (place_of (of_macro h x) (map (λ k. of_macro h k.name) (map (macro_view ts) ms) ++ ks))) q
+                  else suc (index_of (of_macro h x) (map (λ k. of_macro h k.name) (map (macro_view ts) ms) ++ ks))) q
                   ∙ ap suc (r.2.unit h ks);
             },
           )

@@ -8,13 +8,13 @@ use Rattle.std.specs.Str.{bytes_eq}
 use denote.Ref.{Bor}
 use Rattle.jt_ast.specs.Expressions.{Text}
 use Rattle.jt_chains.specs.Chain.{Namespace, a_chain, same_namespace, listed, Template, BlockBody, sources_in}
-use Rattle.jt_chains.specs.Places.{namespace_at}
+use Rattle.jt_chains.specs.Indices.{namespace_at}
 use Rattle.jt_ir.specs.Slots.{global}
 use Rattle.jt_semantics.specs.Layout.{slot_in, globals_from, counted_from}
 use Rattle.jt_semantics.specs.Resolve.{first_body}
 use Rattle.jt_ast.specs.Texts.{texts}
 use Rattle.jt_layout.specs.NamespaceLayout.{IsNamespaceAt}
-use Rattle.jt_layout.specs.internal.Places.{first_of, first_namespace}
+use Rattle.jt_layout.specs.internal.Indices.{first_of, first_namespace}
 use Rattle.jt_layout.proofs.NamespacesByName.{same_is}
 
 pub or_right : (a b : Bool) → b ≡ true → (a || b) ≡ true

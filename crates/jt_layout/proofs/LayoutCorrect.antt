@@ -12,7 +12,7 @@ use Rattle.jt_chains.specs.Includes.{InOrder}
 use Rattle.jt_chains.specs.Named.{names_view}
 use Rattle.jt_chains.specs.TemplateFiles.{namespace_view, file_view, files_view}
 use Rattle.jt_chains.specs.Parts.{macro_view, block_view}
-use Rattle.jt_chains.specs.Places.{namespace_at}
+use Rattle.jt_chains.specs.Indices.{namespace_at}
 use Rattle.jt_chains.specs.Uses as uses
 use Rattle.jt_chains.specs.View.{chain_view, namespace_in, sources_of}
 use Rattle.jt_chains.specs.declared.chain.Chain.{Chain}
@@ -21,13 +21,13 @@ use Rattle.jt_chains.specs.declared.parts.Block.{Block}
 use Rattle.jt_rules.specs.CompileEnv.{CompileEnv}
 use Rattle.jt_ir.specs.Slots.{global}
 use Rattle.jt_semantics.specs.Layout.{in_globals, slot_in, globals_from, counted_from, of_macro, of_body, entry_keys}
-use Rattle.jt_semantics.specs.Layout.{place_of, first_default, default_place, numbered_of, names, block_parameters}
+use Rattle.jt_semantics.specs.Layout.{index_of, first_default, default_index, numbered_of, names, block_parameters}
 use Rattle.jt_semantics.specs.Layout.{is_scoped, unit, defaults_of}
 use Rattle.jt_semantics.specs.Resolve.{first_body}
 use Rattle.jt_layout.specs.internal.Front.{Stands}
 use Rattle.jt_layout.specs.internal.Namespaces.{its_cenv, its_order}
 use Rattle.jt_layout.specs.NamespaceLayout.{is_library, IsCalled, IsGiven}
-use Rattle.jt_layout.specs.internal.Places.{namespace_named, first_of, defaults_from, nexts}
+use Rattle.jt_layout.specs.internal.Indices.{namespace_named, first_of, defaults_from, nexts}
 use Rattle.jt_layout.specs.declared.front.FirstFree.{FirstFree}
 use Rattle.jt_layout.specs.declared.namespace_layout.NamespaceLayout.{NamespaceLayout}
 use Rattle.jt_layout.proofs.BodyIndices.{length-counted, length-nexts}
@@ -98,7 +98,7 @@ module _ (c : Chain) (i : ℕ) (lt : i < length c.namespaces.items) (f : FirstFr
           let is : k ≡ r.0 = omega (arith, r.1) in
           let name : x ≡ a.code.name.now = sym (same a.code.name.now x a.named) in
           let keyed = macro_unit W O h rest f s x r.0
-          (λ ks. ap (λ ms. place_of (of_macro h x) (map (λ (m : MacroBody). of_macro h m.name) ms ++ ks)) (sym all)
+          (λ ks. ap (λ ms. index_of (of_macro h x) (map (λ (m : MacroBody). of_macro h m.name) ms ++ ks)) (sym all)
           ∙ a.unit h ks) in
           record {
             code = a.code;
@@ -108,7 +108,7 @@ module _ (c : Chain) (i : ℕ) (lt : i < length c.namespaces.items) (f : FirstFr
                 ap (λ ds. slice_get ds k) defaults ∙ ap (λ ms. slice_get (defaults_from f.default ms) k) (sym all)
                 ∙ ap (slice_get (defaults_from f.default (map (macro_view ts) l.macros.items))) is ∙ a.default f.default
                 ∙ ap (λ ms. Some (f.default + first_default x ms)) all ∙ ap Some (sym (default_here W O h rest f s x))
-                ∙ ap (λ y. Some (default_place W O h y)) name;
+                ∙ ap (λ y. Some (default_index W O h y)) name;
             macro_unit =
                 (let sum : l.macro_unit + k ≡ f.unit + (length (entry_keys W h) + r.0) = omega (arith, units, is) in
                 sum)

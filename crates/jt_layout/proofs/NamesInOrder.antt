@@ -13,12 +13,12 @@ use Rattle.jt_ast.specs.Texts.{all_inserted, ascending, texts}
 use Rattle.jt_chains.specs.Chain.{Namespace, a_chain, a_library, same_namespace, Sources, templates}
 use Rattle.jt_chains.specs.Includes.{included, needs_in, with_source}
 use Rattle.jt_chains.specs.Needs.{needed, needs_view}
-use Rattle.jt_chains.specs.Places.{namespace_at}
+use Rattle.jt_chains.specs.Indices.{namespace_at}
 use Rattle.jt_chains.specs.Uses.{own_names}
-use Rattle.jt_chains.specs.declared.includes.Include.{Include}
+use Rattle.jt_chains.specs.declared.include_tags.NeededTemplate.{NeededTemplate}
 use Rattle.jt_rules.specs.CompileEnv.{CompileEnv}
 use Rattle.jt_semantics.specs.Layout.{in_globals, names_in}
-use Rattle.jt_layout.specs.internal.Places.{all_names, texts_of}
+use Rattle.jt_layout.specs.internal.Indices.{all_names, texts_of}
 use Rattle.jt_layout.proofs.FirstOccurrences.{namespaces_left}
 use Rattle.jt_layout.proofs.NamespacesByName.{same}
 use Rattle.jt_names.proofs.SortedNames.{inserted_both, name_cmp, key_inserted}
@@ -41,11 +41,12 @@ names_put false v o = refl
 some_from_none : {A B : Type 0} (o : Option A) (p : Option B) → is_none o ≡ is_none p → is_some o ≡ is_some p
 some_from_none a0 a1 e = search (arith, rules)
 
-module _ (N : Text → List Text) (sources : Sources) (ks : List Include) (i : ℕ) (d : Include) (lt : i < length ks) where
+module _ (N : Text → List Text) (sources : Sources) (ks : List NeededTemplate) (i : ℕ) (d : NeededTemplate)
+    (lt : i < length ks) where
   abbrev k : Text
   k = (get_or ks i d).name.now
 
-  abbrev pub those : List Include → List Text
+  abbrev pub those : List NeededTemplate → List Text
   those l = flat_map N (with_source sources (needed true (needs_view l)))
 
   here : those (drop i ks) ≡ flat_map N (cond (is_some (sources k))

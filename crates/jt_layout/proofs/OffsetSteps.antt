@@ -7,8 +7,8 @@ use Rattle.jt_ast.specs.Expressions.{Text}
 use Rattle.jt_chains.specs.Chain.{Namespace, a_chain, a_library, same_namespace, listed, BlockBody, MacroBody, macros}
 use Rattle.jt_chains.specs.Chain.{all_bodies}
 use Rattle.jt_rules.specs.CompileEnv.{CompileEnv}
-use Rattle.jt_semantics.specs.Layout.{Key, of_chain, of_macro, of_body, same_key, place_of, entry_keys, chain_keys}
-use Rattle.jt_semantics.specs.Layout.{unit, names, counted_from, numbered_bodies, first_slot, default_place}
+use Rattle.jt_semantics.specs.Layout.{Key, of_chain, of_macro, of_body, same_key, index_of, entry_keys, chain_keys}
+use Rattle.jt_semantics.specs.Layout.{unit, names, counted_from, numbered_bodies, first_slot, default_index}
 use Rattle.jt_semantics.specs.Layout.{defaults_of, first_default}
 use Rattle.jt_layout.specs.internal.Front.{namespace_of, Stands}
 use Rattle.jt_layout.specs.declared.front.FirstFree.{FirstFree}
@@ -35,24 +35,24 @@ body_apart : (h : Namespace) (n : ℕ) (k : Key) → same_namespace h (namespace
     → same_key (of_body h n) k ≡ false
 body_apart h n a2 e = search (arith, rules)
 
-passed : (j k : Key) (ks : List Key) → same_key j k ≡ false → place_of k (j ∷ ks) ≡ suc (place_of k ks)
-passed j k ks e = ap (λ b. if b then 0 else suc (place_of k ks)) e
+passed : (j k : Key) (ks : List Key) → same_key j k ≡ false → index_of k (j ∷ ks) ≡ suc (index_of k ks)
+passed j k ks e = ap (λ b. if b then 0 else suc (index_of k ks)) e
 
 entries_passed : (w : CompileEnv) (h : Namespace) (k : Key) → same_namespace h (namespace_of k) ≡ false
-    → (rest : List Key) → place_of k (entry_keys w h ++ rest) ≡ length (entry_keys w h) + place_of k rest
+    → (rest : List Key) → index_of k (entry_keys w h ++ rest) ≡ length (entry_keys w h) + index_of k rest
 entries_passed w (a_chain n) k e rest = passed (of_chain n) k rest (chain_apart n k e) ∙ omega arith
 entries_passed w (a_library n) k e rest = omega arith
 
 module _ (h : Namespace) (k : Key) (e : same_namespace h (namespace_of k) ≡ false) where
   macros_passed : (ms : List MacroBody) (rest : List Key)
-      → place_of k (map (λ m. of_macro h m.name) ms ++ rest) ≡ length ms + place_of k rest
+      → index_of k (map (λ m. of_macro h m.name) ms ++ rest) ≡ length ms + index_of k rest
   macros_passed [] rest = omega arith
   macros_passed (m ∷ ms) rest =
       passed (of_macro h m.name) k (map (λ m. of_macro h m.name) ms ++ rest) (macro_apart h m.name k e)
       ∙ omega (arith, macros_passed ms rest)
 
   bodies_passed : (bs : List (ℕ × BlockBody)) (rest : List Key)
-      → place_of k (map (λ b. of_body h b.0) bs ++ rest) ≡ length bs + place_of k rest
+      → index_of k (map (λ b. of_body h b.0) bs ++ rest) ≡ length bs + index_of k rest
   bodies_passed [] rest = omega arith
   bodies_passed (b ∷ bs) rest =
       passed (of_body h b.0) k (map (λ b. of_body h b.0) bs ++ rest) (body_apart h b.0 k e)
@@ -62,18 +62,18 @@ module _ (h : Namespace) (k : Key) (e : same_namespace h (namespace_of k) ≡ fa
 
 -- Macros and bodies have other keys than chains.
 entries_before_macro : (w : CompileEnv) (g h : Namespace) (x : Text) (rest : List Key)
-    → place_of (of_macro h x) (entry_keys w g ++ rest) ≡ length (entry_keys w g) + place_of (of_macro h x) rest
+    → index_of (of_macro h x) (entry_keys w g ++ rest) ≡ length (entry_keys w g) + index_of (of_macro h x) rest
 entries_before_macro w (a_chain n) h x rest = omega arith
 entries_before_macro w (a_library n) h x rest = omega arith
 
 entries_before_body : (w : CompileEnv) (g h : Namespace) (i : ℕ) (rest : List Key)
-    → place_of (of_body h i) (entry_keys w g ++ rest) ≡ length (entry_keys w g) + place_of (of_body h i) rest
+    → index_of (of_body h i) (entry_keys w g ++ rest) ≡ length (entry_keys w g) + index_of (of_body h i) rest
 entries_before_body w (a_chain n) h i rest = omega arith
 entries_before_body w (a_library n) h i rest = omega arith
 
 -- Macros have other keys than bodies.
 macros_before : (h : Namespace) (i : ℕ) (ms : List MacroBody) (rest : List Key)
-    → place_of (of_body h i) (map (λ m. of_macro h m.name) ms ++ rest) ≡ length ms + place_of (of_body h i) rest
+    → index_of (of_body h i) (map (λ m. of_macro h m.name) ms ++ rest) ≡ length ms + index_of (of_body h i) rest
 macros_before h i [] rest = omega arith
 macros_before h i (m ∷ ms) rest = omega (arith, macros_before h i ms rest)
 
@@ -84,7 +84,7 @@ different_numbers : (n i : ℕ) → (n == (n + suc i)) ≡ false
 different_numbers n i = search rules
 
 body_at : (h : Namespace) (n i : ℕ) (bs : List BlockBody) (rest : List Key) → i < length bs
-    → place_of (of_body h (n + i)) (map (λ b. of_body h b.0) (counted_from n bs) ++ rest) ≡ i
+    → index_of (of_body h (n + i)) (map (λ b. of_body h b.0) (counted_from n bs) ++ rest) ≡ i
 body_at h n i [] rest lt = absurd (omega arith)
 body_at h n zero (b ∷ bs) rest lt = search (arith, rules, itself, equal_numbers)
 body_at h n (suc i) (b ∷ bs) rest lt =
@@ -114,37 +114,37 @@ module _ (cenv : CompileEnv) (h : Namespace) where
 
   -- The keys of another namespace come after them.
   pub others : (k : Key) (rest : List Key) → same_namespace h (namespace_of k) ≡ false
-      → place_of k (chain_keys cenv h ++ rest) ≡ length (chain_keys cenv h) + place_of k rest
+      → index_of k (chain_keys cenv h ++ rest) ≡ length (chain_keys cenv h) + index_of k rest
   others k rest e =
       search (arith, rules, entries_passed, macros_passed, bodies_passed, in_parts, count_keys, length-counted)
 
   pub macro_key : (x : Text) (j : ℕ) (rest : List Key)
-      → ((ks : List Key) → place_of (of_macro h x) (macro_keys ++ ks) ≡ j)
-      → place_of (of_macro h x) (chain_keys cenv h ++ rest) ≡ length (entry_keys cenv h) + j
+      → ((ks : List Key) → index_of (of_macro h x) (macro_keys ++ ks) ≡ j)
+      → index_of (of_macro h x) (chain_keys cenv h ++ rest) ≡ length (entry_keys cenv h) + j
   macro_key x j rest f =
-      ap (place_of (of_macro h x)) (in_parts rest) ∙ entries_before_macro cenv h h x (macro_keys ++ (body_keys ++ rest))
+      ap (index_of (of_macro h x)) (in_parts rest) ∙ entries_before_macro cenv h h x (macro_keys ++ (body_keys ++ rest))
       ∙ ap (λ n. length (entry_keys cenv h) + n) (f (body_keys ++ rest))
 
   pub body_key : (i : ℕ) (rest : List Key) → i < length bs
-      → place_of (of_body h i) (chain_keys cenv h ++ rest) ≡ length (entry_keys cenv h) + (length ms + i)
+      → index_of (of_body h i) (chain_keys cenv h ++ rest) ≡ length (entry_keys cenv h) + (length ms + i)
   body_key i rest lt =
       let is : i ≡ 0 + i = omega arith in
-      ap (place_of (of_body h i)) (in_parts rest) ∙ entries_before_body cenv h h i (macro_keys ++ (body_keys ++ rest))
+      ap (index_of (of_body h i)) (in_parts rest) ∙ entries_before_body cenv h h i (macro_keys ++ (body_keys ++ rest))
       ∙ ap (λ n. length (entry_keys cenv h) + n)
       (macros_before h i ms (body_keys ++ rest)
-      ∙ ap (λ n. length ms + n) (ap (λ n. place_of (of_body h n) (body_keys ++ rest)) is ∙ body_at h 0 i bs rest lt))
+      ∙ ap (λ n. length ms + n) (ap (λ n. index_of (of_body h n) (body_keys ++ rest)) is ∙ body_at h 0 i bs rest lt))
 
 pub chain_key : (cenv : CompileEnv) (n : Text) (rest : List Key)
-    → place_of (of_chain n) (chain_keys cenv (a_chain n) ++ rest) ≡ 0
+    → index_of (of_chain n) (chain_keys cenv (a_chain n) ++ rest) ≡ 0
 chain_key cenv n rest =
     ap (λ b.
-    if b then 0 else suc (place_of (of_chain n) ((macro_keys cenv (a_chain n) ++ body_keys cenv (a_chain n)) ++ rest)))
+    if b then 0 else suc (index_of (of_chain n) ((macro_keys cenv (a_chain n) ++ body_keys cenv (a_chain n)) ++ rest)))
     (reflexive n)
 
 -- ---- the first of the remaining namespaces
 
 module _ (cenv : CompileEnv) (order : List Namespace) where
-  -- No number is used before the first chain; the place 0 of the pool holds the undefined value.
+  -- No number is used before the first chain; the index 0 of the pool holds the undefined value.
   pub first_front : (f : FirstFree) → f.slot ≡ 0 → f.unit ≡ 0 → f.default ≡ 1 → Stands cenv order order f
   first_front f p q r = search (arith, rules)
 
@@ -161,7 +161,7 @@ module _ (cenv : CompileEnv) (order : List Namespace) where
     pub chain_unit : (n : Text) → h ≡ a_chain n → unit cenv order (of_chain n) ≡ f.unit
     chain_unit n e = search (arith, rules, here, chain_key)
 
-    pub macro_unit : (x : Text) (j : ℕ) → ((ks : List Key) → place_of (of_macro h x) (macro_keys cenv h ++ ks) ≡ j)
+    pub macro_unit : (x : Text) (j : ℕ) → ((ks : List Key) → index_of (of_macro h x) (macro_keys cenv h ++ ks) ≡ j)
         → unit cenv order (of_macro h x) ≡ f.unit + (length (entry_keys cenv h) + j)
     macro_unit x j g = omega (arith, s.units (of_macro h x) here, macro_key cenv h x j behind g)
 
@@ -169,7 +169,7 @@ module _ (cenv : CompileEnv) (order : List Namespace) where
         → unit cenv order (of_body h i) ≡ f.unit + (length (entry_keys cenv h) + (length (macros cenv.sources h) + i))
     body_unit i lt = omega (arith, s.units (of_body h i) here, body_key cenv h i behind lt)
 
-    pub default_here : (x : Text) → default_place cenv order h x ≡ f.default + first_default x (macros cenv.sources h)
+    pub default_here : (x : Text) → default_index cenv order h x ≡ f.default + first_default x (macros cenv.sources h)
     default_here x = search (arith, rules, itself, here)
 
     -- The first free numbers of the next namespace.

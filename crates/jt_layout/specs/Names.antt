@@ -7,5 +7,5 @@ use denote.Ref.{Bor}
 use Rattle.jt_ast.specs.Expressions.{Text}
 
 -- The number of a name.
-abbrev pub place_in : BTreeMap (Bor Text) ℕ → Text → Option ℕ
-place_in m x = get_by (λ k. slice_cmp nat_cmp x k.now) m
+abbrev pub index_in : BTreeMap (Bor Text) ℕ → Text → Option ℕ
+index_in m x = get_by (λ k. slice_cmp nat_cmp x k.now) m

@@ -8,16 +8,16 @@ use Rattle.jt_chains.specs.Chain.{Namespace, a_chain, a_library, listed, Templat
 use Rattle.jt_chains.specs.Chain.{given_to, all_bodies}
 use Rattle.jt_chains.specs.Named.{given_view, names_view}
 use Rattle.jt_chains.specs.Parts.{macro_view, block_view}
-use Rattle.jt_chains.specs.Places.{namespace_at}
+use Rattle.jt_chains.specs.Indices.{namespace_at}
 use Rattle.jt_chains.specs.View.{chain_view}
 use Rattle.jt_chains.specs.declared.definitions.DefinedName.{DefinedName}
 use Rattle.jt_chains.specs.declared.parts.Macro.{Macro}
 use Rattle.jt_rules.specs.CompileEnv.{CompileEnv, cenv_of}
 use Rattle.jt_ir.specs.Slots.{global}
 use Rattle.jt_semantics.specs.Layout.{slot_in, globals, of_chain, of_macro, of_body, keys, names, numbered_of}
-use Rattle.jt_semantics.specs.Layout.{numbered_bodies, first_slot, unit, default_place, block_parameters}
+use Rattle.jt_semantics.specs.Layout.{numbered_bodies, first_slot, unit, default_index, block_parameters}
 use Rattle.jt_semantics.specs.Resolve.{first_body, next_given}
-use Rattle.jt_layout.specs.Names.{place_in}
+use Rattle.jt_layout.specs.Names.{index_in}
 use Rattle.jt_ast.specs.Texts.{texts}
 use Rattle.jt_layout.specs.declared.namespace_layout.NamespaceLayout.{NamespaceLayout}
 use Rattle.jt_layout.specs.declared.namespace_tables.NamespaceTables.{NamespaceTables}
@@ -34,7 +34,7 @@ module _ (cenv : CompileEnv) (order : List Namespace) (templates : List Template
     pub found : slice_get layout.macros.items i ≡ Some code
     pub meant : macro_of name (macros cenv.sources namespace) ≡ Some (macro_view templates code)
     pub first_default :
-        slice_get layout.defaults.items i ≡ Some (default_place cenv order namespace code.name.now)
+        slice_get layout.defaults.items i ≡ Some (default_index cenv order namespace code.name.now)
     pub macro_unit : layout.macro_unit + i ≡ unit cenv order (of_macro namespace code.name.now)
 
   abbrev pub IsCalled : Text → Option ℕ → Type 0
@@ -56,18 +56,19 @@ module _ (cenv : CompileEnv) (order : List Namespace) (templates : List Template
     pub kind : layout.is_library ≡ is_library namespace
     pub named : texts layout.names.items ≡ names cenv order namespace
     pub in_slots : (name : Text)
-        → option_map global (place_in layout.slots.places name) ≡ slot_in name (globals cenv order namespace)
+        → option_map global (index_in layout.slots.indices name) ≡ slot_in name (globals cenv order namespace)
     pub from : layout.first_slot ≡ first_slot cenv order namespace
     pub chain_unit : (n : Text) → namespace ≡ a_chain n → layout.unit ≡ unit cenv order (of_chain n)
     pub all_macros : map (macro_view templates) layout.macros.items ≡ macros cenv.sources namespace
-    pub by_names : (name : Text) → IsCalled name (place_in layout.called.places name)
+    pub by_names : (name : Text) → IsCalled name (index_in layout.called.indices name)
     pub all_given : names_view templates namespace layout.given.items ≡ given cenv.sources namespace
-    pub given_names : (name : Text) → IsGiven name (place_in layout.given_places.places name)
+    pub given_names : (name : Text) → IsGiven name (index_in layout.given_indices.indices name)
     pub all_blocks :
         map (block_view templates) layout.blocks.items ≡ all_bodies cenv.sources cenv.escaping namespace
     pub body_units : (i : ℕ) → i < length layout.blocks.items
         → layout.body_unit + i ≡ unit cenv order (of_body namespace i)
-    pub firsts : (name : Text) → place_in layout.first_bodies.places name ≡ first_body (numbered_of cenv namespace name)
+    pub firsts : (name : Text) → index_in layout.first_bodies.indices name ≡ first_body
+        (numbered_of cenv namespace name)
     pub nexts : (i : ℕ) (n : Option ℕ) → slice_get layout.next_bodies.items i ≡ Some n
         → (body : BlockBody) (rest : List (ℕ × BlockBody))
         → drop i (numbered_bodies cenv namespace) ≡ (i, body) ∷ rest
@@ -75,7 +76,7 @@ module _ (cenv : CompileEnv) (order : List Namespace) (templates : List Template
     pub all_next : length layout.next_bodies.items ≡ length layout.blocks.items
     pub scoped : (name : Text)
         → block_parameters cenv order namespace name
-        ≡ (if is_some (place_in layout.scoped.places name) then texts layout.scope_names.items else [])
+        ≡ (if is_some (index_in layout.scoped.indices name) then texts layout.scope_names.items else [])
 
 -- A chain or a library, by its index in the order.
 abbrev pub IsNamespaceAt : List Namespace → Namespace → Option ℕ → Type 0
@@ -93,9 +94,9 @@ pub record IsLaidOut (tables : NamespaceTables) : Type 0 where
   pub all_units :
       tables.units ≡ length (keys (cenv_of (chain_view tables.chain.now)) (chain_view tables.chain.now).order)
   pub chains : (name : Text)
-      → IsNamespaceAt (chain_view tables.chain.now).order (a_chain name) (place_in tables.places.places name)
+      → IsNamespaceAt (chain_view tables.chain.now).order (a_chain name) (index_in tables.indices.indices name)
   pub libraries : (name : Text)
-      → IsNamespaceAt (chain_view tables.chain.now).order (a_library name) (place_in tables.libraries.places name)
+      → IsNamespaceAt (chain_view tables.chain.now).order (a_library name) (index_in tables.libraries.indices name)
   pub sources : (name : Text)
-      → is_none (place_in tables.sources.places name)
+      → is_none (index_in tables.sources.indices name)
       ≡ is_none ((cenv_of (chain_view tables.chain.now)).sources name)

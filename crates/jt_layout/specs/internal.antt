@@ -1,3 +1,3 @@
 pub mod Front
 pub mod Namespaces
-pub mod Places
+pub mod Indices

@@ -12,8 +12,8 @@ ghost use Rattle.jt_semantics.specs.Layout.{counted_from, is_scoped};
 ghost use Rattle.jt_ast.specs.Texts.{texts};
 ghost use Rattle.jt_chains.specs.View.{namespace_in, its_sources, its_templates};
 ghost use Rattle.jt_layout.specs.internal.Namespaces.{its_cenv, its_bodies};
-ghost use Rattle.jt_layout.specs.Names.{place_in};
-ghost use Rattle.jt_layout.specs.internal.Places.{nexts, ArePlaces};
+ghost use Rattle.jt_layout.specs.Names.{index_in};
+ghost use Rattle.jt_layout.specs.internal.Indices.{nexts, AreIndices};
 
 use crate::index::NameIndex;
 use crate::lists::{block_names, list_of};
@@ -24,7 +24,7 @@ use std::alloc::Global;
 
 /// Returns the index of the first body of each block, by the name of the block.
 fn first_bodies<'a>(alloc: Global, blocks: &[Block<'a>]) -> Result<NameIndex<'a>, NoMemory>
-    ensures { IfOk result (λ i. ArePlaces 0 (map (λ k. k.name.now) blocks.now) i.places) }
+    ensures { IfOk result (λ i. AreIndices 0 (map (λ k. k.name.now) blocks.now) i.indices) }
 {
     let names = block_names(alloc, blocks)?;
     NameIndex::of(alloc, &names, 0)
@@ -41,7 +41,7 @@ fn next_bodies(alloc: Global, blocks: &[Block<'_>]) -> Result<Vec<Option<usize>>
     while left > 0 {
         left -= 1;
         let block = &blocks[left];
-        next[left] = given.place(block.name);
+        next[left] = given.index_of(block.name);
         if block.required {
             continue;
         }
@@ -53,7 +53,7 @@ fn next_bodies(alloc: Global, blocks: &[Block<'_>]) -> Result<Vec<Option<usize>>
 /// Returns the names of the blocks that have a `scoped` tag.
 fn scoped_blocks<'a>(alloc: Global, blocks: &[Block<'a>]) -> Result<NameIndex<'a>, NoMemory>
     ensures { IfOk result (λ i. (ts : List Template) (x : Text)
-        → is_some (place_in i.places x)
+        → is_some (index_in i.indices x)
         ≡ list_any (λ b. b.scoped && bytes_eq b.name x) (map (block_view ts) blocks.now)) }
 {
     let mut scoped = NameIndex::new(alloc);
@@ -76,7 +76,7 @@ pub(crate) struct Bodies<'a> {
     pub(crate) nexts: Vec<Option<usize>>,
     /// The names that the chain's scopes bind.
     pub(crate) scope_names: Vec<&'a str>,
-    /// The blocks that have these names as parameters.
+    /// The blocks that have `scope_names` as parameters.
     pub(crate) scoped: NameIndex<'a>,
 }
 
@@ -90,12 +90,12 @@ pub(crate) fn bodies_of<'a>(
     ensures all { IfOk result
         (λ b. blocks_view (its_templates chain.now) b.all.items ≡ its_bodies chain.now namespace) }
     ensures firsts { IfOk result
-        (λ b. ArePlaces 0 (map (λ k. k.name.now) b.all.items) b.firsts.places) }
+        (λ b. AreIndices 0 (map (λ k. k.name.now) b.all.items) b.firsts.indices) }
     ensures nexts { IfOk result
         (λ b. b.nexts.items ≡ nexts (counted_from 0 (its_bodies chain.now namespace))) }
     ensures names { IfOk result (λ b. texts b.scope_names.items
         ≡ uses.scope_names (its_sources chain.now) (namespace_in chain.now namespace)) }
-    ensures scoped { IfOk result (λ b. (x : Text) → is_some (place_in b.scoped.places x)
+    ensures scoped { IfOk result (λ b. (x : Text) → is_some (index_in b.scoped.indices x)
         ≡ is_scoped (its_cenv chain.now) (namespace_in chain.now namespace) x) }
 {
     let scope_names = list_of(alloc, scope_names(alloc, chain, namespace)?)?;

@@ -10,7 +10,7 @@ ghost use Rattle.jt_chains.specs.TemplateFiles.{namespace_view};
 ghost use Rattle.jt_semantics.specs.Layout.{in_globals};
 ghost use Rattle.jt_chains.specs.View.{namespace_in};
 ghost use Rattle.jt_layout.specs.internal.Namespaces.{its_cenv, its_order, AreSources, AreNames};
-ghost use Rattle.jt_layout.specs.internal.Places.{all_names, names_at};
+ghost use Rattle.jt_layout.specs.internal.Indices.{all_names, names_at};
 
 use crate::index::NameIndex;
 use crate::lists::list_of;
@@ -58,8 +58,8 @@ impl<'a> CollectedNames<'a> {
         }
     }
 
-    /// Removes and returns the names of a chain. Returns none for a library, or if no names are
-    /// stored.
+    /// Removes and returns the names of a chain. Returns an empty list for a library, or if no
+    /// names are stored.
     pub(crate) fn take(&mut self, alloc: Global, namespace: &Namespace) -> Vec<&'a str>
         ensures taken { texts result.items ≡ in_globals (namespace_view namespace.now)
             (names_at self.old.names (string_bytes namespace.now.name)) }
@@ -98,7 +98,7 @@ fn names_of_chain<'a>(
     behind: &CollectedNames<'a>,
 ) -> Result<Vec<&'a str>, AllocError>
     requires stands { namespace < length chain.now.namespaces.items }
-    requires sources { AreSources chain.now sources.now.places }
+    requires sources { AreSources chain.now sources.now.indices }
     requires behind { AreNames chain.now (drop (namespace + 1) (its_order chain.now))
         behind.now.names }
     ensures { IfOk result (λ ns. texts ns.items ≡ all_names (its_cenv chain.now)
@@ -107,7 +107,7 @@ fn names_of_chain<'a>(
     let mut names = own_names(alloc, chain, namespace)?;
     let included = chain.includes(alloc, namespace)?;
     for include in &included {
-        if sources.place(include.name).is_none() {
+        if sources.index_of(include.name).is_none() {
             continue;
         }
         behind.add_to(&mut names, include.name)?;
@@ -115,14 +115,14 @@ fn names_of_chain<'a>(
     list_of(alloc, names)
 }
 
-/// Returns the names of all chains. Each chain comes before those that it includes, so the loop
-/// runs from the last chain to the first.
+/// Returns the names of all chains. Each chain comes before the chains that it includes, so the
+/// loop runs from the last chain to the first.
 pub(crate) fn gather<'a>(
     alloc: Global,
     chain: &'a Chain,
     sources: &NameIndex<'a>,
 ) -> Result<CollectedNames<'a>, NoMemory>
-    requires { AreSources chain.now sources.now.places }
+    requires { AreSources chain.now sources.now.indices }
     ensures { IfOk result (λ g. AreNames chain.now (its_order chain.now) g.names) }
 {
     let mut collected = CollectedNames::new(alloc);

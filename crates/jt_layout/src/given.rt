@@ -2,7 +2,7 @@
 
 ghost use Rattle.std.specs.Prelude.{◌≡◌, ◌<◌, length, map, IfOk};
 ghost use Rattle.jt_layout.specs.internal.Namespaces.{its_given, given_kept};
-ghost use Rattle.jt_layout.specs.internal.Places.{ArePlaces};
+ghost use Rattle.jt_layout.specs.internal.Indices.{AreIndices};
 
 use crate::index::NameIndex;
 use crate::lists::given_names;
@@ -15,7 +15,7 @@ use std::alloc::Global;
 pub(crate) struct DefinedNames<'a> {
     pub(crate) all: Vec<DefinedName<'a>>,
     /// The index of the first definition of each name.
-    pub(crate) places: NameIndex<'a>,
+    pub(crate) indices: NameIndex<'a>,
 }
 
 /// Returns the names of a chain or a library that stand for macros and libraries.
@@ -27,11 +27,11 @@ pub(crate) fn given_by_name<'a>(
     requires { namespace < length chain.now.namespaces.items }
     ensures all { IfOk result
         (λ g. given_kept chain.now namespace g.all.items ≡ its_given chain.now namespace) }
-    ensures places { IfOk result
-        (λ g. ArePlaces 0 (map (λ k. k.name.now) g.all.items) g.places.places) }
+    ensures indices { IfOk result
+        (λ g. AreIndices 0 (map (λ k. k.name.now) g.all.items) g.indices.indices) }
 {
     let all = chain.given(alloc, namespace)?;
     let names = given_names(alloc, &all)?;
-    let places = NameIndex::of(alloc, &names, 0)?;
-    Ok(DefinedNames { all, places })
+    let indices = NameIndex::of(alloc, &names, 0)?;
+    Ok(DefinedNames { all, indices })
 }

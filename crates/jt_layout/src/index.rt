@@ -1,37 +1,37 @@
-//! Defines an index from names to numbers.
+//! Defines a map from names to indices.
 
 ghost use Rattle.std.specs.Prelude.{◌≡◌, IfOk, Some, None, if◌then◌else◌};
 ghost use Rattle.jt_ast.specs.Texts.{texts};
 ghost use Rattle.std.specs.Str.{bytes_eq};
 ghost use Rattle.jt_ast.specs.Expressions.{Text};
-ghost use Rattle.jt_layout.specs.Names.{place_in};
-ghost use Rattle.jt_layout.specs.internal.Places.{ArePlaces};
+ghost use Rattle.jt_layout.specs.Names.{index_in};
+ghost use Rattle.jt_layout.specs.internal.Indices.{AreIndices};
 
 use crate::count::checked_sum;
 use jt_value::NoMemory;
 use std::alloc::Global;
 use std::collections::BTreeMap;
 
-/// A number for each name of a set.
+/// An index for each name of a set.
 #[derive(Drop)]
 pub struct NameIndex<'a> {
-    pub places: BTreeMap<&'a str, usize>,
+    pub indices: BTreeMap<&'a str, usize>,
 }
 
 impl<'a> NameIndex<'a> {
-    /// Returns an empty index.
+    /// Returns a map without names.
     pub fn new(alloc: Global) -> Self
-        ensures { (x : Text) → place_in result.places x ≡ None }
+        ensures { (x : Text) → index_in result.indices x ≡ None }
     {
         NameIndex {
-            places: BTreeMap::new(alloc),
+            indices: BTreeMap::new(alloc),
         }
     }
 
-    /// Returns the index that numbers the names from `first` on; the first occurrence of a name
-    /// counts.
+    /// Returns the map from names to consecutive indices from `first` on. The first occurrence of a
+    /// repeated name counts.
     pub(crate) fn of(alloc: Global, names: &[&'a str], first: usize) -> Result<Self, NoMemory>
-        ensures { IfOk result (λ i. ArePlaces first (texts names.now) i.places) }
+        ensures { IfOk result (λ i. AreIndices first (texts names.now) i.indices) }
     {
         let mut index = NameIndex::new(alloc);
         let mut left = names.len();
@@ -42,20 +42,20 @@ impl<'a> NameIndex<'a> {
         Ok(index)
     }
 
-    /// Maps a name to a number and replaces an earlier entry of the name.
-    pub fn put(&mut self, name: &'a str, place: usize) -> Result<(), NoMemory>
+    /// Maps `name` to `index`, replacing its earlier entry.
+    pub fn put(&mut self, name: &'a str, index: usize) -> Result<(), NoMemory>
         ensures { IfOk result (λ u. (x : Text)
-            → place_in self.new.places x
-            ≡ (if bytes_eq name.now x then Some place else place_in self.old.places x)) }
+            → index_in self.new.indices x
+            ≡ (if bytes_eq name.now x then Some index else index_in self.old.indices x)) }
     {
-        self.places.insert(name, place)?;
+        self.indices.insert(name, index)?;
         Ok(())
     }
 
-    /// Returns the number of a name.
-    pub fn place(&self, name: &str) -> Option<usize>
-        ensures { result ≡ place_in self.now.places name.now }
+    /// Returns the index of a name.
+    pub fn index_of(&self, name: &str) -> Option<usize>
+        ensures { result ≡ index_in self.now.indices name.now }
     {
-        self.places.get(name).copied()
+        self.indices.get(name).copied()
     }
 }

@@ -17,16 +17,16 @@ use crate::given::given_by_name;
 use crate::index::NameIndex;
 use crate::lists::template_names;
 use crate::macros::macros_of;
+use crate::namespace_index::namespace_index;
 use crate::namespace_layout::NamespaceLayout;
 use crate::namespace_tables::NamespaceTables;
-use crate::places::namespace_places;
 use jt_chains::{Chain, Namespace};
 use jt_value::NoMemory;
 use std::alloc::Global;
 
 /// The layout of a chain or a library, and the first free numbers after it.
 #[derive(Drop)]
-struct Placed<'a> {
+struct ChainLayout<'a> {
     namespace_layout: NamespaceLayout<'a>,
     behind: FirstFree,
 }
@@ -58,9 +58,9 @@ fn entries_of(namespace: &Namespace) -> usize
     if namespace.is_library { 0 } else { 1 }
 }
 
-/// Returns the places of a chain with these counts; `end` is the first pool place after its
+/// Returns the unit layout of a chain from its counts. `end` is the first pool index after its
 /// defaults.
-fn places_of(front: FirstFree, counts: Counts, end: usize) -> Result<UnitLayout, NoMemory>
+fn unit_layout(front: FirstFree, counts: Counts, end: usize) -> Result<UnitLayout, NoMemory>
     ensures macro_unit { IfOk result (λ p. p.macro_unit ≡ front.unit + counts.entries) }
     ensures body_unit { IfOk result (λ p. p.body_unit ≡ p.macro_unit + counts.macros) }
     ensures slot { IfOk result (λ p. p.behind.slot ≡ front.slot + counts.names) }
@@ -89,7 +89,7 @@ fn lay_chain<'a>(
     namespace: usize,
     names: Vec<&'a str>,
     front: FirstFree,
-) -> Result<Placed<'a>, NoMemory>
+) -> Result<ChainLayout<'a>, NoMemory>
     requires stands { namespace < length chain.now.namespaces.items }
     requires named { texts names.items ≡ its_names chain.now namespace }
     requires front { StandsAt chain.now namespace front }
@@ -107,29 +107,29 @@ fn lay_chain<'a>(
         macros: macros.all.len(),
         bodies: bodies.all.len(),
     };
-    let places = places_of(front, counts, macros.defaults.end)?;
+    let indices = unit_layout(front, counts, macros.defaults.end)?;
     let namespace_layout = NamespaceLayout {
         is_library: itself.is_library,
         names,
         slots,
         first_slot: front.slot,
         unit: front.unit,
-        macro_unit: places.macro_unit,
-        body_unit: places.body_unit,
+        macro_unit: indices.macro_unit,
+        body_unit: indices.body_unit,
         macros: macros.all,
         called: macros.called,
-        defaults: macros.defaults.places,
+        defaults: macros.defaults.indices,
         given: given.all,
-        given_places: given.places,
+        given_indices: given.indices,
         blocks: bodies.all,
         first_bodies: bodies.firsts,
         next_bodies: bodies.nexts,
         scope_names: bodies.scope_names,
         scoped: bodies.scoped,
     };
-    Ok(Placed {
+    Ok(ChainLayout {
         namespace_layout,
-        behind: places.behind,
+        behind: indices.behind,
     })
 }
 
@@ -160,9 +160,9 @@ fn lay_chains<'a>(
     };
     for namespace in 0..chain.namespaces.len() {
         let names = collected.take(alloc, &chain.namespaces[namespace]);
-        let placed = lay_chain(alloc, chain, namespace, names, front)?;
-        namespaces.push(placed.namespace_layout)?;
-        front = placed.behind;
+        let indexed = lay_chain(alloc, chain, namespace, names, front)?;
+        namespaces.push(indexed.namespace_layout)?;
+        front = indexed.behind;
     }
     Ok(Tables {
         namespaces,
@@ -183,14 +183,14 @@ pub fn lay_out(alloc: Global, chain: &Chain) -> Result<NamespaceTables<'_>, NoMe
         (λ tables. length tables.namespaces.items ≡ length chain.now.namespaces.items) }
 {
     let sources = NameIndex::of(alloc, &template_names(alloc, &chain.templates)?, 0)?;
-    let places = namespace_places(alloc, &chain.namespaces, false)?;
-    let libraries = namespace_places(alloc, &chain.namespaces, true)?;
+    let indices = namespace_index(alloc, &chain.namespaces, false)?;
+    let libraries = namespace_index(alloc, &chain.namespaces, true)?;
     let collected = gather(alloc, chain, &sources)?;
     let tables = lay_chains(alloc, chain, collected)?;
     Ok(NamespaceTables {
         chain,
         namespaces: tables.namespaces,
-        places,
+        indices,
         libraries,
         sources,
         units: tables.units,

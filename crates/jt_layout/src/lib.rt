@@ -15,9 +15,9 @@ mod index;
 mod layout;
 mod lists;
 mod macros;
+mod namespace_index;
 mod namespace_layout;
 mod namespace_tables;
-mod places;
 
 pub use count::checked_sum;
 pub use index::NameIndex;

@@ -1,4 +1,4 @@
-//! Indexes the macros of a chain and places their defaults in the pool.
+//! Indexes the macros of a chain, and their defaults in the pool.
 
 ghost use Rattle.std.specs.Prelude.{◌≡◌, ◌<◌, ◌+◌, List, length, map, IfOk};
 ghost use Rattle.jt_chains.specs.Chain.{Template};
@@ -6,7 +6,7 @@ ghost use Rattle.jt_chains.specs.Parts.{macro_view, macros_view};
 ghost use Rattle.jt_chains.specs.View.{its_templates};
 ghost use Rattle.jt_semantics.specs.Layout.{defaults_of};
 ghost use Rattle.jt_layout.specs.internal.Namespaces.{its_macros};
-ghost use Rattle.jt_layout.specs.internal.Places.{ArePlaces, defaults_from};
+ghost use Rattle.jt_layout.specs.internal.Indices.{AreIndices, defaults_from};
 
 use crate::count::checked_sum;
 use crate::index::NameIndex;
@@ -14,27 +14,27 @@ use jt_chains::{Chain, Macro, macro_names};
 use jt_value::NoMemory;
 use std::alloc::Global;
 
-/// The pool place of each macro's first default, and the first place after all defaults.
+/// The pool index of each macro's first default, and the first index after all defaults.
 #[derive(Drop)]
 pub(crate) struct Defaults {
-    pub(crate) places: Vec<usize>,
+    pub(crate) indices: Vec<usize>,
     pub(crate) end: usize,
 }
 
-/// Returns the pool places of the defaults of macros, from `first` on.
-fn default_places(alloc: Global, macros: &[Macro<'_>], first: usize) -> Result<Defaults, NoMemory>
-    ensures placed { IfOk result (λ d. (ts : List Template)
-        → d.places.items ≡ defaults_from first (map (macro_view ts) macros.now)) }
+/// Returns the pool indices of the defaults of macros, from `first` on.
+fn default_indices(alloc: Global, macros: &[Macro<'_>], first: usize) -> Result<Defaults, NoMemory>
+    ensures indexed { IfOk result (λ d. (ts : List Template)
+        → d.indices.items ≡ defaults_from first (map (macro_view ts) macros.now)) }
     ensures ended { IfOk result (λ d. (ts : List Template)
         → d.end ≡ first + length (defaults_of (map (macro_view ts) macros.now))) }
 {
-    let mut places = Vec::with_capacity(alloc, macros.len())?;
+    let mut indices = Vec::with_capacity(alloc, macros.len())?;
     let mut end = first;
     for entry in macros {
-        places.push(end)?;
+        indices.push(end)?;
         end = checked_sum(end, entry.parameters.len())?;
     }
-    Ok(Defaults { places, end })
+    Ok(Defaults { indices, end })
 }
 
 /// The macros of a chain.
@@ -46,7 +46,7 @@ pub(crate) struct Macros<'a> {
     pub(crate) defaults: Defaults,
 }
 
-/// Returns the macros of a chain; the pool places of their defaults begin at `first`.
+/// Returns the macros of a chain; the pool indices of their defaults begin at `first`.
 pub(crate) fn macros_of<'a>(
     alloc: Global,
     chain: &'a Chain,
@@ -57,16 +57,16 @@ pub(crate) fn macros_of<'a>(
     ensures all { IfOk result
         (λ m. macros_view (its_templates chain.now) m.all.items ≡ its_macros chain.now namespace) }
     ensures called { IfOk result
-        (λ m. ArePlaces 0 (map (λ k. k.name.now) m.all.items) m.called.places) }
+        (λ m. AreIndices 0 (map (λ k. k.name.now) m.all.items) m.called.indices) }
     ensures defaults { IfOk result
-        (λ m. m.defaults.places.items ≡ defaults_from first (its_macros chain.now namespace)) }
+        (λ m. m.defaults.indices.items ≡ defaults_from first (its_macros chain.now namespace)) }
     ensures ended { IfOk result
         (λ m. m.defaults.end ≡ first + length (defaults_of (its_macros chain.now namespace))) }
 {
     let all = chain.macros(alloc, namespace)?;
     let names = macro_names(alloc, &all)?;
     let called = NameIndex::of(alloc, &names, 0)?;
-    let defaults = default_places(alloc, &all, first)?;
+    let defaults = default_indices(alloc, &all, first)?;
     Ok(Macros {
         all,
         called,

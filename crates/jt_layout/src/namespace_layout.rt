@@ -22,12 +22,12 @@ pub struct NamespaceLayout<'a> {
     pub macros: Vec<Macro<'a>>,
     /// The index of the first macro of each name.
     pub called: NameIndex<'a>,
-    /// The pool place of each macro's first default.
+    /// The pool index of each macro's first default.
     pub defaults: Vec<usize>,
     /// The names that stand for macros and libraries, with their definitions.
     pub given: Vec<DefinedName<'a>>,
     /// The index of the first definition of each name.
-    pub given_places: NameIndex<'a>,
+    pub given_indices: NameIndex<'a>,
     /// The bodies of the blocks.
     pub blocks: Vec<Block<'a>>,
     /// The index of the first body of each block, by its name.
@@ -36,6 +36,6 @@ pub struct NamespaceLayout<'a> {
     pub next_bodies: Vec<Option<usize>>,
     /// The names that the scopes bind.
     pub scope_names: Vec<&'a str>,
-    /// The blocks that have these names as parameters.
+    /// The blocks that have `scope_names` as parameters.
     pub scoped: NameIndex<'a>,
 }

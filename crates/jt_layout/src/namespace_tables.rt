@@ -10,7 +10,7 @@ pub struct NamespaceTables<'a> {
     pub chain: &'a Chain,
     pub namespaces: Vec<NamespaceLayout<'a>>,
     /// The indices of chains by name.
-    pub places: NameIndex<'a>,
+    pub indices: NameIndex<'a>,
     /// The indices of libraries by name.
     pub libraries: NameIndex<'a>,
     /// The indices of templates by name.

@@ -69,7 +69,7 @@ all_get P (y ∷ xs) (suc i) x h e = all_get P xs i x h.1 e
 
 -- ---- routines
 
--- A routine with places comes from one without places, and its values are in the pool.
+-- A routine with indices comes from one without indices, and its values are in the pool.
 placed_was : (rs : List (Routine Constant)) (n u : ℕ) (q : Routine ℕ) (pool : List Tree)
     → slice_get (placed_routines rs n) u ≡ Some q → PoolAt pool n (routines_values rs)
     → (r : Routine Constant) × (m : ℕ) × (slice_get rs u ≡ Some r) × (placed_routine r m ≡ q)
@@ -82,7 +82,7 @@ placed_was (r ∷ rs) n (suc u) q pool e h =
     placed_was rs (n + length (body_values r.body)) u q pool e
     (pool_back pool n (body_values r.body) (routines_values rs) h)
 
--- A routine without places becomes one with places.
+-- A routine without indices becomes one with indices.
 placed_is : (rs : List (Routine Constant)) (n u : ℕ) (r : Routine Constant) → slice_get rs u ≡ Some r
     → (m : ℕ) × (slice_get (placed_routines rs n) u ≡ Some (placed_routine r m))
 placed_is [] n u r e = absurd cc
@@ -187,7 +187,7 @@ mutual
   body_sized slots.end n = refl
   body_sized (slots.stmt s rest) n = omega (arith, stmt_sized s n, body_sized rest (n + length (stmt_values s)))
 
--- Routines with places need the same number of entries as before.
+-- Routines with indices need the same number of entries as before.
 pub placed_low : (rs : List (Routine Constant)) (n : ℕ)
     → AllByRecursion (λ r. body_height r.body ≤ max_entries) (placed_routines rs n) → AreLow rs
 placed_low [] n h = tt

@@ -13,6 +13,7 @@ pub mod LawfulProgramsFit
 pub mod JumpPatching
 pub mod RowCode
 pub mod HeightsDecided
+pub mod FilterCode
 pub mod OperandsFit
 pub mod PoolCorrect
 pub mod LowerLawsHold

@@ -248,7 +248,7 @@ locals_before : (places : List ℕ) (us : List Section)
 locals_before places [] h = tt
 locals_before places (u ∷ us) h = (h.0, locals_before places us h.1)
 
--- The operands fit their fields before constants get places in the table.
+-- The operands fit their fields before constants get indices into the table.
 pub lowered_written : (p : Program) → ProgramFits p → p.globals < 2 ^ 16 → length p.pool ≤ 2 ^ 32
     → KeepsLimits (compiled p) → AllByRecursion Written (map unit_of p.routines)
 lowered_written p fit globals pool limits =

@@ -1,4 +1,4 @@
--- Constants with places in the pool have their old meaning.
+-- Constants with indices into the pool have their old meaning.
 use Rattle.std.proofs.Common.{◌≡◌, ℕ, zero, suc, ◌+◌, Bool, true, false, if◌then◌else◌, List, [], ◌∷◌, ◌++◌, length}
 use Rattle.std.proofs.Common.{Option, Some, None, refl, sym, ap, arith, rules}
 use Rattle.std.specs.Prelude.{slice_get, unwrap_or}

@@ -123,7 +123,8 @@ abbrev pub into_buffers : Option Place → Eval Written → List StackEntry → 
 into_buffers o g es ls [] = bad
 into_buffers o g es ls (out ∷ bufs) = of_written o g es ls out bufs
 
--- Calls a unit with its arguments from the top of the stack; the globals must be those of the code.
+-- Calls a unit with its arguments from the top of the stack; the globals must be the globals of the
+-- code.
 abbrev pub called : Option Place → Code → SCalls → ℕ → Option Section → State → AsmEval
 called o k call u None m = bad
 called o k call u (Some v) m =

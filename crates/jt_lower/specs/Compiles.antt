@@ -24,8 +24,9 @@ use Rattle.jt_lower.specs.Fits.{ProgramFits}
 use Rattle.jt_lower.specs.Lawful.{program_with, AreLawful, AreLow}
 use Rattle.jt_ir.specs.Size.{body_height, routines_size}
 
--- The code of a program is correct. A text in which a run ends, or a fault with its place, is what
--- the program means with calls of some depth. For what the program means, some budget is enough.
+-- The code of a program agrees with the program's meaning. A text in which a run ends, or a fault
+-- with its place, is the meaning with calls of some depth. For each such meaning, some budget is
+-- enough.
 pub record DoesProgram (program : Program) : Type 0 where
   pub texts : (context : Pairs) (budget : Budget) (text : Text)
       → Run (compiled program) context budget (config.text text)
@@ -40,13 +41,13 @@ pub record DoesProgram (program : Program) : Type 0 where
       → Enough (compiled program) context (config.fault fault place)
 
 -- Programs of lawful routines fit. The code of each program that fits is typed; if it has a
--- spelling, it does what the program means. Each instruction has one place, and their number is the
--- program's size.
+-- spelling, it agrees with the program's meaning. Each instruction has one place, and their number
+-- is the program's size.
 pub record LowLaws : Type 0 where
   pub fits : (names : List Text) (globals : ℕ) (front : List Tree) (routines : List (Routine Constant))
       → AreLawful names globals front routines → AreLow routines
       → ProgramFits (program_with names globals front routines)
-  -- Constants with places in the pool have their old meaning.
+  -- Constants with indices into the pool have their old meaning.
   pub pooled : (front : List Tree) (routines : List (Routine Constant)) (values : List Tree) (n : ℕ)
       → smean_of the_filters (constant_in (front ++ routines_values routines)) routines values n
       ≡ smean_of the_filters (tree_at (front ++ routines_values routines))
@@ -55,11 +56,11 @@ pub record LowLaws : Type 0 where
   pub right : (program : Program) → ProgramFits program → IsCode (compiled program) → DoesProgram program
   pub one_place : (a : Asm) (n : ℕ) → length (places a) ≡ length (flat a n)
   pub sized : (program : Program) → total_len (compiled program).units ≡ routines_size program.routines
-  -- Routines whose constants have places in the pool need the same number of entries as before.
+  -- Routines whose constants have indices into the pool need the same number of entries as before.
   pub low : (routines : List (Routine Constant)) (n : ℕ)
       → AllByRecursion (λ r. body_height r.body ≤ max_entries) (placed_routines routines n) → AreLow routines
   -- If the limits of images are kept, the operands of each instruction fit their fields, before
-  -- constants get places in the table and after. The pool may be larger than the table.
+  -- constants get indices into the table and after. The pool may be larger than the table.
   pub emitted : (program : Program) → ProgramFits program → program.globals < 2 ^ 16 → length program.pool ≤ 2 ^ 32
       → KeepsLimits (compiled program)
       → AllByRecursion (λ u. AllByRecursion IsInstruction u.code) (map unit_of program.routines)

@@ -29,7 +29,7 @@ abbrev pub Given : Option Instruction → Instruction → Type 0
 Given None i = ¬ (IsInstruction i)
 Given (Some x) i = x ≡ i
 
--- The new instructions are the old ones followed by those of the code.
+-- The new instructions are the old ones followed by the instructions of the code.
 abbrev pub Emitted : List Instr → Asm → List Instr → Type 0
 Emitted old a new = new ≡ old ++ map wire_of (flat a (length old))
 

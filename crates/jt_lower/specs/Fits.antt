@@ -1,5 +1,5 @@
--- The conditions under which a program's code does what it means. Each number is in its table, each
--- operation has the values that it takes, and loop fields occur only in loops.
+-- The conditions under which a program's code agrees with the program's meaning. Each number is in
+-- its table, each operation has the values that it takes, and loop fields occur only in loops.
 use Rattle.std.specs.Prelude.{◌≡◌, ℕ, ◌<◌, ◌≤◌, Bool, true, false, IsTrue, List, [], ◌∷◌, length, Option, Some, None}
 use Rattle.std.specs.Prelude.{slice_get}
 use Rattle.jt_value.specs.Tree as tree

@@ -1,5 +1,5 @@
--- The conditions on resolved routines, other than arity, before constants have places in the pool.
--- With them the program fits.
+-- The conditions on resolved routines, other than arity, before constants have indices into the
+-- pool. With them the program fits.
 use Rattle.std.specs.Prelude.{◌≡◌, ℕ, ◌<◌, ◌≤◌, false, List, ◌++◌, length, Option, Some, None, slice_get}
 use Rattle.std.specs.List.{AllByRecursion}
 use Rattle.jt_value.specs.Tree as tree

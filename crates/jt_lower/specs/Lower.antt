@@ -146,7 +146,7 @@ routine_places r = places (body_asm r.body 0) ++ None ∷ []
 abbrev pub places_of : Program → List (Option Place)
 places_of p = flat_map routine_places p.routines
 
--- The code of a program, with one constant for each place of the pool.
+-- The code of a program, with one constant for each value of the pool.
 abbrev pub lowered : Program → Code
 lowered program =
     record {

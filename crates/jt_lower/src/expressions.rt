@@ -3,7 +3,7 @@
 ghost use Rattle.std.specs.Prelude.{◌≡◌};
 ghost use Rattle.jt_ir.specs.Size.{row_count};
 ghost use Rattle.jt_ir.specs.Slots.{none};
-ghost use Rattle.jt_ir.specs.View.{expr_view, row_view};
+ghost use Rattle.jt_ir.specs.View.{expr_view, row_view, filtered_view};
 ghost use Rattle.jt_lower.specs.Asm.{choose};
 ghost use Rattle.jt_lower.specs.Lower.{expr_asm, row_asm};
 ghost use Rattle.jt_lower.specs.Emission.{tag_view, side_asm, instead_asm, PutsAt};
@@ -11,7 +11,7 @@ ghost use Rattle.jt_lower.specs.Emission.{tag_view, side_asm, instead_asm, PutsA
 use crate::emitter::Emitter;
 use crate::instructions::{call_of, constant_of, flag, load_of, loop_get_of, made_of, store_of};
 use jt_image::Instruction;
-use jt_ir::{Place, Slot, SlotExpr};
+use jt_ir::{Filtered, NaryOp, Place, Slot, SlotExpr};
 use std::alloc::AllocError;
 
 /// Emits an expression of a tag; `above` entries lie above the innermost loop.
@@ -168,6 +168,32 @@ pub fn emit_row(
             Some(local) => code.put(tag, store_of(Slot::Local(*local)))?,
             None => top = top.saturating_add(1),
         }
+    }
+    Ok(())
+}
+
+/// Emits a value of a tag and the filters after it; `above` entries lie above the innermost loop.
+///
+/// # Errors
+///
+/// `AllocError` if a growth is refused.
+pub fn emit_filtered(
+    code: &mut Emitter,
+    tag: Option<Place>,
+    filtered: &Filtered,
+    above: usize,
+) -> Result<(), AllocError>
+    ensures { PutsAt above code.old (λ templates. expr_asm (tag_view templates tag)
+        (filtered_view filtered.now)) result code.new }
+{
+    emit_expression(code, tag, &filtered.value, above)?;
+    for filter in &filtered.filters {
+        emit_row(code, tag, &filter.row, above.saturating_add(1))?;
+        let made = NaryOp::Filter {
+            filter: filter.filter,
+            escaping: filter.escaping,
+        };
+        code.put(tag, made_of(made, count_values(&filter.row) + 1))?;
     }
     Ok(())
 }

@@ -1,11 +1,11 @@
-//! Checks how many stack entries the code of expressions needs above the existing ones.
+//! Checks the number of stack entries that the code of expressions needs above the existing ones.
 
 ghost use Rattle.std.specs.Prelude.{◌≡◌, nat_le};
 ghost use Rattle.jt_ir.specs.Size.{expr_height, row_height};
 ghost use Rattle.jt_ir.specs.Slots.{none};
-ghost use Rattle.jt_ir.specs.View.{expr_view, row_view};
+ghost use Rattle.jt_ir.specs.View.{expr_view, row_view, filtered_view};
 
-use jt_ir::SlotExpr;
+use jt_ir::{Filtered, SlotExpr};
 
 /// Returns whether an expression needs at most `room` stack entries.
 #[cycle(heights)]
@@ -45,6 +45,22 @@ pub fn fits_row(row: &[(Option<usize>, SlotExpr)], room: usize) -> bool
         }
         if kept.is_none() {
             left -= 1;
+        }
+    }
+    true
+}
+
+/// Returns whether a value and the filters after it need at most `room` stack entries. The
+/// arguments of a filter lie above its value.
+pub fn fits_filtered(filtered: &Filtered, room: usize) -> bool
+    ensures { result ≡ nat_le (expr_height (filtered_view filtered.now)) room }
+{
+    if !fits_expression(&filtered.value, room) {
+        return false;
+    }
+    for filter in &filtered.filters {
+        if !fits_row(&filter.row, room - 1) {
+            return false;
         }
     }
     true

@@ -1,4 +1,4 @@
-//! Defines the code of resolved programs, proves that it does what they mean, and emits
+//! Defines the code of resolved programs, proves that its runs agree with their meaning, and emits
 //! expressions.
 //!
 //! Instructions are appended and jumps are patched in `emitter`. Expressions are emitted in
@@ -14,7 +14,7 @@ mod instructions;
 mod laws;
 
 pub use emitter::Emitter;
-pub use expressions::{emit_expression, emit_row};
-pub use heights::{fits_expression, fits_row};
+pub use expressions::{emit_expression, emit_filtered, emit_row};
+pub use heights::{fits_expression, fits_filtered, fits_row};
 pub use instructions::{call_of, data_of, flag, store_of, unpack_of};
 pub use laws::low_laws;

@@ -3,6 +3,5 @@ pub mod FastPath
 pub mod FilterCalls
 pub mod Iterating
 pub mod Making
-pub mod Members
 pub mod Numbers
 pub mod StackView

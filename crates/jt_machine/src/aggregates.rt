@@ -68,8 +68,8 @@ fn charge_for_values(state: &mut State, count: usize) -> Option<Outcome>
         → make count f (config_view state.old) ≡ continues result state.new (made count f) }
     ensures same { state.new ≡ record state.old { left = state.new.left } }
 {
-    // Read only so that the prover knows that the limit has 32 bits: the sum of the sizes is then
-    // exact.
+    // The prover needs this read, which shows that the limit has 32 bits. So the sum of the sizes
+    // is exact.
     let _size = state.left.size;
     let total = sizes(state.stack.top_entries(count));
     charge_fuel(state, 1 + total / 64)

@@ -66,7 +66,7 @@ pub(crate) fn call<C: Code>(
     Ok(None)
 }
 
-// Continues a caller whose entries are already those of the running activation.
+// Continues a caller whose entries the running activation already has.
 fn go_on(state: &mut State, caller: Caller)
     requires { state.old.left.depth + 1 < 2 ^ 32 }
     ensures { config_view state.new

@@ -1,4 +1,4 @@
-//! Charges the budget for what most instructions do: a step, a pushed value, and output.
+//! Charges the budget for a step, a pushed value, and output.
 ghost use Rattle.std.specs.Prelude.{◌≡◌, ◌+◌, ◌/◌, ◌<◌, ◌≤◌, ◌^◌, None};
 ghost use Rattle.jt_value.specs.Tree.{size};
 ghost use Rattle.jt_value.specs.View.{view};
@@ -46,7 +46,7 @@ pub(crate) fn charge_for(state: &mut State, value: &Value) -> Option<Outcome>
         ≡ continues result state.new go }
     ensures same { state.new ≡ record state.old { left = state.new.left } }
 {
-    // Read only so that the prover knows that the limit has 32 bits: the counted size is then
+    // The prover needs this read, which shows that the limit has 32 bits. So the counted size is
     // exact.
     let _limit = state.left.size;
     charge_fuel(state, 1 + value.size() / 64)

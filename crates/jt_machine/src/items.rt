@@ -11,8 +11,8 @@ use jt_value::{Fault, NoMemory, Value, ValueError, ValueList};
 use std::alloc::Global;
 use std::rc::Rc;
 
-/// Returns the items of a value: the items of a list, the keys of a map, the characters of a text,
-/// and none for undefined. Every other value is a fault.
+/// Returns the items of a list, the keys of a map or the characters of a text. Undefined has no
+/// items, and every other value is a fault.
 pub(crate) fn items_of(alloc: Global, value: Value) -> Result<Vec<Value>, ValueError>
     ensures { AreItems (items_of_tree (view value)) result }
 {

@@ -8,7 +8,7 @@
 //! - constants: text constants, each built once in a run.
 //! - outcome: how runs end.
 //!
-//! Read first: runs.rt. specs/Step.antt of jt_image defines what a step does.
+//! Read first: runs.rt. specs/Step.antt of jt_image defines a step.
 #![tactic(auto)]
 
 mod aggregates;

@@ -17,7 +17,7 @@ use jt_value::Value;
 pub(crate) fn exceeded_limit(value: &Value, budget: &Budget) -> Option<Spent>
     ensures { option_map limit_view result ≡ limit_of (budget_view budget.now) (view value.now) }
 {
-    // Read only so that the prover knows that the limits have fewer bits than the counts.
+    // The prover needs these reads, which show that the limits have fewer bits than the counts.
     let _size = budget.size;
     let _nesting = budget.nesting;
     match budget.fits(value.size(), value.nesting()) {
@@ -47,7 +47,7 @@ fn limit_by(size: u64, nesting: u32, budget: &Budget) -> Option<Spent>
         → nesting ≡ min (tree.nesting t) (2 ^ 32 - 1)
         → option_map limit_view result ≡ limit_of (budget_view budget.now) t }
 {
-    // Read only so that the prover knows that the limits have fewer bits than the counts.
+    // The prover needs these reads, which show that the limits have fewer bits than the counts.
     let _size = budget.size;
     let _nesting = budget.nesting;
     match budget.fits(size, nesting) {

@@ -115,8 +115,8 @@ impl Machine {
         ensures steps { OnOk result (self.new ≡ advanced k self.old) }
         ensures progress { IfOk result (λ p. stage_progress self.new.stage ≡ Some p) }
         ensures lost { OnErr result (self.new ≡ lost_session self.old) }
-        // Memory is needed only if one of these steps goes on and may allocate, or ends with a
-        // fault that has a place.
+        // Memory is needed only if one of the steps goes on and may allocate, or ends with a fault
+        // that has a place.
         ensures memory { OnErr result (MayLose k self.old) }
         // A run that has ended needs no memory.
         ensures unended { IfErr result (λ e. outcome_of self.old ≡ None) }

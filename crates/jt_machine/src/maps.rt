@@ -13,7 +13,6 @@ ghost use Rattle.jt_machine.specs.internal.Making.{key_fault as key_fault_of};
 ghost use Rattle.jt_machine.specs.internal.Making.{keys_fault as keys_fault_of};
 ghost use Rattle.jt_machine.specs.internal.Making.{first_fault as first_fault_of, upward};
 ghost use Rattle.jt_machine.specs.internal.Making.{HasTextKeys, IsWithin};
-ghost use Rattle.jt_machine.specs.internal.Members.{IsMissing, StandsAt};
 ghost use Rattle.jt_machine.specs.InstructionSteps.{answering, push as pushes, step_on as steps_on};
 ghost use Rattle.jt_machine.specs.View.{budget_view, outcome_view};
 
@@ -21,6 +20,7 @@ use crate::entries::StackEntry;
 use crate::limits::map_limit;
 use crate::measure::text_of;
 use crate::outcome::Outcome;
+use indexmap::IndexMap;
 use jt_budget::Budget;
 use jt_value::{Fault, NoMemory, Value};
 use std::alloc::Global;
@@ -32,7 +32,7 @@ pub(crate) fn map_of(alloc: Global, values: Vec<Value>) -> Result<Value, NoMemor
     ensures { IfOk result (λ v. mapped (map view values.items) ≡ Ok (view v)) }
 {
     let entries = entries_of(alloc, values)?;
-    Value::from_entries(alloc, entries)
+    Value::map(alloc, entries)
 }
 
 /// Returns how the run ends if alternating keys and values make no map within the limits. Nothing
@@ -122,47 +122,30 @@ fn pop_pair(values: &mut Vec<Value>) -> Option<(Value, Value)>
     Some((key, value))
 }
 
-// Returns the index of a key among entries, if it occurs.
-fn place_of(entries: &[(String, Value)], key: &str) -> Option<usize>
-    ensures there { IfSome result (λ i. StandsAt key.now entries.now i) }
-    ensures missing { IfNone result (IsMissing key.now entries.now) }
-{
-    let mut index = 0;
-    for (other, _) in entries {
-        if other.as_str() == key {
-            return Some(index);
-        }
-        index += 1;
-    }
-    None
-}
-
-// Sets the value of a key. A key that exists keeps its place.
+// Sets the value of a key. A key that exists keeps its index.
 fn put_pair(
     alloc: Global,
-    entries: &mut Vec<(String, Value)>,
+    entries: &mut IndexMap<String, Value>,
     key: &Value,
     value: Value,
 ) -> Result<(), NoMemory>
-    ensures { OnOk result (entries_view entries.new.items
-        ≡ put_entry (key_bytes (view key.now)) (view value) (entries_view entries.old.items)) }
+    ensures { OnOk result (entries_view entries.new.entries
+        ≡ put_entry (key_bytes (view key.now)) (view value) (entries_view entries.old.entries)) }
 {
-    let text = text_of(key);
-    match place_of(entries, text) {
-        Some(place) => entries[place].1 = value,
-        None => entries.push((String::from_str(alloc, text)?, value))?,
-    }
+    let name = String::from_str(alloc, text_of(key))?;
+    let _earlier = entries.insert(name, value)?;
     Ok(())
 }
 
-// Returns the entries of alternating keys and values.
-fn entries_of(alloc: Global, mut values: Vec<Value>) -> Result<Vec<(String, Value)>, NoMemory>
+// Returns the entries of alternating keys and values. A stack has at most 1,024 entries, so a map
+// has at most 512 keys: keys with colliding hashes cost no more than a search through all keys.
+fn entries_of(alloc: Global, mut values: Vec<Value>) -> Result<IndexMap<String, Value>, NoMemory>
     requires { list_all is_text (keys_of (map view values.items)) ≡ true }
     ensures { IfOk result
-        (λ es. entries_view es.items ≡ put_entries no_entries (map view values.items)) }
+        (λ es. entries_view es.entries ≡ put_entries no_entries (map view values.items)) }
 {
     values.reverse();
-    let mut entries = Vec::new(alloc);
+    let mut entries = IndexMap::new(alloc);
     'pairs: while let Some((key, value)) = pop_pair(&mut values) {
         put_pair(alloc, &mut entries, &key, value)?;
     }

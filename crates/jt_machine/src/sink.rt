@@ -111,8 +111,8 @@ impl<W: Write> Sink for IoSink<W> {
 ///
 /// # Errors
 ///
-/// `SinkFailed` if the sink had failed before, and then nothing is written; or if it refuses a
-/// piece. What it took is then a prefix of the bytes.
+/// `SinkFailed` if the sink had failed before, or if it refuses a piece. The sink then took a
+/// prefix of the bytes, or nothing if it had failed before.
 pub fn put_all<W: Sink>(sink: &mut W, bytes: &[u8]) -> Result<(), SinkFailed>
     ensures idle { W.failed sink.old ≡ true → sink.new ≡ sink.old }
     ensures all { OnOk result (Appends (W.taken sink.old) (W.taken sink.new) bytes.now) }

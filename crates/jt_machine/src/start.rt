@@ -129,7 +129,7 @@ pub(crate) fn start<C: Code>(
     // Only the tables are allocated.
     ensures memory { OnErr result (HasTables (C.code code.now)) }
 {
-    // Read only so that the prover knows that the depth has 32 bits.
+    // The prover needs this read, which shows that the depth has 32 bits.
     let _depth = budget.depth;
     let locals = undefined_values(alloc, entry_locals(code))?;
     let globals = globals_of(alloc, code, context)?;

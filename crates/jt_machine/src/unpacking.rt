@@ -120,7 +120,7 @@ fn refusal(value: &Value, count: u32, budget: &Budget) -> Option<Outcome>
     ensures fits { IfNone result
         (AreFitting count (items_of_tree (view value.now)) (budget_view budget.now)) }
 {
-    // Read only so that the prover knows that the limits have fewer bits than the counts.
+    // The prover needs these reads, which show that the limits have fewer bits than the counts.
     let _size = budget.size;
     let _nesting = budget.nesting;
     match count_of(value) {

@@ -68,7 +68,7 @@ impl From<SinkFailed> for RunToError {
 /// - `NoMemory` only if a growth was refused.
 /// - `Write` only if the sink failed.
 ///
-/// What was written is then a prefix of what the run emits.
+/// The written bytes are then a prefix of the bytes that the run emits to the outermost buffer.
 pub fn run_to<W: Sink>(
     alloc: Global,
     verified: &Verified,
@@ -77,11 +77,11 @@ pub fn run_to<W: Sink>(
     sink: &mut W,
 ) -> Result<Ended, RunToError>
     requires works { W.failed sink.old ≡ false }
-    // The run ends as returned. Exactly what it emitted to the outermost buffer is written: the
-    // whole text, if the run ends with a text.
+    // The run ends as returned. Exactly the bytes that it emitted to the outermost buffer are
+    // written: the whole text, if the run ends with a text.
     ensures ended { IfOk result (λ e. HasWritten verified.now (pairs_of context.now)
         (budget_view budget) e (W.taken sink.old) (W.taken sink.new)) }
-    // On an error a prefix of what the run emits is written.
+    // If the result is an error, a prefix of the bytes that the run emits is written.
     ensures begun { OnErr result (HasBegun verified.now (pairs_of context.now) (budget_view budget)
         (W.taken sink.old) (W.taken sink.new)) }
     // The sink has failed exactly if the error is `Write`.

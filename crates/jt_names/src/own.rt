@@ -75,7 +75,7 @@ fn add_expression<'a>(names: &mut BTreeSet<&'a str>, expr: &'a Expr) -> Result<(
     }
 }
 
-/// Adds the names of the operand of a filter or a test, and those of its arguments.
+/// Adds the names of the operand and of the arguments of a filter or a test.
 #[tactic(auto, using(crate::proofs::SortedNames::inserted_both))]
 #[cycle(gather)]
 fn add_applied<'a>(
@@ -294,7 +294,7 @@ fn add_branches<'a>(
     Ok(())
 }
 
-/// Adds the names of an `if`: those of its branches and of its `else` part.
+/// Adds the names of the branches of an `if` and of its `else` part.
 #[tactic(auto, using(crate::proofs::SortedNames::inserted_both))]
 #[cycle(add)]
 fn add_choice<'a>(
@@ -341,7 +341,8 @@ fn add_set_block<'a>(
     Ok(())
 }
 
-/// Adds the names of the values of a `with` tag, the names that it binds, and those in its body.
+/// Adds the names of the values of a `with` tag, the names that it binds, and the names in its
+/// body.
 #[tactic(auto, using(crate::proofs::SortedNames::inserted_both))]
 #[cycle(add)]
 fn add_with<'a>(
@@ -358,7 +359,7 @@ fn add_with<'a>(
     Ok(())
 }
 
-/// Adds the names in the body of a filter tag, and those of its filters.
+/// Adds the names in the body and in the filters of a filter tag.
 #[tactic(auto, using(crate::proofs::SortedNames::inserted_both))]
 #[cycle(add)]
 fn add_filter_block<'a>(

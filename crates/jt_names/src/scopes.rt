@@ -46,7 +46,7 @@ pub(crate) fn add_scopes<'a>(found: &mut Vec<&'a str>, body: &'a [Stmt]) -> Resu
     Ok(())
 }
 
-/// Adds the names that the body of a scope sets, and those that the scopes in it bind.
+/// Adds the names that the body of a scope sets, and the names that the scopes in it bind.
 #[cycle(scopes)]
 fn add_inside<'a>(found: &mut Vec<&'a str>, body: &'a [Stmt]) -> Result<(), AllocError>
     ensures { IfOk result (λ _. Adds found.old found.new (set_in (body_view body.now) ++
@@ -72,7 +72,7 @@ fn add_branches<'a>(
     Ok(())
 }
 
-/// Adds a loop's targets, the names bound in its body, and those bound in its `else` part.
+/// Adds a loop's targets, and the names that its body and its `else` part bind.
 #[cycle(scopes)]
 fn add_loop<'a>(
     found: &mut Vec<&'a str>,

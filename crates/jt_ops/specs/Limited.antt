@@ -11,8 +11,8 @@ use Rattle.jt_ops.specs.declared.limits.OpError.TheVariants as error
 use Rattle.jt_value.specs.declared.fault.ValueError.{ValueError}
 use Rattle.jt_value.specs.declared.fault.ValueError.TheVariants as value_error
 
--- The fault if there is one; else TooLarge if the result's size exceeds its limit; else TooDeep if
--- its nesting exceeds its limit; else the result.
+-- The fault, if there is one. Otherwise TooLarge if the result's size exceeds its limit, else
+-- TooDeep if its nesting does, else the result.
 abbrev pub limited : ℕ → ℕ → Result Tree Fault → Result Tree OpError
 limited most deepest (Err fault) = Err (error.Fault fault)
 limited most deepest (Ok t) =

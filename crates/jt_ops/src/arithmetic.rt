@@ -1,4 +1,4 @@
-//! Operators on numbers. A result outside 64 signed bits is an overflow.
+//! Implements operators on numbers. A result outside 64 signed bits is an overflow.
 ghost use Rattle.std.specs.Prelude.{◌≡◌, ◌≤◌, ◌<◌, ◌≢◌, unsigned_abs, ◌-ℤ◌, ◌*ℤ◌, pos, Ok, IfOk};
 ghost use Rattle.std.specs.Prelude.{IfErr};
 ghost use Rattle.std.specs.Int.{int_pow};

@@ -1,4 +1,4 @@
-//! Comparison operators, and comparisons of a text with a value.
+//! Implements comparison operators, and comparisons of a text with a value.
 ghost use Rattle.std.specs.Prelude.{◌≡◌};
 ghost use Rattle.jt_value.specs.Equality.{equal};
 ghost use Rattle.jt_value.specs.Order.{order};

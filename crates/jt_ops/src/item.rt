@@ -1,4 +1,4 @@
-//! Items of values: of a map by a key, of a list or a text by an index.
+//! Looks up items of values: of a map by a key, of a list or a text by an index.
 ghost use Rattle.std.specs.Prelude.{◌≡◌, length, IfOk, option_map, option_copied, slice_get};
 ghost use Rattle.std.specs.Prelude.{encode_utf8};
 ghost use Rattle.std.specs.Str.{chars};
@@ -54,8 +54,8 @@ fn keyed(alloc: Global, map: &ValueMap, name: &str, limits: Limits) -> Result<Va
     found(alloc, map.get(name), limits)
 }
 
-/// Returns the position that an index names among `count` items, if any. A negative index counts
-/// from the end.
+/// Returns the index from 0 that `index` names among `count` items, if any. A negative `index`
+/// counts from the end.
 fn place(index: i64, count: usize) -> Option<usize>
     ensures { result ≡ items.place index count }
 {
@@ -84,7 +84,7 @@ fn indexed(items: &[Value], index: i64) -> Option<&Value>
     }
 }
 
-/// Returns the item at a position, if any.
+/// Returns the item at an index from 0, if any.
 fn at(items: &[Value], place: usize) -> Option<&Value>
     ensures { option_map view (option_copied result) ≡ item_at (items_view items.now) place }
 {
@@ -119,14 +119,14 @@ fn nth_character(text: &str, index: i64) -> Option<char>
     }
 }
 
-/// Returns how many characters a text has.
+/// Returns the number of characters of a text.
 pub fn character_count(text: &str) -> usize
     ensures { result ≡ length (chars text.now) }
 {
     text.chars().count()
 }
 
-/// Returns the character at a position, if any.
+/// Returns the character at an index from 0, if any.
 fn character_at(text: &str, place: usize) -> Option<char>
     ensures { result ≡ slice_get (chars text.now) place }
 {

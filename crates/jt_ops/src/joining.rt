@@ -1,4 +1,4 @@
-//! Sums, products and joins of texts and lists.
+//! Computes sums, products and joins of texts and lists.
 ghost use Rattle.std.specs.Prelude.{◌≡◌, ◌-◌, ◌^◌, ◌++◌, min, Ok, Err, IfOk, IfErr, OnOk};
 ghost use Rattle.jt_value.specs.Tree as tree;
 ghost use Rattle.jt_value.specs.Payload.{joined_items};

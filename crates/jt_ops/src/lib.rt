@@ -1,4 +1,4 @@
-//! Operators, tests and `range` on values, under limits of size and nesting.
+//! Implements operators, tests and `range` on values, under limits of size and nesting.
 //!
 //! The modules:
 //!
@@ -7,7 +7,7 @@
 //! - `joining` and `text`: sums, products and joins of texts and lists;
 //! - `comparing` and `membership`: order and `in`;
 //! - `item` and `testing`: items of values, and tests;
-//! - `limits`: what limits refuse.
+//! - `limits`: the limits of results, and the errors.
 //!
 //! jt_op_semantics defines the results. Read specs/Limited.antt first: the limits that apply to all
 //! operations.

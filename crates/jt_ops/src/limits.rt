@@ -1,4 +1,4 @@
-//! Limits of results, and the errors of operations.
+//! Defines the limits of results, and the errors of operations.
 ghost use Rattle.std.specs.Prelude.{◌≡◌, true, Result, Ok, Err, OnOk, IfOk, IfErr};
 ghost use Rattle.jt_value.specs.Payload.{has_payload};
 ghost use Rattle.jt_value.specs.Tree.{Tree};
@@ -105,7 +105,7 @@ pub fn allow(size: u64, nesting: u32, limits: Limits) -> Result<(), OpError>
 ///
 /// # Errors
 ///
-/// As `allow`.
+/// `TooLarge` and `TooDeep` as for `allow`.
 pub fn within(value: Value, limits: Limits) -> Result<Value, OpError>
     ensures { Answers result (limited_by limits (Ok (view value))) }
 {
@@ -128,7 +128,7 @@ pub(crate) fn made(built: Result<Value, NoMemory>) -> Result<Value, OpError>
 ///
 /// # Errors
 ///
-/// - As `allow`.
+/// - `TooLarge` and `TooDeep` as for `allow`.
 /// - `NoMemory` if a growth is refused.
 pub fn copy_within(alloc: Global, value: &Value, limits: Limits) -> Result<Value, OpError>
     ensures { Answers result (limited_by limits (Ok (view value.now))) }

@@ -1,4 +1,4 @@
-//! Operator `in`.
+//! Implements operator `in`.
 ghost use Rattle.std.specs.Prelude.{◌≡◌};
 ghost use Rattle.jt_value.specs.Tree as tree;
 ghost use Rattle.jt_value.specs.View.{view, items_view};

@@ -1,4 +1,4 @@
-//! The faults of operands that no case of an operation accepts.
+//! Returns the faults of operands that no case of an operation accepts.
 ghost use Rattle.std.specs.Prelude.{◌≡◌, ℕ, List};
 ghost use Rattle.jt_value.specs.Tree as tree;
 ghost use Rattle.jt_value.specs.Order as order;

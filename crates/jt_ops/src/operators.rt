@@ -1,4 +1,4 @@
-//! Operators of one and two operands.
+//! Applies operators of one and two operands.
 ghost use Rattle.std.specs.Prelude.{◌≡◌, ◌∷◌, []};
 ghost use Rattle.jt_value.specs.View.{view};
 ghost use Rattle.jt_ops.specs.Limited.{limited_by, Answers};
@@ -63,7 +63,7 @@ pub fn binary(
 ///
 /// # Errors
 ///
-/// As `binary`. The operands are dropped in every case.
+/// The errors of `binary`. The operands are dropped in every case.
 pub fn binary_owned(
     alloc: Global,
     op: OpId,
@@ -98,7 +98,7 @@ fn binary_lent(
 ///
 /// # Errors
 ///
-/// As `binary`.
+/// The errors of `binary`.
 pub fn unary(alloc: Global, op: OpId, operand: &Value, limits: Limits) -> Result<Value, OpError>
     requires { op_operands op ≡ 1 }
     ensures { Answers result (limited_by limits (operation op (view operand.now ∷ []))) }

@@ -1,4 +1,4 @@
-//! `range`: lists of numbers.
+//! Builds the lists of numbers of `range`.
 ghost use Rattle.std.specs.Prelude.{◌≡◌, ◌≢◌, ◌≤◌, ◌<◌, ◌∷◌, [], ℕ, map, pos, ◌+ℤ◌, ◌*ℤ◌, length};
 ghost use Rattle.std.specs.Prelude.{FitsSigned, Ok, IfOk};
 ghost use Rattle.std.specs.Int.{w64};
@@ -117,7 +117,7 @@ fn list_of(
     made(listed(alloc, start, step, count))
 }
 
-/// Returns how many of the numbers from `start` by `step` lie before `stop`.
+/// Returns the length of the list of the numbers from `start` by `step` to before `stop`.
 fn count(start: i64, stop: i64, step: i64) -> u64
     requires { pos 0 ≢ step }
     ensures { result ≡ range_count start stop step }
@@ -129,7 +129,7 @@ fn count(start: i64, stop: i64, step: i64) -> u64
     }
 }
 
-/// Returns `high - low`, or 0 if that is negative.
+/// Returns `high - low`, or 0 if the difference is negative.
 fn distance(low: i64, high: i64) -> u64
     ensures { result ≡ ranges.distance low high }
 {
@@ -150,7 +150,8 @@ fn listed(alloc: Global, start: i64, step: i64, count: u64) -> Result<Value, NoM
     Value::list(alloc, numbers)
 }
 
-/// Returns `x + y`, or `x` if the sum overflows. That happens only after the last number of a list.
+/// Returns `x + y`, or `x` if the sum overflows. A sum overflows only after the last number of a
+/// list.
 fn sum_in_range(x: i64, y: i64) -> i64
     ensures { FitsSigned w64 (x +ℤ y) → result ≡ x +ℤ y }
 {

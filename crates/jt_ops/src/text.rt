@@ -52,7 +52,7 @@ pub enum Piece<'a> {
 }
 
 impl<'a> Piece<'a> {
-    /// Returns how many bytes the piece writes, at most 2^64 - 1.
+    /// Returns the number of bytes that the piece writes, at most 2^64 - 1.
     pub fn len(&self) -> u64
         ensures { result ≡ min (length (written self.now)) (2 ^ 64 - 1) }
     {
@@ -90,7 +90,7 @@ fn escaped_len(text: &str) -> u64
     total
 }
 
-/// Returns how many bytes one byte takes once it is escaped.
+/// Returns the number of bytes of a byte's escaped form.
 fn escaped_byte_len(byte: u8) -> u64
     ensures { result ≡ length (escaped_byte byte) }
 {
@@ -149,7 +149,7 @@ pub(crate) fn repeated(
     made(repetition(alloc, text, count, kind, len as usize))
 }
 
-/// Returns how often to write the text: 0 if it is empty or `number` is not positive.
+/// Returns the number of copies of the text to write: 0 if it is empty or `number` is not positive.
 #[tactic(auto, using(crate::proofs::AppendSteps::repeat_empty))]
 fn repetitions(text: &str, number: i64) -> u64
     ensures same { repeat result text.now ≡ repeat (times number) text.now }
@@ -195,8 +195,7 @@ fn append_repeated(alloc: Global, into: &mut String, text: &str, count: u64) -> 
     append_copies(into, &block, left)
 }
 
-/// Appends a text once if `count` is odd. The rest of `count` copies is then half as many copies of
-/// the doubled text.
+/// Appends a text once if `count` is odd. The rest is then `count / 2` copies of the doubled text.
 #[tactic(auto, using(crate::proofs::AppendSteps::halved_repetitions))]
 fn append_odd(into: &mut String, text: &str, count: u64) -> Result<(), NoMemory>
     ensures { OnOk result (string_bytes into.new ++ repeat (count / 2) (text.now ++ text.now)

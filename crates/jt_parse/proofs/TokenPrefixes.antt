@@ -68,7 +68,8 @@ no_length (t ∷ ts) e = absurd (omega (arith, e))
 
 -- ---- refusals
 
--- A refusal of a part is one of the whole, if each form of the whole has that part at this place.
+-- A refusal of a part is one of the whole, if each form of the whole has that part at this
+-- position.
 module _ {P R A C : Type 0} (show : P → A) (view : R → C) (One : A → Tokens → Type 0) (NestedForm : C → Tokens → Type 0)
     (EndsOne Ends : Tokens → Type 0) (level : A → ℕ) (height : C → ℕ) (m limit : ℕ) (ts u : Tokens) where
   pub part_refused : ((c : C) (v : Tokens) → Leads NestedForm c ts v → Ends v
@@ -79,7 +80,8 @@ module _ {P R A C : Type 0} (show : P → A) (view : R → C) (One : A → Token
   part_refused f e.TooDeep r w g = λ c v l end. let q = f c v l end in q.4 (g q.0 q.1 q.2 q.3)
   part_refused f e.NoMemory r w g = tt
 
--- A refusal of a sign or word is one of the whole, if each form of the whole has it at this place.
+-- A refusal of a sign or word is one of the whole, if each form of the whole has it at this
+-- position.
 module _ {R C : Type 0} (view : R → C) (NestedForm : C → Tokens → Type 0) (Ends : Tokens → Type 0) (height : C → ℕ)
     (limit : ℕ) (ts u : Tokens) where
   pub sign_refused : (k : Sign)

@@ -13,7 +13,7 @@ use Rattle.jt_scan.specs.Cut.{Text, Token, Segment, is_space, after_space}
 pub data Neighbour : Type 0 where
   -- The start or the end of the source.
   nothing : Neighbour
-  -- Other text.
+  -- A neighbour that is text, not a tag or boundary.
   words : Neighbour
   -- A neighbour with its mark on this side: a block tag, a comment or raw text, or a variable tag.
   block_side : Mark → Neighbour

@@ -7,8 +7,8 @@ use Rattle.jt_ast.specs.Statements.{Stmt, data_of, print, choose, for_each, set,
 use Rattle.jt_ast.specs.Statements.{autoescape, macro, include, import_as, import_from, extends, block, Body, end, stmt}
 use Rattle.jt_ast.specs.Statements.{Branches, no_branches, branch}
 
--- The position of a statement: the top level of a child template, the top level of a root template,
--- the inside of a macro, or any other position. A child template extends another one.
+-- The position of a statement: the top level of a child or a root template, the inside of a macro,
+-- or any other position. A child template extends another one.
 pub data Position : Type 0 where
   child_top : Position
   root_top : Position

@@ -22,7 +22,7 @@ pub data Separated {A : Type 0} (One : A → Tokens → Type 0) (k : Sign) : Lis
   also : {a : A} {bs : List A} {x y : Tokens} → One a x → Separated One k bs y
       → Separated One k (a ∷ bs) (x ++ (cut.sign k ∷ y))
 
--- A target of a loop or of `set`.
+-- The tokens are a name that `for` or `set` may bind.
 pub data IsName : Text → Tokens → Type 0 where
   a_name : {x : List ℕ} → is_reserved x ≡ false → IsName (encode_utf8_all x) (cut.name x ∷ [])
 

@@ -1,4 +1,4 @@
-//! The errors of the parser.
+//! Defines the errors of the parser.
 
 use std::alloc::{AllocError, AllocFailed};
 use thiserror::Error;
@@ -7,19 +7,19 @@ use thiserror::Error;
 /// statement that is never closed, it is the line of its first tag. `NoMemory` has no line.
 #[derive(Clone, Copy, Debug, Drop, Error, PartialEq, Eq)]
 pub enum ParseError {
-    /// The segments spell no tree.
+    /// Segments that spell no tree.
     #[error("P1 Syntax")]
     Syntax { line: u32 },
-    /// Statements and expressions are nested more than 100 levels deep.
+    /// Statements and expressions that are nested more than 100 levels deep.
     #[error("P2 TooDeep")]
     TooDeep { line: u32 },
-    /// A filter is unknown.
+    /// An unknown filter.
     #[error("P3 UnknownFilter")]
     UnknownFilter { line: u32 },
-    /// A test is unknown.
+    /// An unknown test.
     #[error("P4 UnknownTest")]
     UnknownTest { line: u32 },
-    /// A growth is refused.
+    /// A refused growth.
     #[error("P5 NoMemory")]
     NoMemory,
 }

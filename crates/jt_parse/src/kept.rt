@@ -14,7 +14,7 @@ use jt_scan::{Mark, Options, Segment, SegmentKind, TagKind, behind_space, first}
 pub enum Neighbour {
     /// The start or the end of the source.
     Nothing,
-    /// Other text.
+    /// A neighbour that is text, not a tag or boundary.
     Words,
     /// A block tag, a comment or raw text, with the mark on this side.
     Block(Mark),

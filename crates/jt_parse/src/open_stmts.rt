@@ -1,4 +1,4 @@
-//! Open statements: those whose end has not been read yet.
+//! Defines open statements, whose end has not been read yet.
 
 ghost use Rattle.std.specs.Prelude.{◌≡◌, ◌∷◌, [], List, bytes_eq, IfOk, MatchOption};
 ghost use Rattle.std.specs.Str.{chars};
@@ -18,7 +18,7 @@ use jt_scan::{Token, is_word};
 use std::alloc::{AllocError, Global};
 use std::mem;
 
-/// The kind of an open statement, with what has been parsed of it.
+/// The kind of an open statement, with the parts of it that were parsed.
 #[derive(Drop)]
 pub enum OpenKind {
     /// A branch of an `if`.
@@ -34,7 +34,7 @@ pub enum OpenKind {
     Loop(LoopHead),
     /// The `else` part of a loop with this body.
     LoopElse(LoopHead, Vec<Stmt>),
-    /// Another statement with a body.
+    /// A statement with a body, neither `if` nor loop.
     BlockStart(BlockStart),
 }
 

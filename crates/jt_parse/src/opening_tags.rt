@@ -1,4 +1,4 @@
-//! The contents of the first tags of statements.
+//! Defines the contents of the first tags of statements.
 
 use jt_ast::{Expr, FilterCall, Parameter, Stmt};
 

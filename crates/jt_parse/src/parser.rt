@@ -57,8 +57,8 @@ struct Parser {
     open_stmts: Vec<OpenStmt>,
 }
 
-/// Returns how many levels an expression may have inside a statement that `outer` statements
-/// enclose.
+/// Returns the number of levels that an expression may have inside a statement that `outer`
+/// statements enclose.
 fn levels_left(outer: usize, line: u32) -> Result<u8, ParseError>
     ensures left { IfOk result
         (λ n. (n ≡ max_levels - suc outer) × (nat_lt outer max_levels ≡ true)) }
@@ -339,7 +339,8 @@ fn read(alloc: Global, segments: &[Segment<'_>]) -> Result<Vec<Stmt>, ParseError
     }
 }
 
-/// As `read`, but also checks the positions of statements and the names of filters and tests.
+/// Reads segments into a template, and checks the positions of statements and the names of filters
+/// and tests.
 fn read_known(alloc: Global, segments: &[Segment<'_>]) -> Result<Template, ParseError>
     ensures { GivesKnown (reading.Parsed max_levels (pieces_of segments.now)) result }
 {

@@ -1,4 +1,4 @@
--- The commands: what each reads from the files, how it ends, and what it leaves.
+-- The commands: the files that each reads, how it ends, and the files that it leaves.
 use Rattle.std.specs.Prelude.{◌≡◌, ◌≢◌, ◌↔◌, ◌⊎◌, ◌≤◌, ℕ, List, [], ◌∷◌, ◌++◌, length, Option, Some, None, Result, Ok}
 use Rattle.std.specs.Prelude.{Err, String, codes, string_bytes}
 use Rattle.std.specs.Fmt.{decimal}
@@ -48,7 +48,7 @@ abbrev pub EndsAs : (Result (String Global) CallError → Type 0) → Ending →
 EndsAs IsSo (Ok text) = IsSo (Ok text)
 EndsAs IsSo (Err e) = FailsAs (λ error. IsSo (Err error)) e
 
--- ---- what is read
+-- ---- the files that are read
 
 -- The path is `asked`.
 abbrev pub IsPath : Text → Text → Type 0
@@ -72,8 +72,8 @@ module _ (files : Known) where
   HasNoContext (Some path) e =
       (bytes : List ℕ) × files.holds (string_bytes path) bytes × IsNoContext bytes e
 
-  -- The input of a command is missing: a file that it reads fails, or the file of the context fails
-  -- or spells no context, or memory ran out.
+  -- The input of a command is missing. A file that it reads fails, the file of the context spells
+  -- no context, or memory ran out.
   abbrev pub IsUnread : (Text → Type 0) → Option (String Global) → Ending → Type 0
   IsUnread asks context (Ok text) = ⊥
   IsUnread asks context (Err (failure.File path)) =
@@ -158,14 +158,14 @@ module _ (files : Known) where
   AreStarts (p ∷ ps) [] = ⊥
   AreStarts (p ∷ ps) (s ∷ ss) = IsStart p s × AreStarts ps ss
 
-  -- A pair gives no session: one of its files fails, its context file spells no context, or its
+  -- A pair opens no session: one of its files fails, its context file spells no context, or its
   -- image file holds no accepted image.
   abbrev pub IsNoStart : Pair → Failure → Type 0
   IsNoStart p e = IsUnread files (IsPath (string_bytes p.image)) (Some p.context) (Err e)
       ⊎ ((bytes : List ℕ) × files.holds (string_bytes p.image) bytes × FailsAs (IsNoImage bytes) e)
 
   -- The pair after `before` is not opened: the host is full although the pair is good, or the pair
-  -- gives no session.
+  -- opens no session.
   abbrev pub IsNotOpened : List Pair → Pair → Failure → Type 0
   IsNotOpened before p (failure.Call call_error.NoMemory) = Unit {0}
   IsNotOpened before p (failure.Host e) =
@@ -176,8 +176,8 @@ module _ (files : Known) where
   abbrev pub AreOpen : Budget → List Pair → World → Type 0
   AreOpen b ps w = (ss : List Start) × AreStarts ps ss × Stands (all_under (budget_view b) ss) w
 
-  -- The first pair that is not opened. The pairs before it are opened, and those after it do not
-  -- matter.
+  -- The first pair that is not opened. The pairs before it are opened, and the pairs after it do
+  -- not matter.
   pub record StopsAt (ps : List Pair) (e : Failure) : Type 0 where
     pub before : List Pair
     pub pair : Pair
@@ -188,9 +188,9 @@ module _ (files : Known) where
     pub few : length before ≤ max_sessions
     pub why : IsNotOpened before pair e
 
-  -- The images of at most 64 pairs run for their contexts in turns, each as if alone, and the text
-  -- has the line of each, whatever the turns are. Or the failure is that of the first pair that is
-  -- not opened.
+  -- The images of at most 64 pairs run for their contexts in turns, each as if alone. The text has
+  -- the line of each, whatever the turns are. Or the failure is that of the first pair that is not
+  -- opened.
   abbrev pub TakesTurns : List Pair → Budget → Ending → Type 0
   TakesTurns ps b (Ok text) = (length ps ≤ max_sessions)
       × ((ss : List Start)
@@ -219,7 +219,7 @@ module _ (files after : Known) where
   ChangesOnly path =
       (other bytes : List ℕ) → other ≢ path → (after.holds other bytes) ↔ (files.holds other bytes)
 
-  -- How a command ends, by what is known of the files before it and after it.
+  -- How a command ends, over the files before it and after it.
   abbrev pub CommandEnds : Command → Options → Budget → Ending → Type 0
   CommandEnds (command.Compile dir name out) o b e = ChangesOnly (string_bytes out)
       × (IsUnread files (IsOfDirectory files (string_bytes dir)) None e

@@ -43,7 +43,7 @@ status_of (failure.Host e) = status.Refused
 status_of (failure.File path) = status.File
 status_of failure.Output = status.File
 
--- The failure of lack of memory.
+-- The failure for lack of memory.
 abbrev pub no_memory : Failure
 no_memory = failure.Call call_error.NoMemory
 

@@ -1,19 +1,19 @@
--- What is known of files, by their paths.
+-- The results that calls on files may have, by the paths of the files.
 use Rattle.std.specs.Prelude.{◌≡◌, ◌⊎◌, ℕ, List, Option, Some, None, ◌++◌, codes, Contains}
 use Rattle.std.specs.Str.{IsUtf8}
 use Rattle.jt_inherit.specs.Chains.{SourceTexts}
 use Rattle.jt_ast.specs.Expressions.{Text}
 
--- What a host knows of its files: the results that calls on them may have.
+-- The results that calls on a host's files may have.
 pub record Known : Type 1 where
-  -- The file at the path holds these bytes.
+  -- The file at the path holds the bytes.
   pub holds : Text → List ℕ → Type 0
-  -- These are the names of the files directly in the directory, in some order.
+  -- The names are exactly the names of the files directly in the directory, in some order.
   pub lists : Text → List Text → Type 0
   -- The file or directory at the path cannot be listed, read or written.
   pub fails : Text → Type 0
 
--- Every result is possible: what is known of the files of a machine.
+-- Every result is possible, as for the files of a machine.
 abbrev pub anything : Known
 anything =
     record
@@ -44,7 +44,7 @@ IsSource files dir names name None =
 abbrev pub AreSources : Known → Text → List Text → SourceTexts → Type 0
 AreSources files dir names sources = (name : Text) → IsSource files dir names name (sources name)
 
--- The templates of a directory: those of its files that are UTF-8, by their names.
+-- The templates of a directory: its files that are UTF-8, by their names.
 pub record IsLibrary (files : Known) (dir : Text) (sources : SourceTexts) : Type 0 where
   pub names : List Text
   pub listed : files.lists dir names

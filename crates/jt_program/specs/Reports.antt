@@ -1,4 +1,4 @@
--- The reports of an ending: its status, and what both outputs take.
+-- The reports of an ending: its status, and the bytes that both outputs take.
 use Rattle.std.specs.Prelude.{◌≡◌, ◌≢◌, ◌⊎◌, ℕ, Bool, true, false, List, [], ◌∷◌, ◌++◌, Option, option_map, Result, Ok}
 use Rattle.std.specs.Prelude.{Err, codes, string_bytes}
 use Rattle.std.specs.Borrow.{Bor}
@@ -17,9 +17,9 @@ use Rattle.jt_program.specs.declared.messages.Failure.TheVariants as failure
 use Rattle.jt_program.specs.Commands.{Ending}
 use Rattle.jt_program.specs.Ending.{code_of, status_of}
 
--- The status, and what standard output takes: the whole text of a command that succeeded, with
--- status 0; a beginning of it, with status 5 and only if the sink has failed; nothing for a command
--- that failed.
+-- The status, and the bytes that standard output takes. A command that succeeded prints its whole
+-- text, with status 0. Status 5 reports that only a beginning was printed, since the sink has
+-- failed. A command that failed prints nothing.
 abbrev pub Prints : Option (List ℕ) → Option (List ℕ) → Bool → Ending → ℕ → Type 0
 Prints old new sink_failed (Ok text) status =
     ((status ≡ 0) × (sink_failed ≡ false) × Appends old new (string_bytes text))
@@ -63,8 +63,8 @@ file_line path = one_line (codes "jt: file " ++ path)
 abbrev pub memory_line : Text
 memory_line = one_line (codes "jt: no memory")
 
--- What standard error takes: the text of the usage, or the line of a fault, a spent number, a file
--- or lack of memory. It takes only a beginning of that if the sink has failed. Nothing is stated of
+-- The bytes that standard error takes: the usage, or the line of a fault, a spent number, a file or
+-- lack of memory. It takes only a beginning of that if the sink has failed. Nothing is stated of
 -- the lines of refusals.
 abbrev pub ReportsFailure : Option (List ℕ) → Option (List ℕ) → Bool → Failure → Type 0
 ReportsFailure old new sink_failed (failure.Usage text) =
@@ -83,8 +83,8 @@ ReportsFailure old new sink_failed (failure.Call call_error.NoMemory) =
     TookUnlessFailed memory_line old new sink_failed
 ReportsFailure old new sink_failed e = Unit {0}
 
--- What standard error takes for a command that failed, or for one that succeeded but whose text
--- could not be written.
+-- The bytes that standard error takes for a command that failed, or for one that succeeded but
+-- whose text could not be written.
 abbrev pub Explains : Option (List ℕ) → Option (List ℕ) → Bool → Ending → ℕ → Type 0
 Explains old new sink_failed (Ok text) status =
     status ≢ 0 → ReportsFailure old new sink_failed failure.Output

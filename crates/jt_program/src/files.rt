@@ -1,21 +1,21 @@
-//! The interface of the program to a file system.
+//! Defines the interface of the program to a file system.
 
 ghost use Rattle.std.specs.Prelude.{◌≢◌, ◌↔◌, ℕ, List, map, IfOk, IsErrOf, OnOk, string_bytes};
 ghost use Rattle.jt_program.specs.Files.{Known, anything};
 
-/// Why a file could not be listed, read or written.
+/// The reason why a file could not be listed, read or written.
 #[derive(Clone, Copy, Debug, PartialEq, Eq)]
 pub enum FileError {
-    /// The file system refused.
+    /// A refusal of the file system.
     Failed,
-    /// A growth was refused.
+    /// A refused growth.
     NoMemory,
 }
 
 /// Files by their paths.
 pub trait Files {
-    /// What is known of the files. By default every result is possible, as for a machine's own
-    /// files.
+    /// The results that calls on the files may have. By default every result is possible, as for a
+    /// machine's own files.
     ghost known: { Self → Known } = { λ _. anything };
 
     /// Returns the names of the regular files directly in `dir`, in no order.

@@ -1,8 +1,8 @@
-//! The program `jt`: its commands over files, an output and an error output.
+//! Implements the program `jt`: its commands over files, an output and an error output.
 //!
-//! `perform` (program) performs a line by the calls of jt_host and by turns, over files behind a
-//! trait (files, system), and reports how it ended (messages, reports). Read first: program.rt, and
-//! specs/Commands.antt, the end of each command.
+//! `perform` (program) performs a line by the calls of jt_host and by turns, over files accessed
+//! through a trait (files, system). It reports how the line ended (messages, reports). Read first:
+//! program.rt, and specs/Commands.antt, the end of each command.
 #![tactic(auto)]
 
 mod files;

@@ -1,4 +1,4 @@
-//! The statuses and the failures of the program.
+//! Defines the statuses and the failures of the program.
 
 ghost use Rattle.std.specs.Prelude.{◌≡◌};
 ghost use Rattle.jt_program.specs.Ending.{call_status, code_of, status_of, of_line, of_file};
@@ -38,20 +38,20 @@ impl Status {
     }
 }
 
-/// Why the program did not perform its line. `report` prints it.
+/// The reason why the program did not perform its line. `report` prints it.
 #[derive(Debug, Drop)]
 pub enum Failure {
-    /// The program does not take the line.
+    /// A line that the program does not take, with the text to print.
     Usage(String),
-    /// The words of the line are not texts.
+    /// Words of the line that are not texts.
     Words,
-    /// A template, an image or a context is refused, the run has no text, or memory ran out.
+    /// A refused template, image or context, a run without a text, or lack of memory.
     Call(CallError),
-    /// The host opens no further session.
+    /// A host that opens no further session.
     Host(HostError),
-    /// The file at this path could not be read or written.
+    /// The path of a file that could not be read or written.
     File(String),
-    /// The text could not be printed.
+    /// A text that could not be printed.
     Output,
 }
 

@@ -30,8 +30,8 @@ use jt_scan::Options;
 use jt_value::Context;
 use std::alloc::Global;
 
-/// Performs `words`, the line without the program's name, and returns the status: 0 done, 1 fault,
-/// 2 usage, 3 refused, 4 spent, 5 file, 6 no memory.
+/// Performs `words`, the line without the program's name, and returns the status. It is 0 for done,
+/// 1 fault, 2 usage, 3 refused, 4 spent, 5 file and 6 no memory.
 ///
 /// The text goes to `out`, with nothing added. If the status is not 0, `out` receives nothing, or a
 /// beginning of the text if `out` failed. `errors` then receives the reason: the usage or one line,
@@ -43,14 +43,14 @@ pub fn perform<F: Files, W: Sink, E: Sink>(
     out: &mut W,
     errors: &mut E,
 ) -> u8
-    // it is one of the statuses
+    // The status is one of 0 to 6.
     ensures status { result ≤ 6 }
-    // it is 2 only if the program does not take the line; for such a line it is 2, or 6 if memory
-    // ran out
+    // The status is 2 only if the program does not take the line. For such a line it is 2, or 6 if
+    // memory ran out.
     ensures usage { ¬ Takes (texts words.now) → (result ≡ 2) ⊎ (result ≡ 6) }
     ensures taken { Takes (texts words.now) → result ≢ 2 }
-    // unless it is 2 or 6, it and both outputs report how the command of the line ended over the
-    // files as they were; a fault, a spent number and a file are reported by their lines
+    // Unless the status is 2 or 6, it and both outputs report how the command of the line ended
+    // over the files as they were. A fault, a spent number and a file are reported by their lines.
     ensures ends { result ≢ 2
         → result ≢ 6
         → (e : Ending)
@@ -58,21 +58,21 @@ pub fn perform<F: Files, W: Sink, E: Sink>(
         (subcommand_of program_app (texts words.now)) e
         × Prints (W.taken out.old) (W.taken out.new) (W.failed out.new) e result
         × Explains (E.taken errors.old) (E.taken errors.new) (E.failed errors.new) e result }
-    // if it is 6, lack of memory is reported by its line
+    // If the status is 6, lack of memory is reported by its line.
     ensures memory { result ≡ 6
         → TookUnlessFailed memory_line (E.taken errors.old) (E.taken errors.new)
         (E.failed errors.new) }
-    // if it is 0, nothing was added to standard error
+    // If the status is 0, nothing was added to standard error.
     ensures silent { result ≡ 0 → errors.new ≡ errors.old }
-    // if it is neither 0 nor 5, standard output is as it was
+    // If the status is neither 0 nor 5, standard output is as it was.
     ensures untouched { result ≢ 0 → result ≢ 5 → out.new ≡ out.old }
-    // standard output is also as it was if it had failed before
+    // Standard output is also as it was if it had failed before.
     ensures failed_before { W.failed out.old ≡ true → out.new ≡ out.old }
-    // whatever the status, the files change at most at OUT of a line of `compile` or `upgrade`
+    // Whatever the status, the files change at most at OUT of a line of `compile` or `upgrade`.
     ensures only { ChangesOnly (F.known files.old) (F.known files.new)
         (out_of (subcommand_of program_app (texts words.now))) }
-    // the files are as they were, unless the line has an image to write: a template that compiles,
-    // or an image that has a version 2
+    // The files are as they were, unless the line has an image to write. It has one if its template
+    // compiles, or its image has a version 2.
     ensures touched { files.new ≡ files.old
         ⊎ LineWrites (F.known files.old) (subcommand_of program_app (texts words.now)) }
     ensures untaken { ¬ Takes (texts words.now) → files.new ≡ files.old }
@@ -178,7 +178,7 @@ fn compile_to<F: Files>(
         (string_bytes entry.name) (string_bytes out) entry.options result }
     ensures unwritten { IfErr result
         (λ e. status_of e ≢ Status.File → status_of e ≢ Status.Memory → files.new ≡ files.old) }
-    // if there is no image, nothing is written
+    // If there is no image, nothing is written.
     ensures touched { files.new ≡ files.old
         ⊎ HasImage (F.known files.old) (string_bytes entry.dir) (string_bytes entry.name)
         entry.options }
@@ -208,7 +208,7 @@ fn upgrade_to<F: Files>(
         result }
     ensures unwritten { IfErr result
         (λ e. status_of e ≢ Status.File → status_of e ≢ Status.Memory → files.new ≡ files.old) }
-    // if there is no image in version 2, nothing is written
+    // If there is no image in version 2, nothing is written.
     ensures touched { files.new ≡ files.old ⊎ HasUpgrade (F.known files.old) (string_bytes image) }
 {
     let bytes = bytes_at(files, image)?;
@@ -241,7 +241,7 @@ fn run_at<F: Files>(
     let bytes = bytes_at(files, image)?;
     let context = context_at(alloc, files, context)?;
     let text = run_image(alloc, &bytes, &context, budget);
-    // not dropped: the process ends soon and frees all its memory
+    // The context is not dropped: the process ends soon and frees all its memory.
     std::mem::forget(context);
     Ok(text?)
 }
@@ -268,7 +268,7 @@ fn render_in<F: Files>(
         options,
     };
     let text = render_text(alloc, &entry, &context, budget);
-    // not dropped, as in `run_at`
+    // The context is not dropped, as in `run_at`.
     std::mem::forget(context);
     Ok(text?)
 }
@@ -281,7 +281,7 @@ pub(crate) fn context_at<F: Files>(
 ) -> Result<Context, Failure>
     ensures given { IfOk result
         (λ context. IsContextAt (F.known files.now) path (pairs_of context)) }
-    // no file is read except that of the context
+    // No file is read except that of the context.
     ensures err { IfErr result
         (λ e. IsUnread (F.known files.now) (IsOfContext path) path (Err e)) }
 {

@@ -20,8 +20,8 @@ use std::fmt::{Display, Write};
 /// reports how the run ended.
 pub fn report<E: Sink>(errors: &mut E, failure: &Failure) -> u8
     ensures status { result ≡ code_of (status_of failure.now) }
-    // a fault, a spent number, a file and lack of memory are each reported by one line and nothing
-    // else
+    // A fault, a spent number, a file and lack of memory are each reported by one line and nothing
+    // else.
     ensures reported { ReportsFailure (E.taken errors.old) (E.taken errors.new)
         (E.failed errors.new) failure.now }
 {

@@ -1,4 +1,4 @@
-//! The file system of the machine on which the program runs.
+//! Accesses the file system of the machine on which the program runs.
 
 use crate::files::{FileError, Files};
 use std::alloc::{AllocError, AllocFailed};
@@ -30,7 +30,7 @@ impl From<io::Error> for FileError {
     ghost use Rattle.std.specs.declared.io.ErrorKind.TheVariants.{OutOfMemory};
     ghost use Rattle.jt_program.specs.declared.files.FileError.TheVariants.{Failed, NoMemory};
 
-    // lack of memory is kept apart from every other error
+    // Lack of memory is distinguished from every other error.
     ghost from_gives = { λ error e. (error_kind error ≡ OutOfMemory → e ≡ NoMemory)
         × (error_kind error ≢ OutOfMemory → e ≡ Failed) };
 
@@ -83,8 +83,8 @@ fn may_replace<R: Runtime>(rt: &R, path: &str) -> bool {
     }
 }
 
-/// Writes `bytes` to a new file, gives it the permissions of the file at `path`, and renames it to
-/// `path`.
+/// Writes `bytes` to a new file, sets its permissions to the permissions of the file at `path`, and
+/// renames it to `path`.
 fn fill<R: Runtime, F: Write + OpenFile>(
     rt: &R,
     file: &mut F,
@@ -118,8 +118,9 @@ impl<R: Runtime + AllocGlobal> Files for SystemFiles<'_, R> {
         Ok(bytes)
     }
 
-    // The old contents stay until the new bytes are complete. These are written to a new file, at
-    // `path` with `.part` after it. If no such file can be made, they are written in place.
+    // Writes `bytes` to `path`; the old contents stay until all bytes are written. A new file, at
+    // `path` with `.part` after it, takes the bytes first. If no such file can be made, `path` is
+    // overwritten.
     fn write(&mut self, path: &str, bytes: &[u8]) -> Result<(), FileError> {
         let part = format!(in self.rt.alloc(); "{path}.part")?;
         let made = if may_replace(self.rt, path) {

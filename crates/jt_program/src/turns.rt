@@ -14,8 +14,8 @@ use jt_turns::{Sessions, Start};
 use std::alloc::Global;
 
 /// Runs the images of `pairs` for their contexts in turns of `slice` instructions, and returns the
-/// line of each. It reads the files and opens the session of each pair in order. So a failure is
-/// that of the first pair that gives no session.
+/// line of each. Reads the files and opens the session of each pair in order. So a failure is that
+/// of the first pair that opens no session.
 pub(crate) fn run_turns<F: Files>(
     alloc: Global,
     files: &F,

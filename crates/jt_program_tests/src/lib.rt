@@ -1,5 +1,5 @@
-//! Tests the program's public calls over files in memory. The rows over the program itself test
-//! what its commands print and return.
+//! Tests the program's public calls over files in memory. The rows over the program itself test the
+//! outputs and statuses of its commands.
 #![tactic(auto)]
 
 #[cfg(test)]

@@ -1,4 +1,4 @@
-//! Tests lines over a disk: their statuses, what they print, and what they report.
+//! Tests lines over a disk: their statuses, outputs and reports.
 
 use jt_disk::{Disk, performed};
 use jt_machine::IoSink;
@@ -46,8 +46,8 @@ fn status(
     Ok(performed(alloc, &words, disk, out, errors))
 }
 
-/// Performs two lines over a disk of three templates and a context. Returns the statuses, what a
-/// sink took that fails after `left` bytes, and what was reported.
+/// Performs two lines over a disk of three templates and a context. Returns the statuses, the
+/// output of a sink that fails after `left` bytes, and the reported lines.
 fn ended(alloc: Global, left: usize, lines: &str) -> Result<String, Fail> {
     let mut disk = Disk::new(alloc);
     disk.put("d/a", b"x{{ 1 }}")?;
@@ -68,7 +68,7 @@ fn ended(alloc: Global, left: usize, lines: &str) -> Result<String, Fail> {
     Ok(format!(in alloc; "{first} {second} [{printed}][{said}]")?)
 }
 
-/// Rows of the form `bytes taken: line ; line => statuses [printed][said]`.
+/// Rows of the form `left: line ; line => statuses [printed][reported]`.
 const ROWS: &str = "9: compile d a out ; run out => 0 0 [x1][]
     9: compile d/e b out ; run out => 0 0 [y][]
     9: compile d b out ; run out => 3 5 [][jt: refused C1 Missing/jt: file out/]

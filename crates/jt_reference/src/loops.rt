@@ -7,7 +7,7 @@ use jt_value::{Fault, Value};
 use std::alloc::Global;
 use std::mem::replace;
 
-/// A loop: the indices of its items, how many were taken, and the indices of the kept items.
+/// A loop: the indices of its items, the number of taken items, and the indices of the kept items.
 #[derive(Drop)]
 pub(crate) struct Loop {
     items: Vec<usize>,

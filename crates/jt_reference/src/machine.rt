@@ -38,8 +38,8 @@ pub(crate) struct Activation {
     entries: Vec<StackEntry>,
 }
 
-/// The rest of an instruction after it changed the values: a text to emit, a capture to open or
-/// close, the end of the run, or none.
+/// The rest of an instruction after it changed the values: output, a capture to open or close, the
+/// end of the run, or nothing.
 #[derive(Drop)]
 enum Next {
     GoOn,

@@ -47,7 +47,7 @@ fn map_of(alloc: Global, values: &[Value]) -> Result<Value, End> {
     Ok(Value::from_entries(alloc, entries)?)
 }
 
-// Appends an entry. A key that exists keeps its place and takes the new value.
+// Appends an entry. A key that exists keeps its index and takes the new value.
 fn put_entry(
     alloc: Global,
     entries: &mut Vec<(String, Value)>,

@@ -46,7 +46,7 @@ MisusesLoop (attribute a k) around = IsTrue (is_loop a) × ((k ≢ codes "cycle"
 MisusesLoop f around = ⊥
 
 module _ (cenv : CompileEnv) (namespace : Namespace) where
-  -- V1: `loop` is read by itself, bound or misused in a call; or a field of `loop` is read that
+  -- V1: `loop` is read by itself, bound or misused in a call. Or a field of `loop` is read that
   -- does not exist, or that is outside a loop.
   abbrev pub LoopOutside : Use → Enclosing → Type 0
   LoopOutside (reads x) around = x ≡ codes "loop"

@@ -7,8 +7,8 @@ use thiserror::Error;
 /// The reason for which a template is not resolved: a broken rule, or lack of memory.
 #[derive(Clone, Copy, Debug, Drop, Error, PartialEq, Eq)]
 pub enum ScopeError {
-    /// A misuse of `loop`: a read by itself, a binding, a wrong call, or a field that does not
-    /// exist or is read outside a loop.
+    /// A misuse of `loop`: a read by itself, a binding, a wrong call, a missing field, or a field
+    /// that is read outside a loop.
     #[error("V1 LoopOutside")]
     LoopOutside,
     /// A macro or a library that is read as a value, or whose name is bound.

@@ -55,7 +55,7 @@ fn image_of(alloc: Global, words: &str) -> Result<Verified, Fail> {
     verify(alloc, decode(alloc, &bytes)?).map_err(|_| Fail::from("verify"))
 }
 
-// Returns the result of a run, whether the sink has failed, and what is written, if the writer
+// Returns the result of a run, whether the sink has failed, and the written text, if the writer
 // takes `left` bytes.
 fn answer(alloc: Global, verified: &Verified, budget: Budget, left: usize) -> Result<String, Fail> {
     let mut sink = IoSink::new(Slow {

@@ -48,7 +48,8 @@ fn gone_on(alloc: Global, mut machine: Machine, first: u32, second: u32) -> Resu
     Ok(format!(in alloc; "{first:?} {second:?} {is_lent} {outcome:?}")?)
 }
 
-// Runs N. A row is the fuel, the limit of size, and the instructions of the two advances.
+// Runs the image `N`. A row is the fuel, the limit of size, and the instructions of the two
+// advances.
 fn advanced(alloc: Global, asked: &str) -> Result<String, Fail> {
     let [fuel, size, first, second] = numbers::<4>(asked)?;
     let budget = Budget {
@@ -61,7 +62,7 @@ fn advanced(alloc: Global, asked: &str) -> Result<String, Fail> {
     gone_on(alloc, machine(alloc, budget)?, first, second)
 }
 
-// Checks that the context is tested before the first step.
+// Checks a run in two slices.
 #[test]
 fn a_run_is_sliced(rt: HostRuntime) -> Result<(), Fail> {
     rows_hold(

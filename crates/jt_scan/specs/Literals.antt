@@ -102,17 +102,17 @@ pub data Unended (quote : ℕ) : Text → Type 0 where
 
 -- The meaning of a character after a backslash.
 pub data Escape : Type 0 where
-  -- The character and its backslash are dropped.
+  -- An escape whose backslash and character are dropped.
   drops : Escape
-  -- The character and its backslash encode one character.
+  -- An escape that encodes one character.
   gives : ℕ → Escape
-  -- The character is the first of one to three octal digits.
+  -- An escape of one to three octal digits; the character is the first one.
   octal : Escape
   -- The number of hexadecimal digits that follow.
   hexadecimal : ℕ → Escape
-  -- The text is refused.
+  -- An escape for which the text is refused.
   refused : Escape
-  -- The character and its backslash stay.
+  -- An escape whose backslash and character stay.
   stays : Escape
 
 -- The meaning of a character after a backslash. The cases are, in order: an octal digit; LF; `\`,

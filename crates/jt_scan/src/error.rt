@@ -1,4 +1,4 @@
-//! The errors of the scanner.
+//! Defines the errors of the scanner.
 
 use std::alloc::{AllocError, AllocFailed};
 use thiserror::Error;
@@ -7,28 +7,28 @@ use thiserror::Error;
 /// counted from 1 after CR LF and CR have become LF. It is 1 if there is no tag.
 #[derive(Clone, Copy, Debug, Drop, Error, PartialEq, Eq)]
 pub enum ScanError {
-    /// The source ends inside a tag or a comment.
+    /// A source that ends inside a tag or a comment.
     #[error("S1 UnclosedTag")]
     UnclosedTag { line: u32 },
-    /// The source ends inside a text literal of a tag.
+    /// A source that ends inside a text literal of a tag.
     #[error("S2 UnclosedText")]
     UnclosedText { line: u32 },
-    /// A character of a tag begins no token.
+    /// A character of a tag that begins no token.
     #[error("S3 BadCharacter")]
     BadCharacter { line: u32 },
-    /// A text literal has an escape without meaning.
+    /// A text literal that has an escape without meaning.
     #[error("S4 BadEscape")]
     BadEscape { line: u32 },
-    /// A number is above 9223372036854775807.
+    /// A number above 9223372036854775807.
     #[error("S5 NumberTooLarge")]
     NumberTooLarge { line: u32 },
-    /// No `endraw` tag follows a `raw` tag.
+    /// A `raw` tag that no `endraw` tag follows.
     #[error("S6 UnclosedRaw")]
     UnclosedRaw { line: u32 },
-    /// The text has more than 1048576 bytes. The line is 1.
+    /// A text of more than 1048576 bytes. The line is 1.
     #[error("S7 SourceTooLong")]
     SourceTooLong { line: u32 },
-    /// A growth is refused.
+    /// A refused growth.
     #[error("S8 NoMemory")]
     NoMemory,
 }

@@ -1,4 +1,4 @@
-//! The options of a template's source.
+//! Defines the options of a template's source.
 
 ghost use Rattle.std.specs.Prelude.{◌≡◌};
 ghost use Rattle.jt_scan.specs.SourceView.{usual_options};

@@ -96,8 +96,8 @@ fn escape_of(c: char) -> Escape
     }
 }
 
-/// Reads at most `most` digits and appends them to the number `start`. Returns how many digits are
-/// missing, the number, which saturates at the greatest `u64`, and the rest of the text.
+/// Reads at most `most` digits and appends them to the number `start`. Returns the number of digits
+/// that are missing, the number, which saturates at the greatest `u64`, and the rest of the text.
 fn some_digits(text: &str, base: u32, most: usize, start: u64) -> (usize, u64, &str)
     ensures missing { length (some_digits base most (chars text.now)).0 + result.0 ≡ most }
     ensures number { result.1

@@ -1,4 +1,4 @@
-//! Segments and tokens, which are slices of their source.
+//! Defines segments and tokens, which are slices of their source.
 
 use crate::options::Options;
 

@@ -1,4 +1,4 @@
-//! The source of a template: its text with normalized line ends, and its options.
+//! Defines the source of a template: its text with normalized line ends, and its options.
 
 ghost use Rattle.std.specs.Prelude.{◌≡◌, ◌+◌, ◌<◌, ◌≤◌, length, MatchResult, Err, IfOk, false};
 ghost use Rattle.std.specs.String.{string_bytes};

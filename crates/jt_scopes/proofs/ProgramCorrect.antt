@@ -1,7 +1,7 @@
 -- The program of a chain means what the chain means.
 use Rattle.std.proofs.Common.{◌≡◌, ◌∙◌, ap, subst}
 use Rattle.jt_chains.specs.Includes.{InOrder}
-use Rattle.jt_chains.specs.Places.{namespace_at}
+use Rattle.jt_chains.specs.Indices.{namespace_at}
 use Rattle.jt_chains.specs.View.{Seen}
 use Rattle.jt_rules.specs.CompileEnv.{cenv_of}
 use Rattle.jt_ir.specs.Slots.{Program, smean}

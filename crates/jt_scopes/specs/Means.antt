@@ -1,4 +1,4 @@
--- A program means what a chain means.
+-- The agreement of a program's meaning with the meaning of its chain.
 use Rattle.std.specs.Prelude.{◌≡◌, ℕ, List, ◌∷◌}
 use Rattle.jt_value.specs.Pairs.{Pairs}
 use Rattle.jt_ast.specs.Expressions.{Text}
@@ -10,7 +10,7 @@ use Rattle.jt_semantics.specs.Meaning.{mean}
 use Rattle.jt_ir.specs.Slots.{Program, smean}
 
 -- Let the chains and libraries be in order, the entry's chain first. For every context and depth of
--- calls, the program means over slots what the chain means by names.
+-- calls, the program's meaning over slots is the chain's meaning by names.
 abbrev pub Means : Seen → Program → Type 0
 Means chain program =
     (entry : Text) (rest : List Namespace) → chain.order ≡ a_chain entry ∷ rest

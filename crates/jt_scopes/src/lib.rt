@@ -1,5 +1,5 @@
-//! Compiles a chain that keeps the rules to a program, and states that the program means what the
-//! chain means.
+//! Compiles a chain that keeps the rules to a program, and states that the program has the meaning
+//! of the chain.
 //!
 //! `resolve` (in `resolving`) checks the rules with jt_checks and resolves the chain with jt_bind.
 //! Read first: specs/Means.antt.

@@ -1,7 +1,7 @@
 //! Checks the rules of a chain and resolves it.
 
 ghost use Rattle.std.specs.Prelude.{◌≡◌, IfOk, OnOk, IfErr};
-ghost use Rattle.jt_chains.specs.Places.{namespace_at};
+ghost use Rattle.jt_chains.specs.Indices.{namespace_at};
 ghost use Rattle.jt_chains.specs.View.{chain_view};
 ghost use Rattle.jt_rules.specs.Rules.{KeepsRules, Breaks};
 ghost use Rattle.jt_rules.specs.CompileEnv.{cenv_of};
@@ -27,7 +27,7 @@ pub fn resolve(alloc: Global, chain: &Chain) -> Result<Program, ScopeError>
     ensures resolved { IfOk result (λ made. program_of made
         ≡ program (cenv_of (chain_view chain.now)) (chain_view chain.now).order
         (namespace_at (chain_view chain.now).order 0)) }
-    // The program means over slots what the chain means by names.
+    // The program's meaning over slots is the chain's meaning by names.
     ensures means { IfOk result
         (λ made. Means (chain_view chain.now) (program_of made)) }
     ensures kept { OnOk result

@@ -35,7 +35,7 @@ use Rattle.jt_ir.specs.Slots as slots
 use Rattle.jt_ir.specs.Slots.{Slot, SlotExpr, SRow, none, Routine}
 use Rattle.jt_ir.specs.Size.{row_count}
 use Rattle.jt_rules.specs.Known.{IsThere, ExprKnown, RowKnown, PairsKnown}
-use Rattle.jt_semantics.specs.Layout.{Table, slot_in, block_parameters, globals, numbered_of, default_place}
+use Rattle.jt_semantics.specs.Layout.{Table, slot_in, block_parameters, globals, numbered_of, default_index}
 use Rattle.jt_ir.specs.Pool.{Constant, own, known}
 use Rattle.jt_semantics.specs.Resolve.{value_or, operation_of, turned_round, tested_by, filtered_by, in_form}
 use Rattle.jt_semantics.specs.Resolve.{field_from, locals_from, filled, filled_some, first_locals, reads, StaticEnv}
@@ -277,7 +277,7 @@ module _ (cenv : CompileEnv) (order : List Namespace) where
       (count ts) (locals_from sp.free (keywords ps)))
   call_takes (a_macro k b) sp w f ts ps e t named h rows asides =
       let x = named k b refl in
-      let d = default_place cenv order k b.name in
+      let d = default_index cenv order k b.name in
       let table = locals_from sp.free (keywords ps) in
       let few = at_most (length b.parameters) (count ts)
       (both_first (not (nat_lt (length b.parameters) (count ts))) _

@@ -18,7 +18,7 @@ use Rattle.jt_rules.specs.CompileEnv.{CompileEnv}
 use Rattle.jt_semantics.specs.EvalContext.{Placement, EvalContext, Invocation, the_macro, the_block, the_chain, Calls}
 use Rattle.jt_ir.specs.Slots.{Memory, Valued, Listed, Written, SCalls}
 use Rattle.jt_semantics.specs.Layout.{slot_in, of_chain, of_macro, of_body, names, first_slot, globals}
-use Rattle.jt_semantics.specs.Layout.{block_parameters, numbered_of, unit, default_place}
+use Rattle.jt_semantics.specs.Layout.{block_parameters, numbered_of, unit, default_index}
 use Rattle.jt_semantics.specs.Programs.{pool}
 use Rattle.jt_semantics.specs.Resolve.{StaticEnv, Part, grown}
 use Rattle.jt_semantics.proofs.SameEval.{SameEval}
@@ -162,7 +162,7 @@ module _ (cenv : CompileEnv) (order : List Namespace) where
   abbrev pub DefaultsLaid : Type 0
   DefaultsLaid =
       (h : Namespace) → Known h → (x : Text) (b : MacroBody) → macro_of x (macros cenv.sources h) ≡ Some b
-      → DefaultsAt (default_place cenv order h b.name) b.parameters
+      → DefaultsAt (default_index cenv order h b.name) b.parameters
 
   -- Holds if a chain or library that a namespace leads to comes later in the order.
   pub record Behind (h k : Namespace) : Type 0 where

@@ -23,7 +23,7 @@ use Rattle.jt_ids.specs.LoopTable.{field_named}
 use Rattle.jt_eval.specs.Filters.{default_value, some_given}
 use Rattle.jt_rules.specs.CompileEnv.{CompileEnv}
 use Rattle.jt_semantics.specs.Expressions.{filter_parameters}
-use Rattle.jt_semantics.specs.Layout.{Table, slot_in, names, numbered_of, globals, block_parameters, default_place}
+use Rattle.jt_semantics.specs.Layout.{Table, slot_in, names, numbered_of, globals, block_parameters, default_index}
 use Rattle.jt_semantics.specs.Layout.{first_slot, unit, of_chain}
 use Rattle.jt_ir.specs.Slots as slots
 use Rattle.jt_ir.specs.Slots.{Slot, local, SlotExpr, SRow, SBody, variable, run}
@@ -188,8 +188,8 @@ module _ (cenv : CompileEnv) (order : List Namespace) where
       → Front w row → Front v asides
       → expr_count (invoked cenv order c sp row asides n ks) ≤ enclosed (w + v)
   invoked_counted (a_macro z m) sp row asides n ks w v r a =
-      let rest = filled m.parameters n (default_place cenv order z m.name) ks in
-      omega (arith, r (asides rest), a rest, filled_count m.parameters n (default_place cenv order z m.name) ks)
+      let rest = filled m.parameters n (default_index cenv order z m.name) ks in
+      omega (arith, r (asides rest), a rest, filled_count m.parameters n (default_index cenv order z m.name) ks)
   invoked_counted a_range sp row asides n ks w v r a = omega (arith, r slots.none)
   invoked_counted a_super sp row asides n ks w v r a = omega (arith, super_counted sp sp.part)
   invoked_counted (a_block x) sp row asides n ks w v r a =

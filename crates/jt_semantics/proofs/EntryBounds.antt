@@ -20,7 +20,7 @@ use Rattle.jt_ids.specs.declared.loop_field.LoopField.{LoopField}
 use Rattle.jt_eval.specs.Filters.{default_value, some_given}
 use Rattle.jt_rules.specs.CompileEnv.{CompileEnv}
 use Rattle.jt_semantics.specs.Expressions.{filter_parameters}
-use Rattle.jt_semantics.specs.Layout.{Table, slot_in, names, numbered_of, globals, block_parameters, default_place}
+use Rattle.jt_semantics.specs.Layout.{Table, slot_in, names, numbered_of, globals, block_parameters, default_index}
 use Rattle.jt_semantics.specs.Layout.{first_slot, unit, of_chain}
 use Rattle.jt_ir.specs.Slots as slots
 use Rattle.jt_ir.specs.Slots.{Slot, local, SlotExpr, SRow, SBody, variable, run}
@@ -197,8 +197,8 @@ module _ (cenv : CompileEnv) (order : List Namespace) (q : ℕ) where
       → AsidesLow v asides
       → 2 * expr_height (invoked cenv order c sp row asides n ks) ≤ u + enclosed (w + v) + 1 + 2 * q
   invoked_low (a_macro z m) sp row asides n ks u w v some f k r a =
-      let rest = filled m.parameters n (default_place cenv order z m.name) ks in
-      let low = filled_low m.parameters n (default_place cenv order z m.name) ks in
+      let rest = filled m.parameters n (default_index cenv order z m.name) ks in
+      let low = filled_low m.parameters n (default_index cenv order z m.name) ks in
       let hs : 2 * row_height (row (asides rest)) ≤ w + (v + 2 * q) =
       r (asides rest) (v + 2 * q) (omega arith) (omega (arith, a rest, low, f)) in
       omega (arith, some, hs)

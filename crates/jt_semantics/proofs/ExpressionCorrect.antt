@@ -45,7 +45,7 @@ use Rattle.jt_ir.specs.Slots as slots
 use Rattle.jt_ir.specs.Slots.{Slot, local, NaryOp, operator, a_list, a_map, SlotExpr, made, SRow, none, Memory, Valued}
 use Rattle.jt_ir.specs.Slots.{Listed, Written, SCalls, load, store, make, valued, in_front, svalue, svalues}
 use Rattle.jt_semantics.specs.Layout.{Table, slot_in, first_slot, of_macro, of_body, names, globals, block_parameters}
-use Rattle.jt_semantics.specs.Layout.{is_scoped, numbered_of, numbered_bodies, counted_from, unit, default_place}
+use Rattle.jt_semantics.specs.Layout.{is_scoped, numbered_of, numbered_bodies, counted_from, unit, default_index}
 use Rattle.jt_semantics.specs.Layout.{scopes}
 use Rattle.jt_semantics.specs.Programs.{pool}
 use Rattle.jt_ir.specs.Pool.{Constant, own, known, constant_in}
@@ -570,7 +570,7 @@ module _ (cenv : CompileEnv) (order : List Namespace) (calls : Calls) (scall : S
       by_left (regroup (values cenv calls ts (around_of cenv order sp l q) env)
       (named_values cenv calls ps (around_of cenv order sp l q) env) (λ vs ks. parameters b.parameters vs ks)
       (λ p. valued_text sp.escaping (calls (the_macro k b p gs))))
-      (bind_both (passed b (default_place cenv order k b.name)
+      (bind_both (passed b (default_index cenv order k b.name)
       (laid.defaults k (reached sp.namespace k env.globals [] g.known x.2).0 x.0 b x.1)) (λ p r w.
       let there = reached sp.namespace k env.globals r.memory.globals g.known x.2 in
       text_both sp sp.escaping (calls (the_macro k b p gs))

@@ -25,7 +25,7 @@ use Rattle.jt_chains.specs.Uses.{stmt_names, body_names, set_in}
 use Rattle.jt_chains.specs.Includes.{needs_by, needs_in, InOrder}
 use Rattle.jt_semantics.specs.Layout.{Table, slot_in, globals_from, of_macro, of_body, names, first_slot, globals}
 use Rattle.jt_semantics.specs.Layout.{block_parameters, is_scoped, unit, defaults_of, first_default, default_in}
-use Rattle.jt_semantics.specs.Layout.{default_place, scopes}
+use Rattle.jt_semantics.specs.Layout.{default_index, scopes}
 use Rattle.jt_ir.specs.Pool.{Constant, constant_in, routines_values}
 use Rattle.jt_semantics.specs.Resolve.{followed, StaticEnv, Part, bound_table, bound_all, scoped, resolved_stmt}
 use Rattle.jt_semantics.specs.Resolve.{resolved_body, resolved_sets, top_senv, resolved_chain, chain_routine}
@@ -159,7 +159,7 @@ module _ (cenv : CompileEnv) (order : List Namespace) where
   defaults_laid : DefaultsLaid cenv order
   defaults_laid h e x b m =
       let n = macro_named cenv order x b (macros cenv.sources h) m in
-      defaults_at (default_place cenv order h b.name) b.parameters
+      defaults_at (default_index cenv order h b.name) b.parameters
       (held_one tree.undefined
       (flat_map (λ g. defaults_of (macros cenv.sources g)) order ++ routines_values (routines cenv order))
       (default_in cenv order order h b.name) (map (λ p. default_value p.default) b.parameters)

@@ -9,7 +9,7 @@ use Rattle.jt_chains.specs.Chain.{Namespace, a_chain, a_library, same_namespace,
 use Rattle.jt_chains.specs.Chain.{MacroBody, macros, macro_of}
 use Rattle.jt_rules.specs.CompileEnv.{CompileEnv}
 use Rattle.jt_ir.specs.Slots.{Routine}
-use Rattle.jt_semantics.specs.Layout.{Key, of_chain, of_macro, of_body, same_key, place_of, counted_from}
+use Rattle.jt_semantics.specs.Layout.{Key, of_chain, of_macro, of_body, same_key, index_of, counted_from}
 use Rattle.jt_semantics.specs.Layout.{numbered_bodies, numbered_of, entry_keys, chain_keys, unit}
 use Rattle.jt_ir.specs.Pool.{Constant}
 use Rattle.jt_semantics.specs.Resolve.{chain_routine, macro_routine, body_routine}
@@ -22,7 +22,7 @@ assoc k [] = None
 assoc k (p ∷ ps) = if same_key p.0 k then Some p.1 else assoc k ps
 
 place_finds : {A : Type 0} (k : Key) (ps : List (Key × A))
-    → slice_get (map (λ p. p.1) ps) (place_of k (map (λ p. p.0) ps)) ≡ assoc k ps
+    → slice_get (map (λ p. p.1) ps) (index_of k (map (λ p. p.0) ps)) ≡ assoc k ps
 place_finds k [] = refl
 place_finds k (p ∷ ps) = search (arith, rules, place_finds k ps)
 
@@ -115,7 +115,7 @@ module _ (cenv : CompileEnv) (order : List Namespace) where
       → slice_get (routines cenv order) (unit cenv order k) ≡ Some r
   unit_finds k r e =
       sym (ap (λ rs. slice_get rs (unit cenv order k)) (all_routines_are order))
-      ∙ sym (ap (λ ks. slice_get (map (λ p. p.1) (flat_map keyed order)) (place_of k ks)) (all_keys_are order))
+      ∙ sym (ap (λ ks. slice_get (map (λ p. p.1) (flat_map keyed order)) (index_of k ks)) (all_keys_are order))
       ∙ place_finds k (flat_map keyed order) ∙ e
 
   -- A lookup skips the keys of other chains.

@@ -1,5 +1,5 @@
--- The layout of the names, macros and bodies of chains and libraries in a program: slots of
--- globals, routines, and the first values of the pool.
+-- The layout of chains and libraries in a program: slots of globals, routines, and the first values
+-- of the pool.
 use Rattle.std.specs.Prelude.{ℕ, suc, ◌+◌, ◌==◌, ◌&&◌, Bool, false, List, [], ◌∷◌, ◌++◌, length, map, flat_map, filter}
 use Rattle.std.specs.Prelude.{Option, Some, None, if◌then◌else◌}
 use Rattle.std.specs.List.{list_any}
@@ -34,8 +34,8 @@ abbrev pub counted_from : {A : Type 0} → ℕ → List A → List (ℕ × A)
 counted_from n [] = []
 counted_from n (x ∷ xs) = (n, x) ∷ counted_from (suc n) xs
 
--- The source of a routine: a chain, a macro of a chain or a library, or a block's body by its index
--- among all bodies of its chain.
+-- The source of a routine: a chain, a macro of a chain or a library, or a block's body. The body
+-- has its index among all bodies of its chain.
 pub data Key : Type 0 where
   of_chain : Text → Key
   of_macro : Namespace → Text → Key
@@ -47,9 +47,9 @@ same_key (of_macro a x) (of_macro b y) = same_namespace a b && bytes_eq x y
 same_key (of_body a i) (of_body b j) = same_namespace a b && (i == j)
 same_key _ _ = false
 
-abbrev pub place_of : Key → List Key → ℕ
-place_of k [] = 0
-place_of k (j ∷ js) = if same_key j k then 0 else suc (place_of k js)
+abbrev pub index_of : Key → List Key → ℕ
+index_of k [] = 0
+index_of k (j ∷ js) = if same_key j k then 0 else suc (index_of k js)
 
 -- The names that are stored in globals: all names of a chain, and no name of a library.
 abbrev pub in_globals : Namespace → List Text → List Text
@@ -128,7 +128,7 @@ module _ (cenv : CompileEnv) where
     keys = flat_map chain_keys order
 
     abbrev pub unit : Key → ℕ
-    unit k = place_of k keys
+    unit k = index_of k keys
 
     -- The first values of the pool: undefined, and the defaults of all macros.
     abbrev pub shared : List Tree
@@ -142,5 +142,5 @@ module _ (cenv : CompileEnv) where
         else length (defaults_of (macros cenv.sources first)) + default_in rest namespace x
 
     -- The index in the pool of the default of a macro's first parameter.
-    abbrev pub default_place : Namespace → Text → ℕ
-    default_place namespace x = suc (default_in order namespace x)
+    abbrev pub default_index : Namespace → Text → ℕ
+    default_index namespace x = suc (default_in order namespace x)

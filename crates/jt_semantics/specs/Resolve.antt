@@ -29,7 +29,7 @@ use Rattle.jt_rules.specs.CompileEnv.{CompileEnv}
 use Rattle.jt_semantics.specs.Expressions.{filter_parameters}
 use Rattle.jt_semantics.specs.Meaning.{is_set}
 use Rattle.jt_semantics.specs.Layout.{Table, slot_in, of_chain, of_macro, of_body, names, numbered_of, first_slot}
-use Rattle.jt_semantics.specs.Layout.{globals, block_parameters, unit, default_place}
+use Rattle.jt_semantics.specs.Layout.{globals, block_parameters, unit, default_index}
 use Rattle.jt_ir.specs.Slots as slots
 use Rattle.jt_ir.specs.Slots.{Slot, local, global, SlotExpr, pooled, variable, field, absent, made, invoke, operator}
 use Rattle.jt_ir.specs.Slots.{a_list, a_map, SRow, none, aside, Targets, one, several, SlotStmt, put_pooled, assign}
@@ -98,7 +98,7 @@ abbrev pub fresh_targets : ℕ → List Text → Targets
 fresh_targets n (x ∷ []) = one (local n)
 fresh_targets n xs = several (fresh n xs)
 
--- The slots of names that are set. Of a repeated name only the last one has a slot.
+-- The slots of names that are set. Only the last occurrence of a repeated name has a slot.
 abbrev pub kept_slots : Table → List Text → List (Option Slot)
 kept_slots table [] = []
 kept_slots table (x ∷ xs) = (if among x xs then None else slot_in x table) ∷ kept_slots table xs
@@ -231,7 +231,7 @@ module _ (cenv : CompileEnv) (order : List Namespace) where
       → (SRow Constant → SRow Constant) → ℕ → Table → SlotExpr Constant
   invoked (a_macro namespace m) senv row asides given keyword_slots =
       invoke (unit cenv order (of_macro namespace m.name)) senv.escaping
-      (row (asides (filled m.parameters given (default_place cenv order namespace m.name) keyword_slots)))
+      (row (asides (filled m.parameters given (default_index cenv order namespace m.name) keyword_slots)))
   invoked a_range senv row asides given keyword_slots = made (operator (range_of given)) (row none)
   invoked a_super senv row asides given keyword_slots = invoked_super senv senv.part
   invoked (a_block x) senv row asides given keyword_slots =

@@ -13,7 +13,7 @@ use Rattle.jt_sessions.specs.declared.error.HostError.TheVariants as error
 
 -- ---- worlds and events
 
--- The open sessions, by their ids, and the last id that was given.
+-- The open sessions, by their ids, and the last id that was assigned.
 pub record World : Type 0 where
   pub last : ℕ
   pub sessions : List (ℕ × Session)
@@ -63,7 +63,7 @@ remove id (entry ∷ entries) = if entry.0 == id then entries else entry ∷ rem
 abbrev pub with_sessions : World → List (ℕ × Session) → World
 with_sessions w es = record w { sessions = es }
 
--- The reason why no session can be opened: 64 are open, or every id was given.
+-- The reason why no session can be opened: 64 are open, or every id was assigned.
 abbrev pub bar : World → Option HostError
 bar world =
     if nat_le max_sessions (length world.sessions)

@@ -1,4 +1,4 @@
-//! Defines the refusals of a host.
+//! Defines the errors of a host.
 
 use thiserror::Error;
 
@@ -14,7 +14,7 @@ pub enum HostError {
     /// A growth that was refused, now or in an earlier turn of the session.
     #[error("H3 NoMemory")]
     NoMemory,
-    /// A host that has given every id.
+    /// A host that has assigned every id.
     #[error("H4 NoId")]
     NoId,
 }

@@ -15,7 +15,7 @@ use std::marker::Model;
 const MAX_SESSIONS: usize = 64;
 
 /// Runs of verified images that take turns, each under its own budget. Ids are 1, 2, 3 and so on.
-/// No id is given twice.
+/// No id is assigned twice.
 #[derive(Drop)]
 pub struct Host {
     alloc: Global,
@@ -65,7 +65,7 @@ impl Host {
     /// Each error returns the image, and leaves the host unchanged.
     ///
     /// - `Full` if 64 sessions are open, and only then.
-    /// - `NoId` if every id was given, and fewer than 64 sessions are open.
+    /// - `NoId` if every id was assigned, and fewer than 64 sessions are open.
     /// - `NoMemory` if a growth is refused.
     pub fn open(
         &mut self,

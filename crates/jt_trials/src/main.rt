@@ -7,10 +7,10 @@
 //!     values                     calls on values, on texts and on the parts of an image
 //!     turns                      the events of a host with a session of each image so far
 //!     writes ROW                 runs into writers that fail once, at each of their calls
-//!     image AT STEP JSON¦HEX     each beginning and each change of an image at the places AT,
+//!     image AT STEP JSON¦HEX     each beginning and each change of an image at the positions AT,
 //!                                AT + STEP and so on
 //!     sources AT STEP ROW        each beginning and each change of the sources of a row at
-//!                                such places
+//!                                such positions
 //!     plain JSON¦HEX             an image beside a reference machine
 //!
 //! A row is templates, a context and options with `¦` between, as in tests/run.py. Status 6 reports

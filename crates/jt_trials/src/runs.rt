@@ -162,7 +162,7 @@ fn advanced(machine: &mut Machine) -> Result<Progress, NoMemory> {
     Ok(Progress::Going)
 }
 
-/// Prints what a lost run returns, and starts its image anew.
+/// Prints the results of a lost run, and starts its image anew.
 fn restarted(rt: &HostRuntime, mut machine: Machine, context: &Context) -> Result<Machine, Stop> {
     let (none, more) = (machine.advance(0), machine.advance(SLICE));
     let is_lost = machine.is_lost() && machine.outcome().is_none();

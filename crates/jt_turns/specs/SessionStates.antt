@@ -18,7 +18,7 @@ first_of o = started o.start.code (pairs_of o.start.context) o.budget
 abbrev pub IsSession : Opening → Session → Type 0
 IsSession o x = (n : ℕ) × (x ≡ advanced n (first_of o))
 
--- The sessions are those of the images, with consecutive ids.
+-- The sessions are the sessions of the images, with consecutive ids.
 abbrev pub AreSessions : ℕ → List Opening → List (ℕ × Session) → Type 0
 AreSessions i [] [] = Unit {0}
 AreSessions i [] (e ∷ es) = ⊥

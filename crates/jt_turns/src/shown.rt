@@ -51,7 +51,7 @@ pub fn hex_digits(byte: u8) -> (&'static str, &'static str)
     (hex_digit_text(byte / 16), hex_digit_text(byte % 16))
 }
 
-/// Returns a hexadecimal digit.
+/// Returns the hexadecimal digit of `number`.
 fn hex_digit_text(number: u8) -> &'static str
     requires { number < 16 }
     ensures { result.now ≡ hex_digit number }

@@ -1,6 +1,7 @@
 -- Laws of entries whose keys ascend.
 use Rattle.std.proofs.Common.{◌≡◌, ℕ, zero, suc, ◌+◌, ◌<◌, ◌≤◌, Bool, true, false, cond, ◌||◌, List, [], ◌∷◌, length}
 use Rattle.std.proofs.Common.{drop, refl, sym, ap, ◌∙◌, subst, true≢false, arith}
+use Rattle.std.specs.Prelude.{is_some}
 use Rattle.std.specs.List.{AllByRecursion, IsDistinct, list_any}
 use Rattle.std.specs.Str.{bytes_eq}
 use Rattle.std.specs.declared.cmp.Ordering.{Ordering}
@@ -15,7 +16,8 @@ use Rattle.jt_value.specs.Tree.{Entries, no_entries, entry}
 use Rattle.jt_value.specs.Entries.{entry_of, has_key, all_keys, keys, stands_before, ascends}
 use Rattle.jt_value.specs.Equality.{equal, equal_at}
 use Rattle.jt_value.specs.View.{entries_view}
-use Rattle.jt_value.proofs.EntryLaws.{has_key-there}
+use Rattle.jt_value.specs.internal.InOrder.{IsInOrder, HasKeyCount}
+use Rattle.jt_value.proofs.EntryLaws.{has_key-there, has_key-entry_of}
 use Rattle.jt_value.proofs.Lists.{Pair}
 use Rattle.jt_value.proofs.Equalities.{reflexive, left_true, right_true, holds_of}
 
@@ -116,18 +118,20 @@ no_more es fs a f =
     length-le_from_is_member nat_list_eq_equiv (keys es) (keys fs) (distinct_keys es a)
     (λ q m. among_keys q fs ∙ f q (sym (among_keys q es) ∙ m))
 
-as_many : (xs : List Pair) → length (keys (entries_view xs)) ≡ length xs
+pub as_many : (xs : List Pair) → length (keys (entries_view xs)) ≡ length xs
 as_many [] = refl
 as_many (x ∷ xs) = ap suc (as_many xs)
 
--- If a map with ascending keys has more entries than another, the two are unequal.
-pub more_unequal : (xs ys : List Pair) → ascends (entries_view xs) ≡ true → length ys < length xs
-    → equal (tree.map (entries_view xs)) (tree.map (entries_view ys)) ≡ false
-more_unequal xs ys a more = by (equal (tree.map es) (tree.map fs)) refl
-  where
-    es : Entries
-    es = entries_view xs
+-- The keys in order are the keys of the map.
+ordered_has : (os es : Entries) → IsInOrder os es → (k : List ℕ) → has_key k os ≡ has_key k es
+ordered_has os es i k =
+    has_key-entry_of k os ∙ ap is_some (i.1 k) ∙ sym (has_key-entry_of k es)
 
+-- If a map has more different keys than another has entries, the two are unequal.
+pub more_unequal : (es : Entries) (n : ℕ) (ys : List Pair) → HasKeyCount n es → length ys < n
+    → equal (tree.map es) (tree.map (entries_view ys)) ≡ false
+more_unequal es n ys count more = by (equal (tree.map es) (tree.map fs)) refl
+  where
     fs : Entries
     fs = entries_view ys
 
@@ -135,27 +139,26 @@ more_unequal xs ys a more = by (equal (tree.map es) (tree.map fs)) refl
     by false h = refl
     by true h =
         let firsts = left_true (all_keys (λ k. equal_at es k (entry_of k fs)) es) (all_keys (λ k. has_key k es) fs) h in
-        let few = no_more es fs a
-        (λ k there. has_key-there es fs k (holds_of (λ n. equal_at es n (entry_of n fs)) es k firsts there)) in
-        absurd (omega (arith, more, few, as_many xs, as_many ys))
+        let few = no_more count.0 fs count.1.0 (λ k there.
+        has_key-there es fs k (holds_of (λ n. equal_at es n (entry_of n fs)) es k firsts
+        (sym (ordered_has count.0 es count.1 k) ∙ there))) in
+        absurd (omega (arith, more, few, count.2, as_many ys))
 
-pub fewer_unequal : (xs ys : List Pair) → ascends (entries_view ys) ≡ true → length xs < length ys
-    → equal (tree.map (entries_view xs)) (tree.map (entries_view ys)) ≡ false
-fewer_unequal xs ys a fewer = by (equal (tree.map es) (tree.map fs)) refl
+pub fewer_unequal : (fs : Entries) (n : ℕ) (xs : List Pair) → HasKeyCount n fs → length xs < n
+    → equal (tree.map (entries_view xs)) (tree.map fs) ≡ false
+fewer_unequal fs n xs count fewer = by (equal (tree.map es) (tree.map fs)) refl
   where
     es : Entries
     es = entries_view xs
-
-    fs : Entries
-    fs = entries_view ys
 
     by : (c : Bool) → equal (tree.map es) (tree.map fs) ≡ c → c ≡ false
     by false h = refl
     by true h =
         let covered =
         right_true (all_keys (λ k. equal_at es k (entry_of k fs)) es) (all_keys (λ k. has_key k es) fs) h in
-        let few = no_more fs es a (λ k there. holds_of (λ n. has_key n es) fs k covered there) in
-        absurd (omega (arith, fewer, few, as_many xs, as_many ys))
+        let few = no_more count.0 es count.1.0 (λ k there.
+        holds_of (λ n. has_key n es) fs k covered (sym (ordered_has count.0 fs count.1 k) ∙ there)) in
+        absurd (omega (arith, fewer, few, count.2, as_many xs))
 
 -- The last entry alone ascends, and so does an empty list.
 pub ascends_end : (xs : List Pair) (i : ℕ) → length xs ≤ i + 1 → ascends (entries_view (drop i xs)) ≡ true

@@ -12,7 +12,7 @@ use Rattle.std.specs.List.Sorted.{IsNonDecreasingBy, IsBinarySearchResult, IsSea
 use Rattle.std.proofs.lemmas.Bool.{cases_order}
 use Rattle.std.proofs.lemmas.Cmp.{nat_list_cmp_total}
 use Rattle.std.proofs.lemmas.Map.Text.{is_eq-slice_cmp}
-use Rattle.jt_value.specs.Entries.{place_of, has_key, stands_before, ascends}
+use Rattle.jt_value.specs.Entries.{index_of, has_key, stands_before, ascends}
 use Rattle.jt_value.specs.View.{entries_view}
 use Rattle.jt_value.proofs.Lists.{Pair}
 use Rattle.jt_value.proofs.Equalities.{reflexive, left_true, right_true}
@@ -86,11 +86,11 @@ rises t (x ∷ xs) h (suc i) (suc j) d le l = rises t xs (rest_ascends x xs h) i
 -- ---- The index of the key
 
 found : (t : List ℕ) (xs : List Pair) → ascends (entries_view xs) ≡ true → (i : ℕ) → i < length xs
-    → ((d : Pair) → against t (get_or xs i d) ≡ Equal) → Some i ≡ place_of t (entries_view xs)
+    → ((d : Pair) → against t (get_or xs i d) ≡ Equal) → Some i ≡ index_of t (entries_view xs)
 found t [] h i l e = absurd (omega arith)
 found t (x ∷ xs) h zero l e =
     sym
-    (ap (λ b. cond b (Some 0) (option_map suc (place_of t (entries_view xs)))) (equal_same (string_bytes x.0) t (e x)))
+    (ap (λ b. cond b (Some 0) (option_map suc (index_of t (entries_view xs)))) (equal_same (string_bytes x.0) t (e x)))
 found t (x ∷ xs) h (suc i) l e =
     let here : string_bytes (get_or xs i x).0 ≡ t =
     same_text (string_bytes (get_or xs i x).0) t (sym (equal_same (string_bytes (get_or xs i x).0) t (e x))) in
@@ -98,18 +98,18 @@ found t (x ∷ xs) h (suc i) l e =
     subst (λ w. slice_cmp nat_cmp (string_bytes x.0) w ≡ Less) here (behind x xs h i x (omega arith)) in
     ap (option_map suc) (found t xs (rest_ascends x xs h) i (omega arith) e)
     ∙ sym
-    (ap (λ b. cond b (Some 0) (option_map suc (place_of t (entries_view xs)))) (less_apart (string_bytes x.0) t before))
+    (ap (λ b. cond b (Some 0) (option_map suc (index_of t (entries_view xs)))) (less_apart (string_bytes x.0) t before))
 
 none : (t : List ℕ) (xs : List Pair)
     → ((j : ℕ) (d : Pair) → j < length xs → bytes_eq (string_bytes (get_or xs j d).0) t ≡ false)
-    → None ≡ place_of t (entries_view xs)
+    → None ≡ index_of t (entries_view xs)
 none t [] h = refl
 none t (x ∷ xs) h =
     ap (option_map suc) (none t xs (λ j d l. h (suc j) d (omega arith)))
-    ∙ sym (ap (λ b. cond b (Some 0) (option_map suc (place_of t (entries_view xs)))) (h zero x (omega arith)))
+    ∙ sym (ap (λ b. cond b (Some 0) (option_map suc (index_of t (entries_view xs)))) (h zero x (omega arith)))
 
 pub halved : (t : List ℕ) (xs : List Pair) (r : Result ℕ ℕ) → ascends (entries_view xs) ≡ true
-    → IsSearchInRange r (length xs) → IsBinarySearchResult (against t) xs r → result_ok r ≡ place_of t (entries_view xs)
+    → IsSearchInRange r (length xs) → IsBinarySearchResult (against t) xs r → result_ok r ≡ index_of t (entries_view xs)
 halved t xs (Ok i) h l s = found t xs h i l s
 halved t xs (Err i) h l s = none t xs (λ j d m. through j d m)
   where

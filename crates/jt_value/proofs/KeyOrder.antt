@@ -1,7 +1,7 @@
 -- The laws of maps whose entries are visited in the order of their keys.
-use Rattle.std.proofs.Common.{Bor, ◌≡◌, ℕ, zero, suc, Bool, true, false, cond, ◌&&◌, List, [], ◌∷◌, drop, get_or}
-use Rattle.std.proofs.Common.{Option, Some, None, String, Global, string_bytes, string_cmp, refl, sym, ap, ◌∙◌, subst}
-use Rattle.std.proofs.Common.{true≢false, arith}
+use Rattle.std.proofs.Common.{Bor, ◌≡◌, ℕ, zero, suc, Bool, true, false, cond, ◌&&◌, List, [], ◌∷◌, length, drop}
+use Rattle.std.proofs.Common.{get_or, Option, Some, None, String, Global, string_bytes, string_cmp, refl, sym, ap}
+use Rattle.std.proofs.Common.{◌∙◌, subst, true≢false, arith}
 use Rattle.std.specs.Prelude.{◌<◌, not, is_some, option_map, IfSome}
 use Rattle.std.specs.Slice.{IsItemAt}
 use Rattle.std.specs.Str.{bytes_eq}
@@ -16,14 +16,14 @@ use Rattle.std.specs.String.{string_eq, string_cmp_total}
 use Rattle.std.proofs.lemmas.Map.Views.{All-found}
 use Rattle.jt_value.specs.Tree as tree
 use Rattle.jt_value.specs.Tree.{Tree, Entries, no_entries, entry, size, entries_size}
-use Rattle.jt_value.specs.Entries.{entry_of, place_of, has_key, stands_before, ascends}
+use Rattle.jt_value.specs.Entries.{entry_of, index_of, has_key, keys, stands_before, ascends}
 use Rattle.jt_value.specs.Equality.{equal, agree, AgreeAtEachKey}
-use Rattle.jt_value.specs.internal.InOrder.{IsInOrder, first_and, entries_at}
+use Rattle.jt_value.specs.internal.InOrder.{IsInOrder, HasKeyCount, first_and, entries_at}
 use Rattle.jt_value.specs.View.{view, entries_view}
 use Rattle.jt_value.proofs.AscendingKeys.{before_all, not_itself, firsts_same, own}
 use Rattle.jt_value.proofs.EntryLaws.{has_key-entry_of, entry_of-own, missing, equal-agree, agree-equal}
 use Rattle.jt_value.proofs.Equalities.{reflexive, left_true, right_true, both_true}
-use Rattle.jt_value.proofs.KeyPlaces.{has_key-place_of, size_lt}
+use Rattle.jt_value.proofs.KeyIndices.{has_key-index_of, size_lt}
 use Rattle.jt_value.proofs.Lists.{Pair}
 use Rattle.jt_value.proofs.ContextLookup.{same_key}
 
@@ -149,9 +149,9 @@ IsFirst xs k p =
     (t : Tree) × ((rest : Entries) → first_and (drop p xs) rest ≡ entry k t rest)
     × (entry_of k (entries_view xs) ≡ Some t)
 
-first_at : (xs : List Pair) (k : List ℕ) (p : ℕ) → place_of k (entries_view xs) ≡ Some p → IsFirst xs k p
+first_at : (xs : List Pair) (k : List ℕ) (p : ℕ) → index_of k (entries_view xs) ≡ Some p → IsFirst xs k p
 first_at [] k p h = absurd (true≢false (sym (ap is_some h)))
-first_at (x ∷ xs) k p h = by (bytes_eq (string_bytes x.0) k) refl (place_of k (entries_view xs)) h (first_at xs k)
+first_at (x ∷ xs) k p h = by (bytes_eq (string_bytes x.0) k) refl (index_of k (entries_view xs)) h (first_at xs k)
   where
     by : (b : Bool) → bytes_eq (string_bytes x.0) k ≡ b → (o : Option ℕ) → cond b (Some 0) (option_map suc o) ≡ Some p
         → ((q : ℕ) → o ≡ Some q → IsFirst xs k q) → IsFirst (x ∷ xs) k p
@@ -170,7 +170,7 @@ first_at (x ∷ xs) k p h = by (bytes_eq (string_bytes x.0) k) refl (place_of k 
         (there.0, there.1, ap (λ b. cond b (Some (view x.1)) (entry_of k (entries_view xs))) e ∙ there.2)
 
 abbrev Keeps : List Pair → List (String Global × ℕ) → Type 0
-Keeps xs ms = All (λ m. place_of (string_bytes m.0) (entries_view xs) ≡ Some m.1) ms
+Keeps xs ms = All (λ m. index_of (string_bytes m.0) (entries_view xs) ≡ Some m.1) ms
 
 behind : (xs : List Pair) (m : String Global × ℕ) (ms : List (String Global × ℕ)) → Keeps xs (m ∷ ms) → Keeps xs ms
 behind xs m ms h i d l = h (suc i) d (omega arith)
@@ -220,23 +220,42 @@ kept_entry xs (m ∷ ms) h k =
     by true e t is rest = sym is ∙ ap (λ n. entry_of n (entries_view xs)) (same_text (string_bytes m.0) k (sym e))
     by false e t is rest = rest
 
-pub kept_in_order : (xs : List Pair) (places : BTreeMap (String Global) ℕ) → IsOrdered string_cmp places
-    → ((k : List ℕ) → get_by_text places k ≡ place_of k (entries_view xs))
-    → IsInOrder (entries_at xs (values places)) (entries_view xs)
-kept_in_order xs places s h = (
-  kept_ascends xs places.entries keeps s,
-  λ k. kept_entry xs places.entries keeps k
+keeps : (xs : List Pair) (indices : BTreeMap (String Global) ℕ) → IsOrdered string_cmp indices
+    → ((k : List ℕ) → get_by_text indices k ≡ index_of k (entries_view xs)) → Keeps xs indices.entries
+keeps xs indices s h i d l =
+    sym (h (string_bytes (get_or indices.entries i d).0)) ∙ All-found string_cmp_total indices s i d l
+
+pub kept_in_order : (xs : List Pair) (indices : BTreeMap (String Global) ℕ) → IsOrdered string_cmp indices
+    → ((k : List ℕ) → get_by_text indices k ≡ index_of k (entries_view xs))
+    → IsInOrder (entries_at xs (values indices)) (entries_view xs)
+kept_in_order xs indices s h = (
+  kept_ascends xs indices.entries (keeps xs indices s h) s,
+  λ k. kept_entry xs indices.entries (keeps xs indices s h) k
       ∙ ap (λ b. cond b (entry_of k (entries_view xs)) None)
-      (ap is_some (h k) ∙ sym (has_key-place_of k (entries_view xs)) ∙ has_key-entry_of k (entries_view xs))
+      (ap is_some (h k) ∙ sym (has_key-index_of k (entries_view xs)) ∙ has_key-entry_of k (entries_view xs))
       ∙ whole (entry_of k (entries_view xs)),
 )
   where
-    keeps : Keeps xs places.entries
-    keeps i d l = sym (h (string_bytes (get_or places.entries i d).0)) ∙ All-found string_cmp_total places s i d l
-
     whole : (o : Option Tree) → cond (is_some o) o None ≡ o
     whole None = refl
     whole (Some t) = refl
+
+-- The number of stored indices is that of the different keys.
+count_of : (xs : List Pair) (ms : List (String Global × ℕ)) → Keeps xs ms
+    → length (keys (entries_at xs (values_of ms))) ≡ length ms
+count_of xs [] h = refl
+count_of xs (m ∷ ms) h =
+    ap (λ es. length (keys es)) ((first_kept xs m ms h).1 (entries_at xs (values_of ms)))
+    ∙ ap suc (count_of xs ms (behind xs m ms h))
+
+pub kept_count : (xs : List Pair) (indices : BTreeMap (String Global) ℕ) → IsOrdered string_cmp indices
+    → ((k : List ℕ) → get_by_text indices k ≡ index_of k (entries_view xs))
+    → HasKeyCount (length indices.entries) (entries_view xs)
+kept_count xs indices s h = (
+  entries_at xs (values indices),
+  kept_in_order xs indices s h,
+  count_of xs indices.entries (keeps xs indices s h),
+)
 
 -- ---- The value that comes next is smaller than the map
 

@@ -12,9 +12,9 @@ entry_of k no_entries = None
 entry_of k (entry l t es) = if bytes_eq l k then Some t else entry_of k es
 
 -- The index of a key's first entry, if the key occurs.
-abbrev pub place_of : List ℕ → Entries → Option ℕ
-place_of k no_entries = None
-place_of k (entry l t es) = if bytes_eq l k then Some 0 else option_map suc (place_of k es)
+abbrev pub index_of : List ℕ → Entries → Option ℕ
+index_of k no_entries = None
+index_of k (entry l t es) = if bytes_eq l k then Some 0 else option_map suc (index_of k es)
 
 -- True if the map has the key.
 abbrev pub has_key : List ℕ → Entries → Bool

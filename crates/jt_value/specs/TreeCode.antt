@@ -125,3 +125,14 @@ abbrev pub coded_entries : Coded Entries
 coded_entries =
     code_by (List Token) token_code entry_tokens (λ ts. top (run ts (no_entries ∷ [])))
     (λ es. ap top (run-entries es []))
+
+-- A tree as entries with one empty key.
+abbrev pub first_tree : Entries → Tree
+first_tree no_entries = undefined
+first_tree (entry k t es) = t
+
+abbrev pub coded_tree : Coded Tree
+coded_tree = code_by Entries coded_entries (λ t. entry [] t no_entries) first_tree (λ t. refl)
+
+abbrev pub coded_table : Coded (List (List ℕ × Tree) × ℕ)
+coded_table = coded× (coded_list (coded× (coded_list coded_ℕ) coded_tree)) coded_ℕ

@@ -7,7 +7,9 @@ ghost use Rattle.jt_value.specs.View.{view, items_view, entries_view};
 use crate::fault::NoMemory;
 use crate::payload::{ValueList, ValueMap};
 use crate::value::Value;
+use indexmap::IndexMap;
 use std::alloc::Global;
+use std::hash::BuildHasher;
 use std::rc::{Rc, RcStr};
 
 impl Value {
@@ -76,6 +78,20 @@ impl Value {
         ensures { IfOk result (λ v. view v ≡ tree.map (entries_view entries.items)) }
     {
         Ok(Value::Map(Rc::new(alloc, ValueMap::new(alloc, entries)?)?))
+    }
+
+    /// Returns a map that takes the entries of an `IndexMap` without copying them, in their order.
+    ///
+    /// # Errors
+    ///
+    /// `NoMemory` if a growth is refused. The entries are then dropped.
+    pub fn map<S: BuildHasher + Drop>(
+        alloc: Global,
+        entries: IndexMap<String, Value, S>,
+    ) -> Result<Value, NoMemory>
+        ensures { IfOk result (λ v. view v ≡ tree.map (entries_view entries.entries)) }
+    {
+        Value::from_entries(alloc, entries.into_iter().collect(alloc)?)
     }
 
     /// Returns the characters of a text, plain or markup, or `None` for any other value.

@@ -1,22 +1,24 @@
 //! Searches and compares the entries of a map. A repeated key has its first value.
-ghost use Rattle.std.specs.Prelude.{◌≡◌};
+ghost use Rattle.std.specs.Prelude.{◌≡◌, true, IsTrue};
 ghost use Rattle.std.specs.Cmp.Lexicographic.{slice_cmp};
 ghost use Rattle.std.specs.Ordering.{nat_cmp, is_lt};
-ghost use Rattle.jt_value.specs.Entries.{place_of, same_keys, ascends};
+ghost use Rattle.jt_value.specs.Entries.{index_of, same_keys, ascends};
+ghost use Rattle.jt_value.specs.Tree.{Tree};
 ghost use Rattle.jt_value.specs.View.{entries_view};
+ghost use Rattle.jt_value.specs.internal.MoreEntries.{more_entries};
 
 use crate::value::Value;
 
 /// Returns the index of a key's first entry, by a linear search.
-pub(crate) fn first_place(entries: &[(String, Value)], key: &str) -> Option<usize>
-    ensures { result ≡ place_of key.now (entries_view entries.now) }
+pub(crate) fn first_index(entries: &[(String, Value)], key: &str) -> Option<usize>
+    ensures { result ≡ index_of key.now (entries_view entries.now) }
 {
-    let mut place = 0;
+    let mut index = 0;
     for entry in entries {
         if entry.0.as_str() == key {
-            return Some(place);
+            return Some(index);
         }
-        place += 1;
+        index += 1;
     }
     None
 }
@@ -55,4 +57,16 @@ pub(crate) fn ascend(entries: &[(String, Value)]) -> bool
         }
     }
     true
+}
+
+/// Returns whether a key follows the last entry's key in byte order, or there are no entries.
+/// Ascending keys then still ascend with this key at the end.
+pub(crate) fn stays_ascending(entries: &[(String, Value)], key: &str) -> bool
+    ensures { IsTrue result → ascends (entries_view entries.now) ≡ true → (value : Tree)
+        → ascends (more_entries (entries_view entries.now) key.now value) ≡ true }
+{
+    match entries.last() {
+        Some(last) => is_before(last.0.as_str(), key),
+        None => true,
+    }
 }

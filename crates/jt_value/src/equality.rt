@@ -8,7 +8,7 @@ ghost use Rattle.jt_value.specs.Equality.{equal, equal_items, equal_at, truth_nu
 ghost use Rattle.jt_value.specs.Equality.{AgreeAtEachKey};
 ghost use Rattle.jt_value.specs.View.{view, items_view, entries_view};
 
-use crate::entries::{ascend, have_same_keys};
+use crate::entries::have_same_keys;
 use crate::payload::ValueMap;
 use crate::value::Value;
 
@@ -111,7 +111,7 @@ fn are_maps_equal(map: &ValueMap, other: &ValueMap) -> bool
     if let Some(equal) = are_equal_in_order(map, other) {
         return equal;
     }
-    if differ_in_number(entries, others) {
+    if differ_in_number(map, other) {
         return false;
     }
     has_all_keys(map, others) && are_first_values_equal(map, other)
@@ -136,17 +136,24 @@ fn are_equal_in_order(map: &ValueMap, other: &ValueMap) -> Option<bool>
     Some(others.next().is_none())
 }
 
-/// Returns whether the numbers of entries show that the maps differ. One map then has more entries,
-/// and its keys ascend, so no key is repeated. This spares searching a large map of a context for
-/// each key of a short one.
-fn differ_in_number(entries: &[(String, Value)], others: &[(String, Value)]) -> bool
-    ensures { IsTrue result
-        → equal (tree.map (entries_view entries.now)) (tree.map (entries_view others.now)) ≡ false }
+/// Returns whether one map is known to have more different keys than the other map has entries. The
+/// comparison of a large map with a short one then visits no entry.
+fn differ_in_number(map: &ValueMap, other: &ValueMap) -> bool
+    ensures { IsTrue result → equal (tree.map map.now) (tree.map other.now) ≡ false }
 {
-    if entries.len() > others.len() {
-        ascend(entries)
-    } else {
-        entries.len() < others.len() && ascend(others)
+    has_more_keys(map, other.entries()) || has_more_keys(other, map.entries())
+}
+
+/// Returns whether the map is known to have more different keys than `others` are.
+fn has_more_keys(map: &ValueMap, others: &[(String, Value)]) -> bool
+    ensures more { IsTrue result
+        → equal (tree.map map.now) (tree.map (entries_view others.now)) ≡ false }
+    ensures fewer { IsTrue result
+        → equal (tree.map (entries_view others.now)) (tree.map map.now) ≡ false }
+{
+    match map.key_count() {
+        Some(count) => count > others.len(),
+        None => false,
     }
 }
 
@@ -162,7 +169,8 @@ fn has_all_keys(map: &ValueMap, others: &[(String, Value)]) -> bool
     true
 }
 
-/// As `are_first_values_equal`, but in one pass, for maps with equal keys at each index.
+/// Returns whether the first value of each key of `map` equals the key's first value in `others`.
+/// The keys at each index are equal, so one pass suffices.
 #[cycle(equality)]
 fn are_values_equal_in_place(map: &ValueMap, others: &[(String, Value)]) -> bool
     requires { same_keys map.now (entries_view others.now) ≡ true }

@@ -37,7 +37,7 @@ impl<'a> InOrder<'a> {
         let rest = match search {
             KeySearch::Linear => return None,
             KeySearch::Binary => Rest::From(0),
-            KeySearch::Indexed(places) => Rest::At(places.values()),
+            KeySearch::Indexed(indices) => Rest::At(indices.values()),
         };
         Some(InOrder { entries, rest })
     }
@@ -52,14 +52,14 @@ impl<'a> InOrder<'a> {
         ensures smaller { IfSome result
             (λ e. size (view e.now.1) < entries_size (entries_view self.old.entries.now)) }
     {
-        let place = match &mut self.rest {
+        let index = match &mut self.rest {
             Rest::From(next) => {
-                let place = *next;
-                *next = place.saturating_add(1);
-                place
+                let index = *next;
+                *next = index.saturating_add(1);
+                index
             }
-            Rest::At(places) => *places.next()?,
+            Rest::At(indices) => *indices.next()?,
         };
-        self.entries.get(place)
+        self.entries.get(index)
     }
 }

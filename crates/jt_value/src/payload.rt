@@ -2,8 +2,8 @@
 ghost use Rattle.std.specs.Prelude.{◌≡◌, ◌+◌, ◌-◌, ◌^◌, min, false, IfOk, IfSome, OnOk, OnErr};
 ghost use Rattle.std.specs.Prelude.{nat_lt, option_map, option_copied};
 ghost use Rattle.std.specs.Option.{option_map_or};
-ghost use Rattle.jt_value.specs.Entries.{entry_of, has_key, place_of};
-ghost use Rattle.jt_value.specs.internal.InOrder.{to_come, IsInOrder};
+ghost use Rattle.jt_value.specs.Entries.{entry_of, has_key, index_of};
+ghost use Rattle.jt_value.specs.internal.InOrder.{to_come, IsInOrder, HasKeyCount};
 ghost use Rattle.jt_value.specs.Tree.{items_size, items_nesting, entries_size, entries_nesting};
 ghost use Rattle.jt_value.specs.Payload.{more_items, joined_items};
 ghost use Rattle.jt_value.specs.View.{view, items_view, entries_view};
@@ -202,26 +202,23 @@ impl ValueMap {
     pub fn get(&self, key: &str) -> Option<&Value>
         ensures { option_map view (option_copied result) ≡ entry_of key.now self.now }
     {
-        match self.place(key) {
-            Some(place) => Some(&self.entries()[place].1),
-            None => None,
-        }
+        self.search.get(&self.entries, key)
     }
 
     /// Returns whether the map has the key.
     pub fn contains_key(&self, key: &str) -> bool
         ensures { result ≡ has_key key.now self.now }
     {
-        self.place(key).is_some()
+        self.index_of(key).is_some()
     }
 
     /// Returns whether a key occurs before an index.
     pub(crate) fn has_before(&self, key: &str, index: usize) -> bool
         ensures { result
-            ≡ option_map_or (λ place. nat_lt place index) (place_of key.now self.now) false }
+            ≡ option_map_or (λ first. nat_lt first index) (index_of key.now self.now) false }
     {
-        match self.place(key) {
-            Some(place) => place < index,
+        match self.index_of(key) {
+            Some(first) => first < index,
             None => false,
         }
     }
@@ -235,11 +232,18 @@ impl ValueMap {
         InOrder::new(&self.entries, &self.search)
     }
 
-    /// Returns the index of a key's first entry, or `None` if the key does not occur.
-    fn place(&self, key: &str) -> Option<usize>
-        ensures { result ≡ place_of key.now self.now }
+    /// Returns the number of different keys, or `None` if the map has few entries.
+    pub(crate) fn key_count(&self) -> Option<usize>
+        ensures { IfSome result (λ count. HasKeyCount count self.now) }
     {
-        self.search.place(&self.entries, key)
+        self.search.key_count(&self.entries)
+    }
+
+    /// Returns the index of a key's first entry, or `None` if the key does not occur.
+    fn index_of(&self, key: &str) -> Option<usize>
+        ensures { result ≡ index_of key.now self.now }
+    {
+        self.search.index_of(&self.entries, key)
     }
 
     /// Returns the map's size, at most 2^64 - 1.

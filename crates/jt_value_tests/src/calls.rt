@@ -1,5 +1,6 @@
 //! Tests printed texts, contexts, operators on kept operands, and errors as texts.
 
+use indexmap::IndexMap;
 use jt_ops::{Limits, OpId, binary, binary_owned};
 use jt_value::{Context, Fault, NoMemory, Value, ValueError};
 use std::alloc::Global;
@@ -50,6 +51,54 @@ fn a_name_keeps_its_last_value(rt: HostRuntime) {
             (Some(Value::Int(3)), Some(Value::Int(2)))
         )
     );
+}
+
+/// Returns the keys of entries in their order, each followed by a space.
+fn keys_of(alloc: Global, entries: &[(String, Value)]) -> Result<String, Fail> {
+    let mut keys = String::new(alloc);
+    for entry in entries {
+        keys.push_str(entry.0.as_str())?;
+        keys.push(' ')?;
+    }
+    Ok(keys)
+}
+
+#[test]
+fn names_keep_the_order_in_which_they_were_put(rt: HostRuntime) -> Result<(), Fail> {
+    let alloc = rt.alloc();
+    let mut context = Context::new(alloc);
+    for name in ["i", "b", "a", "h", "c", "g", "d", "f", "e", "j", "b", "e"] {
+        let added = is_added(alloc, &mut context, name, 1);
+        assert!(rt; added);
+    }
+    let keys = keys_of(alloc, context.entries())?;
+    assert_eq!(rt; keys.as_str(), "i b a h c g d f e j ");
+    assert!(rt; context.get("e").is_some() && context.get("k").is_none());
+    Ok(())
+}
+
+/// Returns an `IndexMap` from the names `b`, `a` and `c` to numbers. The last value put is that of
+/// `a`.
+fn index_map(alloc: Global) -> Result<IndexMap<String, Value>, Fail> {
+    let mut values = IndexMap::new(alloc);
+    for (name, number) in [("b", 1), ("a", 2), ("c", 3), ("a", 4)] {
+        let _earlier = values.insert(String::from_str(alloc, name)?, Value::Int(number))?;
+    }
+    Ok(values)
+}
+
+#[test]
+fn an_index_map_becomes_a_map_and_a_context(rt: HostRuntime) -> Result<(), Fail> {
+    let alloc = rt.alloc();
+    let map = Value::map(alloc, index_map(alloc)?)?;
+    let keys = keys_of(alloc, map.as_map().unwrap_or(&[]))?;
+    assert_eq!(rt; keys.as_str(), "b a c ");
+    assert!(rt; matches!(map.as_map(), Some([_, (_, Value::Int(4)), _])));
+    let context = Context::from_map(alloc, index_map(alloc)?)?;
+    let names = keys_of(alloc, context.entries())?;
+    assert_eq!(rt; names.as_str(), "b a c ");
+    assert!(rt; matches!(context.get("a"), Some(Value::Int(4))));
+    Ok(())
 }
 
 #[test]

@@ -1,5 +1,5 @@
 //! Tests calls on values and operators that the program does not make, each with ample memory.
-//! tests/rows/values.txt lists what they show.
+//! tests/rows/values.txt has the rows of the values and operators that templates print.
 #![tactic(auto)]
 
 #[cfg(test)]

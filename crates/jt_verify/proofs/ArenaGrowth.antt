@@ -6,11 +6,11 @@ use Rattle.std.proofs.lemmas.Option.{slice_get_within}
 use Rattle.std.proofs.lemmas.List.{length-append, length-set, get_or_append_left, get_or_push, get_or-set_same}
 use Rattle.std.proofs.lemmas.List.{get_or-set_other}
 use Rattle.jt_image.specs.Effect.{Shape, pushes}
-use Rattle.jt_verify.specs.declared.links.NonValue.{NonValue}
-use Rattle.jt_verify.specs.declared.links.ShapeId.{ShapeId}
-use Rattle.jt_verify.specs.declared.links.Node.{Node}
-use Rattle.jt_verify.specs.declared.links.SkipLink.{SkipLink}
-use Rattle.jt_verify.specs.declared.links.Link.TheVariants as link
+use Rattle.jt_verify.specs.declared.nodes.NonValue.{NonValue}
+use Rattle.jt_verify.specs.declared.nodes.ShapeId.{ShapeId}
+use Rattle.jt_verify.specs.declared.nodes.Node.{Node}
+use Rattle.jt_verify.specs.declared.nodes.SkipLink.{SkipLink}
+use Rattle.jt_verify.specs.declared.nodes.Link.TheVariants as link
 use Rattle.jt_verify.specs.internal.Arena.{Lists, shape_in, IsIn, IsKept, StandsFor, entered, lists_of, kind_of}
 use Rattle.jt_verify.specs.internal.Arena.{digit_of, IsUnder, AreJumps, IsNode, AreLinks, KeepsLinks, Finding, IsSound}
 use Rattle.jt_verify.specs.internal.Arena.{IsArena}
@@ -73,7 +73,7 @@ module _ (ns : List Node) (ls : List ℕ) (a : IsArena ns ls) (n : Node) (q : �
 
   links_more : AreLinks (length more) r
   links_more = record {
-    places = omega (arith, room, one_more);
+    indices = omega (arith, room, one_more);
     upward = λ p k e. elim (same_or p q) [
       | inl s ↦ let at : get_or r p 0 ≡ suc (length ns) =
           subst (λ (x : ℕ). get_or r x 0 ≡ suc (length ns)) (sym s) set_here in
@@ -152,13 +152,19 @@ module _ (ns : List Node) (ls : List ℕ) (a : IsArena ns ls) (q k : ℕ) (z : g
 
   pub linked_here : get_or linked q 0 ≡ k
   linked_here =
-      get_or-set_same (ls ++ 0 ∷ 0 ∷ 0 ∷ []) q k 0 (omega (arith, l, a.links.places, length-append ls (0 ∷ 0 ∷ 0 ∷ [])))
+      get_or-set_same (ls ++ 0 ∷ 0 ∷ 0 ∷ []) q k 0 (omega (
+        arith,
+        l,
+        a.links.indices,
+        length-append ls
+            (0 ∷ 0 ∷ 0 ∷ []),
+      ))
 
   pub linked_there : (p : ℕ) → p ≢ q → get_or linked p 0 ≡ get_or ls p 0
   linked_there p d = get_or-set_other (ls ++ 0 ∷ 0 ∷ 0 ∷ []) q p k 0 d ∙ padded ls p
 
   pub linked_room : 3 * (suc (length ns) + 1) ≤ length linked
-  linked_room = omega (arith, a.links.places, length-set (ls ++ 0 ∷ 0 ∷ 0 ∷ []) q k, length-append ls (0 ∷ 0 ∷ 0 ∷ []))
+  linked_room = omega (arith, a.links.indices, length-set (ls ++ 0 ∷ 0 ∷ 0 ∷ []) q k, length-append ls (0 ∷ 0 ∷ 0 ∷ []))
 
   -- An arena stays one when an entry that was not found is pushed.
   pub pushed : (m : NonValue) (b : ShapeId) (h : ℕ) (j : SkipLink) → k ≡ suc (length ns) → IsIn (lists_of ns) b

@@ -7,7 +7,7 @@ use Rattle.std.proofs.lemmas.List.{map-append, map-set, length-map}
 use Rattle.jt_image.specs.Code.{Section, Code}
 use Rattle.jt_image.specs.Effect.{Shape, pushes, effect_at}
 use Rattle.jt_image.specs.Typed.{IsTypedUnit, Equal, max_entries}
-use Rattle.jt_verify.specs.declared.links.ShapeId.{ShapeId}
+use Rattle.jt_verify.specs.declared.nodes.ShapeId.{ShapeId}
 use Rattle.jt_verify.specs.declared.effect.Successors.{Successors}
 use Rattle.jt_verify.specs.declared.refusal.Refusal.{Refusal}
 use Rattle.jt_verify.specs.declared.verifier.WorkItem.{WorkItem as Waiting}

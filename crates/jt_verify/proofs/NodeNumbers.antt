@@ -2,7 +2,7 @@
 use Rattle.std.proofs.Common.{◌≡◌, ◌≢◌, ℕ, zero, suc, ◌<◌, ◌⊎◌, List, [], ◌∷◌, ◌++◌, length, get_or, Some, refl, ap}
 use Rattle.std.proofs.Common.{arith, inl, inr, rules}
 use Rattle.std.specs.Prelude.{slice_get}
-use Rattle.jt_verify.specs.declared.links.Node.{Node}
+use Rattle.jt_verify.specs.declared.nodes.Node.{Node}
 
 pub same_or : (a b : ℕ) → (a ≡ b) ⊎ (a ≢ b)
 same_or (suc a) (suc b) =

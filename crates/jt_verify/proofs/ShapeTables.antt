@@ -32,7 +32,7 @@ pub set_keeps : (t : Table) (p : ℕ) (s : Shape) → shape_at t p ≡ None → 
     → shape_at (slice_set t p (Some s)) q ≡ Some r
 set_keeps t p s none q r e = search (arith, rules, same_or, set_there)
 
--- The shape at the new place is the new shape.
+-- The shape at the new index is the new shape.
 pub set_gives : (t : Table) (p : ℕ) (s : Shape) → p < length t → (q : ℕ) (r : Shape) → q ≡ p
     → shape_at (slice_set t p (Some s)) q ≡ Some r → s ≡ r
 set_gives t p s lt q r same e =

@@ -8,11 +8,11 @@ use Rattle.std.proofs.lemmas.List.{length-append, get_or_append_left}
 use Rattle.jt_image.specs.declared.kind.Flaw.{Flaw}
 use Rattle.jt_image.specs.declared.kind.Flaw.TheVariants as flaw
 use Rattle.jt_image.specs.Effect.{Shape, Successors, pops, pops_many, pushes}
-use Rattle.jt_verify.specs.declared.links.NonValue.{NonValue}
-use Rattle.jt_verify.specs.declared.links.ShapeId.{ShapeId}
-use Rattle.jt_verify.specs.declared.links.Node.{Node}
-use Rattle.jt_verify.specs.declared.links.Link.{Link}
-use Rattle.jt_verify.specs.declared.links.Link.TheVariants as link
+use Rattle.jt_verify.specs.declared.nodes.NonValue.{NonValue}
+use Rattle.jt_verify.specs.declared.nodes.ShapeId.{ShapeId}
+use Rattle.jt_verify.specs.declared.nodes.Node.{Node}
+use Rattle.jt_verify.specs.declared.nodes.Link.{Link}
+use Rattle.jt_verify.specs.declared.nodes.Link.TheVariants as link
 use Rattle.jt_verify.specs.internal.Arena.{Lists, shape_in, IsIn, entered, grow, lists_of, kind_of, digit_of, IsNode}
 use Rattle.jt_verify.specs.internal.Arena.{Finds, here, along, KeepsLinks, AreLinks, Finding, IsAt, IsArena}
 use Rattle.jt_verify.proofs.NodeNumbers.{some_node}

@@ -22,7 +22,7 @@ abbrev pub Meets : Shape → Shape → Result (Unit {0}) Flaw → Type 0
 Meets left right (Ok u) = left ≡ right
 Meets left right (Err f) = DifferBy left right f
 
--- The refusal states how the shapes differ; it has no place.
+-- The refusal states how the shapes differ; it has no index.
 abbrev pub Differ : Shape → Shape → Refusal → Type 0
 Differ left right (refusal.Flaw f unit point) = (unit ≡ 0) × (point ≡ 0) × DifferBy left right f
 Differ left right refusal.NoMemory = ⊥

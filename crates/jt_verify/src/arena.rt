@@ -7,7 +7,7 @@ ghost use Rattle.jt_verify.specs.internal.Arena.{TellsEqual, shape_in, IsIn, Hol
 ghost use Rattle.jt_verify.specs.internal.Arena.{IsKept, StandsFor, Pops, PopsMany, kind_of};
 ghost use Rattle.jt_verify.specs.internal.Arena.{lists_of, IsArena};
 
-use crate::links::{
+use crate::nodes::{
     Link, Node, NonValue, NonValueEntry, ShapeId, digits, find, is_same, jump_on, node_at, node_of,
 };
 use jt_image::{Flaw, Kind};
@@ -63,7 +63,7 @@ impl Arena {
         requires right { IsIn self.now right }
         ensures { TellsEqual (shape_in self.now left) (shape_in self.now right) result }
     {
-        // Read only so that the prover knows the arena's invariant here.
+        // The prover needs this read, which shows the arena's invariant.
         let _nodes = &self.nodes;
         is_same(left, right)
     }
@@ -95,7 +95,7 @@ impl Arena {
         requires { IsIn self.now shape }
         ensures { PopsMany self.now count (shape_in self.now shape) result }
     {
-        // Read only so that the prover knows the arena's invariant here.
+        // The prover needs this read, which shows the arena's invariant.
         let _nodes = &self.nodes;
         if count <= shape.values as usize {
             return Ok(ShapeId {
@@ -202,7 +202,7 @@ fn push_in(
         digits(mark, shape.values),
     ) {
         Link::To(node) => Ok(node),
-        Link::Vacant(place) => {
+        Link::Vacant(index) => {
             let below = shape;
             let jump = jump_on(nodes.as_slice(), below.node);
             let added = Node {
@@ -211,22 +211,22 @@ fn push_in(
                 height,
                 jump,
             };
-            let node = add(nodes, links, added, place)?;
+            let node = add(nodes, links, added, index)?;
             Ok(node)
         }
     }
 }
 
-// Adds a node, lets the link at `place` lead to it, and returns its number.
+// Adds a node, lets the link at `index` lead to it, and returns its number.
 fn add(
     nodes: &mut SmallVec<Node, 32>,
     links: &mut SmallVec<u32, 128>,
     added: Node,
-    place: usize,
+    index: usize,
 ) -> Result<u32, AllocError>
-    requires { place < length links.old.items }
+    requires { index < length links.old.items }
     ensures ok { IfOk result (λ k.
-        IsAdded nodes.old.items nodes.new.items links.old.items links.new.items added place k) }
+        IsAdded nodes.old.items nodes.new.items links.old.items links.new.items added index k) }
     ensures err { OnErr result
         ((nodes.new.items ≡ nodes.old.items) × (links.new.items ≡ links.old.items)) }
 {
@@ -239,6 +239,6 @@ fn add(
     nodes.reserve(1)?;
     links.extend_from_slice(&[0; 3])?;
     nodes.push_reserved(added);
-    links[place] = node;
+    links[index] = node;
     Ok(node)
 }

@@ -1,4 +1,4 @@
-//! Computes what an instruction does to a shape, and where it leads.
+//! Computes the effect of an instruction on a shape, and its successors.
 ghost use Rattle.std.specs.Prelude.{◌≡◌, ◌+◌, ◌^◌, ◌<◌, ◌≤◌, ◌&&◌, [], ◌∷◌, nat_lt, Ok, length};
 ghost use Rattle.std.specs.Prelude.{false, option_map, slice_get};
 ghost use Rattle.jt_image.specs.Code.{is_text as is_text_of};
@@ -10,7 +10,7 @@ ghost use Rattle.jt_verify.specs.internal.Arena.{shape_in, IsIn, kind_of, Holds}
 ghost use Rattle.jt_verify.specs.internal.Shapes.{Requires, PointIn, FindsFrame};
 
 use crate::arena::Arena;
-use crate::links::{NonValue, ShapeId};
+use crate::nodes::{NonValue, ShapeId};
 use jt_ids::{FilterId, OpId, TestId};
 use jt_image::{Code, ConstantRef, Flaw, Instruction, Kind, LoopField, MAX_ENTRIES, UnitHeader};
 

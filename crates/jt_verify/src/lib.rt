@@ -3,23 +3,25 @@
 //!
 //! - verified: `verify` and `verify_view`, whose results are the only codes that run.
 //! - verifier: the worklist that follows each path through a unit.
-//! - effect: what one instruction does to a shape.
-//! - arena, links: the shapes of the verifier, each stored once and compared by its number.
-//! - shape: shapes as values and their `join`, for hosts; `verify` does not use them.
-//! - refusal: why a code is refused.
+//! - effect: the effect of one instruction on a shape.
+//! - shape_comparison: the shape of a path, compared with the one that is known at its point.
+//! - arena, nodes: the shapes of the verifier, each stored once and compared by its number.
+//! - host_shape: shapes as values and their `join`, for hosts; `verify` does not use them.
+//! - refusal: the reasons for which a code is refused.
 //!
 //! Read first: specs/Typed.antt of jt_image, then verifier.rt.
 #![tactic(auto)]
 
 mod arena;
 mod effect;
-mod links;
+mod host_shape;
+mod nodes;
 mod refusal;
-mod shape;
+mod shape_comparison;
 mod verified;
 mod verifier;
 
+pub use host_shape::{Shape, join};
 pub use jt_image::{Flaw, Kind};
 pub use refusal::Refusal;
-pub use shape::{Shape, join};
 pub use verified::{Checked, Verified, VerifiedView, verify, verify_view};

@@ -1,4 +1,4 @@
-//! Defines why a code is refused.
+//! Defines the reasons for which a code is refused.
 ghost use Rattle.std.specs.Prelude.{◌≡◌};
 ghost use Rattle.jt_verify.specs.internal.Names.{name_of};
 ghost use Rattle.jt_verify.specs.declared.refusal.Refusal.TheVariants as refusals;

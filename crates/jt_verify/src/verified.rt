@@ -75,7 +75,7 @@ fn accept<C: Code>(alloc: Global, code: C) -> Result<Checked<C>, (C, Refusal)>
 ///
 /// The image, with a flaw that it has or with `NoMemory` for lack of memory.
 pub fn verify(alloc: Global, image: Image) -> Result<Verified, (Image, Refusal)>
-    // The accepted image is the given one, and it is typed.
+    // The accepted image is `image`, and it is typed.
     ensures ok { IfOk result (λ v. (v ≡ image) × IsTyped image) }
     // A refusal returns the image, and holds of it.
     ensures err { IfErr result (λ e. (e.0 ≡ image) × RefusalHolds image e.1) }
@@ -94,7 +94,7 @@ pub fn verify_view<'a>(
     alloc: Global,
     view: View<'a>,
 ) -> Result<VerifiedView<'a>, (View<'a>, Refusal)>
-    // The accepted view is the given one, and its code is typed.
+    // The accepted view is `view`, and its code is typed.
     ensures ok { IfOk result (λ v. (v ≡ view.entry) × IsTyped view.entry) }
     // A refusal returns the view, and holds of it.
     ensures err { IfErr result (λ e. (e.0 ≡ view.entry) × RefusalHolds view.entry e.1) }

@@ -1,20 +1,19 @@
 //! Verifies a code: follows each path through a unit, and keeps the shape of each reached point.
 ghost use Rattle.std.specs.Prelude.{◌≡◌, ◌<◌, ◌≤◌, ◌++◌, length, IfOk, IfErr, OnOk};
-ghost use Rattle.std.specs.List.{AllByRecursion};
 ghost use Rattle.jt_image.specs.IsCode.{IsCode};
 ghost use Rattle.jt_image.specs.Typed.{IsTyped, max_entries};
 ghost use Rattle.jt_verify.specs.internal.Arena.{shape_in, IsIn, IsKept};
-ghost use Rattle.jt_verify.specs.Differing.{Meets};
-ghost use Rattle.jt_verify.specs.internal.Working.{IsUnit, WorksOn, IsTypedAt, WorksFrom, Arriving};
-ghost use Rattle.jt_verify.specs.internal.Working.{StepsOn, IsBehind, path_in, table_in, IsInIf};
+ghost use Rattle.jt_verify.specs.internal.Working.{IsUnit, WorksOn, IsTypedAt, WorksFrom};
+ghost use Rattle.jt_verify.specs.internal.Working.{StepsOn, IsBehind, path_in};
 ghost use Rattle.jt_verify.specs.internal.Working.{handles_sent, left_of, left_from, Refuses};
 ghost use Rattle.jt_verify.specs.Refusing.{RefusalHolds};
 
 use crate::arena::Arena;
 use crate::effect::{EffectError, InstrContext, Successors};
-use crate::links::ShapeId;
+use crate::nodes::ShapeId;
 use crate::refusal::Refusal;
-use jt_image::{Code, Flaw, MAX_ENTRIES, UnitHeader};
+use crate::shape_comparison::is_known_at;
+use jt_image::{Code, Flaw, UnitHeader};
 use std::alloc::{AllocError, Global};
 
 /// A shape that waits at a point to be followed.
@@ -38,51 +37,6 @@ pub(crate) struct Dataflow {
 pub(crate) struct OutState {
     pub(crate) shape: ShapeId,
     pub(crate) leads: Successors,
-}
-
-// Checks that two shapes that meet at a point are equal. The flaw states how they differ.
-fn check_join(arena: &Arena, known: ShapeId, shape: ShapeId) -> Result<(), Flaw>
-    requires known { IsIn arena.now known }
-    requires shape { IsIn arena.now shape }
-    ensures { Meets (shape_in arena.now known) (shape_in arena.now shape) result }
-{
-    if arena.is_equal(known, shape) {
-        return Ok(());
-    }
-    if arena.height(known) == arena.height(shape) {
-        return Err(Flaw::KindDiffers);
-    }
-    Err(Flaw::DepthDiffers)
-}
-
-// Returns whether a path's shape is already known at its point. Otherwise the point is new. Refuses
-// a shape that is too long, or that differs from the known one.
-fn is_known_at(
-    arena: &Arena,
-    shapes: &[Option<ShapeId>],
-    unit: usize,
-    path: WorkItem,
-) -> Result<bool, Refusal>
-    requires point { path.point < length shapes.now }
-    requires shape { IsIn arena.now path.shape }
-    requires shapes { AllByRecursion (IsInIf arena.now) shapes.now }
-    ensures { Arriving (table_in arena.now shapes.now) unit (path_in arena.now path) result }
-{
-    let point = path.point;
-    if arena.height(path.shape) > MAX_ENTRIES {
-        return Err(Refusal::Flaw {
-            flaw: Flaw::TooDeep,
-            unit,
-            point,
-        });
-    }
-    let Some(known) = shapes[point] else {
-        return Ok(false);
-    };
-    match check_join(arena, known, path.shape) {
-        Ok(()) => Ok(true),
-        Err(flaw) => Err(Refusal::Flaw { flaw, unit, point }),
-    }
 }
 
 // Returns the shape after the instruction at a point, and the points that it reaches.

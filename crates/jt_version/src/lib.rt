@@ -1,4 +1,5 @@
-//! The version of `jt`, which the program prints and the library for other languages returns.
+//! Defines the version of `jt`, which the program prints and the library for other languages
+//! returns.
 #![tactic(auto)]
 
 /// The version, as `bindings/c/jt.h` and the packages of `bindings/` spell it.

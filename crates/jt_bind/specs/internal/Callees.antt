@@ -5,7 +5,7 @@ use Rattle.jt_ast.specs.StatementView.{parameters_view}
 use Rattle.jt_chains.specs.Chain as chain
 use Rattle.jt_chains.specs.Chain.{Namespace, listed, MacroBody, macros, macro_of, Definition, one_macro, library}
 use Rattle.jt_rules.specs.CompileEnv.{CompileEnv}
-use Rattle.jt_semantics.specs.Layout.{of_macro, of_body, unit, default_place}
+use Rattle.jt_semantics.specs.Layout.{of_macro, of_body, unit, default_index}
 use Rattle.jt_bind.specs.declared.callee.Signature.{Signature}
 use Rattle.jt_bind.specs.declared.callee.Callee.{Callee}
 use Rattle.jt_bind.specs.declared.callee.Callee.TheVariants as c
@@ -26,7 +26,7 @@ module _ (cenv : CompileEnv) (order : List Namespace) where
   pub record IsSignature (h : Namespace) (s : Signature) (m : MacroBody) : Type 0 where
     pub takes : parameters_view s.parameters.now ≡ m.parameters
     pub runs : s.unit ≡ unit cenv order (of_macro h m.name)
-    pub defaults : s.first_default ≡ default_place cenv order h m.name
+    pub defaults : s.first_default ≡ default_index cenv order h m.name
 
   abbrev pub IsCallee : Callee → chain.Callee → Type 0
   IsCallee (c.Macro s) k =

@@ -13,7 +13,7 @@ form_view (f.Negation o) = operators.negation o
 form_view f.Conjunction = operators.conjunction
 form_view f.Disjunction = operators.disjunction
 
--- The count as a value, or an error if it exceeds the numbers of the language.
+-- The result is the count as a value, or an error for at least 2^63.
 abbrev pub IsNumber : {E : Type 0} → ℕ → Result Value E → Type 0
 IsNumber n (Ok v) = view v ≡ tree.number (pos n)
 IsNumber n (Err e) = 2 ^ 63 ≤ n

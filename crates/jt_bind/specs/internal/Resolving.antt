@@ -29,7 +29,7 @@ use Rattle.jt_bind.specs.declared.emission.Turns.{Turns}
 use Rattle.jt_bind.specs.declared.resolver.Arguments.{Arguments}
 use Rattle.jt_bind.specs.declared.resolver.Resolver.{Resolver}
 use Rattle.jt_bind.specs.internal.Scoped.{values, IsAdded, PutsNone, RowLeads, cenv_in, order_in, senv_in, templates_in}
-use Rattle.jt_bind.specs.internal.Scoped.{expr_in, row_in, asides_in, entries_in, filtered_in}
+use Rattle.jt_bind.specs.internal.Scoped.{expr_in, row_in, asides_in, entries_in, filter_row_in, filtered_in}
 use Rattle.jt_bind.specs.internal.Stated.{IsBody, IsBranch, AreTurns, Puts, BodyLed, line_in, stmt_in, body_in}
 use Rattle.jt_bind.specs.internal.Stated.{scoped_in, layer_at, values_in, condition_in}
 
@@ -46,8 +46,8 @@ RowPuts whole before after old new =
     (left : SRow Constant) → RowAdds (whole left) left before after old new
 
 -- The positional and the keyword arguments of a call.
-abbrev pub by_place : Arguments → expressions.Exprs
-by_place a = exprs_view a.row.now
+abbrev pub by_position : Arguments → expressions.Exprs
+by_position a = exprs_view a.row.now
 
 abbrev pub by_name : Arguments → expressions.Pairs
 by_name a = pairs_view a.pairs.now
@@ -90,7 +90,7 @@ module _ (r : Resolver) where
 
   -- The positional arguments, followed by the keyword arguments.
   abbrev pub given_of : Arguments → SRow Constant → SRow Constant
-  given_of a left = row_of (by_place a) (asides_of (by_name a) left)
+  given_of a left = row_of (by_position a) (asides_of (by_name a) left)
 
   abbrev pub entries_of : expressions.Pairs → SRow Constant
   entries_of ps = entries_in r.tables.now ps r.senv
@@ -125,6 +125,9 @@ module _ (r : Resolver) where
   abbrev pub filtered_of : Option ℕ → slots.SlotExpr Constant → expressions.Exprs
       → expressions.Pairs → slots.SlotExpr Constant
   filtered_of f c ts ps = filtered_in r.tables.now f c ts ps r.senv
+
+  abbrev pub filter_row_of : Option ℕ → expressions.Exprs → expressions.Pairs → SRow Constant
+  filter_row_of f ts ps = filter_row_in r.tables.now f ts ps r.senv
 
   -- One filter of a filter tag, and all of them.
   abbrev pub filter_call_of : trees.FilterCall → slots.SlotExpr Constant → slots.SlotExpr Constant
@@ -165,8 +168,8 @@ module _ (r : Resolver) where
   routine_of xs b =
       resolve.resolved_routine (cenv_in r.tables.now) (order_in r.tables.now) xs b senv_of
 
-  -- A template of a chain: all statements of the root, and only those that set names of any other
-  -- template.
+  -- A template of a chain: all its statements if it is the root, or only the statements that set
+  -- names.
   abbrev pub layer_of : trees.Body → Bool → SBody Constant
   layer_of b is_root = layer_at r.tables.now senv_of b is_root
 

@@ -1,4 +1,4 @@
--- The routines of chains, with the places of the pool that they fill. Only private clauses cite
+-- The routines of chains, with the indices of the pool that they fill. Only private clauses cite
 -- this module.
 use Rattle.std.specs.Prelude.{◌≡◌, List, ◌++◌, length, map, Vec}
 use Rattle.std.specs.declared.alloc.Global.{Global}
@@ -46,8 +46,8 @@ AllLed templates cs before after old new =
     → RoutinesLead templates (cs ++ left) left before after old new
 
 module _ (s : Chains) where
-  -- The routine of a chain, which a library lacks; the routines of macros; those of the bodies of
-  -- blocks; and all of them.
+  -- The routine of a chain, which a library lacks; the routines of macros; the routines of the
+  -- bodies of blocks; and all of them.
   abbrev pub entry_in : List (slots.Routine Constant)
   entry_in = programs.entry_routines (cenv_in s) (order_in s) (namespace_in s)
 

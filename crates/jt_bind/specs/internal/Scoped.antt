@@ -1,4 +1,4 @@
--- The resolved parts of a chain, by the layouts in the code and with the places of the pool that is
+-- The resolved parts of a chain, by the layouts in the code and with the indices of the pool that is
 -- filled. Only private clauses cite this module.
 use Rattle.std.specs.Prelude.{◌≡◌, ℕ, pos, ◌<◌, List, [], ◌∷◌, ◌++◌, map, drop, length, get_or, filter, Option, Some}
 use Rattle.std.specs.Prelude.{None, Vec}
@@ -18,7 +18,7 @@ use Rattle.jt_chains.specs.Named.{given_view}
 use Rattle.jt_chains.specs.declared.definitions.Definition as found
 use Rattle.jt_chains.specs.Parts.{name_at}
 use Rattle.jt_chains.specs.Uses.{count, keywords}
-use Rattle.jt_chains.specs.Places.{namespace_at}
+use Rattle.jt_chains.specs.Indices.{namespace_at}
 use Rattle.jt_chains.specs.View.{chain_view}
 use Rattle.jt_rules.specs.CompileEnv.{CompileEnv, cenv_of}
 use Rattle.jt_ir.specs.Pool.{Constant, own, expr_values, row_values, body_values, placed_expr, placed_row, placed_body}
@@ -215,13 +215,17 @@ module _ (s : Chains) where
   abbrev pub entries_in : trees.Pairs → StaticEnv → SRow Constant
   entries_in ps p = resolve.resolved_entries cenv_in order_in ps (senv_in p)
 
-  -- A filter, by its number, of a resolved value, with the arguments of the call.
+  -- The arguments of a filter, by its number, after its value.
+  abbrev pub filter_row_in : Option ℕ → trees.Exprs → trees.Pairs → StaticEnv → SRow Constant
+  filter_row_in f ts ps p =
+      row_in ts p (asides_in ps p (filled_some (filter_parameters cenv_in.filters f) (count ts)
+      (keywords ps) (locals_from (senv_in p).free (keywords ps))))
+
+  -- The resolved call of a filter on a resolved value.
   abbrev pub filtered_in : Option ℕ → slots.SlotExpr Constant → trees.Exprs → trees.Pairs → StaticEnv
       → slots.SlotExpr Constant
   filtered_in f c ts ps p =
-      resolve.filtered_by f (senv_in p).escaping (slots.item c (row_in ts p (asides_in ps p
-      (filled_some (filter_parameters cenv_in.filters f) (count ts) (keywords ps)
-      (locals_from (senv_in p).free (keywords ps))))))
+      resolve.filtered_by f (senv_in p).escaping (slots.item c (filter_row_in f ts ps p))
 
 -- The environment inside an entered scope, whose names are in locals.
 abbrev pub Enters : StaticEnv → List Text → EnteredScope → Type 0

@@ -1,4 +1,4 @@
--- The resolved statements of a chain, by the layouts in the code and with the places of the pool
+-- The resolved statements of a chain, by the layouts in the code and with the indices of the pool
 -- that is filled. Only private clauses cite this module.
 use Rattle.std.specs.Prelude.{◌≡◌, ℕ, Bool, ◌+◌, List, [], ◌++◌, map, length, Option, Some, None, option_map, Vec}
 use Rattle.std.specs.Prelude.{if◌then◌else◌, ◌==◌}
@@ -48,7 +48,7 @@ pub record IsAsked (k : Option (slots.SlotExpr Constant)) (condition : Option Sl
   pub shown : option_map expr_view condition ≡ placed_condition k (length old)
   pub pooled : new ≡ old ++ condition_values k
 
--- A function that puts a body before other statements, from one pool place to another.
+-- A function that puts a body before other statements, from one pool index to another.
 pub record StandsFor (whole left : SBody Constant) (f : Front) (old new : ℕ) : Type 0 where
   pub alone : f slots.end ≡ placed_body whole old
   pub before : f (placed_body left new) ≡ placed_body (followed whole left) old
@@ -108,8 +108,8 @@ module _ (s : Chains) where
   abbrev pub scoped_in : trees.Body → resolve.StaticEnv → SBody Constant
   scoped_in b sp = resolve.scoped (set_in b) sp (resolve.resolved_body (cenv_in s) (order_in s) b)
 
-  -- A template of a chain at its top: all statements of the root, and only those that set names of
-  -- any other template.
+  -- A template of a chain at its top: all its statements if it is the root, or only the statements
+  -- that set names.
   abbrev pub layer_at : resolve.StaticEnv → trees.Body → Bool → SBody Constant
   layer_at top b is_root =
       if is_root

@@ -1,5 +1,5 @@
--- The names that a scope knows. They are those of macros, with their parameters, of libraries, and
--- of blocks. Only private clauses cite this module.
+-- The names that a scope knows: the names of macros, with their parameters, of libraries, and of
+-- blocks. Only private clauses cite this module.
 use Rattle.std.specs.Prelude.{◌≡◌, ◌⊎◌, ℕ, ◌+◌, ℤ, Bool, not, nat_lt, List, length, Option, Some, None, option_map}
 use mathlib.Core.Path.{refl}
 use mathlib.Core.Logic.{inl, inr}
@@ -19,7 +19,7 @@ use Rattle.jt_ast.specs.StatementView.{parameters_view}
 use Rattle.jt_chains.specs.Chain.{Namespace, a_chain, a_library, Definition, one_macro, library, given, given_to}
 use Rattle.jt_chains.specs.Chain.{bodies, libraries}
 use Rattle.jt_chains.specs.Uses.{own_names}
-use Rattle.jt_chains.specs.Places.{namespace_at}
+use Rattle.jt_chains.specs.Indices.{namespace_at}
 use Rattle.jt_chains.specs.View.{chain_view}
 use Rattle.jt_chains.specs.declared.chain.Chain.{Chain}
 use Rattle.jt_rules.specs.CompileEnv.{CompileEnv, cenv_of}
@@ -64,8 +64,8 @@ namespace_in c i = namespace_at (chain_view c).order i
 abbrev pub is_block : CompileEnv → Namespace → Text → Bool
 is_block cenv namespace x = not (nat_lt (length (bodies cenv.sources cenv.escaping namespace x)) 1)
 
--- The number of names that a chain reads or binds, with those of the libraries that it imports. The
--- names of a library count only there.
+-- The number of names that a chain reads or binds, with the names of the libraries that it imports.
+-- The names of a library count only there.
 abbrev pub names_of : CompileEnv → Namespace → ℕ
 names_of cenv (a_chain n) =
     length (ascending (own_names cenv.sources (a_chain n)))

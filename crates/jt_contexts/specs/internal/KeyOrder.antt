@@ -8,8 +8,8 @@ use Rattle.jt_value.specs.declared.value.Value.{Value}
 abbrev pub Entry : Type 0
 Entry = String Global × Value
 
--- The entries `es` with others inserted in order at the places of their keys. An existing key takes
--- the new value.
+-- The entries `es` with others inserted in order at the indices of their keys. An existing key
+-- takes the new value.
 abbrev pub put_all : List Entry → List Entry → List Entry
 put_all es [] = es
 put_all es (x ∷ xs) = put_all (insert_entry string_cmp es x.0 x.1) xs

@@ -123,7 +123,7 @@ module _ (inner : Level → Reader Expr) (n : ℕ) where
       if says (codes "if") ts then Ok (waits (in_condition left), drop 1 ts)
       else Ok (complete whole left, ts)
 
-  -- What extends a tree of the level.
+  -- The move after a tree of the level: a form that extends the tree, or its completion.
   unfoldable pub grow : Level → Expr → Reader Move
   grow postfix = postfix_move
   grow postscript = postscript_move

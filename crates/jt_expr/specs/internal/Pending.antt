@@ -198,7 +198,7 @@ form_view (p.Else t c) = in_else (tree_of t) (tree_of c)
 form_view (p.Operand k op t) = in_operand (level_view k) op (tree_of t)
 form_view (p.Condition t) = in_condition (tree_of t)
 
--- The forms of a stack, from the last one on, before those that are given.
+-- The forms of a stack, from the last one on, before the given ones.
 abbrev pub stacked : List Pending → List Form → List Form
 stacked [] fs = fs
 stacked (f ∷ gs) fs = stacked gs (form_view f ∷ fs)

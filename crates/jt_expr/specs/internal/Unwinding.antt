@@ -1,5 +1,5 @@
--- What is still to be read, given the forms that wait for a tree. Only private clauses cite this
--- module.
+-- The reader of the remaining tokens, by the forms that wait for a tree. Only private clauses cite
+-- this module.
 use Rattle.std.specs.Prelude.{◌≡◌, ◌<◌, ℕ, zero, suc, ◌+◌, ◌-◌, ◌*◌, List, [], ◌∷◌, length, drop, Result, Ok, Err}
 use Rattle.std.specs.Prelude.{if◌then◌else◌}
 use Rattle.jt_scan.specs.declared.segment.Sign.TheVariants as s
@@ -25,7 +25,7 @@ use Rattle.jt_expr.specs.internal.Moves.{ends, resume}
 
 -- `inner` reads forms that are one level deeper, and n levels are allowed here.
 module _ (inner : Level → Reader Expr) (n : ℕ) where
-  -- What follows a tree of the level.
+  -- The reader after a tree of the level.
   unfoldable pub more : Level → Expr → Reader Expr
   more postfix = loop (postfix_step inner n) n
   more signed = λ t ts. Ok (t, ts)
@@ -35,7 +35,7 @@ module _ (inner : Level → Reader Expr) (n : ℕ) where
   more whole = if_part inner n
   more k = loop (chain_step inner n k (read_at inner n (next k))) n
 
-  -- What follows a move that needs no further tree.
+  -- The reader after a move that needs no further tree.
   unfoldable pub settled : Move → Reader Expr
   settled (grown k t) ts = more k t ts
   settled (complete k t) ts = Ok (t, ts)
@@ -59,12 +59,12 @@ module _ (inner : Level → Reader Expr) (n : ℕ) where
   onward (waits f) ts = read_at inner n (awaited f) ts >>= rest_of f
   onward (nests f) ts = inner (awaited f) ts >>= rest_of f
 
-  -- What follows a complete tree of the level, up to the level that is d levels looser.
+  -- The reader after a complete tree of the level, up to the level that is d levels looser.
   unfoldable pub climb : ℕ → Level → Expr → Reader Expr
   climb zero k t ts = Ok (t, ts)
   climb (suc d) k t ts = more (looser k) t ts >>= climb d (looser k)
 
-  -- What follows a complete tree of the level k, up to the level `goal`.
+  -- The reader after a complete tree of the level k, up to the level `goal`.
   abbrev pub climbs : Level → Level → Expr → Reader Expr
   climbs goal k = climb (rank goal - rank k) k
 

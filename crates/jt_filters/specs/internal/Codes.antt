@@ -1,4 +1,4 @@
--- Codes: the bytes that tell items apart. Items that are alike have the same code.
+-- Codes: the bytes that distinguish items. Items that are alike have the same code.
 use Rattle.std.specs.Prelude.{◌≡◌, ℕ, ℤ, Result, OnOk, List, [], ◌∷◌, ◌++◌, map, Vec}
 use Rattle.std.specs.declared.alloc.Global.{Global}
 use Rattle.std.specs.BTreeMap.{insert_entry}

@@ -1,13 +1,14 @@
 -- Definitions for the contracts of private functions: actions on items, and their gathered results.
-use Rattle.std.specs.Prelude.{◌≡◌, ℕ, ◌+◌, ◌-◌, ◌^◌, min, max, Bool, ◌∷◌, map, length, option_map, IfOk, Result, Ok}
+use Rattle.std.specs.Prelude.{◌≡◌, ℕ, ◌+◌, ◌-◌, ◌^◌, min, max, Bool, [], ◌∷◌, map, length, option_map, IfOk, Result, Ok}
 use Rattle.std.specs.Prelude.{Err}
 use Rattle.jt_value.specs.declared.fault.Fault.{Fault}
 use Rattle.jt_value.specs.declared.fault.ValueError.{ValueError}
 use Rattle.jt_value.specs.declared.fault.ValueError.TheVariants as error
-use Rattle.jt_value.specs.Tree.{Tree, text, Items, truth, items_size, items_nesting}
-use Rattle.jt_value.specs.View.{view}
+use Rattle.jt_value.specs.Tree.{Tree, text, list, Items, truth, items_size, items_nesting}
+use Rattle.jt_value.specs.View.{view, items_view}
 use Rattle.jt_op_semantics.specs.ItemOf.{item_of}
 use Rattle.jt_ids.specs.TestTable.{test_values}
+use Rattle.jt_ids.specs.declared.test_id.TestId.TheVariants as test
 use Rattle.jt_op_semantics.specs.Testing.{tested}
 use Rattle.jt_filters.specs.declared.inner.Predicate.{Predicate}
 use Rattle.jt_filters.specs.declared.inner.Predicate.TheVariants as predicate
@@ -21,11 +22,13 @@ use Rattle.jt_filter_semantics.specs.Single.{single}
 abbrev pub judges : Predicate → Tree → Result Bool Fault
 judges predicate.Truth = λ t. Ok (truth t)
 judges (predicate.Test test arguments) = λ t. tested test (t ∷ map view arguments.now)
+judges (predicate.Among members) = λ t. tested test.In (t ∷ list (items_view members.now.items.now) ∷ [])
 
 -- Holds if a test has the number of arguments that it takes.
 abbrev pub Judges : Predicate → Type 0
 Judges predicate.Truth = Unit {0}
 Judges (predicate.Test test arguments) = length arguments.now + 1 ≡ test_values test
+Judges (predicate.Among members) = Unit {0}
 
 -- The function of a predicate, or the fault.
 abbrev pub judging : Result Predicate Fault → Result (Tree → Result Bool Fault) Fault
@@ -36,7 +39,7 @@ judging (Err fault) = Err fault
 abbrev pub MakesPredicate : Result (Tree → Result Bool Fault) Fault → Result Predicate Fault → Type 0
 MakesPredicate wanted made = (judging made ≡ wanted) × IfOk made Judges
 
--- True if an item is kept.
+-- Whether the selection keeps an item, or its fault.
 abbrev pub kept : Selection → Tree → Result Bool Fault
 kept s t = passing s.passes (judged (judges s.predicate) (attribute_or_item (option_map (λ k. k.now) s.key) t))
 
@@ -50,6 +53,11 @@ abbrev pub Gives : ItemAction → Type 0
 Gives (change.Keep s) = Judges s.predicate
 Gives (change.Attribute key) = Unit {0}
 Gives (change.Filter c) = Unit {0}
+
+-- Holds if an action keeps items by test `in` with the list of these items.
+abbrev pub IsSought : Items → ItemAction → Type 0
+IsSought us (change.Keep s) = judges s.predicate ≡ (λ t. tested test.In (t ∷ list us ∷ []))
+IsSought us other = ⊥
 
 -- The function of an action, or the fault.
 abbrev pub changing : Result ItemAction Fault → Result (Tree → Result Items Fault) Fault

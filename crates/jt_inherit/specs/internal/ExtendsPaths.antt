@@ -10,7 +10,7 @@ use Rattle.jt_ast.specs.Texts.{among, repeated}
 use Rattle.jt_ast.specs.Expressions.{Text}
 use Rattle.jt_ast.specs.Statements.{body_weight}
 use Rattle.jt_scan.specs.declared.options.Options.{Options}
-use Rattle.jt_chains.specs.Along.{ArePlaces, templates_at}
+use Rattle.jt_chains.specs.Along.{AreIndices, templates_at}
 use Rattle.jt_chains.specs.Chain.{max_templates, Sources, Namespace, a_chain, a_library, Template, extends_of}
 use Rattle.jt_chains.specs.Chain.{sources_in, holds_macros}
 use Rattle.jt_chains.specs.TemplateFiles.{files_view}
@@ -68,7 +68,7 @@ pub record AreKnown (given : SourceTexts) (options : Options) (ts : List Templat
 -- The templates at the indices are the next ones on the path of a chain, or the library's own, each
 -- once. The last name, if any, comes after them.
 pub record IsExtendsPath (ts : List Template) (h : Namespace) (is : List ℕ) (p : Option Text) : Type 0 where
-  pub places : ArePlaces ts is
+  pub indices : AreIndices ts is
   pub leads : LeadsFrom (sources_in ts) h (templates_at ts is) p
   pub once : repeated (map (λ t. t.name) (templates_at ts is)) ≡ false
   pub few : length is ≤ max_templates
@@ -95,8 +95,8 @@ AddsNames old new xs =
     → IsTrue (among n (names_view new))
     → IsTrue (among n (names_view old)) ⊎ IsTrue (among n xs)
 
--- The templates of a chain or a library were read: the invariant holds, the new names are on the
--- path, and the path is at these indices.
+-- The templates of a chain or a library were read. The invariant holds, the new names are on the
+-- path, and the path is at the indices.
 pub record HasRead (given : SourceTexts) (options : Options) (before after : List TemplateFile) (old new : Names)
     (h : Namespace) (is : List ℕ) : Type 0 where
   pub known : KnowTemplateFiles given options after new

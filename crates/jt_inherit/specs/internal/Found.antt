@@ -18,13 +18,13 @@ use Rattle.jt_inherit.specs.internal.RuleTests.{BreakOne, KeepAll}
 use Rattle.jt_chains.specs.Names.{IsName}
 use Rattle.jt_chains.specs.Needs.{Need, need_namespace, need_view, needed}
 use Rattle.jt_chains.specs.TemplateFiles.{files_view, namespace_view}
-use Rattle.jt_chains.specs.Places.{namespace_at}
+use Rattle.jt_chains.specs.Indices.{namespace_at}
 use Rattle.jt_chains.specs.Rules.{max_chains, Asks, Reaches}
 use Rattle.jt_inherit.specs.internal.Sets.{names_view, namespaces_view}
 use Rattle.jt_inherit.specs.internal.ExtendsPaths.{AreKnown, IsExtendsPath}
 use Rattle.jt_inherit.specs.declared.discovery.Discovery.{Discovery}
 use Rattle.jt_inherit.specs.declared.sets.Names.{Names}
-use Rattle.jt_chains.specs.declared.includes.Include.{Include}
+use Rattle.jt_chains.specs.declared.include_tags.NeededTemplate.{NeededTemplate}
 use Rattle.jt_chains.specs.declared.files.TemplateFile.{TemplateFile}
 use Rattle.jt_inherit.specs.declared.error.ChainError.{ChainError}
 use Rattle.jt_chains.specs.declared.chain.Namespace.{Namespace}
@@ -94,7 +94,7 @@ TooMany old names =
     → IsTrue (among n ns)
     → IsTrue (listed (a_chain n) old) ⊎ IsTrue (listed (a_chain n) names))
 
--- The numbers are appended to those before.
+-- The numbers are appended to the numbers before.
 abbrev pub AddsNext : List chain.Namespace → List chain.Namespace → List chain.Namespace → List ℕ → List ℕ → Type 0
 AddsNext old new names before after =
     (numbers : List ℕ) × (after ≡ before ++ numbers) × AreNext old new names numbers
@@ -113,9 +113,9 @@ IsPutFault old h n e =
 abbrev pub IsNeedRefusal : SourceTexts → Options → List Need → ChainError → Type 0
 IsNeedRefusal given options ns e = (e ≡ error.NoMemory) ⊎ IsNeedFault given options ns e
 
--- The namespaces that one include or import leads to, and those that the templates at some indices
--- lead to.
-abbrev pub leads_to : Names → Include → List chain.Namespace
+-- The namespaces that one include or import leads to, and the namespaces that the templates at some
+-- indices lead to.
+abbrev pub leads_to : Names → NeededTemplate → List chain.Namespace
 leads_to ks n = chosen (names_view ks) (need_view n ∷ [])
 
 abbrev pub lead_to : Names → List TemplateFile → List ℕ → List chain.Namespace

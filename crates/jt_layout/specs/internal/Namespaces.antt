@@ -13,8 +13,8 @@ use Rattle.jt_chains.specs.declared.definitions.DefinedName.{DefinedName}
 use Rattle.jt_chains.specs.declared.chain.Chain.{Chain}
 use Rattle.jt_rules.specs.CompileEnv.{CompileEnv, cenv_of}
 use Rattle.jt_semantics.specs.Layout.{names, names_in}
-use Rattle.jt_layout.specs.Names.{place_in}
-use Rattle.jt_layout.specs.internal.Places.{names_at}
+use Rattle.jt_layout.specs.Names.{index_in}
+use Rattle.jt_layout.specs.internal.Indices.{names_at}
 
 module _ (c : Chain) where
   abbrev pub its_cenv : CompileEnv
@@ -45,7 +45,7 @@ module _ (c : Chain) where
 
   -- The map has a number for each template that was read.
   abbrev pub AreSources : BTreeMap (Bor Text) ℕ → Type 0
-  AreSources m = (x : Text) → is_none (place_in m x) ≡ is_none (its_sources c x)
+  AreSources m = (x : Text) → is_none (index_in m x) ≡ is_none (its_sources c x)
 
   -- The map has the names of each remaining chain, and no other entries.
   abbrev pub AreNames : List Namespace → BTreeMap (Bor Text) (Vec (Bor Text) Global) → Type 0

@@ -1,5 +1,5 @@
--- The states of the parser, and the state after each piece. The relations of the grammar define
--- what tags spell. Only private clauses cite this module.
+-- The states of the parser, and the state after each piece. The relations of the grammar define the
+-- trees that tags spell. Only private clauses cite this module.
 use Rattle.std.specs.Prelude.{◌≡◌, ℕ, suc, ◌+◌, ◌≤◌, ◌<◌, Bool, true, false, ◌&&◌, List, [], ◌∷◌, length, codes}
 use Rattle.std.specs.Prelude.{encode_utf8_all, bytes_eq, if◌then◌else◌, Result, Ok, Err}
 use Rattle.std.specs.List.{list_any}

@@ -1,8 +1,8 @@
 -- The entries of a map in byte order of their keys: the first entry of each key.
-use Rattle.std.specs.Prelude.{◌≡◌, ℕ, List, [], ◌∷◌, drop, true, String, string_bytes}
+use Rattle.std.specs.Prelude.{◌≡◌, ℕ, List, [], ◌∷◌, drop, length, true, String, string_bytes}
 use Rattle.std.specs.declared.alloc.Global.{Global}
 use Rattle.jt_value.specs.Tree.{Entries, no_entries, entry}
-use Rattle.jt_value.specs.Entries.{entry_of, ascends}
+use Rattle.jt_value.specs.Entries.{entry_of, keys, ascends}
 use Rattle.jt_value.specs.View.{view, entries_view}
 use Rattle.jt_value.specs.declared.value.Value.{Value}
 use Rattle.jt_value.specs.declared.in_order.InOrder.{InOrder}
@@ -31,3 +31,7 @@ to_come iterator = rest_of iterator.entries.now iterator.rest
 -- `entries`.
 abbrev pub IsInOrder : Entries → Entries → Type 0
 IsInOrder ordered entries = (ascends ordered ≡ true) × ((k : List ℕ) → entry_of k ordered ≡ entry_of k entries)
+
+-- Holds if the entries have this number of different keys.
+abbrev pub HasKeyCount : ℕ → Entries → Type 0
+HasKeyCount n entries = (ordered : Entries) × IsInOrder ordered entries × (length (keys ordered) ≡ n)

@@ -7,12 +7,12 @@ use Rattle.jt_image.specs.declared.kind.Kind.{Kind}
 use Rattle.jt_image.specs.declared.kind.Kind.TheVariants as kind
 use Rattle.jt_image.specs.declared.kind.Flaw.{Flaw}
 use Rattle.jt_image.specs.Effect.{Shape, Successors, pushes, pops_many}
-use Rattle.jt_verify.specs.declared.links.NonValue.{NonValue}
-use Rattle.jt_verify.specs.declared.links.NonValue.TheVariants as mark
-use Rattle.jt_verify.specs.declared.links.ShapeId.{ShapeId}
-use Rattle.jt_verify.specs.declared.links.Node.{Node}
-use Rattle.jt_verify.specs.declared.links.Link.{Link}
-use Rattle.jt_verify.specs.declared.links.Link.TheVariants as link
+use Rattle.jt_verify.specs.declared.nodes.NonValue.{NonValue}
+use Rattle.jt_verify.specs.declared.nodes.NonValue.TheVariants as mark
+use Rattle.jt_verify.specs.declared.nodes.ShapeId.{ShapeId}
+use Rattle.jt_verify.specs.declared.nodes.Node.{Node}
+use Rattle.jt_verify.specs.declared.nodes.Link.{Link}
+use Rattle.jt_verify.specs.declared.nodes.Link.TheVariants as link
 
 abbrev pub kind_of : NonValue → Kind
 kind_of mark.Frame = kind.Frame
@@ -85,7 +85,8 @@ abbrev pub IsAt : List Node → ℕ → Node → Type 0
 IsAt ns zero n = (n.height ≡ 0) × (n.jump.to ≡ 0)
 IsAt ns (suc i) n = slice_get ns i ≡ Some n
 
--- Skip links lead to older nodes, whose shapes lie below those of the nodes that have the links.
+-- Skip links lead to older nodes, whose shapes lie below the shapes of the nodes that have the
+-- links.
 abbrev pub AreJumps : List Node → Type 0
 AreJumps ns = (i : ℕ) (n : Node) → slice_get ns i ≡ Some n
     → (n.jump.to ≤ i) × IsUnder (lists_of ns) n.jump.to (get_or (lists_of ns) (suc i) [])
@@ -101,7 +102,7 @@ pub record IsNode (ns : List Node) (m : NonValue) (b : ShapeId) (i : ℕ) : Type
   pub mark : node.mark ≡ m
   pub below : node.below ≡ b
 
--- Links lead from the place to the node of the mark on the shape id, which is node `i`.
+-- Links lead from the index to the node of the mark on the shape id, which is node `i`.
 pub data Finds (ns : List Node) (ls : List ℕ) (m : NonValue) (b : ShapeId) : ℕ → ℕ → ℕ → Type 0 where
   here : (p d i : ℕ) → get_or ls p 0 ≡ suc i → IsNode ns m b i → Finds ns ls m b p d i
   along : (p d i k : ℕ) → get_or ls p 0 ≡ suc k
@@ -109,7 +110,7 @@ pub data Finds (ns : List Node) (ls : List ℕ) (m : NonValue) (b : ShapeId) : �
 
 -- Each link leads to a node that is newer than the node of the link.
 pub record AreLinks (n : ℕ) (ls : List ℕ) : Type 0 where
-  pub places : 3 * (n + 1) ≤ length ls
+  pub indices : 3 * (n + 1) ≤ length ls
   pub upward : (p k : ℕ) → get_or ls p 0 ≡ suc k → (p < 3 * suc k) × (k < n)
 
 -- Each link that leads to a node still leads to that node.
@@ -121,7 +122,7 @@ abbrev pub LeadsTo : List ℕ → NonValue → ShapeId → ℕ → ℕ → ℕ �
 LeadsTo ls m b p d q = (ns : List Node) (r : List ℕ) (i : ℕ)
     → KeepsLinks ls r → get_or r q 0 ≡ suc i → IsNode ns m b i → Finds ns r m b p d i
 
--- The node that is looked up, or the place at which its link would be.
+-- The node that is looked up, or the index at which its link would be.
 abbrev pub Finding : List Node → List ℕ → NonValue → ShapeId → ℕ → ℕ → Link → Type 0
 Finding ns ls m b p d (link.To n) = (i : ℕ) × (n ≡ suc i) × IsNode ns m b i
 Finding ns ls m b p d (link.Vacant q) =
@@ -146,8 +147,8 @@ pub record IsArena (ns : List Node) (ls : List ℕ) : Type 0 where
   pub distinct : (i j : ℕ) → i < length (lists_of ns) → j < length (lists_of ns)
       → get_or (lists_of ns) i [] ≡ get_or (lists_of ns) j [] → i ≡ j
 
--- One more node was added, whose number is `k`, and the link at the place leads to it.
-pub record IsAdded (ns ms : List Node) (ls rs : List ℕ) (n : Node) (place k : ℕ) : Type 0 where
+-- One more node was added, whose number is `k`, and the link at the index leads to it.
+pub record IsAdded (ns ms : List Node) (ls rs : List ℕ) (n : Node) (index k : ℕ) : Type 0 where
   pub node : k ≡ length ns + 1
   pub nodes : ms ≡ ns ++ n ∷ []
-  pub links : rs ≡ slice_set (ls ++ 0 ∷ 0 ∷ 0 ∷ []) place k
+  pub links : rs ≡ slice_set (ls ++ 0 ∷ 0 ∷ 0 ∷ []) index k

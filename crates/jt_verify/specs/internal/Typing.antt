@@ -10,8 +10,8 @@ use Rattle.jt_image.specs.Effect as effects
 use Rattle.jt_image.specs.Effect.{Shape}
 use Rattle.jt_image.specs.Readers.{header_of}
 use Rattle.jt_image.specs.Typed.{Among, max_entries}
-use Rattle.jt_verify.specs.declared.links.ShapeId.{ShapeId}
-use Rattle.jt_verify.specs.declared.links.NonValue.{NonValue}
+use Rattle.jt_verify.specs.declared.nodes.ShapeId.{ShapeId}
+use Rattle.jt_verify.specs.declared.nodes.NonValue.{NonValue}
 use Rattle.jt_verify.specs.declared.effect.Successors.{Successors}
 use Rattle.jt_verify.specs.declared.effect.Effect.{Effect}
 use Rattle.jt_verify.specs.declared.effect.EffectError.{EffectError}

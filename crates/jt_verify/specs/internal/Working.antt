@@ -17,7 +17,7 @@ use Rattle.jt_verify.specs.Refusing.{HoldsAt}
 use Rattle.jt_verify.specs.declared.effect.Successors.{Successors}
 use Rattle.jt_verify.specs.declared.refusal.Refusal.{Refusal}
 use Rattle.jt_verify.specs.declared.refusal.Refusal.TheVariants as refusal
-use Rattle.jt_verify.specs.declared.links.ShapeId.{ShapeId}
+use Rattle.jt_verify.specs.declared.nodes.ShapeId.{ShapeId}
 use Rattle.jt_verify.specs.declared.verifier.WorkItem.{WorkItem as Waiting}
 use Rattle.jt_verify.specs.declared.verifier.OutState.{OutState}
 use Rattle.jt_verify.specs.declared.verifier.Dataflow.{Dataflow}
@@ -38,7 +38,7 @@ pub record WorkItem : Type 0 where
   pub point : ℕ
   pub shape : Shape
 
--- The known shapes, one place for each point.
+-- The known shapes, one index for each point.
 abbrev pub Table : Type 0
 Table = List (Option Shape)
 
@@ -98,12 +98,12 @@ Arrives t x false = (length x.shape ≤ max_entries) × (shape_at t x.point ≡ 
 abbrev pub ClashesAt : Option Shape → Shape → Flaw → Type 0
 ClashesAt o s f = IsTooDeep s f ⊎ ((r : Shape) × (o ≡ Some r) × DifferBy r s f)
 
--- A path may not arrive at its point.
+-- The refusal states why the path's shape cannot join the known one.
 abbrev pub Clashes : Table → ℕ → WorkItem → Refusal → Type 0
 Clashes t n x r =
     (f : Flaw) × (r ≡ refusal.Flaw f n x.point) × ClashesAt (shape_at t x.point) x.shape f
 
--- The result of an arrival: whether the path ends there, or why it may not arrive.
+-- The result of an arrival: whether the path ends there, or a refusal.
 abbrev pub Arriving : Table → ℕ → WorkItem → Result Bool Refusal → Type 0
 Arriving t n x (Ok is_known) = Arrives t x is_known
 Arriving t n x (Err r) = Clashes t n x r

@@ -8,9 +8,9 @@ use Rattle.jt_bind.proofs.emission.put_data.Goals as goal
 
 pub returns : goal.returns
 returns c = λ templates.
-    data_led templates (tree.text c.args.text.now) c.len-place.result c.args.done.now.items c.push-2.new.self.items
+    data_led templates (tree.text c.args.text.now) c.len-index.result c.args.done.now.items c.push-2.new.self.items
     (values c.args.pool.now) (values c.push.new.self)
-    (c.len-place.ensures ∙ c.args.pool.now.ok.0 ∙ sym (length-map c.args.pool.now.items view)) (value_push
+    (c.len-index.ensures ∙ c.args.pool.now.ok.0 ∙ sym (length-map c.args.pool.now.items view)) (value_push
     c.args.pool.now.items c.push.new.self.items c.in_ok-text.field-0 (tree.text c.args.text.now)
     c.in_ok-push.ensures.items c.in_ok-text.ensures)
     c.in_ok-push-2.ensures.items

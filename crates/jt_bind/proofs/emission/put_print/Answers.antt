@@ -1,9 +1,12 @@
-use Rattle.jt_bind.specs.internal.Scoped.{templates_in}
-use Rattle.jt_bind.specs.internal.Stated.{line_in}
-use Rattle.jt_bind.proofs.BodyConcatenation.{print_led}
+use Rattle.std.proofs.Common.{sym, subst, List}
+use Rattle.std.proofs.lemmas.Result.{IfOk-weaker}
+use Rattle.jt_ir.specs.View.{expr_view, filters_after}
+use Rattle.jt_ir.specs.declared.program.SlotFilter.{SlotFilter}
+use Rattle.jt_bind.specs.internal.Scoped.{IsPlaced}
 use Rattle.jt_bind.proofs.emission.put_print.Goals as goal
 
 pub returns : goal.returns
-returns c = λ s k p q h.
-    print_led (templates_in s) c.place.result (line_in s c.args.senv.now c.args.line) c.args.senv.now.escaping k
-    c.args.value c.args.done.now.items c.push.new.self.items p q (c.place.ensures s) h c.in_ok-push.ensures.items
+returns c =
+    IfOk-weaker c.put_filtered.result _ _ (λ u h. λ s k p q g. h s k p q
+    (subst (λ (fs : List SlotFilter). IsPlaced k (filters_after fs (expr_view c.args.value)) p q)
+    (sym c.new-filters.ensures.items) g)) c.put_filtered.ensures

@@ -6,12 +6,12 @@ use Rattle.jt_bind.specs.internal.Routines.{RoutinesLead}
 use Rattle.jt_bind.proofs.RoutineConcatenation.{Planned}
 use Rattle.jt_bind.proofs.routines.resolve_blocks.Given as goal
 
-abbrev pub invariant-loop-place : goal.invariant-loop-place
-invariant-loop-place l = (left : List Planned) → RoutinesLead (templates_in l.tables)
+abbrev pub invariant-loop-index : goal.invariant-loop-index
+invariant-loop-index l = (left : List Planned) → RoutinesLead (templates_in l.tables)
     (body_routines (cenv_in l.tables) (order_in l.tables) (namespace_in l.tables)
     (numbered_bodies (cenv_in l.tables) (namespace_in l.tables))
     ++ left)
     (body_routines (cenv_in l.tables) (order_in l.tables) (namespace_in l.tables)
-    (drop l.place (numbered_bodies (cenv_in l.tables) (namespace_in l.tables)))
+    (drop l.index (numbered_bodies (cenv_in l.tables) (namespace_in l.tables)))
     ++ left)
     l.initial.routines.items l.routines.items (values l.initial.pool) (values l.pool)

@@ -3,7 +3,7 @@ use Rattle.std.proofs.lemmas.List.{length-map}
 use Rattle.jt_chains.specs.Chain.{a_chain, templates}
 use Rattle.jt_chains.specs.Layers.{layer_view}
 use Rattle.jt_chains.specs.TemplateFiles.{namespace_view}
-use Rattle.jt_chains.specs.Places.{namespace_at}
+use Rattle.jt_chains.specs.Indices.{namespace_at}
 use Rattle.jt_chains.specs.View.{chain_view, sources_of}
 use Rattle.jt_chains.specs.declared.chain.Chain.{Chain}
 use Rattle.jt_chains.specs.declared.layers.Layer.{Layer}

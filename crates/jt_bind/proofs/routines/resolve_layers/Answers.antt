@@ -11,13 +11,13 @@ use Rattle.jt_bind.proofs.routines.resolve_layers.Goals as goal
 
 pub returns : goal.returns
 returns c = λ left.
-    let l = c.loop-place in
+    let l = c.loop-index in
     let scope = c.args.tables.now in
     lead_left (templates_in scope) _ _ _ _ _ _ _
     (at_drop_all (λ (z : List Layer). followed (resolved_chain (cenv_in scope) (order_in scope) (namespace_in scope)
     (map (layer_view (chain_view scope.chain.now).templates) z)) left)
-    c.args.layers.now l.place (omega arith))
+    c.args.layers.now l.index (omega arith))
     (l.invariant left)
 
-pub loop-place-preserved : goal.loop-place-preserved
-loop-place-preserved c = search (arith, rules, lead_both, lead_of, layers_turn, root_here, led_of)
+pub loop-index-preserved : goal.loop-index-preserved
+loop-index-preserved c = search (arith, rules, lead_both, lead_of, layers_turn, root_here, led_of)

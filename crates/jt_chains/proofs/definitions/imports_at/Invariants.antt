@@ -5,11 +5,11 @@ use Rattle.jt_chains.specs.TemplateFiles.{files_view}
 use Rattle.jt_chains.specs.Named.{names_view}
 use Rattle.jt_chains.proofs.definitions.imports_at.Given as goal
 
-abbrev pub invariant-loop-place : goal.invariant-loop-place
-invariant-loop-place l = (h : Namespace) →
+abbrev pub invariant-loop-index : goal.invariant-loop-index
+invariant-loop-index l = (h : Namespace) →
     names_view (files_view l.chain.templates.items) h l.found.items
     ++ along (files_view l.chain.templates.items)
-    (λ n b. imports_in (sources_in (files_view l.chain.templates.items)) b) (drop l.place-index l.places)
+    (λ n b. imports_in (sources_in (files_view l.chain.templates.items)) b) (drop l.index-index l.indices)
     ≡ names_view (files_view l.chain.templates.items) h l.initial.found.items
     ++ along (files_view l.chain.templates.items)
-    (λ n b. imports_in (sources_in (files_view l.chain.templates.items)) b) l.places
+    (λ n b. imports_in (sources_in (files_view l.chain.templates.items)) b) l.indices

@@ -4,8 +4,8 @@ use Rattle.jt_chains.specs.Chain.{libraries_in}
 use Rattle.jt_chains.specs.TemplateFiles.{files_view}
 use Rattle.jt_chains.proofs.definitions.libraries_of.Given as goal
 
-abbrev pub invariant-loop-place : goal.invariant-loop-place
-invariant-loop-place l =
+abbrev pub invariant-loop-index : goal.invariant-loop-index
+invariant-loop-index l =
     map (λ n. n.now) l.found.items
-    ++ along (files_view l.files) (λ n b. libraries_in b) (drop l.place-index l.namespace.templates.items)
+    ++ along (files_view l.files) (λ n b. libraries_in b) (drop l.index-index l.namespace.templates.items)
     ≡ along (files_view l.files) (λ n b. libraries_in b) l.namespace.templates.items

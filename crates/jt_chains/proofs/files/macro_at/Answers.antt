@@ -13,4 +13,4 @@ returns-in-Some c = search (arith, rules, map_at)
 pub returns-in-None : goal.returns-in-None
 returns-in-None c = λ ts.
     ap (option_and_then (as_macro (name_at ts c.args.template)))
-    (sym (past_mapped stmt_view c.args.body.now c.args.place c.in-None.ensures.lookup.3))
+    (sym (past_mapped stmt_view c.args.body.now c.args.index c.in-None.ensures.lookup.3))

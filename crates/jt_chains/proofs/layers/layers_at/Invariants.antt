@@ -4,8 +4,8 @@ use Rattle.jt_chains.specs.Layers.{layer_view}
 use Rattle.jt_chains.specs.TemplateFiles.{files_view}
 use Rattle.jt_chains.proofs.layers.layers_at.Given as goal
 
-abbrev pub invariant-loop-place : goal.invariant-loop-place
-invariant-loop-place l =
+abbrev pub invariant-loop-index : goal.invariant-loop-index
+invariant-loop-index l =
     map (layer_view (files_view l.files)) l.found.items
-    ++ layers_along (files_view l.files) (drop l.place-index l.places)
-    ≡ layers_along (files_view l.files) l.places
+    ++ layers_along (files_view l.files) (drop l.index-index l.indices)
+    ≡ layers_along (files_view l.files) l.indices

@@ -2,13 +2,13 @@ use Rattle.std.proofs.Common.{◌≡◌, ◌≤◌, length, drop}
 use Rattle.std.specs.BTreeMap.{get_by_text}
 use Rattle.jt_ast.specs.Expressions.{Text}
 use Rattle.jt_ast.specs.StatementView.{body_view}
-use Rattle.jt_chains.specs.Tables.{macro_place}
+use Rattle.jt_chains.specs.Tables.{macro_index}
 use Rattle.jt_chains.proofs.tables.macro_table.Given as goal
 
 abbrev pub invariant-loop-left : goal.invariant-loop-left
 invariant-loop-left l = record {
   within : l.left ≤ length l.body;
-  placed : (x : Text) → get_by_text l.table x ≡ macro_place x l.left (body_view (drop l.left l.body));
+  indexed : (x : Text) → get_by_text l.table x ≡ macro_index x l.left (body_view (drop l.left l.body));
 }
 
 abbrev pub decreases-loop-left : goal.decreases-loop-left

@@ -7,6 +7,6 @@ use Rattle.jt_chains.proofs.tables.put.Goals as goal
 pub returns : goal.returns
 returns c = λ x.
     let key = c.in_ok-from_str.field-0 in
-    btree_map_updates_text (string_bytes key) c.args.table.now c.insert.new.self (Some c.args.place)
+    btree_map_updates_text (string_bytes key) c.args.table.now c.insert.new.self (Some c.args.index)
     c.in_ok-insert.ensures.updates x
-    ∙ ap (λ b. if bytes_eq b x then Some c.args.place else get_by_text c.args.table.now x) c.in_ok-from_str.ensures.ok
+    ∙ ap (λ b. if bytes_eq b x then Some c.args.index else get_by_text c.args.table.now x) c.in_ok-from_str.ensures.ok

@@ -7,7 +7,7 @@ use Rattle.jt_ir.specs.Slots.{none}
 use Rattle.jt_ir.specs.declared.program.SlotStmt.{SlotStmt}
 use Rattle.jt_ir.specs.declared.program.SlotStmt.TheVariants as v
 use Rattle.jt_ir.specs.View.{slot_view, targets_view, place_view, expr_view, row_view, stmt_view, body_view}
-use Rattle.jt_ir.specs.View.{choice_view}
+use Rattle.jt_ir.specs.View.{filtered_view, choice_view}
 use Rattle.jt_lower.specs.Asm.{Asm, one, both, each, when, invoke}
 use Rattle.jt_lower.specs.Lower.{flag, store_of, expr_asm, row_asm, take_asm, kept_asm, turn_asm, body_asm, stmt_asm}
 use Rattle.jt_lower.specs.Emission.{tag_view, Puts}
@@ -32,8 +32,9 @@ pub emit_statement-returns-in-Print : goal.emit_statement-returns-in-Print
 emit_statement-returns-in-Print t c =
     let p = c.in-Print in
     IfOk-weaker c.emit_printed.result _ _ (λ u g. λ ts h s.
-    emits_seen ts h c.args.code.now c.emit_printed.new.code c.args.statement.now (v.Print p.tag p.escaping p.expr)
-    (slots.print (place_view ts p.tag) p.escaping (expr_view p.expr)) p.is (view_Print ts p.tag p.escaping p.expr)
+    emits_seen ts h c.args.code.now c.emit_printed.new.code c.args.statement.now (v.Print p.tag p.escaping p.filtered)
+    (slots.print (place_view ts p.tag) p.escaping (filtered_view p.filtered)) p.is
+    (view_Print ts p.tag p.escaping p.filtered)
     (g ts h s)) c.emit_printed.ensures
 
 pub emit_statement-returns-in-Assign : goal.emit_statement-returns-in-Assign

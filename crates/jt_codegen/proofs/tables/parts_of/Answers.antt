@@ -6,7 +6,7 @@ use Rattle.std.specs.Vec.{with_items}
 use Rattle.jt_image.specs.declared.parts.Parts.{Parts}
 use Rattle.jt_image.specs.declared.version.Version.TheVariants as version
 use Rattle.jt_image.specs.Parts.{each_of, section_of_unit}
-use Rattle.jt_constants.specs.Merged.{constant_of, each_once, new_places}
+use Rattle.jt_constants.specs.Merged.{constant_of, each_once, new_indices}
 use Rattle.jt_constants.specs.Refusals.{RefusesTable}
 use Rattle.jt_constants.proofs.MergeIsNoLarger.{units_len}
 use Rattle.jt_ir.specs.View.{routine_view, templates_of}
@@ -42,8 +42,8 @@ returns-clause-emitted c =
     let read = subst
     (λ (rs : List Routine). each_of section_of_unit code.units.items ≡ Some (map unit_of (map (routine_view ts) rs)))
     c.deref-2.ensures.value (c.in_ok-code.ensures.emitted ts) in
-    let at = c.deref-3.ensures.value ∙ c.in_ok-table.ensures.places
-    ∙ ap (λ (vs : List Value). new_places (map constant_of (map view vs))) c.deref.ensures.value in
+    let at = c.deref-3.ensures.value ∙ c.in_ok-table.ensures.indices
+    ∙ ap (λ (vs : List Value). new_indices (map constant_of (map view vs))) c.deref.ensures.value in
     let once = c.in_ok-table.ensures.once
     ∙ ap (λ (vs : List Value). each_once (map constant_of (map view vs))) c.deref.ensures.value in
     let parts : Parts = record {

@@ -9,5 +9,5 @@ loop-at-preserved c = search (arith, rules, changed_more)
 
 pub returns : goal.returns
 returns c =
-    λ us e. whole section_of_unit (moved_unit c.args.places.now) c.args.units.now c.loop-at.units us c.loop-at.at
+    λ us e. whole section_of_unit (moved_unit c.args.indices.now) c.args.units.now c.loop-at.units us c.loop-at.at
     c.loop-at-test.false e (c.loop-at.invariant us e)

@@ -8,4 +8,4 @@ use Rattle.jt_constants.proofs.moving.move_constants.Given as goal
 abbrev pub invariant-loop-at : goal.invariant-loop-at
 invariant-loop-at l =
     (us : List Section) → each_of section_of_unit l.initial.units ≡ Some us
-    → each_of section_of_unit l.units ≡ Some (changed section_of_unit (moved_unit l.places) l.at us)
+    → each_of section_of_unit l.units ≡ Some (changed section_of_unit (moved_unit l.indices) l.at us)

@@ -4,12 +4,12 @@ use Rattle.std.proofs.lemmas.List.{length-map, map-append}
 use Rattle.std.proofs.lemmas.Result.{err_from_is_err_and}
 use Rattle.jt_image.specs.Code.{Constant}
 use Rattle.jt_image.specs.View.{constant_view, constants_view}
-use Rattle.jt_constants.specs.internal.Keys.{key_view, place_of, KnowsMore}
+use Rattle.jt_constants.specs.internal.Keys.{key_view, index_of, KnowsMore}
 use Rattle.jt_constants.proofs.TableGrowth.{holds_none, holds_all, known_absent, knows_more, turn_there, turn_absent}
 use Rattle.jt_constants.proofs.TableGrowth.{left_so, too_many}
 use Rattle.jt_constants.proofs.table.constant_table.Goals.{in-Some}
 use Rattle.jt_constants.proofs.table.constant_table.Goals.{
-  in-None+in_ok-place-in-None+in_ok-add-in-None+in_ok-constant_of-in-None+in_ok-push-in-None,
+  in-None+in_ok-index-in-None+in_ok-add-in-None+in_ok-constant_of-in-None+in_ok-push-in-None,
 }
 use Rattle.jt_constants.proofs.table.constant_table.Goals as goal
 use Rattle.jt_image.specs.declared.image.Constant as image
@@ -17,29 +17,29 @@ use Rattle.jt_image.specs.declared.image.Constant as image
 pub returns-clause-once : goal.returns-clause-once
 returns-clause-once c =
     let l = c.loop-value in
-    (holds_all c.args.pool.now l.value-index (constants_view l.constants.items) l.places.items c.loop-value-test.false
+    (holds_all c.args.pool.now l.value-index (constants_view l.constants.items) l.indices.items c.loop-value-test.false
     l.invariant.1).0
 
-pub returns-clause-places : goal.returns-clause-places
-returns-clause-places c =
+pub returns-clause-indices : goal.returns-clause-indices
+returns-clause-indices c =
     let l = c.loop-value in
-    (holds_all c.args.pool.now l.value-index (constants_view l.constants.items) l.places.items c.loop-value-test.false
+    (holds_all c.args.pool.now l.value-index (constants_view l.constants.items) l.indices.items c.loop-value-test.false
     l.invariant.1).1
 
-pub returns-in_err-place-in-None-clause-refused : goal.returns-in_err-place-in-None-clause-refused
-returns-in_err-place-in-None-clause-refused c =
+pub returns-in_err-index-in-None-clause-refused : goal.returns-in_err-index-in-None-clause-refused
+returns-in_err-index-in-None-clause-refused c =
     let l = c.loop-value in
     let now = constants_view l.constants.items in
     let k = c.key_of-key.result in
-    let found : c.known_place.result ≡ place_of now (key_view k) = c.known_place.ensures ∙ l.invariant.0 k in
+    let found : c.known_index.result ≡ index_of now (key_view k) = c.known_index.ensures ∙ l.invariant.0 k in
     let absent = known_absent now (key_view k) (sym found ∙ c.in-None.is) in
-    let err = c.in_err-place-in-None.ensures.err in
+    let err = c.in_err-index-in-None.ensures.err in
     let many : 2 ^ 32 ≤ length now =
     omega (arith, err.1, c.len.ensures, length-map l.constants.items constant_view, l.constants.ok.0) in
-    let p = err_from_is_err_and c.from_residual-in_err-place-in-None.result
-    c.from_residual-in_err-place-in-None.ensures.1 in
+    let p = err_from_is_err_and c.from_residual-in_err-index-in-None.result
+    c.from_residual-in_err-index-in-None.ensures.1 in
     rw (p.1, p.2, err.0) (too_many c.args.pool.now l.value-index c.value-item.result k c.key_of-key.ensures now
-    l.places.items c.loop-value-test.true c.value-item.is l.invariant.1 absent many)
+    l.indices.items c.loop-value-test.true c.value-item.is l.invariant.1 absent many)
 
 pub loop-value-init : goal.loop-value-init
 loop-value-init c = search (arith, rules, holds_none)
@@ -51,23 +51,23 @@ loop-value-preserved c =
     let k = c.key_of-key.result in
     let v = c.value-item.result in
     let pool = c.args.pool.now in
-    let found : c.known_place.result ≡ place_of now (key_view k) = c.known_place.ensures ∙ l.invariant.0 k in
-    elim c.match-known_place.branch [
+    let found : c.known_index.result ≡ index_of now (key_view k) = c.known_index.ensures ∙ l.invariant.0 k in
+    elim c.match-known_index.branch [
       | in-Some w ↦
-          left_so pool (l.value-index + 1) c.match-known_place.known l.known
-          (constants_view c.match-known_place.constants.items) now c.push-in-loop-value.new.self.items
-          (l.places.items ++ w.in-Some.place ∷ []) w.known-is
+          left_so pool (l.value-index + 1) c.match-known_index.known l.known
+          (constants_view c.match-known_index.constants.items) now c.push-in-loop-value.new.self.items
+          (l.indices.items ++ w.in-Some.index ∷ []) w.known-is
           (ap (λ (x : Vec image.Constant Global). constants_view x.items) w.constants-is)
-          (c.in_ok-push.ensures.items ∙ ap (λ (n : ℕ). l.places.items ++ n ∷ []) w.place-is)
-          l.invariant.0 (turn_there pool l.value-index v k c.key_of-key.ensures now l.places.items w.in-Some.place
+          (c.in_ok-push.ensures.items ∙ ap (λ (n : ℕ). l.indices.items ++ n ∷ []) w.index-is)
+          l.invariant.0 (turn_there pool l.value-index v k c.key_of-key.ensures now l.indices.items w.in-Some.index
           c.loop-value-test.true c.value-item.is l.invariant.1 (sym found ∙ w.in-Some.is))
-      | in-None+in_ok-place-in-None+in_ok-add-in-None+in_ok-constant_of-in-None+in_ok-push-in-None w ↦
-          let place = w.in_ok-place-in-None.place in
+      | in-None+in_ok-index-in-None+in_ok-add-in-None+in_ok-constant_of-in-None+in_ok-push-in-None w ↦
+          let index = w.in_ok-index-in-None.index in
           let absent = known_absent now (key_view k) (sym found ∙ w.in-None.is) in
-          let count : place ≡ length now =
+          let count : index ≡ length now =
           omega (
             arith,
-            w.in_ok-place-in-None.ensures.ok,
+            w.in_ok-index-in-None.ensures.ok,
             w.len.ensures,
             length-map l.constants.items constant_view,
             l.constants.ok.0,
@@ -76,13 +76,13 @@ loop-value-preserved c =
           ap constants_view w.in_ok-push-in-None.ensures.items
           ∙ map-append constant_view l.constants.items (w.in_ok-constant_of-in-None.field-0 ∷ [])
           ∙ ap (λ (x : Constant). now ++ x ∷ []) w.in_ok-constant_of-in-None.ensures in
-          left_so pool (l.value-index + 1) c.match-known_place.known w.add.new.known
-          (constants_view c.match-known_place.constants.items) (now ++ key_view k ∷ [])
-          c.push-in-loop-value.new.self.items (l.places.items ++ place ∷ []) w.known-is
+          left_so pool (l.value-index + 1) c.match-known_index.known w.add.new.known
+          (constants_view c.match-known_index.constants.items) (now ++ key_view k ∷ [])
+          c.push-in-loop-value.new.self.items (l.indices.items ++ index ∷ []) w.known-is
           (ap (λ (x : Vec image.Constant Global). constants_view x.items) w.constants-is ∙ items)
-          (c.in_ok-push.ensures.items ∙ ap (λ (n : ℕ). l.places.items ++ n ∷ []) w.place-is)
+          (c.in_ok-push.ensures.items ∙ ap (λ (n : ℕ). l.indices.items ++ n ∷ []) w.index-is)
           (knows_more l.known w.add.new.known now k l.invariant.0 absent
           (subst (λ (n : ℕ). KnowsMore l.known k n w.add.new.known) count w.in_ok-add-in-None.ensures))
-          (turn_absent pool l.value-index v k c.key_of-key.ensures now l.places.items place
+          (turn_absent pool l.value-index v k c.key_of-key.ensures now l.indices.items index
           c.loop-value-test.true c.value-item.is l.invariant.1 absent count)
     ]

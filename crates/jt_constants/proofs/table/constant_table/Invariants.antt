@@ -6,4 +6,4 @@ use Rattle.jt_constants.proofs.table.constant_table.Given as goal
 abbrev pub invariant-loop-value : goal.invariant-loop-value
 invariant-loop-value l =
     Knows l.known (constants_view l.constants.items)
-    × Holds l.pool l.value-index (constants_view l.constants.items) l.places.items
+    × Holds l.pool l.value-index (constants_view l.constants.items) l.indices.items

@@ -10,14 +10,14 @@ use Rattle.jt_chains.specs.Includes.{InOrder, begins_with_chain}
 use Rattle.jt_chains.specs.TemplateFiles.{namespace_view, files_view}
 use Rattle.jt_chains.specs.Tables.{AreAt}
 use Rattle.jt_chains.specs.declared.files.TemplateFile.{TemplateFile}
-use Rattle.jt_chains.specs.Places.{namespace_at}
+use Rattle.jt_chains.specs.Indices.{namespace_at}
 use Rattle.jt_ast.specs.Texts.{repeated}
 use Rattle.jt_chains.specs.View.{Seen}
 use Rattle.jt_chains.specs.Weights.{chains_weight}
 use Rattle.jt_inherit.specs.Small.{chains_len}
 use Rattle.jt_inherit.proofs.PathTemplates.{all_short}
 use Rattle.jt_inherit.proofs.ChainIsUnique.{no_chain, one_chain}
-use Rattle.jt_inherit.proofs.ChainComplete.{ways_placed, next_len, chain_breaks, order_breaks, in_order, begins}
+use Rattle.jt_inherit.proofs.ChainComplete.{ways_indexed, next_len, chain_breaks, order_breaks, in_order, begins}
 use Rattle.jt_inherit.proofs.ChainComplete.{chained, weighs, few_namespaces, some_namespaces, all_whole, its_found}
 use Rattle.jt_inherit.proofs.ChainComplete.{its_paths, its_order, its_namespaces, its_names}
 use Rattle.jt_inherit.proofs.chaining.chain.Goals as goal
@@ -27,10 +27,10 @@ check_chains-requires-clause-named g c =
     let known = c.in_ok-found.ensures.found.known in
     (known.named, ap repeated known.named ∙ known.read.once)
 
-pub check_chains-requires-clause-places : goal.check_chains-requires-clause-places
-check_chains-requires-clause-places g c =
+pub check_chains-requires-clause-indices : goal.check_chains-requires-clause-indices
+check_chains-requires-clause-indices g c =
     let f = c.in_ok-found.found in
-    ways_placed (g.L.Library.sources c.args.library.now) (found_templates f) (found_namespaces f) (found_namespaces f)
+    ways_indexed (g.L.Library.sources c.args.library.now) (found_templates f) (found_namespaces f) (found_namespaces f)
     (graph_of f.extends_paths.items) (graph_of f.next.items) c.in_ok-found.ensures.found.followed
 
 pub returns-in_err-check_chains-clause-refused : goal.returns-in_err-check_chains-clause-refused
@@ -95,9 +95,9 @@ invariant_of-result g c =
           all_whole found all kept o c.in_ok-namespaces.namespaces.items
           (its_namespaces f c.in_ok-order.order.items c.deref-2.result.now c.in_ok-namespaces.namespaces.items
           c.deref-2.ensures.value c.in_ok-namespaces.ensures);
-      placed =
-          subst (λ (z : List TemplateFile). AreAt (files_view z) c.in_ok-places.places) c.deref-3.ensures.value
-          c.in_ok-places.ensures;
+      indexed =
+          subst (λ (z : List TemplateFile). AreAt (files_view z) c.in_ok-indices.indices) c.deref-3.ensures.value
+          c.in_ok-indices.ensures;
     }
 
 pub returns-clause-chained : goal.returns-clause-chained
@@ -182,9 +182,9 @@ returns-in_err-namespaces-clause-only g c =
     let p = err_from_is_err_and c.from_residual-in_err-namespaces.result c.from_residual-in_err-namespaces.ensures.1 in
     rw p.1 (λ d i. p.2)
 
-pub returns-in_err-places-clause-only : goal.returns-in_err-places-clause-only
-returns-in_err-places-clause-only g c =
-    let p = err_from_is_err_and c.from_residual-in_err-places.result c.from_residual-in_err-places.ensures.1 in
+pub returns-in_err-indices-clause-only : goal.returns-in_err-indices-clause-only
+returns-in_err-indices-clause-only g c =
+    let p = err_from_is_err_and c.from_residual-in_err-indices.result c.from_residual-in_err-indices.ensures.1 in
     rw p.1 (λ d i. p.2)
 
 pub returns-clause-only : goal.returns-clause-only

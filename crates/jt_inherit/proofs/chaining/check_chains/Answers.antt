@@ -2,7 +2,7 @@ use Rattle.std.proofs.Common.{◌<◌, List, ℕ, length, sym, ap, subst, arith,
 use Rattle.std.proofs.lemmas.List.{length-map}
 use Rattle.std.proofs.lemmas.Result.{err_from_is_err_and}
 use Rattle.jt_graph.specs.View.{graph_of}
-use Rattle.jt_chains.specs.Along.{ArePlaces, templates_at}
+use Rattle.jt_chains.specs.Along.{AreIndices, templates_at}
 use Rattle.jt_chains.specs.Chain.{sources_in}
 use Rattle.jt_inherit.specs.internal.Found.{found_templates}
 use Rattle.jt_inherit.specs.internal.Sets.{names_view}
@@ -35,9 +35,9 @@ check_rules-requires c =
       ap length c.deref-extends_path-items.ensures.value,
       length-map f.extends_paths.items (λ (v : Vec ℕ Global). v.items),
     ) in
-    subst (λ (z : List TemplateFile). ArePlaces (files_view z) is) (sym c.deref.ensures.value)
-    (subst (ArePlaces (found_templates f)) here
-    (at_number (ArePlaces (found_templates f)) (graph_of f.extends_paths.items) i lt c.requires.places))
+    subst (λ (z : List TemplateFile). AreIndices (files_view z) is) (sym c.deref.ensures.value)
+    (subst (AreIndices (found_templates f)) here
+    (at_number (AreIndices (found_templates f)) (graph_of f.extends_paths.items) i lt c.requires.indices))
 
 pub returns-in_err-check_rules-clause-broken : goal.returns-in_err-check_rules-clause-broken
 returns-in_err-check_rules-clause-broken c =

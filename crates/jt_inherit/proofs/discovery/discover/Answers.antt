@@ -4,7 +4,7 @@ use Rattle.jt_graph.specs.View.{graph_of}
 use Rattle.jt_inherit.specs.internal.Found.{found_templates, found_namespaces, root_of}
 use Rattle.jt_chains.specs.Chain.{namespace_name}
 use Rattle.jt_chains.specs.TemplateFiles.{files_view}
-use Rattle.jt_chains.specs.Places.{namespace_at}
+use Rattle.jt_chains.specs.Indices.{namespace_at}
 use Rattle.jt_inherit.specs.internal.SetView.{strings, key_view}
 use Rattle.jt_inherit.specs.internal.Sets.{names_view}
 use Rattle.jt_inherit.proofs.DiscoveryInvariant.{found_first, followed_len}

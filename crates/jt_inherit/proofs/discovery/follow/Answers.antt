@@ -4,7 +4,7 @@ use Rattle.std.specs.List.{AllByRecursion}
 use Rattle.std.proofs.lemmas.Result.{err_from_is_err_and}
 use Rattle.jt_graph.specs.View.{graph_of}
 use Rattle.jt_ast.specs.Texts.{among}
-use Rattle.jt_chains.specs.Along.{ArePlaces}
+use Rattle.jt_chains.specs.Along.{AreIndices}
 use Rattle.jt_chains.specs.Needs.{needed}
 use Rattle.jt_chains.specs.TemplateFiles.{files_view}
 use Rattle.jt_chains.specs.declared.files.TemplateFile.{TemplateFile}
@@ -17,7 +17,7 @@ use Rattle.jt_inherit.proofs.DiscoveryInvariant.{namespace_number, known_names, 
 use Rattle.jt_inherit.proofs.DiscoveryInvariant.{first_same, way_there, both_files, both_known, same_needs}
 use Rattle.jt_inherit.proofs.NameMembership.{map_more}
 use Rattle.jt_inherit.proofs.NamespaceMembership.{of_namespaces}
-use Rattle.jt_inherit.proofs.Membership.{placed_among}
+use Rattle.jt_inherit.proofs.Membership.{indexed_among}
 use Rattle.jt_inherit.proofs.discovery.follow.Goals as goal
 
 pub get-namespace-requires : goal.get-namespace-requires
@@ -38,7 +38,7 @@ returns-in_err-extends_path-clause-refused g c =
     let p = err_from_is_err_and c.from_residual.result c.from_residual.ensures.1 in
     rw (p.1, p.2) (c.in_err-extends_path.ensures (root_of f)
     (c.requires.found.reached (key_view c.get-namespace.result.now)
-    (placed_among of_namespaces (found_namespaces f) (length (graph_of f.extends_paths.items))
+    (indexed_among of_namespaces (found_namespaces f) (length (graph_of f.extends_paths.items))
     (key_view c.get-namespace.result.now) at)))
 
 pub returns-in_err-newly_read-clause-refused : goal.returns-in_err-newly_read-clause-refused
@@ -58,8 +58,8 @@ returns-in_err-newly_read-clause-refused g c =
     (known_names (g.L.Library.sources c.args.loader.now.library.now) c.args.loader.now.options
     (files_view c.read_namespace.new.files.items) (names_view c.read_namespace.new.names) extends_path.known) e fault)
 
-pub next_namespaces-requires-clause-places : goal.next_namespaces-requires-clause-places
-next_namespaces-requires-clause-places g c =
+pub next_namespaces-requires-clause-indices : goal.next_namespaces-requires-clause-indices
+next_namespaces-requires-clause-indices g c =
     let f = c.args.found.now in
     let at = namespace_number (found_namespaces f) f.extends_paths.items _ c.len.result
     (omega (arith, c.len.ensures, f.extends_paths.ok.0)) c.get-namespace.ensures in
@@ -68,10 +68,10 @@ next_namespaces-requires-clause-places g c =
     c.in_ok-append.ensures.items c.in_ok-newly_read.ensures.known in
     let known = both_known c.read_namespace.new.files.items c.in_ok-newly_read.newly_read.items c.deref.ensures.value
     c.in_ok-append.ensures.items c.in_ok-newly_read.ensures.known in
-    subst (λ (z : List TemplateFile). ArePlaces (files_view z) c.deref-4.result.now) (sym c.deref-3.ensures.value)
-    (subst (ArePlaces (files_view c.append.new.self.items)) (sym c.deref-4.ensures.value)
+    subst (λ (z : List TemplateFile). AreIndices (files_view z) c.deref-4.result.now) (sym c.deref-3.ensures.value)
+    (subst (AreIndices (files_view c.append.new.self.items)) (sym c.deref-4.ensures.value)
     (way_there c.requires.found at extends_path.grown extends_path.extends_path
-    (files_view c.in_ok-newly_read.newly_read.items) grown known).places)
+    (files_view c.in_ok-newly_read.newly_read.items) grown known).indices)
 
 pub returns-in_err-next-clause-refused : goal.returns-in_err-next-clause-refused
 returns-in_err-next-clause-refused g c =

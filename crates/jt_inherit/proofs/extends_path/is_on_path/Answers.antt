@@ -8,14 +8,14 @@ use Rattle.jt_ast.specs.Texts.{among}
 use Rattle.jt_chains.specs.Along.{templates_at}
 use Rattle.jt_chains.specs.Chain.{Template}
 use Rattle.jt_chains.specs.TemplateFiles.{files_view}
-use Rattle.jt_inherit.proofs.TestsAtIndices.{Tells, any_at, passes_at, place_at}
+use Rattle.jt_inherit.proofs.TestsAtIndices.{Tells, any_at, passes_at, index_at}
 use Rattle.jt_inherit.proofs.PathsGrow.{names}
 use Rattle.jt_inherit.proofs.extends_path.is_on_path.Goals as goal
 
 pub any-requires-clause-callable : goal.any-requires-clause-callable
 any-requires-clause-callable c =
     serves_from_places (YieldsList-from_slice c.args.extends_path.now cc) (λ x q k. search (rules, tests))
-    (λ x k lt at. omega (arith, place_at c.args.files.now c.args.extends_path.now k x.now lt c.requires at))
+    (λ x k lt at. omega (arith, index_at c.args.files.now c.args.extends_path.now k x.now lt c.requires at))
 
 pub returns : goal.returns
 returns c =

@@ -25,24 +25,24 @@ returns-then-is_on_path g c =
     c.is_on_path.ensures)
     ∙ c.if-is_on_path.true))
 
-pub returns-in_err-place : goal.returns-in_err-place
-returns-in_err-place g c =
+pub returns-in_err-index : goal.returns-in_err-index
+returns-in_err-index g c =
     let l = c.loop-turn in
-    let e = c.in_err-place.field-0.0 in
-    let p = err_from_is_err_and c.from_residual-in_err-place.result c.from_residual-in_err-place.ensures.1 in
+    let e = c.in_err-index.field-0.0 in
+    let p = err_from_is_err_and c.from_residual-in_err-index.result c.from_residual-in_err-index.ensures.1 in
     let fault = subst (λ x. IsFaultOf e (g.L.Library.sources c.args.loader.now.library.now) x c.args.loader.now.options)
-    c.deref-in-loop-turn-4.ensures c.in_err-place.ensures.refused in
+    c.deref-in-loop-turn-4.ensures c.in_err-index.ensures.refused in
     rw (p.1, p.2) (chain_breaks (g.L.Library.sources c.args.loader.now.library.now) c.args.loader.now.options
     c.args.files.now.items l.files.items l.invariant.grown c.args.namespace.now c.if-namespace.false e
     (λ root r. fault_breaks l.invariant.known r l.invariant.led e fault))
 
 pub index-requires : goal.index-requires
 index-requires g c =
-    let ps = c.read_place.new.files in
+    let ps = c.read_index.new.files in
     let n = c.deref-in-loop-turn-4.result.now in
     omega (
       arith,
-      slice_get_within (names (files_view ps.items)) c.in_ok-place.place n c.in_ok-place.ensures.place,
+      slice_get_within (names (files_view ps.items)) c.in_ok-index.index n c.in_ok-index.ensures.index,
       length_names (files_view ps.items),
       length-map ps.items file_view,
       ps.ok.0,
@@ -51,19 +51,19 @@ index-requires g c =
 pub returns-in-None : goal.returns-in-None
 returns-in-None g c =
     let l = c.loop-turn in
-    let placed = c.in_ok-place.ensures in
-    let qs = c.read_place.new.files.items in
+    let indexed = c.in_ok-index.ensures in
+    let qs = c.read_index.new.files.items in
     let few : length l.extends_path.items < 64 = omega (arith, l.invariant.counted, c.loop-turn-test.true) in
-    let step = way_step l.files.items qs placed.grown l.extends_path.items c.in_ok-place.place placed.place
+    let step = way_step l.files.items qs indexed.grown l.extends_path.items c.in_ok-index.index indexed.index
     c.deref-in-loop-turn-4.ensures c.in_ok-push.ensures.items c.index.ensures
     l.invariant.led (sym (on_path c.deref-in-loop-turn.ensures.value c.deref-in-loop-turn-2.ensures.value
     c.deref-in-loop-turn-3.ensures c.is_on_path.ensures)
     ∙ c.if-is_on_path.false) few
-    placed.known.read.once c.in_ok-parent.ensures c.args.names.now l.names c.read_place.new.names l.invariant.from
-    placed.from in
+    indexed.known.read.once c.in_ok-parent.ensures c.args.names.now l.names c.read_index.new.names l.invariant.from
+    indexed.from in
     record {
-      known = placed.known;
-      grown = grow_on c.args.files.now.items l.files.items qs l.invariant.grown placed.grown;
+      known = indexed.known;
+      grown = grow_on c.args.files.now.items l.files.items qs l.invariant.grown indexed.grown;
       from = step.1;
       extends_path =
           subst (λ h. IsExtendsPath (files_view qs) h c.push.new.self.items None)
@@ -76,22 +76,22 @@ returns-in-None g c =
 pub loop-turn-preserved : goal.loop-turn-preserved
 loop-turn-preserved g c =
     let l = c.loop-turn in
-    let placed = c.in_ok-place.ensures in
-    let qs = c.read_place.new.files.items in
+    let indexed = c.in_ok-index.ensures in
+    let qs = c.read_index.new.files.items in
     let few : length l.extends_path.items < 64 = omega (arith, l.invariant.counted, c.loop-turn-test.true) in
-    let step = way_step l.files.items qs placed.grown l.extends_path.items c.in_ok-place.place placed.place
+    let step = way_step l.files.items qs indexed.grown l.extends_path.items c.in_ok-index.index indexed.index
     c.deref-in-loop-turn-4.ensures c.in_ok-push.ensures.items c.index.ensures
     l.invariant.led (sym (on_path c.deref-in-loop-turn.ensures.value c.deref-in-loop-turn-2.ensures.value
     c.deref-in-loop-turn-3.ensures c.is_on_path.ensures)
     ∙ c.if-is_on_path.false) few
-    placed.known.read.once c.in_ok-parent.ensures c.args.names.now l.names c.read_place.new.names l.invariant.from
-    placed.from in
+    indexed.known.read.once c.in_ok-parent.ensures c.args.names.now l.names c.read_index.new.names l.invariant.from
+    indexed.from in
     record {
-      known = placed.known;
-      grown = grow_on c.args.files.now.items l.files.items qs l.invariant.grown placed.grown;
+      known = indexed.known;
+      grown = grow_on c.args.files.now.items l.files.items qs l.invariant.grown indexed.grown;
       from = step.1;
       counted =
-          ap length c.in_ok-push.ensures.items ∙ length-append l.extends_path.items (c.in_ok-place.place ∷ [])
+          ap length c.in_ok-push.ensures.items ∙ length-append l.extends_path.items (c.in_ok-index.index ∷ [])
           ∙ ap (λ k. k + 1) l.invariant.counted;
       led =
           subst (λ (o : Option (String Global)). IsExtendsPath (files_view qs)

@@ -2,22 +2,22 @@ use Rattle.std.proofs.Common.{◌<◌, length, get_or, ap, rules, refl, arith}
 use Rattle.jt_ast.specs.StatementView.{body_of}
 use Rattle.jt_chains.specs.Chain.{holds_macros}
 use Rattle.jt_inherit.specs.internal.Sets.{names_view}
-use Rattle.jt_inherit.proofs.StoreLookup.{unread, place_read, is_library_read, macros_there}
+use Rattle.jt_inherit.proofs.StoreLookup.{unread, index_read, is_library_read, macros_there}
 use Rattle.jt_inherit.proofs.importing.library_file.Goals as goal
 
-pub returns-in_err-place : goal.returns-in_err-place
-returns-in_err-place c = search (arith, rules, unread)
+pub returns-in_err-index : goal.returns-in_err-index
+returns-in_err-index c = search (arith, rules, unread)
 
-pub bounds-store-place : goal.bounds-store-place
-bounds-store-place c =
-    place_read c.args.store.files.now (names_view c.args.store.names.now) c.args.store.named c.args.library.now
-    c.in_ok-place.place c.in_ok-place.ensures
+pub bounds-store-index : goal.bounds-store-index
+bounds-store-index c =
+    index_read c.args.store.files.now (names_view c.args.store.names.now) c.args.store.named c.args.library.now
+    c.in_ok-index.index c.in_ok-index.ensures
 
-pub offset_bounds-store-place : goal.offset_bounds-store-place
-offset_bounds-store-place c =
-    let lt : c.in_ok-place.place < length c.args.store.files.now = place_read c.args.store.files.now
-    (names_view c.args.store.names.now) c.args.store.named c.args.library.now c.in_ok-place.place
-    c.in_ok-place.ensures in
+pub offset_bounds-store-index : goal.offset_bounds-store-index
+offset_bounds-store-index c =
+    let lt : c.in_ok-index.index < length c.args.store.files.now = index_read c.args.store.files.now
+    (names_view c.args.store.names.now) c.args.store.named c.args.library.now c.in_ok-index.index
+    c.in_ok-index.ensures in
     search rules
 
 pub returns : goal.returns
@@ -25,9 +25,9 @@ returns c =
     let ps = c.args.store.files.now in
     let ks = names_view c.args.store.names.now in
     let n = c.args.library.now in
-    let i = c.in_ok-place.place in
-    let p = get_or ps i c.index-store-place.result in
-    let is = ap (λ d. get_or ps i d) c.index-store-place.is in (
-      is_library_read ps ks c.args.store.named n i c.in_ok-place.ensures p is (holds_macros (body_of p.template)) refl,
-      macros_there ps ks c.args.store.named n i c.in_ok-place.ensures p is,
+    let i = c.in_ok-index.index in
+    let p = get_or ps i c.index-store-index.result in
+    let is = ap (λ d. get_or ps i d) c.index-store-index.is in (
+      is_library_read ps ks c.args.store.named n i c.in_ok-index.ensures p is (holds_macros (body_of p.template)) refl,
+      macros_there ps ks c.args.store.named n i c.in_ok-index.ensures p is,
     )

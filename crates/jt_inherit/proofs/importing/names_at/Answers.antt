@@ -6,34 +6,34 @@ use Rattle.jt_chains.specs.Chain.{sources_in}
 use Rattle.jt_chains.specs.TemplateFiles.{files_view}
 use Rattle.jt_inherit.specs.internal.RuleTests.{imported_names}
 use Rattle.jt_ast.specs.Texts.{texts}
-use Rattle.jt_chains.proofs.TemplatesByIndex.{along_turn, file_at, place_within}
-use Rattle.jt_inherit.proofs.DiscoveryInvariant.{placed_templates}
+use Rattle.jt_chains.proofs.TemplatesByIndex.{along_turn, file_at, index_within}
+use Rattle.jt_inherit.proofs.DiscoveryInvariant.{indexed_templates}
 use Rattle.jt_inherit.proofs.ChainRules.{names_found}
 use Rattle.jt_inherit.proofs.importing.names_at.Goals as goal
 
-pub loop-place-preserved : goal.loop-place-preserved
-loop-place-preserved c =
+pub loop-index-preserved : goal.loop-index-preserved
+loop-index-preserved c =
     let ps = c.args.store.files.now in
     let s = sources_in (files_view ps) in
-    let is = c.args.places.now in
-    let k = c.loop-place.place-index in
+    let is = c.args.indices.now in
+    let k = c.loop-index.index-index in
     let i = get_or is k 0 in
-    let lt = place_within ps is k c.loop-place-test.true c.requires in
+    let lt = index_within ps is k c.loop-index-test.true c.requires in
     along_turn (λ n b. imported_names s b) (files_view ps) is k (body_view c.body.result.now)
-    (texts c.loop-place.given.items) (texts c.add_imported.new.given.items)
-    c.loop-place-test.true (c.body.ensures
-    ∙ sym (file_at ps i (get_or ps i c.index-store-place.result) lt (ap (λ d. get_or ps i d) c.index-store-place.is)))
+    (texts c.loop-index.given.items) (texts c.add_imported.new.given.items)
+    c.loop-index-test.true (c.body.ensures
+    ∙ sym (file_at ps i (get_or ps i c.index-store-index.result) lt (ap (λ d. get_or ps i d) c.index-store-index.is)))
     c.in_ok-add_imported.ensures
-    ∙ c.loop-place.invariant
+    ∙ c.loop-index.invariant
 
 pub returns : goal.returns
 returns c =
     let ts = files_view c.args.store.files.now in
     let s = sources_in ts in
-    let is = c.args.places.now in
-    let found = texts c.loop-place.given.items in
+    let is = c.args.indices.now in
+    let found = texts c.loop-index.given.items in
     let ended = at_drop_all (λ (z : List ℕ). found ++ along ts (λ n b. imported_names s b) z) is
-    c.loop-place.place-index c.loop-place-test.false in
-    sym (append-nil found) ∙ sym ended ∙ c.loop-place.invariant
-    ∙ names_found s ts (templates_at ts is) is (placed_templates ts is c.requires) c.in_ok-macros.macros.items
+    c.loop-index.index-index c.loop-index-test.false in
+    sym (append-nil found) ∙ sym ended ∙ c.loop-index.invariant
+    ∙ names_found s ts (templates_at ts is) is (indexed_templates ts is c.requires) c.in_ok-macros.macros.items
     c.in_ok-macros.ensures

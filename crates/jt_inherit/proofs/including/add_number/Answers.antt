@@ -5,7 +5,7 @@ use Rattle.jt_chains.specs.Needs.{need_view}
 use Rattle.jt_inherit.specs.internal.Sets.{names_view, namespaces_view}
 use Rattle.jt_inherit.proofs.FollowStep.{one_known}
 use Rattle.jt_inherit.proofs.NameMembership.{of_texts}
-use Rattle.jt_inherit.proofs.Membership.{placed_among}
+use Rattle.jt_inherit.proofs.Membership.{indexed_among}
 use Rattle.jt_inherit.proofs.including.add_number.Goals as goal
 
 pub returns-in_err-number-clause-refused : goal.returns-in_err-number-clause-refused
@@ -16,7 +16,7 @@ returns-in_err-number-clause-refused c =
     let p = err_from_is_err_and c.from_residual-in_err-number.result c.from_residual-in_err-number.ensures.1 in
     rw (p.1, p.2)
     (subst (λ l. IsNextFault (namespaces_view c.args.namespaces.now) l e)
-    (sym (one_known ks n (placed_among of_texts ks c.in-Some._place n.name c.in-Some.ensures)))
+    (sym (one_known ks n (indexed_among of_texts ks c.in-Some._index n.name c.in-Some.ensures)))
     (subst (λ h. IsNextFault (namespaces_view c.args.namespaces.now) (h ∷ []) e) c.in_ok-namespace.ensures
     c.in_err-number.ensures.refused))
 
@@ -30,6 +30,6 @@ returns-clause-next c =
       i ∷ [],
       c.in_ok-push.ensures.items,
       subst (λ l. AreNext old new l (i ∷ []))
-          (sym (one_known ks n (placed_among of_texts ks c.in-Some._place n.name c.in-Some.ensures)))
+          (sym (one_known ks n (indexed_among of_texts ks c.in-Some._index n.name c.in-Some.ensures)))
           (subst (λ h. AreNext old new (h ∷ []) (i ∷ [])) c.in_ok-namespace.ensures c.in_ok-number.ensures.next),
     )

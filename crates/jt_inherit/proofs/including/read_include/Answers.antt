@@ -8,12 +8,13 @@ use Rattle.jt_inherit.specs.internal.Sets.{names_view}
 use Rattle.jt_inherit.specs.internal.ExtendsPaths.{AreKnown}
 use Rattle.jt_inherit.proofs.PathsGrow.{known_more, files_more}
 use Rattle.jt_inherit.proofs.NameMembership.{among_last, of_texts}
-use Rattle.jt_inherit.proofs.Membership.{among_next, placed_among}
+use Rattle.jt_inherit.proofs.Membership.{among_next, indexed_among}
 use Rattle.jt_inherit.proofs.including.read_include.Goals as goal
 
 pub returns-in-Some-clause-met : goal.returns-in-Some-clause-met
 returns-in-Some-clause-met g c =
-    inl (placed_among of_texts (names_view c.args.names.now) c.in-Some._place c.args.include.name.now c.in-Some.ensures)
+    inl (indexed_among of_texts (names_view c.args.names.now) c.in-Some._index c.args.include.name.now
+    c.in-Some.ensures)
 
 pub returns-in_ok-add_file-in-Ok-clause-known : goal.returns-in_ok-add_file-in-Ok-clause-known
 returns-in_ok-add_file-in-Ok-clause-known g c =

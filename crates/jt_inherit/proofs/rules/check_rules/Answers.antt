@@ -7,15 +7,15 @@ use Rattle.jt_chains.specs.Parts.{blocks_view}
 use Rattle.jt_chains.specs.declared.parts.Block.{Block}
 use denote.Ref.{Bor}
 use Rattle.jt_ast.specs.Expressions.{Text}
-use Rattle.jt_inherit.proofs.DiscoveryInvariant.{placed_templates}
+use Rattle.jt_inherit.proofs.DiscoveryInvariant.{indexed_templates}
 use Rattle.jt_inherit.proofs.ChainRules.{bodies_told, next_told}
 use Rattle.jt_inherit.proofs.rules.check_rules.Goals as goal
 
 pub returns-then-branch-3-clause-broken : goal.returns-then-branch-3-clause-broken
 returns-then-branch-3-clause-broken c =
     let ts = files_view c.args.store.files.now in
-    let is = c.args.places.now in
-    bodies_told c.args.escaping ts (templates_at ts is) is (placed_templates ts is c.requires)
+    let is = c.args.indices.now in
+    bodies_told c.args.escaping ts (templates_at ts is) is (indexed_templates ts is c.requires)
     c.in_ok-blocks.blocks.items c.in_ok-any_lacks_body.field-0 c.in_ok-blocks.ensures
     (c.in_ok-any_lacks_body.ensures ts ∙ ap (λ (z : List Block). lacks_body (blocks_view ts z)) c.deref-2.ensures.value)
     ∙ c.if-branch-3.true
@@ -23,26 +23,27 @@ returns-then-branch-3-clause-broken c =
 pub returns-then-branch-4-clause-broken : goal.returns-then-branch-4-clause-broken
 returns-then-branch-4-clause-broken c =
     let ts = files_view c.args.store.files.now in
-    let is = c.args.places.now in
-    next_told c.args.escaping ts (templates_at ts is) is (placed_templates ts is c.requires) c.in_ok-blocks.blocks.items
+    let is = c.args.indices.now in
+    next_told c.args.escaping ts (templates_at ts is) is (indexed_templates ts is c.requires)
+    c.in_ok-blocks.blocks.items
     c.in_ok-any_lacks_next.field-0 c.in_ok-blocks.ensures (c.in_ok-any_lacks_next.ensures ts)
     ∙ c.if-branch-4.true
 
 pub returns-clause-kept : goal.returns-clause-kept
 returns-clause-kept c =
     let ts = files_view c.args.store.files.now in
-    let is = c.args.places.now in
-    let placed = placed_templates ts is c.requires in
+    let is = c.args.indices.now in
+    let indexed = indexed_templates ts is c.requires in
     record {
       doubles = sym c.in_ok-any_double.ensures ∙ c.if-branch.false;
       bodies =
-          bodies_told c.args.escaping ts (templates_at ts is) is placed c.in_ok-blocks.blocks.items
+          bodies_told c.args.escaping ts (templates_at ts is) is indexed c.in_ok-blocks.blocks.items
           c.in_ok-any_lacks_body.field-0 c.in_ok-blocks.ensures
           (c.in_ok-any_lacks_body.ensures ts
           ∙ ap (λ (z : List Block). lacks_body (blocks_view ts z)) c.deref-2.ensures.value)
           ∙ c.if-branch-3.false;
       next =
-          next_told c.args.escaping ts (templates_at ts is) is placed c.in_ok-blocks.blocks.items
+          next_told c.args.escaping ts (templates_at ts is) is indexed c.in_ok-blocks.blocks.items
           c.in_ok-any_lacks_next.field-0 c.in_ok-blocks.ensures (c.in_ok-any_lacks_next.ensures ts)
           ∙ c.if-branch-4.false;
       names =

@@ -4,7 +4,7 @@ use Rattle.jt_chains.specs.Chain.{a_chain}
 use Rattle.jt_chains.specs.View.{chain_view}
 use Rattle.jt_rules.specs.CompileEnv.{cenv_of}
 use Rattle.jt_semantics.specs.Layout.{names_in}
-use Rattle.jt_layout.specs.internal.Places.{names_at}
+use Rattle.jt_layout.specs.internal.Indices.{names_at}
 use Rattle.jt_layout.proofs.collected.gather.Given as goal
 
 abbrev pub invariant-loop-left : goal.invariant-loop-left

@@ -11,7 +11,7 @@ use Rattle.jt_chains.specs.Includes.{with_source}
 use Rattle.jt_chains.specs.Needs.{Need, needed, needs_view}
 use Rattle.jt_chains.specs.TemplateFiles.{namespace_view}
 use Rattle.jt_chains.specs.View.{namespace_in, its_sources}
-use Rattle.jt_chains.specs.declared.includes.Include.{Include}
+use Rattle.jt_chains.specs.declared.include_tags.NeededTemplate.{NeededTemplate}
 use Rattle.jt_chains.proofs.IncludeCollection.{by_templates}
 use Rattle.jt_semantics.specs.Layout.{names_in}
 use Rattle.jt_layout.specs.internal.Namespaces.{its_cenv, its_order}
@@ -27,8 +27,8 @@ loop-include-preserved-then-is_none c =
     let l = c.loop-include in
     let k = get_or c.deref-include-items.result.now l.include-index _ in
     none_turn N (its_sources chain) c.deref-include-items.result.now l.include-index _ c.loop-include-test.true
-    c.place.result (texts l.names.keys)
-    (ap is_none c.place.ensures ∙ c.requires.sources k.name.now) (c.is_none.ensures ∙ ap not c.if-is_none.true)
+    c.index_of.result (texts l.names.keys)
+    (ap is_none c.index_of.ensures ∙ c.requires.sources k.name.now) (c.is_none.ensures ∙ ap not c.if-is_none.true)
     ∙ l.invariant
 
 pub loop-include-preserved : goal.loop-include-preserved
@@ -39,8 +39,8 @@ loop-include-preserved c =
     let l = c.loop-include in
     let k = get_or c.deref-include-items.result.now l.include-index _ in
     chain_turn N (its_sources chain) c.deref-include-items.result.now l.include-index _ c.loop-include-test.true
-    c.place.result (texts l.names.keys) (texts c.add_to.new.names.keys)
-    (ap is_none c.place.ensures ∙ c.requires.sources k.name.now) (c.is_none.ensures ∙ ap not c.if-is_none.false)
+    c.index_of.result (texts l.names.keys) (texts c.add_to.new.names.keys)
+    (ap is_none c.index_of.ensures ∙ c.requires.sources k.name.now) (c.is_none.ensures ∙ ap not c.if-is_none.false)
     (c.in_ok-add_to.ensures ∙ ap (λ xs. all_inserted xs (texts l.names.keys)) (c.requires.behind k.name.now))
     ∙ l.invariant
 
@@ -55,7 +55,8 @@ returns c =
     let lt : c.args.namespace < length (its_order chain) =
     omega (arith, c.requires.stands, length-map chain.namespaces.items namespace_view) in
     let ended = at_drop_all
-    (λ (z : List Include). all_inserted (names_of chain c.args.namespace z) (texts l.names.keys)) ks l.include-index
+    (λ (z : List NeededTemplate). all_inserted (names_of chain c.args.namespace z) (texts l.names.keys)) ks
+    l.include-index
     c.loop-include-test.false in
     let all : texts l.names.keys ≡ all_inserted (names_of chain c.args.namespace ks) first = sym ended ∙ l.invariant in
     let needs = ap needs_view c.deref-include-items.ensures.value ∙ c.in_ok-included.ensures.there c.requires.stands in

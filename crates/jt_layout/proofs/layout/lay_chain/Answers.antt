@@ -33,16 +33,16 @@ returns-clause-namespace_layout c =
     let slot = slot_here W O h (rest a i lt f) f s in
     let count : length ms.all.items ≡ length (macros W.sources h) =
     sym (length-map ms.all.items (macro_view (chain_view a).templates)) ∙ ap length c.in_ok-macros.ensures.all in
-    let ps = c.in_ok-places.places in
+    let ps = c.in_ok-indices.indices in
     let g = c.in_ok-given.given in
     let k = c.index-itself.result.now in
     let is : h ≡ namespace_view k = name_of_namespace a.namespaces.items i k lt c.index-itself.ensures in
     let entries : c.entries_of.result ≡ length (layout.entry_keys W h) =
     c.entries_of.ensures W ∙ ap (λ z. length (layout.entry_keys W z)) (sym is) in
     let macro_unit : ps.macro_unit ≡ f.unit + length (layout.entry_keys W h) =
-    c.in_ok-places.ensures.macro_unit ∙ ap (λ n. f.unit + n) entries in
+    c.in_ok-indices.ensures.macro_unit ∙ ap (λ n. f.unit + n) entries in
     let unit : ps.body_unit ≡ ps.macro_unit + length (macros W.sources h) =
-    omega (arith, c.in_ok-places.ensures.body_unit, c.len-2.ensures, ms.all.ok.0, count) in
+    omega (arith, c.in_ok-indices.ensures.body_unit, c.len-2.ensures, ms.all.ok.0, count) in
     let l : NamespaceLayout = record {
       is_library = k.is_library;
       names = c.args.names;
@@ -53,9 +53,9 @@ returns-clause-namespace_layout c =
       body_unit = ps.body_unit;
       macros = ms.all;
       called = ms.called;
-      defaults = ms.defaults.places;
+      defaults = ms.defaults.indices;
       given = g.all;
-      given_places = g.places;
+      given_indices = g.indices;
       blocks = bs.all;
       first_bodies = bs.firsts;
       next_bodies = bs.nexts;
@@ -75,7 +75,7 @@ returns-clause-namespace_layout c =
           λ x. is_called a i lt f s l c.in_ok-macros.ensures.all c.in_ok-macros.ensures.defaults macro_unit x _
           (c.in_ok-macros.ensures.called x);
       all_given = c.in_ok-given.ensures.all;
-      given_names = λ x. is_given a i lt f s l c.in_ok-given.ensures.all x _ (c.in_ok-given.ensures.places x);
+      given_names = λ x. is_given a i lt f s l c.in_ok-given.ensures.all x _ (c.in_ok-given.ensures.indices x);
       all_blocks = c.in_ok-bodies.ensures.all;
       body_units = λ k under. body_units a i lt f s bs.all.items c.in_ok-bodies.ensures.all _ _ k unit macro_unit under;
       firsts =
@@ -103,19 +103,19 @@ returns-clause-behind c =
     sym (length-map ms.all.items (macro_view (chain_view a).templates)) ∙ ap length c.in_ok-macros.ensures.all in
     let slots : length c.args.names.items ≡ length (layout.names W (its_order a) h) =
     sym (length-map c.args.names.items (λ k. k.now)) ∙ ap length c.requires.named in
-    let ps = c.in_ok-places.places in
+    let ps = c.in_ok-indices.indices in
     let g = ps.behind in
     let k = c.index-itself.result.now in
     let is : h ≡ namespace_view k = name_of_namespace a.namespaces.items i k lt c.index-itself.ensures in
     let entries : c.entries_of.result ≡ length (layout.entry_keys W h) =
     c.entries_of.ensures W ∙ ap (λ z. length (layout.entry_keys W z)) (sym is) in
     let macro_unit : ps.macro_unit ≡ f.unit + length (layout.entry_keys W h) =
-    c.in_ok-places.ensures.macro_unit ∙ ap (λ n. f.unit + n) entries in
+    c.in_ok-indices.ensures.macro_unit ∙ ap (λ n. f.unit + n) entries in
     let units : g.unit ≡ (f.unit + length (layout.entry_keys W h)) + length ms.all.items + length bs.all.items =
     omega (
       arith,
-      c.in_ok-places.ensures.unit,
-      c.in_ok-places.ensures.body_unit,
+      c.in_ok-indices.ensures.unit,
+      c.in_ok-indices.ensures.body_unit,
       macro_unit,
       c.len-2.ensures,
       c.len-3.ensures,
@@ -123,8 +123,8 @@ returns-clause-behind c =
       bs.all.ok.0,
     ) in
     let slots_are : g.slot ≡ f.slot + length c.args.names.items =
-    omega (arith, c.in_ok-places.ensures.slot, c.len.ensures, c.args.names.ok.0) in
+    omega (arith, c.in_ok-indices.ensures.slot, c.len.ensures, c.args.names.ok.0) in
     behind a i lt f s g (length c.args.names.items) (length ms.all.items) (length bs.all.items) slots_are slots units
     count
     (count_blocks a i lt f s bs.all.items c.in_ok-bodies.ensures.all)
-    (c.in_ok-places.ensures.default ∙ c.in_ok-macros.ensures.ended)
+    (c.in_ok-indices.ensures.default ∙ c.in_ok-macros.ensures.ended)

@@ -8,7 +8,7 @@ use Rattle.jt_chains.specs.View.{chain_view, namespace_in}
 use Rattle.jt_semantics.specs.Layout as layout
 use Rattle.jt_layout.specs.internal.Namespaces.{its_cenv, its_order}
 use Rattle.jt_layout.specs.NamespaceLayout.{IsLaid}
-use Rattle.jt_layout.specs.internal.Places.{names_at}
+use Rattle.jt_layout.specs.internal.Indices.{names_at}
 use Rattle.jt_layout.specs.declared.namespace_layout.NamespaceLayout.{NamespaceLayout}
 use Rattle.jt_chains.proofs.TemplatesByIndex.{name_of_namespace}
 use Rattle.jt_layout.proofs.OffsetSteps.{first_front}
@@ -50,21 +50,22 @@ loop-namespace-preserved c =
     name_of_namespace a.namespaces.items l.namespace k lt c.index.ensures in
     let grown = c.in_ok-push.ensures.items in
     let P : ℕ → NamespaceLayout → Type 0 = (λ i t. IsLaid W O (chain_view a).templates (namespace_in a i) t) in
-    let last : P (length l.namespaces.items) c.in_ok-placed.placed.namespace_layout = subst
-    (λ i. P i c.in_ok-placed.placed.namespace_layout) (sym l.invariant.all) c.in_ok-placed.ensures.namespace_layout in
+    let last : P (length l.namespaces.items) c.in_ok-indexed.indexed.namespace_layout = subst
+    (λ i. P i c.in_ok-indexed.indexed.namespace_layout) (sym l.invariant.all) c.in_ok-indexed.ensures.namespace_layout
+    in
     record {
-      stands = c.in_ok-placed.ensures.behind;
+      stands = c.in_ok-indexed.ensures.behind;
       left = λ x u.
           let other = left_turn a l.namespace lt (a_chain x) u in
           c.take-names.ensures.others x (ap (λ h. same_namespace h (a_chain x)) (sym is) ∙ other.0)
           ∙ l.invariant.left x other.1;
       all =
-          ap length grown ∙ length-append l.namespaces.items (c.in_ok-placed.placed.namespace_layout ∷ [])
+          ap length grown ∙ length-append l.namespaces.items (c.in_ok-indexed.indexed.namespace_layout ∷ [])
           ∙ ap (λ n. n + 1) l.invariant.all;
       each =
           subst
           (λ (ts : List NamespaceLayout). (i : ℕ) (t : NamespaceLayout) → i < length ts → t ≡ get_or ts i t → P i t)
-          (sym grown) (each_more P l.namespaces.items c.in_ok-placed.placed.namespace_layout l.invariant.each last);
+          (sym grown) (each_more P l.namespaces.items c.in_ok-indexed.indexed.namespace_layout l.invariant.each last);
     }
 
 pub returns-clause-units : goal.returns-clause-units

@@ -6,7 +6,7 @@ use Rattle.jt_semantics.specs.Layout as layout
 use Rattle.jt_layout.specs.internal.Front.{Stands}
 use Rattle.jt_layout.specs.internal.Namespaces.{its_cenv, its_order}
 use Rattle.jt_layout.specs.NamespaceLayout.{IsLaid}
-use Rattle.jt_layout.specs.internal.Places.{names_at}
+use Rattle.jt_layout.specs.internal.Indices.{names_at}
 use Rattle.jt_layout.specs.declared.namespace_layout.NamespaceLayout.{NamespaceLayout}
 use Rattle.jt_layout.proofs.layout.lay_chains.Given as goal
 

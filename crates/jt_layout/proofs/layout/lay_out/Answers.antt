@@ -6,7 +6,7 @@ use Rattle.jt_chains.specs.declared.chain.Namespace.{Namespace}
 use Rattle.jt_chains.specs.declared.files.TemplateFile.{TemplateFile}
 use Rattle.jt_ast.specs.Texts.{texts}
 use Rattle.jt_layout.specs.internal.Namespaces.{its_order}
-use Rattle.jt_layout.specs.internal.Places.{first_of, first_namespace}
+use Rattle.jt_layout.specs.internal.Indices.{first_of, first_namespace}
 use Rattle.jt_layout.proofs.FirstOccurrences.{is_namespace}
 use Rattle.jt_layout.proofs.LayoutCorrect.{sources_laid}
 use Rattle.jt_layout.proofs.layout.lay_out.Goals as goal
@@ -30,7 +30,7 @@ returns-clause-namespace_layout c =
       all_units = c.in_ok-tables.ensures.units;
       chains =
           λ x. is_namespace (a_chain x) (its_order a) _
-          (c.in_ok-places.ensures x ∙ ap
+          (c.in_ok-indices.ensures x ∙ ap
           (λ (hs : List Namespace). first_namespace (a_chain x) 0 (map namespace_view hs)) c.deref-3.ensures.value);
       libraries =
           λ x. is_namespace (a_library x) (its_order a) _

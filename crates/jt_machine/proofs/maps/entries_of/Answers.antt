@@ -12,7 +12,7 @@ pairs-init c =
     ∙ reverse-reverse (map view c.args.values.items) in
     record {
       texts = rw turned c.requires;
-      same = rw (turned, c.new-entries.ensures.items) refl;
+      same = rw (turned, c.new-entries.ensures.empty) refl;
     }
 
 pub pairs-preserved : goal.pairs-preserved
@@ -20,5 +20,5 @@ pairs-preserved c = record {
   texts = c.in-Some.ensures.texts;
   same =
       rw c.in_ok-put_pair.ensures
-      (sym (c.in-Some.ensures.some (entries_view c.pairs.entries.items)) ∙ c.pairs.invariant.same);
+      (sym (c.in-Some.ensures.some (entries_view c.pairs.entries.entries)) ∙ c.pairs.invariant.same);
 }

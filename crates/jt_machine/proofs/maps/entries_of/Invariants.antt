@@ -8,7 +8,7 @@ use Rattle.jt_machine.proofs.maps.entries_of.Given as goal
 abbrev pub invariant-pairs : goal.invariant-pairs
 invariant-pairs l = record {
   texts : HasTextKeys l.values.items;
-  same : put_entries (entries_view l.entries.items) (upward l.values.items)
+  same : put_entries (entries_view l.entries.entries) (upward l.values.items)
       ≡ put_entries no_entries (map view l.fn.values.items);
 }
 

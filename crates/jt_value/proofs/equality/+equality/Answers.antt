@@ -9,7 +9,7 @@ use Rattle.jt_value.specs.View.{view, entries_view}
 use Rattle.jt_value.proofs.Equalities.{items_differ, passes, fails, equal_at-first, equal_at-same, found, and_known}
 use Rattle.jt_value.proofs.Equalities.{same_keys-all, same_length}
 use Rattle.jt_value.proofs.KeyOrder.{alike_equal, alike_behind}
-use Rattle.jt_value.proofs.KeyPlaces.{seen, size_lt}
+use Rattle.jt_value.proofs.KeyIndices.{seen, size_lt}
 use Rattle.jt_value.specs.declared.payload.ValueList.TheDeep.{size-Value}
 use Rattle.jt_value.proofs.Lists.{Pair}
 use Rattle.jt_value.proofs.equality.+equality.Goals as goal

@@ -2,7 +2,7 @@ use Rattle.std.proofs.Common.{List, None, sym, ap, ◌∙◌, arith, rules}
 use Rattle.std.proofs.lemmas.List.{at_drop_all}
 use denote.Ref.{Bor}
 use Rattle.jt_ast.specs.Expressions.{Text}
-use Rattle.jt_layout.specs.Names.{place_in}
+use Rattle.jt_layout.specs.Names.{index_in}
 use Rattle.jt_ast.specs.Texts.{texts}
 use Rattle.jt_bind.specs.internal.Names.{last_among}
 use Rattle.jt_bind.proofs.NumberedNames.{placed_next}
@@ -14,7 +14,8 @@ invariant_of-result c =
     let ks = c.deref-name-items.result.now in
     record {
       indexed =
-          λ x. sym (at_drop_all (λ (z : List (Bor Text)). last_among x (texts z) l.local (place_in l.index.places x)) ks
+          λ x. sym (at_drop_all (λ (z : List (Bor Text)). last_among x (texts z) l.local (index_in l.index.indices x))
+          ks
           l.name-index (omega arith))
           ∙ l.invariant x
           ∙ ap (λ (z : List (Bor Text)). last_among x (texts z) c.args.first None) c.deref-name-items.ensures.value;

@@ -30,7 +30,7 @@ use Rattle.jt_ir.specs.declared.program.NaryOp.TheVariants as m
 use Rattle.jt_bind.specs.internal.Callees.{IsCallee}
 use Rattle.jt_bind.specs.declared.callee.Callee.{Callee}
 use Rattle.jt_bind.specs.internal.Scoped.{values, IsPlaced, cenv_in, order_in, callee_in, senv_in, expr_in, row_in}
-use Rattle.jt_bind.specs.internal.Scoped.{asides_in, entries_in, filtered_in}
+use Rattle.jt_bind.specs.internal.Scoped.{asides_in, entries_in, filter_row_in, filtered_in}
 use Rattle.jt_bind.proofs.CalleeResolution.{count_length, macro_called, cycled}
 use Rattle.jt_bind.proofs.ExpressionDepths.{call_depth, filter_depth, test_depth}
 use Rattle.jt_bind.proofs.FilterIds.{named_is, parameters_are}
@@ -76,8 +76,9 @@ resolve_entries-loop-key-preserved t c =
     (of_whole _ _ _ _ _ _ _
     (ap (λ k. slots.item (slots.pooled (own (tree.text k))) (slots.item value rest)) c.as_str.ensures.value
     ∙ ap (λ r. entries_in scope r senv) (sym (pairs_left ps l.key-index x c.loop-key-test.true c.loop-key-item.is)))
-    (row_both _ _ _ _ _ _ _ _ _ (row_item _ (slots.item value rest) c.in_ok-place.place l.done.items _ (values l.pool) _
-    c.in_ok-place.ensures c.in_ok-push.ensures.items)
+    (row_both _ _ _ _ _ _ _ _ _ (row_item _ (slots.item value rest) c.in_ok-entry_key.entry_key l.done.items _
+    (values l.pool) _
+    c.in_ok-entry_key.ensures c.in_ok-push.ensures.items)
     (row_item value rest c.in_ok-next.next _ _ _ _ c.in_ok-next.ensures c.in_ok-push-2.ensures.items)))
 
 pub resolve_list-returns : goal.resolve_list-returns
@@ -103,7 +104,7 @@ resolve_attribute-returns t c =
     (if b then field_from (field_named key) else operation_of op.Item a (slots.pooled (own (tree.text key)))) (coded e)
     p r in
     subst P (sym c.if-is_loop_name.false ∙ c.is_loop_name.ensures)
-    (h _ _ _ _ _ c.in_ok-whole.ensures c.in_ok-place.ensures)) c.on_two.ensures
+    (h _ _ _ _ _ c.in_ok-whole.ensures c.in_ok-item_key.ensures)) c.on_two.ensures
 
 pub resolve_asides-returns : goal.resolve_asides-returns
 resolve_asides-returns t c = λ left.
@@ -132,7 +133,7 @@ resolve_asides-loop-value-preserved t c = λ left.
 
 pub resolve_item-returns : goal.resolve_item-returns
 resolve_item-returns t c =
-    IfOk-weaker c.on_two.result _ _ (λ e h. h _ _ _ _ _ c.in_ok-whole.ensures c.in_ok-place.ensures) c.on_two.ensures
+    IfOk-weaker c.on_two.result _ _ (λ e h. h _ _ _ _ _ c.in_ok-whole.ensures c.in_ok-item_key.ensures) c.on_two.ensures
 
 pub resolve_unary-returns : goal.resolve_unary-returns
 resolve_unary-returns t c =
@@ -304,22 +305,36 @@ resolve_filter-returns-in-None t c =
     λ o. IsPlaced (filtered_in s o a ts ps c.args.self.now.senv) (coded c.absent.result) p p in
     subst P (sym named) (c.absent.ensures p)
 
-pub resolve_filter-returns-in_ok-first-in-Some : goal.resolve_filter-returns-in_ok-first-in-Some
-resolve_filter-returns-in_ok-first-in-Some t c =
+pub resolve_filter-returns-in_ok-resolve_filter_row-in-Some :
+    goal.resolve_filter-returns-in_ok-resolve_filter_row-in-Some
+resolve_filter-returns-in_ok-resolve_filter_row-in-Some t c =
     let s = c.args.self.now.tables.now in
-    let a = expr_in s (expr_view c.args.value.now) c.args.self.now.senv in
+    let senv = c.args.self.now.senv in
+    let f = c.in-Some.filter in
+    let a = expr_in s (expr_view c.args.value.now) senv in
     let ts = exprs_view c.args.arguments.row.now in
     let ps = pairs_view c.args.arguments.pairs.now in
+    let es = filter_row_in s (Some (filter_id f)) ts ps senv in
+    let whole = slots.item a es in
+    let given = c.in_ok-given-in-Some.given in
+    let done = c.resolve_filter_row.new.done in
     let p = values c.args.pool.now in
-    let q = values c.resolve_filtered.new.pool in
-    let named : (cenv_in s).filters.named c.args.name.now ts ps ≡ Some (filter_id c.in-Some.filter) =
+    let q = values c.resolve_expression.new.pool in
+    let r = values c.resolve_filter_row.new.pool in
+    let named : (cenv_in s).filters.named c.args.name.now ts ps ≡ Some (filter_id f) =
     named_is c.args.name.now ts ps ∙ ap (option_map filter_id) (sym c.filter_of.ensures ∙ c.in-Some.is) in
-    IfOk-weaker c.resolve_filtered.result _ _ (λ e h.
-    let P : Option ℕ → Type 0 = λ o. IsPlaced (filtered_in s o a ts ps c.args.self.now.senv) (coded e) p q in
-    subst P (sym named) (h a p c.in_ok-first-in-Some.ensures)) c.resolve_filtered.ensures
+    let P : Option ℕ → Type 0 =
+    λ o. IsPlaced (filtered_in s o a ts ps senv) (coded (e.Made (m.Filter f senv.escaping) done)) p r in
+    subst P (sym named)
+    (made_placed (slots.filter (filter_id f) senv.escaping) whole done.items _ p r
+    (row_both whole es slots.none [] given.items done.items p q r
+    (row_item a es c.in_ok-first-in-Some.first [] given.items p q c.in_ok-first-in-Some.ensures
+    c.in_ok-given-in-Some.ensures)
+    c.in_ok-resolve_filter_row-in-Some.ensures)
+    (view_Made (m.Filter f senv.escaping) done))
 
-pub resolve_filtered-returns : goal.resolve_filtered-returns
-resolve_filtered-returns t c = λ k p h.
+pub resolve_filter_row-returns : goal.resolve_filter_row-returns
+resolve_filter_row-returns t c =
     let s = c.args.self.now.tables.now in
     let senv = c.args.self.now.senv in
     let f = c.args.filter in
@@ -328,28 +343,14 @@ resolve_filtered-returns t c = λ k p h.
     let xs = keywords ps in
     let ks = locals_from senv.free xs in
     let n = length c.args.arguments.row.now in
-    let given = c.in_ok-given.given in
-    let done = c.resolve_given.new.done in
-    let full = c.fill_some.new.done in
-    let old = values c.args.pool.now in
-    let q = values c.resolve_given.new.pool in
-    let r = values c.fill_some.new.pool in
     let left = filled_some (parameters_view c.deref.result.now) n xs ks in
-    let es = row_in s ts senv (asides_in s ps senv left) in
     let known : parameters_view c.deref.result.now ≡ filter_parameters the_filters (Some (filter_id f)) =
     ap parameters_view c.deref.ensures.value ∙ c.in_ok-parameters.ensures ∙ sym (parameters_are f) in
-    let P : slots.SRow Constant → Type 0 = λ z. IsPlaced
-    (slots.made (slots.filter (filter_id f) senv.escaping) (slots.item k (row_in s ts senv (asides_in s ps senv z))))
-    (coded (e.Made (m.Filter f senv.escaping) full)) p r in
-    subst P (ap (λ z. filled_some z n xs ks) known
+    IfOk-weaker c.fill_some.result _ _ (λ u h. of_whole _ _ slots.none _ _ _ _
+    (ap (λ z. row_in s ts senv (asides_in s ps senv z)) (ap (λ z. filled_some z n xs ks) known
     ∙ ap (λ (i : ℕ). filled_some (filter_parameters the_filters (Some (filter_id f))) i xs ks)
-    (sym (count_length c.args.arguments.row.now)))
-    (made_placed (slots.filter (filter_id f) senv.escaping) (slots.item k es) full.items _ p r
-    (row_both (slots.item k es) es slots.none [] given.items full.items p old r
-    (row_item k es c.args.value [] given.items p old h c.in_ok-given.ensures)
-    (row_both es left slots.none given.items done.items full.items old q r (c.in_ok-resolve_given.ensures left)
-    c.in_ok-fill_some.ensures))
-    (view_Made (m.Filter f senv.escaping) full))
+    (sym (count_length c.args.arguments.row.now))))
+    (row_both _ left slots.none _ _ _ _ _ _ (c.in_ok-resolve_given.ensures left) h)) c.fill_some.ensures
 
 -- ---- calls
 

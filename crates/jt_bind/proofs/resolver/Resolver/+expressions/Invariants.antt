@@ -63,8 +63,8 @@ decreases-resolve_filter l =
     (max (most (λ x. size-Expr x) l.arguments.row.now) (most (λ x. size-Expr x.1) l.arguments.pairs.now))
     + 4
 
-abbrev pub decreases-resolve_filtered : goal.decreases-resolve_filtered
-decreases-resolve_filtered l =
+abbrev pub decreases-resolve_filter_row : goal.decreases-resolve_filter_row
+decreases-resolve_filter_row l =
     6 * max (most (λ x. size-Expr x) l.arguments.row.now) (most (λ x. size-Expr x.1) l.arguments.pairs.now) + 3
 
 abbrev pub decreases-resolve_call : goal.decreases-resolve_call

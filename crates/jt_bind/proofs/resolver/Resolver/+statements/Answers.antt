@@ -158,10 +158,10 @@ resolve_filter_block-returns t c =
     let first = alone (slots.capture senv.escaping (slots.local senv.free) (scoped_in scope b inside)) in
     let second = alone (slots.print (line_in scope senv line) senv.escaping
     (resolved_filters (cenv_in scope) (order_in scope) fs inside (slots.variable (slots.local senv.free)))) in
-    IfOk-weaker c.put_print.result _ _
+    IfOk-weaker c.put_filtered.result _ _
     (λ u h. led_of T (followed first second) _ _ _ _ _ (filter_shown scope senv line fs b free c.in_ok-inside.ensures)
     (led_both T first second _ _ _ _ _ _ c.in_ok-resolve_text.ensures (h scope _ _ _ c.in_ok-shown.ensures)))
-    c.put_print.ensures
+    c.put_filtered.ensures
 
 pub resolve_text-returns : goal.resolve_text-returns
 resolve_text-returns t c =

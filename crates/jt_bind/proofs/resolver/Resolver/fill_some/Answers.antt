@@ -17,7 +17,7 @@ use Rattle.jt_bind.proofs.resolver.Resolver.fill_some.Goals as goal
 
 pub returns : goal.returns
 returns c =
-    let l = c.loop-place in
+    let l = c.loop-index in
     let ps = c.args.parameters.now in
     let qs = c.behind-rest.result.now in
     let xs = keywords (pairs_view c.args.arguments.pairs.now) in
@@ -26,25 +26,25 @@ returns c =
     ∙ ap (λ z. filled_some z 0 xs ks)
     (parameters_behind ps qs (length c.args.arguments.row.now) c.behind-rest.ensures)))
     (of_left _ _ _ _ _ _ _
-    (at_drop_all (λ (z : List Parameter). filled_some (parameters_view z) 0 xs ks) qs l.place (omega arith))
+    (at_drop_all (λ (z : List Parameter). filled_some (parameters_view z) 0 xs ks) qs l.index (omega arith))
     l.invariant)
 
 pub returns-then-not-is_some_given : goal.returns-then-not-is_some_given
 returns-then-not-is_some_given c =
     search (arith, rules, take_all, length-drop, of_whole, filled_some_behind, parameters_behind, of_left, none_filled)
 
-pub loop-place-preserved : goal.loop-place-preserved
-loop-place-preserved c =
-    let l = c.loop-place in
+pub loop-index-preserved : goal.loop-index-preserved
+loop-index-preserved c =
+    let l = c.loop-index in
     let qs = c.behind-rest.result.now in
-    let x = c.index-rest-place.result in
+    let x = c.index-rest-index.result in
     let xs = keywords (pairs_view c.args.arguments.pairs.now) in
     let ks = locals_from c.args.self.now.senv.free xs in
-    let rest = parameters_view (drop (l.place + 1) qs) in
-    let left : parameters_view (drop l.place qs) ≡ parameter_view x ∷ rest =
-    parameters_left qs l.place x c.loop-place-test.true c.index-rest-place.is in
-    let whole : take (length qs - l.place) (drop l.place qs) ≡ drop l.place qs =
-    take_all (length qs - l.place) (drop l.place qs) (omega (arith, length-drop l.place qs)) in
+    let rest = parameters_view (drop (l.index + 1) qs) in
+    let left : parameters_view (drop l.index qs) ≡ parameter_view x ∷ rest =
+    parameters_left qs l.index x c.loop-index-test.true c.index-rest-index.is in
+    let whole : take (length qs - l.index) (drop l.index qs) ≡ drop l.index qs =
+    take_all (length qs - l.index) (drop l.index qs) (omega (arith, length-drop l.index qs)) in
     let given : some_given (parameter_view x ∷ rest) xs ≡ true = sym (ap (λ z. some_given z xs) left)
     ∙ sym (ap (λ (z : List Parameter). some_given (parameters_view z) xs) whole) ∙ sym c.is_some_given.ensures
     ∙ c.if-not-is_some_given.false in

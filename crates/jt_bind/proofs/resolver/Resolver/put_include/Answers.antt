@@ -20,7 +20,7 @@ returns-in_default c =
     let x = c.args.name.now in
     let there : is_none ((cenv_in scope).sources x) ≡ false = sym c.is_missing.ensures ∙ c.if-is_missing.false in
     let P : Option ℕ → Type 0 = IsNamespaceAt (order_in scope) (a_chain x) in
-    let absent = subst P c.in_default.is c.chain_place.ensures in
+    let absent = subst P c.in_default.is c.chain_index.ensures in
     IfOk-weaker c.put_run.result _ _ (λ u h p. led_of (templates_in scope) _ _ _ _ _ _
     (include_shown scope c.args.self.now.senv c.args.line x (is_ignored c.args.missing) (passes_context c.args.names)
     (first_slot (cenv_in scope) (order_in scope) (a_chain x)) [] c.units.result there refl
@@ -42,7 +42,7 @@ returns c =
     let chain = c.at-there.result.now in
     let there : is_none (cenv.sources x) ≡ false = sym c.is_missing.ensures ∙ c.if-is_missing.false in
     let P : Option ℕ → Type 0 = IsNamespaceAt order (a_chain x) in
-    let is = (subst P c.in-Some.is c.chain_place.ensures).1 in
+    let is = (subst P c.in-Some.is c.chain_index.ensures).1 in
     let namespace_layout = c.at-there.ensures in
     IfOk-weaker c.put_run-2.result _ _ (λ u h p. led_of T _ _ _ _ _ _
     (include_shown scope senv c.args.line x (is_ignored c.args.missing) c.passes_context.result chain.first_slot

@@ -1,6 +1,5 @@
-use Rattle.std.proofs.Common.{sym, arith, append-nil, rules}
+use Rattle.std.proofs.Common.{arith, append-nil, rules}
 use Rattle.std.proofs.lemmas.List.{take_all, length-map}
-use Rattle.jt_bind.specs.internal.Scoped.{values}
 use Rattle.jt_bind.proofs.FilterTags.{filters_next}
 use Rattle.jt_ir.proofs.ExpressionViews.{view_Variable}
 use Rattle.jt_bind.proofs.resolver.Resolver.resolve_filter_calls.Goals as goal
@@ -9,10 +8,7 @@ pub returns : goal.returns
 returns c = search (arith, rules, take_all)
 
 pub loop-filter_call-init : goal.loop-filter_call-init
-loop-filter_call-init c = record {
-  shown = view_Variable c.args.value;
-  pooled = sym (append-nil (values c.args.pool.now));
-}
+loop-filter_call-init c = search (arith, rules, append-nil, view_Variable)
 
 pub loop-filter_call-preserved : goal.loop-filter_call-preserved
 loop-filter_call-preserved c = search (arith, rules, length-map, filters_next)

@@ -15,7 +15,7 @@ returns-in-Some c =
     let within : l.left ≤ length rs = l.invariant.within in
     let lt : i < length rs = omega arith in
     let checked_sum : l.left ≡ i + 1 = omega arith in
-    ap (λ o. found_or o (slot_in x (framed (map (λ f. f.value) (take i rs)) t))) (sym c.in-Some.is ∙ c.place.ensures)
+    ap (λ o. found_or o (slot_in x (framed (map (λ f. f.value) (take i rs)) t))) (sym c.in-Some.is ∙ c.index_of.ensures)
     ∙ sym (framed_found x rs i c.deref.result.now c.index-self-left.result t lt c.deref.ensures)
     ∙ ap (λ (n : ℕ). slot_in x (framed (map (λ f. f.value) (take n rs)) t)) (sym checked_sum) ∙ l.invariant.same
 
@@ -33,7 +33,7 @@ loop-left-preserved c =
       within = omega arith;
       same =
           ap (λ o. found_or o (slot_in x (framed (map (λ f. f.value) (take i rs)) t)))
-          (sym c.in_default.is ∙ c.place.ensures)
+          (sym c.in_default.is ∙ c.index_of.ensures)
           ∙ sym (framed_found x rs i c.deref.result.now c.index-self-left.result t lt c.deref.ensures)
           ∙ ap (λ (n : ℕ). slot_in x (framed (map (λ f. f.value) (take n rs)) t)) (sym checked_sum) ∙ l.invariant.same;
     }

@@ -5,7 +5,7 @@ use Rattle.jt_chains.specs.Chain as chain
 use Rattle.jt_chains.specs.Chain.{Namespace, a_library, a_macro, one_macro, given_to, macros, macro_of, named_alone}
 use Rattle.jt_chains.specs.Named.{given_view}
 use Rattle.jt_chains.specs.Parts.{macro_view}
-use Rattle.jt_chains.specs.Places.{namespace_at}
+use Rattle.jt_chains.specs.Indices.{namespace_at}
 use Rattle.jt_chains.specs.View.{chain_view}
 use Rattle.jt_bind.specs.internal.Callees.{IsCallee, of_namespace}
 use Rattle.jt_bind.specs.internal.Scoped.{cenv_in, order_in, namespace_in, given_in, callee_in}

@@ -5,8 +5,8 @@ use Rattle.jt_bind.proofs.tables.Tables.global_slot.Goals as goal
 
 pub returns-in-Some : goal.returns-in-Some
 returns-in-Some c =
-    ap (option_map global) (sym c.in-Some.is ∙ c.place.ensures) ∙ c.here-here.ensures.in_slots c.args.name.now
+    ap (option_map global) (sym c.in-Some.is ∙ c.index_of.ensures) ∙ c.here-here.ensures.in_slots c.args.name.now
 
 pub returns-in-None : goal.returns-in-None
 returns-in-None c =
-    ap (option_map global) (sym c.in-None.is ∙ c.place.ensures) ∙ c.here-here.ensures.in_slots c.args.name.now
+    ap (option_map global) (sym c.in-None.is ∙ c.index_of.ensures) ∙ c.here-here.ensures.in_slots c.args.name.now

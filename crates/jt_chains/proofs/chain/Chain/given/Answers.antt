@@ -8,7 +8,7 @@ use Rattle.jt_chains.specs.Chain as chain
 use Rattle.jt_chains.specs.Chain.{macros, own, imports_in, sources_in}
 use Rattle.jt_chains.specs.TemplateFiles.{files_view, namespace_view}
 use Rattle.jt_chains.specs.Parts.{macros_view}
-use Rattle.jt_chains.specs.Places.{namespace_at}
+use Rattle.jt_chains.specs.Indices.{namespace_at}
 use Rattle.jt_chains.specs.Named.{names_view}
 use Rattle.jt_chains.specs.declared.chain.Namespace.{Namespace}
 use Rattle.jt_chains.specs.declared.parts.Macro.{Macro}

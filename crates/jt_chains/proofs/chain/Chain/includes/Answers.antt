@@ -7,7 +7,7 @@ use Rattle.jt_chains.specs.Needs.{Need, include_need, needs_view}
 use Rattle.jt_ast.specs.Expressions.{Text}
 use Rattle.jt_ast.specs.Statements.{Body}
 use Rattle.jt_chains.specs.TemplateFiles.{files_view}
-use Rattle.jt_chains.specs.declared.includes.Include.{Include}
+use Rattle.jt_chains.specs.declared.include_tags.NeededTemplate.{NeededTemplate}
 use Rattle.jt_chains.specs.declared.chain.Namespace.{Namespace}
 use Rattle.jt_chains.proofs.TemplatesByIndex.{namespace_along}
 use Rattle.jt_chains.proofs.chain.Chain.includes.Goals as goal
@@ -26,6 +26,6 @@ returns-in-Some-clause-there c =
     c.args.namespace c.in-Some.found.now c.deref-in-Some-2.result.now c.deref-in-Some.ensures.value
     c.deref-in-Some-2.ensures.value lt at self.once self.whole g in
     λ there. IfOk-weaker c.includes_at.result
-    (λ (v : Vec Include Global).
+    (λ (v : Vec NeededTemplate Global).
     needs_view v.items ≡ along (files_view c.deref-in-Some.result.now) g c.deref-in-Some-2.result.now) _
     (λ v p. p ∙ along_is) c.includes_at.ensures

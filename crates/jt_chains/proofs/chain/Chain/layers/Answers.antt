@@ -9,11 +9,11 @@ use Rattle.jt_ast.specs.Expressions.{Text}
 use Rattle.jt_ast.specs.Statements.{Body}
 use Rattle.jt_chains.specs.Layers.{layer_view}
 use Rattle.jt_chains.specs.TemplateFiles.{files_view, namespace_view}
-use Rattle.jt_chains.specs.Places.{namespace_at}
+use Rattle.jt_chains.specs.Indices.{namespace_at}
 use Rattle.jt_chains.specs.declared.chain.Namespace.{Namespace}
 use Rattle.jt_chains.specs.declared.files.TemplateFile.{TemplateFile}
 use Rattle.jt_chains.specs.declared.layers.Layer.{Layer}
-use Rattle.jt_chains.proofs.TemplatesByIndex.{namespace_places, namespace_along}
+use Rattle.jt_chains.proofs.TemplatesByIndex.{namespace_indices, namespace_along}
 use Rattle.jt_chains.proofs.chain.Chain.layers.Goals as goal
 
 abbrev alone : Text → Body → List Template
@@ -24,7 +24,7 @@ each_alone [] = refl
 each_alone (t ∷ ts) = ap (λ l. t ∷ l) (each_alone ts)
 
 pub layers_at-requires : goal.layers_at-requires
-layers_at-requires c = search (arith, rules, namespace_places)
+layers_at-requires c = search (arith, rules, namespace_indices)
 
 pub returns-in-Some-clause-there : goal.returns-in-Some-clause-there
 returns-in-Some-clause-there c =

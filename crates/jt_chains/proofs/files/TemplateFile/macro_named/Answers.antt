@@ -13,7 +13,7 @@ pub returns-in-Some-get : goal.returns-in-Some-get
 returns-in-Some-get c = λ ts.
     let file = c.args.self.now in
     let x = c.args.name.now in
-    let n = name_at ts c.args.place in
+    let n = name_at ts c.args.index in
     let b = c.body.result.now in
     let t = subst (λ z. IsTable z (Some c.in-Some.macros)) (sym c.body.ensures)
     (subst (IsTable (body_of file.template)) c.in-Some.is file.table) in
@@ -24,5 +24,5 @@ returns-in-Some-get c = λ ts.
 pub returns-in-None : goal.returns-in-None
 returns-in-None c = λ ts.
     let file = c.args.self.now in
-    table_none c.args.name.now (name_at ts c.args.place) (map stmt_view file.template.body.items) c.in-Some.macros
+    table_none c.args.name.now (name_at ts c.args.index) (map stmt_view file.template.body.items) c.in-Some.macros
     (subst (IsTable (body_of file.template)) c.in-Some.is file.table) c.in-None.ensures.value

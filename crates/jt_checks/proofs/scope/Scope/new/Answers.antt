@@ -3,7 +3,7 @@ use Rattle.std.specs.Str.{bytes_eq}
 use Rattle.jt_chains.specs.Chain.{given_to, all_bodies}
 use Rattle.jt_chains.specs.Named.{named_view}
 use Rattle.jt_chains.specs.Parts.{block_view}
-use Rattle.jt_chains.specs.Places.{namespace_at}
+use Rattle.jt_chains.specs.Indices.{namespace_at}
 use Rattle.jt_chains.specs.View.{chain_view, sources_of}
 use Rattle.jt_checks.specs.internal.ScopeLookup.{known_of, cenv_in, namespace_in}
 use Rattle.jt_checks.proofs.NameLookup.{any_named, any_filtered}

@@ -1,12 +1,12 @@
-use Rattle.std.proofs.Common.{ap, ◌∙◌}
-use Rattle.std.specs.Prelude.{option_map}
-use Rattle.jt_value.specs.View.{view}
-use Rattle.jt_value.proofs.ContextLookup.{look-lookup, distinct-pairs}
+use Rattle.std.proofs.Common.{ℕ, ap, ◌∙◌}
+use Rattle.jt_value.specs.Entries.{entry_of}
+use Rattle.jt_value.specs.Pairs.{Pairs, look}
+use Rattle.jt_value.specs.View.{entries_view}
+use Rattle.jt_value.proofs.ContextLookup.{look-entries}
 use Rattle.jt_value.proofs.context.Context.get.Goals as goal
 
 pub returns-clause-value : goal.returns-clause-value
 returns-clause-value c =
-    ap (option_map view) c.get.ensures.value ∙ look-lookup c.args.name.now c.args.self.now.entries.entries
-
-pub returns-clause-distinct : goal.returns-clause-distinct
-returns-clause-distinct c = distinct-pairs c.args.self.now.entries.entries c.len-count.ensures.ordered
+    let name = c.args.name.now in
+    c.get.ensures ∙ ap (λ es. entry_of name (entries_view es)) c.deref.ensures.value
+    ∙ look-entries name c.self.inside.entries.items ∙ ap (λ (t : Pairs × ℕ). look name t.0) c.self.view_is

@@ -16,6 +16,6 @@ returns-clause-in_order c =
       | in-Indexed w ↦
           subst (λ p. IsInOrder (rest_of xs p) es) (sym w.rest-is)
           (subst (λ ps. IsInOrder (entries_at xs ps) es) (sym w.values.ensures.rest)
-          (kept_in_order xs w.in-Indexed.places w.values.ensures.ordered
+          (kept_in_order xs w.in-Indexed.indices w.values.ensures.ordered
           (subst (λ s. Finds s es) w.in-Indexed.is c.requires)))
     ]

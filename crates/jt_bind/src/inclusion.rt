@@ -1,0 +1,141 @@
+//! Resolves block tags and includes: the text of another body or chain stands at the tag.
+
+ghost use Rattle.std.specs.Prelude.{◌≡◌, ℕ, Bool, List, [], IfOk, if◌then◌else◌};
+ghost use Rattle.jt_bind.specs.internal.Chains.{Chains};
+ghost use Rattle.jt_semantics.specs.Resolve as resolve;
+ghost use Rattle.jt_semantics.specs.Layout.{slot_in};
+ghost use Rattle.jt_bind.specs.internal.Resolving.{StmtLeads, line_of, table_of};
+ghost use Rattle.jt_bind.specs.internal.Scoped.{PutsNone, globals_in, senv_in};
+ghost use Rattle.jt_ast.specs.Statements as trees;
+ghost use Rattle.jt_ast.specs.StatementView.{is_ignored, passes_context};
+ghost use Rattle.jt_ast.specs.Texts.{texts};
+ghost use Rattle.jt_value.specs.Tree.{Tree};
+ghost use Rattle.jt_bind.specs.internal.Stated.{Puts};
+
+use crate::emission::{put_assign, put_print, put_run};
+use crate::lookup::{absent, no_value, reading};
+use crate::resolver::Resolver;
+use crate::senv::StaticEnv;
+use jt_ast::{IncludeContext, Missing};
+use jt_ir::{Slot, SlotExpr, SlotStmt, Targets};
+use jt_layout::{NamespaceLayout, checked_sum};
+use jt_value::NoMemory;
+
+/// Emits an include of a name without a source: nothing if it may be missing, or else a print of an
+/// absent value.
+fn put_missing(
+    senv: &StaticEnv<'_, '_>,
+    line: u32,
+    ignore_missing: bool,
+    done: &mut Vec<SlotStmt>,
+) -> Result<(), NoMemory>
+    ensures { IfOk result (λ u. (s : Chains) (p : List Tree)
+        → Puts s (resolve.left_out (senv_in s senv.now) line ignore_missing) done.old done.new p
+        p) }
+{
+    if ignore_missing {
+        return Ok(());
+    }
+    put_print(senv, line, absent(), done)
+}
+
+/// Returns the environment in which a block's arguments are read. It is the environment of the tag
+/// if `scoped` is true, or else one without scopes, so that names are globals.
+fn seen_by<'s, 'a>(senv: &StaticEnv<'s, 'a>, scoped: bool) -> StaticEnv<'s, 'a>
+    ensures { (s : Chains)
+        → (senv_in s result).table ≡ (if scoped then (senv_in s senv.now).table else globals_in s) }
+{
+    if scoped { *senv } else { senv.outside() }
+}
+
+impl<'t, 's, 'a> Resolver<'t, 's, 'a> {
+    /// Returns the value that an included chain gets for a name: with context the value of the
+    /// name, or else the undefined value.
+    fn handed(&self, with_context: bool, name: &str) -> SlotExpr
+        ensures { PutsNone (resolve.read_from
+            (slot_in name.now (if with_context then table_of self.now else []))) result }
+    {
+        if with_context {
+            reading(self.slot(name))
+        } else {
+            no_value()
+        }
+    }
+
+    /// Emits assignments that pass the names of this environment to the globals of an included
+    /// chain.
+    fn pass_globals(
+        &self,
+        line: u32,
+        with_context: bool,
+        there: &NamespaceLayout<'_>,
+        done: &mut Vec<SlotStmt>,
+    ) -> Result<(), NoMemory>
+        ensures { IfOk result (λ u. (p : List Tree)
+            → Puts self.now.tables.now (resolve.handed_on (line_of self.now line)
+            (if with_context then table_of self.now else []) there.now.first_slot
+            (texts there.now.names.items)) done.old done.new p p) }
+    {
+        let mut global = there.first_slot;
+        for name in there.names.iter() {
+            let value = self.handed(with_context, *name);
+            put_assign(
+                &self.senv,
+                line,
+                Targets::One(Slot::Global(global)),
+                value,
+                done,
+            )?;
+            global = checked_sum(global, 1)?;
+        }
+        Ok(())
+    }
+
+    /// Emits an include: the names that are passed, then the run of the included chain.
+    #[inline(never)]
+    pub(crate) fn put_include(
+        &self,
+        line: u32,
+        name: &str,
+        missing: Missing,
+        names: IncludeContext,
+        done: &mut Vec<SlotStmt>,
+    ) -> Result<(), NoMemory>
+        ensures { IfOk result (λ u. (p : List Tree)
+            → StmtLeads self.now (trees.include line name.now (is_ignored missing)
+            (passes_context names)) done.old done.new p p) }
+    {
+        if self.tables.is_missing(name) {
+            return put_missing(&self.senv, line, missing.is_ignored(), done);
+        }
+        let Some(index) = self.tables.chain_index(name) else {
+            return put_run(self.tables.units(), Vec::new(self.alloc), done);
+        };
+        let there = self.tables.at(index);
+        self.pass_globals(line, names.passes_context(), there, done)?;
+        put_run(there.unit, Vec::new(self.alloc), done)
+    }
+
+    /// Emits a block at its tag. A block without a body prints an absent value.
+    #[inline(never)]
+    pub(crate) fn put_block(
+        &self,
+        name: &str,
+        scoped: bool,
+        done: &mut Vec<SlotStmt>,
+    ) -> Result<(), NoMemory>
+        ensures { IfOk result (λ u. (line : ℕ) (required : Bool) (body : trees.Body) (p : List Tree)
+            → StmtLeads self.now (trees.block line name.now scoped required body) done.old done.new
+            p p) }
+    {
+        let Some(unit) = self.tables.first_body(name)? else {
+            return put_print(&self.senv, 1, absent(), done);
+        };
+        let seen = Resolver {
+            senv: seen_by(&self.senv, scoped),
+            ..*self
+        };
+        let row = seen.block_arguments(name)?;
+        put_run(unit, row, done)
+    }
+}

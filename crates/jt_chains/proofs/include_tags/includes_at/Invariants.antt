@@ -1,0 +1,9 @@
+use Rattle.std.proofs.Common.{◌≡◌, ◌++◌, drop}
+use Rattle.jt_chains.specs.Needs.{includes_along, needs_view}
+use Rattle.jt_chains.specs.TemplateFiles.{files_view}
+use Rattle.jt_chains.proofs.include_tags.includes_at.Given as goal
+
+abbrev pub invariant-loop-index : goal.invariant-loop-index
+invariant-loop-index l =
+    needs_view l.found.items ++ includes_along (files_view l.files) (drop l.index-index l.indices)
+    ≡ includes_along (files_view l.files) l.indices

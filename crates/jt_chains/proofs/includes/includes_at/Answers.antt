@@ -1,6 +1,0 @@
-use Rattle.std.proofs.Common.{arith, rules}
-use Rattle.jt_chains.proofs.TemplatesByIndex.{along_turn}
-use Rattle.jt_chains.proofs.includes.includes_at.Goals as goal
-
-pub loop-place-preserved : goal.loop-place-preserved
-loop-place-preserved c = search (arith, rules, along_turn)

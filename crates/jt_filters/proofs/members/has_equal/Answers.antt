@@ -1,0 +1,17 @@
+use Rattle.std.proofs.Common.{◌∙◌, rules, tests}
+use Rattle.std.proofs.lemmas.Iterator.{YieldsList-from_slice}
+use Rattle.std.proofs.lemmas.Iterator.Search.{any_from_yields_List}
+use Rattle.jt_value.specs.Equality.{equal}
+use Rattle.jt_value.specs.View.{view}
+use Rattle.jt_value.specs.declared.value.Value.{Value}
+use Rattle.jt_ops.proofs.MembershipTests.{any_equal}
+use Rattle.jt_filters.specs.internal.Operands.{tree_of}
+use Rattle.jt_filters.proofs.members.has_equal.Goals as goal
+
+pub returns : goal.returns
+returns c =
+    let t = tree_of c.args.operand in
+    let items = c.args.items.now in
+    any_from_yields_List (λ (v : Value). equal t (view v)) _ _ _ c.any.ensures.ran (YieldsList-from_slice items cc)
+    (λ x b q k. search (rules, tests))
+    ∙ any_equal t items

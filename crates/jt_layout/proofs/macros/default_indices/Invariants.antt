@@ -1,0 +1,15 @@
+use Rattle.std.proofs.Common.{◌≡◌, ◌+◌, ◌++◌, List, length, map, drop}
+use Rattle.jt_chains.specs.Chain.{Template}
+use Rattle.jt_chains.specs.Parts.{macro_view}
+use Rattle.jt_semantics.specs.Layout.{defaults_of}
+use Rattle.jt_layout.specs.internal.Indices.{defaults_from}
+use Rattle.jt_layout.proofs.macros.default_indices.Given as goal
+
+abbrev pub invariant-loop-entry : goal.invariant-loop-entry
+invariant-loop-entry l = record {
+  indexed : (ts : List Template) → l.indices.items
+      ++ defaults_from l.end (map (macro_view ts) (drop l.entry-index l.macros))
+      ≡ defaults_from l.first (map (macro_view ts) l.macros);
+  ended : (ts : List Template) → l.end + length (defaults_of (map (macro_view ts) (drop l.entry-index l.macros)))
+      ≡ l.first + length (defaults_of (map (macro_view ts) l.macros));
+}

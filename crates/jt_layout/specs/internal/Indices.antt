@@ -1,0 +1,61 @@
+-- The indices of names and namespaces in lists, and the names of chains. Only private clauses cite
+-- this module.
+use Rattle.std.specs.Prelude.{◌≡◌, ℕ, suc, ◌+◌, Bool, List, [], ◌∷◌, ◌++◌, length, flat_map, Option, Some, None}
+use Rattle.std.specs.Prelude.{if◌then◌else◌, filter, Vec}
+use Rattle.std.specs.declared.alloc.Global.{Global}
+use Rattle.std.specs.Ordering.{nat_cmp}
+use Rattle.std.specs.Cmp.Lexicographic.{slice_cmp}
+use Rattle.std.specs.BTreeMap.{BTreeMap, get_by}
+use Rattle.std.specs.Str.{bytes_eq}
+use denote.Ref.{Bor}
+use Rattle.jt_ast.specs.Expressions.{Text}
+use Rattle.jt_ast.specs.Texts.{ascending, texts}
+use Rattle.jt_chains.specs.Chain.{Namespace, a_chain, a_library, same_namespace, BlockBody, MacroBody}
+use Rattle.jt_chains.specs.Includes.{included}
+use Rattle.jt_chains.specs.Uses.{own_names}
+use Rattle.jt_rules.specs.CompileEnv.{CompileEnv}
+use Rattle.jt_semantics.specs.Layout.{names_in}
+use Rattle.jt_semantics.specs.Resolve.{next_given}
+use Rattle.jt_layout.specs.Names.{index_in}
+
+-- The number of the first of these texts that is x; the texts are numbered from n.
+abbrev pub first_of : Text → ℕ → List Text → Option ℕ
+first_of x n [] = None
+first_of x n (y ∷ ys) = if bytes_eq y x then Some n else first_of x (suc n) ys
+
+-- The map has the number of the first occurrence of each name; the names are numbered from n.
+abbrev pub AreIndices : ℕ → List Text → BTreeMap (Bor Text) ℕ → Type 0
+AreIndices n xs m = (x : Text) → index_in m x ≡ first_of x n xs
+
+-- The chain or the library of a name.
+abbrev pub namespace_named : Bool → Text → Namespace
+namespace_named library x = if library then a_library x else a_chain x
+
+-- The number of the first of these namespaces that is h; the namespaces are numbered from n.
+abbrev pub first_namespace : Namespace → ℕ → List Namespace → Option ℕ
+first_namespace h n [] = None
+first_namespace h n (k ∷ ks) = if same_namespace k h then Some n else first_namespace h (suc n) ks
+
+-- The names of a chain and of the chains that it leads to, which come after it.
+abbrev pub all_names : CompileEnv → List Namespace → Namespace → List Text
+all_names cenv behind h =
+    ascending
+    (own_names cenv.sources h ++ flat_map (names_in cenv behind) (included cenv.sources h))
+
+-- The names that are stored for a chain, or none if none are stored.
+abbrev pub texts_of : Option (Vec (Bor Text) Global) → List Text
+texts_of None = []
+texts_of (Some v) = texts v.items
+
+abbrev pub names_at : BTreeMap (Bor Text) (Vec (Bor Text) Global) → Text → List Text
+names_at m x = texts_of (get_by (λ k. slice_cmp nat_cmp x k.now) m)
+
+-- The pool index of the first default of each macro, from n on.
+abbrev pub defaults_from : ℕ → List MacroBody → List ℕ
+defaults_from n [] = []
+defaults_from n (m ∷ ms) = n ∷ defaults_from (n + length m.parameters) ms
+
+-- The body that `super()` continues with, for each of these bodies.
+abbrev pub nexts : List (ℕ × BlockBody) → List (Option ℕ)
+nexts [] = []
+nexts (b ∷ bs) = next_given (filter (λ c. bytes_eq c.1.name b.1.name) bs) ∷ nexts bs

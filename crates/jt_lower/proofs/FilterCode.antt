@@ -1,0 +1,81 @@
+-- The code of the filters of a tag is appended filter by filter, and its height is decided so.
+use Rattle.std.proofs.Common.{◌≡◌, ℕ, suc, ◌+◌, ◌-◌, ◌<◌, ◌≤◌, Bool, true, ◌&&◌, List, [], ◌∷◌, length, take, drop}
+use Rattle.std.proofs.Common.{get_or, Option, sym, ap, ◌∙◌, subst, max, arith, rules}
+use Rattle.std.specs.Prelude.{nat_le}
+use Rattle.std.proofs.lemmas.List.{drop_more}
+use Rattle.std.proofs.lemmas.Bool.Decides.{nat_tests}
+use Rattle.std.proofs.Math.Bool.{and-true}
+use Rattle.jt_ids.specs.FilterTable.{filter_id}
+use Rattle.jt_value.specs.Place.{Place}
+use Rattle.jt_ast.specs.Expressions.{Text}
+use Rattle.jt_ir.specs.Slots as slots
+use Rattle.jt_ir.specs.Slots.{SlotExpr, none}
+use Rattle.jt_ir.specs.Size.{row_count, expr_height, row_height}
+use Rattle.jt_ir.specs.View.{row_view, filter_after, filters_after}
+use Rattle.jt_ir.specs.declared.program.SlotFilter.{SlotFilter}
+use Rattle.jt_ir.proofs.ExpressionViews.{Entry, filters_next}
+use Rattle.jt_lower.specs.Asm.{Asm, one, both}
+use Rattle.jt_lower.specs.Lower.{nary_op, expr_asm, row_asm}
+use Rattle.jt_lower.specs.Emission.{Puts}
+use Rattle.jt_lower.specs.declared.emitter.Emitter.{Emitter}
+use Rattle.jt_lower.proofs.JumpPatching.{puts_then}
+use Rattle.jt_lower.proofs.HeightsDecided.{height_some}
+
+-- ---- code
+
+-- If the code of the first filters is appended, the arguments of the next one and the filter append
+-- its code.
+pub filter_step : (ts : List Text) (o : Option Place) (fs : List SlotFilter) (i : ℕ) (f : SlotFilter) (x : SlotExpr ℕ)
+    (es : List Entry) (n h : ℕ) (c0 c1 c2 c3 : Emitter)
+    → i < length fs → f ≡ get_or fs i f → es ≡ f.row.items → n ≡ suc (row_count (row_view f.row.items none))
+    → Puts ts c0 (expr_asm o (filters_after (take i fs) x) h) c1 → Puts ts c1 (row_asm o (row_view es none) (suc h)) c2
+    → Puts ts c2 (one o (nary_op (slots.filter (filter_id f.filter) f.escaping) n)) c3
+    → Puts ts c0 (expr_asm o (filters_after (take (i + 1) fs) x) h) c3
+filter_step ts o fs i f x es n h c0 c1 c2 c3 lt is same counted p q r =
+    let y = filters_after (take i fs) x in
+    let k = λ (m : ℕ). one o (nary_op (slots.filter (filter_id f.filter) f.escaping) m) in
+    let row : Asm = row_asm o (row_view f.row.items none) (suc h) in
+    subst (λ z. Puts ts c0 (expr_asm o z h) c3) (sym (filters_next fs i f x lt is))
+    (puts_then ts c0 c2 c3 (both (expr_asm o y h) row) (k (suc (row_count (row_view f.row.items none))))
+    (puts_then ts c0 c1 c2 (expr_asm o y h) row p
+    (subst (λ (l : List Entry). Puts ts c1 (row_asm o (row_view l none) (suc h)) c2) same q))
+    (subst (λ m. Puts ts c2 (k m) c3) counted r))
+
+-- ---- number of values
+
+pub count_low : (es : List Entry) → row_count (row_view es none) ≤ length es
+count_low [] = omega arith
+count_low (e ∷ es) = search (arith, rules, count_low es)
+
+-- ---- heights
+
+-- The arguments of each filter are within the limit.
+abbrev pub rows_low : ℕ → List SlotFilter → Bool
+rows_low room [] = true
+rows_low room (f ∷ fs) = nat_le (row_height (row_view f.row.items none)) room && rows_low room fs
+
+one_low : (a r room : ℕ) → 1 ≤ a → nat_le (max 1 (max a (1 + r))) room ≡ nat_le a room && nat_le r (room - 1)
+one_low a r room some = grind (arith, nat_tests)
+
+and_again : (a b c : Bool) → (a && b) && c ≡ a && (b && c)
+and_again a b c = search (arith, rules)
+
+-- A value with filters is within the limit if and only if the value and the arguments are.
+pub filters_low : (room : ℕ) (fs : List SlotFilter) (x : SlotExpr ℕ)
+    → nat_le (expr_height (filters_after fs x)) room ≡ nat_le (expr_height x) room && rows_low (room - 1) fs
+filters_low room [] x = sym (and-true (nat_le (expr_height x) room))
+filters_low room (f ∷ fs) x =
+    let r = row_height (row_view f.row.items none) in
+    filters_low room fs (filter_after f x)
+    ∙ ap (λ b. b && rows_low (room - 1) fs) (one_low (expr_height x) r room (height_some x))
+    ∙ and_again (nat_le (expr_height x) room) (nat_le r (room - 1)) (rows_low (room - 1) fs)
+
+pub rows_next : (room : ℕ) (fs : List SlotFilter) (i : ℕ) (f : SlotFilter) (es : List Entry) (b : Bool) → i < length fs
+    → f ≡ get_or fs i f → es ≡ f.row.items → b ≡ nat_le (row_height (row_view es none)) room
+    → rows_low room (drop i fs) ≡ b && rows_low room (drop (i + 1) fs)
+rows_next room fs i f es b lt is same low =
+    ap (rows_low room) (drop_more fs i f lt)
+    ∙ ap (λ (g : SlotFilter). nat_le (row_height (row_view g.row.items none)) room && rows_low room (drop (i + 1) fs))
+    (sym is)
+    ∙ ap (λ (l : List Entry). nat_le (row_height (row_view l none)) room && rows_low room (drop (i + 1) fs)) (sym same)
+    ∙ ap (λ z. z && rows_low room (drop (i + 1) fs)) (sym low)
