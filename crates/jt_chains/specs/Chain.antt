@@ -166,7 +166,7 @@ pub record MacroBody : Type 0 where
   pub parameters : List Parameter
   pub body : Body
 
--- Macros occur only at top level.
+-- The macros of a body: its `macro` statements at top level, in order.
 abbrev pub macros_in : Text → Body → List MacroBody
 macros_in template_name end = []
 macros_in template_name (stmt (macro line macro_name parameters body) rest) =

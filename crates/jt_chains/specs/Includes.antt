@@ -35,7 +35,8 @@ module _ {A : Type 0} (give : Text → Bool → List A) where
     includes_under no_branches = []
     includes_under (branch line condition body rest) = includes_in body ++ includes_under rest
 
--- The name of an include: every name, or only that of a template that may not be missing.
+-- The name of an included template, as a list. The list is empty if the include ignores a missing
+-- template and `all` is false.
 abbrev pub need : Bool → Text → Bool → List Text
 need all template ignoring = if all || not ignoring then template ∷ [] else []
 

@@ -15,7 +15,7 @@ use crate::files::TemplateFile;
 use jt_ast::{Branch, Parameter, Stmt};
 use std::alloc::{AllocError, Global};
 
-/// A macro: its name, the index of its template, its parameters and its body.
+/// A macro of a template that was read. `template` is the index of that template.
 #[derive(Clone, Copy)]
 pub struct Macro<'a> {
     pub name: &'a str,

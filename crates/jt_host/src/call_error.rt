@@ -105,7 +105,11 @@ impl From<RenderError> for CallError {
     }
 }
 
-/// Returns the text with which a run ended, or the error.
+/// Returns the text with which a run ended.
+///
+/// # Errors
+///
+/// `Fault` or `Spent` if the run ended so.
 pub(crate) fn text_of(outcome: Outcome) -> Result<String, CallError>
     ensures { result ≡ of_outcome outcome }
 {

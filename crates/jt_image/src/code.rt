@@ -97,7 +97,7 @@ pub trait Code {
         self.reader().offsets.constants.len()
     }
 
-    /// Returns a constant.
+    /// Returns the constant at an index, or `None` if the index is out of range.
     #[inline(always)]
     fn constant(&self, index: usize) -> Option<ConstantRef<'_>>
         ensures { option_map constant_ref_view result ≡ slice_get (code self.now).constants index }

@@ -76,8 +76,7 @@ mutual
     print : Place → Bool → SlotExpr K → SlotStmt K
     assign : Place → Targets → SlotExpr K → SlotStmt K
     if_else : Place → SlotExpr K → SBody K → SBody K → SlotStmt K
-    -- A loop: its targets, the value that it iterates over, its condition, its body, and its `else`
-    -- part.
+    -- A loop over the items of a value, with a condition or without. The last body is its `else` part.
     for_each : Place → Targets → SlotExpr K → Option (SlotExpr K) → SBody K → SBody K → SlotStmt K
     -- A statement that stores the text of a body in a slot, as markup if the flag is true, else as
     -- a plain text.

@@ -56,7 +56,8 @@ pub record LowLaws : Type 0 where
   pub right : (program : Program) → ProgramFits program → IsCode (compiled program) → DoesProgram program
   pub one_place : (a : Asm) (n : ℕ) → length (places a) ≡ length (flat a n)
   pub sized : (program : Program) → total_len (compiled program).units ≡ routines_size program.routines
-  -- Routines whose constants have indices into the pool need the same number of entries as before.
+  -- Routines are low (`AreLow`) if each body, with indices into the pool for its constants, needs at
+  -- most `max_entries` entries.
   pub low : (routines : List (Routine Constant)) (n : ℕ)
       → AllByRecursion (λ r. body_height r.body ≤ max_entries) (placed_routines routines n) → AreLow routines
   -- If the limits of images are kept, the operands of each instruction fit their fields, before

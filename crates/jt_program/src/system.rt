@@ -118,9 +118,8 @@ impl<R: Runtime + AllocGlobal> Files for SystemFiles<'_, R> {
         Ok(bytes)
     }
 
-    // Writes `bytes` to `path`; the old contents stay until all bytes are written. A new file, at
-    // `path` with `.part` after it, takes the bytes first. If no such file can be made, `path` is
-    // overwritten.
+    // Writes `bytes` to a new file, at `path` with `.part` after it, and renames it to `path`. If
+    // the file at `path` may not be replaced, or no such file can be made, overwrites `path`.
     fn write(&mut self, path: &str, bytes: &[u8]) -> Result<(), FileError> {
         let part = format!(in self.rt.alloc(); "{path}.part")?;
         let made = if may_replace(self.rt, path) {

@@ -75,7 +75,8 @@ EffectGives t (Err (errors.TooTall q)) effect = IsTall q effect
 abbrev pub AreWithin : ℕ → Successors → Type 0
 AreWithin n l = AllByRecursion (λ p. p < n) (points_of l)
 
--- The points lie in the unit, the shape belongs to the arena, and a mark fits on it.
+-- The successors lie in the unit, and the shape belongs to the arena. It has room for a loop or a
+-- capture on top, if the instruction opens one.
 abbrev pub GoesOn : InstrContext → Effect → Type 0
 GoesOn a e =
     AreWithin a.header.now.instructions e.leads
