@@ -1,0 +1,15 @@
+import os,sys
+os.chdir(sys.argv[1])
+def rep(p,a,b):
+    t=open(p).read(); assert t.count(a)==1,(p,a,t.count(a)); open(p,"w").write(t.replace(a,b))
+rep("crates/jt_image/specs/Typed.antt","-- The point `q` is one of the points.","-- The point is in the list.")
+rep("crates/jt_lower/specs/Compiles.antt","  -- Routines whose constants have indices into the pool need the same number of entries as before.","  -- Routines are low (`AreLow`) if each body, with indices into the pool for its constants, needs at\n  -- most `max_entries` entries.")
+rep("crates/jt_program/src/system.rt","    // Writes `bytes` to `path`; the old contents stay until all bytes are written. A new file, at\n    // `path` with `.part` after it, takes the bytes first. If no such file can be made, `path` is\n    // overwritten.","    // Writes `bytes` to a new file, at `path` with `.part` after it, and renames it to `path`. If the\n    // file at `path` may not be replaced, or no such file can be made, overwrites `path` in place.")
+rep("crates/jt_chains/specs/Includes.antt","-- The name of an include: every name, or only that of a template that may not be missing.","-- The name of an included template, as a list. The list is empty if the include ignores a missing\n-- template and `all` is false.")
+rep("crates/jt_chains/specs/Chain.antt","-- Macros occur only at top level.\nabbrev pub macros_in","-- The macros of a body: its `macro` statements at top level, in order.\nabbrev pub macros_in")
+rep("crates/jt_image/src/code.rt","    /// Returns a constant.\n    #[inline(always)]\n    fn constant(&self","    /// Returns the constant at an index, or `None` if the index is out of range.\n    #[inline(always)]\n    fn constant(&self")
+rep("crates/jt_verify/specs/internal/Typing.antt","-- The points lie in the unit, the shape belongs to the arena, and a mark fits on it.","-- The successors lie in the unit, and the shape belongs to the arena. It has room for a loop or a\n-- capture on top, if the instruction opens one.")
+rep("crates/jt_chains/src/parts.rt","/// A macro: its name, the index of its template, its parameters and its body.","/// A macro of a template that was read. `template` is the index of that template.")
+rep("crates/jt_ir/specs/Slots.antt","    -- A loop: its targets, the value that it iterates over, its condition, its body, and its `else`\n    -- part.","    -- A loop over the items of a value, with a condition or without. The last body is its `else` part.")
+rep("crates/jt_image/specs/Step.antt","-- The demand of a step on the budget beside its cost: calls, returns, bytes of output, and the\n-- greatest size and nesting of pushed values.","-- The demand of a step on the budget beside its cost. `size` and `nesting` are the greatest of the\n-- values that the step pushes.")
+rep("crates/jt_host/src/call_error.rt","/// Returns the text with which a run ended, or the error.\n","/// Returns the text with which a run ended.\n///\n/// # Errors\n///\n/// `Fault` or `Spent` if the run ended so.\n")
