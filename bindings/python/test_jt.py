@@ -413,6 +413,8 @@ class Contexts(unittest.TestCase):
             image.run(context)
         with self.assertRaisesRegex(ValueError, "closed"):
             in_threads(1, lambda: image.run(context))
+        with self.assertRaisesRegex(ValueError, "the context is closed"):
+            context.__enter__()
         self.assertIn("closed", repr(context))
 
 

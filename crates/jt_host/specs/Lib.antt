@@ -16,5 +16,6 @@ pub use Rattle.jt_inherit.specs.Chains
 pub use Rattle.jt_inherit.specs.Small
 pub use Rattle.jt_machine.specs.View
 pub use Rattle.jt_value.specs.ContextView
+pub use Rattle.jt_value.specs.FaultText
 pub use Rattle.jt_value.specs.Pairs
 pub use Rattle.jt_verify.specs.Refusing

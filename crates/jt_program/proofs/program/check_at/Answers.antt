@@ -9,7 +9,7 @@ returns g c =
     let n : ℕ × ℕ = (c.in_ok-units.units, c.in_ok-units.instructions) in
     let same : c.deref.result.now ≡ bytes = search rules in
     let line : string_bytes c.in_ok-format.field-0 ≡ counts_line n = c.in_ok-format.ensures.ok in
-    let checks : Checks (g.F.Files.known c.args.files.now) (string_bytes c.args.image) (Ok c.in_ok-format.field-0) =
+    let checks : Checks (g.F.Files.known (g.F.Files.contents c.args.files.now)) (string_bytes c.args.image) (Ok c.in_ok-format.field-0) =
     record {
       bytes = bytes;
       held = c.in_ok-bytes.ensures.held;

@@ -8,12 +8,12 @@ pub returns-in_err-bytes : goal.returns-in_err-bytes
 returns-in_err-bytes g c =
     let p = err_from_is_err_and c.from_residual.result c.from_residual.ensures.1 in
     let asks = IsPath (string_bytes c.args.image) in
-    rw (p.1, p.2) (inl (unread_more (g.F.Files.known c.args.files.now) asks asks c.args.context c.in_err-bytes.field-0.0
+    rw (p.1, p.2) (inl (unread_more (g.F.Files.known (g.F.Files.contents c.args.files.now)) asks asks c.args.context c.in_err-bytes.field-0.0
     (λ path asked. inl asked) c.in_err-bytes.ensures.err))
 
 pub returns-in_err-context : goal.returns-in_err-context
 returns-in_err-context g c =
     let p = err_from_is_err_and c.from_residual-in_err-context.result c.from_residual-in_err-context.ensures.1 in
     let asks = IsPath (string_bytes c.args.image) in
-    rw (p.1, p.2) (inl (unread_context (g.F.Files.known c.args.files.now) asks c.args.context c.in_err-context.field-0.0
+    rw (p.1, p.2) (inl (unread_context (g.F.Files.known (g.F.Files.contents c.args.files.now)) asks c.args.context c.in_err-context.field-0.0
     c.in_err-context.ensures.err))

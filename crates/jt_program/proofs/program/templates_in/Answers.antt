@@ -13,7 +13,7 @@ use Rattle.jt_program.proofs.program.templates_in.Goals as goal
 
 pub loop-name-preserved : goal.loop-name-preserved
 loop-name-preserved g c =
-    let files = g.F.Files.known c.args.files.now in
+    let files = g.F.Files.known (g.F.Files.contents c.args.files.now) in
     let before = map string_bytes c.loop-name.yielded in
     let sources = source_of c.read_into.new.templates in
     let dir : c.as_str-in-loop-name.result.now ≡ string_bytes c.args.dir = search rules in
@@ -31,7 +31,7 @@ loop-name-preserved g c =
 
 pub returns-clause-library : goal.returns-clause-library
 returns-clause-library g c =
-    let files = g.F.Files.known c.args.files.now in
+    let files = g.F.Files.known (g.F.Files.contents c.args.files.now) in
     let dir : c.as_str.result.now ≡ string_bytes c.args.dir = search rules in
     let none : c.loop-name.name-iterator.rest.items ≡ [] = nil_of c.loop-name.name-iterator.rest.items
     c.loop-name.name-iterator.rest.len (sym c.loop-name.name-iterator.rest.ok.0) c.in-None.ensures.steps.0 in
@@ -55,7 +55,7 @@ returns-clause-library g c =
 pub returns-in_err-read_into-clause-err : goal.returns-in_err-read_into-clause-err
 returns-in_err-read_into-clause-err g c =
     let p = err_from_is_err_and c.from_residual.result c.from_residual.ensures.1 in
-    let files = g.F.Files.known c.args.files.now in
+    let files = g.F.Files.known (g.F.Files.contents c.args.files.now) in
     let dir : c.as_str.result.now ≡ string_bytes c.args.dir = search rules in
     let same_dir : c.as_str-in-loop-name.result.now ≡ string_bytes c.args.dir = search rules in
     let left = c.next.new.self.rest.items in

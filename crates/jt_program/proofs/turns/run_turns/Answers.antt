@@ -25,14 +25,14 @@ returns-in_err-open_pair g c =
     let all : c.into_iter-pair-iterator.result.rest.items ≡ c.loop-pair.yielded ++ c.in-Some.pair ∷ left =
     c.loop-pair.invariant.0 ∙ ap (λ ps. c.loop-pair.yielded ++ ps) c.in-Some.ensures.steps.0 in
     let given : c.into_iter-pair-iterator.result.rest.items ≡ c.args.pairs.items = search rules in
-    rw (p.1, p.2) (stops (g.F.Files.known c.args.files.now) c.args.budget c.args.pairs.items c.loop-pair.yielded
+    rw (p.1, p.2) (stops (g.F.Files.known (g.F.Files.contents c.args.files.now)) c.args.budget c.args.pairs.items c.loop-pair.yielded
     c.in-Some.pair left (world_of c.loop-pair.sessions) c.in_err-open_pair.field-0.0
     (sym given ∙ all) c.loop-pair.invariant.1
     (c.in_err-open_pair.ensures.refused c.loop-pair.yielded c.loop-pair.invariant.1))
 
 pub returns-in-Ok : goal.returns-in-Ok
 returns-in-Ok g c =
-    let files = g.F.Files.known c.args.files.now in
+    let files = g.F.Files.known (g.F.Files.contents c.args.files.now) in
     let none : c.loop-pair.pair-iterator.rest.items ≡ [] = nil_of c.loop-pair.pair-iterator.rest.items
     c.loop-pair.pair-iterator.rest.len (sym c.loop-pair.pair-iterator.rest.ok.0) c.in-None.ensures.steps.0 in
     let all : c.into_iter-pair-iterator.result.rest.items ≡ c.loop-pair.yielded =

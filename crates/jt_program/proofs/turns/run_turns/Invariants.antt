@@ -6,4 +6,4 @@ use Rattle.jt_program.proofs.turns.run_turns.Given as goal
 -- The pairs so far and the remaining ones are all pairs, and the pairs so far are open.
 abbrev pub invariant-loop-pair : goal.invariant-loop-pair
 invariant-loop-pair g l = (l.initial.pair-iterator.rest.items ≡ l.yielded ++ l.pair-iterator.rest.items)
-    × AreOpen (g.F.Files.known l.files) l.budget l.yielded (world_of l.sessions)
+    × AreOpen (g.F.Files.known (g.F.Files.contents l.files)) l.budget l.yielded (world_of l.sessions)
