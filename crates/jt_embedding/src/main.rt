@@ -9,7 +9,8 @@ ghost use Rattle.std.specs.Prelude.{◌≡◌, IfOk, IfSome, codes, option_map};
 ghost use Rattle.std.specs.List.{find};
 ghost use Rattle.std.specs.Str.{bytes_eq};
 ghost use Rattle.jt_host.specs.Compiled.{IsCompiled};
-ghost use Rattle.jt_embedding.specs.internal.Letters.{IsLine, IsWritten, spent_name, usual};
+ghost use Rattle.jt_host.specs.Reasons.{spent_name};
+ghost use Rattle.jt_embedding.specs.internal.Letters.{IsLine, IsWritten, usual};
 
 use jt_host::{
     Budget, Library, Options, Outcome, Spent, Verified, compile, context_from_json, run, verify,

@@ -1,5 +1,6 @@
 pub mod CallErrors
 pub mod Calls
+pub mod Reasons
 pub mod Rendering
 pub mod Templates
 -- The modules that the clauses of the exported calls cite, and that an embedder's own clauses may

@@ -12,31 +12,23 @@ use jt_image::ImageError;
 use jt_machine::{Outcome, Place};
 use jt_value::{Fault, NoMemory};
 use jt_verify::Refusal;
-use thiserror::Error;
 
-/// Why a call returns neither a text nor an image.
-#[derive(Debug, Drop, Error, PartialEq, Eq)]
+/// Why a call returns neither a text nor an image. reasons.rt prints it.
+#[derive(Debug, Drop, PartialEq, Eq)]
 pub enum CallError {
     /// The bytes are not an image.
-    #[error("{0}")]
     Image(ImageError),
     /// The verifier refuses the image.
-    #[error("{0}")]
     Code(Refusal),
     /// The templates do not compile.
-    #[error("{0}")]
     Template(CompileError),
     /// The bytes spell no context.
-    #[error("{0}")]
     Context(ContextError),
     /// The template ended with a fault, at its place if the image has one.
-    #[error("fault {0}")]
     Fault(Fault, Option<Place>),
     /// The budget was spent.
-    #[error("spent {0}")]
     Spent(Spent),
     /// A growth was refused.
-    #[error("no memory")]
     NoMemory,
 }
 

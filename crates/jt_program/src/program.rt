@@ -74,12 +74,16 @@ pub fn perform<F: Files, W: Sink, E: Sink>(
     // the files are as they were, unless the line has an image to write: a template that compiles,
     // or an image that has a version 2
     ensures touched { F.contents files.new ≡ F.contents files.old
-        ⊎ LineWrites (F.known (F.contents files.old)) (subcommand_of program_app (texts words.now)) }
+        ⊎ LineWrites (F.known (F.contents files.old))
+        (subcommand_of program_app (texts words.now)) }
     ensures untaken { ¬ Takes (texts words.now) → F.contents files.new ≡ F.contents files.old }
     ensures kept { ¬ Asks (codes "compile") (texts words.now)
         → ¬ Asks (codes "upgrade") (texts words.now)
         → F.contents files.new ≡ F.contents files.old }
-    ensures unwritten { result ≢ 0 → result ≢ 5 → result ≢ 6 → F.contents files.new ≡ F.contents files.old }
+    ensures unwritten { result ≢ 0
+        → result ≢ 5
+        → result ≢ 6
+        → F.contents files.new ≡ F.contents files.old }
 {
     match perform_line(alloc, words, files) {
         Ok(text) => print(text, out, errors),
@@ -114,9 +118,12 @@ fn perform_line<F: Files>(alloc: Global, words: &[&str], files: &mut F) -> Resul
         → ¬ Asks (codes "upgrade") (texts words.now)
         → F.contents files.new ≡ F.contents files.old }
     ensures unwritten { IfErr result
-        (λ e. status_of e ≢ Status.File → status_of e ≢ Status.Memory → F.contents files.new ≡ F.contents files.old) }
+        (λ e. status_of e ≢ Status.File
+        → status_of e ≢ Status.Memory
+        → F.contents files.new ≡ F.contents files.old) }
     ensures touched { F.contents files.new ≡ F.contents files.old
-        ⊎ LineWrites (F.known (F.contents files.old)) (subcommand_of program_app (texts words.now)) }
+        ⊎ LineWrites (F.known (F.contents files.old))
+        (subcommand_of program_app (texts words.now)) }
     ensures ends { LineEnds (F.known (F.contents files.old)) (F.known (F.contents files.new))
         (subcommand_of program_app (texts words.now)) result }
 {
@@ -126,10 +133,13 @@ fn perform_line<F: Files>(alloc: Global, words: &[&str], files: &mut F) -> Resul
 
 /// Performs a job except for printing, and returns the text to print.
 fn perform_job<F: Files>(alloc: Global, job: Job, files: &mut F) -> Result<String, Failure>
-    ensures ends { JobEnds (F.known (F.contents files.old)) (F.known (F.contents files.new)) job result }
+    ensures ends { JobEnds (F.known (F.contents files.old)) (F.known (F.contents files.new)) job
+        result }
     ensures kept { ¬ IsWriting job.command → F.contents files.new ≡ F.contents files.old }
     ensures unwritten { IfErr result
-        (λ e. status_of e ≢ Status.File → status_of e ≢ Status.Memory → F.contents files.new ≡ F.contents files.old) }
+        (λ e. status_of e ≢ Status.File
+        → status_of e ≢ Status.Memory
+        → F.contents files.new ≡ F.contents files.old) }
     ensures touched { F.contents files.new ≡ F.contents files.old
         ⊎ WritesImage (F.known (F.contents files.old)) job.command job.options }
     ensures other { IfErr result (λ e. (status_of e ≢ Status.Usage) × (e ≢ Failure.Output)) }
@@ -171,17 +181,20 @@ fn compile_to<F: Files>(
     entry: EntryFile,
     out: String,
 ) -> Result<String, Failure>
-    ensures only { ChangesOnly (F.known (F.contents files.old)) (F.known (F.contents files.new)) (string_bytes out) }
+    ensures only { ChangesOnly (F.known (F.contents files.old)) (F.known (F.contents files.new))
+        (string_bytes out) }
     ensures ends { IsUnread (F.known (F.contents files.old))
         (IsOfDirectory (F.known (F.contents files.old)) (string_bytes entry.dir)) None result
-        ⊎ Compiles (F.known (F.contents files.old)) (F.known (F.contents files.new)) (string_bytes entry.dir)
-        (string_bytes entry.name) (string_bytes out) entry.options result }
+        ⊎ Compiles (F.known (F.contents files.old)) (F.known (F.contents files.new))
+        (string_bytes entry.dir) (string_bytes entry.name) (string_bytes out) entry.options result }
     ensures unwritten { IfErr result
-        (λ e. status_of e ≢ Status.File → status_of e ≢ Status.Memory → F.contents files.new ≡ F.contents files.old) }
+        (λ e. status_of e ≢ Status.File
+        → status_of e ≢ Status.Memory
+        → F.contents files.new ≡ F.contents files.old) }
     // if there is no image, nothing is written
     ensures touched { F.contents files.new ≡ F.contents files.old
-        ⊎ HasImage (F.known (F.contents files.old)) (string_bytes entry.dir) (string_bytes entry.name)
-        entry.options }
+        ⊎ HasImage (F.known (F.contents files.old)) (string_bytes entry.dir)
+        (string_bytes entry.name) entry.options }
 {
     let EntryFile { dir, name, options } = entry;
     let templates = templates_in(alloc, files, dir)?;
@@ -202,14 +215,18 @@ fn upgrade_to<F: Files>(
     image: String,
     out: String,
 ) -> Result<String, Failure>
-    ensures only { ChangesOnly (F.known (F.contents files.old)) (F.known (F.contents files.new)) (string_bytes out) }
+    ensures only { ChangesOnly (F.known (F.contents files.old)) (F.known (F.contents files.new))
+        (string_bytes out) }
     ensures ends { IsUnread (F.known (F.contents files.old)) (IsPath (string_bytes image)) None result
-        ⊎ Upgrades (F.known (F.contents files.old)) (F.known (F.contents files.new)) (string_bytes image) (string_bytes out)
-        result }
+        ⊎ Upgrades (F.known (F.contents files.old)) (F.known (F.contents files.new))
+        (string_bytes image) (string_bytes out) result }
     ensures unwritten { IfErr result
-        (λ e. status_of e ≢ Status.File → status_of e ≢ Status.Memory → F.contents files.new ≡ F.contents files.old) }
+        (λ e. status_of e ≢ Status.File
+        → status_of e ≢ Status.Memory
+        → F.contents files.new ≡ F.contents files.old) }
     // if there is no image in version 2, nothing is written
-    ensures touched { F.contents files.new ≡ F.contents files.old ⊎ HasUpgrade (F.known (F.contents files.old)) (string_bytes image) }
+    ensures touched { F.contents files.new ≡ F.contents files.old
+        ⊎ HasUpgrade (F.known (F.contents files.old)) (string_bytes image) }
 {
     let bytes = bytes_at(files, image)?;
     let later = upgraded(alloc, &bytes)?;
@@ -314,8 +331,10 @@ pub(crate) fn bytes_at<F: Files>(files: &mut F, path: String) -> Result<Vec<u8>,
 
 /// Sets the contents of the file at `path` to `bytes`.
 fn write_at<F: Files>(files: &mut F, path: String, bytes: &[u8]) -> Result<(), Failure>
-    ensures written { OnOk result ((F.known (F.contents files.new)).holds (string_bytes path) bytes.now) }
-    ensures only { ChangesOnly (F.known (F.contents files.old)) (F.known (F.contents files.new)) (string_bytes path) }
+    ensures written { OnOk result
+        ((F.known (F.contents files.new)).holds (string_bytes path) bytes.now) }
+    ensures only { ChangesOnly (F.known (F.contents files.old)) (F.known (F.contents files.new))
+        (string_bytes path) }
     ensures err { IfErr result
         (λ e. IsUnread (F.known (F.contents files.old)) (IsPath (string_bytes path)) None (Err e)) }
 {
@@ -343,7 +362,8 @@ fn names_in<F: Files>(files: &mut F, dir: &str) -> Result<Vec<String>, FileError
 /// skipped.
 fn templates_in<F: Files>(alloc: Global, files: &mut F, dir: String) -> Result<Templates, Failure>
     ensures library { IfOk result
-        (λ templates. IsLibrary (F.known (F.contents files.old)) (string_bytes dir) (source_of templates)) }
+        (λ templates. IsLibrary (F.known (F.contents files.old)) (string_bytes dir)
+        (source_of templates)) }
     ensures err { IfErr result (λ e. IsUnread (F.known (F.contents files.old))
         (IsOfDirectory (F.known (F.contents files.old)) (string_bytes dir)) None (Err e)) }
     ensures kept { F.contents files.new ≡ F.contents files.old }

@@ -161,7 +161,8 @@ impl<R: Runtime + AllocGlobal> Files for SystemFiles<'_, R> {
     }
 
     // The old contents stay until the new bytes are complete. These are written to a new file, at
-    // `path` with `.part` after it. If none can replace the file at `path`, that is written in place.
+    // `path` with `.part` after it, which is renamed. If that is not possible, the file at `path`
+    // is written in place.
     fn write(&mut self, path: &str, bytes: &[u8]) -> Result<(), FileError> {
         let part = format!(in self.rt.alloc(); "{path}.part")?;
         if let Some(file) = new_part(self.rt, part.as_str(), path)

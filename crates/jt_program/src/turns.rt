@@ -46,7 +46,8 @@ fn open_pair<F: Files>(
 ) -> Result<(), Failure>
     ensures opened { OnOk result ((ps : List LinePair)
         → AreOpen (F.known (F.contents files.old)) budget ps (world_of sessions.old)
-        → AreOpen (F.known (F.contents files.old)) budget (ps ++ pair ∷ []) (world_of sessions.new)) }
+        → AreOpen (F.known (F.contents files.old)) budget (ps ++ pair ∷ [])
+        (world_of sessions.new)) }
     ensures refused { IfErr result (λ e. (ps : List LinePair)
         → AreOpen (F.known (F.contents files.old)) budget ps (world_of sessions.old)
         → IsNotOpened (F.known (F.contents files.old)) ps pair e) }

@@ -1,21 +1,17 @@
 -- The promises of the host about a letter.
 use Rattle.std.specs.Prelude.{◌≡◌, ◌++◌, ℕ, List, Option, Some, None, String, codes, false, string_bytes, true}
-use Rattle.std.specs.Fmt.{decimal}
 use Rattle.std.specs.declared.alloc.Global.{Global}
 use Rattle.jt_host.specs.Code.{Code}
 use Rattle.jt_host.specs.FaultText.{fault_text}
 use Rattle.jt_host.specs.Json.{IsContext}
 use Rattle.jt_host.specs.Pairs.{Pairs}
+use Rattle.jt_host.specs.Reasons.{placed, spent_name}
 use Rattle.jt_host.specs.Run.{Run}
 use Rattle.jt_host.specs.View.{budget_view, outcome_view}
 use Rattle.jt_host.specs.declared.Budget.{Budget}
-use Rattle.jt_host.specs.declared.Fault.{Fault}
 use Rattle.jt_host.specs.declared.Options.{Options}
 use Rattle.jt_host.specs.declared.Outcome.{Outcome}
 use Rattle.jt_host.specs.declared.Outcome.TheVariants as outcome
-use Rattle.jt_host.specs.declared.Place.{Place}
-use Rattle.jt_host.specs.declared.Spent.{Spent}
-use Rattle.jt_host.specs.declared.Spent.TheVariants as spent
 
 -- The values that are printed are escaped, and all other options are off.
 abbrev pub usual : Options
@@ -31,26 +27,13 @@ usual =
 abbrev pub IsWritten : Code → List ℕ → Budget → Outcome → Type 0
 IsWritten k json b o = (x : Pairs) × IsContext json x × Run k x (budget_view b) (outcome_view o)
 
--- The name of a number of the budget.
-abbrev pub spent_name : Spent → List ℕ
-spent_name spent.Fuel = codes "Fuel"
-spent_name spent.Depth = codes "Depth"
-spent_name spent.Output = codes "Output"
-spent_name spent.Size = codes "Size"
-spent_name spent.Nesting = codes "Nesting"
-
--- The text of a fault, with its place if it has one.
-abbrev pub placed_fault : Fault → Option Place → List ℕ
-placed_fault fault None = fault_text fault
-placed_fault fault (Some place) =
-    fault_text fault
-    ++ (codes " in " ++ (string_bytes place.template ++ (codes " line " ++ decimal place.line)))
-
--- The line that reports how a run ended: its text, its fault, or the number of the budget that was
--- spent. If there was no run, the line states why.
+-- The line that reports how a run ended: its text, its fault with its place if it has one, or the
+-- number of the budget that was spent. If there was no run, the line states why.
 abbrev pub line_of : Option Outcome → List ℕ
 line_of (Some (outcome.Text text)) = string_bytes text
-line_of (Some (outcome.Fault fault place)) = codes "fault " ++ placed_fault fault place
+line_of (Some (outcome.Fault fault (Some place))) =
+    codes "fault " ++ placed (fault_text fault) (string_bytes place.template) place.line
+line_of (Some (outcome.Fault fault None)) = codes "fault " ++ fault_text fault
 line_of (Some (outcome.Spent spent)) = codes "spent " ++ spent_name spent
 line_of None = codes "no context, or no memory"
 
