@@ -217,7 +217,8 @@ fn upgrade_to<F: Files>(
 ) -> Result<String, Failure>
     ensures only { ChangesOnly (F.known (F.contents files.old)) (F.known (F.contents files.new))
         (string_bytes out) }
-    ensures ends { IsUnread (F.known (F.contents files.old)) (IsPath (string_bytes image)) None result
+    ensures ends { IsUnread (F.known (F.contents files.old)) (IsPath (string_bytes image)) None
+        result
         ⊎ Upgrades (F.known (F.contents files.old)) (F.known (F.contents files.new))
         (string_bytes image) (string_bytes out) result }
     ensures unwritten { IfErr result

@@ -16,4 +16,13 @@ returns-in_err-context-clause-err g c =
     rw (p.1, p.2) (inr (c.in_ok-bytes.bytes.items, c.in_ok-bytes.ensures.held, inl unread))
 
 pub returns-in_err-code-clause-err : goal.returns-in_err-code-clause-err
-returns-in_err-code-clause-err g c = ?
+returns-in_err-code-clause-err g c =
+    let p = err_from_is_err_and c.from_residual-in_err-code.result c.from_residual-in_err-code.ensures.1 in
+    let same : c.deref.result.now ≡ c.in_ok-bytes.bytes.items = search rules in
+    let none = subst (λ (bs : List ℕ). IsNoImage bs c.in_err-code.field-0.0) same c.in_err-code.ensures in
+    let given = rw c.in_ok-bytes.ensures.kept at c.in_ok-context.ensures.given in
+    rw (p.1, p.2) (inr (
+      c.in_ok-bytes.bytes.items,
+      c.in_ok-bytes.ensures.held,
+      inr (pairs_of c.in_ok-context.context, given, none),
+    ))
