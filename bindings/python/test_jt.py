@@ -174,6 +174,21 @@ class Calls(unittest.TestCase):
                 call()
             self.assertTrue(caught.exception.reason.startswith(code), caught.exception.reason)
 
+    def test_the_reason_of_a_refusal(self):
+        jump_out = "4a5442430100000000000100050100000078010000000000020000000a000000020000001c"
+        for reason, call in {
+            "S1 UnclosedTag in a b line 2": lambda: Template("a b", {"a b": "\n{{"}).compile(),
+            "P4 UnknownTest in t line 1": lambda: Template("t", {"t": "{{ 1 is no }}"}).compile(),
+            "C8 IncludeCycle": lambda: Template("t", {"t": "{% include 't' %}"}).compile(),
+            "V3 NotCallable": lambda: Template("t", {"t": "{{ self }}"}).compile(),
+            "X3 NotWhole": lambda: Context('{"a": 1.5}'),
+            "I3 Truncated": lambda: Image(bytes.fromhex(jump_out)),
+            "K5 JumpOut unit 0 point 0": lambda: Image(bytes.fromhex(jump_out) + bytes(7)),
+        }.items():
+            with self.assertRaises(Refused) as caught:
+                call()
+            self.assertEqual(caught.exception.reason, reason)
+
     def test_the_parts_of_a_refusal(self):
         for refused, wanted in (
             (Refused("P1 Syntax in a line 2 in b line 3"), ("P1", "Syntax", "a line 2 in b", 3)),
@@ -413,6 +428,8 @@ class Contexts(unittest.TestCase):
             image.run(context)
         with self.assertRaisesRegex(ValueError, "closed"):
             in_threads(1, lambda: image.run(context))
+        with self.assertRaisesRegex(ValueError, "the context is closed"):
+            context.__enter__()
         self.assertIn("closed", repr(context))
 
 

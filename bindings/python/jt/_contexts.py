@@ -7,9 +7,9 @@ import itertools
 import threading
 import weakref
 from collections import deque
-from types import TracebackType
-from typing import Any, Deque, Dict, Mapping, Optional, Tuple, Type, Union
+from typing import Any, Deque, Dict, Mapping, Tuple, Type, Union
 
+from ._closing import Closing
 from ._errors import Refused
 from ._json import encode_json, explain, to_json
 from ._library import NO_LIMIT, ContextHandle, ImageHandle, Numbers, library, run, tell
@@ -17,7 +17,7 @@ from ._library import NO_LIMIT, ContextHandle, ImageHandle, Numbers, library, ru
 _numbers = itertools.count()
 
 
-class Context:
+class Context(Closing):
     """What a template is rendered for: a mapping, or the JSON of an object as `str` or `bytes`.
 
     It is read here, once for each thread that uses it, and can be used for many runs and images.
@@ -26,6 +26,8 @@ class Context:
     # Errors
     `ContextError` for what cannot be JSON, and for JSON that is refused.
     """
+
+    _kind = "context"
 
     def __init__(self, given: Union[Mapping[str, Any], str, bytes, None] = None) -> None:
         # (A finalizer or a signal handler may render in the middle of a call.)
@@ -41,8 +43,7 @@ class Context:
         thread = _this_thread()
         thread.free_dropped()
         with self._lock:
-            if self._closed:
-                raise ValueError("the context is closed")
+            self._check_open()
             if self._number not in thread.handles:
                 handle = ContextHandle()
                 try:
@@ -70,17 +71,6 @@ class Context:
     def __del__(self) -> None:
         if getattr(self, "_threads", None):
             self.close()
-
-    def __enter__(self) -> "Context":
-        return self
-
-    def __exit__(
-        self,
-        kind: Optional[Type[BaseException]],
-        error: Optional[BaseException],
-        trace: Optional[TracebackType],
-    ) -> None:
-        self.close()
 
     def __reduce__(self) -> Tuple[Type["Context"], Tuple[bytes]]:
         return type(self), (self._json,)

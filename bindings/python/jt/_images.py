@@ -2,9 +2,9 @@
 import os
 import threading
 from dataclasses import dataclass, fields
-from types import TracebackType
 from typing import List, Optional, Tuple, Type, Union
 
+from ._closing import Closing
 from ._contexts import ContextLike, run_for, run_within
 from ._errors import NoMemory
 from ._library import FlagBytes, ImageHandle, LibraryHandle, Numbers, library, tell
@@ -39,7 +39,7 @@ class Budget:
                 raise ValueError(f"{field.name} has to be from 0 to {2**bits - 1}: {number}")
 
 
-class Image:
+class Image(Closing):
     """A compiled template. The bytes may come from anyone: they are verified here, once.
 
     Several threads may use one image at the same time. A pickled image is its bytes, which are
@@ -48,6 +48,8 @@ class Image:
     # Errors
     `Refused` for bytes that are no image that the verifier accepts.
     """
+
+    _kind = "image"
 
     def __init__(self, data: Union[bytes, bytearray, memoryview]) -> None:
         given = bytes(memoryview(data))
@@ -146,28 +148,12 @@ class Image:
             for handle in handles:
                 handle.free()
 
-    def __enter__(self) -> "Image":
-        self._check_open()
-        return self
-
-    def __exit__(
-        self,
-        kind: Optional[Type[BaseException]],
-        error: Optional[BaseException],
-        trace: Optional[TracebackType],
-    ) -> None:
-        self.close()
-
     def __reduce__(self) -> Tuple[Type["Image"], Tuple[bytes]]:
         return type(self), (self.data,)
 
     def __repr__(self) -> str:
         of = "" if self._data is None else f" of {len(self._data)} bytes"
         return f"<jt.Image{of}{', closed' if self._closed else ''}>"
-
-    def _check_open(self) -> None:
-        if self._closed:
-            raise ValueError("the image is closed")
 
     def _share_to(self, other: ImageHandle) -> None:
         """Fills another handle. The caller has the lock."""

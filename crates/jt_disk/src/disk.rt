@@ -2,7 +2,7 @@
 
 ghost use Rattle.std.specs.Prelude.{◌≡◌, ◌≢◌, ℕ, List, Some, None, OnOk, IfSome, IfNone};
 ghost use Rattle.jt_program.specs.Files.{path_in};
-ghost use Rattle.jt_disk.specs.Disk.{IsName, file_at, known_of};
+ghost use Rattle.jt_disk.specs.Disk.{FilesAt, IsName, file_at, known_of};
 
 use jt_program::{FileError, Files};
 use std::alloc::{AllocError, Global};
@@ -59,9 +59,13 @@ fn name_in<'a>(dir: &str, path: &'a str) -> Option<&'a str>
 }
 
 impl Files for Disk {
+    ghost Contents = { FilesAt };
+
+    ghost contents = { file_at };
+
     ghost known = { known_of };
 
-    fn list(&self, dir: &str) -> Result<Vec<String>, FileError> {
+    fn list(&mut self, dir: &str) -> Result<Vec<String>, FileError> {
         let mut names = Vec::new(self.alloc);
         for path in self.files.keys() {
             if let Some(name) = name_in(dir, path.as_str()) {
@@ -71,7 +75,7 @@ impl Files for Disk {
         Ok(names)
     }
 
-    fn read(&self, path: &str) -> Result<Vec<u8>, FileError> {
+    fn read(&mut self, path: &str) -> Result<Vec<u8>, FileError> {
         if path == "memory" {
             return Err(FileError::NoMemory);
         }

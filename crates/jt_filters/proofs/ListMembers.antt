@@ -1,5 +1,6 @@
 -- The items of a list, found by their places.
-use Rattle.std.proofs.Common.{◌≡◌, ℕ, zero, suc, ℤ, ◌+◌, ◌<◌, Bool, true, false, cond, ◌||◌, List, [], ◌∷◌, length, drop}
+use Rattle.std.proofs.Common.{◌≡◌, ℕ, zero, suc, ℤ, ◌+◌, ◌<◌, Bool, true, false, cond, ◌||◌, List, [], ◌∷◌, length,
+    drop}
 use Rattle.std.proofs.Common.{get_or, Some, None, refl, sym, ap, ◌∙◌, subst, true≢false, arith, rules}
 use Rattle.std.proofs.lemmas.Cmp.{int_eq_equiv, nat_list_cmp_total}
 use Rattle.std.proofs.lemmas.List.{at_drop_more}
@@ -113,7 +114,8 @@ some_or true n o there = refl
 some_or false n o there = there
 
 -- The place of a value that equals a number is that of the number.
-pub number_found : (p : Places) (t : Tree) (z x : ℤ) → x ≡ z → Some z ≡ number_like t → at_number p.numbers x ≡ place p t
+pub number_found : (p : Places) (t : Tree) (z x : ℤ) → x ≡ z → Some z ≡ number_like t → at_number p.numbers x ≡ place p
+    t
 number_found p t z x same is =
     ap (λ (y : ℤ). at_number p.numbers y) same ∙ ap (λ (o : Option ℤ). place_by p o (code t)) is
 
