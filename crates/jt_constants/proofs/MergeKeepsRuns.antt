@@ -6,12 +6,12 @@ use Rattle.std.specs.Option.{option_and_then}
 use Rattle.std.proofs.lemmas.List.{length-map}
 use Rattle.std.proofs.lemmas.Option.{slice_get-map}
 use Rattle.jt_value.specs.Pairs.{Pairs}
-use Rattle.jt_value.specs.Index.{Index}
+use Rattle.jt_value.specs.Place.{Place}
 use Rattle.jt_image.specs.declared.instruction.Instruction.{Instruction}
 use Rattle.jt_image.specs.declared.instruction.Instruction.TheVariants as op
 use Rattle.jt_image.specs.Code.{Constant, Section, Code}
 use Rattle.jt_image.specs.IsCode.{total_len}
-use Rattle.jt_image.specs.Indices.{index_of, index_at}
+use Rattle.jt_image.specs.Places.{place_of, place_at}
 use Rattle.jt_image.specs.Config.{MachineState}
 use Rattle.jt_image.specs.Step.{Action, straight, push, put, constant_value, text_of, calls_unit, action, fetch}
 use Rattle.jt_image.specs.Run.{entry_locals}
@@ -33,9 +33,9 @@ module _ (k : Code) where
   abbrev ps : List ℕ
   ps = new_indices k.constants
 
-  index_same : (unit point : ℕ) → index_at (merged k) unit point ≡ index_at k unit point
-  index_same unit point =
-      ap (λ (n : ℕ). option_and_then (index_of k.templates) (slice_get k.indices (n + point)))
+  place_same : (unit point : ℕ) → place_at (merged k) unit point ≡ place_at k unit point
+  place_same unit point =
+      ap (λ (n : ℕ). option_and_then (place_of k.templates) (slice_get k.places (n + point)))
       (total_taken ps unit k.units)
 
   called_same : (n : ℕ) (o : Option Section) (m : MachineState)
@@ -89,14 +89,14 @@ module _ (k : Code) where
   fetch_same : (n p : ℕ) → fetch (merged k) n p ≡ option_map both (fetch k n p)
   fetch_same n p = search (arith, rules, slice_get-map, in_unit)
 
-  then_same : (n : ℕ) (q : Option Index) (a : Action) → ((m : MachineState) → exec (merged k) n m ≡ exec k n m)
+  then_same : (n : ℕ) (q : Option Place) (a : Action) → ((m : MachineState) → exec (merged k) n m ≡ exec k n m)
       → on_action q a (exec (merged k) n) ≡ on_action q a (exec k n)
   then_same n q a2 h = search (arith, rules)
 
   at_same : (n : ℕ) (x : Option (Section × Instruction)) (m : MachineState)
       → ((d : MachineState) → exec (merged k) n d ≡ exec k n d)
       → exec_at (merged k) (option_map both x) m (exec (merged k) n) ≡ exec_at k x m (exec k n)
-  at_same n a1 m h = search (arith, rules, index_same, action_same, then_same)
+  at_same n a1 m h = search (arith, rules, place_same, action_same, then_same)
 
   exec_same : (n : ℕ) (m : MachineState) → exec (merged k) n m ≡ exec k n m
   exec_same zero m = refl

@@ -78,5 +78,5 @@ merged code =
       constants = each_once code.constants;
       units = map (moved_unit (new_indices code.constants)) code.units;
       templates = code.templates;
-      indices = code.indices;
+      places = code.places;
     }

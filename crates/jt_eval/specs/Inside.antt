@@ -6,7 +6,7 @@ use Rattle.jt_ids.specs.TestTable.{test_values}
 use Rattle.jt_ids.specs.declared.filter_id.FilterId.{FilterId}
 use Rattle.jt_ids.specs.declared.filter_id.ArgumentRole.{ArgumentRole}
 use Rattle.jt_ids.specs.declared.filter_id.ArgumentRole.TheVariants as naming
-use Rattle.jt_ids.specs.FilterTable.{filter_of_name, least_values, most_values, may_be_inner, named_at, place_of}
+use Rattle.jt_ids.specs.FilterTable.{filter_of_name, least_values, most_values, may_be_inner, named_at, position_of}
 use Rattle.jt_ast.specs.Written.{literal_text}
 use Rattle.jt_ast.specs.Expressions as trees
 use Rattle.jt_ast.specs.Expressions.{Text, Exprs, no_exprs, expr, count, no_pairs, pair}
@@ -49,7 +49,7 @@ row_well f place (expr t rest) =
 abbrev pub pairs_well : FilterId → trees.Pairs → Bool
 pairs_well f no_pairs = true
 pairs_well f (pair x t pairs) =
-    argument_well (option_and_then (named_at f) (place_of f x)) (literal_text t) 1
+    argument_well (option_and_then (named_at f) (position_of f x)) (literal_text t) 1
     && pairs_well f pairs
 
 abbrev pub names_well : FilterId → Exprs → trees.Pairs → Bool

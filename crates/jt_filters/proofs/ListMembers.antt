@@ -1,7 +1,6 @@
 -- The items of a list, found by their places.
-use Rattle.std.proofs.Common.{◌≡◌, ℕ, zero, suc, ℤ, ◌+◌, ◌<◌, Bool, true, false, cond, ◌||◌, List, [], ◌∷◌, length,
-    drop}
-use Rattle.std.proofs.Common.{get_or, Some, None, refl, sym, ap, ◌∙◌, subst, true≢false, arith, rules}
+use Rattle.std.proofs.Common.{◌≡◌, ℕ, zero, suc, ℤ, ◌+◌, ◌<◌, Bool, true, false, cond, ◌||◌, List, [], ◌∷◌, length}
+use Rattle.std.proofs.Common.{drop, get_or, Some, None, refl, sym, ap, ◌∙◌, subst, true≢false, arith}
 use Rattle.std.proofs.lemmas.Cmp.{int_eq_equiv, nat_list_cmp_total}
 use Rattle.std.proofs.lemmas.List.{at_drop_more}
 use Rattle.std.specs.BTreeMap.{BTreeMap, insert_entry, is_at}
@@ -13,7 +12,7 @@ use Rattle.std.specs.Ordering.{int_eq, is_eq, nat_cmp}
 use Rattle.std.specs.Prelude.{Option, Vec, Result, Ok, Err, OnOk}
 use Rattle.std.specs.declared.alloc.Global.{Global}
 use Rattle.jt_ids.specs.declared.test_id.TestId.TheVariants as test
-use Rattle.jt_op_semantics.specs.Membership.{has_item, is_in}
+use Rattle.jt_op_semantics.specs.Membership.{has_item}
 use Rattle.jt_op_semantics.specs.Testing.{tested}
 use Rattle.jt_value.specs.Equality.{equal, truth_number}
 use Rattle.jt_value.specs.Tree as tree
@@ -39,7 +38,7 @@ or_right : (a b : Bool) → b ≡ true → (a || b) ≡ true
 or_right true b e = refl
 or_right false b e = e
 
--- A test that has found an item agrees with a search through the list, and so does the search.
+-- A first search that finds only items, or a full search, finds what the full search finds.
 pub found_or : (a b h : Bool) → (a ≡ true → h ≡ true) → b ≡ h → (a || b) ≡ h
 found_or true b h f e = sym (f refl)
 found_or false b h f e = e
@@ -114,8 +113,8 @@ some_or true n o there = refl
 some_or false n o there = there
 
 -- The place of a value that equals a number is that of the number.
-pub number_found : (p : Places) (t : Tree) (z x : ℤ) → x ≡ z → Some z ≡ number_like t → at_number p.numbers x ≡ place p
-    t
+pub number_found : (p : Places) (t : Tree) (z x : ℤ) → x ≡ z → Some z ≡ number_like t
+    → at_number p.numbers x ≡ place p t
 number_found p t z x same is =
     ap (λ (y : ℤ). at_number p.numbers y) same ∙ ap (λ (o : Option ℤ). place_by p o (code t)) is
 

@@ -6,7 +6,7 @@ ghost use Rattle.jt_chains.specs.Chain.{extends_of, libraries_in};
 ghost use Rattle.jt_chains.specs.Needs.{library_need, need_view, AddsNeeds};
 
 use jt_ast::Stmt;
-use jt_chains::Include;
+use jt_chains::NeededTemplate;
 use std::alloc::AllocError;
 
 /// Returns the name of the template that the statements extend.

@@ -2,7 +2,7 @@ use Rattle.std.proofs.Common.{true, false, ◌||◌, refl, ◌∙◌, arith, rul
 use Rattle.std.specs.List.{list_any}
 use Rattle.std.specs.Str.{bytes_eq}
 use Rattle.std.proofs.lemmas.Iterator.{YieldsList-from_slice, cases_from_any}
-use Rattle.std.proofs.lemmas.Iterator.Adapters.{serves_from_indices}
+use Rattle.std.proofs.lemmas.Iterator.Adapters.{serves_from_places}
 use Rattle.std.proofs.lemmas.List.Recursion.{same_from_clauses}
 use Rattle.jt_ast.specs.Texts.{among}
 use Rattle.jt_chains.specs.Along.{templates_at}
@@ -14,7 +14,7 @@ use Rattle.jt_inherit.proofs.extends_path.is_on_path.Goals as goal
 
 pub any-requires-clause-callable : goal.any-requires-clause-callable
 any-requires-clause-callable c =
-    serves_from_indices (YieldsList-from_slice c.args.extends_path.now cc) (λ x q k. search (rules, tests))
+    serves_from_places (YieldsList-from_slice c.args.extends_path.now cc) (λ x q k. search (rules, tests))
     (λ x k lt at. omega (arith, index_at c.args.files.now c.args.extends_path.now k x.now lt c.requires at))
 
 pub returns : goal.returns

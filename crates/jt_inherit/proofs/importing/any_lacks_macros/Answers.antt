@@ -1,6 +1,6 @@
 use Rattle.std.proofs.Common.{true, false, arith, rules, tests}
 use Rattle.std.proofs.lemmas.Iterator.{YieldsList-from_slice, cases_from_any}
-use Rattle.std.proofs.lemmas.Iterator.Adapters.{serves_from_indices}
+use Rattle.std.proofs.lemmas.Iterator.Adapters.{serves_from_places}
 use Rattle.jt_chains.specs.Chain.{Template, sources_in}
 use Rattle.jt_chains.specs.TemplateFiles.{files_view}
 use Rattle.jt_chains.specs.Rules.{lacks_macros}
@@ -9,7 +9,7 @@ use Rattle.jt_inherit.proofs.importing.any_lacks_macros.Goals as goal
 
 pub any-requires-clause-callable : goal.any-requires-clause-callable
 any-requires-clause-callable c =
-    serves_from_indices (YieldsList-from_slice c.args.indices.now cc) (λ x q k. search (rules, tests))
+    serves_from_places (YieldsList-from_slice c.args.indices.now cc) (λ x q k. search (rules, tests))
     (λ x k lt at. omega (arith, index_at c.args.store.files.now c.args.indices.now k x.now lt c.requires at))
 
 pub returns : goal.returns
