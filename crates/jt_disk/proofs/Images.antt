@@ -28,16 +28,14 @@ same_value None (Some v) h = (h v).1 refl
 same_value (Some v) y h = sym ((h v).0 refl)
 
 -- A disk that changes only at one path keeps the file at every other path.
-pub same_file : (old new : Disk) (out path : List ℕ)
-    → ChangesOnly (known_of (file_at old)) (known_of (file_at new)) out → path ≢ out
+pub same_file : (old new : Disk) (out path : List ℕ) → ChangesOnly (known_of old) (known_of new) out → path ≢ out
     → file_at new path ≡ file_at old path
 same_file old new out path only other =
     same_value (file_at new path) (file_at old path) (λ bytes. only path bytes other)
 
 -- A source of a directory is the text of its file.
-source_is : (disk : Disk) (dir : List ℕ) (names : List (List ℕ)) (name source : List ℕ)
-    → AreNamesIn (file_at disk) dir names
-    → (o : Option (List ℕ)) → IsSource (known_of (file_at disk)) dir names name o
+source_is : (disk : Disk) (dir : List ℕ) (names : List (List ℕ)) (name source : List ℕ) → AreNamesIn disk dir names
+    → (o : Option (List ℕ)) → IsSource (known_of disk) dir names name o
     → (o ≡ Some source) ↔ (IsName name × (file_at disk (path_in dir name) ≡ Some source) × IsUtf8 source)
 source_is disk dir names name source listed (Some text) h = (
   λ e. let same : text ≡ source = cc in (((listed name).0 h.0).0, cc, subst IsUtf8 same h.2),
@@ -51,8 +49,7 @@ source_is disk dir names name source listed None h = (
       absurd (found.2 (subst IsUtf8 same t.2)),
 )
 
-texts_in : (disk : Disk) (dir : List ℕ) (sources : List ℕ → Option (List ℕ))
-    → IsLibrary (known_of (file_at disk)) dir sources
+texts_in : (disk : Disk) (dir : List ℕ) (sources : List ℕ → Option (List ℕ)) → IsLibrary (known_of disk) dir sources
     → AreTextsIn disk dir sources
 texts_in disk dir sources library name source =
     source_is disk dir library.names name source library.listed (sources name) (library.each name)
@@ -65,8 +62,7 @@ two_names e = let first : 99 ≡ 117 = ap (λ (t : Word). unwrap_or (slice_get t
 image_held : (old new : Disk) (name : Word) (rows : List Row) (k : Command) (o : Options) (b : Budget) (n : ℕ)
     (text : String Global)
     → IsCommand name rows k o b n
-    → CommandEnds (known_of (file_at old)) (known_of (file_at new)) k o b (Ok text) → name ≡ codes "compile"
-    → HoldsImage old new rows
+    → CommandEnds (known_of old) (known_of new) k o b (Ok text) → name ≡ codes "compile" → HoldsImage old new rows
 image_held old new name rows (command.Compile dir template out) o b n text is (only, inl unread) named = absurd unread
 image_held old new name rows (command.Compile dir template out) o b n text is (only, inr compiles) named =
     let written = compiles.written.1 in
@@ -89,8 +85,7 @@ image_held old new name rows k o b n text is ends named = absurd (cc)
 upgrade_held : (old new : Disk) (name : Word) (rows : List Row) (k : Command) (o : Options) (b : Budget) (n : ℕ)
     (text : String Global)
     → IsCommand name rows k o b n
-    → CommandEnds (known_of (file_at old)) (known_of (file_at new)) k o b (Ok text) → name ≡ codes "upgrade"
-    → HoldsUpgrade old new rows
+    → CommandEnds (known_of old) (known_of new) k o b (Ok text) → name ≡ codes "upgrade" → HoldsUpgrade old new rows
 upgrade_held old new name rows (command.Upgrade image out) o b n text is (only, inl unread) named = absurd unread
 upgrade_held old new name rows (command.Upgrade image out) o b n text is (only, inr upgrades) named =
     let written = upgrades.written.1 in
@@ -116,7 +111,7 @@ IsLeft old new found = IfCompiled old new found × IfUpgraded old new found
 
 ended : (old new : Disk) (found : Option (Word × List Row)) (taken left : Option (List ℕ)) (sink_failed : Bool)
     (e : Ending) (status : ℕ)
-    → Answers (known_of (file_at old)) (known_of (file_at new)) found e
+    → Answers (known_of old) (known_of new) found e
     → Prints taken left sink_failed e status → status ≡ 0 → IsLeft old new found
 ended old new None taken left sink_failed e status answers tells done = (tt, tt)
 ended old new (Some c) taken left sink_failed (Ok text) status answers tells done =
@@ -130,8 +125,7 @@ ended old new (Some c) taken left sink_failed (Err e) status answers tells done 
 -- A line with the status 0, whose end the program reports, leaves its image.
 pub is_left : (old new : Disk) (found : Option (Word × List Row)) (taken left : Option (List ℕ)) (sink_failed : Bool)
     (status : ℕ)
-    → (e : Ending) × Answers (known_of (file_at old)) (known_of (file_at new)) found e
-    × Prints taken left sink_failed e status → status ≡ 0
+    → (e : Ending) × Answers (known_of old) (known_of new) found e × Prints taken left sink_failed e status → status ≡ 0
     → IsLeft old new found
 is_left old new found taken left sink_failed status (e, answers, tells) done =
     ended old new found taken left sink_failed e status answers tells done

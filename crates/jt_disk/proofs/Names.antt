@@ -14,7 +14,7 @@ use Rattle.std.proofs.lemmas.Map.Text.{is_eq-slice_cmp, text_cmp}
 use Rattle.std.proofs.lemmas.Slice.Eq.{bytes_eq-Decides}
 use Rattle.jt_program.specs.Files.{path_in}
 use Rattle.jt_disk.specs.declared.disk.Disk.{Disk}
-use Rattle.jt_disk.specs.Disk.{AreNamesIn, IsName, file_at}
+use Rattle.jt_disk.specs.Disk.{AreNamesIn, IsName}
 
 -- A text with a prefix is the prefix and the rest after it.
 pub stripped : (front text rest : List ℕ) → StripsPrefix (FindsTextPrefix front) text rest → text ≡ front ++ rest
@@ -109,7 +109,7 @@ bytes_there (Some v) = (λ s. s, λ s. s)
 
 -- The names of the files of all paths are those that a disk lists.
 pub all_names : (disk : Disk) (dir : List ℕ) (paths names : List (List ℕ)) → paths ≡ map string_bytes (keys disk.files)
-    → AreNamesOf dir paths names → AreNamesIn (file_at disk) dir names
+    → AreNamesOf dir paths names → AreNamesIn disk dir names
 all_names disk dir paths names all h name =
     let path = path_in dir name in
     let at = found disk.files.entries path in

@@ -13,20 +13,17 @@ file_at disk path = option_map (λ (v : Vec ℕ Global). v.items) (get_by_text d
 abbrev pub IsName : List ℕ → Type 0
 IsName name = Contains name 47 → ⊥
 
--- The bytes of the file at each path, or none.
-abbrev pub FilesAt : Type 0
-FilesAt = List ℕ → Option (List ℕ)
+-- The names are exactly the names of the files directly in the directory.
+abbrev pub AreNamesIn : Disk → List ℕ → List (List ℕ) → Type 0
+AreNamesIn disk dir names =
+    (name : List ℕ)
+    → (Contains names name) ↔ (IsName name × IsSome (file_at disk (path_in dir name)))
 
--- The names are exactly those of the files directly in the directory.
-abbrev pub AreNamesIn : FilesAt → List ℕ → List (List ℕ) → Type 0
-AreNamesIn files dir names =
-    (name : List ℕ) → (Contains names name) ↔ (IsName name × IsSome (files (path_in dir name)))
-
--- All that is known of a disk: a file holds its bytes and no others, a directory lists its files,
--- and each path without a file fails.
-abbrev pub known_of : FilesAt → Known
-known_of files = record {
-  holds = λ path bytes. files path ≡ Some bytes;
-  lists = λ dir names. AreNamesIn files dir names;
-  fails = λ path. files path ≡ None;
+-- The results that calls on a disk may have. A file holds its bytes and no others, a directory
+-- lists its files, and each path without a file fails.
+abbrev pub known_of : Disk → Known
+known_of disk = record {
+  holds = λ path bytes. file_at disk path ≡ Some bytes;
+  lists = λ dir names. AreNamesIn disk dir names;
+  fails = λ path. file_at disk path ≡ None;
 }

@@ -2,7 +2,7 @@
 
 ghost use Rattle.std.specs.Prelude.{◌≡◌, ◌≢◌, ℕ, List, Some, None, OnOk, IfSome, IfNone};
 ghost use Rattle.jt_program.specs.Files.{path_in};
-ghost use Rattle.jt_disk.specs.Disk.{FilesAt, IsName, file_at, known_of};
+ghost use Rattle.jt_disk.specs.Disk.{IsName, file_at, known_of};
 
 use jt_program::{FileError, Files};
 use std::alloc::{AllocError, Global};
@@ -59,9 +59,9 @@ fn name_in<'a>(dir: &str, path: &'a str) -> Option<&'a str>
 }
 
 impl Files for Disk {
-    ghost Contents = { FilesAt };
+    ghost Contents = { Disk };
 
-    ghost contents = { file_at };
+    ghost contents = { λ disk. disk };
 
     ghost known = { known_of };
 

@@ -35,13 +35,13 @@ pub fn performed<W: Sink, E: Sink>(
         → file_at disk.new path ≡ file_at disk.old path }
     ensures kept { ¬ Asks (codes "compile") (texts words.now)
         → ¬ Asks (codes "upgrade") (texts words.now)
-        → file_at disk.new ≡ file_at disk.old }
+        → disk.new ≡ disk.old }
     // Unless the status is 2 or 6, it and both outputs report how the command of the line ended on
     // this disk.
     ensures ends { result ≢ 2
         → result ≢ 6
         → (e : Ending)
-        × Answers (known_of (file_at disk.old)) (known_of (file_at disk.new))
+        × Answers (known_of disk.old) (known_of disk.new)
         (subcommand_of program_app (texts words.now)) e
         × Prints (W.taken out.old) (W.taken out.new) (W.failed out.new) e result
         × Explains (E.taken errors.old) (E.taken errors.new) (E.failed errors.new) e result }

@@ -1,5 +1,5 @@
 //! Runs images in turns.
-ghost use Rattle.std.specs.Prelude.{◌++◌, ◌∷◌, [], List, IfOk, IfErr, OnOk};
+ghost use Rattle.std.specs.Prelude.{◌≡◌, ◌++◌, ◌∷◌, [], List, IfOk, IfErr, OnOk};
 ghost use Rattle.jt_args.specs.declared.Pair.{Pair as LinePair};
 ghost use Rattle.jt_turns.specs.Worlds.{world_of};
 ghost use Rattle.jt_program.specs.Commands.{AreOpen, IsNoStart, IsNotOpened, IsStart, TakesTurns};

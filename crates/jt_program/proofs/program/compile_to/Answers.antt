@@ -1,9 +1,9 @@
-use Rattle.std.proofs.Common.{◌≡◌, List, inr, rules, string_bytes, subst, ℕ}
+use Rattle.std.proofs.Common.{◌≡◌, List, None, inr, rules, string_bytes, subst, ℕ}
 use Rattle.std.proofs.lemmas.Result.{err_from_is_err_and}
-use Rattle.jt_program.specs.Commands.{HasImage}
+use Rattle.jt_program.specs.Commands.{HasImage, IsPath}
 use Rattle.jt_host.specs.Calls.{IsImage}
 use Rattle.jt_host.specs.Templates.{source_of}
-use Rattle.jt_program.proofs.Endings.{unwritten}
+use Rattle.jt_program.proofs.Endings.{unread_still, unwritten}
 use Rattle.jt_program.proofs.program.compile_to.Goals as goal
 
 pub returns-in_err-write_at-clause-ends : goal.returns-in_err-write_at-clause-ends
@@ -14,7 +14,8 @@ returns-in_err-write_at-clause-ends g c =
     (string_bytes c.args.entry.dir) (string_bytes c.args.entry.name)
     (string_bytes c.args.out) c.args.entry.options
     (source_of c.in_ok-templates.templates) c.in_err-write_at.field-0.0 c.in_ok-templates.ensures.library
-    (rw c.in_ok-templates.ensures.kept at c.in_err-write_at.ensures.err))
+    (unread_still g.F.Files.known _ _ (IsPath (string_bytes c.args.out)) None c.in_err-write_at.field-0.0
+    c.in_ok-templates.ensures.kept c.in_err-write_at.ensures.err))
 
 pub returns-in_err-write_at-clause-touched : goal.returns-in_err-write_at-clause-touched
 returns-in_err-write_at-clause-touched g c =

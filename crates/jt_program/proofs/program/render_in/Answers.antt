@@ -1,7 +1,8 @@
 use Rattle.std.proofs.Common.{inl, string_bytes}
 use Rattle.std.proofs.lemmas.Result.{err_from_is_err_and}
+use Rattle.jt_program.specs.Commands.{IsOfContext}
 use Rattle.jt_program.specs.Files.{IsOfDirectory}
-use Rattle.jt_program.proofs.Endings.{unread_context, unread_more}
+use Rattle.jt_program.proofs.Endings.{unread_context, unread_more, unread_still}
 use Rattle.jt_program.proofs.program.render_in.Goals as goal
 
 pub returns-in_err-templates-clause-ends : goal.returns-in_err-templates-clause-ends
@@ -19,4 +20,5 @@ returns-in_err-context-clause-ends g c =
     let asks = IsOfDirectory files (string_bytes c.args.entry.dir) in
     rw (p.1, p.2)
     (inl (unread_context files asks c.args.context c.in_err-context.field-0.0
-    (rw c.in_ok-templates.ensures.kept at c.in_err-context.ensures.err)))
+    (unread_still g.F.Files.known _ _ (IsOfContext c.args.context) c.args.context c.in_err-context.field-0.0
+    c.in_ok-templates.ensures.kept c.in_err-context.ensures.err)))

@@ -1,7 +1,7 @@
 use Rattle.std.proofs.Common.{inl, string_bytes}
 use Rattle.std.proofs.lemmas.Result.{err_from_is_err_and}
-use Rattle.jt_program.specs.Commands.{IsPath}
-use Rattle.jt_program.proofs.Endings.{unread_context, unread_more}
+use Rattle.jt_program.specs.Commands.{IsOfContext, IsPath}
+use Rattle.jt_program.proofs.Endings.{unread_context, unread_more, unread_still}
 use Rattle.jt_program.proofs.program.run_at.Goals as goal
 
 pub returns-in_err-bytes-clause-ends : goal.returns-in_err-bytes-clause-ends
@@ -18,4 +18,5 @@ returns-in_err-context-clause-ends g c =
     let files = g.F.Files.known (g.F.Files.contents c.args.files.now) in
     let asks = IsPath (string_bytes c.args.image) in
     rw (p.1, p.2) (inl (unread_context files asks c.args.context c.in_err-context.field-0.0
-    (rw c.in_ok-bytes.ensures.kept at c.in_err-context.ensures.err)))
+    (unread_still g.F.Files.known _ _ (IsOfContext c.args.context) c.args.context c.in_err-context.field-0.0
+    c.in_ok-bytes.ensures.kept c.in_err-context.ensures.err)))

@@ -7,7 +7,7 @@ use Rattle.jt_ast.specs.Expressions.{Text}
 use Rattle.jt_program.specs.Commands.{IsPath, IsUnread}
 use Rattle.jt_program.specs.Files.{AreSources, IsLibrary, path_in}
 use Rattle.jt_host.specs.Templates.{source_of}
-use Rattle.jt_program.proofs.Endings.{unread_listed}
+use Rattle.jt_program.proofs.Endings.{unread_listed, unread_still}
 use Rattle.jt_program.proofs.SourceCollection.{listed_between, nil_of, reordered}
 use Rattle.jt_program.proofs.program.templates_in.Goals as goal
 
@@ -69,7 +69,8 @@ returns-in_err-read_into-clause-err g c =
     let there = listed_between listed.0 c.loop-name.yielded left c.in-Some.name order in
     let unread = subst (λ (d : Text).
     IsUnread files (IsPath (path_in d (string_bytes c.in-Some.name))) None (Err c.in_err-read_into.field-0.0)) same_dir
-    (rw c.loop-name.invariant.2 at c.in_err-read_into.ensures.err) in
+    (unread_still g.F.Files.known _ _ (IsPath (path_in c.as_str-in-loop-name.result.now (string_bytes c.in-Some.name)))
+    None c.in_err-read_into.field-0.0 c.loop-name.invariant.2 c.in_err-read_into.ensures.err) in
     rw (p.1, p.2)
     (unread_listed files (string_bytes c.args.dir) listed.0 (string_bytes c.in-Some.name) c.in_err-read_into.field-0.0
     (subst (λ (d : Text). files.lists d listed.0) dir listed.1) there unread)

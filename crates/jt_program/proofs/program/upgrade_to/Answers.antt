@@ -1,8 +1,8 @@
-use Rattle.std.proofs.Common.{◌≡◌, List, inr, rules, string_bytes, subst, ℕ}
+use Rattle.std.proofs.Common.{◌≡◌, List, None, inr, rules, string_bytes, subst, ℕ}
 use Rattle.std.proofs.lemmas.Result.{err_from_is_err_and}
-use Rattle.jt_program.specs.Commands.{HasUpgrade}
+use Rattle.jt_program.specs.Commands.{HasUpgrade, IsPath}
 use Rattle.jt_host.specs.Calls.{IsUpgraded}
-use Rattle.jt_program.proofs.Endings.{not_rewritten}
+use Rattle.jt_program.proofs.Endings.{not_rewritten, unread_still}
 use Rattle.jt_program.proofs.program.upgrade_to.Goals as goal
 
 pub returns-in_err-write_at-clause-ends : goal.returns-in_err-write_at-clause-ends
@@ -12,7 +12,8 @@ returns-in_err-write_at-clause-ends g c =
     rw (p.1, p.2) (not_rewritten files (g.F.Files.known (g.F.Files.contents c.write_at.new.files))
     (string_bytes c.args.image) (string_bytes c.args.out) c.in_ok-bytes.bytes.items
     c.in_err-write_at.field-0.0 c.in_ok-bytes.ensures.held
-    (rw c.in_ok-bytes.ensures.kept at c.in_err-write_at.ensures.err))
+    (unread_still g.F.Files.known _ _ (IsPath (string_bytes c.args.out)) None c.in_err-write_at.field-0.0
+    c.in_ok-bytes.ensures.kept c.in_err-write_at.ensures.err))
 
 pub returns-in_err-write_at-clause-touched : goal.returns-in_err-write_at-clause-touched
 returns-in_err-write_at-clause-touched g c =

@@ -1,7 +1,9 @@
-use Rattle.std.proofs.Common.{◌≡◌, List, inl, inr, rules, subst, ℕ}
+use Rattle.std.proofs.Common.{◌≡◌, List, Some, inl, inr, rules, subst, ℕ}
 use Rattle.std.proofs.lemmas.Result.{err_from_is_err_and}
 use Rattle.jt_host.specs.Calls.{IsNoImage}
 use Rattle.jt_value.specs.ContextView.{pairs_of}
+use Rattle.jt_program.specs.Commands.{IsOfContext}
+use Rattle.jt_program.proofs.Endings.{unread_still}
 use Rattle.jt_program.proofs.turns.start_at.Goals as goal
 
 pub returns-in_err-bytes-clause-err : goal.returns-in_err-bytes-clause-err
@@ -12,7 +14,9 @@ returns-in_err-bytes-clause-err g c =
 pub returns-in_err-context-clause-err : goal.returns-in_err-context-clause-err
 returns-in_err-context-clause-err g c =
     let p = err_from_is_err_and c.from_residual-in_err-context.result c.from_residual-in_err-context.ensures.1 in
-    let unread = rw c.in_ok-bytes.ensures.kept at c.in_err-context.ensures.err in
+    let unread =
+    unread_still g.F.Files.known _ _ (IsOfContext (Some c.args.pair.context)) (Some c.args.pair.context)
+    c.in_err-context.field-0.0 c.in_ok-bytes.ensures.kept c.in_err-context.ensures.err in
     rw (p.1, p.2) (inr (c.in_ok-bytes.bytes.items, c.in_ok-bytes.ensures.held, inl unread))
 
 pub returns-in_err-code-clause-err : goal.returns-in_err-code-clause-err
