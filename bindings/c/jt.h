@@ -58,8 +58,7 @@
  * - The fields of a handle are neither changed nor copied to a second handle in use.
  * - No call is made in a signal handler, or in a child that a process with threads has forked.
  * - The stack has 512 KiB left. This is measured (bindings/c/stack.c) and not proved: a template of
- *   97 nested loops, among the deepest that are accepted, took 256 KiB, and a run 96. The filters of
- *   a `filter` tag are the one form without such a bound: 30,000 of them took 8 MiB. */
+ *   97 nested loops, among the deepest that are accepted, took 256 KiB, and a run 96. */
 #ifndef JT_H
 #define JT_H
 

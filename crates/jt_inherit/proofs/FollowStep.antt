@@ -154,7 +154,7 @@ pub met_turn : (P : Need → Type 0) (ns : List NeededTemplate) (k : ℕ) (d : N
     → AllByRecursion P (needs_view (take (k + 1) ns))
 met_turn P ns k d lt a p =
     subst (λ (l : List NeededTemplate). AllByRecursion P (needs_view l)) (sym (take_more ns k d lt))
-        (more (take k ns) a)
+    (more (take k ns) a)
   where
     more : (ms : List NeededTemplate) → AllByRecursion P (needs_view ms)
         → AllByRecursion P (needs_view (ms ++ get_or ns k d ∷ []))

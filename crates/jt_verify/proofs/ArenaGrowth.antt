@@ -152,8 +152,13 @@ module _ (ns : List Node) (ls : List ℕ) (a : IsArena ns ls) (q k : ℕ) (z : g
 
   pub linked_here : get_or linked q 0 ≡ k
   linked_here =
-      get_or-set_same (ls ++ 0 ∷ 0 ∷ 0 ∷ []) q k 0 (omega (arith, l, a.links.indices, length-append ls
-      (0 ∷ 0 ∷ 0 ∷ [])))
+      get_or-set_same (ls ++ 0 ∷ 0 ∷ 0 ∷ []) q k 0 (omega (
+        arith,
+        l,
+        a.links.indices,
+        length-append ls
+            (0 ∷ 0 ∷ 0 ∷ []),
+      ))
 
   pub linked_there : (p : ℕ) → p ≢ q → get_or linked p 0 ≡ get_or ls p 0
   linked_there p d = get_or-set_other (ls ++ 0 ∷ 0 ∷ 0 ∷ []) q p k 0 d ∙ padded ls p

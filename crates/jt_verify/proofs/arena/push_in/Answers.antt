@@ -27,9 +27,13 @@ jump_on-jump-requires-clause-jumps c = rw c.as_slice-in-Vacant.ensures c.require
 
 pub add-requires : goal.add-requires
 add-requires c =
-    omega
-    (arith, c.in-Vacant.ensures.1, c.requires.arena.links.indices, ap (λ (ns : List Node). length ns)
-    c.as_slice.ensures)
+    omega (
+      arith,
+      c.in-Vacant.ensures.1,
+      c.requires.arena.links.indices,
+      ap (λ (ns : List Node). length ns)
+          c.as_slice.ensures,
+    )
 
 pub returns-in_err-node-in-Vacant-clause-arena : goal.returns-in_err-node-in-Vacant-clause-arena
 returns-in_err-node-in-Vacant-clause-arena c =

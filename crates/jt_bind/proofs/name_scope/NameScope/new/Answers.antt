@@ -15,7 +15,7 @@ invariant_of-result c =
     record {
       indexed =
           λ x. sym (at_drop_all (λ (z : List (Bor Text)). last_among x (texts z) l.local (index_in l.index.indices x))
-              ks
+          ks
           l.name-index (omega arith))
           ∙ l.invariant x
           ∙ ap (λ (z : List (Bor Text)). last_among x (texts z) c.args.first None) c.deref-name-items.ensures.value;

@@ -1,4 +1,4 @@
-use Rattle.std.proofs.Common.{◌≡◌, ℕ, List, map, take, sym, ap, ◌∙◌, subst, Option, None, arith, rules}
+use Rattle.std.proofs.Common.{◌≡◌, ℕ, List, [], map, take, sym, ap, ◌∙◌, subst, Option, None, Some, arith, rules}
 use Rattle.std.specs.Prelude.{option_map}
 use Rattle.std.proofs.lemmas.List.{take_at, take-map}
 use Rattle.jt_value.specs.Tree.{Tree}
@@ -10,10 +10,11 @@ use Rattle.jt_ast.specs.Expressions.{Text}
 use Rattle.jt_ast.specs.StatementView.{filter_call_view}
 use Rattle.jt_ir.specs.Pool.{expr_values}
 use Rattle.jt_eval.specs.TheFilters as the
-use Rattle.jt_ir.specs.View.{expr_view, filters_after}
+use Rattle.jt_ir.specs.Slots as slots
+use Rattle.jt_ir.specs.View.{expr_view, filter_after, filters_after}
 use Rattle.jt_ir.specs.declared.program.SlotFilter.{SlotFilter}
 use Rattle.jt_ir.proofs.ExpressionViews.{filters_push}
-use Rattle.jt_bind.specs.internal.Scoped.{values, IsPlaced, cenv_in, filtered_in}
+use Rattle.jt_bind.specs.internal.Scoped.{values, IsPlaced, RowLeads, cenv_in, filter_row_in, filtered_in}
 use Rattle.jt_bind.proofs.FilterIds.{named_is}
 use Rattle.jt_bind.proofs.FilterTags.{filter_placed}
 use Rattle.jt_bind.proofs.resolver.Resolver.resolve_filter_call.Goals as goal
@@ -45,4 +46,33 @@ returns-in_default c = λ k p n h.
     subst P (sym named) (subst Q cut (subst R (sym c.clear.ensures.items) (c.absent.ensures p)))
 
 pub returns : goal.returns
-returns c = search (arith, rules, written_as, named_is, filter_placed, filters_push)
+returns c = λ k p n h.
+    let s = c.args.self.now.tables.now in
+    let senv = c.args.self.now.senv in
+    let f = filter_call_view c.args.filter_call.now in
+    let value = expr_view c.args.done.now.value in
+    let before = values c.args.pool.now in
+    let after = values c.resolve_filter_row.new.pool in
+    let added = c.resolve_filter_row.new.done in
+    let number = filter_id c.in-Some.filter in
+    let row : exprs_view c.as_slice-row.result.now ≡ f.arguments = ap exprs_view c.as_slice-row.ensures.value in
+    let pairs : pairs_view c.as_slice-pairs.result.now ≡ f.keywords = ap pairs_view c.as_slice-pairs.ensures.value in
+    let written = written_as c.as_str.ensures.value row pairs in
+    let named : (cenv_in s).filters.named f.name f.arguments f.keywords ≡ Some number =
+    named_is f.name f.arguments f.keywords
+    ∙ ap (option_map filter_id) (sym written ∙ sym c.filter_of.ensures ∙ c.in-Some.is) in
+    let R : trees.Exprs → trees.Pairs → Type 0 = λ ts ps.
+    RowLeads (filter_row_in s (Some number) ts ps senv) slots.none [] added.items before after in
+    let led : R f.arguments f.keywords =
+    subst (R f.arguments) pairs (subst (λ ts. R ts (pairs_view c.as_slice-pairs.result.now)) row
+    (rw (← c.new-given.ensures.items) c.in_ok-resolve_filter_row.ensures)) in
+    let last : SlotFilter = record { filter = c.in-Some.filter; escaping = senv.escaping; row = added } in
+    let P : Option ℕ → Type 0 = λ o. IsPlaced (filtered_in s o k f.arguments f.keywords senv)
+    (filters_after c.push.new.self.items value) p after in
+    let Q : slots.SlotExpr ℕ → Type 0 = λ e. IsPlaced (filtered_in s (Some number) k f.arguments f.keywords senv) e p
+    after in
+    let pushed : filters_after c.push.new.self.items value
+    ≡ filter_after last (filters_after c.args.done.now.filters.items value) =
+    ap (λ fs. filters_after fs value) c.in_ok-push.ensures.items
+    ∙ filters_push c.args.done.now.filters.items last value in
+    subst P (sym named) (subst Q (sym pushed) (filter_placed _ k _ _ added.items p before after h led))
