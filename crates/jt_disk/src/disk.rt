@@ -59,6 +59,8 @@ fn name_in<'a>(dir: &str, path: &'a str) -> Option<&'a str>
 }
 
 impl Files for Disk {
+    ghost use Rattle.jt_disk.specs.declared.disk.Disk.{Disk};
+
     ghost Contents = { Disk };
 
     ghost contents = { λ disk. disk };
