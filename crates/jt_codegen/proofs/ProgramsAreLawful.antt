@@ -35,7 +35,7 @@ use Rattle.jt_rules.specs.CompileEnv.{CompileEnv}
 use Rattle.jt_semantics.specs.Expressions.{filter_parameters}
 use Rattle.jt_semantics.specs.Layout.{Table, slot_in, globals_from, in_globals, defaults_of, first_default, names_in}
 use Rattle.jt_semantics.specs.Layout.{names, first_in, numbered_bodies, numbered_of, globals, block_parameters, shared}
-use Rattle.jt_semantics.specs.Layout.{default_in, default_place, first_slot, unit, of_chain}
+use Rattle.jt_semantics.specs.Layout.{default_in, default_index, first_slot, unit, of_chain}
 use Rattle.jt_semantics.specs.Meaning.{is_set}
 use Rattle.jt_semantics.specs.Programs.{body_routines, entry_routines, chain_routines, routines, count_globals, program}
 use Rattle.jt_ir.specs.Slots as slots
@@ -206,7 +206,7 @@ module _ (front globals_count : ℕ) (some : 0 < front) where
       (few : (h : Namespace) → first_slot cenv order h + length (names cenv order h) ≤ globals_count)
       (laid : (h : Namespace) → listed h order ≡ true → (f : Expr) (k : Namespace) (m : MacroBody)
       → callee cenv.sources (given cenv.sources h) f ≡ a_macro k m
-      → default_place cenv order k m.name + length m.parameters ≤ front) where
+      → default_index cenv order k m.name + length m.parameters ≤ front) where
     body_fined : (h : Namespace) (on : Bool) (i : Option ℕ) (es : SRow Constant) → R es
         → E (invoked_body cenv order h on i es)
     body_fined h on None es k = tt
@@ -512,7 +512,7 @@ module _ (cenv : CompileEnv) (order : List Namespace) where
 
   laid_defaults : InOrder cenv.sources order → (h : Namespace) → listed h order ≡ true
       → (f : Expr) (k : Namespace) (m : MacroBody) → callee cenv.sources (given cenv.sources h) f ≡ a_macro k m
-      → default_place cenv order k m.name + length m.parameters ≤ front_count
+      → default_index cenv order k m.name + length m.parameters ≤ front_count
   laid_defaults ordered h i f k m e =
       let ms = macros cenv.sources k in
       let r = called_macro cenv.sources h f k m e in
