@@ -1,0 +1,4 @@
+pub mod CutCorrect
+pub mod EscapedTextCorrect
+pub mod NumberedLines
+pub mod TargetsFound

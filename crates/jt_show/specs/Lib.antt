@@ -1,0 +1,4 @@
+pub mod Quoted
+pub mod Words
+pub mod Instructions
+pub mod Listing
