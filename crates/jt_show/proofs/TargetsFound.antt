@@ -1,11 +1,13 @@
 -- The points to which the instructions so far may jump are marked.
 use Rattle.std.proofs.Common.{◌≡◌, ◌≢◌, ◌<◌, ℕ, Bool, true, false, eqb, List, Option, Some, None, length, get_or, set}
-use Rattle.std.proofs.Common.{refl, sym, ap, subst, ◌∙◌, arith, inl, inr}
+use Rattle.std.proofs.Common.{refl, sym, ap, subst, ◌∙◌, ◌+◌, arith, inl, inr, drop}
 use Rattle.std.proofs.lemmas.List.{get_or-set_other, get_or-set_same}
-use Rattle.std.specs.Prelude.{◌||◌}
+use Rattle.std.specs.Prelude.{◌||◌, slice_get}
 use Rattle.std.proofs.lemmas.Bool.{cases_order}
 use Rattle.std.proofs.lemmas.Bool.Decides.{nat_tests}
-use Rattle.jt_show.specs.Listing.{is_point}
+use Rattle.jt_image.specs.declared.instruction.Instruction.{Instruction}
+use Rattle.jt_show.specs.Listing.{is_point, is_target, target_of}
+use Rattle.jt_show.proofs.NumberedLines.{drop_get}
 
 -- The marks with that of one more point.
 abbrev pub marked : List Bool → Option ℕ → List Bool
@@ -43,3 +45,13 @@ marks_more marks (Some target) point rest all inside same = elim (cases_order ta
       (ap (λ (b : Bool). get_or marks point false || (b || rest)) (sym (elsewhere point target (λ e. ne (sym e))))
       ∙ same)
 ]
+
+-- The mark of the next instruction's target takes the place of the instruction.
+pub marked_next : (code : List Instruction) (i : ℕ) (x : Instruction) (o : Option ℕ) (marks new : List Bool)
+    (point : ℕ) → Some x ≡ slice_get code i → o ≡ target_of x → new ≡ marked marks o → point < length marks
+    → (get_or marks point false || is_target (drop i code) point) ≡ is_target code point
+    → (get_or new point false || is_target (drop (i + 1) code) point) ≡ is_target code point
+marked_next code i x o marks new point is leads put inside same =
+    rw put (marks_more marks o point (is_target (drop (i + 1) code) point) (is_target code point) inside
+    (rw leads (ap (λ (l : List Instruction). get_or marks point false || is_target l point) (sym (drop_get code i x is))
+    ∙ same)))

@@ -1,6 +1,6 @@
 -- Texts as a listing shows them: in quotation marks, with escapes, and long texts cut.
-use Rattle.std.specs.Prelude.{ℕ, zero, suc, ◌==◌, ◌||◌, Bool, List, [], ◌∷◌, ◌++◌, length, take, flat_map, codes}
-use Rattle.std.specs.Prelude.{nat_le, slice_index, if◌then◌else◌}
+use Rattle.std.specs.Prelude.{ℕ, zero, suc, ◌==◌, ◌||◌, Bool, false, List, [], ◌∷◌, ◌++◌, length, take, flat_map}
+use Rattle.std.specs.Prelude.{codes, nat_le, slice_index, if◌then◌else◌}
 use Rattle.std.specs.Char.{is_ascii_control}
 use Rattle.std.specs.Fmt.{decimal, digits, is_char_start}
 

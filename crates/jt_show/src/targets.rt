@@ -31,8 +31,8 @@ pub(crate) fn jump_targets(
 }
 
 /// Sets the mark of a point, if the point exists.
-fn mark(found: &mut [bool], point: u32)
-    ensures { found.new ≡ slice_set found.old point true }
+fn mark(found: &mut Vec<bool>, point: u32)
+    ensures { found.new.items ≡ slice_set found.old.items point true }
 {
     let point = point as usize;
     if point < found.len() {
