@@ -1,11 +1,13 @@
 -- An instruction as a listing shows it: its name and its operands.
-use Rattle.std.specs.Prelude.{ℕ, List, [], ◌++◌, Option, Some, None, codes, option_map, slice_get}
+use Rattle.std.specs.Prelude.{ℕ, ◌==◌, List, [], ◌∷◌, ◌++◌, Option, Some, None, codes, nat_lt, option_map, slice_get}
+use Rattle.std.specs.Prelude.{if◌then◌else◌}
 use Rattle.std.specs.Fmt.{decimal}
 use Rattle.jt_ids.specs.LoopTable.{field_of}
-use Rattle.jt_image.specs.Code.{Code}
+use Rattle.jt_image.specs.Code.{Name, Code}
 use Rattle.jt_image.specs.Ids.{operator_of, filter_of, test_of}
 use Rattle.jt_image.specs.declared.instruction.Instruction.{Instruction}
 use Rattle.jt_image.specs.declared.instruction.Instruction.TheVariants as op
+use Rattle.jt_show.specs.Quoted.{quoted}
 use Rattle.jt_show.specs.Words.{operator_word, filter_word, test_word, field_word, constant_text}
 use Rattle.jt_show.specs.Words.{emit_word, capture_word}
 
@@ -53,13 +55,22 @@ worded n (Some word) = codes " " ++ (decimal n ++ (codes " (" ++ (word ++ codes 
 abbrev pub label : ℕ → List ℕ
 label point = codes "L" ++ decimal point
 
+-- The name of a slot, if it has one.
+abbrev pub name_of_slot : List Name → ℕ → Option (List ℕ)
+name_of_slot [] slot = None
+name_of_slot (name ∷ names) slot = if name.slot == slot then Some name.text else name_of_slot names slot
+
+-- The name of a global, if the global exists and has a name.
+abbrev pub global_name : Code → ℕ → Option (List ℕ)
+global_name k slot = if nat_lt slot k.globals then name_of_slot k.names slot else None
+
 -- The operands of an instruction.
 abbrev pub operands : Code → Instruction → List ℕ
 operands k (op.Const c) = worded c (option_map constant_text (slice_get k.constants c))
 operands k (op.Load c) = number_text c
 operands k (op.Store c) = number_text c
-operands k (op.GLoad c) = number_text c
-operands k (op.GStore c) = number_text c
+operands k (op.GLoad c) = worded c (option_map quoted (global_name k c))
+operands k (op.GStore c) = worded c (option_map quoted (global_name k c))
 operands k op.Drop = []
 operands k op.Dup = []
 operands k (op.Emit a) = worded a (emit_word a)

@@ -2,3 +2,4 @@ pub mod Quoted
 pub mod Words
 pub mod Instructions
 pub mod Listing
+pub mod internal

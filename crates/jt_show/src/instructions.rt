@@ -8,6 +8,7 @@ ghost use Rattle.jt_show.specs.Quoted.{quoted};
 ghost use Rattle.jt_show.specs.Words.{constant_text, field_word, filter_word, test_word};
 ghost use Rattle.jt_show.specs.Instructions.{instruction_name, instruction_text, label};
 ghost use Rattle.jt_show.specs.Instructions.{number_text, operands, worded};
+ghost use Rattle.jt_show.specs.internal.SlotNames.{AreNames, named_at};
 
 use crate::quoting::put_quoted;
 use crate::words::{capture_word, emit_word, field_word, filter_word, operator_word, test_word};
@@ -18,14 +19,16 @@ use std::fmt::Write;
 /// Appends an instruction.
 pub(crate) fn put_instruction<C: Code>(
     code: &C,
+    slots: &[Option<&str>],
     instruction: Instruction,
     out: &mut String,
 ) -> Result<(), AllocError>
+    requires { AreNames (C.code code.now) slots.now }
     ensures { OnOk result (string_bytes out.new
         ≡ string_bytes out.old ++ instruction_text (C.code code.now) instruction) }
 {
     out.push_str(name_of(instruction))?;
-    put_operands(code, instruction, out)
+    put_operands(code, slots, instruction, out)
 }
 
 /// Returns the name of an instruction.
@@ -67,9 +70,11 @@ fn name_of(instruction: Instruction) -> &'static str
 /// Appends the operands of an instruction.
 fn put_operands<C: Code>(
     code: &C,
+    slots: &[Option<&str>],
     instruction: Instruction,
     out: &mut String,
 ) -> Result<(), AllocError>
+    requires { AreNames (C.code code.now) slots.now }
     ensures { OnOk result (string_bytes out.new
         ≡ string_bytes out.old ++ operands (C.code code.now) instruction) }
 {
@@ -77,8 +82,8 @@ fn put_operands<C: Code>(
         Instruction::Const { constant } => put_constant_of(code, constant, out),
         Instruction::Load { local } => put_number(local, out),
         Instruction::Store { local } => put_number(local, out),
-        Instruction::GLoad { global } => put_number(global, out),
-        Instruction::GStore { global } => put_number(global, out),
+        Instruction::GLoad { global } => put_global(slots, global, out),
+        Instruction::GStore { global } => put_global(slots, global, out),
         Instruction::Drop => Ok(()),
         Instruction::Dup => Ok(()),
         Instruction::Emit { flag } => put_worded(flag, emit_word(flag), out),
@@ -163,6 +168,38 @@ fn put_field(field: u8, above: u32, out: &mut String) -> Result<(), AllocError>
 {
     put_worded(field, field_word(field), out)?;
     write!(out, ", above {above}")
+}
+
+/// Appends the slot of a global, and in parentheses its name if it has one.
+fn put_global(slots: &[Option<&str>], global: u32, out: &mut String) -> Result<(), AllocError>
+    ensures { OnOk result (string_bytes out.new ≡ string_bytes out.old
+        ++ worded global (option_map quoted (named_at slots.now global))) }
+{
+    put_number(global, out)?;
+    match name_at(slots, global as usize) {
+        Some(name) => put_name_of(name, out),
+        None => Ok(()),
+    }
+}
+
+/// Returns the name of a slot in a table.
+fn name_at<'a>(slots: &[Option<&'a str>], slot: usize) -> Option<&'a str>
+    ensures { option_map (λ name. name.now) result ≡ named_at slots.now slot }
+{
+    match slots.get(slot) {
+        Some(name) => *name,
+        None => None,
+    }
+}
+
+/// Appends a name in parentheses.
+fn put_name_of(name: &str, out: &mut String) -> Result<(), AllocError>
+    ensures { OnOk result (string_bytes out.new
+        ≡ string_bytes out.old ++ (codes " (" ++ (quoted name.now ++ codes ")"))) }
+{
+    out.push_str(" (")?;
+    put_quoted(name, out)?;
+    out.push_str(")")
 }
 
 /// Appends the place of a constant, and in parentheses the constant if it exists.

@@ -33,6 +33,7 @@ mod instructions;
 mod places;
 mod quoting;
 mod show;
+mod slots;
 mod tables;
 mod targets;
 mod units;

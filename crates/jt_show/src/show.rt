@@ -2,6 +2,7 @@
 ghost use Rattle.std.specs.Prelude.{◌≡◌, IfOk, string_bytes};
 ghost use Rattle.jt_show.specs.Listing as lines;
 
+use crate::slots::slot_names;
 use crate::tables::{put_constants, put_globals, version_line};
 use crate::units::put_units;
 use jt_image::Code;
@@ -20,6 +21,7 @@ pub fn listing<C: Code>(alloc: Global, code: &C) -> Result<String, NoMemory>
     out.push_str(version_line(code.version()))?;
     put_globals(code, &mut out)?;
     put_constants(code, &mut out)?;
-    put_units(alloc, code, &mut out)?;
+    let slots = slot_names(alloc, code)?;
+    put_units(alloc, code, &slots, &mut out)?;
     Ok(out)
 }

@@ -5,6 +5,7 @@ ghost use Rattle.jt_image.specs.Code.{Section};
 ghost use Rattle.jt_image.specs.Readers.{header_of};
 ghost use Rattle.jt_show.specs.Listing.{instruction_line, is_target, label_line, numbered};
 ghost use Rattle.jt_show.specs.Listing.{point_text, unit_line, unit_text};
+ghost use Rattle.jt_show.specs.internal.SlotNames.{AreNames};
 
 use crate::instructions::put_instruction;
 use crate::places::put_place_line;
@@ -17,13 +18,15 @@ use std::fmt::Write;
 pub(crate) fn put_units<C: Code>(
     alloc: Global,
     code: &C,
+    slots: &[Option<&str>],
     out: &mut String,
 ) -> Result<(), AllocError>
+    requires { AreNames (C.code code.now) slots.now }
     ensures { OnOk result (string_bytes out.new ≡ string_bytes out.old
         ++ numbered (unit_text (C.code code.now)) 0 (C.code code.now).units) }
 {
     'units: for unit in 0..code.units() {
-        put_unit(alloc, code, unit, out)?;
+        put_unit(alloc, code, slots, unit, out)?;
     }
     Ok(())
 }
@@ -32,9 +35,11 @@ pub(crate) fn put_units<C: Code>(
 fn put_unit<C: Code>(
     alloc: Global,
     code: &C,
+    slots: &[Option<&str>],
     unit: usize,
     out: &mut String,
 ) -> Result<(), AllocError>
+    requires { AreNames (C.code code.now) slots.now }
     ensures { (section : Section) → slice_get (C.code code.now).units unit ≡ Some section
         → OnOk result (string_bytes out.new
         ≡ string_bytes out.old ++ unit_text (C.code code.now) unit section) }
@@ -47,7 +52,12 @@ fn put_unit<C: Code>(
     };
     put_unit_line(unit, header, out)?;
     let targets = jump_targets(alloc, &instructions, header.instructions)?;
-    put_points(code, unit, &instructions, &targets, out)
+    let points = Points {
+        unit,
+        instructions,
+        targets,
+    };
+    put_points(code, slots, &points, out)
 }
 
 /// Appends the line of a unit.
@@ -65,28 +75,38 @@ fn put_unit_line(unit: usize, header: UnitHeader, out: &mut String) -> Result<()
     )
 }
 
-/// Appends the lines of the instructions of a unit. `targets` states for each point whether some
-/// instruction may jump there.
+/// The instructions of a unit, with the number of the unit.
+#[derive(Drop)]
+struct Points<'a> {
+    unit: usize,
+    instructions: UnitCode<'a>,
+    /// For each point whether some instruction may jump there.
+    targets: Vec<bool>,
+}
+
+/// Appends the lines of the instructions of a unit.
 fn put_points<C: Code>(
     code: &C,
-    unit: usize,
-    instructions: &UnitCode<'_>,
-    targets: &[bool],
+    slots: &[Option<&str>],
+    points: &Points<'_>,
     out: &mut String,
 ) -> Result<(), AllocError>
-    requires len { length targets.now ≡ length instructions.now }
-    requires each { (point : ℕ) → point < length targets.now
-        → slice_index_or targets.now point false ≡ is_target instructions.now point }
+    requires names { AreNames (C.code code.now) slots.now }
+    requires len { length points.now.targets.items ≡ length points.now.instructions }
+    requires each { (point : ℕ) → point < length points.now.targets.items
+        → slice_index_or points.now.targets.items point false
+        ≡ is_target points.now.instructions point }
     ensures { OnOk result (string_bytes out.new ≡ string_bytes out.old
-        ++ numbered (point_text (C.code code.now) unit instructions.now) 0 instructions.now) }
+        ++ numbered (point_text (C.code code.now) points.now.unit points.now.instructions) 0
+        points.now.instructions) }
 {
-    'points: for point in 0..targets.len() {
-        let Some(instruction) = instructions.get(point) else {
+    'points: for point in 0..points.targets.len() {
+        let Some(instruction) = points.instructions.get(point) else {
             unreachable!()
         };
-        put_place_line(code, unit, point, out)?;
-        put_label_line(targets[point], point, out)?;
-        put_instruction_line(code, point, instruction, out)?;
+        put_place_line(code, points.unit, point, out)?;
+        put_label_line(points.targets[point], point, out)?;
+        put_instruction_line(code, slots, point, instruction, out)?;
     }
     Ok(())
 }
@@ -104,14 +124,16 @@ fn put_label_line(target: bool, point: usize, out: &mut String) -> Result<(), Al
 /// Appends the line of an instruction.
 fn put_instruction_line<C: Code>(
     code: &C,
+    slots: &[Option<&str>],
     point: usize,
     instruction: Instruction,
     out: &mut String,
 ) -> Result<(), AllocError>
+    requires { AreNames (C.code code.now) slots.now }
     ensures { OnOk result (string_bytes out.new
         ≡ string_bytes out.old ++ instruction_line (C.code code.now) point instruction) }
 {
     write!(out, "  {point}\t")?;
-    put_instruction(code, instruction, out)?;
+    put_instruction(code, slots, instruction, out)?;
     out.push_str("\n")
 }

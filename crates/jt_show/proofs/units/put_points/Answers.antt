@@ -8,7 +8,7 @@ pub points-preserved : goal.points-preserved
 points-preserved g c =
     let k = g.C.Code.code c.args.code.now in
     let point = c.points.point in
-    numbered_next (point_text k c.args.unit c.args.instructions.now) c.args.instructions.now point c.in-Some.instruction
+    numbered_next (point_text k c.args.points.now.unit c.args.points.now.instructions) c.args.points.now.instructions point c.in-Some.instruction
     _ _ _ c.in-Some.ensures
     (search (
       arith,
@@ -23,5 +23,5 @@ points-preserved g c =
 pub returns : goal.returns
 returns g c =
     let k = g.C.Code.code c.args.code.now in
-    numbered_end (point_text k c.args.unit c.args.instructions.now) c.args.instructions.now c.points.point _ _
+    numbered_end (point_text k c.args.points.now.unit c.args.points.now.instructions) c.args.points.now.instructions c.points.point _ _
     (omega (arith, c.requires.len)) c.points.invariant

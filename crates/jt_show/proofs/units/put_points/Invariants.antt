@@ -6,6 +6,6 @@ use Rattle.jt_show.proofs.units.put_points.Given as goal
 abbrev pub invariant-points : goal.invariant-points
 invariant-points g l =
     string_bytes l.out
-    ++ numbered (point_text (g.C.Code.code l.code) l.unit l.instructions) l.point (drop l.point l.instructions)
+    ++ numbered (point_text (g.C.Code.code l.code) l.points.unit l.points.instructions) l.point (drop l.point l.points.instructions)
     ≡ string_bytes l.initial.out
-    ++ numbered (point_text (g.C.Code.code l.code) l.unit l.instructions) 0 l.instructions
+    ++ numbered (point_text (g.C.Code.code l.code) l.points.unit l.points.instructions) 0 l.points.instructions
