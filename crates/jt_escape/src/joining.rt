@@ -1,6 +1,6 @@
 //! Joins values by the rule of the filter `join`.
-ghost use Rattle.std.specs.Prelude.{◌≡◌, ◌++◌, Bool, IfErr, IfOk, IsOk, IsSome, OnOk, if◌then◌else◌};
-ghost use Rattle.std.specs.Prelude.{option_map, string_bytes};
+ghost use Rattle.std.specs.Prelude.{◌≡◌, ◌++◌, Bool, IfErr, IfOk, IsOk, IsSome, OnOk};
+ghost use Rattle.std.specs.Prelude.{if◌then◌else◌, option_map, string_bytes};
 ghost use Rattle.std.specs.List.{join_by};
 ghost use Rattle.std.specs.Option.{is_some};
 ghost use Rattle.jt_value.specs.Tree.{printed};
