@@ -12,6 +12,7 @@ ghost use Rattle.jt_filters.specs.internal.Rows.{RowFault, IsSought};
 
 use crate::attributes::item_of;
 use crate::building::build;
+use crate::joining::{Separator, join, join_measure};
 use crate::measuring::measure;
 use crate::members::Members;
 use crate::operand::Operand;
@@ -49,6 +50,13 @@ pub(crate) struct InnerCall<'a> {
     pub(crate) arguments: &'a [Value],
 }
 
+/// A separator that is put between the items of each item.
+#[derive(Clone, Copy)]
+pub(crate) struct InnerJoin<'a> {
+    pub(crate) separator: Separator<'a>,
+    pub(crate) autoescape: bool,
+}
+
 /// The action on each item.
 #[derive(Clone, Copy)]
 pub(crate) enum ItemAction<'a> {
@@ -58,6 +66,8 @@ pub(crate) enum ItemAction<'a> {
     Attribute(&'a str),
     /// The result of a filter on the item.
     Filter(InnerCall<'a>),
+    /// The items of the item, joined.
+    Join(InnerJoin<'a>),
 }
 
 impl Predicate<'_> {
@@ -156,6 +166,7 @@ impl<'a> ItemAction<'a> {
                 call.arguments,
                 call.autoescape,
             ),
+            ItemAction::Join(call) => join_measure(item, call.separator, call.autoescape),
         }
     }
 
@@ -184,6 +195,7 @@ impl<'a> ItemAction<'a> {
             ItemAction::Filter(call) => {
                 build(alloc, call.filter, item, call.arguments, call.autoescape)?
             },
+            ItemAction::Join(call) => join(alloc, item, call.separator.operand, call.autoescape)?,
         };
         Ok(put(values, value)?)
     }

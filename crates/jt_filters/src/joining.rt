@@ -1,5 +1,5 @@
 //! Filter `join`: the length of its text, and the text.
-ghost use Rattle.std.specs.Prelude.{◌≡◌, ◌&&◌, ◌||◌};
+ghost use Rattle.std.specs.Prelude.{◌≡◌, ◌&&◌, ◌||◌, true, false};
 ghost use Rattle.jt_op_semantics.specs.Testing.{is_markup};
 ghost use Rattle.jt_filters.specs.internal.Operands as operands;
 ghost use Rattle.jt_escape.specs.Joining.{IsAnswer, piece, joined_text};
@@ -18,17 +18,48 @@ use jt_ops::Piece;
 use jt_value::{Fault, Value, ValueError};
 use std::alloc::Global;
 
+/// A separator, with the bytes that it adds between two items: unchanged, and escaped.
+#[derive(Clone, Copy)]
+pub(crate) struct Separator<'a> {
+    pub(crate) operand: Operand<'a>,
+    raw: Result<u64, Fault>,
+    escaped: Result<u64, Fault>,
+    ghost raw_counted: { raw ≡ text_length (piece false (tree_of operand)) },
+    ghost escaped_counted: { escaped ≡ text_length (piece true (tree_of operand)) },
+}
+
+impl<'a> Separator<'a> {
+    /// Returns the separator of this operand. Its length is counted here, once for all joins.
+    pub(crate) fn new(operand: Operand<'a>) -> Separator<'a>
+        ensures { tree_of result.operand ≡ tree_of operand.entry }
+    {
+        Separator {
+            operand,
+            raw: piece_len(operand, false),
+            escaped: piece_len(operand, true),
+        }
+    }
+
+    /// Returns how many bytes the separator adds to a join, at most 2^64 - 1.
+    fn len(self, escaping: bool) -> Result<u64, Fault>
+        ensures { result ≡ text_length (piece escaping (tree_of self.entry.operand)) }
+    {
+        if escaping { self.escaped } else { self.raw }
+    }
+}
+
 /// Returns the measure of filter `join`.
 #[tactic(auto, using(crate::proofs::JoinLengths::joined_measured))]
 pub(crate) fn join_measure(
     operand: Operand<'_>,
-    separator: Operand<'_>,
+    separator: Separator<'_>,
     autoescape: bool,
 ) -> Result<(u64, u32), Fault>
-    ensures { result ≡ measured (joining autoescape separator.entry operand.entry) }
+    ensures { result ≡ measured (joining autoescape separator.entry.operand operand.entry) }
 {
     let items = items_of(operand)?;
-    text_measure(joined_len(items, separator, escapes(items, separator, autoescape)))
+    let escaping = escapes(items, separator.operand, autoescape);
+    text_measure(joined_len(items, separator, escaping))
 }
 
 /// Returns the measure of a text of this length.
@@ -65,11 +96,11 @@ fn has_markup(items: ItemList<'_>) -> bool
 /// Returns the length in bytes of the joined text, at most 2^64 - 1. A fault of the separator comes
 /// before those of the items.
 #[tactic(auto, using(crate::proofs::JoinLengths::joined_lengths))]
-fn joined_len(items: ItemList<'_>, separator: Operand<'_>, escaping: bool) -> Result<u64, Fault>
+fn joined_len(items: ItemList<'_>, separator: Separator<'_>, escaping: bool) -> Result<u64, Fault>
     ensures { result
-        ≡ text_length (joined_text escaping (items_in items.entry) (tree_of separator.entry)) }
+        ≡ text_length (joined_text escaping (items_in items.entry) (tree_of separator.entry.operand)) }
 {
-    let between = piece_len(separator, escaping)?;
+    let between = separator.len(escaping)?;
     match items.split_first() {
         Some((first, behind)) => led_len(piece_len(first, escaping)?, between, behind, escaping),
         None => Ok(0),

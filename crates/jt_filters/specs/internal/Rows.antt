@@ -17,6 +17,8 @@ use Rattle.jt_filters.specs.declared.inner.ItemAction.{ItemAction}
 use Rattle.jt_filters.specs.declared.inner.ItemAction.TheVariants as change
 use Rattle.jt_filter_semantics.specs.Mapping.{alone, if_kept, passing, judged, attribute_or_item}
 use Rattle.jt_filter_semantics.specs.Single.{single}
+use Rattle.jt_ids.specs.declared.filter_id.FilterId.TheVariants as filter
+use Rattle.jt_filters.specs.internal.Operands.{tree_of}
 
 -- The result of a predicate on a value.
 abbrev pub judges : Predicate → Tree → Result Bool Fault
@@ -48,11 +50,13 @@ abbrev pub gives : ItemAction → Tree → Result Items Fault
 gives (change.Keep s) = λ t. if_kept t (kept s t)
 gives (change.Attribute key) = λ t. alone (item_of t (text key.now))
 gives (change.Filter c) = λ t. alone (single c.filter c.autoescape (t ∷ map view c.arguments.now))
+gives (change.Join c) = λ t. alone (single filter.Join c.autoescape (t ∷ tree_of c.separator.operand ∷ []))
 
 abbrev pub Gives : ItemAction → Type 0
 Gives (change.Keep s) = Judges s.predicate
 Gives (change.Attribute key) = Unit {0}
 Gives (change.Filter c) = Unit {0}
+Gives (change.Join c) = Unit {0}
 
 -- Holds if an action keeps items by test `in` with the list of these items.
 abbrev pub IsSought : Items → ItemAction → Type 0
