@@ -193,7 +193,7 @@ LONG = """
 elif: 0 50000 {% if a %}¦{% elif a %}¦{% endif %}
 statements: 0 30000 ¦{% if a %}{% endif %}¦
 filters of a tag: 0 50000 {% filter upper¦|upper¦ %}a{% endfilter %}
-filters of a tag with arguments: 0 20000 {% filter upper¦|default("b", true)|default(default_value="b", boolean=true)¦ %}a{% endfilter %}
+filters of a tag with arguments: 0 15000 {% filter upper¦|default("b", true)|default(default_value="b", boolean=true)¦ %}a{% endfilter %}
 items of a list: 1 1000 {{ [¦a, ¦] }}
 items of lists: 0 1000 {% set x = [¦[a]|length, ¦] %}
 names of set: 1 1000 {% set x¦, x№¦ = a %}
