@@ -160,7 +160,7 @@ RunsAndKeeps image context b held r =
 
 -- ---- outcomes
 
--- A result is held and reported, or that there was no memory to keep it.
+-- A result is held and reported, or lack of memory to keep it is reported.
 abbrev pub ReportsKept : CallResult → Option Local → List ℕ → List ℕ → Answer → Type 0
 ReportsKept r held old new answer =
     ((held ≡ Some (Outcome r)) × Reports r old new answer)
