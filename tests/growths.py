@@ -23,6 +23,7 @@ line is 'N passed, M failed', and the status is 1 if one failed.
 """
 import collections
 import concurrent.futures
+import contextlib
 import json
 import mmap
 import os
@@ -121,9 +122,8 @@ class Room:
 
 def tried_line(program, shim, case, numbers):
     """What is wrong with a line of the program where these growths are refused, and how many of them had no effect."""
-    room = Room(program, shim, case)
     wrong, same = [], 0
-    try:
+    with contextlib.closing(Room(program, shim, case)) as room:
         ample, made, _ = room.run(0)
         for n in numbers:
             answer, left, counts = room.run(n)
@@ -138,22 +138,17 @@ def tried_line(program, shim, case, numbers):
             answer, left, _ = room.run(f"{n}..")
             if answer != NO_MEMORY or left != room.before:
                 wrong.append(f"{case.name}: growth {n} and all later ones: {str(answer)[:200]}, OUT {str(left)[:60]}")
-    finally:
-        room.close()
     return wrong, same
 
 
 def ample_line(program, shim, case):
     """How many growths a line makes with ample memory, and what is wrong with its answer."""
-    room = Room(program, shim, case)
-    try:
+    with contextlib.closing(Room(program, shim, case)) as room:
         ample, made, (growths, _) = room.run(0)
         wrong = [f"{case.name}: {ample[2][:100]} of ample memory"] if ample[0] == 6 or b"no memory" in ample[2] else []
         beyond, left, (_, refused) = room.run(growths + 1)
         if (beyond, left, refused) != (ample, made, 0):
             wrong.append(f"{case.name}: other answers of ample memory")
-    finally:
-        room.close()
     return growths, wrong
 
 
@@ -206,9 +201,8 @@ def judged_call(found, ample):
 
 def tried_calls(trials, shim, stdin, numbers):
     """Returns how often each call returned NoMemory when these growths were refused, and the failures."""
-    runner = Runner(trials, shim, stdin)
     by, wrong = collections.Counter(), []
-    try:
+    with contextlib.closing(Runner(trials, shim, stdin)) as runner:
         ample = runner.run([], 0)[0][1].decode().splitlines()
         for n in numbers:
             found, counts = runner.run([], n)
@@ -216,16 +210,13 @@ def tried_calls(trials, shim, stdin, numbers):
             by[name] += 1
             if fault or counts[1] != 1:
                 wrong.append(f"calls: growth {n}: {fault or f'{counts[1]} were refused'}")
-    finally:
-        runner.close()
     return wrong, by
 
 
 def ample_calls(trials, shim, stdin):
     """Returns the number of growths of a trial with ample memory, and its failures."""
-    runner = Runner(trials, shim, stdin)
-    (status, out, err), (growths, _) = runner.run([], 0)
-    runner.close()
+    with contextlib.closing(Runner(trials, shim, stdin)) as runner:
+        (status, out, err), (growths, _) = runner.run([], 0)
     return growths, [f"calls: {it}" for it in (status, err, b"NoMemory" in out and "NoMemory with ample memory") if it]
 
 

@@ -4,18 +4,8 @@
 #include <stdlib.h>
 #include <string.h>
 
+#include "expect.h"
 #include "jt.h"
-
-static int passed, failed;
-
-static void expect(bool holds, const char *what) {
-    if (holds) {
-        passed++;
-    } else {
-        failed++;
-        printf("failed: %s\n", what);
-    }
-}
 
 #define BYTES(text) (const uint8_t *)(text), strlen(text)
 
@@ -342,6 +332,5 @@ int main(void) {
     owners();
     threads();
     threads_of_a_library();
-    printf("%d passed, %d failed\n", passed, failed);
-    return failed != 0;
+    return tally();
 }

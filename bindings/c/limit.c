@@ -6,6 +6,7 @@
 #include <string.h>
 #include <sys/resource.h>
 
+#include "expect.h"
 #include "jt.h"
 
 #define PAGE                                                                                     \
@@ -23,7 +24,6 @@ static const struct jt_budget budget = {
     .fuel = 100000, .output = 65536, .depth = 8, .size = 65536, .nesting = 8};
 static uint8_t image[65536], out[65536], wanted[65536];
 static size_t image_length;
-static int passed, failed;
 
 /* What the calls over handles use, and what they fill. */
 static struct jt_library library, filled_library;
@@ -35,14 +35,6 @@ static const struct jt_lengths lengths[] = {{4, LENGTH(PAGE)}, {4, LENGTH(BASE)}
 static const struct jt_options options = JT_OPTIONS;
 
 static const uint8_t *bytes(const char *given) { return (const uint8_t *)given; }
-
-static void expect(bool holds, const char *what) {
-    passed += holds;
-    failed += !holds;
-    if (!holds) {
-        printf("failed: %s\n", what);
-    }
-}
 
 static struct jt_answer compile(uint8_t *to) {
     return jt_compile(TEMPLATES, bytes("page"), 4, options, to, sizeof out);
@@ -222,6 +214,5 @@ int main(void) {
     jt_image_free(&kept);
     jt_context_free(&values);
     jt_outcome_free(&outcome);
-    printf("%d passed, %d failed\n", passed, failed);
-    return failed != 0;
+    return tally();
 }

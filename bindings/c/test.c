@@ -1,18 +1,9 @@
 /* Tests the calls that keep nothing. Prints what fails; the last line is 'N passed, M failed'. */
-#include "jt.h"
 #include <stdio.h>
 #include <string.h>
 
-static int passed, failed;
-
-static void expect(int holds, const char *what) {
-    if (holds) {
-        passed++;
-    } else {
-        failed++;
-        printf("failed: %s\n", what);
-    }
-}
+#include "expect.h"
+#include "jt.h"
 
 static const uint8_t *bytes(const char *text) { return (const uint8_t *)text; }
 
@@ -187,6 +178,5 @@ int main(void) {
     constants();
     misuse();
     images();
-    printf("%d passed, %d failed\n", passed, failed);
-    return failed != 0;
+    return tally();
 }

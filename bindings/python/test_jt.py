@@ -41,23 +41,32 @@ def text(source, context=None, **more):
     return Template("t", {"t": source}, **more).render(context)
 
 
+class Raising(threading.Thread):
+    """A thread whose `join` raises what its work raised."""
+
+    error = None
+
+    def run(self):
+        try:
+            super().run()
+        except BaseException as error:
+            self.error = error
+
+    def join(self, timeout=None):
+        super().join(timeout)
+        if self.error is not None:
+            raise self.error
+
+
 def in_threads(count, work):
     """Runs `work` in threads and raises what one of them raised."""
-    wrong = []
-
-    def guarded():
-        try:
-            work()
-        except BaseException as error:
-            wrong.append(error)
-
-    threads = [threading.Thread(target=guarded) for _ in range(count)]
+    threads = [Raising(target=work) for _ in range(count)]
     for thread in threads:
         thread.start()
     for thread in threads:
+        threading.Thread.join(thread)
+    for thread in threads:
         thread.join()
-    if wrong:
-        raise wrong[0]
 
 
 class Counted:
@@ -675,16 +684,7 @@ class Lives(unittest.TestCase):
                 turn[2].set()
                 turn[3].wait(10)
 
-            wrong = []
-
-            def guarded():
-                try:
-                    other()
-                except BaseException as error:
-                    wrong.append(error)
-                    turn[2].set()
-
-            thread = threading.Thread(target=guarded)
+            thread = Raising(target=other)
             thread.start()
             turn[0].wait(10)
             image.run(held[0])
@@ -694,7 +694,6 @@ class Lives(unittest.TestCase):
             kept = held.pop()
             turn[3].set()
             thread.join()
-            self.assertEqual(wrong, [])
             # the other thread has ended: here it is still usable, and then freed
             self.assertEqual(image.run(kept), "1")
             self.assertEqual(set(counted.owners.values()), {threading.get_ident()})

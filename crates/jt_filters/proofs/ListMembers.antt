@@ -1,4 +1,4 @@
--- The items of a list, found by their places.
+-- The items of a list, found by their indices.
 use Rattle.std.proofs.Common.{◌≡◌, ℕ, zero, suc, ℤ, ◌+◌, ◌<◌, Bool, true, false, cond, ◌||◌, List, [], ◌∷◌, length}
 use Rattle.std.proofs.Common.{drop, get_or, Some, None, refl, sym, ap, ◌∙◌, subst, true≢false, arith}
 use Rattle.std.proofs.lemmas.Cmp.{int_eq_equiv, nat_list_cmp_total}
@@ -19,38 +19,22 @@ use Rattle.jt_value.specs.Tree as tree
 use Rattle.jt_value.specs.Tree.{Tree, Items, no_items, item}
 use Rattle.jt_value.specs.View.{view, items_view}
 use Rattle.jt_value.specs.declared.value.Value.{Value}
-use Rattle.jt_filters.specs.declared.members.Places.{Places}
+use Rattle.jt_filters.specs.declared.members.Indices.{Indices}
 use Rattle.jt_filters.specs.internal.Codes.{code}
-use Rattle.jt_filters.specs.internal.PlacesOf.{at_number, at_code, place_by, place, Covers}
+use Rattle.jt_filters.specs.internal.IndicesOf.{at_number, at_code, index_by, index, Covers}
 use Rattle.jt_filters.specs.internal.Seen.{number_like}
 use Rattle.jt_filters.proofs.SameCodes.{same_code}
+use Rattle.jt_filters.proofs.SeenCodes.{either, or_left, or_right}
 use Rattle.jt_filters.proofs.SortedInsertion.{cmp, lookup-inserted}
 
-either : (a b : Bool) {P : Type 0} → (a || b) ≡ true → (a ≡ true → P) → (b ≡ true → P) → P
-either true b e f g = f refl
-either false b e f g = g e
-
-or_left : (a b : Bool) → a ≡ true → (a || b) ≡ true
-or_left true b e = refl
-or_left false b e = absurd (true≢false (sym e))
-
-or_right : (a b : Bool) → b ≡ true → (a || b) ≡ true
-or_right true b e = refl
-or_right false b e = e
-
--- A first search that finds only items, or a full search, finds what the full search finds.
-pub found_or : (a b h : Bool) → (a ≡ true → h ≡ true) → b ≡ h → (a || b) ≡ h
-found_or true b h f e = sym (f refl)
-found_or false b h f e = e
-
--- The item at a place is an item of the list.
-pub at_place : (vs : List Value) (i : ℕ) (v : Value) (t : Tree) → i < length vs → v ≡ get_or vs i v
+-- The item at an index is an item of the list.
+pub at_index : (vs : List Value) (i : ℕ) (v : Value) (t : Tree) → i < length vs → v ≡ get_or vs i v
     → equal t (view v) ≡ true → has_item t (items_view vs) ≡ true
-at_place [] i v t inside is e = absurd (omega arith)
-at_place (w ∷ vs) zero v t inside is e =
+at_index [] i v t inside is e = absurd (omega arith)
+at_index (w ∷ vs) zero v t inside is e =
     or_left (equal t (view w)) (has_item t (items_view vs)) (ap (λ (x : Value). equal t (view x)) (sym is) ∙ e)
-at_place (w ∷ vs) (suc i) v t inside is e =
-    or_right (equal t (view w)) (has_item t (items_view vs)) (at_place vs i v t (omega arith) is e)
+at_index (w ∷ vs) (suc i) v t inside is e =
+    or_right (equal t (view w)) (has_item t (items_view vs)) (at_index vs i v t (omega arith) is e)
 
 -- Equal values equal the same number, if any.
 same_number : (t u : Tree) → equal t u ≡ true → number_like t ≡ number_like u
@@ -69,37 +53,23 @@ same_number (tree.list ts) (tree.list us) e = refl
 same_number (tree.map es) (tree.map fs) e = refl
 same_number t u e = absurd (true≢false (sym e))
 
--- Equal values have the same place.
-same_place : (p : Places) (t u : Tree) → equal t u ≡ true → place p t ≡ place p u
-same_place p t u e =
-    ap (λ (z : Option ℤ). place_by p z (code t)) (same_number t u e)
-    ∙ ap (λ (c : List ℕ). place_by p (number_like u) c) (same_code t u e)
+-- Equal values have the same index.
+same_index : (p : Indices) (t u : Tree) → equal t u ≡ true → index p t ≡ index p u
+same_index p t u e =
+    ap (λ (z : Option ℤ). index_by p z (code t)) (same_number t u e)
+    ∙ ap (λ (c : List ℕ). index_by p (number_like u) c) (same_code t u e)
 
-none_is : (o : Option ℕ) → None ≡ o → IsSome o → ⊥
-none_is o e there = true≢false (sym there ∙ ap is_some (sym e))
-
--- A value without a place equals no item.
-pub no_place : (p : Places) (ts : Items) (t : Tree) → Covers p ts → None ≡ place p t → false ≡ has_item t ts
-no_place p ts t known none = by (has_item t ts) refl
-  where
-    by : (b : Bool) → has_item t ts ≡ b → false ≡ has_item t ts
-    by true e = absurd (none_is (place p t) none (known t e))
-    by false e = sym e
-
-pub covers_none : (p : Places) → Covers p no_items
-covers_none p t e = absurd (true≢false (sym e))
-
-covers_more : (p q : Places) (t : Tree) (ts : Items) → IsSome (place q t)
-    → ((u : Tree) → IsSome (place p u) → IsSome (place q u)) → Covers p ts → Covers q (item t ts)
+covers_more : (p q : Indices) (t : Tree) (ts : Items) → IsSome (index q t)
+    → ((u : Tree) → IsSome (index p u) → IsSome (index q u)) → Covers p ts → Covers q (item t ts)
 covers_more p q t ts there kept known u e =
     either (equal u t) (has_item u ts) e
-    (λ same. subst (λ (o : Option ℕ). IsSome o) (sym (same_place q u t same)) there)
+    (λ same. subst (λ (o : Option ℕ). IsSome o) (sym (same_index q u t same)) there)
     (λ old. kept u (known u old))
 
--- The places cover one more item, the one before them.
-pub covers_next : (vs : List Value) (n i : ℕ) (v : Value) (p q : Places) → i + 1 ≡ n → i < length vs
+-- The indices cover one more item, the one before them.
+pub covers_next : (vs : List Value) (n i : ℕ) (v : Value) (p q : Indices) → i + 1 ≡ n → i < length vs
     → v ≡ get_or vs i v
-    → IsSome (place q (view v)) → ((u : Tree) → IsSome (place p u) → IsSome (place q u))
+    → IsSome (index q (view v)) → ((u : Tree) → IsSome (index p u) → IsSome (index q u))
     → Covers p (items_view (drop n vs)) → Covers q (items_view (drop i vs))
 covers_next vs n i v p q next inside at there kept known =
     subst (λ (ts : Items). Covers q ts)
@@ -108,33 +78,13 @@ covers_next vs n i v p q next inside at there kept known =
     (covers_more p q (view v) (items_view (drop (i + 1) vs)) there kept
     (subst (λ (j : ℕ). Covers p (items_view (drop j vs))) (sym next) known))
 
-some_or : (b : Bool) (n : ℕ) (o : Option ℕ) → IsSome o → IsSome (cond b (Some n) o)
-some_or true n o there = refl
-some_or false n o there = there
-
--- The place of a value that equals a number is that of the number.
-pub number_found : (p : Places) (t : Tree) (z x : ℤ) → x ≡ z → Some z ≡ number_like t
-    → at_number p.numbers x ≡ place p t
+-- The index of a value that equals a number is that of the number.
+pub number_found : (p : Indices) (t : Tree) (z x : ℤ) → x ≡ z → Some z ≡ number_like t
+    → at_number p.numbers x ≡ index p t
 number_found p t z x same is =
-    ap (λ (y : ℤ). at_number p.numbers y) same ∙ ap (λ (o : Option ℤ). place_by p o (code t)) is
+    ap (λ (y : ℤ). at_number p.numbers y) same ∙ ap (λ (o : Option ℤ). index_by p o (code t)) is
 
--- A number that was stored has a place.
-pub number_there : (p q : Places) (t : Tree) (z : ℤ) (n : ℕ) → Some z ≡ number_like t
-    → ((y : ℤ) → at_number q.numbers y ≡ cond (int_eq z y) (Some n) (at_number p.numbers y)) → IsSome (place q t)
-number_there p q t z n is put =
-    subst (λ (o : Option ℤ). IsSome (place_by q o (code t))) is
-    (ap is_some (put z) ∙ ap (λ (b : Bool). is_some (cond b (Some n) (at_number p.numbers z))) (int_eq_equiv.refl z))
-
-pub number_kept : (p q : Places) (z : ℤ) (n : ℕ) (u : Tree) → q.codes ≡ p.codes
-    → ((y : ℤ) → at_number q.numbers y ≡ cond (int_eq z y) (Some n) (at_number p.numbers y))
-    → IsSome (place p u) → IsSome (place q u)
-number_kept p q z n u same put = by (number_like u)
-  where
-    by : (o : Option ℤ) → IsSome (place_by p o (code u)) → IsSome (place_by q o (code u))
-    by (Some y) there = ap is_some (put y) ∙ some_or (int_eq z y) n (at_number p.numbers y) there
-    by None there = ap (λ (m : BTreeMap (Vec ℕ Global) ℕ). is_some (at_code m (code u))) same ∙ there
-
--- The place at each code, after a code is stored.
+-- The index at each code, after a code is stored.
 pub code_put : (m n : BTreeMap (Vec ℕ Global) ℕ) (k : Vec ℕ Global) (v : ℕ) (c : List ℕ)
     → n.entries ≡ insert_entry (λ x y. cmp x.items y.items) m.entries k v
     → at_code n c ≡ cond (is_eq (cmp c k.items)) (Some v) (at_code m c)
@@ -142,33 +92,23 @@ code_put m n k v c put =
     ap (λ (es : List (Vec ℕ Global × ℕ)). lookup (is_at (λ x. cmp c x.items)) es) put
     ∙ lookup-inserted (λ (x : Vec ℕ Global). x.items) k v c m.entries
 
--- A code that was stored has a place.
-pub code_there : (p q : Places) (t : Tree) (k : List ℕ) (n : ℕ) → None ≡ number_like t → k ≡ code t
+-- A code that was stored has an index.
+pub code_there : (p q : Indices) (t : Tree) (k : List ℕ) (n : ℕ) → None ≡ number_like t → k ≡ code t
     → ((c : List ℕ) → at_code q.codes c ≡ cond (is_eq (slice_cmp nat_cmp c k)) (Some n) (at_code p.codes c))
-    → IsSome (place q t)
+    → IsSome (index q t)
 code_there p q t k n none is put =
-    subst (λ (o : Option ℤ). IsSome (place_by q o (code t))) none
+    subst (λ (o : Option ℤ). IsSome (index_by q o (code t))) none
     (ap is_some (put (code t))
     ∙ ap (λ (c : List ℕ). is_some (cond (is_eq (slice_cmp nat_cmp c k)) (Some n) (at_code p.codes (code t)))) (sym is)
     ∙ ap (λ (b : Bool). is_some (cond b (Some n) (at_code p.codes (code t))))
     (ap is_eq (tied_itself nat_list_cmp_total k)))
 
-pub code_stored : {A E : Type 0} (r : Result A E) (p q : Places) (t : Tree) (k : List ℕ) (n : ℕ) → None ≡ number_like t
+pub code_stored : {A E : Type 0} (r : Result A E) (p q : Indices) (t : Tree) (k : List ℕ) (n : ℕ) → None ≡ number_like t
     → k ≡ code t
     → OnOk r ((c : List ℕ) → at_code q.codes c ≡ cond (is_eq (slice_cmp nat_cmp c k)) (Some n) (at_code p.codes c))
-    → OnOk r (IsSome (place q t))
+    → OnOk r (IsSome (index q t))
 code_stored (Ok a) p q t k n none is put = code_there p q t k n none is put
 code_stored (Err e) p q t k n none is put = tt
-
-pub code_kept : (p q : Places) (k : List ℕ) (n : ℕ) (u : Tree) → q.numbers ≡ p.numbers
-    → ((c : List ℕ) → at_code q.codes c ≡ cond (is_eq (slice_cmp nat_cmp c k)) (Some n) (at_code p.codes c))
-    → IsSome (place p u) → IsSome (place q u)
-code_kept p q k n u same put = by (number_like u)
-  where
-    by : (o : Option ℤ) → IsSome (place_by p o (code u)) → IsSome (place_by q o (code u))
-    by (Some y) there = ap (λ (m : BTreeMap ℤ ℕ). is_some (at_number m y)) same ∙ there
-    by None there =
-        ap is_some (put (code u)) ∙ some_or (is_eq (slice_cmp nat_cmp (code u) k)) n (at_code p.codes (code u)) there
 
 -- Test `in` with a list finds an equal item.
 pub in_list : (t : Tree) (us : Items) → tested test.In (t ∷ tree.list us ∷ []) ≡ Ok (has_item t us)

@@ -81,18 +81,18 @@ pub characters_count : (cs : List ℕ) → items_count (character_items cs) ≡ 
 characters_count [] = refl
 characters_count (c ∷ cs) = omega (arith, characters_count cs)
 
-place_of_character : (cs : List ℕ) (p : Option ℕ)
+index_of_character : (cs : List ℕ) (p : Option ℕ)
     → option_map (λ c. tree.text (encode_utf8 c)) (option_and_then (slice_get cs) p)
     ≡ option_and_then (item_at (character_items cs)) p
-place_of_character cs None = refl
-place_of_character cs (Some i) = character_at cs i
+index_of_character cs None = refl
+index_of_character cs (Some i) = character_at cs i
 
 indexed_characters : (s : List ℕ) (i : ℤ) → indexed_character s i ≡ indexed_item (character_items (chars s)) i
-indexed_characters s i = search (arith, rules, place_of_character, characters_count)
+indexed_characters s i = search (arith, rules, index_of_character, characters_count)
 
 -- An item of a text or a list, by an index.
-pub item_of_places : (t : Tree) (i : ℤ) → has_places t ≡ true → item_of t (tree.number i) ≡ on_items (item_named i) t
-item_of_places a0 a1 a2 = search (arith, rules, indexed_characters)
+pub item_of_indices : (t : Tree) (i : ℤ) → has_places t ≡ true → item_of t (tree.number i) ≡ on_items (item_named i) t
+item_of_indices a0 a1 a2 = search (arith, rules, indexed_characters)
 
 pub keys_count : (es : List Pair) → items_count (key_items (entries_view es)) ≡ length es
 keys_count [] = refl

@@ -14,7 +14,7 @@ skipped zero old new s = refl
 skipped (suc k) old new [] = refl
 skipped (suc k) old new (b ∷ s) = skipped k old new s
 
--- At an occurrence the new text takes its place.
+-- At an occurrence the new text takes its index.
 replaced_here : (old new rest : List ℕ) → 0 < length old
     → replaced_behind 0 old new (old ++ rest) ≡ new ++ replaced_behind 0 old new rest
 replaced_here [] new rest some = absurd (omega arith)

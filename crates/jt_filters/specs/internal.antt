@@ -1,6 +1,6 @@
 pub mod Codes
 pub mod Operands
-pub mod PlacesOf
+pub mod IndicesOf
 pub mod Ranks
 pub mod Rows
 pub mod Seen

@@ -8,7 +8,7 @@ ghost use Rattle.jt_value.specs.Tree.{Tree};
 ghost use Rattle.jt_value.specs.View.{view, items_view};
 ghost use Rattle.jt_op_semantics.specs.Membership.{has_item};
 ghost use Rattle.jt_filters.specs.internal.Operands.{tree_of};
-ghost use Rattle.jt_filters.specs.internal.PlacesOf.{at_number, at_code, place, Covers};
+ghost use Rattle.jt_filters.specs.internal.IndicesOf.{at_number, at_code, index, Covers};
 
 use crate::codes::exact_code_of;
 use crate::operand::Operand;
@@ -17,20 +17,20 @@ use jt_value::{NoMemory, Value};
 use std::alloc::Global;
 use std::collections::BTreeMap;
 
-/// The place of the first item that equals a number, for each number, and of the first item that
+/// The index of the first item that equals a number, for each number, and of the first item that
 /// has a code, for the code of each other item.
 #[derive(Drop)]
-pub(crate) struct Places {
+pub(crate) struct Indices {
     numbers: BTreeMap<i64, usize>,
     codes: BTreeMap<Vec<u8>, usize>,
 }
 
-/// The items of a list, and the places at which they are found.
+/// The items of a list, and the indices at which they are found.
 #[derive(Drop)]
 pub(crate) struct Members<'a> {
     items: &'a [Value],
-    places: Places,
-    ghost known: { Covers places (items_view items.now) },
+    indices: Indices,
+    ghost known: { Covers indices (items_view items.now) },
 }
 
 impl<'a> Members<'a> {
@@ -38,8 +38,8 @@ impl<'a> Members<'a> {
     pub(crate) fn new(alloc: Global, items: &'a [Value]) -> Result<Members<'a>, NoMemory>
         ensures { IfOk result (λ m. items_view m.items.now ≡ items_view items.now) }
     {
-        let places = places_of(alloc, items)?;
-        Ok(Members { items, places })
+        let indices = indices_of(alloc, items)?;
+        Ok(Members { items, indices })
     }
 
     /// Returns whether an operand equals one of the items. If memory is refused, each item is
@@ -47,47 +47,47 @@ impl<'a> Members<'a> {
     pub(crate) fn has(&self, alloc: Global, operand: Operand<'_>) -> bool
         ensures { result ≡ has_item (tree_of operand.entry) (items_view self.now.items.now) }
     {
-        match place_of(alloc, &self.places, operand) {
-            Ok(Some(place)) => has_at(operand, self.items, place) || has_equal(operand, self.items),
+        match index_of(alloc, &self.indices, operand) {
+            Ok(Some(index)) => has_at(operand, self.items, index) || has_equal(operand, self.items),
             Ok(None) => false,
             Err(_) => has_equal(operand, self.items),
         }
     }
 }
 
-/// Returns the places of the items.
-fn places_of(alloc: Global, items: &[Value]) -> Result<Places, NoMemory>
+/// Returns the indices of the items.
+fn indices_of(alloc: Global, items: &[Value]) -> Result<Indices, NoMemory>
     ensures { IfOk result (λ p. Covers p (items_view items.now)) }
 {
-    let mut places = Places {
+    let mut indices = Indices {
         numbers: BTreeMap::new(alloc),
         codes: BTreeMap::new(alloc),
     };
     let mut left = items.len();
     while left > 0 {
         left -= 1;
-        put_place(alloc, &mut places, &items[left], left)?;
+        put_index(alloc, &mut indices, &items[left], left)?;
     }
-    Ok(places)
+    Ok(indices)
 }
 
-/// Stores the place of an item, in place of that of any item which equals it.
-fn put_place(alloc: Global, places: &mut Places, item: &Value, at: usize) -> Result<(), NoMemory>
-    ensures there { OnOk result (IsSome (place places.new (view item.now))) }
+/// Stores the index of an item, in index of that of any item which equals it.
+fn put_index(alloc: Global, indices: &mut Indices, item: &Value, at: usize) -> Result<(), NoMemory>
+    ensures there { OnOk result (IsSome (index indices.new (view item.now))) }
     ensures kept { OnOk result
-        ((t : Tree) → IsSome (place places.old t) → IsSome (place places.new t)) }
+        ((t : Tree) → IsSome (index indices.old t) → IsSome (index indices.new t)) }
 {
     match number_like(Operand::Value(item)) {
-        Some(number) => put_number(&mut places.numbers, number, at),
+        Some(number) => put_number(&mut indices.numbers, number, at),
         None => put_code(
-            &mut places.codes,
+            &mut indices.codes,
             exact_code_of(alloc, Operand::Value(item))?,
             at,
         ),
     }
 }
 
-/// Stores the place of a number.
+/// Stores the index of a number.
 fn put_number(numbers: &mut BTreeMap<i64, usize>, number: i64, at: usize) -> Result<(), NoMemory>
     ensures { OnOk result ((z : ℤ)
         → at_number numbers.new z
@@ -97,7 +97,7 @@ fn put_number(numbers: &mut BTreeMap<i64, usize>, number: i64, at: usize) -> Res
     Ok(())
 }
 
-/// Stores the place of a code.
+/// Stores the index of a code.
 fn put_code(codes: &mut BTreeMap<Vec<u8>, usize>, code: Vec<u8>, at: usize) -> Result<(), NoMemory>
     ensures { OnOk result ((c : List ℕ)
         → at_code codes.new c
@@ -107,24 +107,28 @@ fn put_code(codes: &mut BTreeMap<Vec<u8>, usize>, code: Vec<u8>, at: usize) -> R
     Ok(())
 }
 
-/// Returns the place of an item that may equal an operand, if there is one.
-fn place_of(alloc: Global, places: &Places, operand: Operand<'_>) -> Result<Option<usize>, NoMemory>
-    ensures { IfOk result (λ o. o ≡ place places.now (tree_of operand.entry)) }
+/// Returns the index of an item that may equal an operand, if there is one.
+fn index_of(
+    alloc: Global,
+    indices: &Indices,
+    operand: Operand<'_>,
+) -> Result<Option<usize>, NoMemory>
+    ensures { IfOk result (λ o. o ≡ index indices.now (tree_of operand.entry)) }
 {
     match number_like(operand) {
-        Some(number) => Ok(places.numbers.get(&number).copied()),
+        Some(number) => Ok(indices.numbers.get(&number).copied()),
         None => {
             let code = exact_code_of(alloc, operand)?;
-            Ok(places.codes.get(code.as_slice()).copied())
+            Ok(indices.codes.get(code.as_slice()).copied())
         }
     }
 }
 
-/// Returns whether an operand equals the item at a place.
-fn has_at(operand: Operand<'_>, items: &[Value], place: usize) -> bool
+/// Returns whether an operand equals the item at an index.
+fn has_at(operand: Operand<'_>, items: &[Value], index: usize) -> bool
     ensures { result ≡ true → has_item (tree_of operand.entry) (items_view items.now) ≡ true }
 {
-    match items.get(place) {
+    match items.get(index) {
         Some(item) => are_equal(operand, Operand::Value(item)),
         None => false,
     }

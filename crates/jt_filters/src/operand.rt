@@ -12,7 +12,7 @@ use itoa::Buffer;
 use jt_value::{Fault, NoMemory, Value, ValueMap};
 use std::alloc::Global;
 
-/// A borrowed value, or undefined, a number or a plain text in place of a value. The text is, for
+/// A borrowed value, or undefined, a number or a plain text in index of a value. The text is, for
 /// example, a character or a key.
 #[derive(Clone, Copy)]
 pub(crate) enum Operand<'a> {

@@ -4,7 +4,7 @@ use Rattle.jt_filters.proofs.folding.text_precedes.Given as goal
 
 abbrev pub invariant-loop-byte : goal.invariant-loop-byte
 invariant-loop-byte l = record {
-  place : l.index ≡ l.byte-index;
+  index : l.index ≡ l.byte-index;
   inside : l.index ≤ length l.right;
   same : text_precedes (drop l.index l.left) (drop l.index l.right) ≡ text_precedes l.left l.right;
 }

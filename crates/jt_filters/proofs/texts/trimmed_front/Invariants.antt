@@ -5,7 +5,7 @@ use Rattle.jt_filters.proofs.texts.trimmed_front.Given as goal
 
 abbrev pub invariant-loop-byte : goal.invariant-loop-byte
 invariant-loop-byte l = record {
-  place : l.start ≡ l.byte-index;
+  index : l.start ≡ l.byte-index;
   boundary : IsCharBoundary l.text l.start;
   same : trimmed_front (drop l.start l.text) ≡ trimmed_front l.text;
 }

@@ -5,7 +5,7 @@ use Rattle.std.specs.Prelude.{FitsSigned}
 use Rattle.jt_filters.specs.internal.Operands.{tree_of}
 use Rattle.jt_filters.specs.internal.Seen.{number_like}
 use Rattle.jt_filters.proofs.ListMembers.{number_found}
-use Rattle.jt_filters.proofs.members.place_of.Goals as goal
+use Rattle.jt_filters.proofs.members.index_of.Goals as goal
 
 pub returns-in-Some : goal.returns-in-Some
 returns-in-Some c =
@@ -13,4 +13,4 @@ returns-in-Some c =
     let fits : FitsSigned w64 z = search rules in
     let is : Some z ≡ number_like (tree_of c.args.operand) = sym c.in-Some.is ∙ c.number_like.ensures in
     c.copied.ensures ∙ c.get.ensures.value
-    ∙ number_found c.args.places.now (tree_of c.args.operand) z (to_z w64 (of_z w64 z)) (to_z-of_z w64 z fits) is
+    ∙ number_found c.args.indices.now (tree_of c.args.operand) z (to_z w64 (of_z w64 z)) (to_z-of_z w64 z fits) is
