@@ -18,7 +18,9 @@ without a reader or short of room, the status is 5, and a prefix of the text is 
 Reads: a line that reads files in pieces of 16 bytes meets a failing first read, second read, and so on: status 5 with that file's name,
 nothing on standard output, and OUT unchanged.
 
-A row is a line, a call of a trial, a way of writing or a way of reading; --table prints the number of refused growths of each. The last
+Renaming: if OUT cannot be replaced by a renamed file, it is written in place. Its mode stays, and no other file is left.
+
+A row is a line, a call of a trial, a way of writing, a way of reading or a renaming; --table prints the number of refused growths of each. The last
 line is 'N passed, M failed', and the status is 1 if one failed.
 """
 import collections
@@ -331,6 +333,23 @@ def wrong_reads(program, shim, room, words, paths):
     return [f"{' '.join(failed)}"] if found != paths or few else []
 
 
+def renamings(program, shim):
+    """What is wrong where OUT can be written, but not replaced by a renamed file."""
+    with tempfile.TemporaryDirectory(prefix="jt-growths-") as room:
+        os.mkdir(f"{room}/d")
+        pathlib.Path(room, "d/t").write_text("x")
+        subprocess.run([program, "compile", "d", "t", "image"], cwd=room, check=True, timeout=60)
+        image, out = pathlib.Path(room, "image").read_bytes(), pathlib.Path(room, "out")
+        for line in ("compile d t out", "upgrade image out"):
+            out.write_bytes(b"kept")
+            out.chmod(0o600)
+            ran = subprocess.run([program, *line.split()], cwd=room, env={"LD_PRELOAD": shim, "UNRENAMED": "1"},
+                                 stdin=subprocess.DEVNULL, capture_output=True, timeout=60)
+            found = (ran.returncode, ran.stderr, out.read_bytes(), out.stat().st_mode & 0o777, sorted(os.listdir(room)))
+            wanted = (0, b"", image, 0o600, ["d", "image", "out"])
+            yield f"{line}, without renaming", [] if found == wanted else [str(found)]
+
+
 def image_maker(program):
     """What compiles templates to an image."""
     def image_of(templates):
@@ -408,7 +427,7 @@ def main():
         rows = Rows("--table" in sys.argv)
         with concurrent.futures.ProcessPoolExecutor(os.cpu_count()) as pool:
             total = lines_refused(pool, rows, program, shim) + calls_refused(pool, rows, trials, shim, folder)
-        for name, wrong in [*written(trials), *ends(program), *reads(program, shim)]:
+        for name, wrong in [*written(trials), *ends(program), *reads(program, shim), *renamings(program, shim)]:
             rows.tell(name, wrong)
     print(f"{total} growths were refused, each by itself")
     print(f"{rows.passed} passed, {rows.failed} failed")

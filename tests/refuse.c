@@ -1,8 +1,10 @@
-/* Counts the growths of a program into which it is preloaded, and refuses the requested one, or a read. It needs no header.
+/* Counts the growths of a program into which it is preloaded, and refuses the requested one, a read or each renaming. It needs no
+   header.
 
      REFUSE=N       refuses the Nth growth, counted from 1; N.. : it and all later ones; 0 or missing: none
      GROWTHS=PATH   maps a file of 16 bytes: the number of growths and of refused ones, however the program ends
      UNREAD=N       limits each read to 16 bytes and lets the Nth one fail, as on a bad disk
+     UNRENAMED=1    lets each renaming fail, as onto a mount point
 
    A growth is a malloc, a calloc, or a realloc to more than the requested size, after the program's own code has started. */
 typedef unsigned long word;
@@ -10,9 +12,10 @@ extern void *__libc_malloc(word), *__libc_realloc(void *, word), *mmap(void *, w
 extern void __libc_free(void *);
 extern char *getenv(const char *);
 extern int open(const char *, int, ...), close(int), *__errno_location(void);
+extern int renameat(int, const char *, int, const char *);
 extern long __read(int, void *, word);
 
-static word unmapped[2], *count = unmapped, refuse, unread, reads;
+static word unmapped[2], *count = unmapped, refuse, unread, unrenamed, reads;
 static int started, all;
 
 /* Reads the number at the start of a text, and returns the rest. */
@@ -30,6 +33,7 @@ __attribute__((constructor)) static void start(void) {
     at = number(at, &refuse);
     all = at && *at == '.';
     number(getenv("UNREAD"), &unread);
+    number(getenv("UNRENAMED"), &unrenamed);
     started = 1;
 }
 
@@ -72,5 +76,11 @@ long read(int file, void *into, word size) {
     if (!unread) return __read(file, into, size);
     if (++reads != unread) return __read(file, into, size > 16 ? 16 : size);
     *__errno_location() = 5;
+    return -1;
+}
+
+int rename(const char *from, const char *to) {
+    if (!unrenamed) return renameat(-100, from, -100, to);
+    *__errno_location() = 16;
     return -1;
 }

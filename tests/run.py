@@ -151,7 +151,7 @@ def furnish(program, room, line):
         if found != "0 [][]":
             raise Malformed(f"{line}: {found[:200]}")
         return True
-    if word not in ("file", "bytes", "zeros", "link", "fifo"):
+    if word not in ("file", "bytes", "zeros", "link", "fifo", "mode"):
         return False
     path, is_there, text = rest.partition(" = ")
     if not is_there:
@@ -160,6 +160,8 @@ def furnish(program, room, line):
         os.symlink(unfolded(text), room / unfolded(path))
     elif word == "fifo":
         os.mkfifo(room / unfolded(path))
+    elif word == "mode":
+        os.chmod(room / unfolded(path), int(text, 8))
     elif word == "zeros":
         put(room, path, b"")
         os.truncate(room / path, int(text))
@@ -184,6 +186,8 @@ def stepped(program, room, step):
     words = spread(step).split() if step.strip() != "∅" else []
     if words[:1] and words[0].startswith("?"):
         return looked_at(room, unfolded(words[0][1:]))
+    if words[:1] and words[0].startswith("%"):
+        return f"{stat.S_IMODE(os.stat(room / unfolded(words[0][1:])).st_mode):o}"
     front = list(itertools.takewhile(FRONT.fullmatch, words))
     words = [word.translate(SIGNS) for word in words[len(front) :]]
     limits = [word for word in front if "=" in word]

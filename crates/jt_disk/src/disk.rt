@@ -59,9 +59,15 @@ fn name_in<'a>(dir: &str, path: &'a str) -> Option<&'a str>
 }
 
 impl Files for Disk {
+    ghost use Rattle.jt_disk.specs.declared.disk.Disk.{Disk};
+
+    ghost Contents = { Disk };
+
+    ghost contents = { λ disk. disk };
+
     ghost known = { known_of };
 
-    fn list(&self, dir: &str) -> Result<Vec<String>, FileError> {
+    fn list(&mut self, dir: &str) -> Result<Vec<String>, FileError> {
         let mut names = Vec::new(self.alloc);
         for path in self.files.keys() {
             if let Some(name) = name_in(dir, path.as_str()) {
@@ -71,7 +77,7 @@ impl Files for Disk {
         Ok(names)
     }
 
-    fn read(&self, path: &str) -> Result<Vec<u8>, FileError> {
+    fn read(&mut self, path: &str) -> Result<Vec<u8>, FileError> {
         if path == "memory" {
             return Err(FileError::NoMemory);
         }

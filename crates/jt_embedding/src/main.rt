@@ -9,10 +9,11 @@ ghost use Rattle.std.specs.Prelude.{◌≡◌, IfOk, IfSome, codes, option_map};
 ghost use Rattle.std.specs.List.{find};
 ghost use Rattle.std.specs.Str.{bytes_eq};
 ghost use Rattle.jt_host.specs.Compiled.{IsCompiled};
+ghost use Rattle.jt_host.specs.Reasons.{spent_name};
 ghost use Rattle.jt_embedding.specs.internal.Letters.{IsLine, IsWritten, usual};
 
 use jt_host::{
-    Budget, Library, Options, Outcome, Verified, compile, context_from_json, run, verify,
+    Budget, Library, Options, Outcome, Spent, Verified, compile, context_from_json, run, verify,
 };
 use std::alloc::{AllocError, Global};
 use std::io;
@@ -85,7 +86,7 @@ fn written(alloc: Global, letter: &Verified, json: &str) -> Option<Outcome>
 
 /// Returns the line that reports how a run ended.
 fn line(alloc: Global, outcome: Option<Outcome>) -> Result<String, AllocError>
-    ensures { IfOk result (λ line. IsLine outcome line) }
+    ensures { IfOk result (IsLine outcome) }
 {
     match outcome {
         Some(Outcome::Text(text)) => Ok(text),
@@ -93,7 +94,20 @@ fn line(alloc: Global, outcome: Option<Outcome>) -> Result<String, AllocError>
             format!(in alloc; "fault {fault} in {} line {}", place.template, place.line)
         }
         Some(Outcome::Fault(fault, None)) => format!(in alloc; "fault {fault}"),
-        Some(Outcome::Spent(spent)) => format!(in alloc; "spent {spent}"),
+        Some(Outcome::Spent(spent)) => format!(in alloc; "spent {}", name_of(spent)),
         None => String::from_str(alloc, "no context, or no memory"),
+    }
+}
+
+/// Returns the name of a number of the budget.
+fn name_of(spent: Spent) -> &'static str
+    ensures { result.now ≡ spent_name spent }
+{
+    match spent {
+        Spent::Fuel => "Fuel",
+        Spent::Depth => "Depth",
+        Spent::Output => "Output",
+        Spent::Size => "Size",
+        Spent::Nesting => "Nesting",
     }
 }

@@ -2,6 +2,7 @@
 use Rattle.std.specs.Prelude.{◌≡◌, ◌⊎◌, ℕ, List, [], ◌++◌, length, drop, nat_le, Some, None, Result, Ok, Err, Vec}
 use Rattle.std.specs.Prelude.{string_bytes, if◌then◌else◌}
 use Rattle.std.specs.declared.alloc.Global.{Global}
+use Rattle.jt_host.specs.Reasons.{error_text}
 use Rattle.jt_host.specs.declared.CallError.{CallError}
 use Rattle.jt_host.specs.declared.CallError.TheVariants as call_error
 use Rattle.jt_host.specs.declared.Fault.{Fault}
@@ -52,9 +53,8 @@ spent_number spent.Output = 3
 spent_number spent.Size = 4
 spent_number spent.Nesting = 5
 
--- An error is reported by a status of the program. A fault has its number, its template and its
--- line, a spent budget its number, and a refusal a reason. Nothing is stated of the reason, and
--- lack of memory may replace it.
+-- An error is reported by the program's statuses: a fault by its number, its template and its
+-- line, a spent budget by its number, and a refusal by its text, which lack of memory may replace.
 abbrev pub ReportsError : CallError → List ℕ → List ℕ → Answer → Type 0
 ReportsError (call_error.Fault f (Some place)) old new answer =
     IsAnswer (string_bytes place.template) 1 (fault_number f) place.line old new answer
@@ -63,8 +63,7 @@ ReportsError (call_error.Fault f None) old new answer =
 ReportsError (call_error.Spent s) old new answer = IsAnswer [] 4 (spent_number s) 0 old new answer
 ReportsError call_error.NoMemory old new answer = IsAnswer [] 6 0 0 old new answer
 ReportsError refusal old new answer =
-    IsAnswer [] 6 0 0 old new answer
-    ⊎ ((reason : List ℕ) × IsAnswer reason 3 0 0 old new answer)
+    IsAnswer [] 6 0 0 old new answer ⊎ IsAnswer (error_text refusal) 3 0 0 old new answer
 
 -- A result is reported: bytes with status 0, misuse with status 2 and its number, an error as
 -- `ReportsError` states.

@@ -1,5 +1,6 @@
 pub mod CallErrors
 pub mod Calls
+pub mod Reasons
 pub mod Rendering
 pub mod Templates
 -- The modules that the clauses of the exported calls cite, and that an embedder's own clauses may
@@ -16,5 +17,6 @@ pub use Rattle.jt_inherit.specs.Chains
 pub use Rattle.jt_inherit.specs.Small
 pub use Rattle.jt_machine.specs.View
 pub use Rattle.jt_value.specs.ContextView
+pub use Rattle.jt_value.specs.FaultText
 pub use Rattle.jt_value.specs.Pairs
 pub use Rattle.jt_verify.specs.Refusing

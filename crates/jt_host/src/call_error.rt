@@ -12,31 +12,23 @@ use jt_image::ImageError;
 use jt_machine::{Outcome, Place};
 use jt_value::{Fault, NoMemory};
 use jt_verify::Refusal;
-use thiserror::Error;
 
-/// The reason why a call returns neither a text nor an image.
-#[derive(Debug, Drop, Error, PartialEq, Eq)]
+/// The reason why a call returns neither a text nor an image. reasons.rt prints it.
+#[derive(Debug, Drop, PartialEq, Eq)]
 pub enum CallError {
     /// Bytes that are not an image.
-    #[error("{0}")]
     Image(ImageError),
     /// An image that the verifier refuses.
-    #[error("{0}")]
     Code(Refusal),
     /// Templates that do not compile.
-    #[error("{0}")]
     Template(CompileError),
     /// Bytes that spell no context.
-    #[error("{0}")]
     Context(ContextError),
     /// A fault of the template, at its place if the image has one.
-    #[error("fault {0}")]
     Fault(Fault, Option<Place>),
     /// A spent number of the budget.
-    #[error("spent {0}")]
     Spent(Spent),
     /// A refused growth.
-    #[error("no memory")]
     NoMemory,
 }
 

@@ -26,6 +26,7 @@
 mod call_error;
 mod calls;
 mod error;
+mod reasons;
 mod rendering;
 mod templates;
 

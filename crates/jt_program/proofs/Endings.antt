@@ -21,6 +21,13 @@ use Rattle.jt_program.specs.Commands.{IsUnread, IsWriting, JobEnds, LineEnds, Li
 use Rattle.jt_program.specs.Ending.{code_of, of_line, status_of}
 use Rattle.jt_program.specs.Files.{IsLibrary, IsOfDirectory, Known, path_in}
 
+-- An input that is missing among files is missing among files with the same contents.
+pub unread_still : {C : Type 0} (known : C → Known) (new old : C) (asks : Text → Type 0)
+    (context : Option (String Global)) (e : Failure)
+    → new ≡ old → IsUnread (known new) asks context (Err e) → IsUnread (known old) asks context (Err e)
+unread_still {C} known new old asks context e same h =
+    subst (λ (contents : C). IsUnread (known contents) asks context (Err e)) same h
+
 module _ (files : Known) where
   -- An input that is missing among some files is also missing among more files.
   pub unread_more : (asks more : Text → Type 0) (context : Option (String Global)) (e : Failure)

@@ -53,7 +53,8 @@ module _ (files : Known) where
   pub no_start : (ps : List Pair) (p : Pair) (e : Failure) → IsNoStart files p e → IsNotOpened files ps p e
   no_start ps p (failure.Call call_error.NoMemory) h = tt
   no_start ps p (failure.Host e) (inl h) = absurd h
-  no_start ps p (failure.Host e) (inr h) = absurd h.2
+  no_start ps p (failure.Host e) (inr (bytes, held, inl h)) = absurd h
+  no_start ps p (failure.Host e) (inr (bytes, held, inr (pairs, given, h))) = absurd h
   no_start ps p e h = h
 
   -- A pair is not opened if the host has no space for it, or no memory.

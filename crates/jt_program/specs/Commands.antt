@@ -158,11 +158,14 @@ module _ (files : Known) where
   AreStarts (p ∷ ps) [] = ⊥
   AreStarts (p ∷ ps) (s ∷ ss) = IsStart p s × AreStarts ps ss
 
-  -- A pair opens no session: one of its files fails, its context file spells no context, or its
-  -- image file holds no accepted image.
+  -- A pair opens no session, and the failure is the first of these: its image file fails; its context
+  -- file fails or spells no context; its image file holds no accepted image.
   abbrev pub IsNoStart : Pair → Failure → Type 0
-  IsNoStart p e = IsUnread files (IsPath (string_bytes p.image)) (Some p.context) (Err e)
-      ⊎ ((bytes : List ℕ) × files.holds (string_bytes p.image) bytes × FailsAs (IsNoImage bytes) e)
+  IsNoStart p e = IsUnread files (IsPath (string_bytes p.image)) None (Err e)
+      ⊎ ((bytes : List ℕ)
+      × files.holds (string_bytes p.image) bytes
+      × (IsUnread files (IsOfContext (Some p.context)) (Some p.context) (Err e)
+      ⊎ ((pairs : Pairs) × IsContextAt files (Some p.context) pairs × FailsAs (IsNoImage bytes) e)))
 
   -- The pair after `before` is not opened: the host is full although the pair is good, or the pair
   -- opens no session.

@@ -54,7 +54,7 @@ pub fn perform<F: Files, W: Sink, E: Sink>(
     ensures ends { result ≢ 2
         → result ≢ 6
         → (e : Ending)
-        × Answers (F.known files.old) (F.known files.new)
+        × Answers (F.known (F.contents files.old)) (F.known (F.contents files.new))
         (subcommand_of program_app (texts words.now)) e
         × Prints (W.taken out.old) (W.taken out.new) (W.failed out.new) e result
         × Explains (E.taken errors.old) (E.taken errors.new) (E.failed errors.new) e result }
@@ -69,17 +69,21 @@ pub fn perform<F: Files, W: Sink, E: Sink>(
     // Standard output is also as it was if it had failed before.
     ensures failed_before { W.failed out.old ≡ true → out.new ≡ out.old }
     // Whatever the status, the files change at most at OUT of a line of `compile` or `upgrade`.
-    ensures only { ChangesOnly (F.known files.old) (F.known files.new)
+    ensures only { ChangesOnly (F.known (F.contents files.old)) (F.known (F.contents files.new))
         (out_of (subcommand_of program_app (texts words.now))) }
-    // The files are as they were, unless the line has an image to write. It has one if its template
-    // compiles, or its image has a version 2.
-    ensures touched { files.new ≡ files.old
-        ⊎ LineWrites (F.known files.old) (subcommand_of program_app (texts words.now)) }
-    ensures untaken { ¬ Takes (texts words.now) → files.new ≡ files.old }
+    // The files are as they were, unless the line has an image to write: a template that compiles,
+    // or an image that has a version 2.
+    ensures touched { F.contents files.new ≡ F.contents files.old
+        ⊎ LineWrites (F.known (F.contents files.old))
+        (subcommand_of program_app (texts words.now)) }
+    ensures untaken { ¬ Takes (texts words.now) → F.contents files.new ≡ F.contents files.old }
     ensures kept { ¬ Asks (codes "compile") (texts words.now)
         → ¬ Asks (codes "upgrade") (texts words.now)
-        → files.new ≡ files.old }
-    ensures unwritten { result ≢ 0 → result ≢ 5 → result ≢ 6 → files.new ≡ files.old }
+        → F.contents files.new ≡ F.contents files.old }
+    ensures unwritten { result ≢ 0
+        → result ≢ 5
+        → result ≢ 6
+        → F.contents files.new ≡ F.contents files.old }
 {
     match perform_line(alloc, words, files) {
         Ok(text) => print(text, out, errors),
@@ -107,17 +111,20 @@ fn perform_line<F: Files>(alloc: Global, words: &[&str], files: &mut F) -> Resul
     ensures usage { ¬ Takes (texts words.now) → IfUntaken result }
     ensures taken { Takes (texts words.now)
         → IfErr result (λ e. (status_of e ≢ Status.Usage) × (e ≢ Failure.Output)) }
-    ensures only { ChangesOnly (F.known files.old) (F.known files.new)
+    ensures only { ChangesOnly (F.known (F.contents files.old)) (F.known (F.contents files.new))
         (out_of (subcommand_of program_app (texts words.now))) }
-    ensures untaken { ¬ Takes (texts words.now) → files.new ≡ files.old }
+    ensures untaken { ¬ Takes (texts words.now) → F.contents files.new ≡ F.contents files.old }
     ensures kept { ¬ Asks (codes "compile") (texts words.now)
         → ¬ Asks (codes "upgrade") (texts words.now)
-        → files.new ≡ files.old }
+        → F.contents files.new ≡ F.contents files.old }
     ensures unwritten { IfErr result
-        (λ e. status_of e ≢ Status.File → status_of e ≢ Status.Memory → files.new ≡ files.old) }
-    ensures touched { files.new ≡ files.old
-        ⊎ LineWrites (F.known files.old) (subcommand_of program_app (texts words.now)) }
-    ensures ends { LineEnds (F.known files.old) (F.known files.new)
+        (λ e. status_of e ≢ Status.File
+        → status_of e ≢ Status.Memory
+        → F.contents files.new ≡ F.contents files.old) }
+    ensures touched { F.contents files.new ≡ F.contents files.old
+        ⊎ LineWrites (F.known (F.contents files.old))
+        (subcommand_of program_app (texts words.now)) }
+    ensures ends { LineEnds (F.known (F.contents files.old)) (F.known (F.contents files.new))
         (subcommand_of program_app (texts words.now)) result }
 {
     let job = job(alloc, words)?;
@@ -126,12 +133,15 @@ fn perform_line<F: Files>(alloc: Global, words: &[&str], files: &mut F) -> Resul
 
 /// Performs a job except for printing, and returns the text to print.
 fn perform_job<F: Files>(alloc: Global, job: Job, files: &mut F) -> Result<String, Failure>
-    ensures ends { JobEnds (F.known files.old) (F.known files.new) job result }
-    ensures kept { ¬ IsWriting job.command → files.new ≡ files.old }
+    ensures ends { JobEnds (F.known (F.contents files.old)) (F.known (F.contents files.new)) job
+        result }
+    ensures kept { ¬ IsWriting job.command → F.contents files.new ≡ F.contents files.old }
     ensures unwritten { IfErr result
-        (λ e. status_of e ≢ Status.File → status_of e ≢ Status.Memory → files.new ≡ files.old) }
-    ensures touched { files.new ≡ files.old
-        ⊎ WritesImage (F.known files.old) job.command job.options }
+        (λ e. status_of e ≢ Status.File
+        → status_of e ≢ Status.Memory
+        → F.contents files.new ≡ F.contents files.old) }
+    ensures touched { F.contents files.new ≡ F.contents files.old
+        ⊎ WritesImage (F.known (F.contents files.old)) job.command job.options }
     ensures other { IfErr result (λ e. (status_of e ≢ Status.Usage) × (e ≢ Failure.Output)) }
 {
     let Job {
@@ -171,17 +181,20 @@ fn compile_to<F: Files>(
     entry: EntryFile,
     out: String,
 ) -> Result<String, Failure>
-    ensures only { ChangesOnly (F.known files.old) (F.known files.new) (string_bytes out) }
-    ensures ends { IsUnread (F.known files.old)
-        (IsOfDirectory (F.known files.old) (string_bytes entry.dir)) None result
-        ⊎ Compiles (F.known files.old) (F.known files.new) (string_bytes entry.dir)
-        (string_bytes entry.name) (string_bytes out) entry.options result }
+    ensures only { ChangesOnly (F.known (F.contents files.old)) (F.known (F.contents files.new))
+        (string_bytes out) }
+    ensures ends { IsUnread (F.known (F.contents files.old))
+        (IsOfDirectory (F.known (F.contents files.old)) (string_bytes entry.dir)) None result
+        ⊎ Compiles (F.known (F.contents files.old)) (F.known (F.contents files.new))
+        (string_bytes entry.dir) (string_bytes entry.name) (string_bytes out) entry.options result }
     ensures unwritten { IfErr result
-        (λ e. status_of e ≢ Status.File → status_of e ≢ Status.Memory → files.new ≡ files.old) }
+        (λ e. status_of e ≢ Status.File
+        → status_of e ≢ Status.Memory
+        → F.contents files.new ≡ F.contents files.old) }
     // If there is no image, nothing is written.
-    ensures touched { files.new ≡ files.old
-        ⊎ HasImage (F.known files.old) (string_bytes entry.dir) (string_bytes entry.name)
-        entry.options }
+    ensures touched { F.contents files.new ≡ F.contents files.old
+        ⊎ HasImage (F.known (F.contents files.old)) (string_bytes entry.dir)
+        (string_bytes entry.name) entry.options }
 {
     let EntryFile { dir, name, options } = entry;
     let templates = templates_in(alloc, files, dir)?;
@@ -202,14 +215,19 @@ fn upgrade_to<F: Files>(
     image: String,
     out: String,
 ) -> Result<String, Failure>
-    ensures only { ChangesOnly (F.known files.old) (F.known files.new) (string_bytes out) }
-    ensures ends { IsUnread (F.known files.old) (IsPath (string_bytes image)) None result
-        ⊎ Upgrades (F.known files.old) (F.known files.new) (string_bytes image) (string_bytes out)
-        result }
+    ensures only { ChangesOnly (F.known (F.contents files.old)) (F.known (F.contents files.new))
+        (string_bytes out) }
+    ensures ends { IsUnread (F.known (F.contents files.old)) (IsPath (string_bytes image)) None
+        result
+        ⊎ Upgrades (F.known (F.contents files.old)) (F.known (F.contents files.new))
+        (string_bytes image) (string_bytes out) result }
     ensures unwritten { IfErr result
-        (λ e. status_of e ≢ Status.File → status_of e ≢ Status.Memory → files.new ≡ files.old) }
+        (λ e. status_of e ≢ Status.File
+        → status_of e ≢ Status.Memory
+        → F.contents files.new ≡ F.contents files.old) }
     // If there is no image in version 2, nothing is written.
-    ensures touched { files.new ≡ files.old ⊎ HasUpgrade (F.known files.old) (string_bytes image) }
+    ensures touched { F.contents files.new ≡ F.contents files.old
+        ⊎ HasUpgrade (F.known (F.contents files.old)) (string_bytes image) }
 {
     let bytes = bytes_at(files, image)?;
     let later = upgraded(alloc, &bytes)?;
@@ -218,9 +236,10 @@ fn upgrade_to<F: Files>(
 }
 
 /// Verifies the image at a path, and returns the line with its size.
-fn check_at<F: Files>(alloc: Global, files: &F, image: String) -> Result<String, Failure>
-    ensures { IsUnread (F.known files.now) (IsPath (string_bytes image)) None result
-        ⊎ Checks (F.known files.now) (string_bytes image) result }
+fn check_at<F: Files>(alloc: Global, files: &mut F, image: String) -> Result<String, Failure>
+    ensures ends { IsUnread (F.known (F.contents files.old)) (IsPath (string_bytes image)) None
+        result ⊎ Checks (F.known (F.contents files.old)) (string_bytes image) result }
+    ensures kept { F.contents files.new ≡ F.contents files.old }
 {
     let bytes = bytes_at(files, image)?;
     let (units, instructions) = counts_of(alloc, &bytes)?;
@@ -230,13 +249,15 @@ fn check_at<F: Files>(alloc: Global, files: &F, image: String) -> Result<String,
 /// Runs the image at a path for the context of a file, and returns its text.
 fn run_at<F: Files>(
     alloc: Global,
-    files: &F,
+    files: &mut F,
     image: String,
     context: Option<String>,
     budget: Budget,
 ) -> Result<String, Failure>
-    ensures { IsUnread (F.known files.now) (IsPath (string_bytes image)) context result
-        ⊎ Runs (F.known files.now) (string_bytes image) context budget result }
+    ensures ends { IsUnread (F.known (F.contents files.old)) (IsPath (string_bytes image)) context
+        result
+        ⊎ Runs (F.known (F.contents files.old)) (string_bytes image) context budget result }
+    ensures kept { F.contents files.new ≡ F.contents files.old }
 {
     let bytes = bytes_at(files, image)?;
     let context = context_at(alloc, files, context)?;
@@ -249,15 +270,16 @@ fn run_at<F: Files>(
 /// Renders the entry for the context of a file, and returns its text.
 fn render_in<F: Files>(
     alloc: Global,
-    files: &F,
+    files: &mut F,
     entry: EntryFile,
     context: Option<String>,
     budget: Budget,
 ) -> Result<String, Failure>
-    ensures { IsUnread (F.known files.now)
-        (IsOfDirectory (F.known files.now) (string_bytes entry.dir)) context result
-        ⊎ Renders (F.known files.now) (string_bytes entry.dir) (string_bytes entry.name)
-        entry.options context budget result }
+    ensures ends { IsUnread (F.known (F.contents files.old))
+        (IsOfDirectory (F.known (F.contents files.old)) (string_bytes entry.dir)) context result
+        ⊎ Renders (F.known (F.contents files.old)) (string_bytes entry.dir)
+        (string_bytes entry.name) entry.options context budget result }
+    ensures kept { F.contents files.new ≡ F.contents files.old }
 {
     let EntryFile { dir, name, options } = entry;
     let templates = templates_in(alloc, files, dir)?;
@@ -276,14 +298,15 @@ fn render_in<F: Files>(
 /// Reads the context in a file, or returns the empty context if no file is named.
 pub(crate) fn context_at<F: Files>(
     alloc: Global,
-    files: &F,
+    files: &mut F,
     path: Option<String>,
 ) -> Result<Context, Failure>
     ensures given { IfOk result
-        (λ context. IsContextAt (F.known files.now) path (pairs_of context)) }
+        (λ context. IsContextAt (F.known (F.contents files.old)) path (pairs_of context)) }
     // No file is read except that of the context.
     ensures err { IfErr result
-        (λ e. IsUnread (F.known files.now) (IsOfContext path) path (Err e)) }
+        (λ e. IsUnread (F.known (F.contents files.old)) (IsOfContext path) path (Err e)) }
+    ensures kept { F.contents files.new ≡ F.contents files.old }
 {
     match path {
         Some(path) => {
@@ -295,11 +318,12 @@ pub(crate) fn context_at<F: Files>(
 }
 
 /// Returns the bytes of the file at `path`.
-pub(crate) fn bytes_at<F: Files>(files: &F, path: String) -> Result<Vec<u8>, Failure>
+pub(crate) fn bytes_at<F: Files>(files: &mut F, path: String) -> Result<Vec<u8>, Failure>
     ensures held { IfOk result
-        (λ bytes. (F.known files.now).holds (string_bytes path) bytes.items) }
+        (λ bytes. (F.known (F.contents files.old)).holds (string_bytes path) bytes.items) }
     ensures err { IfErr result
-        (λ e. IsUnread (F.known files.now) (IsPath (string_bytes path)) None (Err e)) }
+        (λ e. IsUnread (F.known (F.contents files.old)) (IsPath (string_bytes path)) None (Err e)) }
+    ensures kept { F.contents files.new ≡ F.contents files.old }
 {
     files
         .read(path.as_str())
@@ -308,10 +332,12 @@ pub(crate) fn bytes_at<F: Files>(files: &F, path: String) -> Result<Vec<u8>, Fai
 
 /// Sets the contents of the file at `path` to `bytes`.
 fn write_at<F: Files>(files: &mut F, path: String, bytes: &[u8]) -> Result<(), Failure>
-    ensures written { OnOk result ((F.known files.new).holds (string_bytes path) bytes.now) }
-    ensures only { ChangesOnly (F.known files.old) (F.known files.new) (string_bytes path) }
+    ensures written { OnOk result
+        ((F.known (F.contents files.new)).holds (string_bytes path) bytes.now) }
+    ensures only { ChangesOnly (F.known (F.contents files.old)) (F.known (F.contents files.new))
+        (string_bytes path) }
     ensures err { IfErr result
-        (λ e. IsUnread (F.known files.old) (IsPath (string_bytes path)) None (Err e)) }
+        (λ e. IsUnread (F.known (F.contents files.old)) (IsPath (string_bytes path)) None (Err e)) }
 {
     files
         .write(path.as_str(), bytes)
@@ -319,12 +345,14 @@ fn write_at<F: Files>(files: &mut F, path: String, bytes: &[u8]) -> Result<(), F
 }
 
 /// Returns the names of the files directly in `dir`, in byte order.
-fn names_in<F: Files>(files: &F, dir: &str) -> Result<Vec<String>, FileError>
+fn names_in<F: Files>(files: &mut F, dir: &str) -> Result<Vec<String>, FileError>
     ensures listed { IfOk result (λ names. (given : List (List ℕ))
-        × (F.known files.now).lists dir.now given
+        × (F.known (F.contents files.old)).lists dir.now given
         × IsPermutation given (map string_bytes names.items)) }
     ensures sorted { IfOk result (λ names. IsSorted string_cmp names.items) }
-    ensures failed { IsErrOf result FileError.Failed → (F.known files.now).fails dir.now }
+    ensures failed { IsErrOf result FileError.Failed
+        → (F.known (F.contents files.old)).fails dir.now }
+    ensures kept { F.contents files.new ≡ F.contents files.old }
 {
     let mut names = files.list(dir)?;
     names.sort_unstable();
@@ -333,11 +361,13 @@ fn names_in<F: Files>(files: &F, dir: &str) -> Result<Vec<String>, FileError>
 
 /// Reads the templates directly in `dir`, by their file names. A file that is not a text is
 /// skipped.
-fn templates_in<F: Files>(alloc: Global, files: &F, dir: String) -> Result<Templates, Failure>
+fn templates_in<F: Files>(alloc: Global, files: &mut F, dir: String) -> Result<Templates, Failure>
     ensures library { IfOk result
-        (λ templates. IsLibrary (F.known files.now) (string_bytes dir) (source_of templates)) }
-    ensures err { IfErr result (λ e. IsUnread (F.known files.now)
-        (IsOfDirectory (F.known files.now) (string_bytes dir)) None (Err e)) }
+        (λ templates. IsLibrary (F.known (F.contents files.old)) (string_bytes dir)
+        (source_of templates)) }
+    ensures err { IfErr result (λ e. IsUnread (F.known (F.contents files.old))
+        (IsOfDirectory (F.known (F.contents files.old)) (string_bytes dir)) None (Err e)) }
+    ensures kept { F.contents files.new ≡ F.contents files.old }
 {
     let names = match names_in(files, dir.as_str()) {
         Ok(names) => names,
@@ -353,17 +383,18 @@ fn templates_in<F: Files>(alloc: Global, files: &F, dir: String) -> Result<Templ
 /// Adds the file `name` of `dir` to the templates, if it is a text.
 fn read_into<F: Files>(
     alloc: Global,
-    files: &F,
+    files: &mut F,
     templates: &mut Templates,
     dir: &str,
     name: String,
 ) -> Result<(), Failure>
     ensures read { OnOk result ((names : List (List ℕ))
-        → AreSources (F.known files.now) dir.now names (source_of templates.old)
-        → AreSources (F.known files.now) dir.now (names ++ string_bytes name ∷ [])
+        → AreSources (F.known (F.contents files.old)) dir.now names (source_of templates.old)
+        → AreSources (F.known (F.contents files.old)) dir.now (names ++ string_bytes name ∷ [])
         (source_of templates.new)) }
-    ensures err { IfErr result (λ e. IsUnread (F.known files.now)
+    ensures err { IfErr result (λ e. IsUnread (F.known (F.contents files.old))
         (IsPath (path_in dir.now (string_bytes name))) None (Err e)) }
+    ensures kept { F.contents files.new ≡ F.contents files.old }
 {
     let path = format!(in alloc; "{dir}/{name}")?;
     let bytes = bytes_at(files, path)?;

@@ -2,8 +2,9 @@
 
 use crate::files::{FileError, Files};
 use std::alloc::{AllocError, AllocFailed};
-use std::fs::{File, OpenFile, OpenOptions};
+use std::fs::{File, Metadata, OpenFile, OpenOptions};
 use std::io::{Read, Write};
+use std::os::unix::fs::{MetadataExt, OpenOptionsExt};
 use std::rt::Runtime;
 use std::{fs, io};
 
@@ -74,33 +75,74 @@ fn room_for<F: OpenFile>(file: &F) -> usize {
     }
 }
 
-/// Returns whether a new file may replace `path`: it names nothing, or a regular file that may be
-/// written. A link, a device and a pipe are written in place.
-fn may_replace<R: Runtime>(rt: &R, path: &str) -> bool {
+/// Creates the file at `part` that is to replace the file at `path`. Nobody may read it who may not
+/// read the file at `path`. Returns `None` if there can be no such file, or if `path` is a link, a
+/// device or a pipe.
+fn new_part<R: Runtime>(rt: &R, part: &str, path: &str) -> Option<R::File> {
     match fs::symlink_metadata(rt, path) {
-        Ok(known) => known.is_file() && OpenOptions::new().write(true).open(rt, path).is_ok(),
-        Err(error) => error.kind() == io::ErrorKind::NotFound,
+        Ok(old) => part_like(rt, part, path, &old),
+        Err(error) if error.kind() == io::ErrorKind::NotFound => File::create_new(rt, part).ok(),
+        Err(_) => None,
     }
 }
 
-/// Writes `bytes` to a new file, sets its permissions to the permissions of the file at `path`, and
-/// renames it to `path`.
-fn fill<R: Runtime, F: Write + OpenFile>(
+/// Creates the file at `part` with the owner, the group and the permissions of `old`, the file at
+/// `path`. Returns `None` if that is not possible, or if the file at `path` may not be written.
+fn part_like<R: Runtime>(rt: &R, part: &str, path: &str, old: &Metadata) -> Option<R::File> {
+    let may_write = OpenOptions::new().write(true).open(rt, path).is_ok();
+    if !old.is_file() || !may_write {
+        return None;
+    }
+    let mut options = OpenOptions::new();
+    options.write(true).create_new(true).mode(old.mode());
+    let file = options.open(rt, part).ok()?;
+    if is_as_open(&file, old) {
+        return Some(file);
+    }
+    let _ = fs::remove_file(rt, part);
+    None
+}
+
+/// Gives a new file the permissions of `old`. Returns whether it then has these and the owner and
+/// the group of `old`.
+fn is_as_open<F: OpenFile>(file: &F, old: &Metadata) -> bool {
+    match file.metadata() {
+        Ok(new) if new.uid() == old.uid() && new.gid() == old.gid() => {
+            file.set_permissions(old.permissions()).is_ok()
+        }
+        _ => false,
+    }
+}
+
+/// Writes `bytes` to the new file at `part` and renames it to `path`. Returns whether it was
+/// renamed: not if `path` is a mount point, for example. If not, the file at `part` is removed.
+fn replace<R: Runtime>(
     rt: &R,
-    file: &mut F,
+    mut file: R::File,
     part: &str,
     path: &str,
     bytes: &[u8],
-) -> io::Result<()> {
-    file.write_all(bytes)?;
-    if let Ok(known) = fs::metadata(rt, path) {
-        file.set_permissions(known.permissions())?;
+) -> io::Result<bool> {
+    let filled = file.write_all(bytes);
+    let is_renamed = filled.is_ok() && fs::rename(rt, part, path).is_ok();
+    if !is_renamed {
+        let _ = fs::remove_file(rt, part);
     }
-    fs::rename(rt, part, path)
+    filled?;
+    Ok(is_renamed)
 }
 
 impl<R: Runtime + AllocGlobal> Files for SystemFiles<'_, R> {
-    fn list(&self, dir: &str) -> Result<Vec<String>, FileError> {
+    ghost use Rattle.jt_program.specs.Files.{anything};
+
+    ghost Contents = { Unit {0} };
+
+    ghost contents = { λ _. tt };
+
+    // Every result is possible, as for a machine's own files.
+    ghost known = { λ _. anything };
+
+    fn list(&mut self, dir: &str) -> Result<Vec<String>, FileError> {
         let mut names = Vec::new(self.rt.alloc());
         for entry in fs::read_dir(self.rt, dir)? {
             let entry = entry?;
@@ -111,29 +153,23 @@ impl<R: Runtime + AllocGlobal> Files for SystemFiles<'_, R> {
         Ok(names)
     }
 
-    fn read(&self, path: &str) -> Result<Vec<u8>, FileError> {
+    fn read(&mut self, path: &str) -> Result<Vec<u8>, FileError> {
         let mut file = fs::open(self.rt, path)?;
         let mut bytes = Vec::with_capacity(self.rt.alloc(), room_for(&file))?;
         file.read_to_end(&mut bytes)?;
         Ok(bytes)
     }
 
-    // Writes `bytes` to a new file, at `path` with `.part` after it, and renames it to `path`. If
-    // the file at `path` may not be replaced, or no such file can be made, overwrites `path`.
+    // The old contents stay until the new bytes are complete. These are written to a new file, at
+    // `path` with `.part` after it, which is renamed. If that is not possible, the file at `path`
+    // is written in place.
     fn write(&mut self, path: &str, bytes: &[u8]) -> Result<(), FileError> {
         let part = format!(in self.rt.alloc(); "{path}.part")?;
-        let made = if may_replace(self.rt, path) {
-            File::create_new(self.rt, part.as_str()).ok()
-        } else {
-            None
-        };
-        let Some(mut file) = made else {
-            return Ok(fs::write(self.rt, path, bytes)?);
-        };
-        let filled = fill(self.rt, &mut file, part.as_str(), path, bytes);
-        if filled.is_err() {
-            let _ = fs::remove_file(self.rt, part.as_str());
+        if let Some(file) = new_part(self.rt, part.as_str(), path)
+            && replace(self.rt, file, part.as_str(), path, bytes)?
+        {
+            return Ok(());
         }
-        Ok(filled?)
+        Ok(fs::write(self.rt, path, bytes)?)
     }
 }

@@ -1,5 +1,5 @@
 //! Runs images in turns.
-ghost use Rattle.std.specs.Prelude.{◌++◌, ◌∷◌, [], List, IfOk, IfErr, OnOk};
+ghost use Rattle.std.specs.Prelude.{◌≡◌, ◌++◌, ◌∷◌, [], List, IfOk, IfErr, OnOk};
 ghost use Rattle.jt_args.specs.declared.Pair.{Pair as LinePair};
 ghost use Rattle.jt_turns.specs.Worlds.{world_of};
 ghost use Rattle.jt_program.specs.Commands.{AreOpen, IsNoStart, IsNotOpened, IsStart, TakesTurns};
@@ -18,12 +18,13 @@ use std::alloc::Global;
 /// of the first pair that opens no session.
 pub(crate) fn run_turns<F: Files>(
     alloc: Global,
-    files: &F,
+    files: &mut F,
     pairs: Vec<Pair>,
     budget: Budget,
     slice: u32,
 ) -> Result<String, Failure>
-    ensures { TakesTurns (F.known files.now) pairs.items budget result }
+    ensures ends { TakesTurns (F.known (F.contents files.old)) pairs.items budget result }
+    ensures kept { F.contents files.new ≡ F.contents files.old }
 {
     let mut sessions = Sessions::new(alloc);
     for pair in pairs {
@@ -38,26 +39,29 @@ pub(crate) fn run_turns<F: Files>(
 /// Opens the session of a pair.
 fn open_pair<F: Files>(
     alloc: Global,
-    files: &F,
+    files: &mut F,
     sessions: &mut Sessions,
     pair: Pair,
     budget: Budget,
 ) -> Result<(), Failure>
     ensures opened { OnOk result ((ps : List LinePair)
-        → AreOpen (F.known files.now) budget ps (world_of sessions.old)
-        → AreOpen (F.known files.now) budget (ps ++ pair ∷ []) (world_of sessions.new)) }
+        → AreOpen (F.known (F.contents files.old)) budget ps (world_of sessions.old)
+        → AreOpen (F.known (F.contents files.old)) budget (ps ++ pair ∷ [])
+        (world_of sessions.new)) }
     ensures refused { IfErr result (λ e. (ps : List LinePair)
-        → AreOpen (F.known files.now) budget ps (world_of sessions.old)
-        → IsNotOpened (F.known files.now) ps pair e) }
+        → AreOpen (F.known (F.contents files.old)) budget ps (world_of sessions.old)
+        → IsNotOpened (F.known (F.contents files.old)) ps pair e) }
+    ensures kept { F.contents files.new ≡ F.contents files.old }
 {
     let start = start_at(alloc, files, pair)?;
     Ok(sessions.open(start, budget)?)
 }
 
 /// Reads and verifies the image of a pair, and reads its context.
-fn start_at<F: Files>(alloc: Global, files: &F, pair: Pair) -> Result<Start, Failure>
-    ensures start { IfOk result (IsStart (F.known files.now) pair) }
-    ensures err { IfErr result (IsNoStart (F.known files.now) pair) }
+fn start_at<F: Files>(alloc: Global, files: &mut F, pair: Pair) -> Result<Start, Failure>
+    ensures start { IfOk result (IsStart (F.known (F.contents files.old)) pair) }
+    ensures err { IfErr result (IsNoStart (F.known (F.contents files.old)) pair) }
+    ensures kept { F.contents files.new ≡ F.contents files.old }
 {
     let Pair { image, context } = pair;
     let bytes = bytes_at(files, image)?;

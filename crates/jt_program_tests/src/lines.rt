@@ -8,9 +8,19 @@ use std::test::Fail;
 
 /// A writer that takes one byte per call, and fails once, after `left` bytes.
 #[derive(Drop)]
-struct Flaky {
-    taken: String,
+pub(crate) struct Flaky {
+    pub(crate) taken: String,
     left: usize,
+}
+
+impl Flaky {
+    /// Returns a writer that never fails.
+    pub(crate) fn whole(alloc: Global) -> Flaky {
+        Flaky {
+            taken: String::new(alloc),
+            left: usize::MAX,
+        }
+    }
 }
 
 impl io::Write for Flaky {
@@ -39,11 +49,17 @@ fn status(
     out: &mut IoSink<Flaky>,
     errors: &mut IoSink<Flaky>,
 ) -> Result<u8, Fail> {
+    let words = words_of(alloc, line)?;
+    Ok(performed(alloc, &words, disk, out, errors))
+}
+
+/// Returns the words of a line.
+pub(crate) fn words_of(alloc: Global, line: &str) -> Result<Vec<&str>, Fail> {
     let mut words = Vec::new(alloc);
     for word in line.split_whitespace() {
         words.push(word)?;
     }
-    Ok(performed(alloc, &words, disk, out, errors))
+    Ok(words)
 }
 
 /// Performs two lines over a disk of three templates and a context. Returns the statuses, the
@@ -56,10 +72,7 @@ fn ended(alloc: Global, left: usize, lines: &str) -> Result<String, Fail> {
     disk.put("none", b"{}")?;
     let taken = String::new(alloc);
     let mut out = IoSink::new(Flaky { taken, left });
-    let mut errors = IoSink::new(Flaky {
-        taken: String::new(alloc),
-        left: usize::MAX,
-    });
+    let mut errors = IoSink::new(Flaky::whole(alloc));
     let (line, behind) = lines.split_once(" ; ").ok_or("a row has one line")?;
     let first = status(alloc, line, &mut disk, &mut out, &mut errors)?;
     let second = status(alloc, behind, &mut disk, &mut out, &mut errors)?;

@@ -8,8 +8,9 @@ use Rattle.jt_program.proofs.program.perform_line.Goals as goal
 pub returns-clause-ends : goal.returns-clause-ends
 returns-clause-ends g c =
     let found = subcommand_of program_app (texts c.args.words.now) in
-    let answers : Answers (g.F.Files.known c.args.files.now) (g.F.Files.known c.perform_job.new.files) found
-    c.perform_job.result = record {
+    let files = g.F.Files.known (g.F.Files.contents c.args.files.now) in
+    let after = g.F.Files.known (g.F.Files.contents c.perform_job.new.files) in
+    let answers : Answers files after found c.perform_job.result = record {
       job = c.in_ok-job.job;
       asked = c.in_ok-job.ensures.asked;
       ends = c.perform_job.ensures.ends;
@@ -19,12 +20,14 @@ returns-clause-ends g c =
 pub returns-clause-only : goal.returns-clause-only
 returns-clause-only g c =
     let found = subcommand_of program_app (texts c.args.words.now) in
-    let files = g.F.Files.known c.args.files.now in
-    only_out files (g.F.Files.known c.perform_job.new.files) found c.in_ok-job.job c.perform_job.result
+    let files = g.F.Files.known (g.F.Files.contents c.args.files.now) in
+    let after = g.F.Files.known (g.F.Files.contents c.perform_job.new.files) in
+    only_out files after found c.in_ok-job.job c.perform_job.result
     c.in_ok-job.ensures.asked c.perform_job.ensures.ends
     (λ not. rw (c.perform_job.ensures.kept not) (same_files files (out_of found)))
 
 pub returns-clause-touched : goal.returns-clause-touched
 returns-clause-touched g c =
-    line_writes (g.F.Files.known c.args.files.now) (subcommand_of program_app (texts c.args.words.now)) c.in_ok-job.job
+    let files = g.F.Files.known (g.F.Files.contents c.args.files.now) in
+    line_writes files (subcommand_of program_app (texts c.args.words.now)) c.in_ok-job.job
     c.in_ok-job.ensures.asked c.perform_job.ensures.touched

@@ -10,7 +10,7 @@ use Rattle.jt_program.proofs.program.read_into.Goals as goal
 
 pub returns-in_ok-insert-in-Ok-clause-read : goal.returns-in_ok-insert-in-Ok-clause-read
 returns-in_ok-insert-in-Ok-clause-read g c names each =
-    let files = g.F.Files.known c.args.files.now in
+    let files = g.F.Files.known (g.F.Files.contents c.args.files.now) in
     let source = string_bytes c.in-Ok.source in
     let at : string_bytes c.in_ok-path.path ≡ path_in c.args.dir.now (string_bytes c.args.name) =
     c.in_ok-path.ensures.ok in
@@ -24,7 +24,7 @@ returns-in_ok-insert-in-Ok-clause-read g c names each =
 
 pub returns-in-Err-clause-read : goal.returns-in-Err-clause-read
 returns-in-Err-clause-read g c names each =
-    let files = g.F.Files.known c.args.files.now in
+    let files = g.F.Files.known (g.F.Files.contents c.args.files.now) in
     let bytes = c.in_ok-bytes.bytes.items in
     let at : string_bytes c.in_ok-path.path ≡ path_in c.args.dir.now (string_bytes c.args.name) =
     c.in_ok-path.ensures.ok in
@@ -36,7 +36,7 @@ returns-in-Err-clause-read g c names each =
 pub returns-in_err-bytes-clause-err : goal.returns-in_err-bytes-clause-err
 returns-in_err-bytes-clause-err g c =
     let p = err_from_is_err_and c.from_residual-in_err-bytes.result c.from_residual-in_err-bytes.ensures.1 in
-    let files = g.F.Files.known c.args.files.now in
+    let files = g.F.Files.known (g.F.Files.contents c.args.files.now) in
     let at : string_bytes c.in_ok-path.path ≡ path_in c.args.dir.now (string_bytes c.args.name) =
     c.in_ok-path.ensures.ok in
     rw (p.1, p.2) (subst (λ (path : List ℕ). IsUnread files (IsPath path) None (Err c.in_err-bytes.field-0.0)) at

@@ -7,19 +7,19 @@ use Rattle.jt_ast.specs.Expressions.{Text}
 use Rattle.jt_program.specs.Commands.{IsPath, IsUnread}
 use Rattle.jt_program.specs.Files.{AreSources, IsLibrary, path_in}
 use Rattle.jt_host.specs.Templates.{source_of}
-use Rattle.jt_program.proofs.Endings.{unread_listed}
+use Rattle.jt_program.proofs.Endings.{unread_listed, unread_still}
 use Rattle.jt_program.proofs.SourceCollection.{listed_between, nil_of, reordered}
 use Rattle.jt_program.proofs.program.templates_in.Goals as goal
 
 pub loop-name-preserved : goal.loop-name-preserved
 loop-name-preserved g c =
-    let files = g.F.Files.known c.args.files.now in
+    let files = g.F.Files.known (g.F.Files.contents c.args.files.now) in
     let before = map string_bytes c.loop-name.yielded in
     let sources = source_of c.read_into.new.templates in
     let dir : c.as_str-in-loop-name.result.now ≡ string_bytes c.args.dir = search rules in
     let old = subst (λ (d : Text). AreSources files d before (source_of c.loop-name.templates)) (sym dir)
     c.loop-name.invariant.1 in
-    let new = c.in_ok-read_into.ensures.read before old in
+    let new = (rw c.loop-name.invariant.2 at c.in_ok-read_into.ensures.read) before old in
     let left = c.next.new.self.rest.items in
     let all : c.into_iter-name-iterator.result.rest.items ≡ c.loop-name.yielded ++ c.in-Some.name ∷ left =
     c.loop-name.invariant.0 ∙ ap (λ names. c.loop-name.yielded ++ names) c.in-Some.ensures.steps.0 in (
@@ -27,11 +27,12 @@ loop-name-preserved g c =
       subst (λ (names : List Text). AreSources files (string_bytes c.args.dir) names sources)
           (sym (map_push string_bytes c.loop-name.yielded c.in-Some.name))
           (subst (λ (d : Text). AreSources files d (before ++ string_bytes c.in-Some.name ∷ []) sources) dir new),
+      c.in_ok-read_into.ensures.kept ∙ c.loop-name.invariant.2,
     )
 
 pub returns-clause-library : goal.returns-clause-library
 returns-clause-library g c =
-    let files = g.F.Files.known c.args.files.now in
+    let files = g.F.Files.known (g.F.Files.contents c.args.files.now) in
     let dir : c.as_str.result.now ≡ string_bytes c.args.dir = search rules in
     let none : c.loop-name.name-iterator.rest.items ≡ [] = nil_of c.loop-name.name-iterator.rest.items
     c.loop-name.name-iterator.rest.len (sym c.loop-name.name-iterator.rest.ok.0) c.in-None.ensures.steps.0 in
@@ -55,7 +56,7 @@ returns-clause-library g c =
 pub returns-in_err-read_into-clause-err : goal.returns-in_err-read_into-clause-err
 returns-in_err-read_into-clause-err g c =
     let p = err_from_is_err_and c.from_residual.result c.from_residual.ensures.1 in
-    let files = g.F.Files.known c.args.files.now in
+    let files = g.F.Files.known (g.F.Files.contents c.args.files.now) in
     let dir : c.as_str.result.now ≡ string_bytes c.args.dir = search rules in
     let same_dir : c.as_str-in-loop-name.result.now ≡ string_bytes c.args.dir = search rules in
     let left = c.next.new.self.rest.items in
@@ -68,7 +69,8 @@ returns-in_err-read_into-clause-err g c =
     let there = listed_between listed.0 c.loop-name.yielded left c.in-Some.name order in
     let unread = subst (λ (d : Text).
     IsUnread files (IsPath (path_in d (string_bytes c.in-Some.name))) None (Err c.in_err-read_into.field-0.0)) same_dir
-    c.in_err-read_into.ensures.err in
+    (unread_still g.F.Files.known _ _ (IsPath (path_in c.as_str-in-loop-name.result.now (string_bytes c.in-Some.name)))
+    None c.in_err-read_into.field-0.0 c.loop-name.invariant.2 c.in_err-read_into.ensures.err) in
     rw (p.1, p.2)
     (unread_listed files (string_bytes c.args.dir) listed.0 (string_bytes c.in-Some.name) c.in_err-read_into.field-0.0
     (subst (λ (d : Text). files.lists d listed.0) dir listed.1) there unread)
