@@ -1,6 +1,6 @@
 //! Joins values by the rule of the filter `join`.
-ghost use Rattle.std.specs.Prelude.{◌≡◌, ◌++◌, Bool, IfErr, IsOk, IsSome, OnOk, if◌then◌else◌};
-ghost use Rattle.std.specs.Prelude.{option_map, string_bytes};
+ghost use Rattle.std.specs.Prelude.{◌≡◌, ◌++◌, Bool, IfErr, IfOk, IsOk, IsSome, OnOk};
+ghost use Rattle.std.specs.Prelude.{if◌then◌else◌, option_map, string_bytes};
 ghost use Rattle.std.specs.List.{join_by};
 ghost use Rattle.std.specs.Option.{is_some};
 ghost use Rattle.jt_value.specs.Tree.{printed};
@@ -95,8 +95,7 @@ fn have_texts(items: &[Value], separator: &Value) -> bool
     is_printable(separator) && are_printable(items)
 }
 
-/// Joins the texts of items. Checks for the fault before it builds anything, and prints the
-/// separator in every case.
+/// Joins the texts of items. Checks for the fault before it builds anything.
 fn join_text(
     alloc: Global,
     items: &[Value],
@@ -111,9 +110,30 @@ fn join_text(
     if !have_texts(items, separator) {
         return Err(ValueError::Fault(Fault::Unprintable));
     }
-    let mut between = String::new(alloc);
-    append_piece(separator, escaping, &mut between)?;
+    let between = piece_between(alloc, items, separator, escaping)?;
     join_between(alloc, items, &between, escaping)
+}
+
+/// Returns the separator's piece, or an empty text if there is nothing to separate.
+#[tactic(auto, using(crate::proofs::JoinSteps::separations))]
+fn piece_between(
+    alloc: Global,
+    items: &[Value],
+    separator: &Value,
+    escaping: bool,
+) -> Result<String, ValueError>
+    requires { IsSome (joined_text escaping (items_view items.now) (view separator.now)) }
+    ensures ok { IfOk result (λ between.
+        option_map (join_by (λ text. text) (string_bytes between))
+        (pieces escaping (items_view items.now))
+        ≡ joined_text escaping (items_view items.now) (view separator.now)) }
+    ensures memory { IfErr result (λ e. e ≡ ValueError.NoMemory) }
+{
+    let mut between = String::new(alloc);
+    if items.len() > 1 {
+        append_piece(separator, escaping, &mut between)?;
+    }
+    Ok(between)
 }
 
 fn join_between(
