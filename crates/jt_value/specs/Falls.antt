@@ -5,7 +5,10 @@ use Rattle.std.proofs.Common.{arith}
 use Rattle.std.specs.declared.alloc.Global.{Global}
 use denote.Param.Weighed.{most}
 use Rattle.jt_value.specs.Tree.{size, items_size, entries_size}
+use Rattle.jt_value.specs.ListItems.{numbers_of}
+use Rattle.jt_value.specs.Payload.{joined_items}
 use Rattle.jt_value.specs.View.{view, items_view, entries_view}
+use Rattle.jt_value.specs.declared.number_range.NumberRange.{NumberRange}
 use Rattle.jt_value.specs.declared.value.Value.{Value}
 use Rattle.jt_value.specs.declared.value.Value.TheVariants as value
 use Rattle.jt_value.specs.declared.payload.ValueList.TheDeep.{deep-Value, size-Value}
@@ -20,9 +23,10 @@ deep_le (value.Markup s) = omega arith
 deep_le (value.List l) = omega arith
 deep_le (value.Map m) = omega arith
 
-pub most-items : (vs : List Value) → most deep-Value vs ≤ items_size (items_view vs)
-most-items [] = omega arith
-most-items (v ∷ vs) = omega (arith, deep_le v, most-items vs)
+pub most-list : (vs : List Value) (range : NumberRange)
+    → most deep-Value vs ≤ items_size (joined_items (items_view vs) (numbers_of range))
+most-list [] range = omega arith
+most-list (v ∷ vs) range = omega (arith, deep_le v, most-list vs range)
 
 pub most-entries : (es : List (String Global × Value))
     → max (most (λ e. max 0 (max (deep-Value e.1) 0)) es) 0 ≤ entries_size (entries_view es)

@@ -1,10 +1,13 @@
 //! Constructs texts, lists and maps, and returns their contents.
 ghost use Rattle.std.specs.Prelude.{◌≡◌, IfOk, option_map, string_bytes};
+ghost use Rattle.jt_value.specs.ListItems.{listed, numbers_of};
 ghost use Rattle.jt_value.specs.Payload.{text_of, items_of_list, entries_of_map};
 ghost use Rattle.jt_value.specs.Tree as tree;
 ghost use Rattle.jt_value.specs.View.{view, items_view, entries_view};
 
 use crate::fault::NoMemory;
+use crate::list_items::ListItems;
+use crate::number_range::NumberRange;
 use crate::payload::{ValueList, ValueMap};
 use crate::value::Value;
 use indexmap::IndexMap;
@@ -68,6 +71,17 @@ impl Value {
         Ok(Value::List(Rc::new(alloc, ValueList::new(items))?))
     }
 
+    /// Returns a list of the numbers of a range. None of them is stored.
+    ///
+    /// # Errors
+    ///
+    /// `NoMemory` if a growth is refused.
+    pub fn range(alloc: Global, numbers: NumberRange) -> Result<Value, NoMemory>
+        ensures { IfOk result (λ v. view v ≡ tree.list (numbers_of numbers)) }
+    {
+        Ok(Value::List(Rc::new(alloc, ValueList::of_numbers(alloc, numbers))?))
+    }
+
     /// Returns a map that takes the entries without copying them, in their order. Repeated keys are
     /// not detected: a lookup finds the first value of a key.
     ///
@@ -106,8 +120,8 @@ impl Value {
     }
 
     /// Returns the items of a list, or `None` for any other value.
-    pub fn as_list(&self) -> Option<&[Value]>
-        ensures { option_map (λ s. items_view s.now) result ≡ items_of_list (view self.now) }
+    pub fn as_list(&self) -> Option<ListItems<'_>>
+        ensures { option_map listed result ≡ items_of_list (view self.now) }
     {
         match self {
             Value::List(list) => Some(list.items()),

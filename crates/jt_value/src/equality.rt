@@ -6,10 +6,13 @@ ghost use Rattle.jt_value.specs.Tree.{Entries};
 ghost use Rattle.jt_value.specs.Entries.{entry_of, has_key, all_keys, same_keys};
 ghost use Rattle.jt_value.specs.Equality.{equal, equal_items, equal_at, truth_number};
 ghost use Rattle.jt_value.specs.Equality.{AgreeAtEachKey};
+ghost use Rattle.jt_value.specs.ListItems.{numbers_of};
 ghost use Rattle.jt_value.specs.View.{view, items_view, entries_view};
 
 use crate::entries::have_same_keys;
-use crate::payload::ValueMap;
+use crate::list_items::ListItems;
+use crate::number_range::NumberRange;
+use crate::payload::{ValueList, ValueMap};
 use crate::value::Value;
 
 impl Value {
@@ -72,7 +75,7 @@ fn are_equal(left: &Value, right: &Value) -> bool
         Value::Text(text) => is_text(right, text.as_str()),
         Value::Markup(text) => is_text(right, text.as_str()),
         Value::List(list) => match right {
-            Value::List(other) => are_items_equal(list.items(), other.items()),
+            Value::List(other) => are_lists_equal(list, other),
             _ => false,
         },
         Value::Map(map) => match right {
@@ -80,6 +83,52 @@ fn are_equal(left: &Value, right: &Value) -> bool
             _ => false,
         },
     }
+}
+
+#[cycle(equality)]
+fn are_lists_equal(list: &ValueList, other: &ValueList) -> bool
+    ensures { result ≡ equal_items list.now other.now }
+{
+    match (list.items(), other.items()) {
+        (ListItems::Values(items), ListItems::Values(others)) => are_items_equal(items, others),
+        (ListItems::Values(items), ListItems::Numbers(numbers)) => are_numbers(items, numbers),
+        (ListItems::Numbers(numbers), ListItems::Values(others)) => are_numbers(others, numbers),
+        (ListItems::Numbers(numbers), ListItems::Numbers(others)) => {
+            are_ranges_equal(numbers, others)
+        }
+    }
+}
+
+/// Returns whether the values are the numbers of a range, or truth values that equal them.
+fn are_numbers(values: &[Value], numbers: NumberRange) -> bool
+    ensures { result ≡ equal_items (numbers_of numbers) (items_view values.now) }
+{
+    let mut rest = numbers;
+    for value in values {
+        match rest.split_first() {
+            Some((number, behind)) if is_number(value, number) => rest = behind,
+            _ => return false,
+        }
+    }
+    rest.is_empty()
+}
+
+/// Returns whether two ranges have the same numbers.
+fn are_ranges_equal(numbers: NumberRange, others: NumberRange) -> bool
+    ensures { result ≡ equal_items (numbers_of numbers) (numbers_of others) }
+{
+    let mut rest = numbers;
+    let mut others = others;
+    while let Some((number, behind)) = rest.split_first() {
+        match others.split_first() {
+            Some((other, others_behind)) if number == other => {
+                rest = behind;
+                others = others_behind;
+            }
+            _ => return false,
+        }
+    }
+    others.is_empty()
 }
 
 #[cycle(equality)]

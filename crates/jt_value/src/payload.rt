@@ -5,20 +5,27 @@ ghost use Rattle.std.specs.Option.{option_map_or};
 ghost use Rattle.jt_value.specs.Entries.{entry_of, has_key, index_of};
 ghost use Rattle.jt_value.specs.internal.InOrder.{to_come, IsInOrder, HasKeyCount};
 ghost use Rattle.jt_value.specs.Tree.{items_size, items_nesting, entries_size, entries_nesting};
+ghost use Rattle.jt_value.specs.ListItems.{listed, numbers_of};
 ghost use Rattle.jt_value.specs.Payload.{more_items, joined_items};
+ghost use Rattle.jt_value.specs.internal.Stored.{IsOneOf, IsStored};
 ghost use Rattle.jt_value.specs.View.{view, items_view, entries_view};
 
 use crate::in_order::InOrder;
 use crate::key_search::KeySearch;
+use crate::list_items::ListItems;
+use crate::number_range::NumberRange;
 use crate::value::Value;
 use std::alloc::{AllocError, Global};
 use std::marker::Model;
 
-/// The items of a list, with its size and nesting.
+/// The items of a list, with its size and nesting. They are stored, unless they are the numbers of
+/// a range.
 #[cycle(value)]
 #[derive(Drop)]
 pub struct ValueList {
-    items: Vec<Value>,
+    // Empty if `numbers` has numbers.
+    values: Vec<Value>,
+    numbers: NumberRange,
     size: u64,
     nesting: u32,
 }
@@ -50,9 +57,9 @@ impl Model for ValueList {
 
     ghost size = { items_size };
 
-    ghost use Rattle.jt_value.specs.Falls.{most-items};
+    ghost use Rattle.jt_value.specs.Falls.{most-list};
 
-    ghost size_decreases = { λ a h. omega (arith, most-items a.items.items) };
+    ghost size_decreases = { λ a h. omega (arith, most-list a.values.items a.numbers) };
 }
 
 impl Model for ValueMap {
@@ -77,20 +84,33 @@ impl Model for ValueMap {
 }
 
 impl ValueList {
-    /// Returns the list of the items.
-    pub(crate) fn new(items: Vec<Value>) -> ValueList
-        ensures { result ≡ items_view items.items }
+    /// Returns the list of the values.
+    pub(crate) fn new(values: Vec<Value>) -> ValueList
+        ensures { result ≡ items_view values.items }
     {
         let mut size = 1u64;
         let mut nesting = 0u32;
-        for item in &items {
+        for item in &values {
             size = size.saturating_add(item.size());
             nesting = nesting.max(item.nesting());
         }
         ValueList {
-            items,
+            values,
+            numbers: NumberRange::empty(),
             size,
             nesting: nesting.saturating_add(1),
+        }
+    }
+
+    /// Returns the list of the numbers of a range.
+    pub(crate) fn of_numbers(alloc: Global, numbers: NumberRange) -> ValueList
+        ensures { result ≡ numbers_of numbers }
+    {
+        ValueList {
+            values: Vec::new(alloc),
+            numbers,
+            size: (numbers.len() as u64).saturating_add(1),
+            nesting: 1,
         }
     }
 
@@ -105,7 +125,8 @@ impl ValueList {
     {
         let size = self.size.saturating_add(item.size());
         let nesting = self.nesting.max(item.nesting().saturating_add(1));
-        self.items.push(item)?;
+        store(&mut self.values, &mut self.numbers)?;
+        self.values.push(item)?;
         self.size = size;
         self.nesting = nesting;
         Ok(())
@@ -116,29 +137,61 @@ impl ValueList {
     /// # Errors
     ///
     /// `AllocError` if a growth is refused. Some of the copies may then have been appended.
-    pub fn append(&mut self, more: &[Value]) -> Result<(), AllocError>
+    pub fn append(&mut self, more: ListItems<'_>) -> Result<(), AllocError>
+        ensures { OnOk result (self.new ≡ joined_items self.old (listed more.entry)) }
+    {
+        match more {
+            ListItems::Values(values) => self.append_values(values),
+            ListItems::Numbers(numbers) => self.append_numbers(numbers),
+        }
+    }
+
+    fn append_values(&mut self, more: &[Value]) -> Result<(), AllocError>
         ensures { OnOk result (self.new ≡ joined_items self.old (items_view more.now)) }
     {
-        self.items.reserve(more.len())?;
         for item in more {
             self.push(item.clone()?)?;
         }
         Ok(())
     }
 
-    /// Returns the items.
-    pub fn items(&self) -> &[Value]
-        ensures { items_view result.now ≡ self.now }
+    fn append_numbers(&mut self, more: NumberRange) -> Result<(), AllocError>
+        ensures { OnOk result (self.new ≡ joined_items self.old (numbers_of more)) }
     {
-        self.items.as_slice()
+        let mut rest = more;
+        while let Some((number, behind)) = rest.split_first() {
+            self.push(Value::Int(number))?;
+            rest = behind;
+        }
+        Ok(())
     }
 
-    /// Returns the items and consumes the list.
-    pub fn into_items(self) -> Vec<Value>
-        ensures { items_view result.items ≡ self }
+    /// Returns the items.
+    pub fn items(&self) -> ListItems<'_>
+        ensures { listed result ≡ self.now }
     {
-        let ValueList { items, .. } = self;
-        items
+        if self.numbers.is_empty() {
+            ListItems::Values(self.values.as_slice())
+        } else {
+            ListItems::Numbers(self.numbers)
+        }
+    }
+
+    /// Returns the items as values and consumes the list. Those that are stored are moved.
+    ///
+    /// # Errors
+    ///
+    /// `AllocError` if a growth is refused.
+    pub fn into_items(self) -> Result<Vec<Value>, AllocError>
+        ensures { IfOk result (λ vs. items_view vs.items ≡ self) }
+    {
+        let ValueList {
+            mut values,
+            mut numbers,
+            ..
+        } = self;
+        store(&mut values, &mut numbers)?;
+        Ok(values)
     }
 
     /// Returns the list's size, at most 2^64 - 1.
@@ -156,12 +209,28 @@ impl ValueList {
     }
 }
 
+// Stores the numbers of a range as values, which were not stored before.
+fn store(values: &mut Vec<Value>, numbers: &mut NumberRange) -> Result<(), AllocError>
+    requires { IsOneOf values.old.items numbers.old }
+    ensures ok { OnOk result (IsStored values.old.items numbers.old values.new.items numbers.new) }
+    ensures err { OnErr result
+        ((values.new.items ≡ values.old.items) × (numbers.new ≡ numbers.old)) }
+{
+    if !numbers.is_empty() {
+        let alloc = *values.allocator();
+        *values = numbers.values(alloc)?;
+        *numbers = NumberRange::empty();
+    }
+    Ok(())
+}
+
 impl Clone for ValueList {
     ghost is_clone = { λ list copy. copy ≡ list };
 
     fn clone(&self) -> Result<ValueList, AllocError> {
         Ok(ValueList {
-            items: self.items.clone()?,
+            values: self.values.clone()?,
+            numbers: self.numbers,
             size: self.size,
             nesting: self.nesting,
         })

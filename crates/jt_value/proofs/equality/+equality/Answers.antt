@@ -1,12 +1,14 @@
 use Rattle.std.proofs.Common.{◌≡◌, ◌≢◌, ◌<◌, true, false, Bor, List, length, get_or, sym, ap, ◌∙◌, true≢false, arith}
 use Rattle.std.proofs.Common.{string_bytes}
 use Rattle.jt_value.specs.Entries.{entry_of, has_key, all_keys, keys, same_keys}
-use Rattle.jt_value.specs.Equality.{equal, equal_at}
+use Rattle.jt_value.specs.Equality.{equal, equal_at, equal_items}
 use Rattle.jt_value.specs.Falls.{size_le, sizes-items}
 use Rattle.jt_value.specs.internal.InOrder.{to_come}
+use Rattle.jt_value.specs.ListItems.{numbers_of}
 use Rattle.jt_value.specs.Tree.{items_size, entries_size}
-use Rattle.jt_value.specs.View.{view, entries_view}
+use Rattle.jt_value.specs.View.{view, items_view, entries_view}
 use Rattle.jt_value.proofs.Equalities.{items_differ, passes, fails, equal_at-first, equal_at-same, found, and_known}
+use Rattle.jt_value.proofs.NumberEquality.{equal_numbers}
 use Rattle.jt_value.proofs.Equalities.{same_keys-all, same_length}
 use Rattle.jt_value.proofs.KeyOrder.{alike_equal, alike_behind}
 use Rattle.jt_value.proofs.KeyIndices.{seen, size_lt}
@@ -24,16 +26,18 @@ use Rattle.jt_value.proofs.equality.+equality.Goals.{
   are_values_equal_in_place-else-not-are_equal-via-else-not-are_equal,
 }
 
-pub are_equal-are_items_equal-requires : goal.are_equal-are_items_equal-requires
-are_equal-are_items_equal-requires t c = (
-  omega (
-    arith,
-    sizes-items c.items.result.now,
-    ap items_size (c.items.ensures ∙ c.deref.ensures),
-    ap size-Value c.in-List.is,
-  ),
+pub are_lists_equal-are_items_equal-requires : goal.are_lists_equal-are_items_equal-requires
+are_lists_equal-are_items_equal-requires t c = (
+  omega (arith, sizes-items c.in-Values-Values.items.now, ap items_size c.in-Values-Values.ensures),
   tt,
 )
+
+pub are_lists_equal-returns-in-Values-Numbers : goal.are_lists_equal-returns-in-Values-Numbers
+are_lists_equal-returns-in-Values-Numbers t c =
+    c.are_numbers.ensures
+    ∙ equal_numbers c.in-Values-Numbers.numbers.count _ _ (items_view c.in-Values-Numbers.items.now)
+    ∙ ap (λ ts. equal_items ts (numbers_of c.in-Values-Numbers.numbers)) c.in-Values-Numbers.ensures
+    ∙ ap (equal_items c.args.list.now) c.in-Values-Numbers.ensures'
 
 pub are_equal-are_maps_equal-requires : goal.are_equal-are_maps_equal-requires
 are_equal-are_maps_equal-requires t c =

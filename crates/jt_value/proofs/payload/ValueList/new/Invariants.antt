@@ -5,6 +5,6 @@ use Rattle.jt_value.proofs.payload.ValueList.new.Given as goal
 
 abbrev pub invariant-loop-item : goal.invariant-loop-item
 invariant-loop-item l = record {
-  size : l.size ≡ min (1 + items_size (items_view (take l.item-index l.fn.items.items))) (2 ^ 64 - 1);
-  nesting : l.nesting ≡ min (items_nesting (items_view (take l.item-index l.fn.items.items))) (2 ^ 32 - 1);
+  size : l.size ≡ min (1 + items_size (items_view (take l.item-index l.fn.values.items))) (2 ^ 64 - 1);
+  nesting : l.nesting ≡ min (items_nesting (items_view (take l.item-index l.fn.values.items))) (2 ^ 32 - 1);
 }

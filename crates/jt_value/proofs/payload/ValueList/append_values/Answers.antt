@@ -1,12 +1,11 @@
 use Rattle.std.proofs.Common.{ap, sym, ◌∙◌}
 use Rattle.jt_value.specs.Payload.{more_items}
-use Rattle.jt_value.specs.View.{view, items_view}
+use Rattle.jt_value.specs.View.{view}
 use Rattle.jt_value.proofs.Lists.{joined_none, joined_items-take_more}
-use Rattle.jt_value.proofs.payload.ValueList.append.Goals as goal
+use Rattle.jt_value.proofs.payload.ValueList.append_values.Goals as goal
 
 pub loop-item-init : goal.loop-item-init
-loop-item-init c =
-    ap (λ v. items_view v) c.in_ok-reserve.ensures.items ∙ c.self.view_is ∙ sym (joined_none c.args.self.now)
+loop-item-init c = sym (joined_none c.args.self.now)
 
 pub loop-item-preserved : goal.loop-item-preserved
 loop-item-preserved c =
