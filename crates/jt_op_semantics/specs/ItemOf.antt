@@ -1,27 +1,19 @@
 -- The item of a value: `v[k]`, and `v.k` with the text `k`.
-use Rattle.std.specs.Prelude.{ℕ, zero, suc, ◌+◌, ◌-◌, ℤ, pos, negsuc, List, length, nat_lt, if◌then◌else◌, Option, Some}
+use Rattle.std.specs.Prelude.{ℕ, ◌-◌, ℤ, pos, negsuc, List, length, nat_lt, if◌then◌else◌, Option, Some}
 use Rattle.std.specs.Prelude.{None, option_map, Result, Ok, Err, slice_get, encode_utf8}
 use Rattle.std.specs.Option.{option_and_then, unwrap_or}
 use Rattle.std.specs.Str.{chars}
 use Rattle.jt_value.specs.declared.fault.Fault.{Fault}
 use Rattle.jt_value.specs.declared.fault.Fault.TheVariants.{Undefined}
 use Rattle.jt_value.specs.Entries.{entry_of}
-use Rattle.jt_value.specs.Tree.{Tree, undefined, number, text, markup, list, map, Items, no_items, item}
+pub use Rattle.jt_value.specs.ListItems.{items_count, item_at}
+use Rattle.jt_value.specs.Tree.{Tree, undefined, number, text, markup, list, map, Items}
 
 -- The position that an index names among `count` items. The first item has index 0; a negative
 -- index counts from the end, and the last item has index -1.
 abbrev pub place : ℤ → ℕ → Option ℕ
 place (pos i) count = if nat_lt i count then Some i else None
 place (negsuc i) count = if nat_lt i count then Some (count - 1 - i) else None
-
-abbrev pub items_count : Items → ℕ
-items_count no_items = 0
-items_count (item t ts) = items_count ts + 1
-
-abbrev pub item_at : Items → ℕ → Option Tree
-item_at no_items i = None
-item_at (item t ts) zero = Some t
-item_at (item t ts) (suc i) = item_at ts i
 
 -- The item that an index names, if it exists.
 abbrev pub indexed_item : Items → ℤ → Option Tree

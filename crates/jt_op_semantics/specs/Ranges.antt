@@ -1,10 +1,11 @@
 -- `range`: the numbers from a start by a step, up to but not including a stop.
-use Rattle.std.specs.Prelude.{ℕ, zero, suc, ℤ, pos, negsuc, ◌+ℤ◌, ◌-ℤ◌, List, [], ◌∷◌, Result, Ok, Err}
+use Rattle.std.specs.Prelude.{ℕ, zero, suc, ℤ, pos, negsuc, ◌-ℤ◌, List, [], ◌∷◌, Result, Ok, Err}
 use Rattle.std.specs.Int.{div_ceil}
 use Rattle.jt_value.specs.declared.fault.Fault.{Fault}
 use Rattle.jt_value.specs.declared.fault.Fault.TheVariants.{BadType, Range}
+use Rattle.jt_value.specs.Numbers.{stepped}
 use Rattle.jt_value.specs.Order.{operand_fault}
-use Rattle.jt_value.specs.Tree.{Tree, number, list, Items, no_items, item}
+use Rattle.jt_value.specs.Tree.{Tree, number, list}
 use Rattle.jt_op_semantics.specs.Operands.{operand_fault_of_one, operand_fault_of_three}
 
 -- A number, or 0 if it is negative.
@@ -20,11 +21,6 @@ distance x y = natural (y -ℤ x)
 abbrev pub range_count : ℤ → ℤ → ℤ → ℕ
 range_count start stop (pos step) = div_ceil (distance start stop) step
 range_count start stop (negsuc step) = div_ceil (distance stop start) (suc step)
-
--- The first `count` numbers from start by step.
-abbrev pub stepped : ℕ → ℤ → ℤ → Items
-stepped zero start step = no_items
-stepped (suc count) start step = item (number start) (stepped count (start +ℤ step) step)
 
 -- The list of the numbers from start by step that lie before stop. A step of 0 is a fault.
 abbrev pub numbers_between : ℤ → ℤ → ℤ → Result Tree Fault

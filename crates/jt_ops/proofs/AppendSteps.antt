@@ -17,12 +17,13 @@ use Rattle.jt_value.proofs.Lists.{items_view-push, joined_items-take_more, joine
 use Rattle.jt_value.specs.Payload.{more_items, joined_items}
 use Rattle.std.specs.Prelude.{Ok}
 use Rattle.std.proofs.Common.{subst}
-use Rattle.jt_value.specs.Tree.{Tree, number, list, Items, no_items, item, items_size, items_nesting}
+use Rattle.jt_value.specs.Tree.{Tree, list, Items}
 use Rattle.jt_value.specs.View.{view, items_view}
 use Rattle.jt_value.specs.declared.value.Value.{Value}
 use Rattle.jt_escape.specs.Escaping.{escaped, escaped_byte}
 use Rattle.jt_escape.proofs.EscapedPrefix.{escaped_more}
-use Rattle.jt_op_semantics.specs.Ranges.{stepped, range_count, distance, natural, numbers_between}
+use Rattle.jt_value.specs.Numbers.{stepped}
+use Rattle.jt_op_semantics.specs.Ranges.{range_count, distance, natural, numbers_between}
 
 pub escaped_length_more : (text : List ℕ) (at : ℕ) → at < length text
     → length (escaped (take (at + 1) text)) ≡ length (escaped (take at text)) + length (escaped_byte (get_or text at 0))
@@ -90,56 +91,11 @@ joined_push ts before after xs copy v i lt is push same inv =
     ∙ ap (λ (us : Items). more_items us (view v)) inv
     ∙ sym (joined_items-take_more ts xs i v lt is)
 
-nothing_further : (s d : ℤ) → s ≡ s +ℤ pos 0 *ℤ d
-nothing_further s (pos d) = omega (arith, ints)
-nothing_further s (negsuc d) = omega (arith, ints)
-
-pub one_further : (s d : ℤ) (n : ℕ) → (s +ℤ d) +ℤ pos n *ℤ d ≡ s +ℤ pos (suc n) *ℤ d
-one_further s (pos d) n = omega (arith, ints)
-one_further s (negsuc d) n = omega (arith, ints)
-
-pub stepped_more : (n : ℕ) (s d : ℤ) → stepped (n + 1) s d ≡ more_items (stepped n s d) (number (s +ℤ pos n *ℤ d))
-stepped_more zero s d = ap (λ (z : ℤ). item (number z) no_items) (nothing_further s d)
-stepped_more (suc n) s d =
-    let later : stepped (n + 1) (s +ℤ d) d ≡ more_items (stepped n (s +ℤ d) d) (number (s +ℤ pos (suc n) *ℤ d)) =
-    stepped_more n (s +ℤ d) d ∙ ap (λ (z : ℤ). more_items (stepped n (s +ℤ d) d) (number z)) (one_further s d n) in
-    ap (λ (m : ℕ). stepped m s d) (add-one (suc n))
-    ∙ ap (item (number s)) (ap (λ (m : ℕ). stepped m (s +ℤ d) d) (sym (add-one n)) ∙ later)
-
--- The first n numbers of a range with the next one are its first n + 1 numbers.
-pub stepped_push : (before after : List Value) (next : Value) (n : ℕ) (s d z : ℤ) → after ≡ before ++ next ∷ []
-    → view next ≡ number z → items_view before ≡ stepped n s d → z ≡ s +ℤ pos n *ℤ d
-    → items_view after ≡ stepped (n + 1) s d
-stepped_push before after next n s d z push shown inv is =
-    ap items_view push
-    ∙ items_view-push before next
-    ∙ ap (λ (u : Tree). more_items (items_view before) u) (shown ∙ ap number is)
-    ∙ ap (λ (us : Items). more_items us (number (s +ℤ pos n *ℤ d))) inv
-    ∙ sym (stepped_more n s d)
-
-one_behind : (n : ℕ) (s d : ℤ) → (s +ℤ pos n *ℤ d) +ℤ d ≡ s +ℤ pos (n + 1) *ℤ d
-one_behind n s (pos d) = omega (arith, ints)
-one_behind n s (negsuc d) = omega (arith, ints)
-
-pub next_number : (n : ℕ) (s d z r : ℤ) → z ≡ s +ℤ pos n *ℤ d → (FitsSigned w64 (z +ℤ d) → r ≡ z +ℤ d)
-    → FitsSigned w64 (s +ℤ pos (n + 1) *ℤ d) → r ≡ s +ℤ pos (n + 1) *ℤ d
-next_number n s d z r is add fits =
-    let e : z +ℤ d ≡ s +ℤ pos (n + 1) *ℤ d = ap (λ (x : ℤ). x +ℤ d) is ∙ one_behind n s d in
-    add (subst (FitsSigned w64) (sym e) fits) ∙ e
-
 pub numbers_nonzero : (start stop step : ℤ) → pos 0 ≢ step
     → numbers_between start stop step ≡ Ok (list (stepped (range_count start stop step) start step))
 numbers_nonzero start stop (pos zero) n = absurd (n refl)
 numbers_nonzero start stop (pos (suc d)) n = refl
 numbers_nonzero start stop (negsuc d) n = refl
-
-pub stepped_size : (n : ℕ) (s d : ℤ) → items_size (stepped n s d) ≡ n
-stepped_size zero s d = refl
-stepped_size (suc n) s d = omega (arith, stepped_size n (s +ℤ d) d)
-
-pub stepped_nesting : (n : ℕ) (s d : ℤ) → items_nesting (stepped n s d) ≡ 0
-stepped_nesting zero s d = refl
-stepped_nesting (suc n) s d = omega (arith, stepped_nesting n (s +ℤ d) d)
 
 pub below_ceil : (k n d : ℕ) → 0 < d → k < div_ceil n d → k * d < n
 below_ceil k n d h lt =

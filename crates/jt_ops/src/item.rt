@@ -3,6 +3,7 @@ ghost use Rattle.std.specs.Prelude.{◌≡◌, length, IfOk, option_map, option_
 ghost use Rattle.std.specs.Prelude.{encode_utf8};
 ghost use Rattle.std.specs.Str.{chars};
 ghost use Rattle.jt_value.specs.Entries.{entry_of};
+ghost use Rattle.jt_value.specs.ListItems.{listed, numbers_of};
 ghost use Rattle.jt_value.specs.Tree as tree;
 ghost use Rattle.jt_value.specs.View.{view, items_view};
 ghost use Rattle.jt_op_semantics.specs.ItemOf.{item_of, item_at, indexed_item, indexed_character};
@@ -11,7 +12,7 @@ ghost use Rattle.jt_op_semantics.specs.ItemOf as items;
 ghost use Rattle.jt_ops.specs.Limited.{limited_by, Answers, AnswersWith};
 
 use crate::limits::{Limits, OpError, allow, copy_within, made, within};
-use jt_value::{Fault, NoMemory, Value, ValueMap};
+use jt_value::{Fault, ListItems, NoMemory, NumberRange, Value, ValueMap};
 use std::alloc::Global;
 
 /// Returns the item of a value.
@@ -27,9 +28,7 @@ pub(crate) fn item(
         (Value::Undefined, _) => Err(Fault::Undefined.into()),
         (Value::Map(map), Value::Text(name)) => keyed(alloc, map, name, limits),
         (Value::Map(map), Value::Markup(name)) => keyed(alloc, map, name, limits),
-        (Value::List(list), Value::Int(index)) => {
-            found(alloc, indexed(list.items(), *index), limits)
-        },
+        (Value::List(list), Value::Int(index)) => listed_item(alloc, list.items(), *index, limits),
         (Value::Text(text), Value::Int(index)) => character(alloc, text, *index, limits),
         (Value::Markup(text), Value::Int(index)) => character(alloc, text, *index, limits),
         _ => within(Value::Undefined, limits),
@@ -43,6 +42,31 @@ fn found(alloc: Global, found: Option<&Value>, limits: Limits) -> Result<Value, 
 {
     match found {
         Some(value) => copy_within(alloc, value, limits),
+        None => within(Value::Undefined, limits),
+    }
+}
+
+/// Returns a copy of the item of a list that an index names, or undefined if it does not exist.
+fn listed_item(
+    alloc: Global,
+    items: ListItems<'_>,
+    index: i64,
+    limits: Limits,
+) -> Result<Value, OpError>
+    ensures { AnswersWith limits (or_undefined (indexed_item (listed items.entry) index)) result }
+{
+    match items {
+        ListItems::Values(values) => found(alloc, indexed(values, index), limits),
+        ListItems::Numbers(numbers) => found_number(indexed_number(numbers, index), limits),
+    }
+}
+
+/// Returns the found number, or undefined if none was found.
+fn found_number(found: Option<i64>, limits: Limits) -> Result<Value, OpError>
+    ensures { AnswersWith limits (or_undefined (option_map tree.number found)) result }
+{
+    match found {
+        Some(number) => within(Value::Int(number), limits),
         None => within(Value::Undefined, limits),
     }
 }
@@ -80,6 +104,16 @@ fn indexed(items: &[Value], index: i64) -> Option<&Value>
 {
     match place(index, items.len()) {
         Some(place) => at(items, place),
+        None => None,
+    }
+}
+
+/// Returns the number of a range that an index names, if any.
+fn indexed_number(numbers: NumberRange, index: i64) -> Option<i64>
+    ensures { option_map tree.number result ≡ indexed_item (numbers_of numbers) index }
+{
+    match place(index, numbers.len()) {
+        Some(place) => numbers.get(place),
         None => None,
     }
 }

@@ -1,6 +1,7 @@
 //! Computes sums, products and joins of texts and lists.
 ghost use Rattle.std.specs.Prelude.{◌≡◌, ◌-◌, ◌^◌, ◌++◌, min, Ok, Err, IfOk, IfErr, OnOk};
 ghost use Rattle.jt_value.specs.Tree as tree;
+ghost use Rattle.jt_value.specs.ListItems.{listed, numbers_of};
 ghost use Rattle.jt_value.specs.Payload.{joined_items};
 ghost use Rattle.jt_value.specs.View.{view, items_view};
 ghost use Rattle.jt_op_semantics.specs.Joining.{added, both, multiplied, joined, joined_escaping};
@@ -12,7 +13,7 @@ use crate::limits::{Limits, OpError, allow, made, number_within};
 use crate::operands::operand_fault;
 use crate::text::{Piece, TextKind, concatenated, repeated};
 use itoa::Buffer;
-use jt_value::{NoMemory, Value, ValueList};
+use jt_value::{ListItems, NoMemory, NumberRange, Value, ValueList};
 use std::alloc::Global;
 use std::rc::Rc;
 
@@ -186,13 +187,41 @@ fn joined_lists(
 }
 
 /// Returns the list of copies of the items of two lists.
-fn joined_copies(alloc: Global, items: &[Value], more: &[Value]) -> Result<Value, NoMemory>
-    ensures { IfOk result (λ v. view v ≡ both (items_view items.now) (items_view more.now)) }
+fn joined_copies(
+    alloc: Global,
+    items: ListItems<'_>,
+    more: ListItems<'_>,
+) -> Result<Value, NoMemory>
+    ensures { IfOk result (λ v. view v ≡ both (listed items.entry) (listed more.entry)) }
 {
-    let mut joined = Vec::with_capacity(alloc, items.len() + more.len())?;
-    append_copies(&mut joined, items)?;
-    append_copies(&mut joined, more)?;
+    let mut joined = Vec::with_capacity(alloc, items.len().saturating_add(more.len()))?;
+    append_items(&mut joined, items)?;
+    append_items(&mut joined, more)?;
     Value::list(alloc, joined)
+}
+
+/// Appends copies of the items of a list.
+fn append_items(into: &mut Vec<Value>, items: ListItems<'_>) -> Result<(), NoMemory>
+    ensures { OnOk result (items_view into.new.items
+        ≡ joined_items (items_view into.old.items) (listed items.entry)) }
+{
+    match items {
+        ListItems::Values(values) => append_copies(into, values),
+        ListItems::Numbers(numbers) => append_numbers(into, numbers),
+    }
+}
+
+/// Appends the numbers of a range.
+fn append_numbers(into: &mut Vec<Value>, numbers: NumberRange) -> Result<(), NoMemory>
+    ensures { OnOk result (items_view into.new.items
+        ≡ joined_items (items_view into.old.items) (numbers_of numbers)) }
+{
+    let mut rest = numbers;
+    while let Some((number, behind)) = rest.split_first() {
+        into.push(Value::Int(number))?;
+        rest = behind;
+    }
+    Ok(())
 }
 
 /// Returns the size, at most 2^64 - 1, and the nesting, at most 2^32 - 1, of the list of the items

@@ -1,12 +1,13 @@
 //! Implements operator `in`.
 ghost use Rattle.std.specs.Prelude.{◌≡◌};
+ghost use Rattle.jt_value.specs.ListItems.{listed, numbers_of};
 ghost use Rattle.jt_value.specs.Tree as tree;
 ghost use Rattle.jt_value.specs.View.{view, items_view};
 ghost use Rattle.jt_op_semantics.specs.Membership as membership;
 
 use crate::comparing::equals_text;
 use crate::operands::operand_fault;
-use jt_value::{Fault, Value};
+use jt_value::{Fault, ListItems, NumberRange, Value};
 use memchr::memmem;
 
 /// Returns whether a value is in a container: a text in a text, an item in a list, a key in a map.
@@ -45,10 +46,21 @@ pub(crate) fn text_is_in(text: &str, container: &Value) -> Result<bool, Fault>
 }
 
 /// Returns whether an item of the list equals a plain text.
-fn has_text(text: &str, items: &[Value]) -> bool
-    ensures { result ≡ membership.has_item (tree.text text.now) (items_view items.now) }
+#[tactic(auto, using(crate::proofs::MembershipTests::no_number_is_text))]
+fn has_text(text: &str, items: ListItems<'_>) -> bool
+    ensures { result ≡ membership.has_item (tree.text text.now) (listed items.entry) }
 {
-    items.iter().any(|item| equals_text(text, item))
+    match items {
+        ListItems::Values(values) => is_text_among(text, values),
+        ListItems::Numbers(_) => false,
+    }
+}
+
+/// Returns whether one of the values equals a plain text.
+fn is_text_among(text: &str, values: &[Value]) -> bool
+    ensures { result ≡ membership.has_item (tree.text text.now) (items_view values.now) }
+{
+    values.iter().any(|value| equals_text(text, value))
 }
 
 #[tactic(auto, using(crate::proofs::SubstringSearch::is_found))]
@@ -60,8 +72,32 @@ fn occurs_in(part: &str, whole: &str) -> bool
 }
 
 /// Returns whether an item of the list equals a value.
-fn has_item(value: &Value, items: &[Value]) -> bool
-    ensures { result ≡ membership.has_item (view value.now) (items_view items.now) }
+fn has_item(value: &Value, items: ListItems<'_>) -> bool
+    ensures { result ≡ membership.has_item (view value.now) (listed items.entry) }
 {
-    items.iter().any(|item| value.equals(item))
+    match items {
+        ListItems::Values(values) => is_among(value, values),
+        ListItems::Numbers(numbers) => is_number_among(value, numbers),
+    }
+}
+
+/// Returns whether one of the values equals a value.
+fn is_among(value: &Value, values: &[Value]) -> bool
+    ensures { result ≡ membership.has_item (view value.now) (items_view values.now) }
+{
+    values.iter().any(|item| value.equals(item))
+}
+
+/// Returns whether a number of the range equals a value.
+fn is_number_among(value: &Value, numbers: NumberRange) -> bool
+    ensures { result ≡ membership.has_item (view value.now) (numbers_of numbers) }
+{
+    let mut rest = numbers;
+    while let Some((number, behind)) = rest.split_first() {
+        if value.equals(&Value::Int(number)) {
+            return true;
+        }
+        rest = behind;
+    }
+    false
 }

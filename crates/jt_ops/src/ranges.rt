@@ -1,16 +1,15 @@
-//! Builds the lists of numbers of `range`.
-ghost use Rattle.std.specs.Prelude.{◌≡◌, ◌≢◌, ◌≤◌, ◌<◌, ◌∷◌, [], ℕ, map, pos, ◌+ℤ◌, ◌*ℤ◌, length};
-ghost use Rattle.std.specs.Prelude.{FitsSigned, Ok, IfOk};
-ghost use Rattle.std.specs.Int.{w64};
+//! Builds the lists of numbers of `range`. Their numbers are not stored.
+ghost use Rattle.std.specs.Prelude.{◌≡◌, ◌≢◌, ◌≤◌, ◌∷◌, [], map, pos, length};
+ghost use Rattle.jt_value.specs.Numbers.{stepped};
 ghost use Rattle.jt_value.specs.Tree as tree;
-ghost use Rattle.jt_value.specs.View.{view, items_view};
+ghost use Rattle.jt_value.specs.View.{view};
 ghost use Rattle.jt_ops.specs.Limited.{limited_by, Answers, AnswersWith};
-ghost use Rattle.jt_op_semantics.specs.Ranges.{ranged, numbers_between, range_count, stepped};
+ghost use Rattle.jt_op_semantics.specs.Ranges.{ranged, numbers_between, range_count};
 ghost use Rattle.jt_op_semantics.specs.Ranges as ranges;
 
 use crate::limits::{Limits, OpError, allow, made};
 use crate::operands::{operand_fault, operand_fault_of_one, operand_fault_of_three};
-use jt_value::{Fault, NoMemory, Value};
+use jt_value::{Fault, NumberRange, Value};
 use std::alloc::Global;
 
 /// Returns the list of the numbers from a start by a step, up to but not including a stop.
@@ -100,7 +99,7 @@ fn numbers(
 }
 
 /// Returns the list of the numbers from `start` by `step` to before `stop`. Tests its size and
-/// nesting before it builds the list.
+/// nesting first. No number is stored.
 fn list_of(
     alloc: Global,
     start: i64,
@@ -114,7 +113,10 @@ fn list_of(
 {
     let count = count(start, stop, step);
     allow(count.saturating_add(1), 1, limits)?;
-    made(listed(alloc, start, step, count))
+    made(Value::range(
+        alloc,
+        NumberRange::new(start, step, count as usize),
+    ))
 }
 
 /// Returns the length of the list of the numbers from `start` by `step` to before `stop`.
@@ -134,26 +136,4 @@ fn distance(low: i64, high: i64) -> u64
     ensures { result ≡ ranges.distance low high }
 {
     if low < high { high.abs_diff(low) } else { 0 }
-}
-
-/// Returns the list of `count` numbers from `start` by `step`. None of them overflows.
-fn listed(alloc: Global, start: i64, step: i64, count: u64) -> Result<Value, NoMemory>
-    requires { (k : ℕ) → k < count → FitsSigned w64 (start +ℤ pos k *ℤ step) }
-    ensures { IfOk result (λ v. view v ≡ tree.list (stepped count start step)) }
-{
-    let mut numbers = Vec::with_capacity(alloc, count as usize)?;
-    let mut next = start;
-    for _ in 0..count {
-        numbers.push(Value::Int(next))?;
-        next = sum_in_range(next, step);
-    }
-    Value::list(alloc, numbers)
-}
-
-/// Returns `x + y`, or `x` if the sum overflows. A sum overflows only after the last number of a
-/// list.
-fn sum_in_range(x: i64, y: i64) -> i64
-    ensures { FitsSigned w64 (x +ℤ y) → result ≡ x +ℤ y }
-{
-    x.checked_add(y).unwrap_or(x)
 }

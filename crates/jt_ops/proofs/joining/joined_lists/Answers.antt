@@ -1,9 +1,10 @@
 use Rattle.std.proofs.Common.{◌≡◌, Err, Ok, rules, refl, ap, ◌∙◌, subst}
 use Rattle.std.specs.Prelude.{IfOk}
+use Rattle.jt_value.specs.ListItems.{listed}
 use Rattle.jt_value.specs.Payload.{joined_items}
 use Rattle.jt_value.specs.Tree as tree
 use Rattle.jt_value.specs.Tree.{Tree, Items}
-use Rattle.jt_value.specs.View.{view, items_view}
+use Rattle.jt_value.specs.View.{view}
 use Rattle.jt_ops.proofs.RefusalsPropagate.{answers_refusal}
 use Rattle.jt_ops.proofs.joining.joined_lists.Goals as goal
 
@@ -17,8 +18,8 @@ returns-in_err-allow c =
 pub returns : goal.returns
 returns c =
     let t = tree.list (joined_items c.args.list.now c.args.more.now) in
-    let same : tree.list (joined_items (items_view c.items.result.now) (items_view c.items-2.result.now)) ≡ t =
-    ap (λ (ts : Items). tree.list (joined_items ts (items_view c.items-2.result.now))) c.items.ensures
+    let same : tree.list (joined_items (listed c.items.result) (listed c.items-2.result)) ≡ t =
+    ap (λ (ts : Items). tree.list (joined_items ts (listed c.items-2.result))) c.items.ensures
     ∙ ap (λ (ts : Items). tree.list (joined_items c.args.list.now ts)) c.items-2.ensures in
     c.made.ensures _ t
     (c.in_ok-allow.ensures.ok t c.joined_measure-size.ensures.size c.joined_measure-size.ensures.nesting) refl

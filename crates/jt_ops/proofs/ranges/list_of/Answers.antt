@@ -1,15 +1,18 @@
-use Rattle.std.proofs.Common.{◌≡◌, ◌-◌, ◌^◌, min, Err, Ok, rules, refl, arith, subst}
+use Rattle.std.proofs.Common.{◌≡◌, ◌-◌, ◌^◌, min, Err, Ok, rules, refl, ap, ◌∙◌, arith, subst}
 use Rattle.std.specs.Prelude.{IfOk}
 use Rattle.jt_value.specs.Tree as tree
 use Rattle.jt_value.specs.Tree.{Tree}
 use Rattle.jt_value.specs.View.{view}
-use Rattle.jt_op_semantics.specs.Ranges.{stepped, range_count}
+use Rattle.jt_value.specs.ListItems.{numbers_of}
+use Rattle.jt_value.specs.Numbers.{stepped}
+use Rattle.jt_op_semantics.specs.Ranges.{range_count}
 use Rattle.jt_ops.proofs.RefusalsPropagate.{answers_refusal}
-use Rattle.jt_ops.proofs.AppendSteps.{stepped_size, stepped_nesting, count_is, inside_counted, listed_all}
+use Rattle.jt_ops.proofs.AppendSteps.{count_is, inside_counted, listed_all}
+use Rattle.jt_value.proofs.NumberSteps.{stepped_size, stepped_nesting}
 use Rattle.jt_ops.proofs.ranges.list_of.Goals as goal
 
-pub listed-requires : goal.listed-requires
-listed-requires c =
+pub new-requires : goal.new-requires
+new-requires c =
     let count = count_is c.args.start c.args.stop c.args.step c.count-count.result c.ranges.start c.ranges.stop
     c.ranges.step c.count-count.ensures in
     inside_counted c.args.start c.args.stop c.args.step c.count-count.result c.requires c.ranges.start c.ranges.stop
@@ -37,7 +40,8 @@ returns c =
     let size : c.saturating_add.result ≡ min (tree.size t) (2 ^ 64 - 1) =
     omega (arith, stepped_size n c.args.start c.args.step, count, c.saturating_add.ensures) in
     let nesting : 1 ≡ min (tree.nesting t) (2 ^ 32 - 1) = omega (arith, stepped_nesting n c.args.start c.args.step) in
-    let listed =
-    listed_all c.args.start c.args.stop c.args.step c.count-count.result c.ranges.start c.ranges.step count in
+    let listed : tree.list (numbers_of c.new.result) ≡ t =
+    ap tree.list c.new.ensures
+    ∙ listed_all c.args.start c.args.stop c.args.step c.count-count.result c.ranges.start c.ranges.step count in
     c.made.ensures _ t (c.in_ok-allow.ensures.ok t size nesting) refl
-    (subst (λ (u : Tree). IfOk c.listed.result (λ v. view v ≡ u)) listed c.listed.ensures)
+    (subst (λ (u : Tree). IfOk c.range.result (λ v. view v ≡ u)) listed c.range.ensures)
