@@ -25,3 +25,4 @@ pub mod ItemResults
 pub mod StableSortUnique
 pub mod TextTransforms
 pub mod SameCodes
+pub mod PairKeys

@@ -42,9 +42,8 @@ items_of_all_else a0 a1 a2 a3 a4 = search (arith, rules)
 pub length_of_a_text : (t : Tree) (s : List ℕ) → Some s ≡ text_of t → length_of t ≡ counted (length (chars s))
 length_of_a_text a0 a1 a2 = search (arith, rules)
 
-pub length_of_a_list : (t : Tree) (vs : List Value) → Some (items_view vs) ≡ items_of_list t
-    → length_of t ≡ counted (length vs)
-length_of_a_list t vs e = ap length_of (list_is t _ e) ∙ ap counted (items_count_view vs)
+pub length_of_a_list : (t : Tree) (ts : Items) → Some ts ≡ items_of_list t → length_of t ≡ counted (items_count ts)
+length_of_a_list t ts e = ap length_of (list_is t ts e)
 
 entries_count_view : (es : List Pair) → entries_count (entries_view es) ≡ length es
 entries_count_view [] = refl

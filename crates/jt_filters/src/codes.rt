@@ -1,6 +1,7 @@
 //! Computes codes of items: bytes that distinguish items. Two items have the same code exactly if
 //! they are alike.
 ghost use Rattle.std.specs.Prelude.{◌≡◌, ◌∷◌, [], IfOk};
+ghost use Rattle.jt_value.specs.ListItems.{numbers_of};
 ghost use Rattle.jt_value.specs.Tree as tree;
 ghost use Rattle.jt_value.specs.View.{view, items_view, entries_view};
 ghost use Rattle.jt_filters.specs.internal.Codes as codes;
@@ -10,7 +11,7 @@ ghost use Rattle.jt_filters.specs.internal.Operands.{tree_of};
 ghost use Rattle.jt_filter_semantics.specs.Ordering.{fold};
 
 use crate::operand::Operand;
-use jt_value::{NoMemory, Value};
+use jt_value::{ListItems, NoMemory, NumberRange, Value, ValueList};
 use std::alloc::Global;
 use std::collections::BTreeMap;
 
@@ -101,9 +102,33 @@ fn push_value(alloc: Global, bytes: &mut Vec<u8>, value: &Value) -> Result<(), N
         Value::Int(number) => push_number(bytes, *number),
         Value::Text(text) => push_text(bytes, text.as_str()),
         Value::Markup(text) => push_text(bytes, text.as_str()),
-        Value::List(list) => push_items(alloc, bytes, list.items()),
+        Value::List(list) => push_list(alloc, bytes, list),
         Value::Map(map) => push_rows(bytes, rows_of(alloc, map.entries())?),
     }
+}
+
+/// Appends the code of a list.
+#[cycle(codes)]
+fn push_list(alloc: Global, bytes: &mut Vec<u8>, list: &ValueList) -> Result<(), NoMemory>
+    ensures { Adds (code (tree.list list.now)) bytes.old bytes.new result }
+{
+    match list.items() {
+        ListItems::Values(values) => push_items(alloc, bytes, values),
+        ListItems::Numbers(numbers) => push_numbers(bytes, numbers),
+    }
+}
+
+/// Appends the code of the numbers of a range, as a list.
+fn push_numbers(bytes: &mut Vec<u8>, numbers: NumberRange) -> Result<(), NoMemory>
+    ensures { Adds (code (tree.list (numbers_of numbers))) bytes.old bytes.new result }
+{
+    let mut rest = numbers;
+    push_byte(bytes, 5)?;
+    while let Some((number, behind)) = rest.split_first() {
+        push_number(bytes, number)?;
+        rest = behind;
+    }
+    push_byte(bytes, 0)
 }
 
 /// Appends the code of a list of items.

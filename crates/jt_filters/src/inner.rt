@@ -2,6 +2,7 @@
 //! filter's result.
 ghost use Rattle.std.specs.Prelude.{◌≡◌, ◌+◌, [], ◌∷◌, ◌++◌, map, length, Ok, IfSome, IfErr, OnOk};
 ghost use Rattle.std.specs.Prelude.{option_map};
+ghost use Rattle.jt_value.specs.ListItems.{listed};
 ghost use Rattle.jt_value.specs.View.{view, items_view};
 ghost use Rattle.jt_ids.specs.TestTable.{test_values};
 ghost use Rattle.jt_op_semantics.specs.Testing as testing;
@@ -17,7 +18,7 @@ use crate::members::Members;
 use crate::operand::Operand;
 use jt_ids::{FilterId, TestId};
 use jt_ops::{test_of, test_of_text};
-use jt_value::{Fault, NoMemory, Value, ValueError};
+use jt_value::{Fault, ListItems, NoMemory, Value, ValueError};
 use std::alloc::Global;
 
 /// The predicate that selects items.
@@ -112,8 +113,8 @@ impl<'a> Selection<'a> {
 
 impl<'a> ItemAction<'a> {
     /// Returns the list in which the action looks up each item by test `in`, if it does.
-    pub(crate) fn sought(self) -> Option<&'a [Value]>
-        ensures { IfSome result (λ list. IsSought (items_view list.now) self.entry) }
+    pub(crate) fn sought(self) -> Option<ListItems<'a>>
+        ensures { IfSome result (λ list. IsSought (listed list) self.entry) }
     {
         match self {
             ItemAction::Keep(selection) => match selection.predicate {

@@ -2,18 +2,20 @@
 ghost use Rattle.std.specs.Prelude.{◌≡◌, IfSome, IfNone};
 ghost use Rattle.std.specs.Str.{chars};
 ghost use Rattle.jt_value.specs.Iteration.{items_of_tree, character_items};
+ghost use Rattle.jt_value.specs.ListItems.{listed};
 ghost use Rattle.jt_value.specs.Tree as tree;
 ghost use Rattle.jt_op_semantics.specs.ItemOf.{items_count};
 ghost use Rattle.jt_filters.specs.internal.Operands.{tree_of, items_in, HasItems};
 
 use crate::operand::Operand;
 use jt_ops::character_count;
-use jt_value::{Fault, Value};
+use jt_value::{Fault, ListItems, NumberRange, Value};
 
-/// A list of items: values, the characters of a text, or the keys of a map.
+/// A list of items: values, the numbers of a range, the characters of a text, or the keys of a map.
 #[derive(Clone, Copy)]
 pub(crate) enum ItemList<'a> {
     Values(&'a [Value]),
+    Numbers(NumberRange),
     Characters(&'a str),
     Keys(&'a [(String, Value)]),
 }
@@ -26,6 +28,7 @@ impl<'a> ItemList<'a> {
     {
         match self {
             ItemList::Values(values) => values.len(),
+            ItemList::Numbers(numbers) => numbers.len(),
             ItemList::Characters(text) => character_count(text),
             ItemList::Keys(entries) => entries.len(),
         }
@@ -41,6 +44,10 @@ impl<'a> ItemList<'a> {
             ItemList::Values(values) => {
                 let (first, rest) = values.split_first()?;
                 Some((Operand::Value(first), ItemList::Values(rest)))
+            }
+            ItemList::Numbers(numbers) => {
+                let (first, rest) = numbers.split_first()?;
+                Some((Operand::Number(first), ItemList::Numbers(rest)))
             }
             ItemList::Characters(text) => {
                 let (first, rest) = split_character(text)?;
@@ -66,12 +73,22 @@ fn split_character(text: &str) -> Option<(&str, &str)>
     }
 }
 
+/// Returns the items of a list.
+fn listed_items(items: ListItems<'_>) -> ItemList<'_>
+    ensures { items_in result ≡ listed items.entry }
+{
+    match items {
+        ListItems::Values(values) => ItemList::Values(values),
+        ListItems::Numbers(numbers) => ItemList::Numbers(numbers),
+    }
+}
+
 /// Returns the items of a value.
 pub(crate) fn items_of(operand: Operand<'_>) -> Result<ItemList<'_>, Fault>
     ensures { HasItems (items_of_tree (tree_of operand.entry)) result }
 {
     if let Some(items) = operand.as_list() {
-        return Ok(ItemList::Values(items));
+        return Ok(listed_items(items));
     }
     if let Some(text) = operand.as_text() {
         return Ok(ItemList::Characters(text));

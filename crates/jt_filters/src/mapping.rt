@@ -17,7 +17,7 @@ use crate::item_list::ItemList;
 use crate::members::Members;
 use jt_ids::{FilterId, TestId};
 use jt_ops::{Limits, OpError, allow};
-use jt_value::{Fault, Value, ValueError};
+use jt_value::{Fault, ListItems, Value, ValueError};
 use std::alloc::Global;
 
 /// The least number of items, and of members of a list, for which the members are found by their
@@ -35,18 +35,41 @@ pub(crate) fn row_list_under<'a>(
     ensures { Answers result (limited_by limits
         (as_list (gathered (gives change.entry) (items_in items.entry)))) }
 {
-    match members_of(alloc, items, change) {
+    match change.sought() {
+        Some(ListItems::Values(list)) => row_list_among(alloc, items, change, list, limits),
+        Some(ListItems::Numbers(numbers)) => match numbers.values(alloc) {
+            Ok(list) => row_list_among(alloc, items, change, &list, limits),
+            Err(_) => limited_row_list(alloc, items, change, limits),
+        },
+        None => limited_row_list(alloc, items, change, limits),
+    }
+}
+
+/// Returns the list of what the action makes of the items, under limits. The action looks up each
+/// item in a list.
+fn row_list_among<'a>(
+    alloc: Global,
+    items: ItemList<'a>,
+    change: ItemAction<'a>,
+    list: &'a [Value],
+    limits: Limits,
+) -> Result<Value, OpError>
+    requires gives { Gives change }
+    requires sought { IsSought (items_view list.now) change }
+    ensures { Answers result (limited_by limits
+        (as_list (gathered (gives change.entry) (items_in items.entry)))) }
+{
+    match members_of(alloc, items, list) {
         Some(members) => limited_row_list(alloc, items, change.among(&members), limits),
         None => limited_row_list(alloc, items, change, limits),
     }
 }
 
-/// Returns the members of the list in which the action looks up each item. Returns `None` if it
-/// looks up none, if a comparison with each member is faster, or if memory is refused.
-fn members_of<'a>(alloc: Global, items: ItemList<'a>, change: ItemAction<'a>) -> Option<Members<'a>>
-    ensures { IfSome result (λ m. IsSought (items_view m.items.now) change.entry) }
+/// Returns the members of a list in which each item is looked up. Returns `None` if a comparison
+/// with each member is faster, or if memory is refused.
+fn members_of<'a>(alloc: Global, items: ItemList<'_>, list: &'a [Value]) -> Option<Members<'a>>
+    ensures { IfSome result (λ m. items_view m.items.now ≡ items_view list.now) }
 {
-    let list = change.sought()?;
     if list.len() < MANY || items.len() < MANY {
         return None;
     }

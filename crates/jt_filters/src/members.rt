@@ -71,7 +71,7 @@ fn indices_of(alloc: Global, items: &[Value]) -> Result<Indices, NoMemory>
     Ok(indices)
 }
 
-/// Stores the index of an item, in index of that of any item which equals it.
+/// Stores the index of an item, in place of that of any item which equals it.
 fn put_index(alloc: Global, indices: &mut Indices, item: &Value, at: usize) -> Result<(), NoMemory>
     ensures there { OnOk result (IsSome (index indices.new (view item.now))) }
     ensures kept { OnOk result

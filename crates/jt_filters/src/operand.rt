@@ -1,18 +1,18 @@
 //! Defines the operand of a filter: a value, or a number or a text that has not been made a value.
 ghost use Rattle.std.specs.Prelude.{◌≡◌, ◌-◌, ◌^◌, min, option_map, IfOk, IfErr, Some, None};
+ghost use Rattle.jt_value.specs.ListItems.{listed};
 ghost use Rattle.jt_value.specs.Payload.{text_of, items_of_list, entries_of_map};
 ghost use Rattle.jt_value.specs.Tree.{truth, printed, size, nesting};
-ghost use Rattle.jt_value.specs.View.{items_view};
 ghost use Rattle.jt_op_semantics.specs.Operands as operands;
 ghost use Rattle.jt_op_semantics.specs.Testing as testing;
 ghost use Rattle.jt_filter_semantics.specs.Kinds.{is_plain};
 ghost use Rattle.jt_filters.specs.internal.Operands.{tree_of, number_of, plain_of, Copies};
 
 use itoa::Buffer;
-use jt_value::{Fault, NoMemory, Value, ValueMap};
+use jt_value::{Fault, ListItems, NoMemory, Value, ValueMap};
 use std::alloc::Global;
 
-/// A borrowed value, or undefined, a number or a plain text in index of a value. The text is, for
+/// A borrowed value, or undefined, a number or a plain text in place of a value. The text is, for
 /// example, a character or a key.
 #[derive(Clone, Copy)]
 pub(crate) enum Operand<'a> {
@@ -35,8 +35,8 @@ impl<'a> Operand<'a> {
     }
 
     /// Returns the items of a list, or `None` for any other operand.
-    pub(crate) fn as_list(self) -> Option<&'a [Value]>
-        ensures { option_map (λ s. items_view s.now) result ≡ items_of_list (tree_of self.entry) }
+    pub(crate) fn as_list(self) -> Option<ListItems<'a>>
+        ensures { option_map listed result ≡ items_of_list (tree_of self.entry) }
     {
         match self {
             Operand::Value(value) => value.as_list(),

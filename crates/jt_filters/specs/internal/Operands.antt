@@ -3,6 +3,7 @@ use Rattle.std.specs.Prelude.{◌≡◌, ℕ, zero, suc, List, ◌∷◌, map, l
 use Rattle.std.specs.Prelude.{Option, Some, None, Result, Ok, Err}
 use Rattle.std.specs.Str.{chars}
 use Rattle.jt_value.specs.Iteration.{character_items, key_items}
+use Rattle.jt_value.specs.ListItems.{numbers_of}
 use Rattle.jt_value.specs.Payload.{has_payload}
 use Rattle.jt_value.specs.Tree as tree
 use Rattle.jt_value.specs.Tree.{Tree, Items}
@@ -31,6 +32,7 @@ tree_of (operand.Value v) = view v.now
 
 abbrev pub items_in : ItemList → Items
 items_in (item_list.Values vs) = items_view vs.now
+items_in (item_list.Numbers range) = numbers_of range
 items_in (item_list.Characters s) = character_items (chars s.now)
 items_in (item_list.Keys es) = key_items (entries_view es.now)
 

@@ -7,16 +7,9 @@ use Rattle.jt_filters.specs.internal.Codes.{code}
 use Rattle.jt_filters.proofs.RowsPut.{row_put}
 use Rattle.jt_filters.proofs.codes.+codes.Goals as goal
 
-pub push_value-push_items-requires : goal.push_value-push_items-requires
-push_value-push_items-requires t c = (
-  omega (
-    arith,
-    sizes-items c.items.result.now,
-    ap items_size (c.items.ensures ∙ c.deref.ensures),
-    ap size-Value c.in-List.is,
-  ),
-  tt,
-)
+pub push_list-push_items-requires : goal.push_list-push_items-requires
+push_list-push_items-requires t c =
+    (omega (arith, sizes-items c.in-Values.values.now, ap items_size c.in-Values.ensures), tt)
 
 pub push_value-rows_of-requires : goal.push_value-rows_of-requires
 push_value-rows_of-requires t c = (
