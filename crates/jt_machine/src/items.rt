@@ -43,11 +43,11 @@ pub(crate) fn count_of(value: &Value) -> Result<usize, Fault>
 }
 
 // Returns the items of a list. They are moved if no other value shares the list, and copied
-// otherwise.
+// otherwise. The numbers of a range are made values.
 fn list_items(list: Rc<ValueList>) -> Result<Vec<Value>, NoMemory>
     ensures { IfOk result (λ vs. items_view vs.items ≡ list.value) }
 {
-    Ok(Rc::unwrap_or_clone(list)?.into_items())
+    Ok(Rc::unwrap_or_clone(list)?.into_items()?)
 }
 
 // Returns the keys of a map as texts.

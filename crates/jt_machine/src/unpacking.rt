@@ -1,6 +1,7 @@
 //! Unpacks a value: its items are pushed.
 ghost use Rattle.std.specs.Prelude.{◌≡◌, ◌+◌, ◌-◌, ◌<◌, ◌^◌, min, map, IfOk, IfSome, IfNone, OnOk};
 ghost use Rattle.std.specs.Str.{chars};
+ghost use Rattle.jt_value.specs.ListItems.{listed};
 ghost use Rattle.jt_value.specs.Tree as tree;
 ghost use Rattle.jt_value.specs.Iteration.{character_items, key_items, items_of_tree};
 ghost use Rattle.jt_value.specs.View.{view, entries_view};
@@ -24,7 +25,7 @@ use crate::outcome::Outcome;
 use crate::stack::Stack;
 use crate::state::State;
 use jt_budget::Budget;
-use jt_value::{Fault, NoMemory, Value, ValueError};
+use jt_value::{Fault, ListItems, NoMemory, Value, ValueError};
 use std::alloc::Global;
 
 // Returns the greatest size of the values.
@@ -47,6 +48,29 @@ fn greatest_nesting(values: &[Value]) -> u32
         most = most.max(value.nesting());
     }
     most
+}
+
+// Returns the greatest size of the items of a list.
+#[tactic(auto, using(crate::proofs::UnpackCorrect::numbers_small))]
+fn greatest_item_size(items: ListItems<'_>) -> u64
+    ensures { result ≡ min (greatest tree.size (trees_of (listed items.entry))) (2 ^ 64 - 1) }
+{
+    match items {
+        ListItems::Values(values) => greatest_size(values),
+        ListItems::Numbers(numbers) if numbers.is_empty() => 0,
+        ListItems::Numbers(_) => 1,
+    }
+}
+
+// Returns the greatest nesting of the items of a list.
+#[tactic(auto, using(crate::proofs::UnpackCorrect::numbers_flat))]
+fn greatest_item_nesting(items: ListItems<'_>) -> u32
+    ensures { result ≡ min (greatest tree.nesting (trees_of (listed items.entry))) (2 ^ 32 - 1) }
+{
+    match items {
+        ListItems::Values(values) => greatest_nesting(values),
+        ListItems::Numbers(_) => 0,
+    }
 }
 
 // Pushes all values, the last one uppermost.
@@ -90,7 +114,7 @@ fn greatest_item(value: &Value) -> u64
         (λ ts. result ≡ min (greatest tree.size (trees_of ts)) (2 ^ 64 - 1)) }
 {
     match value {
-        Value::List(list) => greatest_size(list.items()),
+        Value::List(list) => greatest_item_size(list.items()),
         Value::Map(map) => greatest_key(map.entries()),
         Value::Text(text) => greatest_character(text.as_str()),
         Value::Markup(text) => greatest_character(text.as_str()),
@@ -105,7 +129,7 @@ fn deepest_item(value: &Value) -> u32
         (λ ts. result ≡ min (greatest tree.nesting (trees_of ts)) (2 ^ 32 - 1)) }
 {
     match value {
-        Value::List(list) => greatest_nesting(list.items()),
+        Value::List(list) => greatest_item_nesting(list.items()),
         _ => 0,
     }
 }

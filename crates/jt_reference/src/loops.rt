@@ -3,7 +3,7 @@
 use crate::end::End;
 use crate::machine::{ReferenceMachine, StackEntry, UNDEFINED};
 use jt_image::LoopField;
-use jt_value::{Fault, Value};
+use jt_value::{Fault, ListItems, Value};
 use std::alloc::Global;
 use std::mem::replace;
 
@@ -32,7 +32,8 @@ fn put_items(alloc: Global, value: &Value, into: &mut Vec<Value>) -> Result<(), 
         return put_keys(alloc, entries, into);
     }
     match (value.as_list(), value) {
-        (Some(list), _) => put_copies(alloc, list, into),
+        (Some(ListItems::Values(values)), _) => put_copies(alloc, values, into),
+        (Some(ListItems::Numbers(numbers)), _) => put_copies(alloc, &numbers.values(alloc)?, into),
         (None, Value::Undefined) => Ok(()),
         _ => Err(End::Fault(Fault::NotIterable)),
     }

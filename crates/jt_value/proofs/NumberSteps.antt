@@ -1,11 +1,11 @@
 -- Ranges of numbers, number by number, and the items of lists that are stored.
-use Rattle.std.proofs.Common.{◌≡◌, ℕ, zero, suc, ◌+◌, ◌-◌, ◌<◌, ℤ, pos, negsuc, ◌+ℤ◌, ◌*ℤ◌, List, [], ◌∷◌, ◌++◌}
+use Rattle.std.proofs.Common.{◌≡◌, ℕ, zero, suc, ◌-◌, ◌<◌, ℤ, pos, negsuc, ◌+ℤ◌, ◌*ℤ◌, List, [], ◌∷◌, ◌++◌}
 use Rattle.std.proofs.Common.{refl, sym, ap, ◌∙◌, subst, arith, to_z, of_z, Bool, true, false, eqb, true≢false}
 use Rattle.std.specs.Prelude.{FitsSigned}
 use Rattle.std.specs.Int.{w64}
 use Rattle.std.proofs.lemmas.Bool.Decides.{nat_tests}
 use Rattle.std.proofs.lemmas.Int.{ints, to_z-of_z}
-use Rattle.jt_value.specs.ListItems.{items_count, item_at}
+use Rattle.jt_value.specs.ListItems.{items_count}
 use Rattle.jt_value.specs.Numbers.{stepped, HaveRoom}
 use Rattle.jt_value.specs.Payload.{more_items, joined_items}
 use Rattle.jt_value.specs.Tree.{Tree, number, Items, no_items, item, items_size, items_nesting}

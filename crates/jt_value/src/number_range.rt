@@ -52,7 +52,7 @@ impl NumberRange {
     pub fn is_empty(self) -> bool
         ensures { result ≡ eqb (items_count (numbers_of self)) 0 }
     {
-        self.count == 0
+        self.len() == 0
     }
 
     /// Returns the first number and the range of the numbers after it.

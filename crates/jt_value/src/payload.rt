@@ -149,6 +149,7 @@ impl ValueList {
     fn append_values(&mut self, more: &[Value]) -> Result<(), AllocError>
         ensures { OnOk result (self.new ≡ joined_items self.old (items_view more.now)) }
     {
+        self.reserve(more.len())?;
         for item in more {
             self.push(item.clone()?)?;
         }
@@ -158,11 +159,21 @@ impl ValueList {
     fn append_numbers(&mut self, more: NumberRange) -> Result<(), AllocError>
         ensures { OnOk result (self.new ≡ joined_items self.old (numbers_of more)) }
     {
+        self.reserve(more.len())?;
         let mut rest = more;
         while let Some((number, behind)) = rest.split_first() {
             self.push(Value::Int(number))?;
             rest = behind;
         }
+        Ok(())
+    }
+
+    // Reserves room for more items.
+    fn reserve(&mut self, more: usize) -> Result<(), AllocError>
+        ensures { self.new ≡ self.old }
+    {
+        store(&mut self.values, &mut self.numbers)?;
+        self.values.reserve(more)?;
         Ok(())
     }
 

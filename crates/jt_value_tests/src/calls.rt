@@ -1,8 +1,8 @@
 //! Tests printed texts, contexts, operators on kept operands, and errors as texts.
 
 use indexmap::IndexMap;
-use jt_ops::{Limits, OpId, binary, binary_owned};
-use jt_value::{Context, Fault, NoMemory, Value, ValueError};
+use jt_ops::{Limits, OpId, binary, binary_owned, range};
+use jt_value::{Context, Fault, ListItems, NoMemory, Value, ValueError};
 use std::alloc::Global;
 use std::test::Fail;
 
@@ -132,7 +132,7 @@ fn an_owned_list_takes_another(rt: HostRuntime) -> Result<(), Fail> {
     let (left, right) = (list_of(alloc, 1)?, list_of(alloc, 2)?);
     let kept = right.try_clone(alloc)?;
     let sum = binary_owned(alloc, OpId::Add, left, right, limits)?;
-    assert!(rt; matches!(sum.as_list(), Some([Value::Int(1), Value::Int(2)])));
+    assert!(rt; matches!(sum.as_list(), Some(ListItems::Values([Value::Int(1), Value::Int(2)]))));
     let shared = binary_owned(
         alloc,
         OpId::Add,
@@ -140,8 +140,41 @@ fn an_owned_list_takes_another(rt: HostRuntime) -> Result<(), Fail> {
         list_of(alloc, 3)?,
         limits,
     )?;
-    assert!(rt; matches!(shared.as_list(), Some([Value::Int(2), Value::Int(3)])));
-    assert!(rt; matches!(kept.as_list(), Some([Value::Int(2)])));
+    assert!(rt; matches!(shared.as_list(), Some(ListItems::Values([Value::Int(2), Value::Int(3)]))));
+    assert!(rt; matches!(kept.as_list(), Some(ListItems::Values([Value::Int(2)]))));
+    Ok(())
+}
+
+#[test]
+fn a_range_stores_no_number(rt: HostRuntime) -> Result<(), Fail> {
+    let alloc = rt.alloc();
+    let limits = Limits {
+        size: 100_001,
+        nesting: 1,
+    };
+    let numbers = range(alloc, &[Value::Int(100_000)], limits)?;
+    assert!(rt; matches!(numbers.as_list(), Some(ListItems::Numbers(_))));
+    assert_eq!(rt; (numbers.size(), numbers.nesting()), (100_001, 1));
+    let last = binary(alloc, OpId::Item, &numbers, &Value::Int(-1), limits)?;
+    assert!(rt; matches!(last, Value::Int(99_999)));
+    Ok(())
+}
+
+#[test]
+fn a_range_takes_another_item(rt: HostRuntime) -> Result<(), Fail> {
+    let alloc = rt.alloc();
+    let limits = Limits {
+        size: 4,
+        nesting: 1,
+    };
+    let numbers = range(alloc, &[Value::Int(2)], limits)?;
+    let sum = binary_owned(alloc, OpId::Add, numbers, list_of(alloc, 7)?, limits)?;
+    let [zero, one, seven] = [Value::Int(0), Value::Int(1), Value::Int(7)];
+    let mut items = Vec::new(alloc);
+    items.push(zero)?;
+    items.push(one)?;
+    items.push(seven)?;
+    assert!(rt; sum.equals(&Value::list(alloc, items)?));
     Ok(())
 }
 

@@ -1,11 +1,13 @@
 use Rattle.std.proofs.Common.{ap, ◌∙◌}
+use Rattle.jt_value.specs.ListItems.{listed}
 use Rattle.jt_value.specs.View.{view}
 use Rattle.jt_machine.proofs.UnpackCorrect.{list_counted, map_counted, text_counted, markup_counted}
 use Rattle.jt_machine.proofs.items.count_of.Goals as goal
 
 pub returns-in-List : goal.returns-in-List
 returns-in-List c =
-    list_counted (view c.args.value.now) _ c.items.result.now (ap view c.in-List.is) (c.items.ensures ∙ c.deref.ensures)
+    list_counted (view c.args.value.now) _ (listed c.items.result) c.len.result (ap view c.in-List.is)
+    (c.items.ensures ∙ c.deref.ensures) c.len.ensures
 
 pub returns-in-Map : goal.returns-in-Map
 returns-in-Map c =

@@ -1,5 +1,6 @@
 use Rattle.std.proofs.Common.{◌≡◌, ◌-◌, ◌^◌, ap, ◌∙◌}
 use Rattle.std.specs.Prelude.{min}
+use Rattle.jt_value.specs.ListItems.{listed}
 use Rattle.jt_value.specs.Tree.{nesting}
 use Rattle.jt_value.specs.View.{view}
 use Rattle.jt_image.specs.Step.{greatest}
@@ -8,6 +9,6 @@ use Rattle.jt_machine.proofs.unpacking.deepest_item.Goals as goal
 
 pub returns-in-List : goal.returns-in-List
 returns-in-List c =
-    listed_trees (view c.args.value.now) _ c.items.result.now
-    (λ us. c.greatest_nesting.result ≡ min (greatest nesting us) (2 ^ 32 - 1)) (ap view c.in-List.is)
-    (c.items.ensures ∙ c.deref.ensures) c.greatest_nesting.ensures
+    listed_trees (view c.args.value.now) _ (listed c.items.result)
+    (λ us. c.greatest_item_nesting.result ≡ min (greatest nesting us) (2 ^ 32 - 1)) (ap view c.in-List.is)
+    (c.items.ensures ∙ c.deref.ensures) c.greatest_item_nesting.ensures

@@ -1,5 +1,4 @@
 use Rattle.std.proofs.Common.{sym, ap, ◌∙◌}
-use Rattle.jt_value.specs.ListItems.{numbers_of}
 use Rattle.jt_value.specs.Payload.{joined_items}
 use Rattle.jt_value.specs.View.{items_view}
 use Rattle.jt_value.proofs.Lists.{joined_none}

@@ -5,7 +5,7 @@ use Rattle.jt_value.proofs.Lists.{joined_none, joined_items-take_more}
 use Rattle.jt_value.proofs.payload.ValueList.append_values.Goals as goal
 
 pub loop-item-init : goal.loop-item-init
-loop-item-init c = sym (joined_none c.args.self.now)
+loop-item-init c = c.reserve.ensures ∙ sym (joined_none c.args.self.now)
 
 pub loop-item-preserved : goal.loop-item-preserved
 loop-item-preserved c =

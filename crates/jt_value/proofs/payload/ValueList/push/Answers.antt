@@ -1,7 +1,7 @@
 use Rattle.std.proofs.Common.{◌≡◌, ◌+◌, inr, max, ap, ◌∙◌, arith, rules}
 use Rattle.jt_value.specs.ListItems.{numbers_of}
 use Rattle.jt_value.specs.Payload.{more_items, joined_items}
-use Rattle.jt_value.specs.Tree.{Items, items_size, size, items_nesting, nesting}
+use Rattle.jt_value.specs.Tree.{items_size, size, items_nesting, nesting}
 use Rattle.jt_value.specs.View.{view, items_view}
 use Rattle.jt_value.proofs.Lists.{items_view-push, items_size-more, items_nesting-more, stored}
 use Rattle.jt_value.proofs.payload.ValueList.push.Goals as goal

@@ -1,4 +1,4 @@
-use Rattle.std.proofs.Common.{◌≡◌, ap, sym, ◌∙◌, arith, ⊎_elim, inl, inr}
+use Rattle.std.proofs.Common.{◌≡◌, ap, ◌∙◌, arith, ⊎_elim, inl, inr}
 use Rattle.jt_value.specs.ListItems.{numbers_of}
 use Rattle.jt_value.specs.Payload.{joined_items}
 use Rattle.jt_value.specs.Tree.{items_size, items_nesting}
