@@ -1,3 +1,4 @@
 pub mod Fitting
 pub mod ScopeLookup
 pub mod ScopeView
+pub mod UseRules

@@ -54,14 +54,14 @@ apart P [] ys h = inr h
 apart P (x ∷ xs) ys (inl p) = inl (inl p)
 apart P (x ∷ xs) ys (inr h) = search (arith, rules, apart P xs ys h)
 
-some_as : {A : Type 0} (P Q : A → Type 0) → ((x : A) → P x → Q x) → (xs : List A) → ForSome P xs → ForSome Q xs
+pub some_as : {A : Type 0} (P Q : A → Type 0) → ((x : A) → P x → Q x) → (xs : List A) → ForSome P xs → ForSome Q xs
 some_as P Q f [] h = h
 some_as P Q f (x ∷ xs) (inl p) = inl (f x p)
 some_as P Q f (x ∷ xs) (inr h) = inr (some_as P Q f xs h)
 
 -- ---- The meaning of a result: its rule is broken, or no rule is broken
 
-abbrev Judged : Option ScopeError → (ScopeError → Type 0) → Type 0
+abbrev pub Judged : Option ScopeError → (ScopeError → Type 0) → Type 0
 Judged None P = (rule : ScopeError) → P rule → ⊥
 Judged (Some rule) P = P rule
 
@@ -90,7 +90,7 @@ module _ (cenv : CompileEnv) (namespace : Namespace) where
   -- ---- Names
 
   -- Holds if a name breaks the rule by itself. The flag is true for a macro or a library.
-  abbrev OfName : Bool → Text → ScopeError → Type 0
+  abbrev pub OfName : Bool → Text → ScopeError → Type 0
   OfName m x error.LoopOutside = x ≡ codes "loop"
   OfName m x error.MacroAsValue = m ≡ true
   OfName m x error.NotCallable = IsOnlyCalled x
@@ -107,7 +107,7 @@ module _ (cenv : CompileEnv) (namespace : Namespace) where
   -- ---- Rules of calls
 
   -- Holds if a call breaks the rule, by its callee; `misuse` is the misuse of `loop`.
-  abbrev OfCall : Type 0 → Callee → Enclosing → Exprs → trees.Pairs → ScopeError → Type 0
+  abbrev pub OfCall : Type 0 → Callee → Enclosing → Exprs → trees.Pairs → ScopeError → Type 0
   OfCall misuse c w ts ps error.LoopOutside = misuse
   OfCall misuse c w ts ps error.NotCallable = CannotBeCalled cenv namespace c w
   OfCall misuse c w ts ps error.BadArguments = callee_takes c ts ps ≡ false
@@ -171,7 +171,7 @@ module _ (cenv : CompileEnv) (namespace : Namespace) where
       → Judged (call_broken cenv namespace a_cycle w f ts ps) (OfCall misuse a_cycle w ts ps)
   cycle_judged misuse w to back f ts ps = search (arith, rules, no_call, differs)
 
-  abbrev Named : Expr → Enclosing → Exprs → trees.Pairs → Type 0
+  abbrev pub Named : Expr → Enclosing → Exprs → trees.Pairs → Type 0
   Named f w ts ps =
       Judged (option_or (called_broken cenv namespace f w)
       (call_broken cenv namespace (callee cenv.sources (given cenv.sources namespace) f) w f ts ps))
@@ -180,7 +180,7 @@ module _ (cenv : CompileEnv) (namespace : Namespace) where
   no_cycle_alone : (o : Option Definition) (x : Text) → named_alone cenv.sources o x ≡ a_cycle → ⊥
   no_cycle_alone a0 x e = search (arith, rules)
 
-  name_called : (x : Text) (w : Enclosing) (ts : Exprs) (ps : trees.Pairs) → Named (name x) w ts ps
+  pub name_called : (x : Text) (w : Enclosing) (ts : Exprs) (ps : trees.Pairs) → Named (name x) w ts ps
   name_called x w ts ps = search (arith, rules, same, call_judged, other, no_cycle_alone)
 
   -- The text `self` is not the text `loop`.
@@ -194,22 +194,22 @@ module _ (cenv : CompileEnv) (namespace : Namespace) where
   no_cycle_in : (o : Option Definition) (x : Text) → in_library cenv.sources o x ≡ a_cycle → ⊥
   no_cycle_in a0 x e = search (arith, rules, no_cycle_of)
 
-  field_called : (of k : Text) (w : Enclosing) (ts : Exprs) (ps : trees.Pairs) → Named (attribute (name of) k) w ts ps
+  pub field_called : (of k : Text) (w : Enclosing) (ts : Exprs) (ps : trees.Pairs) → Named (attribute (name of) k) w ts ps
   field_called of k w ts ps =
       search (arith, rules, same, not_both, call_judged, differs, no_cycle_in, other, cycle_judged)
 
   -- ---- Use sites
 
   -- Holds if a read of a field of `loop` breaks the rule.
-  abbrev OfField : Text → Enclosing → ScopeError → Type 0
+  abbrev pub OfField : Text → Enclosing → ScopeError → Type 0
   OfField k w error.LoopOutside = (w.in_loop ≡ false) ⊎ (field_named k ≡ None)
   OfField k w rule = ⊥
 
-  abbrev OfArguments : Bool → ScopeError → Type 0
+  abbrev pub OfArguments : Bool → ScopeError → Type 0
   OfArguments takes error.BadArguments = takes ≡ false
   OfArguments takes rule = ⊥
 
-  abbrev OfMacro : Text → List Parameter → ScopeError → Type 0
+  abbrev pub OfMacro : Text → List Parameter → ScopeError → Type 0
   OfMacro x ps error.LoopOutside = x ≡ codes "loop"
   OfMacro x ps error.NotCallable = IsOnlyCalled x
   OfMacro x ps error.BadArguments = repeated (parameter_names ps) ≡ true
@@ -219,7 +219,7 @@ module _ (cenv : CompileEnv) (namespace : Namespace) where
   only_arguments : (takes : Bool) (rule : ScopeError) → OfArguments takes rule → takes ≡ false
   only_arguments takes a1 h = search (arith, rules)
 
-  field_judged : (k : Text) (w : Enclosing)
+  pub field_judged : (k : Text) (w : Enclosing)
       → Judged (refused (not (w.in_loop && is_some (field_named k))) error.LoopOutside) (OfField k w)
   field_judged k w = by w.in_loop (field_named k) refl refl
     where
@@ -230,18 +230,18 @@ module _ (cenv : CompileEnv) (namespace : Namespace) where
           → Judged (refused (not (b && is_some o)) error.LoopOutside) (OfField k w)
       by a0 a1 e g = search (arith, rules, right)
 
-  macro_judged : (x : Text) (ps : List Parameter)
+  pub macro_judged : (x : Text) (ps : List Parameter)
       → Judged (option_or (read_alone x)
       (option_or (unless (not (repeated (parameter_names ps)))) (refused (nat_lt 255 (length ps)) error.TooManySlots)))
       (OfMacro x ps)
   macro_judged x ps = search (arith, rules, nat_lt, other, differs, nat_tests, same)
 
   -- True if the filter takes its arguments, and these name filters, tests and keys correctly.
-  abbrev filter_right : Option ℕ → Exprs → trees.Pairs → Bool
+  abbrev pub filter_right : Option ℕ → Exprs → trees.Pairs → Bool
   filter_right o ts ps = filter_takes cenv.filters o (count ts) (keywords ps) && names_rightly cenv.filters o ts ps
 
   -- Holds if the rule is broken at the use site.
-  abbrev At : Use → Enclosing → ScopeError → Type 0
+  abbrev pub At : Use → Enclosing → ScopeError → Type 0
   At (reads x) w rule = OfName (is_macro cenv namespace x) x rule
   At (binds x) w rule = OfName (is_macro cenv namespace x) x rule
   At (reads_loop_field k) w rule = OfField k w rule
@@ -252,21 +252,21 @@ module _ (cenv : CompileEnv) (namespace : Namespace) where
   At (declares x ps) w rule = OfMacro x ps rule
   At (names_import x) w rule = OfName false x rule
 
-  abbrev Of : ScopeError → UseSite → Type 0
+  abbrev pub Of : ScopeError → UseSite → Type 0
   Of rule s = At s.use_made s.around rule
 
   -- Holds if the result is a rule that is broken at a use site, or no rule is broken at any.
-  abbrev Tells : Option ScopeError → List UseSite → Type 0
+  abbrev pub Tells : Option ScopeError → List UseSite → Type 0
   Tells o ss = Judged o (λ rule. ForSome (Of rule) ss)
 
-  nothing : Tells None []
+  pub nothing : Tells None []
   nothing rule h = h
 
-  one : (o : Option ScopeError) (u : Use) (w : Enclosing) → Judged o (At u w) → Tells o (at w u)
+  pub one : (o : Option ScopeError) (u : Use) (w : Enclosing) → Judged o (At u w) → Tells o (at w u)
   one None u w h = λ rule some. elim some [ inl a ↦ h rule a | inr b ↦ b ]
   one (Some r) u w h = inl h
 
-  in_turn : (a b : Option ScopeError) (xs ys : List UseSite) → Tells a xs → Tells b ys
+  pub in_turn : (a b : Option ScopeError) (xs ys : List UseSite) → Tells a xs → Tells b ys
       → Tells (option_or a b) (xs ++ ys)
   in_turn None None xs ys h k = λ rule both. elim (apart (Of rule) xs ys both) [ inl p ↦ h rule p | inr q ↦ k rule q ]
   in_turn None (Some r) xs ys h k = some_right (Of r) xs ys k
@@ -304,10 +304,10 @@ module _ (cenv : CompileEnv) (namespace : Namespace) where
   found_behind None ws xs ys h = tt
   found_behind (Some r) ws xs ys h = some_left (Of r) (ws ++ xs) ys (some_right (Of r) ws xs h)
 
-  read_told : (x : Text) (w : Enclosing) → Tells (used cenv namespace x) (at w (reads x))
+  pub read_told : (x : Text) (w : Enclosing) → Tells (used cenv namespace x) (at w (reads x))
   read_told x w = one (used cenv namespace x) (reads x) w (name_judged x (is_macro cenv namespace x))
 
-  bound_told : (x : Text) (w : Enclosing) → Tells (used cenv namespace x) (at w (binds x))
+  pub bound_told : (x : Text) (w : Enclosing) → Tells (used cenv namespace x) (at w (binds x))
   bound_told x w = one (used cenv namespace x) (binds x) w (name_judged x (is_macro cenv namespace x))
 
   all_bound_told : (xs : List Text) (w : Enclosing) → Tells (all_used cenv namespace xs) (bound xs w)
@@ -316,11 +316,11 @@ module _ (cenv : CompileEnv) (namespace : Namespace) where
       in_turn (used cenv namespace x) (all_used cenv namespace xs) (at w (binds x)) (bound xs w) (bound_told x w)
       (all_bound_told xs w)
 
-  filter_told : (x : Text) (ts : Exprs) (ps : trees.Pairs) (w : Enclosing)
+  pub filter_told : (x : Text) (ts : Exprs) (ps : trees.Pairs) (w : Enclosing)
       → Tells (filter_broken cenv.filters (cenv.filters.named x ts ps) ts ps) (at w (filters x ts ps))
   filter_told x ts ps w = search (arith, rules, one, differs, only_arguments, judged_unless)
 
-  test_told : (x : Text) (ts : Exprs) (ps : trees.Pairs) (w : Enclosing)
+  pub test_told : (x : Text) (ts : Exprs) (ps : trees.Pairs) (w : Enclosing)
       → Tells (test_broken (test_named x) ts ps) (at w (tests x ts ps))
   test_told x ts ps w = search (arith, rules, one, differs, only_arguments, judged_unless)
 
@@ -471,7 +471,7 @@ module _ (cenv : CompileEnv) (namespace : Namespace) where
       (declares x ps) w (macro_judged x ps))
       (all_bound_told (parameter_names ps) w)
 
-  import_judged : (x : Text) → Judged (read_alone x) (OfName false x)
+  pub import_judged : (x : Text) → Judged (read_alone x) (OfName false x)
   import_judged x = search (arith, rules, name_judged)
 
   imports_told : (xs : List (Text × Text)) (w : Enclosing)
@@ -519,11 +519,11 @@ module _ (cenv : CompileEnv) (namespace : Namespace) where
   -- ---- Templates
 
   -- Holds if templates break the rule by the number of names that they bind.
-  abbrev OfNumber : List Template → ScopeError → Type 0
+  abbrev pub OfNumber : List Template → ScopeError → Type 0
   OfNumber ts error.TooManySlots = ForSome (λ t. 4096 < body_bound t.body) ts
   OfNumber ts rule = ⊥
 
-  abbrev InTemplates : List Template → ScopeError → Type 0
+  abbrev pub InTemplates : List Template → ScopeError → Type 0
   InTemplates ts rule = ForSome (Of rule) (flat_map (λ t. body_use_sites t.body outside) ts) ⊎ OfNumber ts rule
 
   later : (t : Template) (ts : List Template) (rule : ScopeError) → OfNumber ts rule → OfNumber (t ∷ ts) rule
@@ -540,7 +540,7 @@ module _ (cenv : CompileEnv) (namespace : Namespace) where
   few t ts e n error.TooManySlots (inr h) = n error.TooManySlots h
   few t ts e n error.NoMemory h = h
 
-  template_told : (t : Template) (ts : List Template) (a c : Option ScopeError) (ss : List UseSite) (b : Bool)
+  pub template_told : (t : Template) (ts : List Template) (a c : Option ScopeError) (ss : List UseSite) (b : Bool)
       → nat_lt 4096 (body_bound t.body) ≡ b → Tells a ss → Judged c (InTemplates ts)
       → Judged (option_or (option_or a (refused b error.TooManySlots)) c)
       (λ rule. ForSome (Of rule) (ss ++ flat_map (λ u. body_use_sites u.body outside) ts) ⊎ OfNumber (t ∷ ts) rule)
@@ -624,20 +624,20 @@ module _ (cenv : CompileEnv) (namespace : Namespace) where
   abbrev By : (Use → Enclosing → Type 0) → UseSite → Type 0
   By P s = P s.use_made s.around
 
-  broken_in : (rule : ScopeError) → InTemplates (templates cenv.sources namespace) rule → BrokenIn cenv namespace rule
+  pub broken_in : (rule : ScopeError) → InTemplates (templates cenv.sources namespace) rule → BrokenIn cenv namespace rule
   broken_in a0 a1 = search (arith, rules, some_as, loop_to, macro_to, called_to, arguments_to, slots_to, no_memory)
 
-  in_templates : (rule : ScopeError) → BrokenIn cenv namespace rule
+  pub in_templates : (rule : ScopeError) → BrokenIn cenv namespace rule
       → InTemplates (templates cenv.sources namespace) rule
   in_templates a0 a1 = search (arith, rules, some_as, loop_back, macro_back, called_back, arguments_back, slots_back)
 
 -- ---- Chains
 
-judged_or : (P Q : ScopeError → Type 0) (a b : Option ScopeError) → Judged a P → Judged b Q
+pub judged_or : (P Q : ScopeError → Type 0) (a b : Option ScopeError) → Judged a P → Judged b Q
     → Judged (option_or a b) (λ rule. P rule ⊎ Q rule)
 judged_or a0 a1 a2 a3 h k = search (arith, rules)
 
-abbrev InChain : CompileEnv → ScopeError → Namespace → Type 0
+abbrev pub InChain : CompileEnv → ScopeError → Namespace → Type 0
 InChain cenv rule h = InTemplates cenv h (templates cenv.sources h) rule
 
 chains_told : (cenv : CompileEnv) (order : List Namespace)
@@ -645,15 +645,15 @@ chains_told : (cenv : CompileEnv) (order : List Namespace)
 chains_told cenv [] = λ rule h. h
 chains_told cenv (h ∷ hs) = search (arith, rules, judged_or, templates_told, chains_told cenv hs)
 
-abbrev BrokenThere : CompileEnv → ScopeError → Namespace → Type 0
+abbrev pub BrokenThere : CompileEnv → ScopeError → Namespace → Type 0
 BrokenThere cenv rule h = BrokenIn cenv h rule
 
-broken_of : (cenv : CompileEnv) (order : List Namespace) (rule : ScopeError) → ForSome (BrokenThere cenv rule) order
+pub broken_of : (cenv : CompileEnv) (order : List Namespace) (rule : ScopeError) → ForSome (BrokenThere cenv rule) order
     → Broken rule cenv order
 broken_of cenv order error.LoopOutside h = h
 broken_of cenv order a2 h = search (arith, rules)
 
-found_of : (cenv : CompileEnv) (order : List Namespace) → names_counted cenv order ≤ 65535 → (rule : ScopeError)
+pub found_of : (cenv : CompileEnv) (order : List Namespace) → names_counted cenv order ≤ 65535 → (rule : ScopeError)
     → Broken rule cenv order → ForSome (BrokenThere cenv rule) order
 found_of cenv order few a3 a4 = search (arith, rules, few)
 
