@@ -1,12 +1,38 @@
 -- The uses of a body bind as many names as the body is said to bind.
-use Rattle.std.proofs.Common.{◌≡◌, ℕ, suc, ◌+◌, Bool, true, false, if◌then◌else◌, List, [], ◌∷◌, ◌++◌, length, refl, ap, ◌∙◌}
+use Rattle.std.proofs.Common.{
+  ◌≡◌,
+  ℕ,
+  suc,
+  ◌+◌,
+  Bool,
+  true,
+  false,
+  if◌then◌else◌,
+  List,
+  [],
+  ◌∷◌,
+  ◌++◌,
+  length,
+  refl,
+  ap,
+  ◌∙◌,
+}
 use Rattle.std.proofs.Common.{Option, Some, None, arith}
 use Rattle.std.specs.List.{count_by}
 use Rattle.jt_ast.specs.Expressions.{Expr, constant, name, group, list_of, map_of, attribute, item, call, filter, test}
 use Rattle.jt_ast.specs.Expressions.{unary, binary, when, choice, Exprs, no_exprs, expr, Pairs, no_pairs, pair, Text}
 use Rattle.jt_ast.specs.Statements as trees
 use Rattle.jt_ast.specs.Statements.{Parameter, FilterCall, Stmt, data_of, print, choose, for_each, set, set_block}
-use Rattle.jt_ast.specs.Statements.{with_values, filter_block, autoescape, macro, include, import_as, import_from, block}
+use Rattle.jt_ast.specs.Statements.{
+  with_values,
+  filter_block,
+  autoescape,
+  macro,
+  include,
+  import_as,
+  import_from,
+  block,
+}
 use Rattle.jt_ast.specs.Statements.{Body, end, stmt, Branches, no_branches, branch, pairs_count, stmt_bound, body_bound}
 use Rattle.jt_ast.specs.Statements.{branch_bound}
 use Rattle.jt_uses.specs.Uses as uses

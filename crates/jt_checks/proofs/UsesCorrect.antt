@@ -15,7 +15,17 @@ use Rattle.jt_rules.specs.Rules.{ForSome, Broken, KeepsRules, names_counted}
 use Rattle.jt_rules.specs.UseSites as sites
 use Rattle.jt_rules.specs.UseSites.{UseSite}
 use Rattle.jt_rules.specs.declared.error.ScopeError.{ScopeError}
-use Rattle.jt_rules.proofs.WalkCorrect.{Judged, Tells, InTemplates, InChain, BrokenThere, some_as, nothing, one, in_turn}
+use Rattle.jt_rules.proofs.WalkCorrect.{
+  Judged,
+  Tells,
+  InTemplates,
+  InChain,
+  BrokenThere,
+  some_as,
+  nothing,
+  one,
+  in_turn,
+}
 use Rattle.jt_rules.proofs.WalkCorrect.{name_called, field_called, read_told, bound_told, filter_told, test_told}
 use Rattle.jt_rules.proofs.WalkCorrect.{field_judged, macro_judged, import_judged, template_told, judged_or, broken_in}
 use Rattle.jt_rules.proofs.WalkCorrect.{in_templates, broken_of, found_of}

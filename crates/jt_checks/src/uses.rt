@@ -57,7 +57,10 @@ fn callee_broken(callee: &Expr) -> Option<ScopeError>
         Expr::Name(name) => refused(name.as_str() == "loop", ScopeError::LoopOutside),
         Expr::Attribute(value, field) => {
             let of = name_of(value)?;
-            refused(of == "loop" && field.as_str() != "cycle", ScopeError::LoopOutside)
+            refused(
+                of == "loop" && field.as_str() != "cycle",
+                ScopeError::LoopOutside,
+            )
         }
         _ => None,
     }

@@ -194,7 +194,8 @@ module _ (cenv : CompileEnv) (namespace : Namespace) where
   no_cycle_in : (o : Option Definition) (x : Text) → in_library cenv.sources o x ≡ a_cycle → ⊥
   no_cycle_in a0 x e = search (arith, rules, no_cycle_of)
 
-  pub field_called : (of k : Text) (w : Enclosing) (ts : Exprs) (ps : trees.Pairs) → Named (attribute (name of) k) w ts ps
+  pub field_called : (of k : Text) (w : Enclosing) (ts : Exprs) (ps : trees.Pairs) → Named (attribute (name of) k) w ts
+      ps
   field_called of k w ts ps =
       search (arith, rules, same, not_both, call_judged, differs, no_cycle_in, other, cycle_judged)
 
@@ -624,7 +625,8 @@ module _ (cenv : CompileEnv) (namespace : Namespace) where
   abbrev By : (Use → Enclosing → Type 0) → UseSite → Type 0
   By P s = P s.use_made s.around
 
-  pub broken_in : (rule : ScopeError) → InTemplates (templates cenv.sources namespace) rule → BrokenIn cenv namespace rule
+  pub broken_in : (rule : ScopeError) → InTemplates (templates cenv.sources namespace) rule → BrokenIn cenv namespace
+      rule
   broken_in a0 a1 = search (arith, rules, some_as, loop_to, macro_to, called_to, arguments_to, slots_to, no_memory)
 
   pub in_templates : (rule : ScopeError) → BrokenIn cenv namespace rule

@@ -1,40 +1,88 @@
--- What a template does at each of its places: the line of the tag, and what stands around. No rule
--- stands here.
+-- The uses of a template: what it does at each of its places, in the order of the source, with the
+-- line of the tag and the context. No rule is defined here.
 use Rattle.std.specs.Prelude.{ℕ, Bool, true, false, if◌then◌else◌, List, [], ◌∷◌, ◌++◌, codes, Option, Some, None}
 use Rattle.std.specs.Str.{bytes_eq}
-use Rattle.jt_ast.specs.Expressions.{Expr, constant, name, group, list_of, map_of, attribute, item, call, filter, test, unary, binary, when, choice, Exprs, no_exprs, expr, Pairs, no_pairs, pair, Text}
+use Rattle.jt_ast.specs.Expressions.{
+  Expr,
+  constant,
+  name,
+  group,
+  list_of,
+  map_of,
+  attribute,
+  item,
+  call,
+  filter,
+  test,
+  unary,
+  binary,
+  when,
+  choice,
+  Exprs,
+  no_exprs,
+  expr,
+  Pairs,
+  no_pairs,
+  pair,
+  Text,
+}
 use Rattle.jt_ast.specs.Statements as trees
-use Rattle.jt_ast.specs.Statements.{Parameter, FilterCall, Stmt, data_of, print, choose, for_each, set, set_block, with_values, filter_block, autoescape, macro, include, import_as, import_from, block, Body, end, stmt, Branches, no_branches, branch}
+use Rattle.jt_ast.specs.Statements.{
+  Parameter,
+  FilterCall,
+  Stmt,
+  data_of,
+  print,
+  choose,
+  for_each,
+  set,
+  set_block,
+  with_values,
+  filter_block,
+  autoescape,
+  macro,
+  include,
+  import_as,
+  import_from,
+  block,
+  Body,
+  end,
+  stmt,
+  Branches,
+  no_branches,
+  branch,
+}
 use Rattle.jt_uses.specs.declared.site.Place.{Place}
 use Rattle.jt_uses.specs.declared.site.Enclosing.{Enclosing}
 
--- what is done at a place
+-- A use.
 pub data Use : Type 0 where
-  -- a name is read as a value
+  -- A read of a name as a value.
   reads : Text → Use
-  -- a name is bound: by `set`, `for`, `with` or as a parameter
+  -- A binding of a name by `set`, `for` or `with`, or as a parameter.
   binds : Text → Use
-  -- a field of `loop` is read
+  -- A read of a field of `loop`.
   reads_loop_field : Text → Use
-  -- an expression is called with arguments, by place and by name
+  -- A call of an expression, with positional and keyword arguments.
   calls : Expr → Exprs → Pairs → Use
-  -- a filter is applied, with arguments behind its input
+  -- A filter, with the arguments after its input.
   filters : Text → Exprs → Pairs → Use
-  -- a test is applied, with arguments behind what it tests
+  -- A test, with the arguments after the tested value.
   tests : Text → Exprs → Pairs → Use
-  -- a macro is declared, with parameters and a body
+  -- A declaration of a macro, with its parameters and its body.
   declares_macro : Text → List Parameter → Body → Use
-  -- a block stands here: its name, whether it is scoped, whether it is required, and its body
+  -- A block: its name, whether it is scoped, whether it is required, and its body.
   declares_block : Text → Bool → Bool → Body → Use
-  -- a template is asked for: whether it may be missing, and whether it sees the names around
+  -- An include: the template's name, whether it may be missing, and whether it sees the names at
+  -- the tag.
   includes : Text → Bool → Bool → Use
-  -- a library is asked for
+  -- An import of a library.
   imports : Text → Use
-  -- a library of this name is given the second name
+  -- A binding of the second name to the library of the first name.
   binds_library : Text → Text → Use
-  -- of the library of this name, the macro of the second name is given the third
+  -- A binding of the third name to the macro of the second name of the library of the first name.
   binds_macro : Text → Text → Text → Use
-  -- a parent is asked for
+  -- An `extends` tag with the name of the parent.
   extends : Text → Use
 
 pub record Site : Type 0 where
@@ -44,32 +92,32 @@ pub record Site : Type 0 where
 abbrev pub place_at : ℕ → Enclosing → Place
 place_at n w = record { line = n; around = w }
 
--- one use
+-- The list of one use.
 abbrev pub at : Place → Use → List Site
 at p u = record { place = p; made = u } ∷ []
 
--- names that are bound
+-- The bindings of names.
 abbrev pub bound : List Text → Place → List Site
 bound [] p = []
 bound (x ∷ xs) p = record { place = p; made = binds x } ∷ bound xs p
 
--- the names of parameters are bound
+-- The bindings of parameters.
 abbrev pub parameters_bound : List Parameter → Place → List Site
 parameters_bound [] p = []
 parameters_bound (x ∷ xs) p = record { place = p; made = binds x.name } ∷ parameters_bound xs p
 
--- the keys of pairs are bound
+-- The bindings of the keys of pairs.
 abbrev pub keys_bound : Pairs → Place → List Site
 keys_bound no_pairs p = []
 keys_bound (pair x e ps) p = record { place = p; made = binds x } ∷ keys_bound ps p
 
--- names that `from` gives to macros of a library
+-- The bindings of the names that `from` binds to macros of a library.
 abbrev pub macros_bound : Text → List (Text × Text) → Place → List Site
 macros_bound n [] p = []
 macros_bound n (x ∷ xs) p =
     record { place = p; made = binds_macro n x.0 x.1 } ∷ macros_bound n xs p
 
--- whether an expression is the bare name `loop`
+-- True if the expression is the bare name `loop`.
 abbrev pub is_loop : Expr → Bool
 is_loop (name x) = bytes_eq x (codes "loop")
 is_loop e = false
@@ -78,7 +126,7 @@ abbrev pub is_name : Expr → Bool
 is_name (name x) = true
 is_name e = false
 
--- a name, or a field of a name: where it is called it is no value that is read
+-- True if the expression is a name or a field of a name. As a callee it does not count as a read.
 abbrev pub is_called_by_name : Expr → Bool
 is_called_by_name (name x) = true
 is_called_by_name (attribute a k) = is_name a
@@ -113,7 +161,8 @@ abbrev mutual
   pair_uses no_pairs p = []
   pair_uses (pair k a ps) p = expr_uses a p ++ pair_uses ps p
 
--- in the condition of a loop that loop is not there yet, nor is one around it
+-- The place of a loop's condition. The condition is outside this loop and outside every loop around
+-- it.
 abbrev pub before_loop : Place → Place
 before_loop p = place_at p.line (record p.around { in_loop = false })
 
@@ -121,7 +170,7 @@ abbrev pub condition_uses : Option Expr → Place → List Site
 condition_uses None p = []
 condition_uses (Some c) p = expr_uses c (before_loop p)
 
--- a filter of a filter tag
+-- The uses of one filter of a filter tag.
 abbrev pub filter_call_use : FilterCall → Place → List Site
 filter_call_use f p =
     at p (filters f.name f.arguments f.keywords)
@@ -131,7 +180,7 @@ abbrev pub filter_call_uses : List FilterCall → Place → List Site
 filter_call_uses [] p = []
 filter_call_uses (f ∷ fs) p = filter_call_use f p ++ filter_call_uses fs p
 
--- neither a loop nor a block is around, and nothing says of escaping
+-- The context of a use that is outside loops, blocks and `autoescape` tags.
 abbrev pub outside : Enclosing
 outside = record { in_loop = false; in_block = false; escaping = None }
 

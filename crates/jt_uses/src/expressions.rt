@@ -1,4 +1,4 @@
-//! The uses in an expression.
+//! Lists the uses in expressions.
 
 ghost use Rattle.std.specs.Prelude.{◌≡◌, ◌++◌, if◌then◌else◌, [], IfOk};
 ghost use Rattle.jt_ast.specs.ExpressionView.{expr_view, exprs_view, pairs_view};
@@ -10,7 +10,7 @@ use crate::site::{Place, Use, UseSite, add_use};
 use jt_ast::Expr;
 use std::alloc::AllocError;
 
-/// Whether an expression is the bare name `loop`.
+/// Returns whether an expression is the bare name `loop`.
 pub(crate) fn is_loop_name(expr: &Expr) -> bool
     ensures { result ≡ is_loop (expr_view expr.now) }
 {
@@ -20,7 +20,7 @@ pub(crate) fn is_loop_name(expr: &Expr) -> bool
     }
 }
 
-/// Whether an expression is a bare name.
+/// Returns whether an expression is a bare name.
 fn is_name(expr: &Expr) -> bool
     ensures { result ≡ uses.is_name (expr_view expr.now) }
 {
@@ -30,7 +30,7 @@ fn is_name(expr: &Expr) -> bool
     }
 }
 
-/// Whether an expression is a name, or a field of a name.
+/// Returns whether an expression is a name or a field of a name.
 fn is_called_by_name(expr: &Expr) -> bool
     ensures { result ≡ uses.is_called_by_name (expr_view expr.now) }
 {
@@ -41,7 +41,7 @@ fn is_called_by_name(expr: &Expr) -> bool
     }
 }
 
-/// Adds the uses in an expression.
+/// Appends the uses in an expression.
 #[tactic(auto, using(jt_ast::proofs::ExpressionViews::view_Map))]
 #[cycle(gather)]
 pub(crate) fn add_expression<'a>(
@@ -102,7 +102,7 @@ pub(crate) fn add_expression<'a>(
     Ok(())
 }
 
-/// Adds a call, with the uses in what is called, where that is no name, and in its arguments.
+/// Appends a call, the uses in its callee and those in its arguments.
 #[cycle(gather)]
 fn add_call<'a>(
     found: &mut Vec<UseSite<'a>>,
@@ -132,7 +132,7 @@ fn add_call<'a>(
     add_arguments(found, place, arguments, keywords)
 }
 
-/// Adds a filter, with the uses in its input and arguments.
+/// Appends a filter, the uses in its input and those in its arguments.
 #[cycle(gather)]
 fn add_filter<'a>(
     found: &mut Vec<UseSite<'a>>,
@@ -160,7 +160,7 @@ fn add_filter<'a>(
     add_arguments(found, place, arguments, keywords)
 }
 
-/// Adds a test, with the uses in its value and arguments.
+/// Appends a test, the uses in its value and those in its arguments.
 #[cycle(gather)]
 fn add_test<'a>(
     found: &mut Vec<UseSite<'a>>,
@@ -188,7 +188,7 @@ fn add_test<'a>(
     add_arguments(found, place, arguments, keywords)
 }
 
-/// Adds the uses in what is called; a name there is no value that is read.
+/// Appends the uses in a callee. A name and a field of a name do not count as reads there.
 #[cycle(gather)]
 fn add_callee<'a>(
     found: &mut Vec<UseSite<'a>>,
@@ -205,7 +205,7 @@ fn add_callee<'a>(
     add_expression(found, place, callee)
 }
 
-/// Adds the uses in arguments by place and by name.
+/// Appends the uses in positional and keyword arguments.
 #[cycle(gather)]
 pub(crate) fn add_arguments<'a>(
     found: &mut Vec<UseSite<'a>>,
@@ -220,7 +220,7 @@ pub(crate) fn add_arguments<'a>(
     add_pairs(found, place, pairs)
 }
 
-/// Adds a field of `loop` that is read, or the uses in what has the field.
+/// Appends the read of a field of `loop`, or the uses in the operand of another attribute.
 #[cycle(gather)]
 fn add_attribute<'a>(
     found: &mut Vec<UseSite<'a>>,
@@ -229,7 +229,8 @@ fn add_attribute<'a>(
     field: &'a str,
 ) -> Result<(), AllocError>
     ensures { IfOk result (λ _. Adds found.old found.new (if is_loop (expr_view value.now)
-        then at place (uses.reads_loop_field field.now) else expr_uses (expr_view value.now) place)) }
+        then at place (uses.reads_loop_field field.now)
+        else expr_uses (expr_view value.now) place)) }
 {
     if is_loop_name(value) {
         return add_use(found, place, Use::ReadsLoopField(field));
@@ -237,7 +238,7 @@ fn add_attribute<'a>(
     add_expression(found, place, value)
 }
 
-/// Adds the uses in a row of expressions.
+/// Appends the uses in a list of expressions.
 #[cycle(gather)]
 fn add_row<'a>(
     found: &mut Vec<UseSite<'a>>,
@@ -252,7 +253,7 @@ fn add_row<'a>(
     Ok(())
 }
 
-/// Adds the uses in values behind their keys.
+/// Appends the uses in the values of pairs.
 #[cycle(gather)]
 pub(crate) fn add_pairs<'a>(
     found: &mut Vec<UseSite<'a>>,

@@ -1,15 +1,15 @@
-//! What is done at a place of a template.
+//! Defines a use: what a template does at one of its places.
 
 ghost use Rattle.std.specs.Prelude.{◌≡◌, IfOk};
 ghost use Rattle.jt_uses.specs.Uses.{at, inside_loop, inside_block, inside_macro, escaped};
 ghost use Rattle.jt_uses.specs.UseView.{Adds, use_view};
 
-use jt_ast::{Expr, Missing, IncludeContext, Parameter, Stmt};
+use jt_ast::{Expr, IncludeContext, Missing, Parameter, Stmt};
 use std::alloc::AllocError;
 use std::mem::size_of;
 
-/// What stands around a place: a loop of the same block or macro body, a block, and what the
-/// nearest `autoescape` says, if there is one.
+/// The context of a use: whether it is inside a loop of the same block or macro body, whether it is
+/// inside a block, and the option of the nearest `autoescape` tag around it.
 #[derive(Clone, Copy)]
 pub struct Enclosing {
     pub in_loop: bool,
@@ -18,7 +18,7 @@ pub struct Enclosing {
 }
 
 impl Enclosing {
-    /// What stands around the body of a loop.
+    /// Returns the context of the body of a loop.
     pub(crate) fn in_a_loop(self) -> Self
         ensures { result ≡ inside_loop self }
     {
@@ -28,7 +28,7 @@ impl Enclosing {
         }
     }
 
-    /// What stands around the body of a macro.
+    /// Returns the context of the body of a macro.
     pub(crate) fn in_a_macro(self) -> Self
         ensures { result ≡ inside_macro self }
     {
@@ -39,7 +39,7 @@ impl Enclosing {
         }
     }
 
-    /// What stands around the body of a block.
+    /// Returns the context of the body of a block.
     pub(crate) fn in_a_block(self) -> Self
         ensures { result ≡ inside_block self }
     {
@@ -50,7 +50,7 @@ impl Enclosing {
         }
     }
 
-    /// What stands around the body of an `autoescape` tag.
+    /// Returns the context of the body of an `autoescape` tag.
     pub(crate) fn escaped(self, escaping: bool) -> Self
         ensures { result ≡ escaped escaping self }
     {
@@ -61,87 +61,87 @@ impl Enclosing {
     }
 }
 
-/// The line of a tag, and what stands around it.
+/// The line of a tag, and the context of the uses in it.
 #[derive(Clone, Copy)]
 pub struct Place {
     pub line: u32,
     pub around: Enclosing,
 }
 
-/// What is done at a place.
+/// A use: what a template does at a place.
 #[derive(Clone, Copy)]
 pub enum Use<'a> {
-    /// A name is read as a value.
+    /// A read of a name as a value.
     Reads(&'a str),
-    /// A name is bound: by `set`, `for`, `with` or as a parameter.
+    /// A binding of a name by `set`, `for` or `with`, or as a parameter.
     Binds(&'a str),
-    /// A field of `loop` is read.
+    /// A read of a field of `loop`.
     ReadsLoopField(&'a str),
-    /// An expression is called.
+    /// A call of an expression.
     Calls {
         callee: &'a Expr,
         arguments: &'a [Expr],
         keywords: &'a [(String, Expr)],
     },
-    /// A filter is applied.
+    /// A filter, with the arguments after its input.
     Filters {
         name: &'a str,
         arguments: &'a [Expr],
         keywords: &'a [(String, Expr)],
     },
-    /// A test is applied.
+    /// A test, with the arguments after the tested value.
     Tests {
         name: &'a str,
         arguments: &'a [Expr],
         keywords: &'a [(String, Expr)],
     },
-    /// A macro is declared.
+    /// A declaration of a macro.
     DeclaresMacro {
         name: &'a str,
         parameters: &'a [Parameter],
         body: &'a [Stmt],
     },
-    /// A block stands here.
+    /// A block.
     DeclaresBlock {
         name: &'a str,
         scoped: bool,
         required: bool,
         body: &'a [Stmt],
     },
-    /// A template is asked for.
+    /// An include of a template.
     Includes {
         name: &'a str,
         missing: Missing,
         names: IncludeContext,
     },
-    /// A library is asked for.
+    /// An import of a library.
     Imports(&'a str),
-    /// A library is given a name.
+    /// A binding of a name to a library.
     BindsLibrary {
         library: &'a str,
         name: &'a str,
     },
-    /// A macro of a library is given a name.
+    /// A binding of a name to the macro `called` of a library.
     BindsMacro {
         library: &'a str,
         called: &'a str,
         name: &'a str,
     },
-    /// A parent is asked for.
+    /// An `extends` tag with the name of the parent.
     Extends(&'a str),
 }
 
-/// A use, and its place.
+/// A use and its place.
 #[derive(Clone, Copy)]
 pub struct UseSite<'a> {
     pub place: Place,
     pub made: Use<'a>,
 }
 
-// At most 64 bytes a use.
+// A use takes at most 64 bytes.
 const _: () = prove!(size_of::<UseSite<'static>>() <= 64);
 
-/// Adds a use.
+/// Appends a use.
 pub(crate) fn add_use<'a>(
     found: &mut Vec<UseSite<'a>>,
     place: Place,

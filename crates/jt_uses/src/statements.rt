@@ -1,18 +1,24 @@
-//! The uses in statements.
+//! Lists the uses in statements.
 
 ghost use Rattle.std.specs.Prelude.{◌≡◌, ◌++◌, option_map, IfOk};
 ghost use Rattle.jt_ast.specs.ExpressionView.{expr_view, pairs_view};
-ghost use Rattle.jt_ast.specs.StatementView.{stmt_view, body_view, branches_view, names_view, given_view, filter_call_view, filter_calls_view, parameters_view};
+ghost use Rattle.jt_ast.specs.StatementView.{stmt_view, body_view, branches_view, names_view};
+ghost use Rattle.jt_ast.specs.StatementView.{given_view, filter_call_view, filter_calls_view};
+ghost use Rattle.jt_ast.specs.StatementView.{parameters_view};
 ghost use Rattle.jt_uses.specs.Uses as uses;
-ghost use Rattle.jt_uses.specs.Uses.{at, place_at, bound, keys_bound, parameters_bound, macros_bound, condition_uses, expr_uses, pair_uses, filter_call_use, filter_call_uses, stmt_uses, body_uses, branch_uses, inside_loop, inside_block, inside_macro, escaped, outside};
+ghost use Rattle.jt_uses.specs.Uses.{at, place_at, bound, keys_bound, parameters_bound};
+ghost use Rattle.jt_uses.specs.Uses.{macros_bound, condition_uses, expr_uses, pair_uses};
+ghost use Rattle.jt_uses.specs.Uses.{filter_call_use, filter_call_uses, stmt_uses, body_uses};
+ghost use Rattle.jt_uses.specs.Uses.{branch_uses, inside_loop, inside_block, inside_macro, escaped};
+ghost use Rattle.jt_uses.specs.Uses.{outside};
 ghost use Rattle.jt_uses.specs.UseView.{Adds, sites_view};
 
 use crate::expressions::{add_arguments, add_expression, add_pairs};
-use crate::site::{Place, Use, UseSite, Enclosing, add_use};
+use crate::site::{Enclosing, Place, Use, UseSite, add_use};
 use jt_ast::{Branch, Expr, FilterCall, Parameter, Stmt};
 use std::alloc::{AllocError, Global};
 
-/// Adds names that are bound.
+/// Appends the bindings of targets.
 fn add_targets<'a>(
     found: &mut Vec<UseSite<'a>>,
     place: Place,
@@ -26,7 +32,7 @@ fn add_targets<'a>(
     Ok(())
 }
 
-/// Adds keys that are bound.
+/// Appends the bindings of the keys of pairs.
 fn add_keys<'a>(
     found: &mut Vec<UseSite<'a>>,
     place: Place,
@@ -41,7 +47,7 @@ fn add_keys<'a>(
     Ok(())
 }
 
-/// Adds parameters that are bound.
+/// Appends the bindings of parameters.
 fn add_parameters<'a>(
     found: &mut Vec<UseSite<'a>>,
     place: Place,
@@ -56,7 +62,7 @@ fn add_parameters<'a>(
     Ok(())
 }
 
-/// Adds names that are given to macros of a library.
+/// Appends the bindings of names to macros of a library.
 fn add_macros<'a>(
     found: &mut Vec<UseSite<'a>>,
     place: Place,
@@ -80,7 +86,7 @@ fn add_macros<'a>(
     Ok(())
 }
 
-/// Adds the uses in a loop's condition.
+/// Appends the uses in a loop's condition. No loop encloses the condition.
 fn add_condition<'a>(
     found: &mut Vec<UseSite<'a>>,
     place: Place,
@@ -108,7 +114,7 @@ fn add_condition<'a>(
     }
 }
 
-/// Adds a filter of a filter tag.
+/// Appends a filter of a filter tag and the uses in its arguments.
 fn add_filter_call<'a>(
     found: &mut Vec<UseSite<'a>>,
     place: Place,
@@ -129,7 +135,7 @@ fn add_filter_call<'a>(
     add_arguments(found, place, &filter_call.arguments, &filter_call.keywords)
 }
 
-/// Adds the filters of a filter tag.
+/// Appends the filters of a filter tag and the uses in their arguments.
 fn add_filter_calls<'a>(
     found: &mut Vec<UseSite<'a>>,
     place: Place,
@@ -144,7 +150,7 @@ fn add_filter_calls<'a>(
     Ok(())
 }
 
-/// Adds the uses in the branches of a choice.
+/// Appends the uses in the branches of an `if`.
 #[cycle(add)]
 fn add_branches<'a>(
     found: &mut Vec<UseSite<'a>>,
@@ -172,7 +178,7 @@ fn add_branches<'a>(
     Ok(())
 }
 
-/// Adds the uses in a statement.
+/// Appends the uses in a statement.
 #[tactic(auto, using(jt_ast::proofs::StatementViews::view_Set, jt_ast::proofs::StatementViews::view_If))]
 #[cycle(add)]
 fn add_statement<'a>(
@@ -312,14 +318,14 @@ fn add_statement<'a>(
     Ok(())
 }
 
-/// The place of a tag.
+/// Returns the place of a tag.
 fn place_of(line: u32, around: Enclosing) -> Place
     ensures { result ≡ place_at line around }
 {
     Place { line, around }
 }
 
-/// Adds the uses in statements.
+/// Appends the uses in statements.
 #[cycle(add)]
 fn add_statements<'a>(
     found: &mut Vec<UseSite<'a>>,
@@ -334,7 +340,7 @@ fn add_statements<'a>(
     Ok(())
 }
 
-/// The uses in a template's statements, in the order of the source.
+/// Returns the uses in a template's statements, in the order of the source.
 pub fn uses_of(alloc: Global, body: &[Stmt]) -> Result<Vec<UseSite<'_>>, AllocError>
     ensures { IfOk result (λ us. sites_view us.items ≡ body_uses (body_view body.now) outside) }
 {

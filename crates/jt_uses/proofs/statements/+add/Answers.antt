@@ -1,5 +1,16 @@
 use Rattle.std.proofs.Common.{append_assoc, arith, rules}
-use Rattle.jt_ast.proofs.StatementViews.{view_If, view_For, view_Set, view_SetBlock, view_With, view_FilterBlock, view_Macro, view_Import, view_From, view_Block}
+use Rattle.jt_ast.proofs.StatementViews.{
+  view_If,
+  view_For,
+  view_Set,
+  view_SetBlock,
+  view_With,
+  view_FilterBlock,
+  view_Macro,
+  view_Import,
+  view_From,
+  view_Block,
+}
 use Rattle.jt_uses.proofs.statements.+add.Goals as goal
 
 pub add_statement-returns-in_ok-add_statements-in-If : goal.add_statement-returns-in_ok-add_statements-in-If
@@ -17,7 +28,8 @@ add_statement-returns-in_ok-add_statements-in-SetBlock t c = search (arith, rule
 pub add_statement-returns-in_ok-add_statements-in-With : goal.add_statement-returns-in_ok-add_statements-in-With
 add_statement-returns-in_ok-add_statements-in-With t c = search (arith, rules, append_assoc, view_With)
 
-pub add_statement-returns-in_ok-add_statements-in-FilterBlock : goal.add_statement-returns-in_ok-add_statements-in-FilterBlock
+pub add_statement-returns-in_ok-add_statements-in-FilterBlock :
+    goal.add_statement-returns-in_ok-add_statements-in-FilterBlock
 add_statement-returns-in_ok-add_statements-in-FilterBlock t c = search (arith, rules, append_assoc, view_FilterBlock)
 
 pub add_statement-returns-in_ok-add_statements-in-Macro : goal.add_statement-returns-in_ok-add_statements-in-Macro

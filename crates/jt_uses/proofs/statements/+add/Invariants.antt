@@ -7,7 +7,7 @@ use Rattle.jt_uses.specs.Uses.{body_uses, branch_uses}
 use Rattle.jt_uses.specs.UseView.{sites_view}
 use Rattle.jt_uses.proofs.statements.+add.Given as goal
 
--- ---- how deep the statements are that are left, and who hands its own on
+-- ---- the depth of the remaining statements
 
 abbrev pub decreases-add_statement : goal.decreases-add_statement
 decreases-add_statement l = 8 * size-Stmt l.statement.now
@@ -18,10 +18,14 @@ decreases-add_statements l = 8 * most (λ x. size-Stmt x) l.body.now + 1
 abbrev pub decreases-add_branches : goal.decreases-add_branches
 decreases-add_branches l = 8 * most (λ (b : Branch). most (λ x. size-Stmt x) b.body.items) l.branches.now + 2
 
--- ---- what is left
+-- ---- the uses of the remaining items
 
 abbrev pub invariant-add_statements-loop-statement : goal.invariant-add_statements-loop-statement
-invariant-add_statements-loop-statement l = sites_view l.found.items ++ body_uses (body_view (drop l.statement-index l.body)) l.around ≡ sites_view l.initial.found.items ++ body_uses (body_view l.body) l.around
+invariant-add_statements-loop-statement l = sites_view l.found.items ++ body_uses
+    (body_view (drop l.statement-index l.body)) l.around ≡ sites_view l.initial.found.items ++ body_uses
+    (body_view l.body) l.around
 
 abbrev pub invariant-add_branches-loop-line : goal.invariant-add_branches-loop-line
-invariant-add_branches-loop-line l = sites_view l.found.items ++ branch_uses (branches_view (drop l.line-index l.branches)) l.around ≡ sites_view l.initial.found.items ++ branch_uses (branches_view l.branches) l.around
+invariant-add_branches-loop-line l = sites_view l.found.items ++ branch_uses
+    (branches_view (drop l.line-index l.branches)) l.around ≡ sites_view l.initial.found.items ++ branch_uses
+    (branches_view l.branches) l.around

@@ -5,4 +5,5 @@ use Rattle.jt_uses.specs.UseView.{sites_view}
 use Rattle.jt_uses.proofs.statements.add_keys.Given as goal
 
 abbrev pub invariant-loop-name : goal.invariant-loop-name
-invariant-loop-name l = sites_view l.found.items ++ keys_bound (pairs_view (drop l.name-index l.pairs)) l.place ≡ sites_view l.initial.found.items ++ keys_bound (pairs_view l.pairs) l.place
+invariant-loop-name l = sites_view l.found.items ++ keys_bound (pairs_view (drop l.name-index l.pairs)) l.place ≡
+    sites_view l.initial.found.items ++ keys_bound (pairs_view l.pairs) l.place

@@ -5,4 +5,6 @@ use Rattle.jt_uses.specs.UseView.{sites_view}
 use Rattle.jt_uses.proofs.statements.add_parameters.Given as goal
 
 abbrev pub invariant-loop-parameter : goal.invariant-loop-parameter
-invariant-loop-parameter l = sites_view l.found.items ++ parameters_bound (parameters_view (drop l.parameter-index l.parameters)) l.place ≡ sites_view l.initial.found.items ++ parameters_bound (parameters_view l.parameters) l.place
+invariant-loop-parameter l = sites_view l.found.items ++ parameters_bound
+    (parameters_view (drop l.parameter-index l.parameters)) l.place ≡ sites_view l.initial.found.items ++
+    parameters_bound (parameters_view l.parameters) l.place
