@@ -1,38 +1,15 @@
 -- The uses of a body bind as many names as the body is said to bind.
-use Rattle.std.proofs.Common.{
-  ◌≡◌,
-  ℕ,
-  suc,
-  ◌+◌,
-  Bool,
-  true,
-  false,
-  if◌then◌else◌,
-  List,
-  [],
-  ◌∷◌,
-  ◌++◌,
-  length,
-  refl,
-  ap,
-  ◌∙◌,
-}
+use Rattle.std.proofs.Common.{◌≡◌, ℕ, suc, ◌+◌, Bool, true, false, if◌then◌else◌, List, [], ◌∷◌, ◌++◌, length, refl}
+use Rattle.std.proofs.Common.{sym, ap, ◌∙◌}
 use Rattle.std.proofs.Common.{Option, Some, None, arith}
 use Rattle.std.specs.List.{count_by}
+use Rattle.std.proofs.lemmas.List.Recursion.{is_count_by}
 use Rattle.jt_ast.specs.Expressions.{Expr, constant, name, group, list_of, map_of, attribute, item, call, filter, test}
 use Rattle.jt_ast.specs.Expressions.{unary, binary, when, choice, Exprs, no_exprs, expr, Pairs, no_pairs, pair, Text}
 use Rattle.jt_ast.specs.Statements as trees
 use Rattle.jt_ast.specs.Statements.{Parameter, FilterCall, Stmt, data_of, print, choose, for_each, set, set_block}
-use Rattle.jt_ast.specs.Statements.{
-  with_values,
-  filter_block,
-  autoescape,
-  macro,
-  include,
-  import_as,
-  import_from,
-  block,
-}
+use Rattle.jt_ast.specs.Statements.{with_values, filter_block, autoescape, macro, include, import_as, import_from}
+use Rattle.jt_ast.specs.Statements.{block}
 use Rattle.jt_ast.specs.Statements.{Body, end, stmt, Branches, no_branches, branch, pairs_count, stmt_bound, body_bound}
 use Rattle.jt_ast.specs.Statements.{branch_bound}
 use Rattle.jt_uses.specs.Uses as uses
@@ -41,15 +18,23 @@ use Rattle.jt_uses.specs.Uses.{filter_call_uses, bound, keys_bound, parameters_b
 use Rattle.jt_uses.specs.Uses.{inside_loop, inside_block, inside_macro, escaped}
 use Rattle.jt_uses.specs.declared.site.Place.{Place}
 use Rattle.jt_uses.specs.declared.site.Enclosing.{Enclosing}
-use Rattle.jt_checks.specs.internal.UseRules.{binds_name}
+use Rattle.jt_checks.specs.internal.UseRules.{binds_name, is_binding}
+
+abbrev names_bound : List Site → ℕ
+names_bound [] = 0
+names_bound (s ∷ ss) = if binds_name s then suc (names_bound ss) else names_bound ss
 
 -- The sites `xs` bind `n` names.
 record Binds (xs : List Site) (n : ℕ) : Type 0 where
-  is : count_by binds_name xs ≡ n
+  is : names_bound xs ≡ n
 
-added : (xs ys : List Site) → count_by binds_name (xs ++ ys) ≡ count_by binds_name xs + count_by binds_name ys
-added [] ys = refl
-added (x ∷ xs) ys = let e = added xs ys in omega arith
+added : (xs ys : List Site) → names_bound (xs ++ ys) ≡ names_bound xs + names_bound ys
+added [] ys = omega arith
+added (x ∷ xs) ys = by (binds_name x) (names_bound (xs ++ ys)) (names_bound xs) (names_bound ys) (added xs ys)
+  where
+    by : (b : Bool) (k m n : ℕ) → k ≡ m + n → (if b then suc k else k) ≡ (if b then suc m else m) + n
+    by true k m n e = omega arith
+    by false k m n e = e
 
 both : {xs ys : List Site} {m n : ℕ} → Binds xs m → Binds ys n → Binds (xs ++ ys) (m + n)
 both {xs} {ys} d e =
@@ -58,8 +43,21 @@ both {xs} {ys} d e =
     let h = added xs ys in
     record { is = omega arith }
 
-also : {xs : List Site} {m n : ℕ} → Binds xs m → m ≡ n → Binds xs n
-also d e = record { is = d.is ∙ e }
+-- The first sites bind nothing.
+free : {xs ys : List Site} {n : ℕ} → Binds xs 0 → Binds ys n → Binds (xs ++ ys) n
+free {xs} {ys} d e =
+    let f = d.is in
+    let g = e.is in
+    let h = added xs ys in
+    record { is = omega arith }
+
+-- The last sites bind nothing.
+then_free : {xs ys : List Site} {n : ℕ} → Binds xs n → Binds ys 0 → Binds (xs ++ ys) n
+then_free {xs} {ys} d e =
+    let f = d.is in
+    let g = e.is in
+    let h = added xs ys in
+    record { is = omega arith }
 
 none : Binds [] 0
 none = record { is = refl }
@@ -70,46 +68,51 @@ either false d e = e
 
 bound_by : (xs : List Text) (p : Place) → Binds (bound xs p) (length xs)
 bound_by [] p = none
-bound_by (x ∷ xs) p = let e = (bound_by xs p).is in record { is = omega arith }
+bound_by (x ∷ xs) p = record { is = ap suc (bound_by xs p).is }
 
 parameters_by : (ps : List Parameter) (p : Place) → Binds (parameters_bound ps p) (length ps)
 parameters_by [] p = none
-parameters_by (x ∷ xs) p = let e = (parameters_by xs p).is in record { is = omega arith }
+parameters_by (x ∷ xs) p = record { is = ap suc (parameters_by xs p).is }
 
 keys_by : (ps : Pairs) (p : Place) → Binds (keys_bound ps p) (pairs_count ps)
 keys_by no_pairs p = none
-keys_by (pair x a ps) p = let e = (keys_by ps p).is in record { is = omega arith }
+keys_by (pair x a ps) p = record { is = ap suc (keys_by ps p).is }
 
 macros_by : (n : Text) (xs : List (Text × Text)) (p : Place) → Binds (macros_bound n xs p) 0
 macros_by n [] p = none
 macros_by n (x ∷ xs) p = record { is = (macros_by n xs p).is }
 
+other : (p : Place) (u : uses.Use) → is_binding u ≡ false → Binds (uses.at p u) 0
+other p u e = record { is = ap (λ (b : Bool). if b then 1 else 0) e }
+
 mutual
   expr_by : (e : Expr) (p : Place) → Binds (expr_uses e p) 0
   expr_by (constant l) p = none
-  expr_by (name x) p = record { is = refl }
+  expr_by (name x) p = other p (uses.reads x) refl
   expr_by (group a) p = expr_by a p
   expr_by (list_of ts) p = row_by ts p
   expr_by (map_of ps) p = pairs_by ps p
-  expr_by (attribute a k) p = either (uses.is_loop a) (record { is = refl }) (expr_by a p)
-  expr_by (item a b) p = both (expr_by a p) (expr_by b p)
+  expr_by (attribute a k) p = either (uses.is_loop a) (other p (uses.reads_loop_field k) refl) (expr_by a p)
+  expr_by (item a b) p = free (expr_by a p) (expr_by b p)
   expr_by (call f ts ps) p =
-      both (either (uses.is_called_by_name f) none (expr_by f p))
-      (record { is = (both (row_by ts p) (pairs_by ps p)).is })
-  expr_by (filter a x ts ps) p = record { is = (both (expr_by a p) (both (row_by ts p) (pairs_by ps p))).is }
-  expr_by (test a n x ts ps) p = record { is = (both (expr_by a p) (both (row_by ts p) (pairs_by ps p))).is }
+      free (either (uses.is_called_by_name f) none (expr_by f p))
+      (free (other p (uses.calls f ts ps) refl) (free (row_by ts p) (pairs_by ps p)))
+  expr_by (filter a x ts ps) p =
+      free (other p (uses.filters x ts ps) refl) (free (expr_by a p) (free (row_by ts p) (pairs_by ps p)))
+  expr_by (test a n x ts ps) p =
+      free (other p (uses.tests x ts ps) refl) (free (expr_by a p) (free (row_by ts p) (pairs_by ps p)))
   expr_by (unary o a) p = expr_by a p
-  expr_by (binary o a b) p = both (expr_by a p) (expr_by b p)
-  expr_by (when c a) p = both (expr_by c p) (expr_by a p)
-  expr_by (choice c a b) p = both (expr_by c p) (both (expr_by a p) (expr_by b p))
+  expr_by (binary o a b) p = free (expr_by a p) (expr_by b p)
+  expr_by (when c a) p = free (expr_by c p) (expr_by a p)
+  expr_by (choice c a b) p = free (expr_by c p) (free (expr_by a p) (expr_by b p))
 
   row_by : (ts : Exprs) (p : Place) → Binds (row_uses ts p) 0
   row_by no_exprs p = none
-  row_by (expr a ts) p = both (expr_by a p) (row_by ts p)
+  row_by (expr a ts) p = free (expr_by a p) (row_by ts p)
 
   pairs_by : (ps : Pairs) (p : Place) → Binds (pair_uses ps p) 0
   pairs_by no_pairs p = none
-  pairs_by (pair k a ps) p = both (expr_by a p) (pairs_by ps p)
+  pairs_by (pair k a ps) p = free (expr_by a p) (pairs_by ps p)
 
 condition_by : (c : Option Expr) (p : Place) → Binds (condition_uses c p) 0
 condition_by None p = none
@@ -118,32 +121,38 @@ condition_by (Some c) p = expr_by c (uses.before_loop p)
 filter_calls_by : (fs : List FilterCall) (p : Place) → Binds (filter_call_uses fs p) 0
 filter_calls_by [] p = none
 filter_calls_by (f ∷ fs) p =
-    both (record { is = (both (row_by f.arguments p) (pairs_by f.keywords p)).is }) (filter_calls_by fs p)
+    free
+    (free (other p (uses.filters f.name f.arguments f.keywords) refl)
+    (free (row_by f.arguments p) (pairs_by f.keywords p)))
+    (filter_calls_by fs p)
 
 mutual
   stmt_by : (s : Stmt) (w : Enclosing) → Binds (stmt_uses s w) (stmt_bound s)
   stmt_by (data_of t) w = none
   stmt_by (print line e) w = expr_by e (place_at line w)
-  stmt_by (choose bs other) w = both (branches_by bs w) (body_by other w)
-  stmt_by (for_each line xs e c body other) w =
+  stmt_by (choose bs others) w = both (branches_by bs w) (body_by others w)
+  stmt_by (for_each line xs e c body others) w =
       let p = place_at line w in
-      also
-      (both (both (expr_by e p) (both (bound_by xs p) (condition_by c p)))
-      (both (body_by body (inside_loop w)) (body_by other w)))
-      (omega arith)
-  stmt_by (set line xs e) w = both (expr_by e (place_at line w)) (bound_by xs (place_at line w))
-  stmt_by (set_block line x body) w = let e = (body_by body w).is in record { is = omega arith }
+      let d =
+      both (free (expr_by e p) (then_free (bound_by xs p) (condition_by c p)))
+      (both (body_by body (inside_loop w)) (body_by others w)) in
+      record { is = d.is ∙ omega arith }
+  stmt_by (set line xs e) w = free (expr_by e (place_at line w)) (bound_by xs (place_at line w))
+  stmt_by (set_block line x body) w = record { is = ap suc (body_by body w).is ∙ omega arith }
   stmt_by (with_values line ps body) w =
-      both (pairs_by ps (place_at line w)) (both (keys_by ps (place_at line w)) (body_by body w))
-  stmt_by (filter_block line fs body) w = both (filter_calls_by fs (place_at line w)) (body_by body w)
+      free (pairs_by ps (place_at line w)) (both (keys_by ps (place_at line w)) (body_by body w))
+  stmt_by (filter_block line fs body) w = free (filter_calls_by fs (place_at line w)) (body_by body w)
   stmt_by (autoescape line on body) w = body_by body (escaped on w)
   stmt_by (macro line x ps body) w =
-      record { is = (both (parameters_by ps (place_at line w)) (body_by body (inside_macro w))).is }
+      free (other (place_at line w) (uses.declares_macro x ps body) refl)
+      (both (parameters_by ps (place_at line w)) (body_by body (inside_macro w)))
   stmt_by (include line n ignore_missing with_context) w = record { is = refl }
   stmt_by (import_as line n x) w = record { is = refl }
-  stmt_by (import_from line n xs) w = record { is = (macros_by n xs (place_at line w)).is }
+  stmt_by (import_from line n xs) w =
+      free (other (place_at line w) (uses.imports n) refl) (macros_by n xs (place_at line w))
   stmt_by (trees.extends line n) w = record { is = refl }
-  stmt_by (block line x scoped required body) w = record { is = (body_by body (inside_block w)).is }
+  stmt_by (block line x scoped required body) w =
+      free (other (place_at line w) (uses.declares_block x scoped required body) refl) (body_by body (inside_block w))
 
   body_by : (b : Body) (w : Enclosing) → Binds (body_uses b w) (body_bound b)
   body_by end w = none
@@ -152,7 +161,14 @@ mutual
   branches_by : (bs : Branches) (w : Enclosing) → Binds (branch_uses bs w) (branch_bound bs)
   branches_by no_branches w = none
   branches_by (branch line c body rest) w =
-      both (both (expr_by c (place_at line w)) (body_by body w)) (branches_by rest w)
+      both (free (expr_by c (place_at line w)) (body_by body w)) (branches_by rest w)
+
+more : (b : Bool) (n : ℕ) → (if b then suc n else n) ≡ (if b then 1 + n else n)
+more true n = omega arith
+more false n = refl
 
 pub bindings_counted : (b : Body) → count_by binds_name (body_uses b uses.outside) ≡ body_bound b
-bindings_counted b = (body_by b uses.outside).is
+bindings_counted b =
+    sym (is_count_by names_bound binds_name refl (λ s ss. more (binds_name s) (names_bound ss))
+    (body_uses b uses.outside))
+    ∙ (body_by b uses.outside).is

@@ -1,113 +1,24 @@
 -- The uses of a body, without lines, blocks and names of templates, are its use sites of jt_rules.
-use Rattle.std.proofs.Common.{
-  ◌≡◌,
-  Bool,
-  true,
-  false,
-  if◌then◌else◌,
-  List,
-  [],
-  ◌∷◌,
-  ◌++◌,
-  append_assoc,
-  refl,
-  sym,
-  ap,
-  ◌∙◌,
-  Option,
-  Some,
-  None,
-  rules,
-}
+use Rattle.std.proofs.Common.{◌≡◌, Bool, true, false, if◌then◌else◌, List, [], ◌∷◌, ◌++◌, append_assoc, refl, sym, ap}
+use Rattle.std.proofs.Common.{◌∙◌, Option, Some, None, rules}
 use Rattle.std.specs.Prelude.{flat_map}
 use Rattle.std.proofs.lemmas.Grind.{flat_map-append}
-use Rattle.jt_ast.specs.Expressions.{
-  Expr,
-  constant,
-  name,
-  group,
-  list_of,
-  map_of,
-  attribute,
-  item,
-  call,
-  filter,
-  test,
-  unary,
-  binary,
-  when,
-  choice,
-  Exprs,
-  no_exprs,
-  expr,
-  Pairs,
-  no_pairs,
-  pair,
-  Text,
-}
+use Rattle.jt_ast.specs.Expressions.{Expr, constant, name, group, list_of, map_of, attribute, item, call, filter, test}
+use Rattle.jt_ast.specs.Expressions.{unary, binary, when, choice, Exprs, no_exprs, expr, Pairs, no_pairs, pair, Text}
 use Rattle.jt_ast.specs.Statements as trees
-use Rattle.jt_ast.specs.Statements.{
-  Parameter,
-  FilterCall,
-  Stmt,
-  data_of,
-  print,
-  choose,
-  for_each,
-  set,
-  set_block,
-  with_values,
-  filter_block,
-  autoescape,
-  macro,
-  include,
-  import_as,
-  import_from,
-  block,
-  Body,
-  end,
-  stmt,
-  Branches,
-  no_branches,
-  branch,
-}
+use Rattle.jt_ast.specs.Statements.{Parameter, FilterCall, Stmt, data_of, print, choose, for_each, set, set_block}
+use Rattle.jt_ast.specs.Statements.{with_values, filter_block, autoescape, macro, include, import_as, import_from}
+use Rattle.jt_ast.specs.Statements.{block, Body, end, stmt, Branches, no_branches, branch}
 use Rattle.jt_chains.specs.Chain as chain
 use Rattle.jt_chains.specs.Uses.{keywords}
 use Rattle.jt_rules.specs.UseSites as sites
-use Rattle.jt_rules.specs.UseSites.{
-  UseSite,
-  expr_use_sites,
-  row_use_sites,
-  pair_use_sites,
-  stmt_use_sites,
-  body_use_sites,
-  branch_use_sites,
-  filter_call_use_sites,
-  named_imports,
-  parameter_names,
-}
+use Rattle.jt_rules.specs.UseSites.{UseSite, expr_use_sites, row_use_sites, pair_use_sites, stmt_use_sites}
+use Rattle.jt_rules.specs.UseSites.{body_use_sites, branch_use_sites, filter_call_use_sites, named_imports}
+use Rattle.jt_rules.specs.UseSites.{parameter_names}
 use Rattle.jt_uses.specs.Uses as uses
-use Rattle.jt_uses.specs.Uses.{
-  Use,
-  Site,
-  place_at,
-  expr_uses,
-  row_uses,
-  pair_uses,
-  stmt_uses,
-  body_uses,
-  branch_uses,
-  filter_call_uses,
-  bound,
-  keys_bound,
-  parameters_bound,
-  macros_bound,
-  condition_uses,
-  inside_loop,
-  inside_block,
-  inside_macro,
-  escaped,
-}
+use Rattle.jt_uses.specs.Uses.{Use, Site, place_at, expr_uses, row_uses, pair_uses, stmt_uses, body_uses, branch_uses}
+use Rattle.jt_uses.specs.Uses.{filter_call_uses, bound, keys_bound, parameters_bound, macros_bound, condition_uses}
+use Rattle.jt_uses.specs.Uses.{inside_loop, inside_block, inside_macro, escaped}
 use Rattle.jt_uses.specs.declared.site.Place.{Place}
 use Rattle.jt_uses.specs.declared.site.Enclosing.{Enclosing}
 use Rattle.jt_checks.specs.internal.UseRules.{within_view}
@@ -134,7 +45,7 @@ of_use s = site_of s.made (within_view s.place.around)
 abbrev pub sites_in : List Site → List UseSite
 sites_in ss = flat_map of_use ss
 
--- these uses are within_view as those places
+-- The use sites of `xs` are `ms`.
 record Same (xs : List Site) (ms : List UseSite) : Type 0 where
   is : sites_in xs ≡ ms
 

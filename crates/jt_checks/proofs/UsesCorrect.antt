@@ -4,7 +4,7 @@ use Rattle.std.proofs.Common.{arith, rules}
 use Rattle.std.specs.Prelude.{◌⊎◌}
 use Rattle.std.specs.Option.{option_or}
 use Rattle.jt_ast.specs.Expressions as trees
-use Rattle.jt_ast.specs.Expressions.{Expr, name, attribute, Exprs}
+use Rattle.jt_ast.specs.Expressions.{Expr, Exprs}
 use Rattle.jt_ast.specs.Statements.{body_bound}
 use Rattle.jt_chains.specs.Chain.{Namespace, Template, templates}
 use Rattle.jt_uses.specs.Uses as uses
@@ -15,17 +15,8 @@ use Rattle.jt_rules.specs.Rules.{ForSome, Broken, KeepsRules, names_counted}
 use Rattle.jt_rules.specs.UseSites as sites
 use Rattle.jt_rules.specs.UseSites.{UseSite}
 use Rattle.jt_rules.specs.declared.error.ScopeError.{ScopeError}
-use Rattle.jt_rules.proofs.WalkCorrect.{
-  Judged,
-  Tells,
-  InTemplates,
-  InChain,
-  BrokenThere,
-  some_as,
-  nothing,
-  one,
-  in_turn,
-}
+use Rattle.jt_rules.proofs.WalkCorrect.{Judged, Tells, InTemplates, InChain, BrokenThere, some_as, nothing, one}
+use Rattle.jt_rules.proofs.WalkCorrect.{in_turn}
 use Rattle.jt_rules.proofs.WalkCorrect.{name_called, field_called, read_told, bound_told, filter_told, test_told}
 use Rattle.jt_rules.proofs.WalkCorrect.{field_judged, macro_judged, import_judged, template_told, judged_or, broken_in}
 use Rattle.jt_rules.proofs.WalkCorrect.{in_templates, broken_of, found_of}
@@ -38,14 +29,7 @@ module _ (cenv : CompileEnv) (namespace : Namespace) where
   Told u w = Tells cenv namespace (broken.use_broken cenv namespace u w) (site_of u (within_view w))
 
   call_told : (f : Expr) (ts : Exprs) (ps : trees.Pairs) (w : Enclosing) → Told (uses.calls f ts ps) w
-  call_told (name x) ts ps w =
-      one cenv namespace (broken.use_broken cenv namespace (uses.calls (name x) ts ps) w) (sites.calls (name x) ts ps)
-      (within_view w) (name_called cenv namespace x (within_view w) ts ps)
-  call_told (attribute (name of) k) ts ps w =
-      one cenv namespace (broken.use_broken cenv namespace (uses.calls (attribute (name of) k) ts ps) w)
-      (sites.calls (attribute (name of) k) ts ps) (within_view w)
-      (field_called cenv namespace of k (within_view w) ts ps)
-  call_told f ts ps w = search (arith, rules)
+  call_told f ts ps w = search (arith, rules, one, name_called, field_called)
 
   use_told : (u : Use) (w : Enclosing) → Told u w
   use_told (uses.reads x) w = read_told cenv namespace x (within_view w)

@@ -82,6 +82,7 @@ fn macro_broken(
 }
 
 /// Returns the rule that a use breaks.
+#[tactic(auto, using(crate::proofs::ScopeLookup::its_filters))]
 fn site_broken(scope: &Scope<'_>, site: &UseSite<'_>) -> Result<Option<ScopeError>, AllocError>
     ensures { IfOk result (λ o. o ≡ in_scope broken.site_broken scope.now (site_view site.now)) }
 {

@@ -2,56 +2,12 @@
 -- line of the tag and the context. No rule is defined here.
 use Rattle.std.specs.Prelude.{ℕ, Bool, true, false, if◌then◌else◌, List, [], ◌∷◌, ◌++◌, codes, Option, Some, None}
 use Rattle.std.specs.Str.{bytes_eq}
-use Rattle.jt_ast.specs.Expressions.{
-  Expr,
-  constant,
-  name,
-  group,
-  list_of,
-  map_of,
-  attribute,
-  item,
-  call,
-  filter,
-  test,
-  unary,
-  binary,
-  when,
-  choice,
-  Exprs,
-  no_exprs,
-  expr,
-  Pairs,
-  no_pairs,
-  pair,
-  Text,
-}
+use Rattle.jt_ast.specs.Expressions.{Expr, constant, name, group, list_of, map_of, attribute, item, call, filter, test}
+use Rattle.jt_ast.specs.Expressions.{unary, binary, when, choice, Exprs, no_exprs, expr, Pairs, no_pairs, pair, Text}
 use Rattle.jt_ast.specs.Statements as trees
-use Rattle.jt_ast.specs.Statements.{
-  Parameter,
-  FilterCall,
-  Stmt,
-  data_of,
-  print,
-  choose,
-  for_each,
-  set,
-  set_block,
-  with_values,
-  filter_block,
-  autoescape,
-  macro,
-  include,
-  import_as,
-  import_from,
-  block,
-  Body,
-  end,
-  stmt,
-  Branches,
-  no_branches,
-  branch,
-}
+use Rattle.jt_ast.specs.Statements.{Parameter, FilterCall, Stmt, data_of, print, choose, for_each, set, set_block}
+use Rattle.jt_ast.specs.Statements.{with_values, filter_block, autoescape, macro, include, import_as, import_from}
+use Rattle.jt_ast.specs.Statements.{block, Body, end, stmt, Branches, no_branches, branch}
 use Rattle.jt_uses.specs.declared.site.Place.{Place}
 use Rattle.jt_uses.specs.declared.site.Enclosing.{Enclosing}
 

@@ -9,17 +9,8 @@ use Rattle.jt_ast.specs.Statements.{Parameter, Body, body_bound}
 use Rattle.jt_ast.specs.Texts.{repeated}
 use Rattle.jt_chains.specs.Chain.{Namespace, Template, templates, given, callee}
 use Rattle.jt_eval.specs.Tests.{test_named}
-use Rattle.jt_uses.specs.Uses.{
-  Use,
-  reads,
-  binds,
-  reads_loop_field,
-  calls,
-  filters,
-  tests,
-  declares_macro,
-  binds_library,
-}
+use Rattle.jt_uses.specs.Uses.{Use, reads, binds, reads_loop_field, calls, filters, tests, declares_macro}
+use Rattle.jt_uses.specs.Uses.{binds_library}
 use Rattle.jt_uses.specs.Uses.{binds_macro, Site, body_uses, outside}
 use Rattle.jt_uses.specs.declared.site.Enclosing.{Enclosing}
 use Rattle.jt_rules.specs.CompileEnv.{CompileEnv}

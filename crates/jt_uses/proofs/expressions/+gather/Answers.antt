@@ -2,15 +2,8 @@ use Rattle.std.proofs.Common.{append_assoc, arith, rules, ◌++◌, ap, ◌∙�
 use Rattle.std.proofs.lemmas.Result.{IfOk-weaker}
 use Rattle.jt_ast.specs.Expressions as trees
 use Rattle.jt_ast.specs.ExpressionView.{expr_view, exprs_view, pairs_view, is_negated}
-use Rattle.jt_ast.proofs.ExpressionViews.{
-  view_Choice,
-  view_Item,
-  view_Binary,
-  view_When,
-  shown_call,
-  shown_filter,
-  shown_test,
-}
+use Rattle.jt_ast.proofs.ExpressionViews.{view_Choice, view_Item, view_Binary, view_When, shown_call, shown_filter}
+use Rattle.jt_ast.proofs.ExpressionViews.{shown_test}
 use Rattle.jt_uses.specs.Uses.{expr_uses}
 use Rattle.jt_uses.specs.UseView.{sites_view}
 use Rattle.jt_uses.proofs.expressions.+gather.Goals as goal

@@ -1,16 +1,6 @@
 use Rattle.std.proofs.Common.{append_assoc, arith, rules}
-use Rattle.jt_ast.proofs.StatementViews.{
-  view_If,
-  view_For,
-  view_Set,
-  view_SetBlock,
-  view_With,
-  view_FilterBlock,
-  view_Macro,
-  view_Import,
-  view_From,
-  view_Block,
-}
+use Rattle.jt_ast.proofs.StatementViews.{view_If, view_For, view_Set, view_SetBlock, view_With, view_FilterBlock}
+use Rattle.jt_ast.proofs.StatementViews.{view_Macro, view_Import, view_From, view_Block}
 use Rattle.jt_uses.proofs.statements.+add.Goals as goal
 
 pub add_statement-returns-in_ok-add_statements-in-If : goal.add_statement-returns-in_ok-add_statements-in-If
