@@ -19,7 +19,7 @@ use Rattle.jt_rules.proofs.WalkCorrect.{Judged, Tells, InTemplates, InChain, Bro
 use Rattle.jt_rules.proofs.WalkCorrect.{in_turn}
 use Rattle.jt_rules.proofs.WalkCorrect.{name_called, field_called, read_told, bound_told, filter_told, test_told}
 use Rattle.jt_rules.proofs.WalkCorrect.{field_judged, macro_judged, import_judged, template_told, judged_or, broken_in}
-use Rattle.jt_rules.proofs.WalkCorrect.{in_templates, broken_of, found_of}
+use Rattle.jt_rules.proofs.WalkCorrect.{in_templates, broken_of, found_of, unnamed}
 use Rattle.jt_checks.specs.internal.UseRules as broken
 use Rattle.jt_checks.specs.internal.UseRules.{within_view}
 use Rattle.jt_checks.proofs.UsesAreSites.{site_of, of_use, sites_in, uses_are_sites}
@@ -29,7 +29,7 @@ module _ (cenv : CompileEnv) (namespace : Namespace) where
   Told u w = Tells cenv namespace (broken.use_broken cenv namespace u w) (site_of u (within_view w))
 
   call_told : (f : Expr) (ts : Exprs) (ps : trees.Pairs) (w : Enclosing) → Told (uses.calls f ts ps) w
-  call_told f ts ps w = search (arith, rules, one, name_called, field_called)
+  call_told f ts ps w = search (arith, rules, one, name_called, field_called, unnamed)
 
   use_told : (u : Use) (w : Enclosing) → Told u w
   use_told (uses.reads x) w = read_told cenv namespace x (within_view w)

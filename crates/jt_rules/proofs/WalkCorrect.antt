@@ -1,5 +1,4 @@
--- The walk finds a broken rule exactly if a rule is broken: the rule that it returns is broken, and
--- if it returns no rule, no rule is broken.
+-- The rule that the walk finds is broken, so the walk finds none in chains that keep the rules.
 use Rattle.std.proofs.Common.{◌≡◌, refl, sym, ap, ◌∙◌, subst, arith, ℕ, ◌<◌, ◌≤◌, Bool, true, false, not, ◌&&◌}
 use Rattle.std.proofs.Common.{if◌then◌else◌, List, [], ◌∷◌, ◌++◌, length, nat_lt, Option, Some, None, rules}
 use Rattle.std.specs.Prelude.{◌⊎◌, codes, flat_map}
@@ -345,7 +344,7 @@ module _ (cenv : CompileEnv) (namespace : Namespace) where
       (call_broken cenv namespace (callee cenv.sources (given cenv.sources namespace) f) w f ts ps)
 
   -- A callee that is no form of a call breaks a rule, whatever its parts are.
-  unnamed : (f : Expr) (w : Enclosing) (ts : Exprs) (ps : trees.Pairs) (xs : List UseSite)
+  pub unnamed : (f : Expr) (w : Enclosing) (ts : Exprs) (ps : trees.Pairs) (xs : List UseSite)
       → callee cenv.sources (given cenv.sources namespace) f ≡ no_callee → (o : Option ScopeError)
       → Found o (xs ++ at w (calls f ts ps))
       → Tells
@@ -668,18 +667,6 @@ answered cenv order rule e =
 pub broken_breaks : (cenv : CompileEnv) (order : List Namespace) (rule : ScopeError) → Broken rule cenv order
     → Breaks rule cenv order
 broken_breaks cenv order a2 h = search (arith, rules)
-
--- If the walk returns no rule and the names are few, no rule is broken.
-pub keeps : (cenv : CompileEnv) (order : List Namespace) → chains_broken cenv order ≡ None
-    → names_counted cenv order ≤ 65535 → KeepsRules cenv order
-keeps cenv order e few =
-    record {
-      none = λ rule h. no rule (some_as (BrokenThere cenv rule) (InChain cenv rule)
-          (λ k. in_templates cenv k rule) order (found_of cenv order few rule h));
-    }
-  where
-    no : (rule : ScopeError) → ForSome (InChain cenv rule) order → ⊥
-    no = subst (λ (o : Option ScopeError). Judged o (λ r. ForSome (InChain cenv r) order)) e (chains_told cenv order)
 
 -- If no rule is broken, the walk returns no rule.
 pub walked : (cenv : CompileEnv) (order : List Namespace) → KeepsRules cenv order → chains_broken cenv order ≡ None
