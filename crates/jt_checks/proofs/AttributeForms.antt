@@ -6,10 +6,9 @@ use mathlib.Core.Logic.{inr}
 use Rattle.jt_ast.specs.Expressions.{Expr, Exprs, Pairs, attribute, Text}
 use Rattle.jt_chains.specs.Chain.{Namespace, a_library, Sources, Definition, given_to, MacroBody, macros, public_macro}
 use Rattle.jt_chains.specs.Chain.{in_library, of_library, Callee, no_callee, callee, named_in}
-use Rattle.jt_rules.specs.Walk as rules
+use Rattle.jt_checks.specs.internal.RuleTests as rules
 use Rattle.jt_checks.specs.internal.ScopeLookup.{known_of}
 use Rattle.jt_checks.specs.internal.ScopeView.{name_in}
-use Rattle.jt_checks.specs.internal.UseRules.{callee_broken}
 use Rattle.jt_rules.specs.CompileEnv.{CompileEnv}
 use Rattle.jt_rules.specs.declared.error.ScopeError.{ScopeError}
 use Rattle.jt_rules.specs.declared.error.ScopeError.TheVariants as error
@@ -18,7 +17,7 @@ abbrev pub broken_of : Option Text → Text → Option ScopeError
 broken_of (Some of) k = rules.refused (bytes_eq of (codes "loop") && not (bytes_eq k (codes "cycle"))) error.LoopOutside
 broken_of None k = None
 
-pub attribute_broken : (a : Expr) (k : Text) → callee_broken (attribute a k) ≡ broken_of (name_in a) k
+pub attribute_broken : (a : Expr) (k : Text) → rules.callee_broken (attribute a k) ≡ broken_of (name_in a) k
 attribute_broken a0 k = search (arith, rules)
 
 abbrev pub callee_of : Sources → List (Text × Definition) → Option Text → Text → Callee
@@ -31,8 +30,8 @@ attribute_callee sources gs a2 k = search (arith, rules)
 
 -- A call of a library's macro, by the definition of the library's name.
 pub called_library : (cenv : CompileEnv) (namespace : Namespace) (w : rules.Enclosing) (o : Option Definition)
-    (n x : Text) (f : Expr) (ts : Exprs) (ps : Pairs) (m : Option MacroBody)
+    (n x : Text) (ts : Exprs) (ps : Pairs) (m : Option MacroBody)
     → known_of o ≡ Some (inr n) → m ≡ public_macro x (macros cenv.sources (a_library n))
-    → rules.call_broken cenv namespace (in_library cenv.sources o x) w f ts ps
-    ≡ rules.call_broken cenv namespace (of_library cenv.sources n m) w f ts ps
-called_library cenv namespace w a3 n x f ts ps m e is = search (arith, rules)
+    → rules.call_broken cenv namespace (in_library cenv.sources o x) w ts ps
+    ≡ rules.call_broken cenv namespace (of_library cenv.sources n m) w ts ps
+called_library cenv namespace w a3 n x ts ps m e is = search (arith, rules)

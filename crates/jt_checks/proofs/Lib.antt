@@ -4,6 +4,7 @@ pub mod FilledParameters
 pub mod FilterArity
 pub mod ArgumentsFit
 pub mod AttributeForms
+pub mod RuleTestsCorrect
 pub mod UsesAreSites
 pub mod UsesCorrect
 pub mod NestedCallNames

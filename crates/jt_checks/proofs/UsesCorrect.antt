@@ -3,8 +3,6 @@ use Rattle.std.proofs.Common.{◌≡◌, ◌<◌, ◌≤◌, refl, sym, subst, L
 use Rattle.std.proofs.Common.{arith, rules}
 use Rattle.std.specs.Prelude.{◌⊎◌}
 use Rattle.std.specs.Option.{option_or}
-use Rattle.jt_ast.specs.Expressions as trees
-use Rattle.jt_ast.specs.Expressions.{Expr, Exprs}
 use Rattle.jt_ast.specs.Statements.{body_bound}
 use Rattle.jt_chains.specs.Chain.{Namespace, Template, templates}
 use Rattle.jt_uses.specs.Uses as uses
@@ -15,11 +13,11 @@ use Rattle.jt_rules.specs.Rules.{ForSome, Broken, KeepsRules, names_counted}
 use Rattle.jt_rules.specs.UseSites as sites
 use Rattle.jt_rules.specs.UseSites.{UseSite}
 use Rattle.jt_rules.specs.declared.error.ScopeError.{ScopeError}
-use Rattle.jt_rules.proofs.WalkCorrect.{Judged, Tells, InTemplates, InChain, BrokenThere, some_as, nothing, one}
-use Rattle.jt_rules.proofs.WalkCorrect.{in_turn}
-use Rattle.jt_rules.proofs.WalkCorrect.{name_called, field_called, read_told, bound_told, filter_told, test_told}
-use Rattle.jt_rules.proofs.WalkCorrect.{field_judged, macro_judged, import_judged, template_told, judged_or, broken_in}
-use Rattle.jt_rules.proofs.WalkCorrect.{in_templates, broken_of, found_of, unnamed}
+use Rattle.jt_checks.specs.internal.RuleTests as rules
+use Rattle.jt_checks.proofs.RuleTestsCorrect.{Judged, Tells, InTemplates, InChain, BrokenThere, some_as, nothing, one}
+use Rattle.jt_checks.proofs.RuleTestsCorrect.{in_turn, read_told, bound_told, call_told, filter_told, test_told}
+use Rattle.jt_checks.proofs.RuleTestsCorrect.{field_judged, macro_judged, import_judged, template_told, judged_or}
+use Rattle.jt_checks.proofs.RuleTestsCorrect.{broken_in, in_templates, broken_of, found_of}
 use Rattle.jt_checks.specs.internal.UseRules as broken
 use Rattle.jt_checks.specs.internal.UseRules.{within_view}
 use Rattle.jt_checks.proofs.UsesAreSites.{site_of, of_use, sites_in, uses_are_sites}
@@ -28,29 +26,26 @@ module _ (cenv : CompileEnv) (namespace : Namespace) where
   abbrev Told : Use → Enclosing → Type 0
   Told u w = Tells cenv namespace (broken.use_broken cenv namespace u w) (site_of u (within_view w))
 
-  call_told : (f : Expr) (ts : Exprs) (ps : trees.Pairs) (w : Enclosing) → Told (uses.calls f ts ps) w
-  call_told f ts ps w = search (arith, rules, one, name_called, field_called, unnamed)
-
   use_told : (u : Use) (w : Enclosing) → Told u w
   use_told (uses.reads x) w = read_told cenv namespace x (within_view w)
   use_told (uses.binds x) w = bound_told cenv namespace x (within_view w)
   use_told (uses.reads_loop_field k) w =
       one cenv namespace (broken.field_broken k w) (sites.reads_loop_field k) (within_view w)
       (field_judged cenv namespace k (within_view w))
-  use_told (uses.calls f ts ps) w = call_told f ts ps w
+  use_told (uses.calls f ts ps) w = call_told cenv namespace f ts ps (within_view w)
   use_told (uses.filters x ts ps) w = filter_told cenv namespace x ts ps (within_view w)
   use_told (uses.tests x ts ps) w = test_told cenv namespace x ts ps (within_view w)
   use_told (uses.declares_macro x ps body) w =
-      one cenv namespace (broken.macro_broken x ps) (sites.declares x ps) (within_view w)
+      one cenv namespace (rules.macro_broken x ps) (sites.declares x ps) (within_view w)
       (macro_judged cenv namespace x ps)
   use_told (uses.declares_block x scoped required body) w = nothing cenv namespace
   use_told (uses.includes n ignore_missing with_context) w = nothing cenv namespace
   use_told (uses.imports n) w = nothing cenv namespace
   use_told (uses.binds_library n x) w =
-      one cenv namespace (broken.use_broken cenv namespace (uses.binds_library n x) w) (sites.names_import x)
+      one cenv namespace (rules.read_alone x) (sites.names_import x)
       (within_view w) (import_judged cenv namespace x)
   use_told (uses.binds_macro n m x) w =
-      one cenv namespace (broken.use_broken cenv namespace (uses.binds_macro n m x) w) (sites.names_import x)
+      one cenv namespace (rules.read_alone x) (sites.names_import x)
       (within_view w) (import_judged cenv namespace x)
   use_told (uses.extends n) w = nothing cenv namespace
 

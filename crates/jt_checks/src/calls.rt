@@ -2,11 +2,10 @@
 
 ghost use Rattle.std.specs.Prelude.{◌≡◌, not, IfOk, option_map};
 ghost use Rattle.std.specs.Option.{option_or};
-ghost use Rattle.jt_ast.specs.Expressions as trees;
 ghost use Rattle.jt_ast.specs.ExpressionView.{expr_view, exprs_view, pairs_view};
 ghost use Rattle.jt_chains.specs.Chain.{callee, Namespace, named_form, named_alone, named_in};
 ghost use Rattle.jt_chains.specs.Chain.{in_library};
-ghost use Rattle.jt_rules.specs.Walk as rules;
+ghost use Rattle.jt_checks.specs.internal.RuleTests as rules;
 ghost use Rattle.jt_rules.specs.CompileEnv.{CompileEnv};
 ghost use Rattle.jt_checks.specs.internal.ScopeLookup.{is_block};
 ghost use Rattle.jt_checks.specs.internal.ScopeView.{its_sources, its_given, given_in, in_scope};
@@ -31,7 +30,7 @@ fn form_call_broken(
 ) -> Option<ScopeError>
     ensures { (cenv : CompileEnv) (namespace : Namespace) → result
         ≡ rules.call_broken cenv namespace (named_form name.now) (within_view within)
-        (trees.name name.now) (exprs_view row.now) (pairs_view pairs.now) }
+        (exprs_view row.now) (pairs_view pairs.now) }
 {
     match name {
         "range" => range_broken(row, pairs),
@@ -49,7 +48,7 @@ fn name_call_broken(
     pairs: &[(String, Expr)],
 ) -> Result<Option<ScopeError>, AllocError>
     ensures { IfOk result (FindsCall scope.now within (named_alone (its_sources scope.now)
-        (given_in scope.now name.now) name.now) (trees.name name.now) row.now pairs.now) }
+        (given_in scope.now name.now) name.now) row.now pairs.now) }
 {
     match scope.known(name) {
         Some(KnownName::Macro(parameters)) => Ok(unless(fits(
@@ -109,8 +108,7 @@ fn library_call_broken(
     pairs: &[(String, Expr)],
 ) -> Result<Option<ScopeError>, AllocError>
     ensures { IfOk result (FindsCall scope.now within (in_library (its_sources scope.now)
-        (given_in scope.now path.entry.0.now) path.entry.1.now) (trees.name path.entry.0.now)
-        row.now pairs.now) }
+        (given_in scope.now path.entry.0.now) path.entry.1.now) row.now pairs.now) }
 {
     let (of, field) = path;
     let Some(KnownName::Library(library)) = scope.known(of) else {
@@ -134,7 +132,7 @@ fn field_call_broken(
 ) -> Result<Option<ScopeError>, AllocError>
     ensures { IfOk result (FindsCall scope.now within (named_in (its_sources scope.now)
         (given_in scope.now path.entry.0.now) path.entry.0.now path.entry.1.now)
-        (trees.name path.entry.0.now) row.now pairs.now) }
+        row.now pairs.now) }
 {
     match path {
         ("self", field) => Ok(self_broken(scope, field, row, pairs)),
@@ -154,7 +152,7 @@ pub(crate) fn call_broken(
     pairs: &[(String, Expr)],
 ) -> Result<Option<ScopeError>, AllocError>
     ensures { IfOk result (FindsCall scope.now within (callee (its_sources scope.now)
-        (its_given scope.now) (expr_view called.now)) (expr_view called.now) row.now pairs.now) }
+        (its_given scope.now) (expr_view called.now)) row.now pairs.now) }
 {
     match called {
         Expr::Name(name) => name_call_broken(scope, within, name, row, pairs),

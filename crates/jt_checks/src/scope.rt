@@ -43,7 +43,7 @@ pub(crate) struct Scope<'a> {
 }
 
 impl<'a> Scope<'a> {
-    ghost use Rattle.jt_rules.specs.Walk as rules;
+    ghost use Rattle.jt_checks.specs.internal.RuleTests as rules;
     ghost use Rattle.jt_checks.specs.internal.ScopeView.{its_given, in_scope};
 
     /// Creates the scope of the chain or library at index `namespace`.

@@ -4,7 +4,7 @@ ghost use Rattle.std.specs.Prelude.{◌≡◌, IfOk};
 ghost use Rattle.std.specs.List.{count_by};
 ghost use Rattle.jt_ast.specs.ExpressionView.{expr_view};
 ghost use Rattle.jt_ast.specs.StatementView.{parameters_view};
-ghost use Rattle.jt_rules.specs.Walk as rules;
+ghost use Rattle.jt_checks.specs.internal.RuleTests as rules;
 ghost use Rattle.jt_uses.specs.UseView.{site_view, sites_view};
 ghost use Rattle.jt_checks.specs.internal.ScopeView.{in_scope};
 ghost use Rattle.jt_checks.specs.internal.UseRules as broken;
@@ -51,7 +51,7 @@ fn field_broken(field: &str, around: Enclosing) -> Option<ScopeError>
 /// Returns `LoopOutside` if a callee is `loop` itself, or a field of it other than `cycle`.
 #[tactic(auto, using(crate::proofs::AttributeForms::attribute_broken))]
 fn callee_broken(callee: &Expr) -> Option<ScopeError>
-    ensures { result ≡ broken.callee_broken (expr_view callee.now) }
+    ensures { result ≡ rules.callee_broken (expr_view callee.now) }
 {
     match callee {
         Expr::Name(name) => refused(name.as_str() == "loop", ScopeError::LoopOutside),
@@ -73,7 +73,7 @@ fn macro_broken(
     parameters: &[Parameter],
 ) -> Result<Option<ScopeError>, AllocError>
     ensures { IfOk result
-        (λ o. o ≡ broken.macro_broken name.now (parameters_view parameters.now)) }
+        (λ o. o ≡ rules.macro_broken name.now (parameters_view parameters.now)) }
 {
     let names = parameter_names(alloc, parameters)?;
     let again = unless(!any_repeated(alloc, &names)?);

@@ -11,7 +11,7 @@ use Rattle.jt_chains.specs.Uses.{count, own_names}
 use Rattle.jt_chains.specs.declared.chain.Chain.{Chain}
 use Rattle.jt_checks.specs.internal.ScopeLookup.{cenv_in, namespace_in, names_of}
 use Rattle.jt_rules.specs.CompileEnv.{CompileEnv}
-use Rattle.jt_rules.specs.Walk as rules
+use Rattle.jt_checks.specs.internal.RuleTests as rules
 use Rattle.jt_rules.specs.declared.error.ScopeError.{ScopeError}
 use Rattle.jt_checks.specs.declared.scope.Scope.{Scope}
 use Rattle.jt_uses.specs.declared.site.Enclosing.{Enclosing}
@@ -43,14 +43,13 @@ abbrev pub in_scope : {A : Type 0} → (CompileEnv → Namespace → A) → Scop
 in_scope rule s = rule (its_cenv s) (its_namespace s)
 
 -- The first rule that a call breaks, by its callee.
-abbrev pub call_found : Scope → Enclosing → Callee → Expr → Exprs → Pairs → Option ScopeError
+abbrev pub call_found : Scope → Enclosing → Callee → Exprs → Pairs → Option ScopeError
 call_found s w called = in_scope rules.call_broken s called (within_view w)
 
 -- The result is the first rule that a call breaks.
-abbrev pub FindsCall : Scope → Enclosing → Callee → Expr → List expression.Expr
+abbrev pub FindsCall : Scope → Enclosing → Callee → List expression.Expr
     → List (String Global × expression.Expr) → Option ScopeError → Type 0
-FindsCall s w called x row pairs o =
-    o ≡ call_found s w called x (exprs_view row) (pairs_view pairs)
+FindsCall s w called row pairs o = o ≡ call_found s w called (exprs_view row) (pairs_view pairs)
 
 -- The number of different names that a chain and each of its libraries read or bind.
 abbrev pub names_in : Chain → ℕ → ℕ

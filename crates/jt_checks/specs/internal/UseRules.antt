@@ -1,22 +1,18 @@
 -- The rule that a use breaks, and the first rule that the uses of templates break. Only private
 -- clauses cite this module.
-use Rattle.std.specs.Prelude.{nat_lt, Bool, true, false, not, ◌&&◌, List, [], ◌∷◌, length, codes, Option, None}
+use Rattle.std.specs.Prelude.{nat_lt, Bool, true, false, not, ◌&&◌, List, [], ◌∷◌, Option, None}
 use Rattle.std.specs.Option.{option_or, is_some}
-use Rattle.std.specs.Str.{bytes_eq}
 use Rattle.jt_ids.specs.LoopTable.{field_named}
-use Rattle.jt_ast.specs.Expressions.{Expr, name, attribute, Text}
-use Rattle.jt_ast.specs.Statements.{Parameter, Body, body_bound}
-use Rattle.jt_ast.specs.Texts.{repeated}
+use Rattle.jt_ast.specs.Expressions.{Text}
+use Rattle.jt_ast.specs.Statements.{Body, body_bound}
 use Rattle.jt_chains.specs.Chain.{Namespace, Template, templates, given, callee}
 use Rattle.jt_eval.specs.Tests.{test_named}
 use Rattle.jt_uses.specs.Uses.{Use, reads, binds, reads_loop_field, calls, filters, tests, declares_macro}
-use Rattle.jt_uses.specs.Uses.{binds_library}
-use Rattle.jt_uses.specs.Uses.{binds_macro, Site, body_uses, outside}
+use Rattle.jt_uses.specs.Uses.{binds_library, binds_macro, Site, body_uses, outside}
 use Rattle.jt_uses.specs.declared.site.Enclosing.{Enclosing}
 use Rattle.jt_rules.specs.CompileEnv.{CompileEnv}
-use Rattle.jt_rules.specs.Rules.{max_parameters, max_bindings}
-use Rattle.jt_rules.specs.UseSites.{parameter_names}
-use Rattle.jt_rules.specs.Walk as rules
+use Rattle.jt_rules.specs.Rules.{max_bindings}
+use Rattle.jt_checks.specs.internal.RuleTests as rules
 use Rattle.jt_rules.specs.declared.error.ScopeError.{ScopeError}
 use Rattle.jt_rules.specs.declared.error.ScopeError.TheVariants as error
 
@@ -24,24 +20,9 @@ use Rattle.jt_rules.specs.declared.error.ScopeError.TheVariants as error
 abbrev pub within_view : Enclosing → rules.Enclosing
 within_view w = record { in_loop = w.in_loop; in_block = w.in_block }
 
--- V1 if the callee misuses `loop` in every context: it is `loop` itself, or a field of it other
--- than `cycle`.
-abbrev pub callee_broken : Expr → Option ScopeError
-callee_broken (name x) = rules.refused (bytes_eq x (codes "loop")) error.LoopOutside
-callee_broken (attribute (name of) k) =
-    rules.refused (bytes_eq of (codes "loop") && not (bytes_eq k (codes "cycle"))) error.LoopOutside
-callee_broken f = None
-
 -- The rule that a read of a field of `loop` breaks.
 abbrev pub field_broken : Text → Enclosing → Option ScopeError
 field_broken k w = rules.refused (not (w.in_loop && is_some (field_named k))) error.LoopOutside
-
--- The rule that a macro breaks by its name and the number and the names of its parameters.
-abbrev pub macro_broken : Text → List Parameter → Option ScopeError
-macro_broken x parameters =
-    option_or (rules.read_alone x)
-    (option_or (rules.unless (not (repeated (parameter_names parameters))))
-    (rules.refused (nat_lt max_parameters (length parameters)) error.TooManySlots))
 
 abbrev pub is_binding : Use → Bool
 is_binding (binds x) = true
@@ -58,11 +39,11 @@ module _ (cenv : CompileEnv) (namespace : Namespace) where
   use_broken (binds x) w = rules.used cenv namespace x
   use_broken (reads_loop_field k) w = field_broken k w
   use_broken (calls f ts ps) w =
-      option_or (callee_broken f)
-      (rules.call_broken cenv namespace (callee cenv.sources (given cenv.sources namespace) f) (within_view w) f ts ps)
+      option_or (rules.callee_broken f)
+      (rules.call_broken cenv namespace (callee cenv.sources (given cenv.sources namespace) f) (within_view w) ts ps)
   use_broken (filters x ts ps) w = rules.filter_broken cenv.filters (cenv.filters.named x ts ps) ts ps
   use_broken (tests x ts ps) w = rules.test_broken (test_named x) ts ps
-  use_broken (declares_macro x parameters body) w = macro_broken x parameters
+  use_broken (declares_macro x parameters body) w = rules.macro_broken x parameters
   use_broken (binds_library n x) w = rules.read_alone x
   use_broken (binds_macro n m x) w = rules.read_alone x
   use_broken u w = None

@@ -5,7 +5,7 @@ use Rattle.jt_rules.specs.Rules.{names_counted}
 use Rattle.jt_checks.specs.internal.ScopeLookup.{cenv_in}
 use Rattle.jt_rules.specs.CompileEnv.{cenv_of}
 use Rattle.jt_checks.proofs.LoopSteps.{few_enough, over}
-use Rattle.jt_rules.proofs.WalkCorrect.{broken_breaks}
+use Rattle.jt_checks.proofs.RuleTestsCorrect.{broken_breaks}
 use Rattle.jt_checks.proofs.UsesCorrect.{found_is_broken, none_is_broken}
 use Rattle.jt_checks.proofs.checking.check_rules.Goals as goal
 
