@@ -121,7 +121,8 @@ module _ (cenv : CompileEnv) (order : List Namespace) (h : Namespace) where
 
   module _ (t : Text) where
     mutual
-      stmt_fine : (s : Stmt) (on : Bool) (w : Enclosing) → AllKeep cenv h (stmt_use_sites s w) → StmtKnown cenv.filters s
+      stmt_fine : (s : Stmt) (on : Bool) (w : Enclosing) → AllKeep cenv h (stmt_use_sites s w) → StmtKnown cenv.filters
+          s
           → Bodied (blocks_of t s on) → Sourced (needs_by false s) → AllFine (blocks_of t s on)
       stmt_fine (block line x scoped required body) on w e k d m =
           ((e, k, d.1, m), body_fine body on in_block e k d.1 m)
@@ -165,7 +166,8 @@ module _ (cenv : CompileEnv) (order : List Namespace) (h : Namespace) where
           (body_use_sites body outside) e) k d m
       stmt_fine a0 on w e k d m = tt
 
-      body_fine : (c : Body) (on : Bool) (w : Enclosing) → AllKeep cenv h (body_use_sites c w) → BodyKnown cenv.filters c
+      body_fine : (c : Body) (on : Bool) (w : Enclosing) → AllKeep cenv h (body_use_sites c w) → BodyKnown cenv.filters
+          c
           → Bodied (blocks_in t c on) → Sourced (needs_in false c) → AllFine (blocks_in t c on)
       body_fine end on w e k d m = tt
       body_fine (stmt s rest) on w e k d m =

@@ -183,7 +183,8 @@ module _ (cenv : CompileEnv) (order : List Namespace) where
     stmt_takes (set_block line x body) sp w e t h k n d = (
       copied_takes w.in_loop (place sp 1) sp.table sp.free (set_in body)
           (resolved_body cenv order body (bound_all (set_in body) sp))
-          (body_serves body (bound_all (set_in body) sp) w e t (back cenv sp.namespace (at w (binds x)) (body_use_sites body w) h) k n d),
+          (body_serves body (bound_all (set_in body) sp) w e t
+          (back cenv sp.namespace (at w (binds x)) (body_use_sites body w) h) k n d),
       tt,
     )
     stmt_takes (with_values line ps body) sp w e t h k n d =

@@ -340,7 +340,8 @@ module _ (cenv : CompileEnv) (order : List Namespace) where
   module _ (w : Enclosing) where
     mutual
       pub expr_takes : (e : Expr) (sp : StaticEnv) → Stands sp.namespace → PartTail w.in_block sp.namespace sp.part
-          → AllKeep cenv sp.namespace (expr_use_sites e w) → ExprKnown cenv.filters e → ETakes w.in_loop (resolved cenv order e sp)
+          → AllKeep cenv sp.namespace (expr_use_sites e w) → ExprKnown cenv.filters e → ETakes w.in_loop
+          (resolved cenv order e sp)
       expr_takes (constant c) sp e t h k = tt
       expr_takes (name x) sp e t h k = slot_takes w.in_loop (slot_in x sp.table) (known 0)
       expr_takes (group a) sp e t h k = expr_takes a sp e t h k

@@ -198,23 +198,28 @@ module _ (cenv : CompileEnv) (h : Namespace) where
   macros_named t (stmt (choose bs other) rest) k =
       macros_named t rest (back cenv h (stmt_use_sites (choose bs other) outside) (body_use_sites rest outside) k)
   macros_named t (stmt (for_each line xs x c body other) rest) k =
-      macros_named t rest (back cenv h (stmt_use_sites (for_each line xs x c body other) outside) (body_use_sites rest outside) k)
+      macros_named t rest (back cenv h (stmt_use_sites (for_each line xs x c body other) outside)
+      (body_use_sites rest outside) k)
   macros_named t (stmt (set line xs x) rest) k =
       macros_named t rest (back cenv h (stmt_use_sites (set line xs x) outside) (body_use_sites rest outside) k)
   macros_named t (stmt (set_block line x body) rest) k =
       macros_named t rest (back cenv h (stmt_use_sites (set_block line x body) outside) (body_use_sites rest outside) k)
   macros_named t (stmt (with_values line ps body) rest) k =
-      macros_named t rest (back cenv h (stmt_use_sites (with_values line ps body) outside) (body_use_sites rest outside) k)
+      macros_named t rest (back cenv h (stmt_use_sites (with_values line ps body) outside) (body_use_sites rest outside)
+      k)
   macros_named t (stmt (filter_block line fs body) rest) k =
-      macros_named t rest (back cenv h (stmt_use_sites (filter_block line fs body) outside) (body_use_sites rest outside) k)
+      macros_named t rest (back cenv h (stmt_use_sites (filter_block line fs body) outside)
+      (body_use_sites rest outside) k)
   macros_named t (stmt (autoescape line on body) rest) k =
-      macros_named t rest (back cenv h (stmt_use_sites (autoescape line on body) outside) (body_use_sites rest outside) k)
+      macros_named t rest (back cenv h (stmt_use_sites (autoescape line on body) outside) (body_use_sites rest outside)
+      k)
   macros_named t (stmt (include line n i w) rest) k =
       macros_named t rest (back cenv h (stmt_use_sites (include line n i w) outside) (body_use_sites rest outside) k)
   macros_named t (stmt (import_as line n new) rest) k =
       macros_named t rest (back cenv h (stmt_use_sites (import_as line n new) outside) (body_use_sites rest outside) k)
   macros_named t (stmt (import_from line n news) rest) k =
-      macros_named t rest (back cenv h (stmt_use_sites (import_from line n news) outside) (body_use_sites rest outside) k)
+      macros_named t rest (back cenv h (stmt_use_sites (import_from line n news) outside) (body_use_sites rest outside)
+      k)
   macros_named t (stmt (extends line n) rest) k =
       macros_named t rest (back cenv h (stmt_use_sites (extends line n) outside) (body_use_sites rest outside) k)
   macros_named t (stmt (block line x s r body) rest) k =

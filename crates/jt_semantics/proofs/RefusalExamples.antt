@@ -57,7 +57,8 @@ filled_twice : Breaks (source "t" (Macro 1 (codes "m") (parameter "a" ∷ []) en
 filled_twice = inl (inr (inr (inl refl)))
 
 fits : Breaks
-    (source "t" (Macro 1 (codes "m") (parameter "a" ∷ []) end ∷ print (call (name "m") (num 1 ∷ [])) ∷ []) ∷ []) error.BadArguments → ⊥
+    (source "t" (Macro 1 (codes "m") (parameter "a" ∷ []) end ∷ print (call (name "m") (num 1 ∷ [])) ∷ []) ∷ [])
+    error.BadArguments → ⊥
 fits (inl (inl e)) = differs (sym e)
 fits (inl (inr (inl e))) = e
 fits (inl (inr (inr (inl e)))) = differs e
@@ -83,7 +84,8 @@ loop_in_a_condition : Breaks
 loop_in_a_condition = inl (inr (inl (inl refl)))
 
 loop_in_a_body : Breaks
-    (source "t" (For 1 (codes "x" ∷ []) (listing []) None (body (print (of (name "loop") "index") ∷ [])) end ∷ []) ∷ []) error.LoopOutside → ⊥
+    (source "t" (For 1 (codes "x" ∷ []) (listing []) None (body (print (of (name "loop") "index") ∷ [])) end ∷ []) ∷ [])
+    error.LoopOutside → ⊥
 loop_in_a_body (inl (inl e)) = no_both (is_same (codes "x") (codes "loop") e) refl
 loop_in_a_body (inl (inr (inl (inl e)))) = differs e
 loop_in_a_body (inl (inr (inl (inr e)))) = is_some _ e
@@ -110,7 +112,8 @@ range_of_nothing : Breaks (source "t" (print (call (name "range") []) ∷ []) �
 range_of_nothing = inl (inl refl)
 
 filter_keyword : Breaks
-    (source "t" (print (Filter (num 1) (codes "d") no_exprs (pair (codes "boolean") (num 1) no_pairs)) ∷ []) ∷ []) error.BadArguments → ⊥
+    (source "t" (print (Filter (num 1) (codes "d") no_exprs (pair (codes "boolean") (num 1) no_pairs)) ∷ []) ∷ [])
+    error.BadArguments → ⊥
 filter_keyword (inl (inl (inl e))) = differs e
 filter_keyword (inl (inl (inr e))) = differs e
 filter_keyword (inl (inr e)) = e
@@ -183,7 +186,8 @@ too_many_for_a_library : Breaks
     error.BadArguments
 too_many_for_a_library = inl (inr (inl refl))
 
-fits_a_library : Breaks (source "t" (Import "l" "f" ∷ print (call (of (name "f") "b") (num 1 ∷ [])) ∷ []) ∷ with_b) error.BadArguments → ⊥
+fits_a_library : Breaks (source "t" (Import "l" "f" ∷ print (call (of (name "f") "b") (num 1 ∷ [])) ∷ []) ∷ with_b)
+    error.BadArguments → ⊥
 fits_a_library (inl (inl e)) = e
 fits_a_library (inl (inr (inl e))) = differs e
 fits_a_library (inl (inr (inr e))) = e
@@ -200,7 +204,8 @@ not_given : Breaks
 not_given = inl (inr (inl tt))
 
 given_called : Breaks
-    (source "t" (From "l" ((codes "b", codes "c") ∷ []) ∷ print (call (name "c") (num 1 ∷ [])) ∷ []) ∷ with_b) error.BadArguments → ⊥
+    (source "t" (From "l" ((codes "b", codes "c") ∷ []) ∷ print (call (name "c") (num 1 ∷ [])) ∷ []) ∷ with_b)
+    error.BadArguments → ⊥
 given_called (inl (inl e)) = e
 given_called (inl (inr (inl e))) = differs e
 given_called (inl (inr (inr e))) = e

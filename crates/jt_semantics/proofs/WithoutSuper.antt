@@ -196,7 +196,8 @@ module _ (cenv : CompileEnv) (h : Namespace) where
       let others = right_false (row_super f.arguments) (pairs_super f.keywords || filter_call_super fs) s in
       both (one (filters f.name f.arguments f.keywords) w tt)
       (both
-      (row_without f.arguments w (left_false (row_super f.arguments) (pairs_super f.keywords || filter_call_super fs) s))
+      (row_without f.arguments w (left_false (row_super f.arguments) (pairs_super f.keywords || filter_call_super fs)
+      s))
       (both (pairs_without f.keywords w (left_false (pairs_super f.keywords) (filter_call_super fs) others))
       (filter_call_without fs w (right_false (pairs_super f.keywords) (filter_call_super fs) others))))
 
