@@ -312,7 +312,13 @@ namespaces_few : (c : Seen) (ns : List Text) → length ns ≤ 200 → (hs : Lis
     → (h : Namespace) → listed h hs ≡ true → AllByRecursion (λ m. length m.parameters ≤ 200) (macros (sources_of c) h)
 namespaces_few c ns l [] a e h i = absurd (no_both i refl)
 namespaces_few c ns l (k ∷ ks) a e h i =
-    search (arith, rules, namespaces_few c ns l ks a.1 e.1 h, macros_few, e.0, namespace_same)
+    search (
+      arith,
+      rules,
+      namespaces_few c ns l ks a.1 e.1 h,
+      macros_few (cenv_of c) k ns l (templates (sources_of c) k) a.0 e.0,
+      namespace_same,
+    )
 
 chains_few : (c : Seen) → InOrder (sources_of c) c.order
     → ((h : Namespace) → listed h c.order ≡ true
