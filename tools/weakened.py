@@ -25,7 +25,6 @@ LAYERS = [
     ("jt_inherit", "src/chaining.rt", "chain", "only"),
     ("jt_names", "src/chains.rt", "own_names", "there"),
     ("jt_eval", "src/named.rt", "filter_parameters", ""),
-    ("jt_rules", "src/laws.rt", "rules_laws", ""),
     ("jt_checks", "src/checking.rt", "check_rules", "kept"),
     ("jt_semantics", "src/laws.rt", "program_laws", ""),
     ("jt_layout", "src/layout.rt", "lay_out", "namespace_layout"),

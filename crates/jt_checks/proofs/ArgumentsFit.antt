@@ -14,7 +14,7 @@ use Rattle.jt_chains.specs.Uses.{count}
 use Rattle.jt_filter_semantics.specs.FilterIds.{accepts}
 use Rattle.jt_ids.specs.declared.filter_id.FilterId.{FilterId}
 use Rattle.jt_checks.specs.internal.Fitting.{filter_takes}
-use Rattle.jt_rules.specs.Walk as rules
+use Rattle.jt_checks.specs.internal.RuleTests as rules
 use Rattle.jt_checks.proofs.FilledParameters.{filled_behind}
 use Rattle.jt_checks.proofs.RowLengths.{counted}
 

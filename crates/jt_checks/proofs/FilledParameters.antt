@@ -10,7 +10,7 @@ use Rattle.jt_ast.specs.Expressions.{Text}
 use Rattle.jt_ast.specs.StatementView.{parameters_view}
 use Rattle.jt_ast.specs.declared.statement.Parameter.{Parameter}
 use Rattle.jt_eval.specs.Filters.{some_given}
-use Rattle.jt_rules.specs.Walk as rules
+use Rattle.jt_checks.specs.internal.RuleTests as rules
 
 abbrev pub is_filled : List Text → Parameter → Bool
 is_filled ks p = among (string_bytes p.name) ks || is_some p.default

@@ -19,7 +19,7 @@ use Rattle.jt_eval.specs.Filters.{some_given}
 use Rattle.jt_eval.specs.Inside.{names_well, inside_of}
 use Rattle.jt_eval.specs.TheFilters.{the_filters, filter_written, filter_parameters, parameters_of}
 use Rattle.jt_checks.specs.internal.Fitting.{filter_takes}
-use Rattle.jt_rules.specs.Walk as rules
+use Rattle.jt_checks.specs.internal.RuleTests as rules
 use Rattle.jt_rules.specs.declared.error.ScopeError.{ScopeError}
 use Rattle.jt_checks.proofs.FilledParameters.{none_reached}
 use Rattle.jt_ast.proofs.RemainingParts.{Entry}

@@ -4,7 +4,9 @@ pub mod FilledParameters
 pub mod FilterArity
 pub mod ArgumentsFit
 pub mod AttributeForms
-pub mod FirstBrokenRule
+pub mod RuleTestsCorrect
+pub mod UsesAreSites
+pub mod UsesCorrect
 pub mod NestedCallNames
 pub mod ScopeLookup
 pub mod NameLookup

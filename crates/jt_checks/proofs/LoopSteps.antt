@@ -1,73 +1,35 @@
--- Steps of loops: the first broken rule of the remaining items of a list, and of several parts in
--- order.
+-- Steps of loops: the first broken rule of the remaining items of a list.
 use Rattle.std.proofs.Common.{◌≡◌, ℕ, suc, ◌+◌, ◌<◌, ◌≤◌, Bool, true, false, List, [], ◌∷◌, length, map, drop, get_or}
 use Rattle.std.proofs.Common.{nat_lt, nat_le, if◌then◌else◌, string_bytes, refl, sym, ap, ◌∙◌, arith, Option, Some}
-use Rattle.std.proofs.Common.{None, Result, Ok, Err, IfOk, rules}
+use Rattle.std.proofs.Common.{None, rules}
 use Rattle.std.specs.Option.{option_or}
-use Rattle.std.specs.Prelude.{IsOkAnd}
 use Rattle.std.proofs.lemmas.List.{drop_more}
 use Rattle.std.proofs.lemmas.Option.{unwrap_or-slice_get}
 use Rattle.jt_ast.specs.Texts.{ascending, texts}
 use denote.Ref.{Bor}
 use Rattle.jt_ast.specs.Expressions.{Text}
-use Rattle.jt_ast.specs.Statements.{FilterCall, Body, body_bound}
 use Rattle.jt_ast.specs.StatementView.{body_view}
 use Rattle.jt_chains.specs.Chain.{Namespace, a_chain, a_library, Template, templates, libraries}
 use Rattle.jt_chains.specs.Layers.{layer_view}
 use Rattle.jt_chains.specs.declared.layers.Layer.{Layer}
 use Rattle.jt_chains.specs.Indices.{namespace_at}
-use Rattle.jt_chains.specs.Uses.{count, own_names}
+use Rattle.jt_chains.specs.Uses.{own_names}
 use Rattle.jt_chains.specs.TemplateFiles.{namespace_view}
 use Rattle.jt_chains.proofs.TemplatesByIndex.{name_of_namespace}
-use Rattle.jt_rules.specs.Rules.{libraries_counted}
+use Rattle.jt_rules.specs.Rules.{libraries_counted, names_counted}
 use Rattle.jt_chains.specs.declared.chain.Namespace as written
 use Rattle.std.proofs.lemmas.Bool.Decides.{nat_tests}
-use Rattle.jt_rules.specs.Walk as rules
+use Rattle.jt_uses.specs.UseView.{site_view, sites_view}
+use Rattle.jt_uses.specs.declared.site.UseSite.{UseSite}
+use Rattle.jt_checks.specs.internal.UseRules as broken
 use Rattle.jt_chains.specs.View.{chain_view, sources_of}
 use Rattle.jt_chains.specs.declared.chain.Chain.{Chain}
 use Rattle.jt_checks.specs.internal.ScopeLookup.{cenv_in, namespace_in, names_of}
 use Rattle.jt_rules.specs.CompileEnv.{CompileEnv}
 use Rattle.jt_rules.specs.declared.error.ScopeError.{ScopeError}
-use Rattle.jt_rules.specs.declared.error.ScopeError.TheVariants as error
 
 abbrev Found : Type 0
 Found = Option ScopeError
-
-pub or_grouped : (a b c : Found) → option_or (option_or a b) c ≡ option_or a (option_or b c)
-or_grouped None b c = refl
-or_grouped (Some e) b c = refl
-
-pub or_three : (a b c d : Found) → option_or (option_or a (option_or b c)) d ≡ option_or a (option_or b (option_or c d))
-or_three None b c d = or_grouped b c d
-or_three (Some e) b c d = refl
-
-pub or_none : (a : Found) → option_or a None ≡ a
-or_none None = refl
-or_none (Some e) = refl
-
--- The first rule of two results.
-pub either_is : {E : Type 0} (first second both : Result Found E) (a b : Found) → IfOk first (λ o. o ≡ a)
-    → IfOk second (λ o. o ≡ b)
-    → IfOk both (λ o. IsOkAnd first (λ x. IsOkAnd second (λ y. o ≡ option_or x y))) → IfOk both (λ o. o ≡ option_or a b)
-either_is a0 a1 a2 a b p q k = search (arith, rules)
-
-pub part : {E : Type 0} (first last : Result Found E) (P : Found → Type 0) (c v : Found) → IfOk first P
-    → IfOk last (λ o. IsOkAnd first (λ z. o ≡ option_or z c)) → ((x : Found) → P x → option_or x c ≡ v)
-    → IfOk last (λ o. o ≡ v)
-part a0 a1 a2 c v p l g = search (arith, rules)
-
-pub parts : {E : Type 0} (first second both last : Result Found E) (P Q : Found → Type 0) (c v : Found) → IfOk first P
-    → IfOk second Q
-    → IfOk both (λ o. IsOkAnd first (λ x. IsOkAnd second (λ y. o ≡ option_or x y)))
-    → IfOk last (λ o. IsOkAnd both (λ z. o ≡ option_or z c))
-    → ((x y : Found) → P x → Q y → option_or x (option_or y c) ≡ v) → IfOk last (λ o. o ≡ v)
-parts a0 a1 a2 a3 a4 a5 c v p q k l g = search (arith, rules, or_grouped)
-
--- The first rule of two results, after a third one.
-pub behind : {E : Type 0} (before rest last : Result Found E) (b : Found) → IfOk rest (λ o. o ≡ b)
-    → IfOk last (λ o. IsOkAnd before (λ x. IsOkAnd rest (λ y. o ≡ option_or x y)))
-    → IfOk last (λ o. IsOkAnd before (λ x. o ≡ option_or x b))
-behind a0 a1 a2 b q k = search (arith, rules)
 
 -- The first part breaks a rule, or it does not.
 pub some_first : (a rest : Found) (e : ScopeError) → a ≡ Some e → Some e ≡ option_or a rest
@@ -76,31 +38,22 @@ some_first a rest e h = sym (ap (λ z. option_or z rest) h)
 pub none_first : (a rest : Found) → a ≡ None → rest ≡ option_or a rest
 none_first a rest h = sym (ap (λ z. option_or z rest) h)
 
-pub equal_found : {E : Type 0} → (r : Result Found E) (u v : Found) → u ≡ v → IfOk r (λ o. o ≡ u) → IfOk r (λ o. o ≡ v)
-equal_found (Ok o) u v e h = h ∙ e
-equal_found (Err x) u v e h = tt
-
--- The first filter of a filter tag, and the filters after it.
-pub filter_calls_turn : (cenv : CompileEnv) (namespace : Namespace) (f : FilterCall) (fs : List FilterCall)
-    (w : rules.Enclosing)
-    → rules.filter_call_broken cenv namespace (f ∷ fs) w
-    ≡ option_or (rules.filter_call_broken cenv namespace (f ∷ []) w) (rules.filter_call_broken cenv namespace fs w)
-filter_calls_turn cenv namespace f fs w = search (arith, rules)
-
-abbrev pub file_broken : CompileEnv → Namespace → Body → Found
-file_broken cenv namespace b =
-    option_or (rules.body_broken cenv namespace b (record { in_loop = false; in_block = false }))
-    (rules.refused (nat_lt 4096 (body_bound b)) error.TooManySlots)
-
 abbrev pub shown_layers : List Template → List Layer → List Template
 shown_layers ts = map (layer_view ts)
 
 pub layers_left : (cenv : CompileEnv) (namespace : Namespace) (ts : List Template) (ls : List Layer) (i : ℕ) (l : Layer)
     → i < length ls → l ≡ get_or ls i l
-    → rules.templates_broken cenv namespace (shown_layers ts (drop i ls))
-    ≡ option_or (file_broken cenv namespace (body_view l.body.now))
-    (rules.templates_broken cenv namespace (shown_layers ts (drop (i + 1) ls)))
+    → broken.templates_broken cenv namespace (shown_layers ts (drop i ls))
+    ≡ option_or (broken.template_broken cenv namespace (body_view l.body.now))
+    (broken.templates_broken cenv namespace (shown_layers ts (drop (i + 1) ls)))
 layers_left cenv namespace ts ls i l lt is = search (arith, rules, drop_more)
+
+pub uses_left : (cenv : CompileEnv) (namespace : Namespace) (ss : List UseSite) (i : ℕ) (s : UseSite) → i < length ss
+    → s ≡ get_or ss i s
+    → broken.uses_broken cenv namespace (sites_view (drop i ss))
+    ≡ option_or (broken.site_broken cenv namespace (site_view s))
+    (broken.uses_broken cenv namespace (sites_view (drop (i + 1) ss)))
+uses_left cenv namespace ss i s lt is = search (arith, rules, drop_more)
 
 -- ---- chains
 
@@ -119,27 +72,27 @@ there : (order : List Namespace) (i : ℕ) → get_or order i (a_chain []) ≡ n
 there order i = sym (unwrap_or-slice_get order i (a_chain []))
 
 abbrev pub chain_broken : CompileEnv → Namespace → Found
-chain_broken cenv h = rules.templates_broken cenv h (templates cenv.sources h)
+chain_broken cenv h = broken.templates_broken cenv h (templates cenv.sources h)
 
 pub chains_left : (cenv : CompileEnv) (order : List Namespace) (i : ℕ) → i < length order
-    → rules.chains_broken cenv (drop i order)
-    ≡ option_or (chain_broken cenv (namespace_at order i)) (rules.chains_broken cenv (drop (i + 1) order))
+    → broken.chains_broken cenv (drop i order)
+    ≡ option_or (chain_broken cenv (namespace_at order i)) (broken.chains_broken cenv (drop (i + 1) order))
 chains_left cenv order i lt =
-    ap (rules.chains_broken cenv) (drop_more order i (a_chain []) lt)
-    ∙ ap (λ h. option_or (chain_broken cenv h) (rules.chains_broken cenv (drop (i + 1) order))) (there order i)
+    ap (broken.chains_broken cenv) (drop_more order i (a_chain []) lt)
+    ∙ ap (λ h. option_or (chain_broken cenv h) (broken.chains_broken cenv (drop (i + 1) order))) (there order i)
 
 counted_first : (cenv : CompileEnv) (h : Namespace) (hs : List Namespace)
-    → rules.names_counted cenv (h ∷ hs) ≡ names_of cenv h + rules.names_counted cenv hs
+    → names_counted cenv (h ∷ hs) ≡ names_of cenv h + names_counted cenv hs
 counted_first cenv (a_chain n) hs = refl
 counted_first cenv (a_library n) hs = omega arith
 
 pub names_left : (cenv : CompileEnv) (order : List Namespace) (i : ℕ) → i < length order
-    → rules.names_counted cenv (drop i order)
-    ≡ names_of cenv (namespace_at order i) + rules.names_counted cenv (drop (i + 1) order)
+    → names_counted cenv (drop i order)
+    ≡ names_of cenv (namespace_at order i) + names_counted cenv (drop (i + 1) order)
 names_left cenv order i lt =
-    ap (rules.names_counted cenv) (drop_more order i (a_chain []) lt)
+    ap (names_counted cenv) (drop_more order i (a_chain []) lt)
     ∙ counted_first cenv (get_or order i (a_chain [])) (drop (i + 1) order)
-    ∙ ap (λ h. names_of cenv h + rules.names_counted cenv (drop (i + 1) order)) (there order i)
+    ∙ ap (λ h. names_of cenv h + names_counted cenv (drop (i + 1) order)) (there order i)
 
 -- The view keeps the number of texts.
 pub texts_length : (ks : List (Bor Text)) → length (texts ks) ≡ length ks

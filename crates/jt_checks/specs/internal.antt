@@ -1,3 +1,5 @@
 pub mod Fitting
+pub mod RuleTests
 pub mod ScopeLookup
 pub mod ScopeView
+pub mod UseRules

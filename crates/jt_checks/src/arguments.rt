@@ -10,7 +10,7 @@ ghost use Rattle.jt_chains.specs.Uses.{count, keywords};
 ghost use Rattle.jt_eval.specs.TheFilters.{the_filters, filter_parameters};
 ghost use Rattle.jt_eval.specs.Inside.{names_well};
 ghost use Rattle.jt_eval.specs.Tests.{test_named};
-ghost use Rattle.jt_rules.specs.Walk as rules;
+ghost use Rattle.jt_checks.specs.internal.RuleTests as rules;
 ghost use Rattle.jt_checks.specs.internal.Fitting.{filter_takes};
 ghost use Rattle.jt_checks.specs.internal.ScopeLookup.{is_among};
 

@@ -1,29 +1,26 @@
 //! Checks that chains keep the static rules of names and calls.
 
-ghost use Rattle.std.specs.Prelude.{◌≡◌, ◌<◌, nat_lt, nat_le, false, length, IfOk, OnOk, IfErr};
-ghost use Rattle.std.specs.Option.{option_or};
+ghost use Rattle.std.specs.Prelude.{◌≡◌, ◌<◌, nat_le, length, IfOk, OnOk, IfErr};
 ghost use Rattle.jt_ast.specs.Texts.{ascending, texts};
-ghost use Rattle.jt_ast.specs.Statements.{body_bound};
 ghost use Rattle.jt_ast.specs.StatementView.{body_view};
 ghost use Rattle.jt_chains.specs.Chain.{templates, libraries, a_library};
 ghost use Rattle.jt_chains.specs.View.{chain_view};
-ghost use Rattle.jt_rules.specs.Walk as rules;
-ghost use Rattle.jt_rules.specs.Rules.{KeepsRules, Breaks, libraries_counted, max_bindings};
-ghost use Rattle.jt_rules.specs.Rules.{max_names};
+ghost use Rattle.jt_rules.specs.Rules.{KeepsRules, Breaks, libraries_counted};
+ghost use Rattle.jt_rules.specs.Rules.{max_names, names_counted};
 ghost use Rattle.jt_checks.specs.internal.ScopeView.{capped, its_namespace, names_in, own_count};
 ghost use Rattle.jt_checks.specs.internal.ScopeView.{its_sources, in_scope};
 ghost use Rattle.jt_checks.specs.internal.ScopeLookup.{cenv_in, namespace_in};
+ghost use Rattle.jt_checks.specs.internal.UseRules as broken;
 ghost use Rattle.jt_rules.specs.CompileEnv.{cenv_of};
-ghost use Rattle.jt_rules.specs.declared.error.ScopeError.TheVariants as error;
 
 use crate::arguments::refused;
-use crate::bindings::bound_in;
-use crate::scope::{Enclosing, Scope};
-use crate::statements::body_broken;
+use crate::scope::Scope;
+use crate::uses::{count_bindings, uses_broken};
 use jt_ast::Stmt;
 use jt_chains::Chain;
 use jt_names::{in_order, library_names, own_names};
 use jt_rules::ScopeError;
+use jt_uses::uses_of;
 use std::alloc::{AllocError, Global};
 use std::collections::BTreeSet;
 
@@ -58,7 +55,7 @@ pub fn check_rules(alloc: Global, chain: &Chain) -> Result<(), ScopeError>
 /// Returns the first rule that the templates of the chains break.
 fn chains_broken(alloc: Global, chain: &Chain) -> Result<Option<ScopeError>, AllocError>
     ensures { IfOk result
-        (λ o. o ≡ rules.chains_broken (cenv_in chain.now) (chain_view chain.now).order) }
+        (λ o. o ≡ broken.chains_broken (cenv_in chain.now) (chain_view chain.now).order) }
 {
     for namespace in 0..chain.namespaces.len() {
         let scope = Scope::new(alloc, chain, namespace)?;
@@ -71,7 +68,7 @@ fn chains_broken(alloc: Global, chain: &Chain) -> Result<Option<ScopeError>, All
 
 /// Returns the first rule that the templates of a chain break.
 fn templates_broken(scope: &Scope<'_>) -> Result<Option<ScopeError>, AllocError>
-    ensures { IfOk result (λ o. o ≡ in_scope rules.templates_broken scope.now (templates
+    ensures { IfOk result (λ o. o ≡ in_scope broken.templates_broken scope.now (templates
         (its_sources scope.now) (its_namespace scope.now))) }
 {
     let layers = scope.chain.layers(scope.alloc, scope.namespace)?;
@@ -83,28 +80,25 @@ fn templates_broken(scope: &Scope<'_>) -> Result<Option<ScopeError>, AllocError>
     Ok(None)
 }
 
-/// Returns the first rule that the statements of a template break.
+/// Returns the first rule that a template breaks.
+#[tactic(auto, using(crate::proofs::BindingCounts::bindings_counted))]
 fn template_broken(scope: &Scope<'_>, body: &[Stmt]) -> Result<Option<ScopeError>, AllocError>
-    ensures { IfOk result (λ o. o ≡ option_or (in_scope rules.body_broken scope.now
-        (body_view body.now) (record { in_loop = false; in_block = false })) (rules.refused (nat_lt
-        max_bindings (body_bound (body_view body.now))) error.TooManySlots)) }
+    ensures { IfOk result
+        (λ o. o ≡ in_scope broken.template_broken scope.now (body_view body.now)) }
 {
-    let around = Enclosing {
-        in_loop: false,
-        in_block: false,
-    };
-    if let Some(rule) = body_broken(scope, around, body)? {
+    let uses = uses_of(scope.alloc, body)?;
+    if let Some(rule) = uses_broken(scope, &uses)? {
         return Ok(Some(rule));
     }
-    let bound = bound_in(body);
-    Ok(refused(MAX_BINDINGS < bound, ScopeError::TooManySlots))
+    let bindings = count_bindings(&uses);
+    Ok(refused(MAX_BINDINGS < bindings, ScopeError::TooManySlots))
 }
 
 /// Returns whether the chains read or bind at most `MAX_NAMES` names, each counted once for each
 /// chain.
 fn has_few_names(alloc: Global, chain: &Chain) -> Result<bool, AllocError>
     ensures { IfOk result (λ b. b ≡ nat_le
-        (rules.names_counted (cenv_in chain.now) (chain_view chain.now).order) max_names) }
+        (names_counted (cenv_in chain.now) (chain_view chain.now).order) max_names) }
 {
     let mut left = MAX_NAMES;
     for namespace in 0..chain.namespaces.len() {

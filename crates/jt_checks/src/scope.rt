@@ -18,14 +18,6 @@ use jt_chains::{Block, Chain, DefinedName, Definition};
 use std::alloc::{AllocError, Global};
 use std::collections::{BTreeMap, BTreeSet};
 
-/// The context of an expression or statement: whether it is inside a loop of the same block or
-/// macro body, and inside a block.
-#[derive(Clone, Copy)]
-pub(crate) struct Enclosing {
-    pub(crate) in_loop: bool,
-    pub(crate) in_block: bool,
-}
-
 /// The meaning of a known name: a macro with these parameters, or a library of this name.
 #[derive(Clone, Copy)]
 pub(crate) enum KnownName<'a> {
@@ -51,7 +43,7 @@ pub(crate) struct Scope<'a> {
 }
 
 impl<'a> Scope<'a> {
-    ghost use Rattle.jt_rules.specs.Walk as rules;
+    ghost use Rattle.jt_checks.specs.internal.RuleTests as rules;
     ghost use Rattle.jt_checks.specs.internal.ScopeView.{its_given, in_scope};
 
     /// Creates the scope of the chain or library at index `namespace`.

@@ -24,23 +24,21 @@ use Rattle.jt_ir.specs.Pool.{Constant}
 use Rattle.jt_semantics.specs.Resolve.{StaticEnv, top_senv, place, bound_all, next_given, followed, resolved_stmt}
 use Rattle.jt_semantics.specs.Resolve.{resolved_body, resolved_sets, resolved_chain, macro_routine, body_routine}
 use Rattle.jt_semantics.specs.Programs.{body_routines, entry_routines, chain_routines}
-use Rattle.jt_rules.specs.Walk.{Enclosing, used, all_used, pairs_broken, filter_call_broken, macro_broken, stmt_broken}
-use Rattle.jt_rules.specs.Walk.{body_broken, branches_broken, templates_broken, chains_broken}
+use Rattle.jt_rules.specs.UseSites.{Enclosing, at, binds, declares, bound, parameter_names, outside, expr_use_sites}
+use Rattle.jt_rules.specs.UseSites.{pair_use_sites, condition_use_sites, filter_call_use_sites, stmt_use_sites}
+use Rattle.jt_rules.specs.UseSites.{body_use_sites, branch_use_sites, chain_use_sites}
 use Rattle.jt_semantics.proofs.CallInvariant.{Included, Tail}
 use Rattle.jt_semantics.proofs.EnvLookup.{same_is, namespace_is, no_both}
 use Rattle.jt_semantics.proofs.StatementCorrect.{Each, each_front, each_back}
 use Rattle.jt_semantics.proofs.ChainOrder.{Every, every_append, Belongs, Owned, OwnedMacro, libraries_stand}
 use Rattle.jt_semantics.proofs.ChainOrder.{templates_belong, all_macro_bodies, all_block_bodies}
-use Rattle.jt_semantics.proofs.ArityOfParts.{none_first, none_second, rs, HasBody, Stands}
+use Rattle.jt_semantics.proofs.KeptUses.{AllKeep, ChainsKeep, front, back}
+use Rattle.jt_semantics.proofs.ArityOfParts.{rs, HasBody, Stands}
 use Rattle.jt_semantics.proofs.ExpressionCorrect.{numbered_are}
 use Rattle.jt_semantics.proofs.WithoutSuper.{body_without}
 use Rattle.jt_semantics.proofs.ChainRules.{lacks_at, not_called, needed_there, bodies_behind}
 use Rattle.jt_semantics.proofs.ArityFromRules.{BTakes, followed_takes, copied_takes, Embodied, HasSource, stmt_takes}
 use Rattle.jt_semantics.proofs.ArityFromRules.{body_serves}
-
--- The context at the top of a template or in a macro, outside loops.
-abbrev at_top : Enclosing
-at_top = record { in_loop = false; in_block = false }
 
 abbrev in_block : Enclosing
 in_block = record { in_loop = false; in_block = true }
@@ -87,19 +85,29 @@ module _ (cenv : CompileEnv) (order : List Namespace) (h : Namespace) where
   -- have bodies. The names that it includes have sources unless they may be missing.
   abbrev Fine : Enclosing → Text → Bool → Body → Type 0
   Fine w t on c =
-      (body_broken cenv h c w ≡ None) × BodyKnown cenv.filters c × Bodied (blocks_in t c on)
+      AllKeep cenv h (body_use_sites c w) × BodyKnown cenv.filters c × Bodied (blocks_in t c on)
       × Sourced (needs_in false c)
 
   abbrev FineMacro : MacroBody → Type 0
-  FineMacro m = Fine at_top m.template cenv.escaping m.body
+  FineMacro m = Fine outside m.template cenv.escaping m.body
 
   macros_fine : (t : Text) (c : Body) (w : Enclosing) → Fine w t cenv.escaping c → Every FineMacro (macros_in t c)
   macros_fine t end w f = tt
   macros_fine t (stmt (macro line x ps body) rest) w f =
-      search (arith, rules, none_second, none_first, each_front, macros_fine t rest w, each_back)
+      let declared = at w (declares x ps) ++ bound (parameter_names ps) w in
+      let here = front cenv h (declared ++ body_use_sites body outside) (body_use_sites rest w) f.0 in
+      search (
+        arith,
+        rules,
+        back cenv h declared (body_use_sites body outside) here,
+        each_front,
+        macros_fine t rest w,
+        back cenv h (declared ++ body_use_sites body outside) (body_use_sites rest w) f.0,
+        each_back,
+      )
   macros_fine t (stmt s rest) w f =
       macros_fine t rest w (
-        none_second (stmt_broken cenv h s w) (body_broken cenv h rest w) f.0,
+        back cenv h (stmt_use_sites s w) (body_use_sites rest w) f.0,
         f.1.1,
         each_back IsBodied (blocks_of t s cenv.escaping) (blocks_in t rest cenv.escaping) f.2,
         each_back IsSourced (needs_by false s) (needs_in false rest) f.3,
@@ -113,7 +121,8 @@ module _ (cenv : CompileEnv) (order : List Namespace) (h : Namespace) where
 
   module _ (t : Text) where
     mutual
-      stmt_fine : (s : Stmt) (on : Bool) (w : Enclosing) → stmt_broken cenv h s w ≡ None → StmtKnown cenv.filters s
+      stmt_fine : (s : Stmt) (on : Bool) (w : Enclosing) → AllKeep cenv h (stmt_use_sites s w) → StmtKnown cenv.filters
+          s
           → Bodied (blocks_of t s on) → Sourced (needs_by false s) → AllFine (blocks_of t s on)
       stmt_fine (block line x scoped required body) on w e k d m =
           ((e, k, d.1, m), body_fine body on in_block e k d.1 m)
@@ -123,37 +132,42 @@ module _ (cenv : CompileEnv) (order : List Namespace) (h : Namespace) where
             rules,
             every_append,
             branches_fine bs on w,
-            none_first,
+            front cenv h (branch_use_sites bs w) (body_use_sites other w) e,
             each_front,
             body_fine other on w,
-            none_second,
+            back cenv h (branch_use_sites bs w) (body_use_sites other w) e,
             each_back,
           )
       stmt_fine (for_each line xs a c body other) on w e k d m =
+          let inside : Enclosing = record w { in_loop = true } in
+          let bodies = body_use_sites body inside ++ body_use_sites other w in
+          let tests = condition_use_sites c w ++ bodies in
+          let rest = back cenv h (condition_use_sites c w) bodies
+          (back cenv h (bound xs w) tests (back cenv h (expr_use_sites a w) (bound xs w ++ tests) e)) in
           search (
             arith,
             rules,
-            none_second,
             every_append,
-            body_fine body on,
-            none_first,
+            body_fine body on inside (front cenv h (body_use_sites body inside) (body_use_sites other w) rest),
             each_front,
-            body_fine other on w,
+            body_fine other on w (back cenv h (body_use_sites body inside) (body_use_sites other w) rest),
             each_back,
           )
       stmt_fine (set_block line x body) on w e k d m =
-          body_fine body on w (none_second (used cenv h x) (body_broken cenv h body w) e) k d m
+          body_fine body on w (back cenv h (at w (binds x)) (body_use_sites body w) e) k d m
       stmt_fine (with_values line ps body) on w e k d m =
-          body_fine body on w (none_second (all_used cenv h (keywords ps)) (body_broken cenv h body w)
-          (none_second (pairs_broken cenv h ps w) _ e)) k.1 d m
+          body_fine body on w (back cenv h (bound (keywords ps) w) (body_use_sites body w)
+          (back cenv h (pair_use_sites ps w) (bound (keywords ps) w ++ body_use_sites body w) e)) k.1 d m
       stmt_fine (filter_block line fs body) on w e k d m =
-          body_fine body on w (none_second (filter_call_broken cenv h fs w) (body_broken cenv h body w) e) k.1 d m
+          body_fine body on w (back cenv h (filter_call_use_sites fs w) (body_use_sites body w) e) k.1 d m
       stmt_fine (autoescape line now body) on w e k d m = body_fine body now w e k d m
       stmt_fine (macro line x ps body) on w e k d m =
-          body_fine body on at_top (none_second (macro_broken cenv h x ps) (body_broken cenv h body at_top) e) k d m
+          body_fine body on outside (back cenv h (at w (declares x ps) ++ bound (parameter_names ps) w)
+          (body_use_sites body outside) e) k d m
       stmt_fine a0 on w e k d m = tt
 
-      body_fine : (c : Body) (on : Bool) (w : Enclosing) → body_broken cenv h c w ≡ None → BodyKnown cenv.filters c
+      body_fine : (c : Body) (on : Bool) (w : Enclosing) → AllKeep cenv h (body_use_sites c w) → BodyKnown cenv.filters
+          c
           → Bodied (blocks_in t c on) → Sourced (needs_in false c) → AllFine (blocks_in t c on)
       body_fine end on w e k d m = tt
       body_fine (stmt s rest) on w e k d m =
@@ -162,46 +176,55 @@ module _ (cenv : CompileEnv) (order : List Namespace) (h : Namespace) where
             rules,
             every_append,
             stmt_fine s on w,
-            none_first,
+            front cenv h (stmt_use_sites s w) (body_use_sites rest w) e,
             each_front,
             body_fine rest on w,
-            none_second,
+            back cenv h (stmt_use_sites s w) (body_use_sites rest w) e,
             each_back,
           )
 
-      branches_fine : (bs : Branches) (on : Bool) (w : Enclosing) → branches_broken cenv h bs w ≡ None
+      branches_fine : (bs : Branches) (on : Bool) (w : Enclosing) → AllKeep cenv h (branch_use_sites bs w)
           → BranchesKnown cenv.filters bs → Bodied (blocks_under t bs on) → Sourced (needs_under false bs)
           → AllFine (blocks_under t bs on)
       branches_fine no_branches on w e k d m = tt
       branches_fine (branch line c body rest) on w e k d m =
+          let here = expr_use_sites c w ++ body_use_sites body w in
+          let first = front cenv h here (branch_use_sites rest w) e in
           search (
             arith,
             rules,
             every_append,
-            body_fine body on w,
-            none_second,
-            none_first,
+            body_fine body on w (back cenv h (expr_use_sites c w) (body_use_sites body w) first),
             each_front,
-            branches_fine rest on w,
+            branches_fine rest on w (back cenv h here (branch_use_sites rest w) e),
             each_back,
           )
 
   abbrev FineTemplate : Template → Type 0
-  FineTemplate t = Fine at_top t.name cenv.escaping t.body
+  FineTemplate t = Fine outside t.name cenv.escaping t.body
 
-  templates_fine : (ts : List Template) → templates_broken cenv h ts ≡ None → TemplatesKnown cenv.filters ts
+  templates_fine : (ts : List Template) → AllKeep cenv h (flat_map (λ t. body_use_sites t.body outside) ts)
+      → TemplatesKnown cenv.filters ts
       → Every (λ t. Bodied (blocks_in t.name t.body cenv.escaping)) ts
       → Sourced (flat_map (λ t. needs_in false t.body) ts) → Every FineTemplate ts
   templates_fine [] e k d m = tt
   templates_fine (t ∷ ts) e k d m =
-      search (arith, rules, none_first, each_front, templates_fine ts, none_second, each_back)
+      let others = flat_map (λ t. body_use_sites t.body outside) ts in
+      search (
+        arith,
+        rules,
+        front cenv h (body_use_sites t.body outside) others e,
+        each_front,
+        templates_fine ts (back cenv h (body_use_sites t.body outside) others e),
+        each_back,
+      )
 
   all_macros_fine : (ts : List Template) → Every FineTemplate ts
       → Every FineMacro (flat_map (λ t. macros_in t.name t.body) ts)
   all_macros_fine [] f = tt
   all_macros_fine (t ∷ ts) f =
       every_append FineMacro (macros_in t.name t.body) (flat_map (λ u. macros_in u.name u.body) ts)
-      (macros_fine t.name t.body at_top f.0) (all_macros_fine ts f.1)
+      (macros_fine t.name t.body outside f.0) (all_macros_fine ts f.1)
 
   all_blocks_fine : (ts : List Template) → Every FineTemplate ts
       → AllFine (flat_map (λ t. blocks_in t.name t.body cenv.escaping) ts)
@@ -209,7 +232,7 @@ module _ (cenv : CompileEnv) (order : List Namespace) (h : Namespace) where
   all_blocks_fine (t ∷ ts) f =
       every_append FineBlock (blocks_in t.name t.body cenv.escaping)
       (flat_map (λ u. blocks_in u.name u.body cenv.escaping) ts)
-      (body_fine t.name t.body cenv.escaping at_top f.0.0 f.0.1 f.0.2 f.0.3) (all_blocks_fine ts f.1)
+      (body_fine t.name t.body cenv.escaping outside f.0.0 f.0.1 f.0.2 f.0.3) (all_blocks_fine ts f.1)
 
 -- ---- Routines
 
@@ -224,13 +247,13 @@ module _ (cenv : CompileEnv) (order : List Namespace) (ordered : InOrder cenv.so
   abbrev InChain : Body → Type 0
   InChain c = Belongs cenv order ordered h known c
 
-  chain_sets : (c : Body) (t : Text) → Fine cenv order h at_top t cenv.escaping c
+  chain_sets : (c : Body) (t : Text) → Fine cenv order h outside t cenv.escaping c
       → Each (Included cenv order h) (needs_in true c)
       → BTakes cenv order false (resolved_sets cenv order c (top_senv cenv order h t))
   chain_sets end t f n = tt
   chain_sets (stmt s rest) t f n =
       which (is_set s) (chain_sets rest t (
-        none_second (stmt_broken cenv h s at_top) (body_broken cenv h rest at_top) f.0,
+        back cenv h (stmt_use_sites s outside) (body_use_sites rest outside) f.0,
         f.1.1,
         each_back (IsBodied cenv order h) (blocks_of t s cenv.escaping) (blocks_in t rest cenv.escaping) f.2,
         each_back (HasSource cenv order) (needs_by false s) (needs_in false rest) f.3,
@@ -244,8 +267,8 @@ module _ (cenv : CompileEnv) (order : List Namespace) (ordered : InOrder cenv.so
       which true r =
           followed_takes cenv order false (resolved_stmt cenv order s (top_senv cenv order h t))
           (resolved_sets cenv order rest (top_senv cenv order h t))
-          (stmt_takes cenv order s (top_senv cenv order h t) at_top stands refl
-          (none_first (stmt_broken cenv h s at_top) (body_broken cenv h rest at_top) f.0) f.1.0 (
+          (stmt_takes cenv order s (top_senv cenv order h t) outside stands refl
+          (front cenv h (stmt_use_sites s outside) (body_use_sites rest outside) f.0) f.1.0 (
             each_front (Included cenv order h) (needs_by true s) (needs_in true rest) n,
             each_front (HasSource cenv order) (needs_by false s) (needs_in false rest) f.3,
           )
@@ -255,7 +278,7 @@ module _ (cenv : CompileEnv) (order : List Namespace) (ordered : InOrder cenv.so
       → BTakes cenv order false (resolved_chain cenv order h ts)
   chain_takes [] f b = tt
   chain_takes (t ∷ []) f b =
-      body_serves cenv order t.body (top_senv cenv order h t.name) at_top stands refl f.0.0 f.0.1 (b.0.included, f.0.3)
+      body_serves cenv order t.body (top_senv cenv order h t.name) outside stands refl f.0.0 f.0.1 (b.0.included, f.0.3)
       f.0.2
   chain_takes (t ∷ u ∷ us) f b =
       followed_takes cenv order false (resolved_sets cenv order t.body (top_senv cenv order h t.name))
@@ -268,7 +291,7 @@ module _ (cenv : CompileEnv) (order : List Namespace) (ordered : InOrder cenv.so
       let sp = bound_all (map (λ p. p.name) m.parameters) (top_senv cenv order h m.template) in (
         copied_takes cenv order false (place sp 1) sp.table sp.free (set_in m.body)
             (resolved_body cenv order m.body (bound_all (set_in m.body) sp))
-            (body_serves cenv order m.body (bound_all (set_in m.body) sp) at_top stands refl f.0.0 f.0.1
+            (body_serves cenv order m.body (bound_all (set_in m.body) sp) outside stands refl f.0.0 f.0.1
             (b.0.body.belongs.included, f.0.3) f.0.2),
         macros_take ms f.1 b.1,
       )
@@ -302,9 +325,9 @@ module _ (cenv : CompileEnv) (order : List Namespace) (ordered : InOrder cenv.so
           (record { tail = tail; next = λ e none. let never : Some i ≡ None = sym g ∙ none in cc }) f.0 f.1
           (b.belongs.included, f.3) f.2
       goes_on None g =
-          body_serves cenv order c.body (bound_all (set_in c.body) sp) at_top stands
+          body_serves cenv order c.body (bound_all (set_in c.body) sp) outside stands
           (record { tail = tail; next = λ e none. no_both e refl })
-          (sym (body_without cenv h c.body in_block (not_called behind (calls_super c.body) lacks g)) ∙ f.0) f.1
+          ((body_without cenv h c.body in_block (not_called behind (calls_super c.body) lacks g)).kept f.0) f.1
           (b.belongs.included, f.3) f.2
 
   blocks_take : (pre bs : List (ℕ × BlockBody)) → numbered_bodies cenv h ≡ pre ++ bs
@@ -336,7 +359,7 @@ module _ (cenv : CompileEnv) (order : List Namespace) (ordered : InOrder cenv.so
   entry_serves (a_library n) r = tt
 
   chain_serves : (entry : Namespace) → Reaches cenv.sources cenv.escaping entry h
-      → KeepsRules cenv.sources cenv.escaping entry → templates_broken cenv h (templates cenv.sources h) ≡ None
+      → KeepsRules cenv.sources cenv.escaping entry → AllKeep cenv h (chain_use_sites cenv.sources h)
       → TemplatesKnown cenv.filters (templates cenv.sources h)
       → Every Serves (chain_routines cenv order h)
   chain_serves entry reached unbroken e k =
@@ -365,16 +388,16 @@ pub routines_serve : (cenv : CompileEnv) (order hs : List Namespace) (entry : Na
     (ordered : InOrder cenv.sources order)
     → ((h : Namespace) → listed h hs ≡ true → listed h order ≡ true)
     → AllByRecursion (Reaches cenv.sources cenv.escaping entry) hs
-    → KeepsRules cenv.sources cenv.escaping entry → chains_broken cenv hs ≡ None → ChainsKnown cenv hs
+    → KeepsRules cenv.sources cenv.escaping entry → ChainsKeep cenv hs → ChainsKnown cenv hs
     → Every (λ r. BodyTakes cenv.filters (rs cenv order) false r.body) (flat_map (chain_routines cenv order) hs)
 routines_serve cenv order [] entry ordered i reached unbroken e k = tt
 routines_serve cenv order (h ∷ hs) entry ordered i reached unbroken e k =
     every_append (λ r. BodyTakes cenv.filters (rs cenv order) false r.body) (chain_routines cenv order h)
     (flat_map (chain_routines cenv order) hs)
     (chain_serves cenv order ordered h (i h (ap (λ b. b || listed h hs) (namespace_is h))) entry reached.0 unbroken
-    (none_first (templates_broken cenv h (templates cenv.sources h)) (chains_broken cenv hs) e) k.0)
+    e.0 k.0)
     (routines_serve cenv order hs entry ordered (λ g j. i g (later g (same_namespace h g) j)) reached.1 unbroken
-    (none_second (templates_broken cenv h (templates cenv.sources h)) (chains_broken cenv hs) e) k.1)
+    e.1 k.1)
   where
     later : (g : Namespace) (b : Bool) → listed g hs ≡ true → (b || listed g hs) ≡ true
     later g true j = refl

@@ -6,7 +6,7 @@ use Rattle.std.specs.Option.{is_none}
 use Rattle.jt_ast.specs.Expressions as written
 use Rattle.jt_ast.specs.Expressions.{Expr, Text}
 use Rattle.jt_value.specs.Place.{Place}
-use Rattle.jt_chains.specs.Uses.{set_in}
+use Rattle.jt_chains.specs.Uses.{keywords, set_in}
 use Rattle.jt_ast.specs.Statements.{FilterCall, Stmt, data_of, print, choose, for_each, set, set_block, with_values}
 use Rattle.jt_ast.specs.Statements.{filter_block, autoescape, macro, include, import_as, import_from, extends, block}
 use Rattle.jt_ast.specs.Statements.{Body, end, stmt, Branches, no_branches, branch}
@@ -23,13 +23,15 @@ use Rattle.jt_ir.specs.Pool.{Constant, known}
 use Rattle.jt_semantics.specs.Resolve.{followed, reads, handed_on, StaticEnv, place, grown, bound_all, copied, scoped}
 use Rattle.jt_semantics.specs.Resolve.{first_body, resolved_condition, resolved_filters, resolved_values, placed_body}
 use Rattle.jt_semantics.specs.Resolve.{resolved_stmt, resolved_body, resolved_choice}
-use Rattle.jt_rules.specs.Walk.{Enclosing, all_used, used, broken, pairs_broken, condition_broken, filter_call_broken}
-use Rattle.jt_rules.specs.Walk.{stmt_broken, body_broken, branches_broken}
+use Rattle.jt_rules.specs.UseSites.{Enclosing, at, binds, bound, expr_use_sites, row_use_sites, pair_use_sites}
+use Rattle.jt_rules.specs.UseSites.{condition_use_sites, filter_call_use_sites, stmt_use_sites, body_use_sites}
+use Rattle.jt_rules.specs.UseSites.{branch_use_sites}
 use Rattle.jt_semantics.proofs.CallInvariant.{Included}
 use Rattle.jt_semantics.proofs.StatementCorrect.{Each, each_front, each_back}
 use Rattle.jt_semantics.proofs.RoutineLookup.{chain_is, body_is}
 use Rattle.jt_semantics.proofs.EnvLookup.{no_both}
-use Rattle.jt_semantics.proofs.ArityOfParts.{Stands, none_first, none_second, rs, ETakes, HasBody, none_numbered}
+use Rattle.jt_semantics.proofs.KeptUses.{AllKeep, front, back}
+use Rattle.jt_semantics.proofs.ArityOfParts.{Stands, rs, ETakes, HasBody, none_numbered}
 use Rattle.jt_semantics.proofs.ArityOfParts.{PartTail, slot_takes, reads_take, reads_count, filtered_takes, some_takes}
 use Rattle.jt_semantics.proofs.ArityOfParts.{row_counts, aside_counts, some_count, expr_takes, row_takes, asides_take}
 
@@ -69,41 +71,45 @@ module _ (cenv : CompileEnv) (order : List Namespace) where
 
   filters_take : (w : Enclosing) (fs : List FilterCall) (sp : StaticEnv) (e : SlotExpr Constant)
       → Stands cenv order sp.namespace → PartTail cenv order w.in_block sp.namespace sp.part
-      → filter_call_broken cenv sp.namespace fs w ≡ None → FilterCallKnown cenv.filters fs
+      → AllKeep cenv sp.namespace (filter_call_use_sites fs w) → FilterCallKnown cenv.filters fs
       → ETakes cenv order w.in_loop e
       → ETakes cenv order w.in_loop (resolved_filters cenv order fs sp e)
   filters_take w [] sp e k t h f r = r
   filters_take w (g ∷ fs) sp e k t h f r =
+      let parts = pair_use_sites g.keywords w ++ filter_call_use_sites fs w in
+      let rest = back cenv sp.namespace (row_use_sites g.arguments w) parts h.1 in
       search (
         arith,
         rules,
-        none_second,
         filters_take w fs sp,
         filtered_takes,
-        none_first,
+        h.0.fitting,
         row_counts,
         aside_counts,
         some_count,
         row_takes,
+        front cenv sp.namespace (row_use_sites g.arguments w) parts h.1,
         asides_take,
+        front cenv sp.namespace (pair_use_sites g.keywords w) (filter_call_use_sites fs w) rest,
+        back cenv sp.namespace (pair_use_sites g.keywords w) (filter_call_use_sites fs w) rest,
         some_takes,
       )
 
   values_take : (w : Enclosing) (ps : written.Pairs) (sp : StaticEnv) (line : ℕ) (behind : SBody Constant)
       → Stands cenv order sp.namespace → PartTail cenv order w.in_block sp.namespace sp.part
-      → pairs_broken cenv sp.namespace ps w ≡ None → Rattle.jt_rules.specs.Known.PairsKnown cenv.filters ps
+      → AllKeep cenv sp.namespace (pair_use_sites ps w) → Rattle.jt_rules.specs.Known.PairsKnown cenv.filters ps
       → BTakes w.in_loop behind
       → BTakes w.in_loop (resolved_values cenv order ps sp line behind)
   values_take w written.no_pairs sp line behind e t h k r = r
   values_take w (written.pair x a ps) sp line behind e t h k r = (
     expr_takes cenv order w a sp e t
-        (none_first (broken cenv sp.namespace a w) (pairs_broken cenv sp.namespace ps w) h) k.0,
+        (front cenv sp.namespace (expr_use_sites a w) (pair_use_sites ps w) h) k.0,
     values_take w ps (grown sp) line behind e t
-        (none_second (broken cenv sp.namespace a w) (pairs_broken cenv sp.namespace ps w) h) k.1 r,
+        (back cenv sp.namespace (expr_use_sites a w) (pair_use_sites ps w) h) k.1 r,
   )
 
   condition_takes : (w : Enclosing) (c : Option Expr) (sp : StaticEnv) → Stands cenv order sp.namespace
-      → PartTail cenv order w.in_block sp.namespace sp.part → condition_broken cenv sp.namespace c w ≡ None
+      → PartTail cenv order w.in_block sp.namespace sp.part → AllKeep cenv sp.namespace (condition_use_sites c w)
       → ConditionKnown cenv.filters c → ConditionTakes cenv.filters (rs cenv order) (resolved_condition cenv order c sp)
   condition_takes w None sp e t h k = tt
   condition_takes w (Some c) sp e t h k = expr_takes cenv order (record w { in_loop = false }) c sp e t h k
@@ -129,7 +135,7 @@ module _ (cenv : CompileEnv) (order : List Namespace) where
 
   mutual
     pub stmt_takes : (s : Stmt) (sp : StaticEnv) (w : Enclosing) → Stands cenv order sp.namespace
-        → PartTail cenv order w.in_block sp.namespace sp.part → stmt_broken cenv sp.namespace s w ≡ None
+        → PartTail cenv order w.in_block sp.namespace sp.part → AllKeep cenv sp.namespace (stmt_use_sites s w)
         → StmtKnown cenv.filters s → Needed sp.namespace (needs_by true s) (needs_by false s)
         → Embodied sp.namespace (blocks_of sp.template s sp.escaping) → BTakes w.in_loop (resolved_stmt cenv order s sp)
     stmt_takes (data_of s) sp w e t h k n d = (tt, tt)
@@ -139,30 +145,33 @@ module _ (cenv : CompileEnv) (order : List Namespace) where
           arith,
           rules,
           choice_takes bs sp w,
-          none_first,
+          front cenv sp.namespace (branch_use_sites bs w) (body_use_sites other w) h,
           needed_front,
           each_front,
           body_serves other sp w e t,
-          none_second,
+          back cenv sp.namespace (branch_use_sites bs w) (body_use_sites other w) h,
           needed_back,
           each_back,
         )
     stmt_takes (for_each line xs a c body other) sp w e t h k n d =
-        let h1 = none_second (broken cenv sp.namespace a w) _ h in
-        let h2 = none_second (all_used cenv sp.namespace xs) _ h1 in
-        let h3 = none_second (condition_broken cenv sp.namespace c w) _ h2 in (
+        let inside : Enclosing = record w { in_loop = true } in
+        let bodies = body_use_sites body inside ++ body_use_sites other w in
+        let tests = condition_use_sites c w ++ bodies in
+        let h1 = back cenv sp.namespace (expr_use_sites a w) (bound xs w ++ tests) h in
+        let h2 = back cenv sp.namespace (bound xs w) tests h1 in
+        let h3 = back cenv sp.namespace (condition_use_sites c w) bodies h2 in (
           (
-            expr_takes cenv order w a sp e t (none_first (broken cenv sp.namespace a w) _ h) k.0,
-            condition_takes w c (bound_all xs sp) e t (none_first (condition_broken cenv sp.namespace c w) _ h2) k.1,
+            expr_takes cenv order w a sp e t (front cenv sp.namespace (expr_use_sites a w) (bound xs w ++ tests) h) k.0,
+            condition_takes w c (bound_all xs sp) e t (front cenv sp.namespace (condition_use_sites c w) bodies h2) k.1,
             copied_takes true (place sp 1) (bound_all xs sp).table (bound_all xs sp).free (set_in body)
                 (resolved_body cenv order body (bound_all (set_in body) (bound_all xs sp)))
-                (body_serves body (bound_all (set_in body) (bound_all xs sp)) (record w { in_loop = true }) e t
-                (none_first (body_broken cenv sp.namespace body (record w { in_loop = true })) _ h3) k.2
+                (body_serves body (bound_all (set_in body) (bound_all xs sp)) inside e t
+                (front cenv sp.namespace (body_use_sites body inside) (body_use_sites other w) h3) k.2
                 (needed_front sp.namespace (needs_in true body) (needs_in true other) (needs_in false body)
                 (needs_in false other) n) (each_front (λ b. HasBody cenv order sp.namespace b.name)
                 (blocks_in sp.template body sp.escaping) (blocks_in sp.template other sp.escaping) d)),
             body_serves other sp w e t
-                (none_second (body_broken cenv sp.namespace body (record w { in_loop = true })) _ h3) k.3
+                (back cenv sp.namespace (body_use_sites body inside) (body_use_sites other w) h3) k.3
                 (needed_back sp.namespace (needs_in true body) (needs_in true other) (needs_in false body)
                 (needs_in false other) n) (each_back (λ b. HasBody cenv order sp.namespace b.name)
                 (blocks_in sp.template body sp.escaping) (blocks_in sp.template other sp.escaping) d),
@@ -170,24 +179,34 @@ module _ (cenv : CompileEnv) (order : List Namespace) where
           tt,
         )
     stmt_takes (set line xs a) sp w e t h k n d =
-        (expr_takes cenv order w a sp e t (none_first (broken cenv sp.namespace a w) _ h) k, tt)
+        (expr_takes cenv order w a sp e t (front cenv sp.namespace (expr_use_sites a w) (bound xs w) h) k, tt)
     stmt_takes (set_block line x body) sp w e t h k n d = (
       copied_takes w.in_loop (place sp 1) sp.table sp.free (set_in body)
           (resolved_body cenv order body (bound_all (set_in body) sp))
-          (body_serves body (bound_all (set_in body) sp) w e t (none_second (used cenv sp.namespace x) _ h) k n d),
+          (body_serves body (bound_all (set_in body) sp) w e t
+          (back cenv sp.namespace (at w (binds x)) (body_use_sites body w) h) k n d),
       tt,
     )
     stmt_takes (with_values line ps body) sp w e t h k n d =
-        search (arith, rules, none_second, values_take, none_first, copied_takes, body_serves body)
+        let rest = back cenv sp.namespace (pair_use_sites ps w) (bound (keywords ps) w ++ body_use_sites body w) h in
+        search (
+          arith,
+          rules,
+          values_take,
+          front cenv sp.namespace (pair_use_sites ps w) (bound (keywords ps) w ++ body_use_sites body w) h,
+          copied_takes,
+          body_serves body,
+          back cenv sp.namespace (bound (keywords ps) w) (body_use_sites body w) rest,
+        )
     stmt_takes (filter_block line fs body) sp w e t h k n d =
         search (
           arith,
           rules,
           copied_takes,
           body_serves body (bound_all (set_in body) (grown sp)) w e t,
-          none_second,
+          back cenv sp.namespace (filter_call_use_sites fs w) (body_use_sites body w) h,
           filters_take,
-          none_first,
+          front cenv sp.namespace (filter_call_use_sites fs w) (body_use_sites body w) h,
         )
     stmt_takes (autoescape line on body) sp w e t h k n d = search (arith, rules, copied_takes, body_serves body)
     stmt_takes (macro line x ps body) sp w e t h k n d = tt
@@ -201,7 +220,7 @@ module _ (cenv : CompileEnv) (order : List Namespace) where
         (numbered_of cenv sp.namespace x) e d.0 refl
 
     pub body_serves : (c : Body) (sp : StaticEnv) (w : Enclosing) → Stands cenv order sp.namespace
-        → PartTail cenv order w.in_block sp.namespace sp.part → body_broken cenv sp.namespace c w ≡ None
+        → PartTail cenv order w.in_block sp.namespace sp.part → AllKeep cenv sp.namespace (body_use_sites c w)
         → BodyKnown cenv.filters c → Needed sp.namespace (needs_in true c) (needs_in false c)
         → Embodied sp.namespace (blocks_in sp.template c sp.escaping) → BTakes w.in_loop (resolved_body cenv order c sp)
     body_serves end sp w e t h k n d = tt
@@ -211,33 +230,36 @@ module _ (cenv : CompileEnv) (order : List Namespace) where
           rules,
           followed_takes,
           stmt_takes s sp w e t,
-          none_first,
+          front cenv sp.namespace (stmt_use_sites s w) (body_use_sites rest w) h,
           needed_front,
           each_front,
           body_serves rest sp w e t,
-          none_second,
+          back cenv sp.namespace (stmt_use_sites s w) (body_use_sites rest w) h,
           needed_back,
           each_back,
         )
 
     pub choice_takes : (bs : Branches) (sp : StaticEnv) (w : Enclosing) (other : SBody Constant)
         → Stands cenv order sp.namespace → PartTail cenv order w.in_block sp.namespace sp.part
-        → branches_broken cenv sp.namespace bs w ≡ None → BranchesKnown cenv.filters bs
+        → AllKeep cenv sp.namespace (branch_use_sites bs w) → BranchesKnown cenv.filters bs
         → Needed sp.namespace (needs_under true bs) (needs_under false bs)
         → Embodied sp.namespace (blocks_under sp.template bs sp.escaping)
         → BTakes w.in_loop other → BTakes w.in_loop (resolved_choice cenv order bs sp other)
     choice_takes no_branches sp w other e t h k n d r = r
     choice_takes (branch line c body rest) sp w other e t h k n d r =
+        let here = expr_use_sites c w ++ body_use_sites body w in
+        let first = front cenv sp.namespace here (branch_use_sites rest w) h in
         search (
           arith,
           rules,
-          none_first,
           expr_takes,
+          front cenv sp.namespace (expr_use_sites c w) (body_use_sites body w) first,
           body_serves body sp w e t,
-          none_second,
+          back cenv sp.namespace (expr_use_sites c w) (body_use_sites body w) first,
           needed_front,
           each_front,
           choice_takes rest sp w other e t,
+          back cenv sp.namespace here (branch_use_sites rest w) h,
           needed_back,
           each_back,
         )

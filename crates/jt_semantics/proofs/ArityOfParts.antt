@@ -3,9 +3,10 @@
 use Rattle.std.proofs.Common.{◌≡◌, ℕ, zero, suc, ◌+◌, ◌≤◌, ◌==◌, Bool, true, false, ◌&&◌, if◌then◌else◌, List, [], ◌∷◌}
 use Rattle.std.proofs.Common.{◌++◌, length, map, Option, Some, None, refl, sym, ap, ◌∙◌, subst, arith, append_assoc}
 use Rattle.std.proofs.Common.{rules}
-use Rattle.std.specs.Prelude.{not, ◌||◌, nat_lt, max}
-use Rattle.std.specs.Option.{option_or, is_some}
+use Rattle.std.specs.Prelude.{◌⊎◌, not, ◌||◌, nat_lt, max}
+use Rattle.std.specs.Option.{is_some}
 use Rattle.std.proofs.lemmas.Bool.Decides.{nat_tests}
+use mathlib.Core.Logic.{inl, inr}
 use Rattle.jt_ids.specs.declared.op_id.OpId.TheVariants as op
 use Rattle.jt_ids.specs.declared.test_id.TestId.{TestId}
 use Rattle.jt_ids.specs.OpTable.{op_operands}
@@ -18,14 +19,15 @@ use Rattle.jt_ast.specs.Expressions.{Exprs, no_exprs, expr, no_pairs, pair, Text
 use Rattle.jt_semantics.specs.Operators.{unary_operation, OperatorForm, operation, negation, conjunction, disjunction}
 use Rattle.jt_semantics.specs.Operators.{form, range_of}
 use Rattle.jt_chains.specs.Uses.{count, keywords}
-use Rattle.jt_rules.specs.Walk.{unless, test_broken, Enclosing, refused, fits, reached, filter_broken, call_broken}
-use Rattle.jt_rules.specs.Walk.{broken, row_broken, pairs_broken}
+use Rattle.jt_rules.specs.Arguments.{callee_takes, test_takes, filter_takes, names_rightly, fits, reached}
+use Rattle.jt_rules.specs.Rules.{MisusesLoop, CannotBeCalled}
+use Rattle.jt_rules.specs.UseSites.{Enclosing, UseSite, at, reads_loop_field, calls, is_called_by_name}
+use Rattle.jt_rules.specs.UseSites.{expr_use_sites, row_use_sites, pair_use_sites}
 use Rattle.jt_ir.specs.Takes.{InPairs, HasParameters, ExprTakes, RowTakes}
-use Rattle.jt_rules.specs.declared.error.ScopeError.{ScopeError}
-use Rattle.jt_rules.specs.declared.error.ScopeError.TheVariants as error
 use Rattle.jt_ast.specs.Statements.{Parameter}
 use Rattle.jt_chains.specs.Chain.{Namespace, listed, BlockBody, bodies, from_given, MacroBody, Callee, a_macro, a_range}
-use Rattle.jt_chains.specs.Chain.{a_super, a_block, a_cycle, no_callee, is_loop}
+use Rattle.jt_chains.specs.Chain.{a_super, a_block, a_cycle, no_callee, is_loop, Definition, given, callee, named_alone}
+use Rattle.jt_chains.specs.Chain.{of_library, in_library}
 use Rattle.jt_ids.specs.declared.loop_field.LoopField.{LoopField}
 use Rattle.jt_ids.specs.LoopTable.{field_named}
 use Rattle.jt_eval.specs.Filters.{some_given}
@@ -46,25 +48,11 @@ use Rattle.jt_semantics.proofs.CallInvariant.{Tail}
 use Rattle.jt_semantics.proofs.DefinedNames.{LeadsTo, Found, called_macro}
 use Rattle.jt_semantics.proofs.ExpressionCorrect.{GivenBy, given_by, numbered_are}
 use Rattle.jt_semantics.proofs.EnvLookup.{no_both}
+use Rattle.jt_semantics.proofs.KeptUses.{AllKeep, front, back, holds_if}
 use Rattle.jt_semantics.proofs.RoutineLookup.{macro_is, body_is}
 
--- ---- If the whole breaks no rule, no part of it does
-
-pub none_first : (r s : Option ScopeError) → option_or r s ≡ None → r ≡ None
-none_first None s h = refl
-none_first (Some e) s h = absurd (cc)
-
-pub none_second : (r s : Option ScopeError) → option_or r s ≡ None → s ≡ None
-none_second None s h = h
-none_second (Some e) s h = absurd (cc)
-
-right_arguments : (b : Bool) → unless b ≡ None → b ≡ true
-right_arguments true h = refl
-right_arguments false h = absurd (cc)
-
-not_refused : (b : Bool) (e : ScopeError) → refused b e ≡ None → b ≡ false
-not_refused true e h = absurd (cc)
-not_refused false e h = refl
+first_holds : (a b : Bool) → ((a ≡ false) ⊎ (b ≡ false) → ⊥) → a ≡ true
+first_holds a b n = holds_if a (λ e. n (inl e))
 
 both_first : (a b : Bool) → a && b ≡ true → a ≡ true
 both_first true b h = refl
@@ -176,14 +164,16 @@ module _ (cenv : CompileEnv) (order : List Namespace) where
   turned_takes l true e h = (refl, (h, tt))
 
   tested_takes : (l : Bool) (t : Option TestId) (ts : Exprs) (ps : written.Pairs) (es : SRow Constant) → IsThere t
-      → test_broken t ts ps ≡ None → row_count es ≡ suc (count ts) → RTakes l es → ETakes l (tested_by t es)
-  tested_takes l a1 ts ps es k h c r = search (arith, rules, right_arguments, same_number, both_first)
+      → (test_takes t ts ps ≡ false → ⊥) → row_count es ≡ suc (count ts) → RTakes l es → ETakes l (tested_by t es)
+  tested_takes l a1 ts ps es k h c r = search (arith, rules, holds_if, same_number, both_first)
 
   pub filtered_takes : (l : Bool) (f : Option ℕ) (on : Bool) (ts : Exprs) (ps : written.Pairs) (es : SRow Constant)
-      → IsThere f → filter_broken cenv.filters f ts ps ≡ None
+      → IsThere f
+      → ((filter_takes cenv.filters f (count ts) (keywords ps) ≡ false)
+      ⊎ (names_rightly cenv.filters f ts ps ≡ false) → ⊥)
       → row_count es ≡ suc (max (count ts) (reached (filter_parameters cenv.filters f) (keywords ps))) → RTakes l es
       → ETakes l (filtered_by f on es)
-  filtered_takes l a1 on ts ps es k h c r = search (arith, rules, both_first, right_arguments)
+  filtered_takes l a1 on ts ps es k h c r = search (arith, rules, both_first, first_holds)
 
   -- Holds if a namespace is in the order, together with the namespaces that its macros come from.
   abbrev pub Stands : Namespace → Type 0
@@ -217,12 +207,6 @@ module _ (cenv : CompileEnv) (order : List Namespace) where
   abbrev pub HasBody : Namespace → Text → Type 0
   HasBody h x = bodies cenv.sources cenv.escaping h x ≡ [] → ⊥
 
-  some_body : (h : Namespace) (x : Text)
-      → refused (nat_lt (length (bodies cenv.sources cenv.escaping h x)) 1) error.NotCallable ≡ None → HasBody h x
-  some_body h x k q =
-      no_both (ap (λ bs. nat_lt (length bs) 1) q)
-      (not_refused (nat_lt (length (bodies cenv.sources cenv.escaping h x)) 1) error.NotCallable k)
-
   pub none_numbered : (h : Namespace) (x : Text) → HasBody h x → numbered_of cenv h x ≡ [] → ⊥
   none_numbered h x there e = there (numbered_are cenv h x ∙ ap (map (λ (c : ℕ × BlockBody). c.1)) e)
 
@@ -237,20 +221,37 @@ module _ (cenv : CompileEnv) (order : List Namespace) where
   PartTail goes_on h None = goes_on ≡ false
   PartTail goes_on h (Some p) = InPart goes_on h p
 
-  not_false : (b : Bool) → not b ≡ false → b ≡ true
-  not_false true h = refl
-  not_false false h = absurd (cc)
+  is_there : (f : Option LoopField) → (f ≡ None → ⊥) → is_some f ≡ true
+  is_there None n = absurd (n refl)
+  is_there (Some f) n = refl
 
   fields_take : (l : Bool) (f : Option LoopField) → is_some f ≡ true → l ≡ true → ETakes l (field_from f)
   fields_take l None there h = absurd (cc)
   fields_take l (Some f) there h = h
 
-  attribute_takes : (w : Enclosing) (b : Bool) (k : Text) (r : Option ScopeError) (e : SlotExpr Constant)
-      → (if b then refused (not (w.in_loop && is_some (field_named k))) error.LoopOutside else r) ≡ None
-      → (r ≡ None → ETakes w.in_loop e)
+  attribute_takes : (h : Namespace) (w : Enclosing) (b : Bool) (k : Text) (ss : List UseSite) (e : SlotExpr Constant)
+      → AllKeep cenv h (if b then at w (reads_loop_field k) else ss) → (AllKeep cenv h ss → ETakes w.in_loop e)
       → ETakes w.in_loop
       (if b then field_from (field_named k) else operation_of op.Item e (slots.pooled (own (tree.text k))))
-  attribute_takes w a1 k r e h f = search (arith, rules, not_false, not_refused, fields_take, both_second, both_first)
+  attribute_takes h w true k ss e r f =
+      fields_take w.in_loop (field_named k) (is_there (field_named k) (λ q. r.0.in_loops (inr q)))
+      (holds_if w.in_loop (λ q. r.0.in_loops (inl q)))
+  attribute_takes h w false k ss e r f = (refl, (f r, (tt, tt)))
+
+  alone_no_cycle : (o : Option Definition) (x : Text) → named_alone cenv.sources o x ≡ a_cycle → ⊥
+  alone_no_cycle a0 x e = search (arith, rules)
+
+  offered_no_cycle : (n : Text) (o : Option MacroBody) → of_library cenv.sources n o ≡ a_cycle → ⊥
+  offered_no_cycle n None e = absurd (cc)
+  offered_no_cycle n (Some m) e = absurd (cc)
+
+  library_no_cycle : (o : Option Definition) (x : Text) → in_library cenv.sources o x ≡ a_cycle → ⊥
+  library_no_cycle a0 x e = search (arith, rules, offered_no_cycle)
+
+  -- A call of `loop.cycle` that does not misuse `loop` is in a loop.
+  cycle_inside : (h : Namespace) (f : Expr) (w : Enclosing) → (MisusesLoop f w → ⊥)
+      → callee cenv.sources (given cenv.sources h) f ≡ a_cycle → w.in_loop ≡ true
+  cycle_inside h f w n e = search (arith, rules, holds_if, alone_no_cycle, library_no_cycle)
 
   pub row_counts : (ts : Exprs) (sp : StaticEnv) (behind : SRow Constant)
       → row_count (resolved_row cenv order ts sp behind) ≡ count ts + row_count behind
@@ -266,22 +267,23 @@ module _ (cenv : CompileEnv) (order : List Namespace) where
   entries_pair no_pairs sp = tt
   entries_pair (pair k a ps) sp = entries_pair ps sp
 
-  call_takes : (c : Callee) (sp : StaticEnv) (w : Enclosing) (f : Expr) (ts : Exprs) (ps : written.Pairs)
+  call_takes : (c : Callee) (sp : StaticEnv) (w : Enclosing) (ts : Exprs) (ps : written.Pairs)
       → Stands sp.namespace → PartTail w.in_block sp.namespace sp.part
       → ((k : Namespace) (b : MacroBody) → c ≡ a_macro k b → Found cenv.sources sp.namespace k b)
-      → call_broken cenv sp.namespace c w f ts ps ≡ None
+      → (CannotBeCalled cenv sp.namespace c w → ⊥) → (callee_takes c ts ps ≡ false → ⊥)
+      → (c ≡ a_cycle → w.in_loop ≡ true)
       → ((behind : SRow Constant) → RTakes w.in_loop behind → RTakes w.in_loop (resolved_row cenv order ts sp behind))
       → ((behind : SRow Constant) → RTakes w.in_loop behind
       → RTakes w.in_loop (resolved_asides cenv order ps sp behind))
       → ETakes w.in_loop (invoked cenv order c sp (resolved_row cenv order ts sp) (resolved_asides cenv order ps sp)
       (count ts) (locals_from sp.free (keywords ps)))
-  call_takes (a_macro k b) sp w f ts ps e t named h rows asides =
+  call_takes (a_macro k b) sp w ts ps e t named can fit inside rows asides =
       let x = named k b refl in
       let d = default_index cenv order k b.name in
       let table = locals_from sp.free (keywords ps) in
       let few = at_most (length b.parameters) (count ts)
       (both_first (not (nat_lt (length b.parameters) (count ts))) _
-      (right_arguments (fits b.parameters (count ts) (keywords ps)) h)) in
+      (holds_if (fits b.parameters (count ts) (keywords ps)) fit)) in
       let n1 = row_counts ts sp (resolved_asides cenv order ps sp (filled b.parameters (count ts) d table)) in
       let n2 = aside_counts ps sp (filled b.parameters (count ts) d table) in
       let n3 = filled_count b.parameters (count ts) d table few in
@@ -300,29 +302,25 @@ module _ (cenv : CompileEnv) (order : List Namespace) where
       names_count : (qs : List Parameter) → length (map (λ p. p.name) qs) ≡ length qs
       names_count [] = refl
       names_count (q ∷ qs) = ap suc (names_count qs)
-  call_takes a_range sp w f ts ps e t named h rows asides =
-      search (arith, rules, right_arguments, both_second, row_counts, range_takes, both_first)
-  call_takes a_super sp w f ts ps e t named h rows asides = super_takes sp.part t
+  call_takes a_range sp w ts ps e t named can fit inside rows asides =
+      search (arith, rules, holds_if, both_second, row_counts, range_takes, both_first)
+  call_takes a_super sp w ts ps e t named can fit inside rows asides = super_takes sp.part t
     where
-      inside : w.in_block ≡ true
-      inside =
-          not_false w.in_block
-          (not_refused (not w.in_block) error.NotCallable (none_first (refused (not w.in_block) error.NotCallable) _ h))
+      in_block : w.in_block ≡ true
+      in_block = holds_if w.in_block can
 
       super_takes : (p : Option Part) → PartTail w.in_block sp.namespace p
           → ETakes w.in_loop (invoked_super cenv order sp p)
-      super_takes None t = absurd (no_both inside t)
+      super_takes None t = absurd (no_both in_block t)
       super_takes (Some p) t =
           next_takes w.in_loop sp.namespace sp.escaping p.name p.behind (from_given (map (λ d. d.1) p.behind))
-          (next_given p.behind) (first_locals 0 (block_parameters cenv order sp.namespace p.name)) (t.next inside) e
+          (next_given p.behind) (first_locals 0 (block_parameters cenv order sp.namespace p.name)) (t.next in_block) e
           t.tail (given_by p.behind)
           (locals_count 0 (block_parameters cenv order sp.namespace p.name))
           (locals_take w.in_loop 0 (block_parameters cenv order sp.namespace p.name))
-  call_takes (a_block x) sp w f ts ps e t named h rows asides =
+  call_takes (a_block x) sp w ts ps e t named can fit inside rows asides =
       block_takes (numbered_of cenv sp.namespace x) refl
-      (none_numbered sp.namespace x (some_body sp.namespace x
-      (none_first (refused (nat_lt (length (bodies cenv.sources cenv.escaping sp.namespace x)) 1) error.NotCallable) _
-      h)))
+      (none_numbered sp.namespace x can)
     where
       block_takes : (bs : List (ℕ × BlockBody)) → numbered_of cenv sp.namespace x ≡ bs
           → (numbered_of cenv sp.namespace x ≡ [] → ⊥)
@@ -335,107 +333,128 @@ module _ (cenv : CompileEnv) (order : List Namespace) where
           ([], bs, refl, refl)
           (reads_count (globals cenv order sp.namespace) (block_parameters cenv order sp.namespace x))
           (reads_take w.in_loop (globals cenv order sp.namespace) (block_parameters cenv order sp.namespace x))
-  call_takes a_cycle sp w f ts ps e t named h rows asides =
-      let inside = not_false w.in_loop
-      (not_refused (not w.in_loop) error.LoopOutside (none_first (refused (not w.in_loop) error.LoopOutside) _ h)) in
-      (refl, ((tt, rows none tt), ((refl, (inside, (tt, tt))), tt)))
-  call_takes no_callee sp w f ts ps e t named h rows asides = absurd (cc)
+  call_takes a_cycle sp w ts ps e t named can fit inside rows asides =
+      (refl, ((tt, rows none tt), ((refl, (inside refl, (tt, tt))), tt)))
+  call_takes no_callee sp w ts ps e t named can fit inside rows asides = absurd (can tt)
 
   module _ (w : Enclosing) where
     mutual
       pub expr_takes : (e : Expr) (sp : StaticEnv) → Stands sp.namespace → PartTail w.in_block sp.namespace sp.part
-          → broken cenv sp.namespace e w ≡ None → ExprKnown cenv.filters e → ETakes w.in_loop (resolved cenv order e sp)
+          → AllKeep cenv sp.namespace (expr_use_sites e w) → ExprKnown cenv.filters e → ETakes w.in_loop
+          (resolved cenv order e sp)
       expr_takes (constant c) sp e t h k = tt
       expr_takes (name x) sp e t h k = slot_takes w.in_loop (slot_in x sp.table) (known 0)
       expr_takes (group a) sp e t h k = expr_takes a sp e t h k
       expr_takes (list_of ts) sp e t h k = (tt, row_takes ts sp e t h k none tt)
       expr_takes (written.map_of ps) sp e t h k = (entries_pair ps sp, entries_take ps sp e t h k)
       expr_takes (attribute a x) sp e t h k =
-          attribute_takes w (is_loop a) x (broken cenv sp.namespace a w) (resolved cenv order a sp) h
+          attribute_takes sp.namespace w (is_loop a) x (expr_use_sites a w) (resolved cenv order a sp) h
           (λ g. expr_takes a sp e t g k)
       expr_takes (item a b) sp e t h k = (
         refl,
         (
-          expr_takes a sp e t (none_first (broken cenv sp.namespace a w) (broken cenv sp.namespace b w) h) k.0,
+          expr_takes a sp e t (front cenv sp.namespace (expr_use_sites a w) (expr_use_sites b w) h) k.0,
           (
-            expr_takes b sp e t (none_second (broken cenv sp.namespace a w) (broken cenv sp.namespace b w) h) k.1,
+            expr_takes b sp e t (back cenv sp.namespace (expr_use_sites a w) (expr_use_sites b w) h) k.1,
             tt,
           ),
         ),
       )
       expr_takes (written.call f ts ps) sp e t h k =
-          search
-          (arith, rules, none_second, call_takes, called_macro, none_first, row_takes ts sp e t, asides_take ps sp e t)
+          let first = (if is_called_by_name f then [] else expr_use_sites f w) in
+          let parts = row_use_sites ts w ++ pair_use_sites ps w in
+          let called = front cenv sp.namespace (first ++ at w (calls f ts ps)) parts h in
+          let kept = (back cenv sp.namespace first (at w (calls f ts ps)) called).0 in
+          let rest = back cenv sp.namespace (first ++ at w (calls f ts ps)) parts h in
+          call_takes (callee cenv.sources (given cenv.sources sp.namespace) f) sp w ts ps e t
+          (called_macro cenv.sources sp.namespace f) kept.callable kept.fitting
+          (cycle_inside sp.namespace f w kept.in_loops)
+          (row_takes ts sp e t (front cenv sp.namespace (row_use_sites ts w) (pair_use_sites ps w) rest) k.0)
+          (asides_take ps sp e t (back cenv sp.namespace (row_use_sites ts w) (pair_use_sites ps w) rest) k.1)
       expr_takes (written.filter a x ts ps) sp e t h k =
+          let parts = row_use_sites ts w ++ pair_use_sites ps w in
+          let rest = back cenv sp.namespace (expr_use_sites a w) parts h.1 in
           search (
             arith,
             rules,
-            none_second,
             filtered_takes,
-            none_first,
+            h.0.fitting,
             row_counts,
             aside_counts,
             some_count,
-            expr_takes a sp e t,
-            row_takes ts sp e t,
-            asides_take ps sp e t,
+            expr_takes a sp e t (front cenv sp.namespace (expr_use_sites a w) parts h.1) k.1,
+            row_takes ts sp e t (front cenv sp.namespace (row_use_sites ts w) (pair_use_sites ps w) rest) k.2,
+            asides_take ps sp e t (back cenv sp.namespace (row_use_sites ts w) (pair_use_sites ps w) rest) k.3,
             some_takes,
           )
       expr_takes (written.test a n x ts ps) sp e t h k =
+          let parts = row_use_sites ts w ++ pair_use_sites ps w in
+          let rest = back cenv sp.namespace (expr_use_sites a w) parts h.1 in
           search (
             arith,
             rules,
-            none_second,
             row_counts,
             turned_takes,
             tested_takes,
-            none_first,
-            expr_takes a sp e t,
-            row_takes ts sp e t,
+            h.0.fitting,
+            expr_takes a sp e t (front cenv sp.namespace (expr_use_sites a w) parts h.1) k.1,
+            row_takes ts sp e t (front cenv sp.namespace (row_use_sites ts w) (pair_use_sites ps w) rest) k.2,
           )
       expr_takes (unary p a) sp e t h k = (unary_one p, (expr_takes a sp e t h k, tt))
       expr_takes (binary p a b) sp e t h k =
-          search (arith, rules, form_takes, form_two, expr_takes a sp e t, none_first, expr_takes b sp e t, none_second)
+          search (
+            arith,
+            rules,
+            form_takes,
+            form_two,
+            expr_takes a sp e t (front cenv sp.namespace (expr_use_sites a w) (expr_use_sites b w) h) k.0,
+            expr_takes b sp e t (back cenv sp.namespace (expr_use_sites a w) (expr_use_sites b w) h) k.1,
+          )
       expr_takes (when c a) sp e t h k = (
-        expr_takes c sp e t (none_first (broken cenv sp.namespace c w) (broken cenv sp.namespace a w) h) k.0,
-        expr_takes a sp e t (none_second (broken cenv sp.namespace c w) (broken cenv sp.namespace a w) h) k.1,
+        expr_takes c sp e t (front cenv sp.namespace (expr_use_sites c w) (expr_use_sites a w) h) k.0,
+        expr_takes a sp e t (back cenv sp.namespace (expr_use_sites c w) (expr_use_sites a w) h) k.1,
         tt,
       )
       expr_takes (choice c a b) sp e t h k =
-          search (arith, rules, none_second, expr_takes c sp e t, none_first, expr_takes a sp e t, expr_takes b sp e t)
+          let parts = expr_use_sites a w ++ expr_use_sites b w in
+          let rest = back cenv sp.namespace (expr_use_sites c w) parts h in (
+            expr_takes c sp e t (front cenv sp.namespace (expr_use_sites c w) parts h) k.0,
+            expr_takes a sp e t (front cenv sp.namespace (expr_use_sites a w) (expr_use_sites b w) rest) k.1,
+            expr_takes b sp e t (back cenv sp.namespace (expr_use_sites a w) (expr_use_sites b w) rest) k.2,
+          )
 
       pub row_takes : (ts : Exprs) (sp : StaticEnv) → Stands sp.namespace → PartTail w.in_block sp.namespace sp.part
-          → row_broken cenv sp.namespace ts w ≡ None → RowKnown cenv.filters ts → (behind : SRow Constant)
+          → AllKeep cenv sp.namespace (row_use_sites ts w) → RowKnown cenv.filters ts → (behind : SRow Constant)
           → RTakes w.in_loop behind → RTakes w.in_loop (resolved_row cenv order ts sp behind)
       row_takes no_exprs sp e t h k behind r = r
       row_takes (expr a ts) sp e t h k behind r = (
-        expr_takes a sp e t (none_first (broken cenv sp.namespace a w) (row_broken cenv sp.namespace ts w) h) k.0,
-        row_takes ts sp e t (none_second (broken cenv sp.namespace a w) (row_broken cenv sp.namespace ts w) h) k.1
+        expr_takes a sp e t (front cenv sp.namespace (expr_use_sites a w) (row_use_sites ts w) h) k.0,
+        row_takes ts sp e t (back cenv sp.namespace (expr_use_sites a w) (row_use_sites ts w) h) k.1
             behind r,
       )
 
       pub asides_take : (ps : written.Pairs) (sp : StaticEnv) → Stands sp.namespace
-          → PartTail w.in_block sp.namespace sp.part → pairs_broken cenv sp.namespace ps w ≡ None
+          → PartTail w.in_block sp.namespace sp.part → AllKeep cenv sp.namespace (pair_use_sites ps w)
           → PairsKnown cenv.filters ps → (behind : SRow Constant) → RTakes w.in_loop behind
           → RTakes w.in_loop (resolved_asides cenv order ps sp behind)
       asides_take no_pairs sp e t h k behind r = r
       asides_take (pair x a ps) sp e t h k behind r = (
-        expr_takes a sp e t (none_first (broken cenv sp.namespace a w) (pairs_broken cenv sp.namespace ps w) h)
+        expr_takes a sp e t (front cenv sp.namespace (expr_use_sites a w) (pair_use_sites ps w) h)
             k.0,
         asides_take ps (grown sp) e t
-            (none_second (broken cenv sp.namespace a w) (pairs_broken cenv sp.namespace ps w) h) k.1 behind r,
+            (back cenv sp.namespace (expr_use_sites a w) (pair_use_sites ps w) h) k.1 behind r,
       )
 
       pub entries_take : (ps : written.Pairs) (sp : StaticEnv) → Stands sp.namespace
-          → PartTail w.in_block sp.namespace sp.part → pairs_broken cenv sp.namespace ps w ≡ None
+          → PartTail w.in_block sp.namespace sp.part → AllKeep cenv sp.namespace (pair_use_sites ps w)
           → PairsKnown cenv.filters ps → RTakes w.in_loop (resolved_entries cenv order ps sp)
       entries_take no_pairs sp e t h k = tt
       entries_take (pair x a ps) sp e t h k = (
         tt,
         (
-          expr_takes a sp e t (none_first (broken cenv sp.namespace a w) (pairs_broken cenv sp.namespace ps w) h)
+          expr_takes a sp e t (front cenv sp.namespace (expr_use_sites a w) (pair_use_sites ps w) h)
               k.0,
           entries_take ps sp e t
-              (none_second (broken cenv sp.namespace a w) (pairs_broken cenv sp.namespace ps w) h) k.1,
+              (back cenv sp.namespace (expr_use_sites a w) (pair_use_sites ps w) h) k.1,
         ),
       )

@@ -15,6 +15,7 @@ pub mod ResolutionCorrect
 pub mod PoolCorrect
 pub mod ProgramCorrect
 pub mod MeaningIsMonotone
+pub mod KeptUses
 pub mod ArityOfParts
 pub mod ArityFromRules
 pub mod ArityCorrect

@@ -3,7 +3,6 @@ use Rattle.std.proofs.Common.{◌≡◌, ℕ, zero, suc, ◌≤◌, ◌<◌, Boo
 use Rattle.std.proofs.Common.{length, map, Option, Some, None, refl, sym, ap, ◌∙◌, subst, arith, inl, inr, rules}
 use Rattle.std.specs.Prelude.{not, ◌||◌, flat_map, Contains, slice_index_or}
 use Rattle.std.specs.List.{AllByRecursion}
-use Rattle.std.specs.Option.{option_or}
 use Rattle.std.specs.declared.cmp.Ordering.{Ordering}
 use Rattle.std.specs.declared.cmp.Ordering.TheVariants.{Less}
 use Rattle.std.specs.Ordering.{nat_cmp, is_lt}
@@ -26,15 +25,14 @@ use Rattle.jt_eval.specs.TheFilters.{the_filters, filter_of, parameters_of, with
 use Rattle.jt_ids.specs.declared.filter_id.FilterId.{FilterId}
 use Rattle.jt_ids.specs.FilterTable.{argument_names}
 use Rattle.jt_rules.specs.CompileEnv.{CompileEnv, cenv_of}
-use Rattle.jt_rules.specs.Walk.{Enclosing, parameter_names, body_broken, stmt_broken, macro_broken, unless}
-use Rattle.jt_rules.specs.Walk.{templates_broken, chains_broken}
-use Rattle.jt_rules.specs.declared.error.ScopeError.{ScopeError}
+use Rattle.jt_rules.specs.UseSites.{at, declares, bound, parameter_names, outside, stmt_use_sites, body_use_sites}
 use Rattle.jt_semantics.specs.Ascends.{IsBefore, Above, Ascends}
 use Rattle.jt_semantics.specs.Layout.{names_in, names}
 use Rattle.jt_semantics.proofs.DefinedNames.{given_all}
 use Rattle.jt_semantics.proofs.ChainOrder.{libraries_stand}
 use Rattle.jt_semantics.specs.Measure.{HasFewNames, IsFew, AreFew}
 use Rattle.jt_semantics.proofs.Among.{Among, AllAmong}
+use Rattle.jt_semantics.proofs.KeptUses.{AllKeep, ChainsKeep, front, back}
 use Rattle.jt_semantics.proofs.EnvLookup.{namespace_same, namespace_is, same_text, is_same, no_both, among_front}
 use Rattle.jt_semantics.proofs.EnvLookup.{among_back, each_among}
 use Rattle.jt_semantics.proofs.Scopes.{ascending_among, all_among, templates_bind}
@@ -161,15 +159,6 @@ names_from cenv ns (k ∷ ks) a h =
 
 -- ---- The parameters of a macro are distinct
 
-none_first : (a b : Option ScopeError) → option_or a b ≡ None → a ≡ None
-none_first a0 b e = search (arith, rules)
-
-none_second : (a b : Option ScopeError) → option_or a b ≡ None → b ≡ None
-none_second a0 b e = search (arith, rules)
-
-unless_none : (b : Bool) → unless (not b) ≡ None → b ≡ false
-unless_none a0 e = search (arith, rules)
-
 repeated_differs : (xs : List Text) → repeated xs ≡ false → Differs xs
 repeated_differs [] e = tt
 repeated_differs (x ∷ xs) e =
@@ -183,58 +172,58 @@ repeated_differs (x ∷ xs) e =
     is_among (y ∷ ys) (inl p) = ap (λ b. b || among x ys) (is_same y x p)
     is_among (y ∷ ys) (inr i) = search (arith, rules, is_among ys i)
 
-module _ (cenv : CompileEnv) (h : Namespace) where
-  abbrev at_top : Enclosing
-  at_top = record { in_loop = false; in_block = false }
+is_false : (b : Bool) → (b ≡ true → ⊥) → b ≡ false
+is_false true n = absurd (n refl)
+is_false false n = refl
 
+module _ (cenv : CompileEnv) (h : Namespace) where
   abbrev OneEach : MacroBody → Type 0
   OneEach m = repeated (parameter_names m.parameters) ≡ false
 
-  macro_named : (x : Text) (ps : List Parameter) → macro_broken cenv h x ps ≡ None
-      → repeated (parameter_names ps) ≡ false
-  macro_named x ps e = search (arith, rules, unless_none, none_first, none_second)
-
-  macros_named : (t : Text) (c : Body) → body_broken cenv h c at_top ≡ None → AllByRecursion OneEach (macros_in t c)
-  macros_named t end e = tt
-  macros_named t (stmt (macro line x ps body) rest) e =
-      search (arith, rules, none_first, macro_named, macros_named t rest, none_second)
-  macros_named t (stmt (data_of d) rest) e =
-      macros_named t rest (none_second (stmt_broken cenv h (data_of d) at_top) (body_broken cenv h rest at_top) e)
-  macros_named t (stmt (print line x) rest) e =
-      macros_named t rest (none_second (stmt_broken cenv h (print line x) at_top) (body_broken cenv h rest at_top) e)
-  macros_named t (stmt (choose bs other) rest) e =
-      macros_named t rest (none_second (stmt_broken cenv h (choose bs other) at_top) (body_broken cenv h rest at_top) e)
-  macros_named t (stmt (for_each line xs x c body other) rest) e =
-      macros_named t rest
-      (none_second (stmt_broken cenv h (for_each line xs x c body other) at_top) (body_broken cenv h rest at_top) e)
-  macros_named t (stmt (set line xs x) rest) e =
-      macros_named t rest (none_second (stmt_broken cenv h (set line xs x) at_top) (body_broken cenv h rest at_top) e)
-  macros_named t (stmt (set_block line x body) rest) e =
-      macros_named t rest
-      (none_second (stmt_broken cenv h (set_block line x body) at_top) (body_broken cenv h rest at_top) e)
-  macros_named t (stmt (with_values line ps body) rest) e =
-      macros_named t rest
-      (none_second (stmt_broken cenv h (with_values line ps body) at_top) (body_broken cenv h rest at_top) e)
-  macros_named t (stmt (filter_block line fs body) rest) e =
-      macros_named t rest
-      (none_second (stmt_broken cenv h (filter_block line fs body) at_top) (body_broken cenv h rest at_top) e)
-  macros_named t (stmt (autoescape line on body) rest) e =
-      macros_named t rest
-      (none_second (stmt_broken cenv h (autoescape line on body) at_top) (body_broken cenv h rest at_top) e)
-  macros_named t (stmt (include line n i w) rest) e =
-      macros_named t rest
-      (none_second (stmt_broken cenv h (include line n i w) at_top) (body_broken cenv h rest at_top) e)
-  macros_named t (stmt (import_as line n new) rest) e =
-      macros_named t rest
-      (none_second (stmt_broken cenv h (import_as line n new) at_top) (body_broken cenv h rest at_top) e)
-  macros_named t (stmt (import_from line n news) rest) e =
-      macros_named t rest
-      (none_second (stmt_broken cenv h (import_from line n news) at_top) (body_broken cenv h rest at_top) e)
-  macros_named t (stmt (extends line n) rest) e =
-      macros_named t rest (none_second (stmt_broken cenv h (extends line n) at_top) (body_broken cenv h rest at_top) e)
-  macros_named t (stmt (block line x s r body) rest) e =
-      macros_named t rest
-      (none_second (stmt_broken cenv h (block line x s r body) at_top) (body_broken cenv h rest at_top) e)
+  macros_named : (t : Text) (c : Body) → AllKeep cenv h (body_use_sites c outside)
+      → AllByRecursion OneEach (macros_in t c)
+  macros_named t end k = tt
+  macros_named t (stmt (macro line x ps body) rest) k =
+      let declared = at outside (declares x ps) ++ bound (parameter_names ps) outside in
+      let here = declared ++ body_use_sites body outside in
+      let first = front cenv h declared (body_use_sites body outside)
+      (front cenv h here (body_use_sites rest outside) k) in (
+        is_false (repeated (parameter_names ps)) first.0.fitting,
+        macros_named t rest (back cenv h here (body_use_sites rest outside) k),
+      )
+  macros_named t (stmt (data_of d) rest) k =
+      macros_named t rest (back cenv h (stmt_use_sites (data_of d) outside) (body_use_sites rest outside) k)
+  macros_named t (stmt (print line x) rest) k =
+      macros_named t rest (back cenv h (stmt_use_sites (print line x) outside) (body_use_sites rest outside) k)
+  macros_named t (stmt (choose bs other) rest) k =
+      macros_named t rest (back cenv h (stmt_use_sites (choose bs other) outside) (body_use_sites rest outside) k)
+  macros_named t (stmt (for_each line xs x c body other) rest) k =
+      macros_named t rest (back cenv h (stmt_use_sites (for_each line xs x c body other) outside)
+      (body_use_sites rest outside) k)
+  macros_named t (stmt (set line xs x) rest) k =
+      macros_named t rest (back cenv h (stmt_use_sites (set line xs x) outside) (body_use_sites rest outside) k)
+  macros_named t (stmt (set_block line x body) rest) k =
+      macros_named t rest (back cenv h (stmt_use_sites (set_block line x body) outside) (body_use_sites rest outside) k)
+  macros_named t (stmt (with_values line ps body) rest) k =
+      macros_named t rest (back cenv h (stmt_use_sites (with_values line ps body) outside) (body_use_sites rest outside)
+      k)
+  macros_named t (stmt (filter_block line fs body) rest) k =
+      macros_named t rest (back cenv h (stmt_use_sites (filter_block line fs body) outside)
+      (body_use_sites rest outside) k)
+  macros_named t (stmt (autoescape line on body) rest) k =
+      macros_named t rest (back cenv h (stmt_use_sites (autoescape line on body) outside) (body_use_sites rest outside)
+      k)
+  macros_named t (stmt (include line n i w) rest) k =
+      macros_named t rest (back cenv h (stmt_use_sites (include line n i w) outside) (body_use_sites rest outside) k)
+  macros_named t (stmt (import_as line n new) rest) k =
+      macros_named t rest (back cenv h (stmt_use_sites (import_as line n new) outside) (body_use_sites rest outside) k)
+  macros_named t (stmt (import_from line n news) rest) k =
+      macros_named t rest (back cenv h (stmt_use_sites (import_from line n news) outside) (body_use_sites rest outside)
+      k)
+  macros_named t (stmt (extends line n) rest) k =
+      macros_named t rest (back cenv h (stmt_use_sites (extends line n) outside) (body_use_sites rest outside) k)
+  macros_named t (stmt (block line x s r body) rest) k =
+      macros_named t rest (back cenv h (stmt_use_sites (block line x s r body) outside) (body_use_sites rest outside) k)
 
   abbrev Few : MacroBody → Type 0
   Few m = length m.parameters ≤ 200
@@ -279,20 +268,21 @@ module _ (cenv : CompileEnv) (h : Namespace) where
         body_few t rest (among_back (stmt_names (block line x s r body)) (body_names rest) ns a) o
 
     macros_few : (ts : List Template) → AllAmong (flat_map (λ t. body_names t.body) ts) ns
-        → templates_broken cenv h ts ≡ None → AllByRecursion Few (flat_map (λ t. macros_in t.name t.body) ts)
+        → AllKeep cenv h (flat_map (λ t. body_use_sites t.body outside) ts)
+        → AllByRecursion Few (flat_map (λ t. macros_in t.name t.body) ts)
     macros_few [] a e = tt
     macros_few (t ∷ ts) a e =
+        let others = flat_map (λ t. body_use_sites t.body outside) ts in
         search (
           arith,
           rules,
-          none_first,
           all_append,
           body_few,
           among_front,
-          macros_named,
+          macros_named t.name t.body (front cenv h (body_use_sites t.body outside) others e),
           macros_few ts,
           among_back,
-          none_second,
+          back cenv h (body_use_sites t.body outside) others e,
         )
 
 -- ---- Filters
@@ -318,19 +308,15 @@ filters_few n = through (filter_of n)
 
 -- Each macro of these chains and libraries has few parameters.
 namespaces_few : (c : Seen) (ns : List Text) → length ns ≤ 200 → (hs : List Namespace)
-    → AllByRecursion (λ h. AllAmong (own_names (sources_of c) h) ns) hs → chains_broken (cenv_of c) hs ≡ None
+    → AllByRecursion (λ h. AllAmong (own_names (sources_of c) h) ns) hs → ChainsKeep (cenv_of c) hs
     → (h : Namespace) → listed h hs ≡ true → AllByRecursion (λ m. length m.parameters ≤ 200) (macros (sources_of c) h)
 namespaces_few c ns l [] a e h i = absurd (no_both i refl)
 namespaces_few c ns l (k ∷ ks) a e h i =
     search (
       arith,
       rules,
-      namespaces_few c ns l ks a.1
-          (none_second (templates_broken (cenv_of c) k (templates (sources_of c) k)) (chains_broken (cenv_of c) ks) e)
-          h,
-      none_second,
-      macros_few,
-      none_first,
+      namespaces_few c ns l ks a.1 e.1 h,
+      macros_few (cenv_of c) k ns l (templates (sources_of c) k) a.0 e.0,
       namespace_same,
     )
 
@@ -357,7 +343,7 @@ chains_few c o each n (h ∷ hs) i =
     later g true j = refl
     later g false j = j
 
-pub few_by : (c : Seen) → InOrder (sources_of c) c.order → NamesFew c → chains_broken (cenv_of c) c.order ≡ None
+pub few_by : (c : Seen) → InOrder (sources_of c) c.order → NamesFew c → ChainsKeep (cenv_of c) c.order
     → AreFew (cenv_of c) c.order
 few_by c o n e =
     let each = all_own c.order n.all in

@@ -18,8 +18,8 @@ use Rattle.jt_semantics.specs.Layout.{shared}
 use Rattle.jt_semantics.specs.Programs.{routines, program}
 use Rattle.jt_chains.specs.Includes.{InOrder}
 use Rattle.jt_chains.specs.Rules.{Reaches, KeepsRules}
-use Rattle.jt_rules.specs.Walk.{chains_broken}
 use Rattle.jt_semantics.proofs.ChainOrder.{Every}
+use Rattle.jt_semantics.proofs.KeptUses.{ChainsKeep}
 use Rattle.jt_semantics.proofs.ArityCorrect.{routines_serve}
 
 parameters_placed : (rs : List (Routine Constant)) (k u n : ℕ) → HasParameters (slice_get rs u) n
@@ -103,7 +103,7 @@ module _ (fs : Filters) (rs : List (Routine Constant)) (k : ℕ) where
 pub program_takes : (cenv : CompileEnv) (entry : Namespace) (rest : List Namespace)
     → InOrder cenv.sources (entry ∷ rest) → AllByRecursion (Reaches cenv.sources cenv.escaping entry) (entry ∷ rest)
     → KeepsRules cenv.sources cenv.escaping entry
-    → chains_broken cenv (entry ∷ rest) ≡ None → ChainsKnown cenv (entry ∷ rest)
+    → ChainsKeep cenv (entry ∷ rest) → ChainsKnown cenv (entry ∷ rest)
     → AllByRecursion (λ r. BodyTakes cenv.filters (program cenv (entry ∷ rest) entry).routines false r.body)
     (program cenv (entry ∷ rest) entry).routines
 program_takes cenv entry rest ordered reached unbroken kept known =

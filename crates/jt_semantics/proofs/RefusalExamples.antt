@@ -1,11 +1,12 @@
 -- Examples of templates that the static rules refuse. The entry is `t`.
-use Rattle.std.proofs.Common.{◌≡◌, refl}
+use Rattle.std.proofs.Common.{◌≡◌, refl, sym}
 use Rattle.std.specs.Prelude.{true, false, List, [], ◌∷◌, codes, Some, None, Option}
+use mathlib.Core.Logic.{inl, inr}
 use Rattle.jt_rules.specs.declared.error.ScopeError.{ScopeError}
 use Rattle.jt_rules.specs.declared.error.ScopeError.TheVariants as error
 use Rattle.jt_ast.specs.Expressions.{no_exprs, no_pairs, Text}
 use Rattle.jt_ast.specs.Statements.{Body, end}
-use Rattle.jt_rules.specs.Walk.{chains_broken}
+use Rattle.jt_rules.specs.Rules.{Broken}
 use Rattle.jt_chains.specs.Chain.{Sources, Namespace, a_chain, a_library}
 use Rattle.jt_chains.specs.Includes.{InOrder}
 use Rattle.jt_chains.specs.Rules.{here, through, Missing, ExtendsCycle, DoubleBlock, RequiredNotGiven, NoSuper}
@@ -13,6 +14,7 @@ use Rattle.jt_chains.specs.Rules.{IncludeCycle, MacroTwice, NoMacro, NotALibrary
 use Rattle.jt_semantics.proofs.TestTemplates.{name, num, listing, call, Call, pair, of, Filter, body, print, For, block}
 use Rattle.jt_semantics.proofs.TestTemplates.{Block, Macro, Include, Import, From, chars, extends, parameter, exprs}
 use Rattle.jt_semantics.proofs.TestTemplates.{source, cenv}
+use Rattle.jt_semantics.proofs.EnvLookup.{is_same, no_both}
 
 abbrev among_these : List (Text × Body) → Sources
 among_these ss = (cenv ss).sources
@@ -23,85 +25,104 @@ entry = a_chain (codes "t")
 abbrev the_library : Namespace
 the_library = a_library (codes "l")
 
-abbrev Breaks : List (Text × Body) → Option ScopeError → Type 0
-Breaks ss e = chains_broken (cenv ss) (entry ∷ []) ≡ e
+abbrev Breaks : List (Text × Body) → ScopeError → Type 0
+Breaks ss rule = Broken rule (cenv ss) (entry ∷ [])
+
+differs : true ≡ false → ⊥
+differs e = absurd (cc)
+
+is_some : {A : Type 0} (x : A) → Some x ≡ None → ⊥
+is_some x e = absurd (cc)
 
 -- A macro is read as a value in `{% macro m(a) %}{% endmacro %}{{ m }}`.
 macro_read : Breaks (source "t" (Macro 1 (codes "m") (parameter "a" ∷ []) end ∷ print (name "m") ∷ []) ∷ [])
-    (Some error.MacroAsValue)
-macro_read = refl
+    error.MacroAsValue
+macro_read = inl (inr (inr (inl refl)))
 
 -- Calls of the macro of `macro_read`: `{{ m(1, 2) }}`, `{{ m(b=1) }}`, `{{ m(1, a=2) }}` and `{{
 -- m(1) }}`.
 too_many : Breaks
     (source "t" (Macro 1 (codes "m") (parameter "a" ∷ []) end ∷ print (call (name "m") (num 1 ∷ num 2 ∷ [])) ∷ []) ∷ [])
-    (Some error.BadArguments)
-too_many = refl
+    error.BadArguments
+too_many = inl (inr (inr (inl refl)))
 
 unknown_keyword : Breaks (source "t" (Macro 1 (codes "m") (parameter "a" ∷ []) end
     ∷ print (Call (name "m") no_exprs (pair (codes "b") (num 1) no_pairs)) ∷ []) ∷ [])
-    (Some error.BadArguments)
-unknown_keyword = refl
+    error.BadArguments
+unknown_keyword = inl (inr (inr (inl refl)))
 
 filled_twice : Breaks (source "t" (Macro 1 (codes "m") (parameter "a" ∷ []) end
     ∷ print (Call (name "m") (exprs (num 1 ∷ [])) (pair (codes "a") (num 2) no_pairs)) ∷ []) ∷ [])
-    (Some error.BadArguments)
-filled_twice = refl
+    error.BadArguments
+filled_twice = inl (inr (inr (inl refl)))
 
 fits : Breaks
-    (source "t" (Macro 1 (codes "m") (parameter "a" ∷ []) end ∷ print (call (name "m") (num 1 ∷ [])) ∷ []) ∷ []) None
-fits = refl
+    (source "t" (Macro 1 (codes "m") (parameter "a" ∷ []) end ∷ print (call (name "m") (num 1 ∷ [])) ∷ []) ∷ [])
+    error.BadArguments → ⊥
+fits (inl (inl e)) = differs (sym e)
+fits (inl (inr (inl e))) = e
+fits (inl (inr (inr (inl e)))) = differs e
+fits (inl (inr (inr (inr e)))) = e
+fits (inr e) = e
 
 -- A parameter occurs twice in `{% macro m(a, a) %}{% endmacro %}`.
 one_parameter_twice : Breaks (source "t" (Macro 1 (codes "m") (parameter "a" ∷ parameter "a" ∷ []) end ∷ []) ∷ [])
-    (Some error.BadArguments)
-one_parameter_twice = refl
+    error.BadArguments
+one_parameter_twice = inl (inl refl)
 
 -- Reads of `{{ loop }}`, and of `{{ loop.index }}` outside a loop, in its condition, and in its
 -- body.
-loop_alone : Breaks (source "t" (print (name "loop") ∷ []) ∷ []) (Some error.LoopOutside)
-loop_alone = refl
+loop_alone : Breaks (source "t" (print (name "loop") ∷ []) ∷ []) error.LoopOutside
+loop_alone = inl (inl refl)
 
-loop_outside : Breaks (source "t" (print (of (name "loop") "index") ∷ []) ∷ []) (Some error.LoopOutside)
-loop_outside = refl
+loop_outside : Breaks (source "t" (print (of (name "loop") "index") ∷ []) ∷ []) error.LoopOutside
+loop_outside = inl (inl (inl refl))
 
 loop_in_a_condition : Breaks
     (source "t" (For 1 (codes "x" ∷ []) (listing []) (Some (of (name "loop") "index")) end end ∷ []) ∷ [])
-    (Some error.LoopOutside)
-loop_in_a_condition = refl
+    error.LoopOutside
+loop_in_a_condition = inl (inr (inl (inl refl)))
 
 loop_in_a_body : Breaks
     (source "t" (For 1 (codes "x" ∷ []) (listing []) None (body (print (of (name "loop") "index") ∷ [])) end ∷ []) ∷ [])
-    None
-loop_in_a_body = refl
+    error.LoopOutside → ⊥
+loop_in_a_body (inl (inl e)) = no_both (is_same (codes "x") (codes "loop") e) refl
+loop_in_a_body (inl (inr (inl (inl e)))) = differs e
+loop_in_a_body (inl (inr (inl (inr e)))) = is_some _ e
+loop_in_a_body (inl (inr (inr e))) = e
+loop_in_a_body (inr e) = e
 
 -- A read of `{{ super }}`, and calls without a valid callee: `{{ f(1) }}`, `{{ self.b() }}` without
 -- such a block, and `{{ super() }}` outside a block.
-calls_nothing : Breaks (source "t" (print (call (name "f") (num 1 ∷ [])) ∷ []) ∷ []) (Some error.NotCallable)
-calls_nothing = refl
+calls_nothing : Breaks (source "t" (print (call (name "f") (num 1 ∷ [])) ∷ []) ∷ []) error.NotCallable
+calls_nothing = inl (inl tt)
 
-calls_no_block : Breaks (source "t" (print (call (of (name "self") "b") []) ∷ []) ∷ []) (Some error.NotCallable)
-calls_no_block = refl
+calls_no_block : Breaks (source "t" (print (call (of (name "self") "b") []) ∷ []) ∷ []) error.NotCallable
+calls_no_block = inl (inl refl)
 
-super_outside : Breaks (source "t" (print (call (name "super") []) ∷ []) ∷ []) (Some error.NotCallable)
-super_outside = refl
+super_outside : Breaks (source "t" (print (call (name "super") []) ∷ []) ∷ []) error.NotCallable
+super_outside = inl (inl refl)
 
-super_read : Breaks (source "t" (print (name "super") ∷ []) ∷ []) (Some error.NotCallable)
-super_read = refl
+super_read : Breaks (source "t" (print (name "super") ∷ []) ∷ []) error.NotCallable
+super_read = inl (inl (inr (inl refl)))
 
 -- Arguments of functions and filters: `{{ range() }}`, `{{ 1|d(boolean=true) }}` and `{{
 -- 1|d(wrong=true) }}`.
-range_of_nothing : Breaks (source "t" (print (call (name "range") []) ∷ []) ∷ []) (Some error.BadArguments)
-range_of_nothing = refl
+range_of_nothing : Breaks (source "t" (print (call (name "range") []) ∷ []) ∷ []) error.BadArguments
+range_of_nothing = inl (inl refl)
 
 filter_keyword : Breaks
-    (source "t" (print (Filter (num 1) (codes "d") no_exprs (pair (codes "boolean") (num 1) no_pairs)) ∷ []) ∷ []) None
-filter_keyword = refl
+    (source "t" (print (Filter (num 1) (codes "d") no_exprs (pair (codes "boolean") (num 1) no_pairs)) ∷ []) ∷ [])
+    error.BadArguments → ⊥
+filter_keyword (inl (inl (inl e))) = differs e
+filter_keyword (inl (inl (inr e))) = differs e
+filter_keyword (inl (inr e)) = e
+filter_keyword (inr e) = e
 
 filter_wrong_keyword : Breaks
     (source "t" (print (Filter (num 1) (codes "d") no_exprs (pair (codes "wrong") (num 1) no_pairs)) ∷ []) ∷ [])
-    (Some error.BadArguments)
-filter_wrong_keyword = refl
+    error.BadArguments
+filter_wrong_keyword = inl (inl (inl refl))
 
 -- The included template does not exist in `{% include "no" %}`.
 no_source : Missing (among_these (source "t" (Include 1 (codes "no") false true ∷ []) ∷ [])) true entry
@@ -147,48 +168,56 @@ abbrev with_b : List (Text × Body)
 with_b = source "l" (Macro 1 (codes "b") (parameter "t" ∷ []) end ∷ []) ∷ []
 
 -- A library is read as a value in `{% import "l" as f %}{{ f }}`.
-library_read : Breaks (source "t" (Import "l" "f" ∷ print (name "f") ∷ []) ∷ with_b) (Some error.MacroAsValue)
-library_read = refl
+library_read : Breaks (source "t" (Import "l" "f" ∷ print (name "f") ∷ []) ∷ with_b) error.MacroAsValue
+library_read = inl (inr (inl refl))
 
 -- Calls after `{% import "l" as f %}`: `{{ f.z() }}`, `{{ f() }}`, `{{ f.b(1, 2) }}` and `{{ f.b(1)
 -- }}`.
 no_macro_called : Breaks (source "t" (Import "l" "f" ∷ print (call (of (name "f") "z") []) ∷ []) ∷ with_b)
-    (Some error.NotCallable)
-no_macro_called = refl
+    error.NotCallable
+no_macro_called = inl (inr (inl tt))
 
 library_called : Breaks (source "t" (Import "l" "f" ∷ print (call (name "f") []) ∷ []) ∷ with_b)
-    (Some error.NotCallable)
-library_called = refl
+    error.NotCallable
+library_called = inl (inr (inl tt))
 
 too_many_for_a_library : Breaks
     (source "t" (Import "l" "f" ∷ print (call (of (name "f") "b") (num 1 ∷ num 2 ∷ [])) ∷ []) ∷ with_b)
-    (Some error.BadArguments)
-too_many_for_a_library = refl
+    error.BadArguments
+too_many_for_a_library = inl (inr (inl refl))
 
-fits_a_library : Breaks (source "t" (Import "l" "f" ∷ print (call (of (name "f") "b") (num 1 ∷ [])) ∷ []) ∷ with_b) None
-fits_a_library = refl
+fits_a_library : Breaks (source "t" (Import "l" "f" ∷ print (call (of (name "f") "b") (num 1 ∷ [])) ∷ []) ∷ with_b)
+    error.BadArguments → ⊥
+fits_a_library (inl (inl e)) = e
+fits_a_library (inl (inr (inl e))) = differs e
+fits_a_library (inl (inr (inr e))) = e
+fits_a_library (inr e) = e
 
 -- Reads and calls after `{% from "l" import b as c %}`: `{{ c }}`, `{{ b(1) }}` and `{{ c(1) }}`.
 given_read : Breaks (source "t" (From "l" ((codes "b", codes "c") ∷ []) ∷ print (name "c") ∷ []) ∷ with_b)
-    (Some error.MacroAsValue)
-given_read = refl
+    error.MacroAsValue
+given_read = inl (inr (inl refl))
 
 not_given : Breaks
     (source "t" (From "l" ((codes "b", codes "c") ∷ []) ∷ print (call (name "b") (num 1 ∷ [])) ∷ []) ∷ with_b)
-    (Some error.NotCallable)
-not_given = refl
+    error.NotCallable
+not_given = inl (inr (inl tt))
 
 given_called : Breaks
-    (source "t" (From "l" ((codes "b", codes "c") ∷ []) ∷ print (call (name "c") (num 1 ∷ [])) ∷ []) ∷ with_b) None
-given_called = refl
+    (source "t" (From "l" ((codes "b", codes "c") ∷ []) ∷ print (call (name "c") (num 1 ∷ [])) ∷ []) ∷ with_b)
+    error.BadArguments → ⊥
+given_called (inl (inl e)) = e
+given_called (inl (inr (inl e))) = differs e
+given_called (inl (inr (inr e))) = e
+given_called (inr e) = e
 
 -- Imports that bind reserved names: `{% import "l" as loop %}` and `{% from "l" import b as range
 -- %}`.
-loop_given : Breaks (source "t" (Import "l" "loop" ∷ []) ∷ with_b) (Some error.LoopOutside)
-loop_given = refl
+loop_given : Breaks (source "t" (Import "l" "loop" ∷ []) ∷ with_b) error.LoopOutside
+loop_given = inl (inl refl)
 
-range_given : Breaks (source "t" (From "l" ((codes "b", codes "range") ∷ []) ∷ []) ∷ with_b) (Some error.NotCallable)
-range_given = refl
+range_given : Breaks (source "t" (From "l" ((codes "b", codes "range") ∷ []) ∷ []) ∷ with_b) error.NotCallable
+range_given = inl (inl (inr (inr refl)))
 
 -- The library has no macro z for `{% from "l" import z %}`.
 no_such_macro : NoMacro (among_these (source "t" (From "l" ((codes "z", codes "z") ∷ []) ∷ []) ∷ with_b)) true entry

@@ -2,12 +2,8 @@
 
 ghost use Rattle.jt_semantics.specs.Laws.{ProgramLaws};
 
-use jt_rules::rules_laws;
-
 /// States the law of programs in its contract, and does nothing: the meaning of a program is the
 /// meaning of its chain.
 pub fn program_laws()
     ensures { ProgramLaws }
-{
-    rules_laws();
-}
+{}

@@ -1,24 +1,21 @@
 -- The view of a scope in contracts, and the rules in it. Only private clauses cite this module.
-use Rattle.std.specs.Prelude.{◌≡◌, ◌==◌, ◌&&◌, ℕ, ◌-◌, ◌^◌, min, nat_lt, length, Bool, List, Option, Some, None, Result}
-use Rattle.std.specs.Prelude.{IfOk, String}
-use Rattle.std.specs.Option.{option_or}
-use Rattle.std.specs.declared.alloc.AllocError.{AllocError}
+use Rattle.std.specs.Prelude.{◌≡◌, ◌==◌, ◌&&◌, ℕ, ◌-◌, ◌^◌, min, nat_lt, length, Bool, List, Option, Some, None}
+use Rattle.std.specs.Prelude.{String}
 use Rattle.std.specs.declared.alloc.Global.{Global}
 use Rattle.jt_ast.specs.Expressions.{Expr, Exprs, Pairs, name, Text}
-use Rattle.jt_ast.specs.ExpressionView.{expr_view, exprs_view, pairs_view}
-use Rattle.jt_ast.specs.StatementView.{body_view, names_view}
+use Rattle.jt_ast.specs.ExpressionView.{exprs_view, pairs_view}
 use Rattle.jt_ast.specs.Texts.{ascending}
 use Rattle.jt_ast.specs.declared.expression.Expr as expression
-use Rattle.jt_ast.specs.declared.statement.Stmt.{Stmt}
 use Rattle.jt_chains.specs.Chain.{Namespace, Sources, Definition, Callee, given, given_to}
 use Rattle.jt_chains.specs.Uses.{count, own_names}
 use Rattle.jt_chains.specs.declared.chain.Chain.{Chain}
 use Rattle.jt_checks.specs.internal.ScopeLookup.{cenv_in, namespace_in, names_of}
 use Rattle.jt_rules.specs.CompileEnv.{CompileEnv}
-use Rattle.jt_rules.specs.Walk as rules
+use Rattle.jt_checks.specs.internal.RuleTests as rules
 use Rattle.jt_rules.specs.declared.error.ScopeError.{ScopeError}
 use Rattle.jt_checks.specs.declared.scope.Scope.{Scope}
-use Rattle.jt_checks.specs.declared.scope.Enclosing.{Enclosing}
+use Rattle.jt_uses.specs.declared.site.Enclosing.{Enclosing}
+use Rattle.jt_checks.specs.internal.UseRules.{within_view}
 
 abbrev pub its_cenv : Scope → CompileEnv
 its_cenv s = cenv_in s.chain.now
@@ -36,9 +33,6 @@ its_given s = given (its_sources s) (its_namespace s)
 abbrev pub given_in : Scope → Text → Option Definition
 given_in s n = given_to n (its_given s)
 
-abbrev pub within_view : Enclosing → rules.Enclosing
-within_view w = record { in_loop = w.in_loop; in_block = w.in_block }
-
 -- The name of an expression that is a bare name.
 abbrev pub name_in : Expr → Option Text
 name_in (name x) = Some x
@@ -48,49 +42,14 @@ name_in e = None
 abbrev pub in_scope : {A : Type 0} → (CompileEnv → Namespace → A) → Scope → A
 in_scope rule s = rule (its_cenv s) (its_namespace s)
 
--- The first rule that a tree breaks in a scope and a context.
-abbrev pub found : {A : Type 0} → (CompileEnv → Namespace → A → rules.Enclosing → Option ScopeError) → Scope
-    → Enclosing → A → Option ScopeError
-found rule s w a = in_scope rule s a (within_view w)
-
 -- The first rule that a call breaks, by its callee.
-abbrev pub call_found : Scope → Enclosing → Callee → Expr → Exprs → Pairs → Option ScopeError
+abbrev pub call_found : Scope → Enclosing → Callee → Exprs → Pairs → Option ScopeError
 call_found s w called = in_scope rules.call_broken s called (within_view w)
 
--- The result is the first rule that is broken.
-abbrev pub Finds : {A : Type 0} → (CompileEnv → Namespace → A → rules.Enclosing → Option ScopeError) → Scope
-    → Enclosing → A → Option ScopeError → Type 0
-Finds rule s w a o = o ≡ found rule s w a
-
--- Without lack of memory, the result is the first rule that is broken.
-abbrev pub Tells : {A : Type 0} → (CompileEnv → Namespace → A → rules.Enclosing → Option ScopeError) → Scope
-    → Enclosing → A → Result (Option ScopeError) AllocError → Type 0
-Tells rule s w a result = IfOk result (Finds rule s w a)
-
--- The first rule that an expression breaks.
-abbrev pub tree_found : Scope → Enclosing → expression.Expr → Option ScopeError
-tree_found s w e = found rules.broken s w (expr_view e)
-
--- The first rule that the names of targets break.
-abbrev pub targets_found : Scope → List (String Global) → Option ScopeError
-targets_found s xs = in_scope rules.all_used s (names_view xs)
-
--- The first rule that statements break.
-abbrev pub body_found : Scope → Enclosing → List Stmt → Option ScopeError
-body_found s w b = found rules.body_broken s w (body_view b)
-
--- The first rule that arguments break.
-abbrev pub arguments_found : Scope → Enclosing → List expression.Expr
-    → List (String Global × expression.Expr) → Option ScopeError
-arguments_found s w row pairs =
-    option_or (found rules.row_broken s w (exprs_view row))
-    (found rules.pairs_broken s w (pairs_view pairs))
-
 -- The result is the first rule that a call breaks.
-abbrev pub FindsCall : Scope → Enclosing → Callee → Expr → List expression.Expr
+abbrev pub FindsCall : Scope → Enclosing → Callee → List expression.Expr
     → List (String Global × expression.Expr) → Option ScopeError → Type 0
-FindsCall s w called x row pairs o =
-    o ≡ call_found s w called x (exprs_view row) (pairs_view pairs)
+FindsCall s w called row pairs o = o ≡ call_found s w called (exprs_view row) (pairs_view pairs)
 
 -- The number of different names that a chain and each of its libraries read or bind.
 abbrev pub names_in : Chain → ℕ → ℕ

@@ -2,7 +2,7 @@ use Rattle.std.proofs.Common.{length, ◌∙◌, ap}
 use Rattle.jt_ast.specs.ExpressionView.{exprs_view, pairs_view}
 use Rattle.jt_ast.specs.StatementView.{parameters_view}
 use Rattle.jt_chains.specs.Uses.{count, keywords}
-use Rattle.jt_rules.specs.Walk as rules
+use Rattle.jt_checks.specs.internal.RuleTests as rules
 use Rattle.jt_ast.specs.Texts.{texts}
 use Rattle.jt_checks.proofs.ArgumentsFit.{equal_ok, fits_is, too_many, named_well}
 use Rattle.jt_checks.proofs.arguments.fits.Goals as goal

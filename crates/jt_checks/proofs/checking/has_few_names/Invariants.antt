@@ -1,12 +1,12 @@
 use Rattle.std.proofs.Common.{◌≡◌, ◌+◌, ◌≤◌, drop}
 use Rattle.jt_chains.specs.View.{chain_view}
-use Rattle.jt_rules.specs.Walk as rules
+use Rattle.jt_rules.specs.Rules.{names_counted}
 use Rattle.jt_checks.specs.internal.ScopeLookup.{cenv_in}
 use Rattle.jt_checks.proofs.checking.has_few_names.Given as goal
 
 abbrev pub invariant-loop-namespace : goal.invariant-loop-namespace
 invariant-loop-namespace l = record {
   within : l.left ≤ 65535;
-  sum : l.left + rules.names_counted (cenv_in l.chain) (chain_view l.chain).order
-      ≡ 65535 + rules.names_counted (cenv_in l.chain) (drop l.namespace (chain_view l.chain).order);
+  sum : l.left + names_counted (cenv_in l.chain) (chain_view l.chain).order
+      ≡ 65535 + names_counted (cenv_in l.chain) (drop l.namespace (chain_view l.chain).order);
 }

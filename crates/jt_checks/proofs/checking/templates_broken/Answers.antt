@@ -2,9 +2,9 @@ use Rattle.std.proofs.Common.{◌+◌, drop, sym, ap, ◌∙◌}
 use Rattle.std.proofs.lemmas.List.{at_drop_all}
 use Rattle.jt_ast.specs.StatementView.{body_view}
 use Rattle.jt_chains.specs.View.{chain_view}
-use Rattle.jt_rules.specs.Walk as rules
+use Rattle.jt_checks.specs.internal.UseRules as broken
 use Rattle.jt_checks.specs.internal.ScopeView.{its_cenv, its_namespace}
-use Rattle.jt_checks.proofs.LoopSteps.{file_broken, shown_layers, its_layers, layers_left, some_first}
+use Rattle.jt_checks.proofs.LoopSteps.{shown_layers, its_layers, layers_left, some_first}
 use Rattle.jt_checks.proofs.checking.templates_broken.Goals as goal
 
 pub returns-in-Some : goal.returns-in-Some
@@ -16,12 +16,12 @@ returns-in-Some c =
     let ls = c.deref-layer-items.result.now in
     let i = c.loop-layer.layer-index in
     let l = c.layer-item.result in
-    some_first (file_broken cenv namespace (body_view l.body.now))
-    (rules.templates_broken cenv namespace (shown_layers ts (drop (i + 1) ls))) c.in-Some.rule
+    some_first (broken.template_broken cenv namespace (body_view l.body.now))
+    (broken.templates_broken cenv namespace (shown_layers ts (drop (i + 1) ls))) c.in-Some.rule
     (sym c.in_ok-rule.ensures ∙ c.in-Some.is)
     ∙ sym (layers_left cenv namespace ts ls i l c.loop-layer-test.true c.layer-item.is) ∙ c.loop-layer.invariant
-    ∙ ap (λ z. rules.templates_broken cenv namespace (shown_layers ts z)) c.deref-layer-items.ensures.value
-    ∙ ap (rules.templates_broken cenv namespace)
+    ∙ ap (λ z. broken.templates_broken cenv namespace (shown_layers ts z)) c.deref-layer-items.ensures.value
+    ∙ ap (broken.templates_broken cenv namespace)
     (its_layers s.chain.now s.namespace c.in_ok-layers.layers.items (c.in_ok-layers.ensures.there s.stands))
 
 pub returns : goal.returns
@@ -30,9 +30,9 @@ returns c =
     let cenv = its_cenv s in
     let namespace = its_namespace s in
     let ts = (chain_view s.chain.now).templates in
-    sym (at_drop_all (λ z. rules.templates_broken cenv namespace (shown_layers ts z)) c.deref-layer-items.result.now
+    sym (at_drop_all (λ z. broken.templates_broken cenv namespace (shown_layers ts z)) c.deref-layer-items.result.now
     c.loop-layer.layer-index c.loop-layer-test.false)
     ∙ c.loop-layer.invariant
-    ∙ ap (λ z. rules.templates_broken cenv namespace (shown_layers ts z)) c.deref-layer-items.ensures.value
-    ∙ ap (rules.templates_broken cenv namespace)
+    ∙ ap (λ z. broken.templates_broken cenv namespace (shown_layers ts z)) c.deref-layer-items.ensures.value
+    ∙ ap (broken.templates_broken cenv namespace)
     (its_layers s.chain.now s.namespace c.in_ok-layers.layers.items (c.in_ok-layers.ensures.there s.stands))

@@ -1,0 +1,10 @@
+use Rattle.std.proofs.Common.{◌≡◌, drop}
+use Rattle.jt_uses.specs.UseView.{sites_view}
+use Rattle.jt_checks.specs.internal.ScopeView.{in_scope}
+use Rattle.jt_checks.specs.internal.UseRules as broken
+use Rattle.jt_checks.proofs.uses.uses_broken.Given as goal
+
+abbrev pub invariant-loop-site : goal.invariant-loop-site
+invariant-loop-site l =
+    in_scope broken.uses_broken l.scope (sites_view (drop l.site-index l.uses))
+    ≡ in_scope broken.uses_broken l.scope (sites_view l.uses)

@@ -1,0 +1,150 @@
+//! Checks the static rules of uses and finds the first broken one, in the order of the source.
+
+ghost use Rattle.std.specs.Prelude.{◌≡◌, IfOk};
+ghost use Rattle.std.specs.List.{count_by};
+ghost use Rattle.jt_ast.specs.ExpressionView.{expr_view};
+ghost use Rattle.jt_ast.specs.StatementView.{parameters_view};
+ghost use Rattle.jt_checks.specs.internal.RuleTests as rules;
+ghost use Rattle.jt_uses.specs.UseView.{site_view, sites_view};
+ghost use Rattle.jt_checks.specs.internal.ScopeView.{in_scope};
+ghost use Rattle.jt_checks.specs.internal.UseRules as broken;
+
+use crate::arguments::{any_repeated, filter_broken, refused, test_broken, unless};
+use crate::calls::{call_broken, name_of};
+use crate::scope::Scope;
+use jt_ast::{Expr, Parameter};
+use jt_ids::LoopField;
+use jt_names::parameter_names;
+use jt_rules::ScopeError;
+use jt_uses::{Enclosing, Use, UseSite};
+use std::alloc::{AllocError, Global};
+
+/// The greatest number of parameters of a macro.
+const MAX_PARAMETERS: usize = 255;
+
+/// Returns the rule that a name breaks when it is read by itself.
+fn read_alone(name: &str) -> Option<ScopeError>
+    ensures { result ≡ rules.read_alone name.now }
+{
+    match name {
+        "loop" => Some(ScopeError::LoopOutside),
+        "self" | "super" | "range" => Some(ScopeError::NotCallable),
+        _ => None,
+    }
+}
+
+/// Returns the rule that a name breaks when it is read as a value, or bound.
+fn used(scope: &Scope<'_>, name: &str) -> Option<ScopeError>
+    ensures { result ≡ in_scope rules.used scope.now name.now }
+{
+    read_alone(name).or(refused(scope.is_macro(name), ScopeError::MacroAsValue))
+}
+
+/// Returns the rule that a read of a field of `loop` breaks.
+fn field_broken(field: &str, around: Enclosing) -> Option<ScopeError>
+    ensures { result ≡ broken.field_broken field.now around }
+{
+    let right = around.in_loop && LoopField::by_name(field).is_some();
+    refused(!right, ScopeError::LoopOutside)
+}
+
+/// Returns `LoopOutside` if a callee is `loop` itself, or a field of it other than `cycle`.
+#[tactic(auto, using(crate::proofs::AttributeForms::attribute_broken))]
+fn callee_broken(callee: &Expr) -> Option<ScopeError>
+    ensures { result ≡ rules.callee_broken (expr_view callee.now) }
+{
+    match callee {
+        Expr::Name(name) => refused(name.as_str() == "loop", ScopeError::LoopOutside),
+        Expr::Attribute(value, field) => {
+            let of = name_of(value)?;
+            refused(
+                of == "loop" && field.as_str() != "cycle",
+                ScopeError::LoopOutside,
+            )
+        }
+        _ => None,
+    }
+}
+
+/// Returns the rule that a macro breaks by its name and the number and the names of its parameters.
+fn macro_broken(
+    alloc: Global,
+    name: &str,
+    parameters: &[Parameter],
+) -> Result<Option<ScopeError>, AllocError>
+    ensures { IfOk result
+        (λ o. o ≡ rules.macro_broken name.now (parameters_view parameters.now)) }
+{
+    let names = parameter_names(alloc, parameters)?;
+    let again = unless(!any_repeated(alloc, &names)?);
+    let many = refused(MAX_PARAMETERS < parameters.len(), ScopeError::TooManySlots);
+    Ok(read_alone(name).or(again.or(many)))
+}
+
+/// Returns the rule that a use breaks.
+#[tactic(auto, using(crate::proofs::ScopeLookup::its_filters))]
+fn site_broken(scope: &Scope<'_>, site: &UseSite<'_>) -> Result<Option<ScopeError>, AllocError>
+    ensures { IfOk result (λ o. o ≡ in_scope broken.site_broken scope.now (site_view site.now)) }
+{
+    let around = site.place.around;
+    match site.made {
+        Use::Reads(name) | Use::Binds(name) => Ok(used(scope, name)),
+        Use::ReadsLoopField(field) => Ok(field_broken(field, around)),
+        Use::Calls {
+            callee,
+            arguments,
+            keywords,
+        } => {
+            let call = call_broken(scope, around, callee, arguments, keywords)?;
+            Ok(callee_broken(callee).or(call))
+        }
+        Use::Filters {
+            name,
+            arguments,
+            keywords,
+        } => filter_broken(scope.alloc, name, arguments, keywords),
+        Use::Tests {
+            name,
+            arguments,
+            keywords,
+        } => Ok(test_broken(name, arguments, keywords)),
+        Use::DeclaresMacro {
+            name,
+            parameters,
+            ..
+        } => macro_broken(scope.alloc, name, parameters),
+        Use::BindsLibrary { name, .. } | Use::BindsMacro { name, .. } => Ok(read_alone(name)),
+        Use::DeclaresBlock { .. } | Use::Includes { .. } | Use::Imports(_) | Use::Extends(_) => {
+            Ok(None)
+        }
+    }
+}
+
+/// Returns the first rule that uses break.
+pub(crate) fn uses_broken(
+    scope: &Scope<'_>,
+    uses: &[UseSite<'_>],
+) -> Result<Option<ScopeError>, AllocError>
+    ensures { IfOk result (λ o. o ≡ in_scope broken.uses_broken scope.now (sites_view uses.now)) }
+{
+    for site in uses {
+        if let Some(rule) = site_broken(scope, site)? {
+            return Ok(Some(rule));
+        }
+    }
+    Ok(None)
+}
+
+/// Returns whether a use binds a name by `set`, `for`, `with` or as a parameter.
+fn binds_name(site: &UseSite<'_>) -> bool
+    ensures { result ≡ broken.binds_name (site_view site.now) }
+{
+    matches!(site.made, Use::Binds(_))
+}
+
+/// Returns how many names uses bind, each counted as often as it is written.
+pub(crate) fn count_bindings(uses: &[UseSite<'_>]) -> usize
+    ensures { result ≡ count_by broken.binds_name (sites_view uses.now) }
+{
+    uses.iter().filter(|site| binds_name(site)).count()
+}

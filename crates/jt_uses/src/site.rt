@@ -1,0 +1,154 @@
+//! Defines a use: what a template does at one of its places.
+
+ghost use Rattle.std.specs.Prelude.{◌≡◌, IfOk};
+ghost use Rattle.jt_uses.specs.Uses.{at, inside_loop, inside_block, inside_macro, escaped};
+ghost use Rattle.jt_uses.specs.UseView.{Adds, use_view};
+
+use jt_ast::{Expr, IncludeContext, Missing, Parameter, Stmt};
+use std::alloc::AllocError;
+use std::mem::size_of;
+
+/// The context of a use: whether it is inside a loop of the same block or macro body, whether it is
+/// inside a block, and the option of the nearest `autoescape` tag around it.
+#[derive(Clone, Copy)]
+pub struct Enclosing {
+    pub in_loop: bool,
+    pub in_block: bool,
+    pub escaping: Option<bool>,
+}
+
+impl Enclosing {
+    /// Returns the context of the body of a loop.
+    pub(crate) fn in_a_loop(self) -> Self
+        ensures { result ≡ inside_loop self }
+    {
+        Enclosing {
+            in_loop: true,
+            ..self
+        }
+    }
+
+    /// Returns the context of the body of a macro.
+    pub(crate) fn in_a_macro(self) -> Self
+        ensures { result ≡ inside_macro self }
+    {
+        Enclosing {
+            in_loop: false,
+            in_block: false,
+            ..self
+        }
+    }
+
+    /// Returns the context of the body of a block.
+    pub(crate) fn in_a_block(self) -> Self
+        ensures { result ≡ inside_block self }
+    {
+        Enclosing {
+            in_loop: false,
+            in_block: true,
+            ..self
+        }
+    }
+
+    /// Returns the context of the body of an `autoescape` tag.
+    pub(crate) fn escaped(self, escaping: bool) -> Self
+        ensures { result ≡ escaped escaping self }
+    {
+        Enclosing {
+            escaping: Some(escaping),
+            ..self
+        }
+    }
+}
+
+/// The line of a tag, and the context of the uses in it.
+#[derive(Clone, Copy)]
+pub struct Place {
+    pub line: u32,
+    pub around: Enclosing,
+}
+
+/// A use: what a template does at a place.
+#[derive(Clone, Copy)]
+pub enum Use<'a> {
+    /// A read of a name as a value.
+    Reads(&'a str),
+    /// A binding of a name by `set`, `for` or `with`, or as a parameter.
+    Binds(&'a str),
+    /// A read of a field of `loop`.
+    ReadsLoopField(&'a str),
+    /// A call of an expression.
+    Calls {
+        callee: &'a Expr,
+        arguments: &'a [Expr],
+        keywords: &'a [(String, Expr)],
+    },
+    /// A filter, with the arguments after its input.
+    Filters {
+        name: &'a str,
+        arguments: &'a [Expr],
+        keywords: &'a [(String, Expr)],
+    },
+    /// A test, with the arguments after the tested value.
+    Tests {
+        name: &'a str,
+        arguments: &'a [Expr],
+        keywords: &'a [(String, Expr)],
+    },
+    /// A declaration of a macro.
+    DeclaresMacro {
+        name: &'a str,
+        parameters: &'a [Parameter],
+        body: &'a [Stmt],
+    },
+    /// A block.
+    DeclaresBlock {
+        name: &'a str,
+        scoped: bool,
+        required: bool,
+        body: &'a [Stmt],
+    },
+    /// An include of a template.
+    Includes {
+        name: &'a str,
+        missing: Missing,
+        names: IncludeContext,
+    },
+    /// An import of a library.
+    Imports(&'a str),
+    /// A binding of a name to a library.
+    BindsLibrary {
+        library: &'a str,
+        name: &'a str,
+    },
+    /// A binding of a name to the macro `called` of a library.
+    BindsMacro {
+        library: &'a str,
+        called: &'a str,
+        name: &'a str,
+    },
+    /// An `extends` tag with the name of the parent.
+    Extends(&'a str),
+}
+
+/// A use and its place.
+#[derive(Clone, Copy)]
+pub struct UseSite<'a> {
+    pub place: Place,
+    pub made: Use<'a>,
+}
+
+// A use takes at most 64 bytes.
+const _: () = prove!(size_of::<UseSite<'static>>() <= 64);
+
+/// Appends a use.
+pub(crate) fn add_use<'a>(
+    found: &mut Vec<UseSite<'a>>,
+    place: Place,
+    made: Use<'a>,
+) -> Result<(), AllocError>
+    ensures { IfOk result (λ _. Adds found.old found.new (at place (use_view made.entry))) }
+{
+    found.push(UseSite { place, made })?;
+    Ok(())
+}
