@@ -113,10 +113,7 @@ fn list_of(
 {
     let count = count(start, stop, step);
     allow(count.saturating_add(1), 1, limits)?;
-    made(Value::range(
-        alloc,
-        NumberRange::new(start, step, count as usize),
-    ))
+    made(Value::range(alloc, NumberRange::new(start, step, count as usize)))
 }
 
 /// Returns the length of the list of the numbers from `start` by `step` to before `stop`.

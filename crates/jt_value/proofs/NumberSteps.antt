@@ -69,7 +69,8 @@ first_stepped (suc (suc n)) s d r some f g h room add =
     (ap (λ (m : ℕ). item (number s) (stepped m (s +ℤ d) d)) fewer)
 
 -- The list with one more item, before what is left.
-pub moved_before : (ws : Items) (t : Tree) (us : Items) → joined_items (more_items ws t) us ≡ joined_items ws (item t us)
+pub moved_before : (ws : Items) (t : Tree) (us : Items)
+    → joined_items (more_items ws t) us ≡ joined_items ws (item t us)
 moved_before no_items t us = refl
 moved_before (item w ws) t us = ap (item w) (moved_before ws t us)
 

@@ -6,7 +6,7 @@ use Rattle.jt_value.specs.KeySearch.{Finds}
 use Rattle.jt_value.specs.ListItems.{numbers_of}
 use Rattle.jt_value.specs.Payload.{joined_items}
 use Rattle.jt_value.specs.View.{items_view, entries_view}
-use Rattle.jt_value.specs.internal.Stored.{IsOneOf}
+use Rattle.jt_value.specs.Stored.{IsOneOf}
 use Rattle.jt_value.specs.declared.payload.ValueList.TheInside as list
 use Rattle.jt_value.specs.declared.payload.ValueMap.TheInside as map
 

@@ -7,7 +7,8 @@ ghost use Rattle.jt_value.specs.internal.InOrder.{to_come, IsInOrder, HasKeyCoun
 ghost use Rattle.jt_value.specs.Tree.{items_size, items_nesting, entries_size, entries_nesting};
 ghost use Rattle.jt_value.specs.ListItems.{listed, numbers_of};
 ghost use Rattle.jt_value.specs.Payload.{more_items, joined_items};
-ghost use Rattle.jt_value.specs.internal.Stored.{IsOneOf, IsStored};
+ghost use Rattle.jt_value.specs.Stored.{IsOneOf};
+ghost use Rattle.jt_value.specs.internal.Stored.{IsStored};
 ghost use Rattle.jt_value.specs.View.{view, items_view, entries_view};
 
 use crate::in_order::InOrder;

@@ -132,7 +132,12 @@ fn an_owned_list_takes_another(rt: HostRuntime) -> Result<(), Fail> {
     let (left, right) = (list_of(alloc, 1)?, list_of(alloc, 2)?);
     let kept = right.try_clone(alloc)?;
     let sum = binary_owned(alloc, OpId::Add, left, right, limits)?;
-    assert!(rt; matches!(sum.as_list(), Some(ListItems::Values([Value::Int(1), Value::Int(2)]))));
+    assert!(rt;
+        matches!(
+            sum.as_list(),
+            Some(ListItems::Values([Value::Int(1), Value::Int(2)]))
+        )
+    );
     let shared = binary_owned(
         alloc,
         OpId::Add,
@@ -140,7 +145,12 @@ fn an_owned_list_takes_another(rt: HostRuntime) -> Result<(), Fail> {
         list_of(alloc, 3)?,
         limits,
     )?;
-    assert!(rt; matches!(shared.as_list(), Some(ListItems::Values([Value::Int(2), Value::Int(3)]))));
+    assert!(rt;
+        matches!(
+            shared.as_list(),
+            Some(ListItems::Values([Value::Int(2), Value::Int(3)]))
+        )
+    );
     assert!(rt; matches!(kept.as_list(), Some(ListItems::Values([Value::Int(2)]))));
     Ok(())
 }
