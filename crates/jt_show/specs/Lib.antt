@@ -1,0 +1,5 @@
+pub mod Quoted
+pub mod Words
+pub mod Instructions
+pub mod Listing
+pub mod internal
