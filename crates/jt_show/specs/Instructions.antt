@@ -81,7 +81,7 @@ operands k (op.JumpIfTrue c) = codes " " ++ label c
 operands k (op.Op a) = worded a (option_map operator_word (operator_of a))
 operands k (op.Filter a b c) =
     worded a (option_map filter_word (filter_of a))
-    ++ (codes ", values " ++ (decimal b ++ (codes ", flag " ++ decimal c)))
+    ++ (codes ", values " ++ (decimal b ++ (codes ", escaping " ++ decimal c)))
 operands k (op.Test a b) =
     worded a (option_map test_word (test_of a)) ++ (codes ", values " ++ decimal b)
 operands k (op.MakeList c) = number_text c

@@ -3,18 +3,20 @@
 use Rattle.std.specs.Prelude.{ℕ, zero, suc, ◌+◌, ◌==◌, ◌&&◌, Bool, true, false, List, [], ◌∷◌, ◌++◌, length, flat_map}
 use Rattle.std.specs.Prelude.{Option, Some, None, codes, if◌then◌else◌}
 use Rattle.std.specs.List.{list_any}
+use Rattle.std.specs.Option.{option_or}
 use Rattle.std.specs.Str.{bytes_eq}
 use Rattle.std.specs.Fmt.{decimal}
 use Rattle.jt_value.specs.Place.{Place}
 use Rattle.jt_image.specs.Code.{Name, Constant, Section, Code}
-use Rattle.jt_image.specs.Readers.{place_there}
+use Rattle.jt_image.specs.Readers.{header_of, place_there}
+use Rattle.jt_image.specs.declared.UnitHeader.{UnitHeader}
 use Rattle.jt_image.specs.declared.version.Version.{Version}
 use Rattle.jt_image.specs.declared.version.Version.TheVariants as version
 use Rattle.jt_image.specs.declared.instruction.Instruction.{Instruction}
 use Rattle.jt_image.specs.declared.instruction.Instruction.TheVariants as op
 use Rattle.jt_show.specs.Quoted.{quoted}
-use Rattle.jt_show.specs.Words.{constant_text}
-use Rattle.jt_show.specs.Instructions.{instruction_text, label}
+use Rattle.jt_show.specs.Words.{constant_text, kind_word}
+use Rattle.jt_show.specs.Instructions.{instruction_text, label, worded}
 
 -- The lines of the items of a list, each with its number, from the number of the first one.
 abbrev pub numbered : {A : Type 0} → (ℕ → A → List ℕ) → ℕ → List A → List ℕ
@@ -70,26 +72,22 @@ label_line target point = if target then label point ++ codes ":\n" else []
 
 -- ---- places
 
--- The place of the instruction before a point. Before the first one there is none.
+-- The place of the last instruction before a point that has one, if one has.
 abbrev pub place_before : Code → ℕ → ℕ → Option Place
 place_before k unit zero = None
-place_before k unit (suc point) = place_there k unit point
+place_before k unit (suc point) = option_or (place_there k unit point) (place_before k unit point)
 
-abbrev pub is_same : Option Place → Option Place → Bool
-is_same None None = true
-is_same None (Some q) = false
-is_same (Some p) None = false
-is_same (Some p) (Some q) = p.line == q.line && bytes_eq p.template q.template
+abbrev pub is_same : Option Place → Place → Bool
+is_same None q = false
+is_same (Some p) q = p.line == q.line && bytes_eq p.template q.template
 
-abbrev pub place_text : Option Place → List ℕ
-place_text None = codes "  without a place\n"
-place_text (Some p) = codes "  in " ++ (quoted p.template ++ (codes " line " ++ (decimal p.line ++ codes "\n")))
+abbrev pub place_text : Place → List ℕ
+place_text p = codes "  in " ++ (quoted p.template ++ (codes " line " ++ (decimal p.line ++ codes "\n")))
 
--- The place of an instruction has a line of its own if it is another one than before.
-abbrev pub place_line : Code → ℕ → ℕ → List ℕ
-place_line k unit point =
-    if is_same (place_before k unit point) (place_there k unit point) then []
-    else place_text (place_there k unit point)
+-- The line of the place of an instruction, if it has a place, and it is not the same as the place before.
+abbrev pub place_line : Option Place → Option Place → List ℕ
+place_line before None = []
+place_line before (Some p) = if is_same before p then [] else place_text p
 
 -- ---- units
 
@@ -97,19 +95,21 @@ abbrev pub instruction_line : Code → ℕ → Instruction → List ℕ
 instruction_line k point i =
     codes "  " ++ (decimal point ++ (codes "\t" ++ (instruction_text k i ++ codes "\n")))
 
--- The lines of an instruction: its place if it changes, its label if a jump leads to it, and itself.
+-- The lines of an instruction: its place if it changes, its label if a jump may lead to it, and itself.
 abbrev pub point_text : Code → ℕ → List Instruction → ℕ → Instruction → List ℕ
 point_text k unit code point i =
-    place_line k unit point ++ (label_line (is_target code point) point ++ instruction_line k point i)
+    place_line (place_before k unit point) (place_there k unit point)
+    ++ (label_line (is_target code point) point ++ instruction_line k point i)
 
-abbrev pub unit_line : ℕ → Section → List ℕ
+-- The line of a unit: its number, and the four numbers of its header.
+abbrev pub unit_line : ℕ → UnitHeader → List ℕ
 unit_line n unit =
     codes "unit " ++ (decimal n ++ (codes ": parameters " ++ (decimal unit.parameters
-    ++ (codes ", kind " ++ (decimal unit.kind ++ (codes ", locals " ++ (decimal unit.locals
-    ++ (codes ", instructions " ++ (decimal (length unit.code) ++ codes "\n")))))))))
+    ++ (codes ", kind" ++ (worded unit.kind (kind_word unit.kind) ++ (codes ", locals " ++ (decimal unit.locals
+    ++ (codes ", instructions " ++ (decimal unit.instructions ++ codes "\n")))))))))
 
 abbrev pub unit_text : Code → ℕ → Section → List ℕ
-unit_text k n unit = unit_line n unit ++ numbered (point_text k n unit.code) 0 unit.code
+unit_text k n unit = unit_line n (header_of unit) ++ numbered (point_text k n unit.code) 0 unit.code
 
 -- ---- the whole
 

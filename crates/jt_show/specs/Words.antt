@@ -63,6 +63,11 @@ constant_text (number z) = signed_decimal z
 constant_text (text t) = quoted t
 constant_text (markup t) = codes "markup " ++ quoted t
 
+-- The kind of a unit: 0 emits, 1 returns a value.
+abbrev pub kind_word : ℕ → Option (List ℕ)
+kind_word kind =
+    if kind == 0 then Some (codes "emits") else if kind == 1 then Some (codes "returns a value") else None
+
 -- The flag of Emit: 0 writes a text as it is, 1 escapes it.
 abbrev pub emit_word : ℕ → Option (List ℕ)
 emit_word flag = if flag == 0 then Some (codes "plain") else if flag == 1 then Some (codes "escaped") else None

@@ -122,7 +122,11 @@ fn put_number(number: u32, out: &mut String) -> Result<(), AllocError>
 }
 
 /// Appends a number, and in parentheses its word if it has one.
-fn put_worded(number: u8, word: Option<&str>, out: &mut String) -> Result<(), AllocError>
+pub(crate) fn put_worded(
+    number: u8,
+    word: Option<&str>,
+    out: &mut String,
+) -> Result<(), AllocError>
     ensures { OnOk result (string_bytes out.new
         ≡ string_bytes out.old ++ worded number (option_map (λ w. w.now) word.entry)) }
 {
@@ -144,10 +148,10 @@ fn put_target(point: u32, out: &mut String) -> Result<(), AllocError>
 fn put_filter(filter: u8, values: u16, flag: u32, out: &mut String) -> Result<(), AllocError>
     ensures { OnOk result (string_bytes out.new
         ≡ string_bytes out.old ++ (worded filter (option_map filter_word (filter_of filter))
-        ++ (codes ", values " ++ (decimal values ++ (codes ", flag " ++ decimal flag))))) }
+        ++ (codes ", values " ++ (decimal values ++ (codes ", escaping " ++ decimal flag))))) }
 {
     put_worded(filter, filter_word(filter), out)?;
-    write!(out, ", values {values}, flag {flag}")
+    write!(out, ", values {values}, escaping {flag}")
 }
 
 /// Appends the operands of Test.

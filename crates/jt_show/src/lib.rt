@@ -11,9 +11,9 @@
 //!   0     "n"
 //! constants 1
 //!   0     "one\n"
-//! unit 0: parameters 0, kind 0, locals 0, instructions 4
+//! unit 0: parameters 0, kind 0 (emits), locals 0, instructions 4
 //!   in "t" line 1
-//!   0     GLoad 0
+//!   0     GLoad 0 ("n")
 //!   1     JumpIfFalse L3
 //!   in "t" line 2
 //!   2     Data 0 ("one\n")
@@ -21,9 +21,10 @@
 //!   3     Return
 //! ```
 //!
-//! - show: the listing of a code.
+//! - show: the listing of a code, and of the code that bytes spell.
 //! - tables, units: the parts of a listing.
 //! - places, targets: where a place or a label has a line.
+//! - slots: the names of globals by their slots.
 //! - instructions, words, quoting: the parts of a line.
 //!
 //! Read first: specs/Listing.antt.
@@ -39,4 +40,4 @@ mod targets;
 mod units;
 mod words;
 
-pub use show::listing;
+pub use show::{listing, listing_of};

@@ -1,13 +1,27 @@
 //! Lists a code.
 ghost use Rattle.std.specs.Prelude.{◌≡◌, IfOk, string_bytes};
 ghost use Rattle.jt_show.specs.Listing as lines;
+ghost use Rattle.jt_show.specs.Listed.{Lists};
 
 use crate::slots::slot_names;
 use crate::tables::{put_constants, put_globals, version_line};
 use crate::units::put_units;
-use jt_image::Code;
+use jt_image::{Code, ImageError, view};
 use jt_value::NoMemory;
 use std::alloc::Global;
+
+/// Returns the listing of the code that `bytes` spell. The code is not verified.
+///
+/// # Errors
+///
+/// The first fault in the bytes, I1 to I8.
+/// `NoMemory` if a growth is refused.
+pub fn listing_of(alloc: Global, bytes: &[u8]) -> Result<String, ImageError>
+    ensures { Lists bytes.now result }
+{
+    let code = view(alloc, bytes)?;
+    Ok(listing(alloc, &code)?)
+}
 
 /// Returns the listing of a code.
 ///

@@ -1,6 +1,7 @@
 //! Finds the names of globals by their slots.
 ghost use Rattle.std.specs.Prelude.{◌≡◌, ◌<◌, ℕ, IfOk, length};
-ghost use Rattle.jt_show.specs.internal.SlotNames.{AreNames, first_of, named_at, named_by};
+ghost use Rattle.std.specs.Option.{option_or};
+ghost use Rattle.jt_show.specs.internal.SlotNames.{AreNames, named_at, named_by};
 
 use jt_image::Code;
 use std::alloc::{AllocError, Global};
@@ -24,7 +25,7 @@ fn add_name<'a>(slots: &mut Vec<Option<&'a str>>, slot: u16, name: &'a str)
     ensures len { length slots.new.items ≡ length slots.old.items }
     ensures each { (s : ℕ) → s < length slots.old.items
         → named_at slots.new.items s
-        ≡ first_of (named_at slots.old.items s)
+        ≡ option_or (named_at slots.old.items s)
         (named_by (record { slot = slot; text = name.now }) s) }
 {
     let slot = usize::from(slot);

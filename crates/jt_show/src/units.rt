@@ -2,15 +2,15 @@
 ghost use Rattle.std.specs.Prelude.{◌≡◌, ◌<◌, ◌++◌, ℕ, OnOk, Some, false, length, slice_get};
 ghost use Rattle.std.specs.Prelude.{slice_index_or, string_bytes};
 ghost use Rattle.jt_image.specs.Code.{Section};
-ghost use Rattle.jt_image.specs.Readers.{header_of};
 ghost use Rattle.jt_show.specs.Listing.{instruction_line, is_target, label_line, numbered};
 ghost use Rattle.jt_show.specs.Listing.{point_text, unit_line, unit_text};
 ghost use Rattle.jt_show.specs.internal.SlotNames.{AreNames};
 
-use crate::instructions::put_instruction;
+use crate::instructions::{put_instruction, put_worded};
 use crate::places::put_place_line;
 use crate::targets::jump_targets;
-use jt_image::{Code, Instruction, UnitCode, UnitHeader};
+use crate::words::kind_word;
+use jt_image::{Code, Instruction, PlaceRef, UnitCode, UnitHeader};
 use std::alloc::{AllocError, Global};
 use std::fmt::Write;
 
@@ -62,17 +62,17 @@ fn put_unit<C: Code>(
 
 /// Appends the line of a unit.
 fn put_unit_line(unit: usize, header: UnitHeader, out: &mut String) -> Result<(), AllocError>
-    ensures { (section : Section) → header ≡ header_of section
-        → OnOk result (string_bytes out.new ≡ string_bytes out.old ++ unit_line unit section) }
+    ensures { OnOk result (string_bytes out.new ≡ string_bytes out.old ++ unit_line unit header) }
 {
-    let parameters = header.parameters;
-    let kind = header.kind;
-    let locals = header.locals;
-    let count = header.instructions;
-    writeln!(
-        out,
-        "unit {unit}: parameters {parameters}, kind {kind}, locals {locals}, instructions {count}"
-    )
+    let UnitHeader {
+        parameters,
+        kind,
+        locals,
+        instructions,
+    } = header;
+    write!(out, "unit {unit}: parameters {parameters}, kind")?;
+    put_worded(kind, kind_word(kind), out)?;
+    writeln!(out, ", locals {locals}, instructions {instructions}")
 }
 
 /// The instructions of a unit, with the number of the unit.
@@ -100,11 +100,14 @@ fn put_points<C: Code>(
         ++ numbered (point_text (C.code code.now) points.now.unit points.now.instructions) 0
         points.now.instructions) }
 {
+    let mut before: Option<PlaceRef<'_>> = None;
     'points: for point in 0..points.targets.len() {
         let Some(instruction) = points.instructions.get(point) else {
             unreachable!()
         };
-        put_place_line(code, points.unit, point, out)?;
+        let place = code.place(points.unit, point);
+        put_place_line(before, place, out)?;
+        before = place.or(before);
         put_label_line(points.targets[point], point, out)?;
         put_instruction_line(code, slots, point, instruction, out)?;
     }

@@ -48,6 +48,17 @@ pub(crate) fn field_word(id: u8) -> Option<&'static str>
     }
 }
 
+/// Returns what a listing calls the kind of a unit.
+pub(crate) fn kind_word(kind: u8) -> Option<&'static str>
+    ensures { option_map (λ word. word.now) result ≡ words.kind_word kind }
+{
+    match kind {
+        0 => Some("emits"),
+        1 => Some("returns a value"),
+        _ => None,
+    }
+}
+
 /// Returns what a listing calls the flag of Emit.
 pub(crate) fn emit_word(flag: u8) -> Option<&'static str>
     ensures { option_map (λ word. word.now) result ≡ words.emit_word flag }

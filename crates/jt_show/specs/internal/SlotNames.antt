@@ -8,11 +8,6 @@ use Rattle.jt_show.specs.Instructions.{global_name}
 abbrev pub named_at : List (Option (Bor (List ℕ))) → ℕ → Option (List ℕ)
 named_at slots slot = option_map (λ name. name.now) (slice_index_or slots slot None)
 
--- The first of two names that exists.
-abbrev pub first_of : Option (List ℕ) → Option (List ℕ) → Option (List ℕ)
-first_of None name = name
-first_of (Some text) name = Some text
-
 -- The text of a name, if it is the name of the slot.
 abbrev pub named_by : Name → ℕ → Option (List ℕ)
 named_by name slot = if name.slot == slot then Some name.text else None

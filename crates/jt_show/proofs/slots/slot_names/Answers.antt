@@ -1,11 +1,12 @@
 use Rattle.std.proofs.Common.{arith, ◌∙◌}
+use Rattle.jt_image.specs.Code.{Name}
 use Rattle.jt_show.proofs.SlotsNamed.{names_all, names_next}
 use Rattle.jt_show.proofs.slots.slot_names.Goals as goal
 
 pub names-preserved : goal.names-preserved
 names-preserved g c =
     let k = g.C.Code.code c.args.code.now in
-    let name = record { slot = c.in-Some.slot; text = c.in-Some.name.now } in
+    let name : Name = record { slot = c.in-Some.slot; text = c.in-Some.name.now } in
     record {
       len = c.add_name.ensures.len ∙ c.names.invariant.len;
       each =
