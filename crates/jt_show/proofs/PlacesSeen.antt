@@ -1,6 +1,6 @@
 -- The last place before a point, as the points are read one after the other.
-use Rattle.std.proofs.Common.{◌≡◌, ◌∙◌, ◌+◌, ◌++◌, ℕ, Bool, List, Option, Some, None, add-one, ap, ap₂, option_map, refl}
-use Rattle.std.proofs.Common.{append_assoc, rules, arith}
+use Rattle.std.proofs.Common.{◌≡◌, ◌∙◌, ◌+◌, ◌++◌, ℕ, Bool, List, Option, Some, None, add-one, ap, ap₂, append_assoc}
+use Rattle.std.proofs.Common.{option_map, refl}
 use Rattle.std.specs.Option.{option_or}
 use Rattle.jt_image.specs.Code.{Code}
 use Rattle.jt_image.specs.Readers.{place_ref_view, place_there}

@@ -1,6 +1,6 @@
 -- The names of slots, as a table takes them one after the other.
-use Rattle.std.proofs.Common.{◌≡◌, ◌+◌, ◌<◌, ◌≤◌, ℕ, Bool, true, false, eqb, cond, List, ◌∷◌, Option, Some, None, length}
-use Rattle.std.proofs.Common.{drop, get_or, refl, sym, ap, ◌∙◌, arith, inl, inr}
+use Rattle.std.proofs.Common.{◌≡◌, ◌+◌, ◌<◌, ◌≤◌, ℕ, Bool, true, false, eqb, cond, List, ◌∷◌, Option, Some, None}
+use Rattle.std.proofs.Common.{length, drop, get_or, refl, sym, ap, ◌∙◌, arith, inl, inr}
 use Rattle.std.specs.Prelude.{nat_lt, slice_get}
 use Rattle.std.specs.Borrow.{Bor}
 use Rattle.std.specs.Option.{option_or}
@@ -8,7 +8,7 @@ use Rattle.std.proofs.lemmas.Bool.{cases_lt}
 use Rattle.std.proofs.lemmas.Bool.Decides.{nat_tests}
 use Rattle.std.proofs.lemmas.List.{drop_all, get_or_past}
 use Rattle.jt_image.specs.Code.{Name, Code}
-use Rattle.jt_show.specs.Instructions.{global_name, name_of_slot}
+use Rattle.jt_show.specs.Instructions.{name_of_slot}
 use Rattle.jt_show.specs.internal.SlotNames.{AreNames, named_at, named_by}
 use Rattle.jt_show.proofs.NumberedLines.{drop_get}
 

@@ -1,5 +1,5 @@
 -- The line of a unit and the lines of its instructions are the text of the unit.
-use Rattle.std.proofs.Common.{◌≡◌, ◌∙◌, ◌++◌, ℕ, List, Option, Some, ap, append_assoc, option_map, rules}
+use Rattle.std.proofs.Common.{◌≡◌, ◌∙◌, ◌++◌, ℕ, List, Option, Some, ap, append_assoc, option_map}
 use Rattle.jt_image.specs.Code.{Code, Section}
 use Rattle.jt_image.specs.Readers.{header_of}
 use Rattle.jt_image.specs.declared.Instruction.{Instruction}

@@ -122,11 +122,7 @@ fn put_number(number: u32, out: &mut String) -> Result<(), AllocError>
 }
 
 /// Appends a number, and in parentheses its word if it has one.
-pub(crate) fn put_worded(
-    number: u8,
-    word: Option<&str>,
-    out: &mut String,
-) -> Result<(), AllocError>
+pub(crate) fn put_worded(number: u8, word: Option<&str>, out: &mut String) -> Result<(), AllocError>
     ensures { OnOk result (string_bytes out.new
         ≡ string_bytes out.old ++ worded number (option_map (λ w. w.now) word.entry)) }
 {

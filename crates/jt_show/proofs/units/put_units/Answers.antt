@@ -1,5 +1,4 @@
-use Rattle.std.proofs.Common.{◌≡◌, ◌<◌, arith, length, sym, Some, slice_get}
-use Rattle.std.proofs.lemmas.Option.{slice_get_cases}
+use Rattle.std.proofs.Common.{arith, sym}
 use Rattle.jt_show.specs.Listing.{unit_text}
 use Rattle.jt_show.proofs.NumberedLines.{found, numbered_end, numbered_next}
 use Rattle.jt_show.proofs.units.put_units.Goals as goal
