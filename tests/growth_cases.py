@@ -80,6 +80,7 @@ def of_templates(image_of):
         yield Case(f"compile, {name}", "compile d t out", files, out="out")
         yield Case(f"run, {name}", "run i c", {"i": image, "c": text})
         yield Case(f"check, {name}", "check i", {"i": image})
+        yield Case(f"show, {name}", "show i", {"i": image})
     yield Case("compile, over a file", "compile d t out", in_folder(TEMPLATES["super"][0]), out="out", kept=True)
 
 
@@ -87,6 +88,7 @@ def of_images():
     for name, image in (("X", X), ("N", N), ("Z", Z), ("Y", Y), ("X cut", X[:-1])):
         yield Case(f"run, {name}", "run i c", {"i": image, "c": '{"n": 7}'})
         yield Case(f"check, {name}", "check i", {"i": image})
+        yield Case(f"show, {name}", "show i", {"i": image})
     yield Case("run, without a context", "run i", {"i": X})
     yield Case("run, fuel 1", "run i --fuel 1", {"i": X})
     yield Case("run, N of a list", "run i c", {"i": N, "c": '{"n": [1]}'})

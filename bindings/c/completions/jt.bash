@@ -7,12 +7,12 @@ _jt() {
     COMPREPLY=()
     if ((COMP_CWORD == 1)); then
         mapfile -t COMPREPLY < <(compgen -W \
-            'compile check run render turns upgrade --help --version' -- "$current")
+            'compile check show run render turns upgrade --help --version' -- "$current")
         return
     fi
     case $command in
         compile) options=$templates ;;
-        check | upgrade) ;;
+        check | show | upgrade) ;;
         run) options=$budget ;;
         render) options="$templates $budget" ;;
         turns) options="--slice $budget" ;;

@@ -31,6 +31,7 @@ complete -c jt -s h -l help -d 'Print help'
 complete -c jt -n __fish_use_subcommand -s V -l version -d 'Print the version'
 complete -c jt -n __fish_use_subcommand -a compile -d 'Compile a template into an image'
 complete -c jt -n __fish_use_subcommand -a check -d 'Verify an image'
+complete -c jt -n __fish_use_subcommand -a show -d 'Print the tables and instructions of an image'
 complete -c jt -n __fish_use_subcommand -a run -d 'Run an image and print its text'
 complete -c jt -n __fish_use_subcommand -a render -d 'Compile a template and print its text'
 complete -c jt -n __fish_use_subcommand -a turns -d 'Run images, each for its context, in turns'
@@ -52,4 +53,4 @@ complete -c jt -n '__fish_seen_subcommand_from turns' -x -l slice -d 'How many i
 
 complete -c jt -n '__jt_at 0 compile render' -a '(__fish_complete_directories)'
 complete -c jt -n '__jt_at 1 compile render' -a '(__jt_templates)'
-complete -c jt -n '__jt_at 2 compile render; or __fish_seen_subcommand_from check run turns upgrade' -F
+complete -c jt -n '__jt_at 2 compile render; or __fish_seen_subcommand_from check show run turns upgrade' -F

@@ -62,6 +62,10 @@ compile_app = with_flags (with_rule (with_rule (with_rule (new_app (codes "compi
 abbrev pub check_app : App
 check_app = with_rule (new_app (codes "check")) (word_rule (codes "IMAGE"))
 
+-- The command `show IMAGE`.
+abbrev pub show_app : App
+show_app = with_rule (new_app (codes "show")) (word_rule (codes "IMAGE"))
+
 -- The command `run IMAGE [CONTEXT]`.
 abbrev pub run_app : App
 run_app =
@@ -96,14 +100,15 @@ upgrade_app =
 abbrev pub program_app : App
 program_app = let a = new_app (codes "jt") in
     with_subcommand (with_subcommand (with_subcommand (with_subcommand (with_subcommand
-    (with_subcommand (record a {
+    (with_subcommand (with_subcommand (record a {
       top = record a.top {
         no_binary_name = true;
         has_version = true;
         disable_help_subcommand = true;
         subcommand_required = true;
       };
-    }) compile_app.top) check_app.top) run_app.top) render_app.top) turns_app.top) upgrade_app.top
+    }) compile_app.top) check_app.top) show_app.top) run_app.top) render_app.top) turns_app.top)
+    upgrade_app.top
 
 -- The line has no fault.
 abbrev pub IsClear : List Text → Type 0
@@ -209,6 +214,9 @@ IsCommand name rows (command.Compile dir template out) options budget slice = (n
 IsCommand name rows (command.Check image) options budget slice = (name ≡ codes "check")
     × (string_bytes image ≡ word_of (codes "IMAGE") rows)
     × (options ≡ usual_options) × (budget ≡ usual_budget) × (slice ≡ usual_slice)
+IsCommand name rows (command.Show image) options budget slice = (name ≡ codes "show")
+    × (string_bytes image ≡ word_of (codes "IMAGE") rows)
+    × (options ≡ usual_options) × (budget ≡ usual_budget) × (slice ≡ usual_slice)
 IsCommand name rows (command.Run image context) options budget slice = (name ≡ codes "run")
     × (string_bytes image ≡ word_of (codes "IMAGE") rows) × IsContext rows context
     × (options ≡ usual_options) × IsBudget rows budget × (slice ≡ usual_slice)
@@ -233,8 +241,9 @@ IsAsked (Some found) job =
 -- The name is that of a command.
 abbrev pub IsKnown : Option Text → Type 0
 IsKnown name = (name ≡ Some (codes "compile")) ⊎ ((name ≡ Some (codes "check"))
-    ⊎ ((name ≡ Some (codes "run")) ⊎ ((name ≡ Some (codes "render"))
-    ⊎ ((name ≡ Some (codes "turns")) ⊎ (name ≡ Some (codes "upgrade"))))))
+    ⊎ ((name ≡ Some (codes "show")) ⊎ ((name ≡ Some (codes "run"))
+    ⊎ ((name ≡ Some (codes "render")) ⊎ ((name ≡ Some (codes "turns"))
+    ⊎ (name ≡ Some (codes "upgrade")))))))
 
 -- The line names this command.
 abbrev pub Asks : Text → List Text → Type 0

@@ -147,7 +147,7 @@ const SLICE: Argument = Argument {
     help: "The number of instructions in a turn, 1 to 1000000 [default: 100]",
 };
 
-const COMMANDS: [CommandForm; 6] = [
+const COMMANDS: [CommandForm; 7] = [
     CommandForm {
         name: "compile",
         about: "Compiles a template into an image",
@@ -164,6 +164,11 @@ const COMMANDS: [CommandForm; 6] = [
     CommandForm {
         name: "check",
         about: "Verifies an image",
+        arguments: &[IMAGE],
+    },
+    CommandForm {
+        name: "show",
+        about: "Prints the tables and instructions of an image",
         arguments: &[IMAGE],
     },
     CommandForm {

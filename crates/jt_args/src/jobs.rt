@@ -19,6 +19,10 @@ pub enum Command {
     Check {
         image: String,
     },
+    /// Lists the image at a path.
+    Show {
+        image: String,
+    },
     /// Runs the image at a path and prints its text.
     Run {
         image: String,

@@ -54,6 +54,7 @@ fn asked(alloc: Global, matches: &ArgMatches<'_>) -> Result<Job, JobError>
     match matches.subcommand() {
         Some(("compile", found)) => compile_job(alloc, found),
         Some(("check", found)) => check_job(alloc, found),
+        Some(("show", found)) => show_job(alloc, found),
         Some(("run", found)) => run_job(alloc, found),
         Some(("render", found)) => render_job(alloc, found),
         Some(("turns", found)) => turns_job(alloc, found),
@@ -85,6 +86,19 @@ fn check_job(alloc: Global, found: &ArgMatches<'_>) -> Result<Job, JobError>
     let image = String::from_str(alloc, word(found, "IMAGE"))?;
     Ok(Job {
         command: jobs::Command::Check { image },
+        options: Options::new(),
+        budget: DEFAULT,
+        slice: SLICE,
+    })
+}
+
+fn show_job(alloc: Global, found: &ArgMatches<'_>) -> Result<Job, JobError>
+    ensures ok { IfOk result (IsAsked (Some (codes "show", rows_of (found_of found.now)))) }
+    ensures err { IfErr result (λ e. e ≡ JobError.NoMemory) }
+{
+    let image = String::from_str(alloc, word(found, "IMAGE"))?;
+    Ok(Job {
+        command: jobs::Command::Show { image },
         options: Options::new(),
         budget: DEFAULT,
         slice: SLICE,

@@ -10,7 +10,11 @@ use Rattle.jt_inherit.specs.Chains.{SourceTexts}
 use Rattle.jt_ast.specs.Expressions.{Text}
 use Rattle.jt_value.specs.ContextView.{pairs_of}
 use Rattle.jt_budget.specs.declared.Budget.{Budget}
+use Rattle.jt_image.specs.Code.{Code}
 use Rattle.jt_image.specs.Config.{Outcome}
+use Rattle.jt_image.specs.Reading.{Fails, code_of}
+use Rattle.jt_image.specs.declared.ImageError.TheVariants as image_error
+use Rattle.jt_show.specs.Listing.{listing}
 use Rattle.jt_machine.specs.View.{budget_view}
 use Rattle.jt_contexts.specs.Json.{IsContext}
 use Rattle.jt_sessions.specs.Turns.{World, max_sessions}
@@ -97,6 +101,18 @@ abbrev pub IsChecked : List ℕ → Ending → Type 0
 IsChecked bytes (Ok text) = (n : ℕ × ℕ) × IsCounted bytes n × (string_bytes text ≡ counts_line n)
 IsChecked bytes (Err e) = FailsAs (IsNoImage bytes) e
 
+-- The bytes are no image, and the error is their first fault, unless memory ran out.
+abbrev pub IsNoCode : List ℕ → CallError → Type 0
+IsNoCode bytes (call_error.Image fault) = (fault ≢ image_error.NoMemory) × Fails fault (code_of bytes)
+IsNoCode bytes call_error.NoMemory = Unit {0}
+IsNoCode bytes e = ⊥
+
+-- The listing of the code that the bytes spell, typed or not, or a failure that states why they
+-- spell none.
+abbrev pub IsShown : List ℕ → Ending → Type 0
+IsShown bytes (Ok text) = (code : Code) × (code_of bytes ≡ Ok code) × (string_bytes text ≡ listing code)
+IsShown bytes (Err e) = FailsAs (IsNoCode bytes) e
+
 -- The file at `out` holds an image of the entry's template, and nothing is printed. Or the failure
 -- states why not: that file fails, or there is no image.
 abbrev pub IsWritten : Known → Known → Text → SourceTexts → Text → Options → Ending → Type 0
@@ -125,6 +141,12 @@ module _ (files : Known) where
     pub bytes : List ℕ
     pub held : files.holds image bytes
     pub checked : IsChecked bytes e
+
+  -- The image at a path is listed.
+  pub record Shows (image : Text) (e : Ending) : Type 0 where
+    pub bytes : List ℕ
+    pub held : files.holds image bytes
+    pub shown : IsShown bytes e
 
   -- The image at a path is run for a context.
   pub record Runs (image : Text) (context : Option (String Global)) (b : Budget) (e : Ending) :
@@ -229,6 +251,8 @@ module _ (files after : Known) where
       ⊎ Compiles (string_bytes dir) (string_bytes name) (string_bytes out) o e)
   CommandEnds (command.Check image) o b e =
       IsUnread files (IsPath (string_bytes image)) None e ⊎ Checks files (string_bytes image) e
+  CommandEnds (command.Show image) o b e =
+      IsUnread files (IsPath (string_bytes image)) None e ⊎ Shows files (string_bytes image) e
   CommandEnds (command.Run image context) o b e =
       IsUnread files (IsPath (string_bytes image)) context e
       ⊎ Runs files (string_bytes image) context b e

@@ -7,6 +7,7 @@ ghost use Rattle.jt_program.specs.Ending.{of_host};
 use crate::files::FileError;
 use jt_args::JobError;
 use jt_host::{CallError, HostError};
+use jt_image::ImageError;
 use std::alloc::{AllocError, AllocFailed};
 
 /// The status with which the program ends.
@@ -113,6 +114,17 @@ impl From<CallError> for Failure {
 
     fn from(error: CallError) -> Failure {
         Failure::Call(error)
+    }
+}
+
+impl From<ImageError> for Failure {
+    ghost use Rattle.jt_host.specs.CallErrors.{of_image};
+    ghost use Rattle.jt_program.specs.declared.messages.Failure.TheVariants.{Call};
+
+    ghost from_gives = { λ fault f. f ≡ Call (of_image fault) };
+
+    fn from(fault: ImageError) -> Failure {
+        Failure::Call(fault.into())
     }
 }
 

@@ -10,7 +10,7 @@ ghost use Rattle.jt_args.specs.Line.{Takes, Asks, program_app};
 ghost use Rattle.jt_program.specs.Commands.{Answers, ChangesOnly, Checks, Compiles, Ending};
 ghost use Rattle.jt_program.specs.Commands.{HasImage, HasUpgrade, IsContextAt, IsOfContext, IsPath};
 ghost use Rattle.jt_program.specs.Commands.{IsUnread, IsWriting, JobEnds, LineEnds, LineWrites};
-ghost use Rattle.jt_program.specs.Commands.{Renders, Runs, Upgrades, WritesImage, out_of};
+ghost use Rattle.jt_program.specs.Commands.{Renders, Runs, Shows, Upgrades, WritesImage, out_of};
 ghost use Rattle.jt_program.specs.Ending.{IfUntaken, status_of};
 ghost use Rattle.jt_program.specs.Files.{AreSources, IsLibrary, IsOfDirectory, path_in};
 ghost use Rattle.jt_program.specs.Reports.{Explains, Prints, TookUnlessFailed, memory_line};
@@ -27,6 +27,7 @@ use jt_host::{
 };
 use jt_machine::{Sink, put_all};
 use jt_scan::Options;
+use jt_show::listing_of;
 use jt_value::Context;
 use std::alloc::Global;
 
@@ -156,6 +157,7 @@ fn perform_job<F: Files>(alloc: Global, job: Job, files: &mut F) -> Result<Strin
             compile_to(alloc, files, entry, out)
         }
         Command::Check { image } => check_at(alloc, files, image),
+        Command::Show { image } => show_at(alloc, files, image),
         Command::Run { image, context } => run_at(alloc, files, image, context, budget),
         Command::Render { dir, name, context } => {
             let entry = EntryFile { dir, name, options };
@@ -244,6 +246,16 @@ fn check_at<F: Files>(alloc: Global, files: &mut F, image: String) -> Result<Str
     let bytes = bytes_at(files, image)?;
     let (units, instructions) = counts_of(alloc, &bytes)?;
     Ok(format!(in alloc; "ok units={units} instructions={instructions}\n")?)
+}
+
+/// Returns the listing of the image at a path. The image is not verified.
+fn show_at<F: Files>(alloc: Global, files: &mut F, image: String) -> Result<String, Failure>
+    ensures ends { IsUnread (F.known (F.contents files.old)) (IsPath (string_bytes image)) None
+        result ⊎ Shows (F.known (F.contents files.old)) (string_bytes image) result }
+    ensures kept { F.contents files.new ≡ F.contents files.old }
+{
+    let bytes = bytes_at(files, image)?;
+    Ok(listing_of(alloc, &bytes)?)
 }
 
 /// Runs the image at a path for the context of a file, and returns its text.

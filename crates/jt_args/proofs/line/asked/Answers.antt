@@ -1,11 +1,20 @@
 use Rattle.std.proofs.Common.{◌≡◌, Some, codes, refl, rules, subst, arith}
 use Rattle.std.proofs.lemmas.Result.{IfErr-weaker}
 use Rattle.clap.specs.Words.{found_of, rows_of, subcommand_rows_of}
-use Rattle.jt_args.specs.Line.{ArePaired, HasNumbers}
+use Rattle.jt_args.specs.Line.{ArePaired, HasNumbers, HasSwitches}
 use Rattle.jt_args.proofs.Found.{usage_weaker}
 use Rattle.jt_args.proofs.Pairing.{at_rows, no_name, no_other}
 use Rattle.jt_args.proofs.line.asked.Goals as goal
 use Rattle.jt_args.proofs.line.asked.Goals.{in_default-via-in-Some+in_default, in_default-via-in_default}
+
+pub run_job-requires : goal.run_job-requires
+run_job-requires c =
+    at_rows HasNumbers (subcommand_rows_of c.args.matches.now) _ c.in-Some-run-default.ensures.rows c.requires.numbers
+
+pub render_job-requires-clause-switches : goal.render_job-requires-clause-switches
+render_job-requires-clause-switches c =
+    at_rows HasSwitches (subcommand_rows_of c.args.matches.now) _ c.in-Some-render-default.ensures.rows
+    c.requires.switches
 
 pub render_job-requires-clause-numbers : goal.render_job-requires-clause-numbers
 render_job-requires-clause-numbers c =

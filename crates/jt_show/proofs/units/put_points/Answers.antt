@@ -1,0 +1,33 @@
+use Rattle.std.proofs.Common.{◌≡◌, ◌∙◌, ◌<◌, arith, false, length}
+use Rattle.std.proofs.lemmas.List.{get_or_default}
+use Rattle.jt_show.specs.Listing.{is_target, point_text}
+use Rattle.jt_show.proofs.NumberedLines.{numbered_end, numbered_next}
+use Rattle.jt_show.proofs.PlacesSeen.{place_next, point_put}
+use Rattle.jt_show.proofs.units.put_points.Goals as goal
+
+pub points-preserved : goal.points-preserved
+points-preserved g c =
+    let k = g.C.Code.code c.args.code.now in
+    let unit = c.args.points.now.unit in
+    let code = c.args.points.now.instructions in
+    let point = c.points.point in
+    let before = c.points.invariant.before in
+    let marks = c.args.points.now.targets.items in
+    let inside : point < length marks = omega arith in
+    let marked : c.index.result.now ≡ is_target code point =
+    c.index.ensures ∙ (get_or_default marks point _ false inside ∙ c.requires.each point inside) in
+    record {
+      before = place_next k unit point _ _ _ c.or-before.ensures c.place-place.ensures before;
+      shown =
+          numbered_next (point_text k unit code) code point c.in-Some.instruction _ _ _ c.in-Some.ensures
+          (point_put k unit code point c.in-Some.instruction _ _ _ _ _ _ _ before c.place-place.ensures marked
+          c.in_ok-put_place_line.ensures c.in_ok-put_label_line.ensures c.in_ok-put_instruction_line.ensures)
+          c.points.invariant.shown;
+    }
+
+pub returns : goal.returns
+returns g c =
+    let k = g.C.Code.code c.args.code.now in
+    let code = c.args.points.now.instructions in
+    numbered_end (point_text k c.args.points.now.unit code) code c.points.point _ _
+    (omega (arith, c.requires.len)) c.points.invariant.shown
