@@ -348,6 +348,7 @@ pub fn uses_of(alloc: Global, body: &[Stmt]) -> Result<Vec<UseSite<'_>>, AllocEr
     let around = Enclosing {
         in_loop: false,
         in_block: false,
+        in_callee: false,
         escaping: None,
     };
     add_statements(&mut found, around, body)?;
