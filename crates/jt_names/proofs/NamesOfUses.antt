@@ -22,11 +22,12 @@ use Rattle.jt_names.proofs.SortedNames.{inserted_both, either_order}
 
 joined : (ss ts : List Site) → names_used (ss ++ ts) ≡ names_used ss ++ names_used ts
 joined [] ts = refl
-joined (s ∷ ss) ts = by (name_used s)
+joined (s ∷ ss) ts = by (name_used s) (joined ss ts)
   where
-    by : (o : Option Text) → in_front o (names_used (ss ++ ts)) ≡ in_front o (names_used ss) ++ names_used ts
-    by None = joined ss ts
-    by (Some x) = ap (λ xs. x ∷ xs) (joined ss ts)
+    by : (o : Option Text) → names_used (ss ++ ts) ≡ names_used ss ++ names_used ts
+        → in_front o (names_used (ss ++ ts)) ≡ in_front o (names_used ss) ++ names_used ts
+    by None e = e
+    by (Some x) e = ap (λ xs. x ∷ xs) e
 
 -- The sites `ss` read or bind the names `xs`, up to their order.
 record Names (ss : List Site) (xs : List Text) : Type 0 where
@@ -80,17 +81,24 @@ abbrev read : Bool → List Text → List Text
 read true xs = []
 read false xs = xs
 
-both_read : {ss ts : List Site} {xs ys : List Text} (c : Bool) → Names ss (read c xs) → Names ts (read c ys)
-    → Names (ss ++ ts) (read c (xs ++ ys))
-both_read true e f = both e f
-both_read false e f = both e f
+-- The sites `ss` read the names `xs`, up to their order, or nothing if the flag is true.
+record Reads (ss : List Site) (c : Bool) (xs : List Text) : Type 0 where
+  is : Names ss (read c xs)
 
-nothing_read : (c : Bool) → Names [] (read c [])
-nothing_read true = nothing
-nothing_read false = nothing
+both_read : {ss ts : List Site} {xs ys : List Text} (c : Bool) → Reads ss c xs → Reads ts c ys
+    → Reads (ss ++ ts) c (xs ++ ys)
+both_read true e f = record { is = both e.is f.is }
+both_read false e f = record { is = both e.is f.is }
 
-reading : (p : Place) (x : Text) → Names (uses.at p (uses.reads x)) (read p.around.in_callee (x ∷ []))
-reading p x = record { is = λ ns. ap (λ xs. all_inserted xs ns) (by p.around.in_callee) }
+free_read : {ss ts : List Site} {c : Bool} {xs : List Text} → Names ss [] → Reads ts c xs → Reads (ss ++ ts) c xs
+free_read e f = record { is = both e f.is }
+
+nothing_read : (c : Bool) → Reads [] c []
+nothing_read true = record { is = nothing }
+nothing_read false = record { is = nothing }
+
+reading : (p : Place) (x : Text) → Reads (uses.at p (uses.reads x)) p.around.in_callee (x ∷ [])
+reading p x = record { is = record { is = λ ns. ap (λ xs. all_inserted xs ns) (by p.around.in_callee) } }
   where
     by : (c : Bool) → in_front (used (uses.reads x) c) [] ≡ read c (x ∷ [])
     by true = refl
@@ -100,10 +108,10 @@ skipped : {ss : List Site} (b : Bool) → Names ss [] → Names (if b then [] el
 skipped true e = nothing
 skipped false e = e
 
-field_or : {ss ts : List Site} {xs : List Text} (b d c : Bool) → b ≡ d → Names ss [] → Names ts (read c xs)
-    → Names (if b then ss else ts) (read c (if d then [] else xs))
-field_or true true true q e f = e
-field_or true true false q e f = e
+field_or : {ss ts : List Site} {xs : List Text} (b d c : Bool) → b ≡ d → Names ss [] → Reads ts c xs
+    → Reads (if b then ss else ts) c (if d then [] else xs)
+field_or true true true q e f = record { is = e }
+field_or true true false q e f = record { is = e }
 field_or false false c q e f = f
 field_or true false c q e f = absurd (cc)
 field_or false true c q e f = absurd (cc)
@@ -112,7 +120,7 @@ loop_same : (a : Expr) → uses.is_loop a ≡ chain.is_loop a
 loop_same a = search rules
 
 mutual
-  expr_are : (e : Expr) (p : Place) → Names (expr_uses e p) (read p.around.in_callee (expr_names e))
+  expr_are : (e : Expr) (p : Place) → Reads (expr_uses e p) p.around.in_callee (expr_names e)
   expr_are (constant l) p = nothing_read p.around.in_callee
   expr_are (name x) p = reading p x
   expr_are (group a) p = expr_are a p
@@ -123,13 +131,13 @@ mutual
       (other p (uses.reads_loop_field k) refl) (expr_are a p)
   expr_are (item a b) p = both_read p.around.in_callee (expr_are a p) (expr_are b p)
   expr_are (call f ts ps) p =
-      free (skipped (uses.is_called_by_name f) (expr_are f (place_at p.line (inside_callee p.around))))
-      (free (other p (uses.calls f ts ps) refl) (both_read p.around.in_callee (row_are ts p) (pairs_are ps p)))
+      free_read (skipped (uses.is_called_by_name f) (expr_are f (place_at p.line (inside_callee p.around))).is)
+      (free_read (other p (uses.calls f ts ps) refl) (both_read p.around.in_callee (row_are ts p) (pairs_are ps p)))
   expr_are (filter a x ts ps) p =
-      free (other p (uses.filters x ts ps) refl)
+      free_read (other p (uses.filters x ts ps) refl)
       (both_read p.around.in_callee (expr_are a p) (both_read p.around.in_callee (row_are ts p) (pairs_are ps p)))
   expr_are (test a n x ts ps) p =
-      free (other p (uses.tests x ts ps) refl)
+      free_read (other p (uses.tests x ts ps) refl)
       (both_read p.around.in_callee (expr_are a p) (both_read p.around.in_callee (row_are ts p) (pairs_are ps p)))
   expr_are (unary o a) p = expr_are a p
   expr_are (binary o a b) p = both_read p.around.in_callee (expr_are a p) (expr_are b p)
@@ -137,19 +145,19 @@ mutual
   expr_are (choice c a b) p =
       both_read p.around.in_callee (expr_are c p) (both_read p.around.in_callee (expr_are a p) (expr_are b p))
 
-  row_are : (ts : Exprs) (p : Place) → Names (row_uses ts p) (read p.around.in_callee (row_names ts))
+  row_are : (ts : Exprs) (p : Place) → Reads (row_uses ts p) p.around.in_callee (row_names ts)
   row_are no_exprs p = nothing_read p.around.in_callee
   row_are (expr a ts) p = both_read p.around.in_callee (expr_are a p) (row_are ts p)
 
-  pairs_are : (ps : Pairs) (p : Place) → Names (pair_uses ps p) (read p.around.in_callee (pair_names ps))
+  pairs_are : (ps : Pairs) (p : Place) → Reads (pair_uses ps p) p.around.in_callee (pair_names ps)
   pairs_are no_pairs p = nothing_read p.around.in_callee
   pairs_are (pair k a ps) p = both_read p.around.in_callee (expr_are a p) (pairs_are ps p)
 
 -- ---- Statements: their expressions are in no callee
 
-all_read : {ss : List Site} {xs : List Text} (c : Bool) → c ≡ false → Names ss (read c xs) → Names ss xs
+all_read : {ss : List Site} {xs : List Text} (c : Bool) → c ≡ false → Reads ss c xs → Names ss xs
 all_read true q e = absurd (cc)
-all_read false q e = e
+all_read false q e = e.is
 
 condition_are : (c : Option Expr) (n : ℕ) (w : Enclosing) → w.in_callee ≡ false
     → Names (condition_uses c (place_at n w)) (condition_names c)

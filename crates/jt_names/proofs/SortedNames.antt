@@ -76,34 +76,34 @@ same x y e = (bytes_eq-Decides x y).0 (sym (is_eq-slice_cmp x y) ∙ ap is_eq e)
 -- Two insertions, of which the first is the smaller one, may be swapped.
 ordered : (x y : Text) (ns : List Text) → cmp x y ≡ Less → inserted y (inserted x ns) ≡ inserted x (inserted y ns)
 ordered x y [] l = at_head y x [] Greater (turned x y Less l) ∙ sym (at_head x y [] Less l)
-ordered x y (z ∷ zs) l = by (cmp x z) (cmp y z) refl refl
+ordered x y (z ∷ zs) l = by (ordered x y zs l) (cmp x z) (cmp y z) refl refl
   where
     after : cmp y x ≡ Greater
     after = turned x y Less l
 
-    by : (o r : Ordering) → cmp x z ≡ o → cmp y z ≡ r
+    by : inserted y (inserted x zs) ≡ inserted x (inserted y zs) → (o r : Ordering) → cmp x z ≡ o → cmp y z ≡ r
         → inserted y (inserted x (z ∷ zs)) ≡ inserted x (inserted y (z ∷ zs))
-    by Less Less e f =
+    by later Less Less e f =
         ap (inserted y) (at_head x z zs Less e) ∙ at_head y x (z ∷ zs) Greater after
         ∙ ap (λ us. x ∷ us) (at_head y z zs Less f)
         ∙ sym (ap (inserted x) (at_head y z zs Less f) ∙ at_head x y (z ∷ zs) Less l)
-    by Less Equal e f =
+    by later Less Equal e f =
         ap (inserted y) (at_head x z zs Less e) ∙ at_head y x (z ∷ zs) Greater after
         ∙ ap (λ us. x ∷ us) (at_head y z zs Equal f)
         ∙ sym (ap (inserted x) (at_head y z zs Equal f) ∙ at_head x z zs Less e)
-    by Less Greater e f =
+    by later Less Greater e f =
         ap (inserted y) (at_head x z zs Less e) ∙ at_head y x (z ∷ zs) Greater after
         ∙ ap (λ us. x ∷ us) (at_head y z zs Greater f)
         ∙ sym (ap (inserted x) (at_head y z zs Greater f) ∙ at_head x z (inserted y zs) Less e)
-    by Equal r e f =
+    by later Equal r e f =
         let g : cmp y z ≡ Greater = ap (cmp y) (sym (same x z e)) ∙ after in
         ap (inserted y) (at_head x z zs Equal e) ∙ at_head y z zs Greater g
         ∙ sym (ap (inserted x) (at_head y z zs Greater g) ∙ at_head x z (inserted y zs) Equal e)
-    by Greater r e f =
+    by later Greater r e f =
         let g : cmp y z ≡ Greater =
         turned z y Less (nat_list_cmp_total.trans z x y (turned x z Greater e) l) in
         ap (inserted y) (at_head x z zs Greater e) ∙ at_head y z (inserted x zs) Greater g
-        ∙ ap (λ us. z ∷ us) (ordered x y zs l)
+        ∙ ap (λ us. z ∷ us) later
         ∙ sym (ap (inserted x) (at_head y z zs Greater g) ∙ at_head x z (inserted y zs) Greater e)
 
 swapped : (x y : Text) (ns : List Text) → inserted y (inserted x ns) ≡ inserted x (inserted y ns)

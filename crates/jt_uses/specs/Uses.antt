@@ -10,6 +10,7 @@ use Rattle.jt_ast.specs.Statements.{with_values, filter_block, autoescape, macro
 use Rattle.jt_ast.specs.Statements.{block, Body, end, stmt, Branches, no_branches, branch}
 use Rattle.jt_uses.specs.declared.site.Place.{Place}
 use Rattle.jt_uses.specs.declared.site.Enclosing.{Enclosing}
+use Rattle.jt_uses.specs.declared.site.Escaping.TheVariants as state
 
 -- A use.
 pub data Use : Type 0 where
@@ -141,7 +142,7 @@ filter_call_uses (f ∷ fs) p = filter_call_use f p ++ filter_call_uses fs p
 
 -- The context of a use that is outside loops, blocks, callees and `autoescape` tags.
 abbrev pub outside : Enclosing
-outside = record { in_loop = false; in_block = false; in_callee = false; escaping = None }
+outside = record { in_loop = false; in_block = false; in_callee = false; escaping = state.Inherited }
 
 abbrev pub inside_loop : Enclosing → Enclosing
 inside_loop w = record w { in_loop = true }
@@ -153,7 +154,7 @@ abbrev pub inside_macro : Enclosing → Enclosing
 inside_macro w = record w { in_loop = false; in_block = false }
 
 abbrev pub escaped : Bool → Enclosing → Enclosing
-escaped on w = record w { escaping = Some on }
+escaped on w = record w { escaping = if on then state.On else state.Off }
 
 abbrev mutual
   pub stmt_uses : Stmt → Enclosing → List Site

@@ -9,6 +9,14 @@ use jt_ast::{Expr, IncludeContext, Missing, Parameter, Stmt};
 use std::alloc::AllocError;
 use std::mem::size_of;
 
+/// The option of the nearest `autoescape` tag, if there is one.
+#[derive(Clone, Copy)]
+pub enum Escaping {
+    Inherited,
+    On,
+    Off,
+}
+
 /// The context of a use: whether it is inside a loop of the same block or macro body, whether it is
 /// inside a block, whether it is inside a callee that is no name, and the option of the nearest
 /// `autoescape` tag around it.
@@ -17,7 +25,7 @@ pub struct Enclosing {
     pub in_loop: bool,
     pub in_block: bool,
     pub in_callee: bool,
-    pub escaping: Option<bool>,
+    pub escaping: Escaping,
 }
 
 impl Enclosing {
@@ -67,10 +75,12 @@ impl Enclosing {
     pub(crate) fn escaped(self, escaping: bool) -> Self
         ensures { result ≡ escaped escaping self }
     {
-        Enclosing {
-            escaping: Some(escaping),
-            ..self
-        }
+        let escaping = if escaping {
+            Escaping::On
+        } else {
+            Escaping::Off
+        };
+        Enclosing { escaping, ..self }
     }
 }
 
