@@ -15,7 +15,7 @@ use Rattle.jt_ast.specs.Statements.{branch_bound}
 use Rattle.jt_uses.specs.Uses as uses
 use Rattle.jt_uses.specs.Uses.{Site, place_at, expr_uses, row_uses, pair_uses, stmt_uses, body_uses, branch_uses}
 use Rattle.jt_uses.specs.Uses.{filter_call_uses, bound, keys_bound, parameters_bound, macros_bound, condition_uses}
-use Rattle.jt_uses.specs.Uses.{inside_loop, inside_block, inside_macro, escaped}
+use Rattle.jt_uses.specs.Uses.{inside_loop, inside_block, inside_macro, inside_callee, escaped}
 use Rattle.jt_uses.specs.declared.site.Place.{Place}
 use Rattle.jt_uses.specs.declared.site.Enclosing.{Enclosing}
 use Rattle.jt_checks.specs.internal.UseRules.{binds_name, is_binding}
@@ -95,7 +95,7 @@ mutual
   expr_by (attribute a k) p = either (uses.is_loop a) (other p (uses.reads_loop_field k) refl) (expr_by a p)
   expr_by (item a b) p = free (expr_by a p) (expr_by b p)
   expr_by (call f ts ps) p =
-      free (either (uses.is_called_by_name f) none (expr_by f p))
+      free (either (uses.is_called_by_name f) none (expr_by f (place_at p.line (inside_callee p.around))))
       (free (other p (uses.calls f ts ps) refl) (free (row_by ts p) (pairs_by ps p)))
   expr_by (filter a x ts ps) p =
       free (other p (uses.filters x ts ps) refl) (free (expr_by a p) (free (row_by ts p) (pairs_by ps p)))

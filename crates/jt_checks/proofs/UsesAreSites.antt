@@ -18,7 +18,7 @@ use Rattle.jt_rules.specs.UseSites.{parameter_names}
 use Rattle.jt_uses.specs.Uses as uses
 use Rattle.jt_uses.specs.Uses.{Use, Site, place_at, expr_uses, row_uses, pair_uses, stmt_uses, body_uses, branch_uses}
 use Rattle.jt_uses.specs.Uses.{filter_call_uses, bound, keys_bound, parameters_bound, macros_bound, condition_uses}
-use Rattle.jt_uses.specs.Uses.{inside_loop, inside_block, inside_macro, escaped}
+use Rattle.jt_uses.specs.Uses.{inside_loop, inside_block, inside_macro, inside_callee, escaped}
 use Rattle.jt_uses.specs.declared.site.Place.{Place}
 use Rattle.jt_uses.specs.declared.site.Enclosing.{Enclosing}
 use Rattle.jt_checks.specs.internal.UseRules.{within_view}
@@ -124,7 +124,8 @@ mutual
       (one p (uses.reads_loop_field k) (sites.reads_loop_field k) refl) (expr_same a p)
   expr_same (item a b) p = both (expr_same a p) (expr_same b p)
   expr_same (call f ts ps) p =
-      let called = either (uses.is_called_by_name f) (sites.is_called_by_name f) (called_same f) none (expr_same f p) in
+      let called = either (uses.is_called_by_name f) (sites.is_called_by_name f) (called_same f) none
+      (expr_same f (place_at p.line (inside_callee p.around))) in
       also (both called (both (one p (uses.calls f ts ps) (sites.calls f ts ps) refl)
       (both (row_same ts p) (pair_same ps p))))
       (sym (append_assoc (if sites.is_called_by_name f then [] else expr_use_sites f (within_view p.around))

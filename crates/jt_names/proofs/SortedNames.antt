@@ -1,24 +1,17 @@
 -- Names that are inserted in order, one at a time.
-use Rattle.std.proofs.Common.{◌≡◌, ℕ, ◌+◌, ◌<◌, length, drop, get_or, if◌then◌else◌, List, [], ◌∷◌, ◌++◌, append_assoc}
-use Rattle.std.proofs.Common.{refl, sym, ap, ◌∙◌, arith, rules}
+use Rattle.std.proofs.Common.{◌≡◌, ℕ, ◌+◌, ◌<◌, length, drop, get_or, true, if◌then◌else◌, List, [], ◌∷◌, ◌++◌}
+use Rattle.std.proofs.Common.{refl, sym, ap, subst, ◌∙◌, arith, rules}
 use Rattle.std.specs.declared.cmp.Ordering.{Ordering}
-use Rattle.std.specs.Ordering.{nat_cmp, is_lt, is_eq, match_ordering}
+use Rattle.std.specs.declared.cmp.Ordering.TheVariants.{Less, Equal, Greater}
+use Rattle.std.specs.Ordering.{nat_cmp, is_lt, is_eq, match_ordering, ordering_reverse}
 use Rattle.std.specs.Cmp.Lexicographic.{slice_cmp}
 use Rattle.std.specs.Str.{bytes_eq}
 use Rattle.std.specs.BTreeSet.{insert_key}
-use Rattle.std.proofs.lemmas.Cmp.{nat_list_eq_equiv}
+use Rattle.std.proofs.lemmas.Cmp.{nat_list_eq_equiv, nat_list_cmp_total}
 use Rattle.std.proofs.lemmas.Map.Text.{is_eq-slice_cmp}
+use Rattle.std.proofs.lemmas.Slice.Eq.{bytes_eq-Decides}
 use denote.Ref.{Bor}
 use Rattle.jt_ast.specs.Expressions.{Text}
-use Rattle.jt_ast.specs.ExpressionView as written
-use Rattle.jt_ast.specs.StatementView as parsed
-use Rattle.jt_ast.specs.declared.expression.Expr.{Expr}
-use Rattle.std.proofs.lemmas.List.{drop_more}
-use Rattle.jt_ast.specs.declared.statement.Stmt.{Stmt}
-use Rattle.jt_ast.specs.declared.statement.FilterCall.{FilterCall}
-use Rattle.jt_chains.specs.Uses.{expr_names, row_names, pair_names, stmt_names, body_names, branch_names}
-use Rattle.jt_chains.specs.Uses.{filter_call_names}
-use Rattle.jt_ast.proofs.RemainingParts.{Branch, Entry, row_left, pairs_left, statements_left, branches_left}
 use Rattle.jt_ast.specs.Texts.{inserted, all_inserted, texts}
 
 pub symmetric : (x y : Text) → bytes_eq x y ≡ bytes_eq y x
@@ -52,35 +45,83 @@ key_inserted (y ∷ ys) x =
         else y.now ∷ inserted x.now (texts ys))
     through a0 h = search (arith, rules)
 
-pub statement_added : (ss : List Stmt) (i : ℕ) (s : Stmt) (ns ns' : List Text) → i < length ss → s ≡ get_or ss i s
-    → ns' ≡ all_inserted (stmt_names (parsed.stmt_view s)) ns
-    → all_inserted (body_names (parsed.body_view (drop (i + 1) ss))) ns'
-    ≡ all_inserted (body_names (parsed.body_view (drop i ss))) ns
-statement_added ss i s ns ns' lt is e = search (arith, rules, inserted_both, statements_left)
+-- ---- The order of insertions does not matter
 
-pub branch_added : (bs : List Branch) (i : ℕ) (b : Branch) (ns ns' : List Text) → i < length bs → b ≡ get_or bs i b
-    → ns' ≡ all_inserted (body_names (parsed.body_view b.body.items))
-    (all_inserted (expr_names (written.expr_view b.condition)) ns)
-    → all_inserted (branch_names (parsed.branches_view (drop (i + 1) bs))) ns'
-    ≡ all_inserted (branch_names (parsed.branches_view (drop i bs))) ns
-branch_added bs i b ns ns' lt is e = search (arith, rules, inserted_both, branches_left)
+abbrev cmp : Text → Text → Ordering
+cmp x y = slice_cmp nat_cmp x y
 
-pub expression_added : (ts : List Expr) (i : ℕ) (t : Expr) (ns ns' : List Text) → i < length ts → t ≡ get_or ts i t
-    → ns' ≡ all_inserted (expr_names (written.expr_view t)) ns
-    → all_inserted (row_names (written.exprs_view (drop (i + 1) ts))) ns'
-    ≡ all_inserted (row_names (written.exprs_view (drop i ts))) ns
-expression_added ts i t ns ns' lt is e = search (arith, rules, inserted_both, row_left)
+abbrev placed : Ordering → Text → Text → List Text → List Text
+placed Less x y ys = x ∷ y ∷ ys
+placed Equal x y ys = y ∷ ys
+placed Greater x y ys = y ∷ inserted x ys
 
-pub entry_added : (ps : List Entry) (i : ℕ) (p : Entry) (ns ns' : List Text) → i < length ps → p ≡ get_or ps i p
-    → ns' ≡ all_inserted (expr_names (written.expr_view p.1)) ns
-    → all_inserted (pair_names (written.pairs_view (drop (i + 1) ps))) ns'
-    ≡ all_inserted (pair_names (written.pairs_view (drop i ps))) ns
-entry_added ps i p ns ns' lt is e = search (arith, rules, inserted_both, pairs_left)
+at_head : (x y : Text) (ys : List Text) (o : Ordering) → cmp x y ≡ o → inserted x (y ∷ ys) ≡ placed o x y ys
+at_head x y ys o e =
+    ap (λ b. if b then y ∷ ys else if is_lt (cmp x y) then x ∷ y ∷ ys else y ∷ inserted x ys)
+    (symmetric y x ∙ sym (is_eq-slice_cmp x y))
+    ∙ by (cmp x y) ∙ ap (λ r. placed r x y ys) e
+  where
+    by : (r : Ordering)
+        → (if is_eq r then y ∷ ys else if is_lt r then x ∷ y ∷ ys else y ∷ inserted x ys) ≡ placed r x y ys
+    by Less = refl
+    by Equal = refl
+    by Greater = refl
 
-pub filter_call_added : (fs : List FilterCall) (i : ℕ) (f : FilterCall) (us : List Expr) (qs : List Entry)
-    (ns ns' : List Text)
-    → i < length fs → f ≡ get_or fs i f → us ≡ f.arguments.items → qs ≡ f.keywords.items
-    → ns' ≡ all_inserted (row_names (written.exprs_view us) ++ pair_names (written.pairs_view qs)) ns
-    → all_inserted (filter_call_names (parsed.filter_calls_view (drop (i + 1) fs))) ns'
-    ≡ all_inserted (filter_call_names (parsed.filter_calls_view (drop i fs))) ns
-filter_call_added fs i f us qs ns ns' lt is a b e = search (arith, rules, inserted_both, append_assoc, drop_more)
+turned : (x y : Text) (o : Ordering) → cmp x y ≡ o → cmp y x ≡ ordering_reverse o
+turned x y o e = nat_list_cmp_total.antisymm y x ∙ ap ordering_reverse e
+
+same : (x y : Text) → cmp x y ≡ Equal → x ≡ y
+same x y e = (bytes_eq-Decides x y).0 (sym (is_eq-slice_cmp x y) ∙ ap is_eq e)
+
+-- Two insertions, of which the first is the smaller one, may be swapped.
+ordered : (x y : Text) (ns : List Text) → cmp x y ≡ Less → inserted y (inserted x ns) ≡ inserted x (inserted y ns)
+ordered x y [] l = at_head y x [] Greater (turned x y Less l) ∙ sym (at_head x y [] Less l)
+ordered x y (z ∷ zs) l = by (ordered x y zs l) (cmp x z) (cmp y z) refl refl
+  where
+    after : cmp y x ≡ Greater
+    after = turned x y Less l
+
+    by : inserted y (inserted x zs) ≡ inserted x (inserted y zs) → (o r : Ordering) → cmp x z ≡ o → cmp y z ≡ r
+        → inserted y (inserted x (z ∷ zs)) ≡ inserted x (inserted y (z ∷ zs))
+    by later Less Less e f =
+        ap (inserted y) (at_head x z zs Less e) ∙ at_head y x (z ∷ zs) Greater after
+        ∙ ap (λ us. x ∷ us) (at_head y z zs Less f)
+        ∙ sym (ap (inserted x) (at_head y z zs Less f) ∙ at_head x y (z ∷ zs) Less l)
+    by later Less Equal e f =
+        ap (inserted y) (at_head x z zs Less e) ∙ at_head y x (z ∷ zs) Greater after
+        ∙ ap (λ us. x ∷ us) (at_head y z zs Equal f)
+        ∙ sym (ap (inserted x) (at_head y z zs Equal f) ∙ at_head x z zs Less e)
+    by later Less Greater e f =
+        ap (inserted y) (at_head x z zs Less e) ∙ at_head y x (z ∷ zs) Greater after
+        ∙ ap (λ us. x ∷ us) (at_head y z zs Greater f)
+        ∙ sym (ap (inserted x) (at_head y z zs Greater f) ∙ at_head x z (inserted y zs) Less e)
+    by later Equal r e f =
+        let g : cmp y z ≡ Greater = ap (cmp y) (sym (same x z e)) ∙ after in
+        ap (inserted y) (at_head x z zs Equal e) ∙ at_head y z zs Greater g
+        ∙ sym (ap (inserted x) (at_head y z zs Greater g) ∙ at_head x z (inserted y zs) Equal e)
+    by later Greater r e f =
+        let g : cmp y z ≡ Greater =
+        turned z y Less (nat_list_cmp_total.trans z x y (turned x z Greater e) l) in
+        ap (inserted y) (at_head x z zs Greater e) ∙ at_head y z (inserted x zs) Greater g
+        ∙ ap (λ us. z ∷ us) later
+        ∙ sym (ap (inserted x) (at_head y z zs Greater g) ∙ at_head x z (inserted y zs) Greater e)
+
+swapped : (x y : Text) (ns : List Text) → inserted y (inserted x ns) ≡ inserted x (inserted y ns)
+swapped x y ns = by (cmp x y) refl
+  where
+    by : (o : Ordering) → cmp x y ≡ o → inserted y (inserted x ns) ≡ inserted x (inserted y ns)
+    by Less e = ordered x y ns e
+    by Equal e = subst (λ z. inserted z (inserted x ns) ≡ inserted x (inserted z ns)) (same x y e) refl
+    by Greater e = sym (ordered y x ns (turned x y Greater e))
+
+past : (y : Text) (xs ns : List Text) → inserted y (all_inserted xs ns) ≡ all_inserted xs (inserted y ns)
+past y [] ns = refl
+past y (x ∷ xs) ns = past y xs (inserted x ns) ∙ ap (all_inserted xs) (swapped x y ns)
+
+crossed : (xs ys ns : List Text) → all_inserted ys (all_inserted xs ns) ≡ all_inserted xs (all_inserted ys ns)
+crossed xs [] ns = refl
+crossed xs (y ∷ ys) ns = ap (all_inserted ys) (past y xs ns) ∙ crossed xs ys (inserted y ns)
+
+-- The parts of a concatenation may be inserted in either order.
+pub either_order : (xs ys ns : List Text) → all_inserted (xs ++ ys) ns ≡ all_inserted (ys ++ xs) ns
+either_order xs ys ns = inserted_both xs ys ns ∙ crossed xs ys ns ∙ sym (inserted_both ys xs ns)

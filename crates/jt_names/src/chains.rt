@@ -32,7 +32,7 @@ pub fn own_names(
     let mut names = BTreeSet::new(alloc);
     let layers = chain.layers(alloc, namespace)?;
     for layer in layers.iter() {
-        add_statements(&mut names, layer.body)?;
+        add_statements(alloc, &mut names, layer.body)?;
     }
     Ok(names)
 }
@@ -48,7 +48,7 @@ pub fn library_names<'a>(
         ≡ ascending (own_names (its_sources chain.now) (a_library library.now))) }
 {
     let mut names = BTreeSet::new(alloc);
-    add_statements(&mut names, chain.library_body(library))?;
+    add_statements(alloc, &mut names, chain.library_body(library))?;
     Ok(names)
 }
 

@@ -10,6 +10,7 @@ use Rattle.jt_ast.specs.Statements.{with_values, filter_block, autoescape, macro
 use Rattle.jt_ast.specs.Statements.{block, Body, end, stmt, Branches, no_branches, branch}
 use Rattle.jt_uses.specs.declared.site.Place.{Place}
 use Rattle.jt_uses.specs.declared.site.Enclosing.{Enclosing}
+use Rattle.jt_uses.specs.declared.site.Escaping.TheVariants as state
 
 -- A use.
 pub data Use : Type 0 where
@@ -88,6 +89,9 @@ is_called_by_name (name x) = true
 is_called_by_name (attribute a k) = is_name a
 is_called_by_name f = false
 
+abbrev pub inside_callee : Enclosing → Enclosing
+inside_callee w = record w { in_callee = true }
+
 abbrev mutual
   pub expr_uses : Expr → Place → List Site
   expr_uses (constant l) p = []
@@ -98,7 +102,7 @@ abbrev mutual
   expr_uses (attribute a k) p = if is_loop a then at p (reads_loop_field k) else expr_uses a p
   expr_uses (item a b) p = expr_uses a p ++ expr_uses b p
   expr_uses (call f ts ps) p =
-      (if is_called_by_name f then [] else expr_uses f p)
+      (if is_called_by_name f then [] else expr_uses f (place_at p.line (inside_callee p.around)))
       ++ (at p (calls f ts ps) ++ (row_uses ts p ++ pair_uses ps p))
   expr_uses (filter a x ts ps) p =
       at p (filters x ts ps) ++ (expr_uses a p ++ (row_uses ts p ++ pair_uses ps p))
@@ -136,9 +140,9 @@ abbrev pub filter_call_uses : List FilterCall → Place → List Site
 filter_call_uses [] p = []
 filter_call_uses (f ∷ fs) p = filter_call_use f p ++ filter_call_uses fs p
 
--- The context of a use that is outside loops, blocks and `autoescape` tags.
+-- The context of a use that is outside loops, blocks, callees and `autoescape` tags.
 abbrev pub outside : Enclosing
-outside = record { in_loop = false; in_block = false; escaping = None }
+outside = record { in_loop = false; in_block = false; in_callee = false; escaping = state.Inherited }
 
 abbrev pub inside_loop : Enclosing → Enclosing
 inside_loop w = record w { in_loop = true }
@@ -150,7 +154,7 @@ abbrev pub inside_macro : Enclosing → Enclosing
 inside_macro w = record w { in_loop = false; in_block = false }
 
 abbrev pub escaped : Bool → Enclosing → Enclosing
-escaped on w = record w { escaping = Some on }
+escaped on w = record w { escaping = if on then state.On else state.Off }
 
 abbrev mutual
   pub stmt_uses : Stmt → Enclosing → List Site

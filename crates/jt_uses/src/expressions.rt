@@ -3,7 +3,8 @@
 ghost use Rattle.std.specs.Prelude.{◌≡◌, ◌++◌, if◌then◌else◌, [], IfOk};
 ghost use Rattle.jt_ast.specs.ExpressionView.{expr_view, exprs_view, pairs_view};
 ghost use Rattle.jt_uses.specs.Uses as uses;
-ghost use Rattle.jt_uses.specs.Uses.{at, expr_uses, row_uses, pair_uses, is_loop};
+ghost use Rattle.jt_uses.specs.Uses.{at, place_at, inside_callee, expr_uses, row_uses, pair_uses};
+ghost use Rattle.jt_uses.specs.Uses.{is_loop};
 ghost use Rattle.jt_uses.specs.UseView.{Adds};
 
 use crate::site::{Place, Use, UseSite, add_use};
@@ -113,7 +114,7 @@ fn add_call<'a>(
 ) -> Result<(), AllocError>
     ensures { IfOk result (λ _. Adds found.old found.new (
         (if uses.is_called_by_name (expr_view callee.now) then []
-        else expr_uses (expr_view callee.now) place)
+        else expr_uses (expr_view callee.now) (place_at place.line (inside_callee place.around)))
         ++ (at place (uses.calls (expr_view callee.now) (exprs_view arguments.now)
         (pairs_view keywords.now))
         ++ (row_uses (exprs_view arguments.now) place
@@ -188,7 +189,7 @@ fn add_test<'a>(
     add_arguments(found, place, arguments, keywords)
 }
 
-/// Appends the uses in a callee. A name and a field of a name do not count as reads there.
+/// Appends the uses in a callee that is no name and no field of a name.
 #[cycle(gather)]
 fn add_callee<'a>(
     found: &mut Vec<UseSite<'a>>,
@@ -197,12 +198,16 @@ fn add_callee<'a>(
 ) -> Result<(), AllocError>
     ensures { IfOk result (λ _. Adds found.old found.new
         (if uses.is_called_by_name (expr_view callee.now) then []
-        else expr_uses (expr_view callee.now) place)) }
+        else expr_uses (expr_view callee.now) (place_at place.line (inside_callee place.around)))) }
 {
     if is_called_by_name(callee) {
         return Ok(());
     }
-    add_expression(found, place, callee)
+    let inside = Place {
+        line: place.line,
+        around: place.around.in_a_callee(),
+    };
+    add_expression(found, inside, callee)
 }
 
 /// Appends the uses in positional and keyword arguments.

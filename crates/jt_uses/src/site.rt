@@ -1,20 +1,31 @@
 //! Defines a use: what a template does at one of its places.
 
 ghost use Rattle.std.specs.Prelude.{◌≡◌, IfOk};
-ghost use Rattle.jt_uses.specs.Uses.{at, inside_loop, inside_block, inside_macro, escaped};
+ghost use Rattle.jt_uses.specs.Uses.{at, inside_loop, inside_block, inside_macro, inside_callee};
+ghost use Rattle.jt_uses.specs.Uses.{escaped};
 ghost use Rattle.jt_uses.specs.UseView.{Adds, use_view};
 
 use jt_ast::{Expr, IncludeContext, Missing, Parameter, Stmt};
 use std::alloc::AllocError;
 use std::mem::size_of;
 
+/// The option of the nearest `autoescape` tag, if there is one.
+#[derive(Clone, Copy)]
+pub enum Escaping {
+    Inherited,
+    On,
+    Off,
+}
+
 /// The context of a use: whether it is inside a loop of the same block or macro body, whether it is
-/// inside a block, and the option of the nearest `autoescape` tag around it.
+/// inside a block, whether it is inside a callee that is no name, and the option of the nearest
+/// `autoescape` tag around it.
 #[derive(Clone, Copy)]
 pub struct Enclosing {
     pub in_loop: bool,
     pub in_block: bool,
-    pub escaping: Option<bool>,
+    pub in_callee: bool,
+    pub escaping: Escaping,
 }
 
 impl Enclosing {
@@ -50,14 +61,26 @@ impl Enclosing {
         }
     }
 
+    /// Returns the context of a callee that is no name.
+    pub(crate) fn in_a_callee(self) -> Self
+        ensures { result ≡ inside_callee self }
+    {
+        Enclosing {
+            in_callee: true,
+            ..self
+        }
+    }
+
     /// Returns the context of the body of an `autoescape` tag.
     pub(crate) fn escaped(self, escaping: bool) -> Self
         ensures { result ≡ escaped escaping self }
     {
-        Enclosing {
-            escaping: Some(escaping),
-            ..self
-        }
+        let escaping = if escaping {
+            Escaping::On
+        } else {
+            Escaping::Off
+        };
+        Enclosing { escaping, ..self }
     }
 }
 

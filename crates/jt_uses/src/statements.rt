@@ -14,7 +14,7 @@ ghost use Rattle.jt_uses.specs.Uses.{outside};
 ghost use Rattle.jt_uses.specs.UseView.{Adds, sites_view};
 
 use crate::expressions::{add_arguments, add_expression, add_pairs};
-use crate::site::{Enclosing, Place, Use, UseSite, add_use};
+use crate::site::{Enclosing, Escaping, Place, Use, UseSite, add_use};
 use jt_ast::{Branch, Expr, FilterCall, Parameter, Stmt};
 use std::alloc::{AllocError, Global};
 
@@ -348,7 +348,8 @@ pub fn uses_of(alloc: Global, body: &[Stmt]) -> Result<Vec<UseSite<'_>>, AllocEr
     let around = Enclosing {
         in_loop: false,
         in_block: false,
-        escaping: None,
+        in_callee: false,
+        escaping: Escaping::Inherited,
     };
     add_statements(&mut found, around, body)?;
     Ok(found)
