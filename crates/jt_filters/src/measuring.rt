@@ -102,13 +102,11 @@ fn measure_two(
             false,
         ))),
         FilterId::Int => scalar_measure(int(operand, Operand::Value(argument))),
-        FilterId::Join => {
-            join_measure(
-                operand,
-                Separator::new(Operand::Value(argument)),
-                autoescape,
-            )
-        },
+        FilterId::Join => join_measure(
+            operand,
+            Separator::new(Operand::Value(argument)),
+            autoescape,
+        ),
         FilterId::Sort => sort_measure(operand, argument.truth()),
         _ => Err(Fault::BadType),
     }
