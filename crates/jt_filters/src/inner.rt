@@ -13,6 +13,7 @@ ghost use Rattle.jt_filters.specs.internal.Rows.{RowFault, IsSought};
 
 use crate::attributes::item_of;
 use crate::building::build;
+use crate::joining::{Separator, join, join_measure};
 use crate::measuring::measure;
 use crate::members::Members;
 use crate::operand::Operand;
@@ -59,6 +60,8 @@ pub(crate) enum ItemAction<'a> {
     Attribute(&'a str),
     /// The result of a filter on the item.
     Filter(InnerCall<'a>),
+    /// The join of the item's items under autoescaping.
+    Join(Separator<'a>),
 }
 
 impl Predicate<'_> {
@@ -157,6 +160,7 @@ impl<'a> ItemAction<'a> {
                 call.arguments,
                 call.autoescape,
             ),
+            ItemAction::Join(separator) => join_measure(item, separator, true),
         }
     }
 
@@ -185,6 +189,7 @@ impl<'a> ItemAction<'a> {
             ItemAction::Filter(call) => {
                 build(alloc, call.filter, item, call.arguments, call.autoescape)?
             },
+            ItemAction::Join(separator) => join(alloc, item, separator.operand, true)?,
         };
         Ok(put(values, value)?)
     }

@@ -1,12 +1,13 @@
 //! Implements filters that call a filter or a test on each item of their input, or look up its
 //! attribute.
-ghost use Rattle.std.specs.Prelude.{◌≡◌, map, Ok, IfOk, IfErr, IfSome, Some, option_map};
+ghost use Rattle.std.specs.Prelude.{◌≡◌, ◌∷◌, map, Ok, IfOk, IfErr, IfSome, Some, option_map};
 ghost use Rattle.jt_value.specs.Payload.{text_of};
 ghost use Rattle.jt_value.specs.View.{view, items_view};
 ghost use Rattle.jt_ops.specs.Limited.{limited_by, Answers};
 ghost use Rattle.jt_filter_semantics.specs.Mapping as the;
 ghost use Rattle.jt_ids.specs.TestTable.{test_of_name};
-ghost use Rattle.jt_filter_semantics.specs.Mapping.{named_by, filter_named, gathered};
+ghost use Rattle.jt_filter_semantics.specs.Mapping.{named_by, filter_named, gathered, alone};
+ghost use Rattle.jt_filter_semantics.specs.Single.{single};
 ghost use Rattle.jt_filter_semantics.specs.Mapping.{as_list};
 ghost use Rattle.jt_filters.specs.internal.Operands.{items_in, measured, Builds};
 ghost use Rattle.jt_filters.specs.internal.Rows.{gives, Gives, row_measured, Changes};
@@ -14,7 +15,9 @@ ghost use Rattle.jt_filters.specs.internal.Rows.{MakesPredicate, RowFault, IsSou
 
 use crate::inner::{InnerCall, ItemAction, Predicate, Selection};
 use crate::item_list::ItemList;
+use crate::joining::Separator;
 use crate::members::Members;
+use crate::operand::Operand;
 use jt_ids::{FilterId, TestId};
 use jt_ops::{Limits, OpError, allow};
 use jt_value::{Fault, ListItems, Value, ValueError};
@@ -263,13 +266,28 @@ fn called(filter: FilterId, arguments: &[Value], autoescape: bool) -> Result<Ite
     ensures { Changes (the.mapping_by (Some filter) autoescape (map view arguments.now)) result }
 {
     if filter.takes(arguments.len() + 1) {
-        Ok(ItemAction::Filter(InnerCall {
+        Ok(inner_action(filter, arguments, autoescape))
+    } else {
+        Err(Fault::BadArgument)
+    }
+}
+
+/// Returns the action that calls `filter`. The separator of `join` is counted once for all items.
+/// Without autoescaping it needs no count.
+fn inner_action(filter: FilterId, arguments: &[Value], autoescape: bool) -> ItemAction<'_>
+    ensures same { gives result
+        ≡ (λ t. alone (single filter autoescape (t ∷ map view arguments.now))) }
+    ensures gives { Gives result }
+{
+    match (filter, arguments) {
+        (FilterId::Join, [separator]) if autoescape => {
+            ItemAction::Join(Separator::counted(Operand::Value(separator)))
+        },
+        _ => ItemAction::Filter(InnerCall {
             filter,
             autoescape,
             arguments,
-        }))
-    } else {
-        Err(Fault::BadArgument)
+        }),
     }
 }
 

@@ -1,6 +1,6 @@
 -- Definitions for the contracts of private functions: actions on items, and their gathered results.
 use Rattle.std.specs.Prelude.{◌≡◌, ℕ, ◌+◌, ◌-◌, ◌^◌, min, max, Bool, [], ◌∷◌, map, length, option_map, IfOk, Result, Ok}
-use Rattle.std.specs.Prelude.{Err}
+use Rattle.std.specs.Prelude.{Err, true}
 use Rattle.jt_value.specs.declared.fault.Fault.{Fault}
 use Rattle.jt_value.specs.declared.fault.ValueError.{ValueError}
 use Rattle.jt_value.specs.declared.fault.ValueError.TheVariants as error
@@ -8,6 +8,7 @@ use Rattle.jt_value.specs.Tree.{Tree, text, list, Items, truth, items_size, item
 use Rattle.jt_value.specs.View.{view, items_view}
 use Rattle.jt_op_semantics.specs.ItemOf.{item_of}
 use Rattle.jt_ids.specs.TestTable.{test_values}
+use Rattle.jt_ids.specs.declared.filter_id.FilterId.TheVariants as filter
 use Rattle.jt_ids.specs.declared.test_id.TestId.TheVariants as test
 use Rattle.jt_op_semantics.specs.Testing.{tested}
 use Rattle.jt_filters.specs.declared.inner.Predicate.{Predicate}
@@ -17,6 +18,7 @@ use Rattle.jt_filters.specs.declared.inner.ItemAction.{ItemAction}
 use Rattle.jt_filters.specs.declared.inner.ItemAction.TheVariants as change
 use Rattle.jt_filter_semantics.specs.Mapping.{alone, if_kept, passing, judged, attribute_or_item}
 use Rattle.jt_filter_semantics.specs.Single.{single}
+use Rattle.jt_filters.specs.internal.Operands.{tree_of}
 
 -- The result of a predicate on a value.
 abbrev pub judges : Predicate → Tree → Result Bool Fault
@@ -48,11 +50,13 @@ abbrev pub gives : ItemAction → Tree → Result Items Fault
 gives (change.Keep s) = λ t. if_kept t (kept s t)
 gives (change.Attribute key) = λ t. alone (item_of t (text key.now))
 gives (change.Filter c) = λ t. alone (single c.filter c.autoescape (t ∷ map view c.arguments.now))
+gives (change.Join s) = λ t. alone (single filter.Join true (t ∷ tree_of s.operand ∷ []))
 
 abbrev pub Gives : ItemAction → Type 0
 Gives (change.Keep s) = Judges s.predicate
 Gives (change.Attribute key) = Unit {0}
 Gives (change.Filter c) = Unit {0}
+Gives (change.Join s) = Unit {0}
 
 -- Holds if an action keeps items by test `in` with the list of these items.
 abbrev pub IsSought : Items → ItemAction → Type 0
