@@ -1,5 +1,6 @@
 pub mod CallErrors
 pub mod Calls
+pub mod Explanations
 pub mod Reasons
 pub mod Rendering
 pub mod Templates
