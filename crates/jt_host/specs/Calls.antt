@@ -161,7 +161,7 @@ module _ (sources : SourceTexts) (entry : Text) (options : Options) where
 
   -- The text prints what holds of the entry.
   abbrev pub IsTold : Text → Type 0
-  IsTold text = (x : Explained) × IsExplained sources entry options x × (text ≡ told x)
+  IsTold text = (x : Explained) × IsExplained sources entry options x × (text ≡ told sources options x)
 
   -- The result is the text of an explanation; it exists unless memory is refused.
   abbrev pub ExplainsTo : Result (String Global) CallError → Type 0

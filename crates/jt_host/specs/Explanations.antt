@@ -1,8 +1,10 @@
--- What an explanation prints: the place, the code and the name of a refusal, what it is about, and
--- the rule.
-use Rattle.std.specs.Prelude.{◌++◌, codes, Option, Some, None, string_bytes}
+-- What an explanation prints: the place, the code and the name of a refusal, what it is about, the
+-- line of the source, and the rule.
+use Rattle.std.specs.Prelude.{◌++◌, [], codes, Option, Some, None, string_bytes, unwrap_or}
 use Rattle.std.specs.Fmt.{decimal}
+use Rattle.jt_scan.specs.declared.Options.{Options}
 use Rattle.jt_ast.specs.Expressions.{Text}
+use Rattle.jt_inherit.specs.Chains.{SourceTexts}
 use Rattle.jt_codegen.specs.declared.ScanError.{ScanError}
 use Rattle.jt_codegen.specs.declared.ScanError.TheVariants as scan_error
 use Rattle.jt_codegen.specs.declared.ParseError.{ParseError}
@@ -20,6 +22,7 @@ use Rattle.jt_codegen.specs.declared.TagPlace.{TagPlace}
 use Rattle.jt_codegen.specs.declared.Subject.{Subject}
 use Rattle.jt_codegen.specs.declared.Subject.TheVariants as subject
 use Rattle.jt_host.specs.Reasons.{chain_name, scope_text}
+use Rattle.jt_host.specs.SourceLines.{source_line}
 
 -- ---- the rule that each error reports
 
@@ -127,13 +130,22 @@ abbrev pub place_text : Option TagPlace → Text
 place_text (Some place) = string_bytes place.template ++ (codes ":" ++ (decimal place.line ++ codes ": "))
 place_text None = codes ""
 
--- The line of a finding, and the line of its rule.
-abbrev pub finding_lines : Finding → Text
-finding_lines f =
+-- The line of the source, behind two spaces. A template without a source has an empty line.
+abbrev pub source_text : SourceTexts → Options → Option TagPlace → Text
+source_text sources options None = codes ""
+source_text sources options (Some place) =
+    codes "  "
+    ++ (source_line options (unwrap_or (sources (string_bytes place.template)) []) place.line ++ codes "\n")
+
+-- The line of a finding, the line of the source, and the rule.
+abbrev pub finding_lines : SourceTexts → Options → Finding → Text
+finding_lines sources options f =
     place_text f.place
     ++ (error_name f.error
-    ++ (subject_text f.subject ++ (codes "\n  " ++ (sentence f.error ++ codes "\n"))))
+    ++ (subject_text f.subject
+    ++ (codes "\n"
+    ++ (source_text sources options f.place ++ (codes "  " ++ (sentence f.error ++ codes "\n"))))))
 
-abbrev pub told : Explained → Text
-told explained.Compiles = codes "ok\n"
-told (explained.Refused f) = finding_lines f
+abbrev pub told : SourceTexts → Options → Explained → Text
+told sources options explained.Compiles = codes "ok\n"
+told sources options (explained.Refused f) = finding_lines sources options f

@@ -10,15 +10,20 @@ ghost use Rattle.jt_host.specs.Templates.{source_of};
 use crate::call_error::CallError;
 use crate::calls::EntryTemplate;
 use crate::reasons::{name_of_chain, text_of_scope};
+use crate::source_lines::source_line;
+use crate::templates::Templates;
 use jt_codegen::{
     ChainError, CompileError, Explained, Finding, ParseError, ScanError, ScopeError, Subject,
     TagPlace, explain,
 };
+use jt_inherit::Library;
+use jt_scan::Options;
 use std::alloc::{AllocError, Global};
 
 /// Returns what is to say of an entry, in lines for a person: `ok` if it compiles. Otherwise the
 /// first line has the place, the code and the name of the refusal and what it is about, as far as
-/// they are known. The second line states the rule.
+/// they are known. The line of the source follows if the place is known. The last line states the
+/// rule.
 ///
 /// # Errors
 ///
@@ -33,32 +38,46 @@ pub fn explained(alloc: Global, entry: &EntryTemplate<'_>) -> Result<String, Cal
         options,
     } = *entry;
     let explained = explain(alloc, name, templates, options)?;
-    match text_of(alloc, &explained) {
+    match text_of(alloc, templates, options, &explained) {
         Ok(text) => Ok(text),
         Err(_) => Err(CallError::NoMemory),
     }
 }
 
 /// Returns the lines that an explanation prints.
-fn text_of(alloc: Global, explained: &Explained) -> Result<String, AllocError>
-    ensures { IfOk result (λ text. string_bytes text ≡ told explained.now) }
+fn text_of(
+    alloc: Global,
+    templates: &Templates,
+    options: Options,
+    explained: &Explained,
+) -> Result<String, AllocError>
+    ensures { IfOk result
+        (λ text. string_bytes text ≡ told (source_of templates.now) options explained.now) }
 {
     match explained {
         Explained::Compiles => String::from_str(alloc, "ok\n"),
-        Explained::Refused(finding) => lines_of(alloc, finding),
+        Explained::Refused(finding) => lines_of(alloc, templates, options, finding),
     }
 }
 
 /// Returns the lines of a finding.
-fn lines_of(alloc: Global, finding: &Finding) -> Result<String, AllocError>
-    ensures { IfOk result (λ text. string_bytes text ≡ finding_lines finding.now) }
+fn lines_of(
+    alloc: Global,
+    templates: &Templates,
+    options: Options,
+    finding: &Finding,
+) -> Result<String, AllocError>
+    ensures { IfOk result (λ text.
+        string_bytes text ≡ finding_lines (source_of templates.now) options finding.now) }
 {
     let name = name_of(&finding.error);
     let subject = subject_of(alloc, &finding.subject)?;
     let sentence = sentence_of(&finding.error);
     match &finding.place {
         Some(TagPlace { template, line }) => {
-            format!(in alloc; "{template}:{line}: {name}{subject}\n  {sentence}\n")
+            let source = templates.source(template).unwrap_or("");
+            let source = source_line(alloc, source, options, *line)?;
+            format!(in alloc; "{template}:{line}: {name}{subject}\n  {source}\n  {sentence}\n")
         }
         None => format!(in alloc; "{name}{subject}\n  {sentence}\n"),
     }

@@ -29,6 +29,7 @@ mod error;
 mod explaining;
 mod reasons;
 mod rendering;
+mod source_lines;
 mod templates;
 
 pub use call_error::CallError;

@@ -391,7 +391,7 @@ pub fn parse(alloc: Global, segments: &[Segment<'_>]) -> Result<Template, ParseE
 /// - `Syntax` or `TooDeep` as for `parse`.
 /// - `NoMemory` if a growth is refused.
 pub fn parse_unchecked(alloc: Global, segments: &[Segment<'_>]) -> Result<Template, ParseError>
-    ensures spelled { IfOk result (λ template.
+    ensures { IfOk result (λ template.
         Spelled (body_of template) (pieces_of segments.now)
         × (body_levels (body_of template) ≤ max_levels)) }
 {
