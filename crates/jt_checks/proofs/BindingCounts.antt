@@ -2,7 +2,8 @@
 use Rattle.std.proofs.Common.{◌≡◌, ℕ, suc, ◌+◌, Bool, true, false, if◌then◌else◌, List, [], ◌∷◌, ◌++◌, length, refl}
 use Rattle.std.proofs.Common.{sym, ap, ◌∙◌}
 use Rattle.std.proofs.Common.{Option, Some, None, arith}
-use Rattle.std.specs.List.{count_by, filter}
+use Rattle.std.specs.List as list
+use Rattle.std.specs.List.{count_by}
 use Rattle.std.proofs.lemmas.List.{length-map}
 use Rattle.std.proofs.lemmas.List.Sums.{length-filter}
 use Rattle.std.proofs.lemmas.List.Recursion.{is_count_by}
@@ -20,7 +21,7 @@ use Rattle.jt_uses.specs.Uses.{filter_call_uses, bound, keys_bound, parameters_b
 use Rattle.jt_uses.specs.Uses.{inside_loop, inside_block, inside_macro, inside_callee, escaped}
 use Rattle.jt_uses.specs.declared.site.Place.{Place}
 use Rattle.jt_uses.specs.declared.site.Enclosing.{Enclosing}
-use Rattle.jt_checks.specs.Findings.{binds_name, is_binding, bound_lines}
+use Rattle.jt_checks.specs.Findings.{binds_name, is_binding, lines_bound}
 
 abbrev names_bound : List Site → ℕ
 names_bound [] = 0
@@ -175,7 +176,7 @@ bindings_counted b =
     (body_uses b uses.outside))
     ∙ (body_by b uses.outside).is
 
-pub lines_counted : (b : Body) → length (bound_lines b) ≡ body_bound b
+pub lines_counted : (b : Body) → length (lines_bound (body_uses b uses.outside)) ≡ body_bound b
 lines_counted b =
-    length-map (filter binds_name (body_uses b uses.outside)) (λ s. s.place.line)
-    ∙ length-filter binds_name (body_uses b uses.outside) ∙ bindings_counted b
+    let ss = body_uses b uses.outside in
+    length-map (list.filter binds_name ss) (λ s. s.place.line) ∙ length-filter binds_name ss ∙ bindings_counted b

@@ -16,7 +16,7 @@ use Rattle.jt_rules.specs.Rules.{ForSome}
 use Rattle.jt_rules.specs.UseSites as sites
 use Rattle.jt_rules.specs.declared.error.ScopeError.{ScopeError}
 use Rattle.jt_rules.specs.declared.error.ScopeError.TheVariants as error
-use Rattle.jt_checks.specs.Findings.{Finding, Subject, rules_use, subject_of, within_view, bound_lines, UseBreaks}
+use Rattle.jt_checks.specs.Findings.{Finding, Subject, rules_use, subject_of, within_view, lines_bound, UseBreaks}
 use Rattle.jt_checks.specs.Findings.{IsFoundAt, IsFoundIn, PassesBindings}
 use Rattle.jt_checks.specs.internal.UseRules as broken
 use Rattle.jt_checks.proofs.BindingCounts.{lines_counted}
@@ -109,35 +109,34 @@ module _ (cenv : CompileEnv) (namespace : Namespace) where
 
   -- ---- Templates
 
-  over_holds : (t : Template) (o : Option ℕ) (f : Finding) → slice_get (bound_lines t.body) 4096 ≡ o
+  over_holds : (t : Template) (o : Option ℕ) (f : Finding) → slice_get (lines_bound (body_uses t.body uses.outside)) 4096 ≡ o
       → option_map (broken.finding_over t.name) o ≡ Some f → IsFoundIn cenv namespace f t
   over_holds t None f is e = absurd (cc)
   over_holds t (Some l) f is e =
       let g = broken.finding_over t.name l in
-      let within = slice_get_within (bound_lines t.body) 4096 l is in
+      let within = slice_get_within (lines_bound (body_uses t.body uses.outside)) 4096 l is in
       let counted = lines_counted t.body in
       let many : 4096 < body_bound t.body = omega arith in
       record {
         template = template_in g f e;
         found =
-          inr (record {
-            rule = sym (rule_in g f e);
-            broken = many;
-            line = is ∙ ap Some (line_in g f e);
-            subject = sym (subject_in g f e);
-          });
+            inr (record {
+              rule = sym (rule_in g f e);
+              broken = many;
+              line = is ∙ ap Some (line_in g f e);
+              subject = sym (subject_in g f e);
+            });
       }
 
   template_holds : (t : Template) (f : Finding) → broken.template_broken cenv namespace t ≡ Some f
       → IsFoundIn cenv namespace f t
   template_holds t f e =
       elim (one_of (broken.uses_broken cenv namespace t.name (body_uses t.body uses.outside))
-      (option_map (broken.finding_over t.name) (broken.line_over t.body)) f e)
-      [
+      (option_map (broken.finding_over t.name) (broken.line_over t.body)) f e) [
         | inl p ↦ record {
-            template = uses_named t.name (body_uses t.body uses.outside) f p;
-            found = inl (uses_hold t.name (body_uses t.body uses.outside) f p);
-          }
+          template = uses_named t.name (body_uses t.body uses.outside) f p;
+          found = inl (uses_hold t.name (body_uses t.body uses.outside) f p);
+        }
         | inr q ↦ over_holds t (broken.line_over t.body) f refl q
       ]
 

@@ -18,7 +18,7 @@ use Rattle.jt_rules.specs.UseSites.{UseSite}
 use Rattle.jt_rules.specs.declared.error.ScopeError.{ScopeError}
 use Rattle.jt_rules.specs.declared.error.ScopeError.TheVariants as error
 use Rattle.jt_checks.specs.Findings.{Finding, Subject, a_name, a_loop_field, a_filter, a_test, a_macro, called}
-use Rattle.jt_checks.specs.Findings.{subject_of, bound_lines}
+use Rattle.jt_checks.specs.Findings.{subject_of}
 use Rattle.jt_checks.specs.internal.RuleTests as rules
 use Rattle.jt_checks.proofs.RuleTestsCorrect.{Judged, Tells, InTemplates, InChain, BrokenThere, some_as, nothing, one}
 use Rattle.jt_checks.proofs.RuleTestsCorrect.{in_turn, read_told, bound_told, call_told, filter_told, test_told}
@@ -128,7 +128,7 @@ module _ (cenv : CompileEnv) (namespace : Namespace) where
       let found = broken.uses_broken cenv namespace t.name (body_uses t.body uses.outside) in
       rule_or found (option_map (broken.finding_over t.name) (broken.line_over t.body))
       ∙ ap (option_or (rule_of found))
-      (rule_over t.name (bound_lines t.body) 4096 (body_bound t.body) (lines_counted t.body))
+      (rule_over t.name (broken.lines_bound (body_uses t.body uses.outside)) 4096 (body_bound t.body) (lines_counted t.body))
 
   templates_told : (ts : List Template)
       → Judged (rule_of (broken.templates_broken cenv namespace ts)) (InTemplates cenv namespace ts)
@@ -137,10 +137,10 @@ module _ (cenv : CompileEnv) (namespace : Namespace) where
       let found = broken.uses_broken cenv namespace t.name (body_uses t.body uses.outside) in
       let others = broken.templates_broken cenv namespace ts in
       let is : rule_of (broken.templates_broken cenv namespace (t ∷ ts))
-          ≡ option_or (option_or (rule_of found) (rules.refused (nat_lt 4096 (body_bound t.body)) error.TooManySlots))
-          (rule_of others)
-          = rule_or (broken.template_broken cenv namespace t) others
-          ∙ ap (λ (o : Option ScopeError). option_or o (rule_of others)) (template_rule t) in
+      ≡ option_or (option_or (rule_of found) (rules.refused (nat_lt 4096 (body_bound t.body)) error.TooManySlots))
+      (rule_of others)
+      = rule_or (broken.template_broken cenv namespace t) others
+      ∙ ap (λ (o : Option ScopeError). option_or o (rule_of others)) (template_rule t) in
       subst (λ (o : Option ScopeError). Judged o (InTemplates cenv namespace (t ∷ ts))) (sym is)
       (template_told cenv namespace t ts (rule_of found) (rule_of others) (sites.body_use_sites t.body sites.outside)
       (nat_lt 4096 (body_bound t.body)) refl

@@ -2,7 +2,6 @@
 -- is about. Holds says that a finding is true of chains and libraries.
 use Rattle.std.specs.Prelude.{◌≡◌, ◌<◌, ◌⊎◌, ℕ, Bool, true, false, List, map, filter, slice_get, Option, Some, None}
 use Rattle.jt_ast.specs.Expressions.{Expr, name, attribute, Text}
-use Rattle.jt_ast.specs.Statements.{Body}
 use Rattle.jt_chains.specs.Chain.{Namespace, namespace_name, Template, templates}
 use Rattle.jt_chains.specs.Indices.{namespace_at}
 use Rattle.jt_uses.specs.Uses as uses
@@ -93,9 +92,9 @@ is_binding u = false
 abbrev pub binds_name : Site → Bool
 binds_name s = is_binding s.made
 
--- The lines of the names that a template binds, in the order of the source.
-abbrev pub bound_lines : Body → List ℕ
-bound_lines b = map (λ s. s.place.line) (filter binds_name (body_uses b uses.outside))
+-- The lines of the names that uses bind, in their order.
+abbrev pub lines_bound : List Site → List ℕ
+lines_bound ss = map (λ s. s.place.line) (filter binds_name ss)
 
 module _ (cenv : CompileEnv) (namespace : Namespace) where
   -- Holds if a use of the rules breaks the rule.
@@ -122,7 +121,7 @@ module _ (cenv : CompileEnv) (namespace : Namespace) where
   pub record PassesBindings (f : Finding) (t : Template) : Type 0 where
     pub rule : f.rule ≡ error.TooManySlots
     pub broken : BindsTooMany cenv namespace t
-    pub line : slice_get (bound_lines t.body) max_bindings ≡ Some f.line
+    pub line : slice_get (lines_bound (body_uses t.body uses.outside)) max_bindings ≡ Some f.line
     pub subject : f.subject ≡ the_bindings
 
   -- The template is that of the finding. One of its uses is what the finding says, or the number of

@@ -1,6 +1,6 @@
 //! Checks the static rules of uses and finds the first broken one, in the order of the source.
 
-ghost use Rattle.std.specs.Prelude.{◌≡◌, IfOk, filter, map, option_map, slice_get};
+ghost use Rattle.std.specs.Prelude.{◌≡◌, IfOk, option_map, slice_get};
 ghost use Rattle.jt_ast.specs.ExpressionView.{expr_view};
 ghost use Rattle.jt_ast.specs.StatementView.{parameters_view};
 ghost use Rattle.jt_checks.specs.FindingView.{finding_view};
@@ -170,9 +170,16 @@ fn binds_name(site: &UseSite<'_>) -> bool
 
 /// Returns the line of the binding after the first `count` ones, if there is one.
 pub(crate) fn binding_line(uses: &[UseSite<'_>], count: usize) -> Option<u32>
-    ensures { result ≡ slice_get
-        (map (λ s. s.place.line) (filter broken.binds_name (sites_view uses.now))) count }
+    ensures { result ≡ slice_get (broken.lines_bound (sites_view uses.now)) count }
 {
-    let mut bindings = uses.iter().filter(|site| binds_name(site));
-    Some(bindings.nth(count)?.place.line)
+    let mut left = count;
+    for site in uses {
+        if binds_name(site) {
+            if left == 0 {
+                return Some(site.place.line);
+            }
+            left -= 1;
+        }
+    }
+    None
 }

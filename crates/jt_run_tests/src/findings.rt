@@ -53,10 +53,7 @@ fn found_in(alloc: Global, sources: &Sources<'_>) -> Result<String, Fail> {
     }
     Ok(format!(in alloc;
         "{}, {} line {}: {:?}",
-        found.rule,
-        found.template,
-        found.line,
-        found.subject
+        found.rule, found.template, found.line, found.subject
     )?)
 }
 

@@ -12,8 +12,8 @@ use Rattle.jt_uses.specs.Uses.{binds_library, binds_macro, Site, body_uses, outs
 use Rattle.jt_uses.specs.declared.site.Enclosing.{Enclosing}
 use Rattle.jt_rules.specs.CompileEnv.{CompileEnv}
 use Rattle.jt_rules.specs.Rules.{max_bindings}
-use Rattle.jt_checks.specs.Findings.{Finding, Subject, the_bindings, subject_of, bound_lines}
-pub use Rattle.jt_checks.specs.Findings.{within_view, binds_name}
+use Rattle.jt_checks.specs.Findings.{Finding, Subject, the_bindings, subject_of}
+pub use Rattle.jt_checks.specs.Findings.{within_view, binds_name, lines_bound}
 use Rattle.jt_checks.specs.internal.RuleTests as rules
 use Rattle.jt_rules.specs.declared.error.ScopeError.{ScopeError}
 use Rattle.jt_rules.specs.declared.error.ScopeError.TheVariants as error
@@ -29,7 +29,7 @@ finding_of n l x r = None
 
 -- The line of the first name beyond the limit that a template binds.
 abbrev pub line_over : Body → Option ℕ
-line_over b = slice_get (bound_lines b) max_bindings
+line_over b = slice_get (lines_bound (body_uses b outside)) max_bindings
 
 -- The finding of a template that binds too many names.
 abbrev pub finding_over : Text → ℕ → Finding

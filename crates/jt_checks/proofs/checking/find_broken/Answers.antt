@@ -19,7 +19,7 @@ returns-in-Some-clause-broken c =
     let seen = chain_view c.args.chain.now in
     let f = finding_view c.in-Some.finding in
     let found : broken.chains_broken (cenv_of seen) seen.order ≡ Some f
-        = sym c.in_ok-finding.ensures ∙ ap (option_map finding_view) c.in-Some.is in
+    = sym c.in_ok-finding.ensures ∙ ap (option_map finding_view) c.in-Some.is in
     broken_breaks (cenv_of seen) seen.order f.rule
     (found_is_broken (cenv_of seen) seen.order f.rule (ap rule_of found))
 
@@ -53,9 +53,9 @@ returns-clause-holds c =
     inr (record {
       rule = refl;
       broken =
-        over c.in_ok-has_few_names.field-0 (names_counted (cenv_of seen) seen.order) 65535
-        c.in_ok-has_few_names.ensures c.if-branch.false;
-      template = ?;
+          over c.in_ok-has_few_names.field-0 (names_counted (cenv_of seen) seen.order) 65535
+          c.in_ok-has_few_names.ensures c.if-branch.false;
+      template = c.as_str.ensures.value ∙ name_seen c.args.chain.now 0 c.index.result.now c.args.chain.now.some c.index.ensures;
       line = refl;
       subject = refl;
     })
