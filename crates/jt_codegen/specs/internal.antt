@@ -1,3 +1,4 @@
 pub mod Asked
 pub mod Naming
 pub mod Statements
+pub mod UnknownNames

@@ -7,7 +7,7 @@ ghost use Rattle.jt_rules.specs.CompileEnv.{cenv_of};
 ghost use Rattle.jt_rules.specs.Rules.{KeepsRules};
 ghost use Rattle.jt_codegen.specs.Compiled.{IsCompiled};
 ghost use Rattle.jt_codegen.specs.Refusals.{Breaks, NamesLimit};
-ghost use Rattle.jt_codegen.specs.internal.Asked.{Asked, IsChainOf, IsNoRule};
+ghost use Rattle.jt_codegen.specs.internal.Asked.{Asked, IsChainOf, IsOfImage};
 
 use crate::entries::fits_entries;
 use crate::error::CompileError;
@@ -53,15 +53,15 @@ pub fn compile<L: Library>(
 /// options that have this chain.
 pub(crate) fn compile_chain(alloc: Global, chain: &Chain) -> Result<Image, CompileError>
     ghost asked: { Asked }
-    requires chain { IsChainOf asked (chain_view chain.now) }
+    requires { IsChainOf asked (chain_view chain.now) }
     ensures compiled { IfOk result
         (λ image. IsCompiled asked.given asked.entry asked.options image) }
     ensures refused { IfErr result (λ e. Breaks asked.given asked.entry asked.options e) }
     ensures small { IfErr result
         (λ e. NamesLimit e → ¬ (IsSmall asked.given asked.entry asked.options)) }
-    // No rule of names and calls is reported for a chain that keeps them.
+    // No rule is reported for a chain that keeps all of them.
     ensures lawful { KeepsRules (cenv_of (chain_view chain.now)) (chain_view chain.now).order
-        → IfErr result IsNoRule }
+        → IfErr result IsOfImage }
 {
     code_laws();
     low_laws();

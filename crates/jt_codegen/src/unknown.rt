@@ -1,13 +1,14 @@
 //! Finds the name of an unknown filter or test in the source of a template.
 
-ghost use Rattle.std.specs.Prelude.{◌≡◌, ◌||◌, IfOk, IfSome, Some, string_bytes};
+ghost use Rattle.std.specs.Prelude.{◌≡◌, IfOk, IfSome, Some, option_map, string_bytes};
 ghost use Rattle.jt_ast.specs.ExpressionView.{expr_view, exprs_view, pairs_view};
 ghost use Rattle.jt_ast.specs.Written.{literal_text};
 ghost use Rattle.jt_ast.specs.StatementView.{body_of};
 ghost use Rattle.jt_uses.specs.Uses.{body_uses, outside};
-ghost use Rattle.jt_uses.specs.UseView.{use_view, sites_view};
-ghost use Rattle.jt_expr.specs.Named.{argument_unknown, unknown_filter, unknown_test};
-ghost use Rattle.jt_codegen.specs.Unknown.{HasUses, NamesUnknown, NamedIn, StandsAt};
+ghost use Rattle.jt_uses.specs.UseView.{use_view, site_view, sites_view};
+ghost use Rattle.jt_expr.specs.Named as names;
+ghost use Rattle.jt_codegen.specs.Unknown.{HasUses, StandsAt};
+ghost use Rattle.jt_codegen.specs.internal.UnknownNames as spec;
 
 use jt_ast::{Expr, Template, filter_of, literal_text};
 use jt_expr::Named;
@@ -17,29 +18,43 @@ use jt_scan::{Options, ScanError, Source, scan};
 use jt_uses::{Use, UseSite, uses_of};
 use std::alloc::{AllocError, Global};
 
+/// Returns whether a filter has the name.
+fn is_filter(name: &str) -> bool
+    ensures { result ≡ names.is_filter name.now }
+{
+    FilterId::by_name(name).is_some()
+}
+
+/// Returns whether a test has the name.
+fn is_test(name: &str) -> bool
+    ensures { result ≡ names.is_test name.now }
+{
+    TestId::by_name(name).is_some()
+}
+
 /// Returns whether the search is for filters and none has the name.
 fn is_unknown_filter(named: Named, name: &str) -> bool
-    ensures { result ≡ unknown_filter named name.now }
+    ensures { result ≡ names.unknown_filter named name.now }
 {
     match named {
-        Named::Filter => FilterId::by_name(name).is_none(),
+        Named::Filter => !is_filter(name),
         Named::Test => false,
     }
 }
 
 /// Returns whether the search is for tests and none has the name.
 fn is_unknown_test(named: Named, name: &str) -> bool
-    ensures { result ≡ unknown_test named name.now }
+    ensures { result ≡ names.unknown_test named name.now }
 {
     match named {
         Named::Filter => false,
-        Named::Test => TestId::by_name(name).is_none(),
+        Named::Test => !is_test(name),
     }
 }
 
 /// Returns whether an argument with this role names an unknown filter or test.
 fn is_unknown_argument(named: Named, role: Option<ArgumentRole>, name: &str) -> bool
-    ensures { result ≡ argument_unknown named role (Some name.now) }
+    ensures { result ≡ names.argument_unknown named role (Some name.now) }
 {
     match role {
         Some(ArgumentRole::Filter) => is_unknown_filter(named, name),
@@ -48,50 +63,84 @@ fn is_unknown_argument(named: Named, role: Option<ArgumentRole>, name: &str) -> 
     }
 }
 
+/// Returns the text of an argument with this role if it names an unknown filter or test.
+fn argument_name(named: Named, role: Option<ArgumentRole>, argument: &Expr) -> Option<&str>
+    ensures { option_map (λ x. x.now) result
+        ≡ spec.argument_name named role (literal_text (expr_view argument.now)) }
+{
+    match literal_text(argument) {
+        Some(name) if is_unknown_argument(named, role, name) => Some(name),
+        _ => None,
+    }
+}
+
 /// Returns the first unknown filter or test that an argument of the filter names.
 fn unknown_argument<'a>(named: Named, filter: FilterId, arguments: &'a [Expr]) -> Option<&'a str>
-    ensures { IfSome result (λ x. NamedIn named filter 1 (exprs_view arguments.now) x.now) }
+    ensures { option_map (λ x. x.now) result
+        ≡ spec.unknown_argument named filter 1 (exprs_view arguments.now) }
 {
     for (index, argument) in arguments.iter().enumerate() {
-        if let Some(name) = literal_text(argument) {
-            if is_unknown_argument(named, filter.named_at(index + 1), name) {
-                return Some(name);
-            }
+        if let Some(name) = argument_name(named, filter.named_at(index + 1), argument) {
+            return Some(name);
         }
     }
     None
 }
 
+/// Returns the unknown filter or test that a filter names, by its own name or in its arguments.
+fn unknown_in_filter<'a>(
+    named: Named,
+    name: &'a str,
+    arguments: &'a [Expr],
+    keywords: &[(String, Expr)],
+) -> Option<&'a str>
+    ensures { option_map (λ x. x.now) result ≡ spec.unknown_in_filter named name.now
+        (exprs_view arguments.now) (pairs_view keywords.now) }
+{
+    if is_unknown_filter(named, name) {
+        return Some(name);
+    }
+    match filter_of(name, arguments, keywords) {
+        Some(filter) => unknown_argument(named, filter, arguments),
+        None => None,
+    }
+}
+
 /// Returns the unknown filter or test that a use names.
 fn unknown_in<'a>(named: Named, made: Use<'a>) -> Option<&'a str>
-    ensures { IfSome result (λ x. NamesUnknown named x.now (use_view made.entry)) }
+    ensures { option_map (λ x. x.now) result ≡ spec.unknown_in named (use_view made.entry) }
 {
     match made {
         Use::Filters {
             name,
             arguments,
             keywords,
-        } => {
-            if is_unknown_filter(named, name) {
-                return Some(name);
-            }
-            let filter = filter_of(name, arguments, keywords)?;
-            unknown_argument(named, filter, arguments)
-        }
+        } => unknown_in_filter(named, name, arguments, keywords),
         Use::Tests { name, .. } if is_unknown_test(named, name) => Some(name),
         _ => None,
     }
 }
 
+/// Returns the unknown filter or test that a use names, if the use stands at the line.
+fn unknown_here<'a>(named: Named, line: u32, site: &UseSite<'a>) -> Option<&'a str>
+    ensures { option_map (λ x. x.now) result
+        ≡ spec.unknown_here named line (site_view site.now) }
+{
+    if site.place.line == line {
+        unknown_in(named, site.made)
+    } else {
+        None
+    }
+}
+
 /// Returns the first unknown filter or test that a use at the line names.
 fn unknown_at<'a>(named: Named, line: u32, uses: &[UseSite<'a>]) -> Option<&'a str>
-    ensures { IfSome result (λ x. StandsAt line named x.now (sites_view uses.now)) }
+    ensures { option_map (λ x. x.now) result
+        ≡ spec.unknown_at named line (sites_view uses.now) }
 {
     for site in uses {
-        if site.place.line == line {
-            if let Some(name) = unknown_in(named, site.made) {
-                return Some(name);
-            }
+        if let Some(name) = unknown_here(named, line, site) {
+            return Some(name);
         }
     }
     None
@@ -121,6 +170,7 @@ fn tree_of(alloc: Global, text: &str, options: Options) -> Result<Option<Templat
 }
 
 /// Returns the unknown filter or test, as `named` says, that a tag at the line of a source names.
+#[tactic(auto, using(crate::proofs::UnknownNames::stands_there))]
 pub(crate) fn find_unknown(
     alloc: Global,
     text: &str,

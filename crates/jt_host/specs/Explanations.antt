@@ -23,6 +23,7 @@ use Rattle.jt_codegen.specs.declared.Subject.{Subject}
 use Rattle.jt_codegen.specs.declared.Subject.TheVariants as subject
 use Rattle.jt_host.specs.Reasons.{chain_name, scope_text}
 use Rattle.jt_host.specs.SourceLines.{source_line}
+use Rattle.jt_turns.specs.Shown.{shown}
 
 -- ---- the rule that each error reports
 
@@ -108,9 +109,9 @@ error_name compile_error.CodeTooLong = codes "G1 CodeTooLong"
 error_name compile_error.NoMemory = codes "G2 NoMemory"
 error_name compile_error.StackTooDeep = codes "G3 StackTooDeep"
 
--- A name in quotes, after a space.
+-- A name in quotes, after a space. Control characters are shown by their codes.
 abbrev pub quoted : Text → Text
-quoted x = codes " \"" ++ (x ++ codes "\"")
+quoted x = codes " \"" ++ (shown x ++ codes "\"")
 
 abbrev pub subject_text : Option Subject → Text
 subject_text (Some (subject.Name x)) = quoted (string_bytes x)

@@ -2,9 +2,7 @@
 
 ghost use Rattle.std.specs.Prelude.{◌≡◌, IfOk, string_bytes};
 ghost use Rattle.jt_host.specs.Calls.{ExplainsTo};
-ghost use Rattle.jt_host.specs.Explanations.{chain_sentence, error_name, finding_lines, parse_sentence};
-ghost use Rattle.jt_host.specs.Explanations.{scan_sentence, scope_sentence, sentence, subject_text};
-ghost use Rattle.jt_host.specs.Explanations.{told};
+ghost use Rattle.jt_host.specs.Explanations as spec;
 ghost use Rattle.jt_host.specs.Templates.{source_of};
 
 use crate::call_error::CallError;
@@ -18,6 +16,7 @@ use jt_codegen::{
 };
 use jt_inherit::Library;
 use jt_scan::Options;
+use jt_turns::shown_text;
 use std::alloc::{AllocError, Global};
 
 /// Returns what is to say of an entry, in lines for a person: `ok` if it compiles. Otherwise the
@@ -52,7 +51,7 @@ fn text_of(
     explained: &Explained,
 ) -> Result<String, AllocError>
     ensures { IfOk result
-        (λ text. string_bytes text ≡ told (source_of templates.now) options explained.now) }
+        (λ text. string_bytes text ≡ spec.told (source_of templates.now) options explained.now) }
 {
     match explained {
         Explained::Compiles => String::from_str(alloc, "ok\n"),
@@ -68,7 +67,7 @@ fn lines_of(
     finding: &Finding,
 ) -> Result<String, AllocError>
     ensures { IfOk result (λ text.
-        string_bytes text ≡ finding_lines (source_of templates.now) options finding.now) }
+        string_bytes text ≡ spec.finding_lines (source_of templates.now) options finding.now) }
 {
     let name = name_of(&finding.error);
     let subject = subject_of(alloc, &finding.subject)?;
@@ -85,7 +84,7 @@ fn lines_of(
 
 /// Returns the code and the name of a refusal, without its place.
 fn name_of(error: &CompileError) -> &'static str
-    ensures { result.now ≡ error_name error.now }
+    ensures { result.now ≡ spec.error_name error.now }
 {
     match error {
         CompileError::Chain(error) => name_of_chain(error),
@@ -96,9 +95,17 @@ fn name_of(error: &CompileError) -> &'static str
     }
 }
 
+/// Returns a name in quotes after a space. Control characters are shown by their codes.
+fn quoted(alloc: Global, name: &str) -> Result<String, AllocError>
+    ensures { IfOk result (λ text. string_bytes text ≡ spec.quoted name.now) }
+{
+    let name = shown_text(alloc, name)?;
+    format!(in alloc; " \"{name}\"")
+}
+
 /// Returns what a refusal is about, in quotes after a space, or the empty text if it has no name.
 fn subject_of(alloc: Global, subject: &Option<Subject>) -> Result<String, AllocError>
-    ensures { IfOk result (λ text. string_bytes text ≡ subject_text subject.now) }
+    ensures { IfOk result (λ text. string_bytes text ≡ spec.subject_text subject.now) }
 {
     match subject {
         Some(
@@ -108,8 +115,11 @@ fn subject_of(alloc: Global, subject: &Option<Subject>) -> Result<String, AllocE
             | Subject::Filter(name)
             | Subject::Test(name)
             | Subject::Macro(name),
-        ) => format!(in alloc; " \"{name}\""),
-        Some(Subject::CalledField { of, field }) => format!(in alloc; " \"{of}.{field}\""),
+        ) => quoted(alloc, name),
+        Some(Subject::CalledField { of, field }) => {
+            let name = format!(in alloc; "{of}.{field}")?;
+            quoted(alloc, &name)
+        }
         Some(Subject::CalledExpression | Subject::Bindings | Subject::Names) | None => {
             Ok(String::new(alloc))
         }
@@ -118,7 +128,7 @@ fn subject_of(alloc: Global, subject: &Option<Subject>) -> Result<String, AllocE
 
 /// Returns the rule of sources that an error of the scanner reports.
 fn sentence_of_scan(error: ScanError) -> &'static str
-    ensures { result.now ≡ scan_sentence error }
+    ensures { result.now ≡ spec.scan_sentence error }
 {
     match error {
         ScanError::UnclosedTag { .. } => { "the source ends before this tag or comment is closed" }
@@ -142,7 +152,7 @@ fn sentence_of_scan(error: ScanError) -> &'static str
 
 /// Returns the rule of sources that an error of the parser reports.
 fn sentence_of_parse(error: ParseError) -> &'static str
-    ensures { result.now ≡ parse_sentence error }
+    ensures { result.now ≡ spec.parse_sentence error }
 {
     match error {
         ParseError::Syntax { .. } => {
@@ -159,7 +169,7 @@ fn sentence_of_parse(error: ParseError) -> &'static str
 
 /// Returns the rule of chains that an error reports.
 fn sentence_of_chain(error: &ChainError) -> &'static str
-    ensures { result.now ≡ chain_sentence error.now }
+    ensures { result.now ≡ spec.chain_sentence error.now }
 {
     match error {
         ChainError::Missing => {
@@ -199,7 +209,7 @@ fn sentence_of_chain(error: &ChainError) -> &'static str
 
 /// Returns the rule of names and calls that an error reports.
 fn sentence_of_scope(error: ScopeError) -> &'static str
-    ensures { result.now ≡ scope_sentence error }
+    ensures { result.now ≡ spec.scope_sentence error }
 {
     match error {
         ScopeError::LoopOutside => {
@@ -223,7 +233,7 @@ fn sentence_of_scope(error: ScopeError) -> &'static str
 
 /// Returns the rule that a refusal reports.
 fn sentence_of(error: &CompileError) -> &'static str
-    ensures { result.now ≡ sentence error.now }
+    ensures { result.now ≡ spec.sentence error.now }
 {
     match error {
         CompileError::Chain(error) => sentence_of_chain(error),

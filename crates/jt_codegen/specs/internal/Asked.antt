@@ -26,7 +26,10 @@ pub record IsChainOf (asked : Asked) (chain : Seen) : Type 0 where
       chain.templates
   pub few : 7 * length chain.order ≤ chains_weight (sources_of chain) chain.order + 7
 
--- The error is no broken rule of names and calls.
-abbrev pub IsNoRule : CompileError → Type 0
-IsNoRule (error.Scope e) = ⊥
-IsNoRule e = Unit {0}
+-- The error is about the image of a chain that keeps the rules.
+abbrev pub IsOfImage : CompileError → Type 0
+IsOfImage (error.Chain e) = ⊥
+IsOfImage (error.Scope e) = ⊥
+IsOfImage error.CodeTooLong = Unit {0}
+IsOfImage error.NoMemory = Unit {0}
+IsOfImage error.StackTooDeep = Unit {0}
