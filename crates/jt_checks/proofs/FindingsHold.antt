@@ -1,7 +1,7 @@
 -- A finding is true of the chains in which it is found.
 use Rattle.std.proofs.Common.{◌≡◌, ◌<◌, refl, sym, ap, ◌∙◌, subst, ℕ, List, [], ◌∷◌, length, Option, Some, None}
 use Rattle.std.proofs.Common.{arith}
-use Rattle.std.specs.Prelude.{◌⊎◌, option_map, slice_get, unwrap_or}
+use Rattle.std.specs.Prelude.{◌⊎◌, option_map, unwrap_or}
 use Rattle.std.specs.Option.{option_or}
 use Rattle.std.proofs.lemmas.Option.{slice_get_within}
 use mathlib.Core.Logic.{inl, inr}
@@ -109,7 +109,7 @@ module _ (cenv : CompileEnv) (namespace : Namespace) where
 
   -- ---- Templates
 
-  over_holds : (t : Template) (o : Option ℕ) (f : Finding) → slice_get (lines_bound (body_uses t.body uses.outside)) 4096 ≡ o
+  over_holds : (t : Template) (o : Option ℕ) (f : Finding) → broken.line_over t.body ≡ o
       → option_map (broken.finding_over t.name) o ≡ Some f → IsFoundIn cenv namespace f t
   over_holds t None f is e = absurd (cc)
   over_holds t (Some l) f is e =
