@@ -1,5 +1,5 @@
 -- A finding is true of the chains in which it is found.
-use Rattle.std.proofs.Common.{◌≡◌, ◌<◌, refl, sym, ap, ◌∙◌, subst, ℕ, List, [], ◌∷◌, length, Option, Some, None}
+use Rattle.std.proofs.Common.{◌≡◌, ◌<◌, refl, sym, ap, ◌∙◌, subst, ℕ, List, [], ◌∷◌, Option, Some, None}
 use Rattle.std.proofs.Common.{arith}
 use Rattle.std.specs.Prelude.{◌⊎◌, option_map, unwrap_or}
 use Rattle.std.specs.Option.{option_or}
@@ -15,9 +15,8 @@ use Rattle.jt_rules.specs.CompileEnv.{CompileEnv}
 use Rattle.jt_rules.specs.Rules.{ForSome}
 use Rattle.jt_rules.specs.UseSites as sites
 use Rattle.jt_rules.specs.declared.error.ScopeError.{ScopeError}
-use Rattle.jt_rules.specs.declared.error.ScopeError.TheVariants as error
 use Rattle.jt_checks.specs.Findings.{Finding, Subject, rules_use, subject_of, within_view, lines_bound, UseBreaks}
-use Rattle.jt_checks.specs.Findings.{IsFoundAt, IsFoundIn, PassesBindings}
+use Rattle.jt_checks.specs.Findings.{IsFoundAt, IsFoundIn}
 use Rattle.jt_checks.specs.internal.UseRules as broken
 use Rattle.jt_checks.proofs.BindingCounts.{lines_counted}
 use Rattle.jt_checks.proofs.RuleTestsCorrect.{Tells, Of, at_breaks}
