@@ -1,7 +1,7 @@
 -- A finding is true of the chains in which it is found.
-use Rattle.std.proofs.Common.{◌≡◌, ◌<◌, refl, sym, ap, ◌∙◌, subst, ℕ, List, [], ◌∷◌, length, Option, Some, None}
+use Rattle.std.proofs.Common.{◌≡◌, ◌<◌, refl, sym, ap, ◌∙◌, subst, ℕ, List, [], ◌∷◌, Option, Some, None}
 use Rattle.std.proofs.Common.{arith}
-use Rattle.std.specs.Prelude.{◌⊎◌, option_map, slice_get, unwrap_or}
+use Rattle.std.specs.Prelude.{◌⊎◌, option_map, unwrap_or}
 use Rattle.std.specs.Option.{option_or}
 use Rattle.std.proofs.lemmas.Option.{slice_get_within}
 use mathlib.Core.Logic.{inl, inr}
@@ -15,9 +15,8 @@ use Rattle.jt_rules.specs.CompileEnv.{CompileEnv}
 use Rattle.jt_rules.specs.Rules.{ForSome}
 use Rattle.jt_rules.specs.UseSites as sites
 use Rattle.jt_rules.specs.declared.error.ScopeError.{ScopeError}
-use Rattle.jt_rules.specs.declared.error.ScopeError.TheVariants as error
 use Rattle.jt_checks.specs.Findings.{Finding, Subject, rules_use, subject_of, within_view, lines_bound, UseBreaks}
-use Rattle.jt_checks.specs.Findings.{IsFoundAt, IsFoundIn, PassesBindings}
+use Rattle.jt_checks.specs.Findings.{IsFoundAt, IsFoundIn}
 use Rattle.jt_checks.specs.internal.UseRules as broken
 use Rattle.jt_checks.proofs.BindingCounts.{lines_counted}
 use Rattle.jt_checks.proofs.RuleTestsCorrect.{Tells, Of, at_breaks}
@@ -109,7 +108,7 @@ module _ (cenv : CompileEnv) (namespace : Namespace) where
 
   -- ---- Templates
 
-  over_holds : (t : Template) (o : Option ℕ) (f : Finding) → slice_get (lines_bound (body_uses t.body uses.outside)) 4096 ≡ o
+  over_holds : (t : Template) (o : Option ℕ) (f : Finding) → broken.line_over t.body ≡ o
       → option_map (broken.finding_over t.name) o ≡ Some f → IsFoundIn cenv namespace f t
   over_holds t None f is e = absurd (cc)
   over_holds t (Some l) f is e =

@@ -1,6 +1,6 @@
 -- Steps of loops: the first finding in the remaining items of a list.
 use Rattle.std.proofs.Common.{◌≡◌, ℕ, suc, ◌+◌, ◌<◌, ◌≤◌, Bool, true, false, List, [], ◌∷◌, length, map, drop, get_or}
-use Rattle.std.proofs.Common.{nat_lt, nat_le, if◌then◌else◌, string_bytes, refl, sym, ap, ◌∙◌, arith, Option, Some}
+use Rattle.std.proofs.Common.{nat_le, if◌then◌else◌, string_bytes, refl, sym, ap, ◌∙◌, arith, Option, Some}
 use Rattle.std.proofs.Common.{None, rules}
 use Rattle.std.specs.Option.{option_or}
 use Rattle.std.proofs.lemmas.List.{drop_more}

@@ -1,7 +1,7 @@
 -- The first rule that uses break is broken, and if they break none, no rule is broken.
 use Rattle.std.proofs.Common.{◌≡◌, ◌<◌, ◌≤◌, refl, sym, ap, ◌∙◌, subst, ℕ, Bool, true, false, List, [], ◌∷◌}
 use Rattle.std.proofs.Common.{length, nat_lt, Option, Some, None, arith, rules}
-use Rattle.std.specs.Prelude.{◌⊎◌, option_map, slice_get}
+use Rattle.std.specs.Prelude.{option_map, slice_get}
 use Rattle.std.specs.Option.{option_or}
 use Rattle.std.proofs.lemmas.Bool.Decides.{nat_tests}
 use Rattle.std.proofs.lemmas.Option.{slice_get-get_or, slice_get_past}
@@ -128,7 +128,8 @@ module _ (cenv : CompileEnv) (namespace : Namespace) where
       let found = broken.uses_broken cenv namespace t.name (body_uses t.body uses.outside) in
       rule_or found (option_map (broken.finding_over t.name) (broken.line_over t.body))
       ∙ ap (option_or (rule_of found))
-      (rule_over t.name (broken.lines_bound (body_uses t.body uses.outside)) 4096 (body_bound t.body) (lines_counted t.body))
+      (rule_over t.name (broken.lines_bound (body_uses t.body uses.outside)) 4096 (body_bound t.body)
+      (lines_counted t.body))
 
   templates_told : (ts : List Template)
       → Judged (rule_of (broken.templates_broken cenv namespace ts)) (InTemplates cenv namespace ts)

@@ -54,7 +54,7 @@ pub fn check_rules(alloc: Global, chain: &Chain) -> Result<(), ScopeError>
 
 /// Returns a rule that the chains break and where, if they break one: the first broken rule in the
 /// order of the chains, their templates and the source.
-pub fn find_broken<'a>(alloc: Global, chain: &'a Chain) -> Result<Option<Finding<'a>>, AllocError>
+pub fn find_broken(alloc: Global, chain: &Chain) -> Result<Option<Finding<'_>>, AllocError>
     ensures kept { IfOk result (λ found. IfNone found
         (KeepsRules (cenv_of (chain_view chain.now)) (chain_view chain.now).order)) }
     ensures broken { IfOk result (λ found. IfSome found
@@ -78,7 +78,7 @@ pub fn find_broken<'a>(alloc: Global, chain: &'a Chain) -> Result<Option<Finding
 }
 
 /// Returns the first finding in the templates of the chains.
-fn chains_broken<'a>(alloc: Global, chain: &'a Chain) -> Result<Option<Finding<'a>>, AllocError>
+fn chains_broken(alloc: Global, chain: &Chain) -> Result<Option<Finding<'_>>, AllocError>
     ensures { IfOk result (λ o. option_map finding_view o
         ≡ broken.chains_broken (cenv_in chain.now) (chain_view chain.now).order) }
 {

@@ -51,10 +51,9 @@ fn found_in(alloc: Global, sources: &Sources<'_>) -> Result<String, Fail> {
     if resolve(alloc, &chain).err() != Some(found.rule) {
         return Err(Fail::from("the call that resolves names another rule"));
     }
-    Ok(format!(in alloc;
-        "{}, {} line {}: {:?}",
-        found.rule, found.template, found.line, found.subject
-    )?)
+    let (line, subject) = (found.line, found.subject);
+    let text = format!(in alloc; "{}, {} {line}: {subject:?}", found.rule, found.template)?;
+    Ok(text.as_str().replace(alloc, "\"", "'")?)
 }
 
 // Finds the broken rule of a row's templates, with ␤ for LF and ␍ for CR.
@@ -62,6 +61,17 @@ fn found(alloc: Global, asked: &str) -> Result<String, Fail> {
     let text = asked.replace(alloc, "␤", "\n")?;
     let text = text.as_str().replace(alloc, "␍", "\r")?;
     found_in(alloc, &sources_of(alloc, text.as_str())?)
+}
+
+// Finds the broken rule of a template beside a library `l`, a library `k` that breaks a rule, and a
+// template `b` with a block.
+fn found_beside(alloc: Global, asked: &str) -> Result<String, Fail> {
+    let libraries = "l: {% macro m() %}{% endmacro %}¦k: ␤{% macro m() %}{{ loop }}{% endmacro %}";
+    let parent = "b: {% block a %}{% endblock %}";
+    found(
+        alloc,
+        format!(in alloc; "{libraries}¦{parent}¦{asked}")?.as_str(),
+    )
 }
 
 // Finds the broken rule of a template with a macro of `count` parameters on its second line.
@@ -90,23 +100,23 @@ fn finding_has_line_and_subject(rt: HostRuntime) -> Result<(), Fail> {
     rows_hold(
         &rt,
         found,
-        "a␤{{ loop }} => V1 LoopOutside, t line 2: Name(\"loop\")
-         a␤␤{{ 1 + loop.index }} => V1 LoopOutside, t line 3: LoopField(\"index\")
-         {% for x in y %}␤{{ loop.no }}{% endfor %} => V1 LoopOutside, t line 2: LoopField(\"no\")
-         ␤{{ loop.cycle(1) }} => V1 LoopOutside, t line 2: CalledField { of: \"loop\", field: \"cycle\" }
-         {% macro m() %}{% endmacro %}␤{{ m }} => V2 MacroAsValue, t line 2: Name(\"m\")
-         {% macro m() %}{% endmacro %}␤{% set m = 1 %} => V2 MacroAsValue, t line 2: Name(\"m\")
-         a␤{% set super = 1 %} => V3 NotCallable, t line 2: Name(\"super\")
-         ␤{{ f() }} => V3 NotCallable, t line 2: CalledName(\"f\")
-         ␤{{ a.f() }} => V3 NotCallable, t line 2: CalledField { of: \"a\", field: \"f\" }
-         ␤{{ (f)() }} => V3 NotCallable, t line 2: CalledExpression
-         ␤␤{{ super() }} => V3 NotCallable, t line 3: CalledName(\"super\")
-         ␤{{ self.b() }} => V3 NotCallable, t line 2: CalledField { of: \"self\", field: \"b\" }
-         {% macro m(a) %}{% endmacro %}␤{{ m(1, 2) }} => V4 BadArguments, t line 2: CalledName(\"m\")
-         {{ 'a'|upper }}␤{{ 'a'|upper|trim(1, 2) }} => V4 BadArguments, t line 2: Filter(\"trim\")
-         {{ 1 is odd }}␤{{ 1 is odd(2) }} => V4 BadArguments, t line 2: Test(\"odd\")
-         ␤{% macro m(a, a) %}{% endmacro %} => V4 BadArguments, t line 2: Macro(\"m\")
-         a␤{% macro range() %}{% endmacro %} => V3 NotCallable, t line 2: Macro(\"range\")
+        "a␤{{ loop }} => V1 LoopOutside, t 2: Name('loop')
+         a␤␤{{ 1 + loop.index }} => V1 LoopOutside, t 3: LoopField('index')
+         {% for x in y %}␤{{ loop.no }}{% endfor %} => V1 LoopOutside, t 2: LoopField('no')
+         ␤{{ loop.cycle(1) }} => V1 LoopOutside, t 2: CalledField { of: 'loop', field: 'cycle' }
+         {% macro m() %}{% endmacro %}␤{{ m }} => V2 MacroAsValue, t 2: Name('m')
+         {% macro m() %}{% endmacro %}␤{% set m = 1 %} => V2 MacroAsValue, t 2: Name('m')
+         a␤{% set super = 1 %} => V3 NotCallable, t 2: Name('super')
+         ␤{{ f() }} => V3 NotCallable, t 2: CalledName('f')
+         ␤{{ a.f() }} => V3 NotCallable, t 2: CalledField { of: 'a', field: 'f' }
+         ␤{{ (f)() }} => V3 NotCallable, t 2: CalledExpression
+         ␤␤{{ super() }} => V3 NotCallable, t 3: CalledName('super')
+         ␤{{ self.b() }} => V3 NotCallable, t 2: CalledField { of: 'self', field: 'b' }
+         {% macro m(a) %}{% endmacro %}␤{{ m(1, 2) }} => V4 BadArguments, t 2: CalledName('m')
+         {{ 'a'|upper }}␤{{ 'a'|upper|trim(1, 2) }} => V4 BadArguments, t 2: Filter('trim')
+         {{ 1 is odd }}␤{{ 1 is odd(2) }} => V4 BadArguments, t 2: Test('odd')
+         ␤{% macro m(a, a) %}{% endmacro %} => V4 BadArguments, t 2: Macro('m')
+         a␤{% macro range() %}{% endmacro %} => V3 NotCallable, t 2: Macro('range')
          {{ x }}␤{% for x in y %}{{ loop.index }}{% endfor %} => nothing",
     )
 }
@@ -116,11 +126,11 @@ fn finding_is_the_first_and_at_its_tag(rt: HostRuntime) -> Result<(), Fail> {
     rows_hold(
         &rt,
         found,
-        "{{ f() }}␤{{ g() }} => V3 NotCallable, t line 1: CalledName(\"f\")
-         {{ 1 +␤loop }} => V1 LoopOutside, t line 1: Name(\"loop\")
-         a␍␤b␍␤{{ loop }} => V1 LoopOutside, t line 3: Name(\"loop\")
-         a␍b␍{{ loop }} => V1 LoopOutside, t line 3: Name(\"loop\")
-         {% if a %}␤{% elif f() %}{% endif %} => V3 NotCallable, t line 2: CalledName(\"f\")",
+        "{{ f() }}␤{{ g() }} => V3 NotCallable, t 1: CalledName('f')
+         {{ 1 +␤loop }} => V1 LoopOutside, t 1: Name('loop')
+         a␍␤b␍␤{{ loop }} => V1 LoopOutside, t 3: Name('loop')
+         a␍b␍{{ loop }} => V1 LoopOutside, t 3: Name('loop')
+         {% if a %}␤{% elif f() %}{% endif %} => V3 NotCallable, t 2: CalledName('f')",
     )
 }
 
@@ -129,13 +139,22 @@ fn finding_names_its_template(rt: HostRuntime) -> Result<(), Fail> {
     rows_hold(
         &rt,
         found,
-        "u: a␤{{ loop }}¦{% include 'u' %} => V1 LoopOutside, u line 2: Name(\"loop\")
-         b: a␤␤{{ f() }}¦{% extends 'b' %} => V3 NotCallable, b line 3: CalledName(\"f\")
-         b: {% block a %}{% endblock %}¦{% extends 'b' %}␤{% block a %}{{ self }}{% endblock %} => V3 NotCallable, t line 2: Name(\"self\")
-         l: ␤{% macro m() %}{{ loop }}{% endmacro %}¦{% import 'l' as l %} => V1 LoopOutside, l line 2: Name(\"loop\")
-         l: {% macro m() %}{% endmacro %}¦␤{% import 'l' as l %}{{ l.m(1) }} => V4 BadArguments, t line 2: CalledField { of: \"l\", field: \"m\" }
-         l: {% macro m() %}{% endmacro %}¦␤{% import 'l' as l %}{{ l }} => V2 MacroAsValue, t line 2: Name(\"l\")
-         l: {% macro m() %}{% endmacro %}¦␤{% from 'l' import m as self %} => V3 NotCallable, t line 2: Name(\"self\")",
+        "u: a␤{{ loop }}¦{% include 'u' %} => V1 LoopOutside, u 2: Name('loop')
+         b: a␤␤{{ f() }}¦{% extends 'b' %} => V3 NotCallable, b 3: CalledName('f')",
+    )
+}
+
+#[test]
+fn finding_of_a_name_of_another_template(rt: HostRuntime) -> Result<(), Fail> {
+    rows_hold(
+        &rt,
+        found_beside,
+        "{% extends 'b' %}␤{% block a %}{{self}}{% endblock %} => V3 NotCallable, t 2: Name('self')
+         {%import 'l' as l%}␤{{l.m(1)}} => V4 BadArguments, t 2: CalledField { of: 'l', field: 'm' }
+         {% import 'k' as k %} => V1 LoopOutside, k 2: Name('loop')
+         {% import 'l' as l %}␤{{ l }} => V2 MacroAsValue, t 2: Name('l')
+         ␤{% import 'l' as loop %} => V1 LoopOutside, t 2: Name('loop')
+         ␤{% from 'l' import m as self %} => V3 NotCallable, t 2: Name('self')",
     )
 }
 
@@ -145,13 +164,13 @@ fn finding_at_limits(rt: HostRuntime) -> Result<(), Fail> {
         &rt,
         with_parameters,
         "255 => nothing
-         256 => V5 TooManySlots, t line 2: Macro(\"m\")",
+         256 => V5 TooManySlots, t 2: Macro('m')",
     )?;
     rows_hold(
         &rt,
         with_bindings,
         "4096 => nothing
-         4097 => V5 TooManySlots, t line 4097: Bindings
-         4200 => V5 TooManySlots, t line 4097: Bindings",
+         4097 => V5 TooManySlots, t 4097: Bindings
+         4200 => V5 TooManySlots, t 4097: Bindings",
     )
 }

@@ -1,4 +1,4 @@
-use Rattle.std.proofs.Common.{◌≡◌, Some, None, refl, sym, ap, ◌∙◌}
+use Rattle.std.proofs.Common.{◌≡◌, Some, refl, sym, ap, ◌∙◌}
 use Rattle.std.specs.Prelude.{option_map}
 use mathlib.Core.Logic.{inl, inr}
 use Rattle.jt_chains.specs.View.{chain_view}
@@ -55,7 +55,9 @@ returns-clause-holds c =
       broken =
           over c.in_ok-has_few_names.field-0 (names_counted (cenv_of seen) seen.order) 65535
           c.in_ok-has_few_names.ensures c.if-branch.false;
-      template = c.as_str.ensures.value ∙ name_seen c.args.chain.now 0 c.index.result.now c.args.chain.now.some c.index.ensures;
+      template =
+          c.as_str.ensures.value
+          ∙ name_seen c.args.chain.now 0 c.index.result.now c.args.chain.now.some c.index.ensures;
       line = refl;
       subject = refl;
     })
