@@ -16,7 +16,7 @@ returns-in-Some c =
     let ls = c.deref-layer-items.result.now in
     let i = c.loop-layer.layer-index in
     let l = c.layer-item.result in
-    some_first (broken.template_broken cenv namespace (body_view l.body.now))
+    some_first (broken.template_broken cenv namespace (layer_view ts l))
     (broken.templates_broken cenv namespace (shown_layers ts (drop (i + 1) ls))) c.in-Some.rule
     (sym c.in_ok-rule.ensures ∙ c.in-Some.is)
     ∙ sym (layers_left cenv namespace ts ls i l c.loop-layer-test.true c.layer-item.is) ∙ c.loop-layer.invariant
