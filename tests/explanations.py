@@ -11,6 +11,8 @@ ERRORS = pathlib.Path(__file__).resolve().parent.parent / "docs" / "errors.md"
 FIRST = re.compile(r'(?:(?P<template>[^\n]+):(?P<line>[0-9]+): )?(?P<code>[A-Z][0-9]+) (?P<name>\w+)(?: "(?P<subject>[^"\n]*)")?')
 ROW = re.compile(r"(?m)^\| (?P<code>[A-Z][0-9]+) (?P<name>\w+) \| (?P<sentence>[^|]+) \|$")
 LINE_END = re.compile("\r\n|\r|\n")
+# The greatest number of bytes of a source, S7 beyond it.
+MOST = 1 << 20
 
 
 def table(text):
@@ -26,8 +28,9 @@ def sentences():
 
 
 def line_of(folder, template, number):
-    """A line of the file of a template, without its line end."""
-    lines = LINE_END.split((folder / template).read_bytes().decode("utf-8"))
+    """A line of the file of a template, without its line end; that of a source that is too long is empty."""
+    source = (folder / template).read_bytes()
+    lines = LINE_END.split(source.decode("utf-8") if len(source) <= MOST else "")
     if not 0 < number <= len(lines):
         raise ValueError(f"{template} has no line {number}")
     return lines[number - 1]
