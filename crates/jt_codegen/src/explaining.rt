@@ -57,7 +57,7 @@ fn chain_finding<L: Library>(
     options: Options,
     error: ChainError,
 ) -> Result<Finding, NoMemory>
-    ensures { IfOk result (IsOfChain (L.sources library.now) options error.entry) }
+    ensures { IfOk result (IsOfChain (L.sources library.now) options error) }
 {
     if error == ChainError::NoMemory {
         return Err(NoMemory);

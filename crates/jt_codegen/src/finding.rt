@@ -1,7 +1,7 @@
 //! Defines what an explanation says: the error, and where and in what the templates break a rule.
 
 ghost use Rattle.std.specs.Prelude.{◌≡◌, IfOk};
-ghost use Rattle.jt_checks.specs.FindingView as found;
+ghost use Rattle.jt_checks.specs.FindingView as view;
 ghost use Rattle.jt_codegen.specs.Explaining.{IsBroken, subject_view};
 
 use crate::error::CompileError;
@@ -73,7 +73,7 @@ impl Finding {
 
     /// Returns the finding of a broken rule of names and calls.
     pub(crate) fn of_rule(alloc: Global, found: &scopes::Finding<'_>) -> Result<Self, AllocError>
-        ensures { IfOk result (IsBroken (found.finding_view found.now)) }
+        ensures { IfOk result (IsBroken (view.finding_view found.now)) }
     {
         let template = String::from_str(alloc, found.template)?;
         let subject = owned(alloc, found.subject)?;
@@ -90,7 +90,7 @@ impl Finding {
 
 /// Returns a copy of a subject that owns its names.
 fn owned(alloc: Global, subject: scopes::Subject<'_>) -> Result<Subject, AllocError>
-    ensures { IfOk result (λ s. subject_view s ≡ found.subject_view subject.entry) }
+    ensures { IfOk result (λ s. subject_view s ≡ view.subject_view subject.entry) }
 {
     match subject {
         scopes::Subject::Name(name) => Ok(Subject::Name(String::from_str(alloc, name)?)),

@@ -22,7 +22,7 @@ pub record Asked : Type 0 where
 pub record IsChainOf (asked : Asked) (chain : Seen) : Type 0 where
   pub only : IsOnlyChain asked.given asked.entry asked.options chain
   pub weighs : chains_weight (sources_of chain) chain.order ≤ chains_len asked.given (sources_of chain) chain.order
-  pub short : AllByRecursion (λ template. body_bytes template.body ≤ source_len asked.given template.name)
+  pub short : AllByRecursion (λ template. body_bytes template.body ≤ source_len (asked.given template.name))
       chain.templates
   pub few : 7 * length chain.order ≤ chains_weight (sources_of chain) chain.order + 7
 
