@@ -1,14 +1,18 @@
 -- What an explanation states is true of the entry.
-use Rattle.std.proofs.Common.{◌≡◌, List, [], ◌∷◌, Option, Some, None, refl, sym, subst, inl, inr}
-use Rattle.std.specs.Prelude.{◌≢◌, ◌⊎◌}
+use Rattle.std.proofs.Common.{◌≡◌, ℕ, List, [], ◌∷◌, Option, Some, None, refl, sym, ap, ◌∙◌, subst, inl, inr}
+use Rattle.std.specs.Prelude.{◌≢◌, ◌⊎◌, ◌≤◌, ◌+◌, ◌*◌, length}
+use Rattle.std.specs.List.{AllByRecursion}
 use Rattle.jt_scan.specs.declared.options.Options.{Options}
 use Rattle.jt_ast.specs.Expressions.{Text}
+use Rattle.jt_ast.specs.Sizes.{body_bytes}
 use Rattle.jt_chains.specs.Chain.{Namespace, Template}
-use Rattle.jt_chains.specs.View.{Seen}
+use Rattle.jt_chains.specs.View.{Seen, sources_of}
+use Rattle.jt_chains.specs.Weights.{chains_weight}
 use Rattle.jt_checks.specs.Findings as findings
 use Rattle.jt_checks.specs.Findings.{IsFoundAt, IsFoundIn, UseBreaks}
 use Rattle.jt_inherit.specs.Chains.{SourceTexts, IsChain}
 use Rattle.jt_inherit.specs.Refusals as inherit
+use Rattle.jt_inherit.specs.Small.{chains_len, source_len}
 use Rattle.jt_inherit.specs.declared.error.ChainError.{ChainError}
 use Rattle.jt_inherit.specs.declared.error.ChainError.TheVariants as chain_error
 use Rattle.jt_rules.specs.CompileEnv.{CompileEnv, cenv_of}
@@ -17,11 +21,12 @@ use Rattle.jt_rules.specs.Rules.{ForSome, KeepsRules}
 use Rattle.jt_rules.specs.UseSites as sites
 use Rattle.jt_rules.specs.declared.error.ScopeError.{ScopeError}
 use Rattle.jt_rules.specs.declared.error.ScopeError.TheVariants as scope_error
-use Rattle.jt_uses.specs.Uses.{Site}
+use Rattle.jt_uses.specs.Uses.{Site, body_uses, outside}
 use Rattle.jt_codegen.specs.Compiled.{IsOnlyChain}
 use Rattle.jt_codegen.specs.Explaining.{IsBroken, IsFinding, IsOfChain, IsPlaceOf, rule_at}
 use Rattle.jt_codegen.specs.Refusals.{Breaks, of_emit, of_scope}
-use Rattle.jt_codegen.specs.internal.Asked.{IsOfImage}
+use Rattle.jt_codegen.specs.internal.Asked.{IsChainOf, IsOfImage}
+use Rattle.jt_codegen.proofs.ChainImages.{only_chain}
 use Rattle.jt_codegen.specs.declared.emission.EmitError.{EmitError}
 use Rattle.jt_codegen.specs.declared.emission.EmitError.TheVariants as emit_error
 use Rattle.jt_codegen.specs.declared.error.CompileError.{CompileError}
@@ -29,6 +34,16 @@ use Rattle.jt_codegen.specs.declared.error.CompileError.TheVariants as error
 use Rattle.jt_codegen.specs.declared.finding.Finding.{Finding}
 use Rattle.jt_codegen.specs.declared.finding.TagPlace.{TagPlace}
 use Rattle.jt_codegen.specs.declared.finding.Subject.{Subject}
+
+-- The chain that is read is that of the entry.
+pub chain_asked : (given : SourceTexts) (entry : Text) (options : Options) (c : Seen) → IsChain given entry options c
+    → ((d : Seen) → IsChain given entry options d → (n : Text) → sources_of c n ≡ sources_of d n)
+    → chains_weight (sources_of c) c.order ≤ chains_len given (sources_of c) c.order
+    → AllByRecursion (λ template. body_bytes template.body ≤ source_len (given template.name)) c.templates
+    → 7 * length c.order ≤ chains_weight (sources_of c) c.order + 7
+    → IsChainOf (record { given = given; entry = entry; options = options }) c
+chain_asked given entry options c is one weighs short few =
+    record { only = only_chain given entry options c is one; weighs = weighs; short = short; few = few }
 
 -- A chain that keeps the rules of names and calls breaks none.
 pub rule_not_broken : (c : Seen) (e : ScopeError) → rules.Breaks e (cenv_of c) c.order → KeepsRules (cenv_of c) c.order
@@ -64,8 +79,8 @@ template_not : (cenv : CompileEnv) (h : Namespace) (f : findings.Finding) → f.
     → (t : Template) → IsFoundIn cenv h f t → ⊥
 template_not cenv h f e t found = of found.found
   where
-    of : ForSome (IsFoundAt cenv h f) _ ⊎ findings.PassesBindings cenv h f t → ⊥
-    of (inl s) = some_not (IsFoundAt cenv h f) _ (site_not cenv h f e) s
+    of : ForSome (IsFoundAt cenv h f) (body_uses t.body outside) ⊎ findings.PassesBindings cenv h f t → ⊥
+    of (inl s) = some_not (IsFoundAt cenv h f) (body_uses t.body outside) (site_not cenv h f e) s
     of (inr b) = let is = b.rule in cc
 
 pub memory_not : (cenv : CompileEnv) (order : List Namespace) (f : findings.Finding) → findings.Holds f cenv order
@@ -73,6 +88,15 @@ pub memory_not : (cenv : CompileEnv) (order : List Namespace) (f : findings.Find
 memory_not cenv order f (inl s) e =
     some_not _ order (λ h. some_not (IsFoundIn cenv h f) _ (template_not cenv h f e)) s
 memory_not cenv order f (inr p) e = let is = p.rule in cc
+
+abbrev finding_of : ScopeError → Text → ℕ → findings.Subject → findings.Finding
+finding_of rule t line a = record { rule = rule; template = t; line = line; subject = a }
+
+-- Findings are equal if their templates and subjects are.
+pub same_finding : (rule : ScopeError) (t u : Text) (line : ℕ) (a b : findings.Subject) → t ≡ u → a ≡ b
+    → finding_of rule t line a ≡ finding_of rule u line b
+same_finding rule t u line a b e f =
+    ap (λ (x : Text). finding_of rule x line a) e ∙ ap (λ (x : findings.Subject). finding_of rule u line x) f
 
 -- The finding of a broken rule of names and calls.
 pub rule_found : (given : SourceTexts) (entry : Text) (options : Options) (c : Seen)

@@ -49,15 +49,14 @@ pub fn compile<L: Library>(
     compile_chain(alloc, &chain)
 }
 
-/// Compiles the chain of an entry to an image. The contract holds for each library, entry and
-/// options that have this chain.
+/// Compiles the chain of an entry to an image.
 pub(crate) fn compile_chain(alloc: Global, chain: &Chain) -> Result<Image, CompileError>
-    ghost asked: { Asked }
-    requires { IsChainOf asked (chain_view chain.now) }
-    ensures compiled { IfOk result
+    requires { (asked : Asked) × IsChainOf asked (chain_view chain.now) }
+    ensures compiled { (asked : Asked) → IsChainOf asked (chain_view chain.now) → IfOk result
         (λ image. IsCompiled asked.given asked.entry asked.options image) }
-    ensures refused { IfErr result (λ e. Breaks asked.given asked.entry asked.options e) }
-    ensures small { IfErr result
+    ensures refused { (asked : Asked) → IsChainOf asked (chain_view chain.now) → IfErr result
+        (λ e. Breaks asked.given asked.entry asked.options e) }
+    ensures small { (asked : Asked) → IsChainOf asked (chain_view chain.now) → IfErr result
         (λ e. NamesLimit e → ¬ (IsSmall asked.given asked.entry asked.options)) }
     // No rule is reported for a chain that keeps all of them.
     ensures lawful { KeepsRules (cenv_of (chain_view chain.now)) (chain_view chain.now).order

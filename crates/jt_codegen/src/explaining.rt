@@ -36,13 +36,13 @@ pub fn explain<L: Library>(
             return Ok(Explained::Refused(found));
         }
     };
-    if let Some(found) = find_broken(alloc, &chain)? {
-        return Ok(Explained::Refused(Finding::of_rule(alloc, &found)?));
-    }
-    match compile_chain(alloc, &chain) {
-        Ok(_image) => Ok(Explained::Compiles),
-        Err(CompileError::NoMemory) => Err(NoMemory),
-        Err(error) => Ok(Explained::Refused(Finding::without_place(error))),
+    match find_broken(alloc, &chain)? {
+        Some(found) => Ok(Explained::Refused(Finding::of_rule(alloc, &found)?)),
+        None => match compile_chain(alloc, &chain) {
+            Ok(_image) => Ok(Explained::Compiles),
+            Err(CompileError::NoMemory) => Err(NoMemory),
+            Err(error) => Ok(Explained::Refused(Finding::without_place(error))),
+        },
     }
 }
 

@@ -8,106 +8,103 @@ use Rattle.jt_codegen.proofs.Findings.{rule_not_broken, emit_of_image}
 use Rattle.jt_codegen.proofs.compiling.compile_chain.Goals as goal
 
 pub returns-in_err-program-clause-refused : goal.returns-in_err-program-clause-refused
-returns-in_err-program-clause-refused g c =
+returns-in_err-program-clause-refused c =
     let p = err_from_is_err_and c.from_residual.result c.from_residual.ensures.1 in
     rw (p.1, p.2)
-    (rule_refused g.asked.given g.asked.entry g.asked.options
+    (λ asked is. rule_refused asked.given asked.entry asked.options
     (chain_view c.args.chain.now)
-    c.requires.only
+    is.only
     c.in_err-program.field-0.0 c.in_err-program.ensures.refused)
 
 pub returns-in_err-program-clause-lawful : goal.returns-in_err-program-clause-lawful
-returns-in_err-program-clause-lawful g c =
+returns-in_err-program-clause-lawful c =
     let p = err_from_is_err_and c.from_residual.result c.from_residual.ensures.1 in
     rw (p.1, p.2)
     (λ kept. rule_not_broken (chain_view c.args.chain.now) c.in_err-program.field-0.0 c.in_err-program.ensures.refused
     kept)
 
 pub returns-then-not-fits_entries-clause-refused : goal.returns-then-not-fits_entries-clause-refused
-returns-then-not-fits_entries-clause-refused g c =
+returns-then-not-fits_entries-clause-refused c =
     let q = c.in_ok-program.program in
     let high = high_of q c.deref.result.now c.fits_entries.result c.deref.ensures.value c.fits_entries.ensures
     c.if-not-fits_entries.true in
-    stack_refused c.code_laws.ensures c.low_laws.ensures c.program_laws.ensures g.asked.given
-    g.asked.entry g.asked.options (chain_view c.args.chain.now)
-    c.requires.only
+    λ asked is. stack_refused c.code_laws.ensures c.low_laws.ensures c.program_laws.ensures asked.given
+    asked.entry asked.options (chain_view c.args.chain.now)
+    is.only
     c.in_ok-program.ensures.kept
     (program_of q) c.in_ok-program.ensures.resolved high
 
 pub returns-then-not-fits_entries-clause-small : goal.returns-then-not-fits_entries-clause-small
-returns-then-not-fits_entries-clause-small g c =
+returns-then-not-fits_entries-clause-small c =
     let q = c.in_ok-program.program in
     let high = high_of q c.deref.result.now c.fits_entries.result c.deref.ensures.value c.fits_entries.ensures
     c.if-not-fits_entries.true in
-    let not_small = stack_not_small c.code_laws.ensures c.low_laws.ensures c.program_laws.ensures
-    g.asked.given g.asked.entry g.asked.options (chain_view c.args.chain.now)
-    c.requires.only
-    c.in_ok-program.ensures.kept
-    (program_of q) c.in_ok-program.ensures.resolved high c.requires.weighs in
-    λ limit. not_small
+    λ asked is limit. stack_not_small c.code_laws.ensures c.low_laws.ensures c.program_laws.ensures asked.given
+    asked.entry asked.options (chain_view c.args.chain.now) is.only c.in_ok-program.ensures.kept (program_of q)
+    c.in_ok-program.ensures.resolved high is.weighs
 
 pub image_of-requires-clause-tables : goal.image_of-requires-clause-tables
-image_of-requires-clause-tables g c =
-    tables_of c.code_laws.ensures c.low_laws.ensures c.program_laws.ensures g.asked.given
-    g.asked.entry g.asked.options (chain_view c.args.chain.now)
-    c.requires.only
+image_of-requires-clause-tables c =
+    tables_of c.code_laws.ensures c.low_laws.ensures c.program_laws.ensures c.requires.0.given
+    c.requires.0.entry c.requires.0.options (chain_view c.args.chain.now)
+    c.requires.1.only
     c.in_ok-program.ensures.kept
     (program_of c.in_ok-program.program) c.in_ok-program.ensures.resolved
 
 pub image_of-requires-clause-fits : goal.image_of-requires-clause-fits
-image_of-requires-clause-fits g c =
+image_of-requires-clause-fits c =
     let q = c.in_ok-program.program in
     let low = low_of q c.deref.result.now c.fits_entries.result c.deref.ensures.value c.fits_entries.ensures
     c.if-not-fits_entries.false in
-    fits_of c.code_laws.ensures c.low_laws.ensures c.program_laws.ensures g.asked.given
-    g.asked.entry g.asked.options (chain_view c.args.chain.now)
-    c.requires.only
+    fits_of c.code_laws.ensures c.low_laws.ensures c.program_laws.ensures c.requires.0.given
+    c.requires.0.entry c.requires.0.options (chain_view c.args.chain.now)
+    c.requires.1.only
     c.in_ok-program.ensures.kept
     (program_of q) c.in_ok-program.ensures.resolved low
 
 pub image_of-requires-clause-few : goal.image_of-requires-clause-few
-image_of-requires-clause-few g c =
-    few_of c.code_laws.ensures c.low_laws.ensures c.program_laws.ensures g.asked.given
-    g.asked.entry g.asked.options (chain_view c.args.chain.now)
-    c.requires.only
+image_of-requires-clause-few c =
+    few_of c.code_laws.ensures c.low_laws.ensures c.program_laws.ensures c.requires.0.given
+    c.requires.0.entry c.requires.0.options (chain_view c.args.chain.now)
+    c.requires.1.only
     c.in_ok-program.ensures.kept
     (program_of c.in_ok-program.program) c.in_ok-program.ensures.resolved
 
 pub returns-in_err-image-clause-refused : goal.returns-in_err-image-clause-refused
-returns-in_err-image-clause-refused g c =
+returns-in_err-image-clause-refused c =
     let p = err_from_is_err_and c.from_residual-in_err-image.result c.from_residual-in_err-image.ensures.1 in
     rw (p.1, p.2)
-    (code_refused c.code_laws.ensures c.low_laws.ensures c.program_laws.ensures g.asked.given
-    g.asked.entry g.asked.options (chain_view c.args.chain.now)
-    c.requires.only
+    (λ asked is. code_refused c.code_laws.ensures c.low_laws.ensures c.program_laws.ensures asked.given
+    asked.entry asked.options (chain_view c.args.chain.now)
+    is.only
     c.in_ok-program.ensures.kept
     c.in_err-image.field-0.0 (program_of c.in_ok-program.program) c.in_ok-program.ensures.resolved
     c.in_err-image.ensures.refused)
 
 pub returns-in_err-image-clause-small : goal.returns-in_err-image-clause-small
-returns-in_err-image-clause-small g c =
+returns-in_err-image-clause-small c =
     let p = err_from_is_err_and c.from_residual-in_err-image.result c.from_residual-in_err-image.ensures.1 in
     rw (p.1, p.2)
-    (code_not_small c.code_laws.ensures c.low_laws.ensures c.program_laws.ensures
-    g.asked.given g.asked.entry g.asked.options (chain_view c.args.chain.now)
-    c.requires.only
+    (λ asked is. code_not_small c.code_laws.ensures c.low_laws.ensures c.program_laws.ensures
+    asked.given asked.entry asked.options (chain_view c.args.chain.now)
+    is.only
     c.in_ok-program.ensures.kept
     c.in_err-image.field-0.0 (program_of c.in_ok-program.program) c.in_ok-program.ensures.resolved
-    c.in_err-image.ensures.refused c.requires.weighs c.requires.short c.requires.few)
+    c.in_err-image.ensures.refused is.weighs is.short is.few)
 
 pub returns-in_err-image-clause-lawful : goal.returns-in_err-image-clause-lawful
-returns-in_err-image-clause-lawful g c =
+returns-in_err-image-clause-lawful c =
     let p = err_from_is_err_and c.from_residual-in_err-image.result c.from_residual-in_err-image.ensures.1 in
     rw (p.1, p.2) (λ kept. emit_of_image c.in_err-image.field-0.0)
 
 pub returns-clause-compiled : goal.returns-clause-compiled
-returns-clause-compiled g c =
+returns-clause-compiled c =
     let q = c.in_ok-program.program in
     let low = low_of q c.deref.result.now c.fits_entries.result c.deref.ensures.value c.fits_entries.ensures
     c.if-not-fits_entries.false in
-    image_compiled c.code_laws.ensures c.low_laws.ensures c.program_laws.ensures
-    g.asked.given g.asked.entry g.asked.options (chain_view c.args.chain.now)
-    c.requires.only
+    λ asked is. image_compiled c.code_laws.ensures c.low_laws.ensures c.program_laws.ensures
+    asked.given asked.entry asked.options (chain_view c.args.chain.now)
+    is.only
     c.in_ok-program.ensures.kept
     (program_of q) c.in_ok-image.image c.in_ok-program.ensures.resolved low c.in_ok-image.ensures.is
     c.in_ok-image.ensures.whole
