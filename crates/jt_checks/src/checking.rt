@@ -55,12 +55,12 @@ pub fn check_rules(alloc: Global, chain: &Chain) -> Result<(), ScopeError>
 /// Returns a rule that the chains break and where, if they break one: the first broken rule in the
 /// order of the chains, their templates and the source.
 pub fn find_broken(alloc: Global, chain: &Chain) -> Result<Option<Finding<'_>>, AllocError>
-    ensures kept { IfOk result (λ found. IfNone found
+    ensures kept { IfOk result (λ o. IfNone o
         (KeepsRules (cenv_of (chain_view chain.now)) (chain_view chain.now).order)) }
-    ensures broken { IfOk result (λ found. IfSome found
+    ensures found { IfOk result (λ o. IfSome o
         (λ f. Breaks f.rule (cenv_of (chain_view chain.now)) (chain_view chain.now).order)) }
-    // The finding is true of the chains: the rule is broken at that place.
-    ensures holds { IfOk result (λ found. IfSome found (λ f. Holds (finding_view f)
+    // The finding is true of the templates.
+    ensures holds { IfOk result (λ o. IfSome o (λ f. Holds (finding_view f)
         (cenv_of (chain_view chain.now)) (chain_view chain.now).order)) }
 {
     if let Some(finding) = chains_broken(alloc, chain)? {

@@ -13,9 +13,9 @@ use Rattle.jt_checks.proofs.RuleTestsCorrect.{broken_breaks}
 use Rattle.jt_checks.proofs.UsesCorrect.{rule_of, found_is_broken, none_is_broken}
 use Rattle.jt_checks.proofs.checking.find_broken.Goals as goal
 
-pub returns-in-Some-clause-broken : goal.returns-in-Some-clause-broken
+pub returns-in-Some-clause-found : goal.returns-in-Some-clause-found
 unfolding cenv_in
-returns-in-Some-clause-broken c =
+returns-in-Some-clause-found c =
     let seen = chain_view c.args.chain.now in
     let f = finding_view c.in-Some.finding in
     let found : broken.chains_broken (cenv_of seen) seen.order ≡ Some f
@@ -39,9 +39,9 @@ returns-then-branch-clause-kept c =
     (few_enough c.in_ok-has_few_names.field-0 (names_counted (cenv_of seen) seen.order) 65535
     c.in_ok-has_few_names.ensures c.if-branch.true)
 
-pub returns-clause-broken : goal.returns-clause-broken
+pub returns-clause-found : goal.returns-clause-found
 unfolding cenv_in
-returns-clause-broken c =
+returns-clause-found c =
     let seen = chain_view c.args.chain.now in
     inr (over c.in_ok-has_few_names.field-0 (names_counted (cenv_of seen) seen.order) 65535
     c.in_ok-has_few_names.ensures c.if-branch.false)
