@@ -1,6 +1,6 @@
 -- What an explanation states is true of the entry.
 use Rattle.std.proofs.Common.{◌≡◌, ℕ, List, [], ◌∷◌, Option, Some, None, refl, sym, ap, ◌∙◌, subst, inl, inr}
-use Rattle.std.specs.Prelude.{◌≢◌, ◌⊎◌, ◌≤◌, ◌+◌, ◌*◌, length}
+use Rattle.std.specs.Prelude.{◌≢◌, ◌⊎◌, ◌≤◌, ◌+◌, ◌*◌, length, Result, Ok, Err, IfOk}
 use Rattle.std.specs.List.{AllByRecursion}
 use Rattle.jt_scan.specs.declared.options.Options.{Options}
 use Rattle.jt_ast.specs.Expressions.{Text}
@@ -22,8 +22,9 @@ use Rattle.jt_rules.specs.UseSites as sites
 use Rattle.jt_rules.specs.declared.error.ScopeError.{ScopeError}
 use Rattle.jt_rules.specs.declared.error.ScopeError.TheVariants as scope_error
 use Rattle.jt_uses.specs.Uses.{Site, body_uses, outside}
+use Rattle.jt_value.specs.declared.fault.NoMemory.{NoMemory}
 use Rattle.jt_codegen.specs.Compiled.{IsOnlyChain}
-use Rattle.jt_codegen.specs.Explaining.{IsBroken, IsFinding, IsOfChain, IsPlaceOf, rule_at}
+use Rattle.jt_codegen.specs.Explaining.{IsBroken, IsExplained, IsFinding, IsOfChain, IsPlaceOf, rule_at}
 use Rattle.jt_codegen.specs.Refusals.{Breaks, of_emit, of_scope}
 use Rattle.jt_codegen.specs.internal.Asked.{IsChainOf, IsOfImage}
 use Rattle.jt_codegen.proofs.ChainImages.{only_chain}
@@ -31,6 +32,8 @@ use Rattle.jt_codegen.specs.declared.emission.EmitError.{EmitError}
 use Rattle.jt_codegen.specs.declared.emission.EmitError.TheVariants as emit_error
 use Rattle.jt_codegen.specs.declared.error.CompileError.{CompileError}
 use Rattle.jt_codegen.specs.declared.error.CompileError.TheVariants as error
+use Rattle.jt_codegen.specs.declared.finding.Explained.{Explained}
+use Rattle.jt_codegen.specs.declared.finding.Explained.TheVariants as explained
 use Rattle.jt_codegen.specs.declared.finding.Finding.{Finding}
 use Rattle.jt_codegen.specs.declared.finding.TagPlace.{TagPlace}
 use Rattle.jt_codegen.specs.declared.finding.Subject.{Subject}
@@ -126,8 +129,8 @@ chain_found given entry options e broken none f of = record {
 }
 
 -- The finding of an image that would pass a limit.
-pub image_found : (given : SourceTexts) (entry : Text) (options : Options) (e : CompileError)
-    → e ≢ error.NoMemory → Breaks given entry options e → IsOfImage e
+image_found : (given : SourceTexts) (entry : Text) (options : Options) (e : CompileError) → e ≢ error.NoMemory
+    → Breaks given entry options e → IsOfImage e
     → IsFinding given entry options (record { error = e; place = None; subject = None })
 image_found given entry options (error.Chain e) some broken of = absurd of
 image_found given entry options (error.Scope e) some broken of = absurd of
@@ -136,3 +139,12 @@ image_found given entry options error.CodeTooLong some broken of =
 image_found given entry options error.NoMemory some broken of = absurd (some refl)
 image_found given entry options error.StackTooDeep some broken of =
     record { some = some; broken = broken; placed = (refl, refl) }
+
+pub image_explained : (given : SourceTexts) (entry : Text) (options : Options) (e : CompileError)
+    → Breaks given entry options e → IsOfImage e → (r : Result Explained NoMemory)
+    → IfOk r (λ x. (e ≢ error.NoMemory)
+    × (x ≡ explained.Refused (record { error = e; place = None; subject = None })))
+    → IfOk r (IsExplained given entry options)
+image_explained given entry options e broken of (Ok x) h =
+    subst (IsExplained given entry options) (sym h.1) (image_found given entry options e h.0 broken of)
+image_explained given entry options e broken of (Err n) h = tt

@@ -1,6 +1,6 @@
 //! Explains why an entry does not compile.
 
-ghost use Rattle.std.specs.Prelude.{IfOk};
+ghost use Rattle.std.specs.Prelude.{◌≡◌, ◌≢◌, None, IfOk};
 ghost use Rattle.jt_codegen.specs.Explaining.{IsExplained, IsOfChain, IsUnknown};
 
 use crate::compiling::compile_chain;
@@ -40,9 +40,23 @@ pub fn explain<L: Library>(
         Some(found) => Ok(Explained::Refused(Finding::of_rule(alloc, &found)?)),
         None => match compile_chain(alloc, &chain) {
             Ok(_image) => Ok(Explained::Compiles),
-            Err(CompileError::NoMemory) => Err(NoMemory),
-            Err(error) => Ok(Explained::Refused(Finding::without_place(error))),
+            Err(error) => image_finding(error),
         },
+    }
+}
+
+/// Returns what an error states of the image of a chain that keeps the rules.
+///
+/// # Errors
+///
+/// `NoMemory` if that is the error.
+fn image_finding(error: CompileError) -> Result<Explained, NoMemory>
+    ensures { IfOk result (λ x. (error ≢ CompileError.NoMemory)
+        × (x ≡ Explained.Refused (record { error = error; place = None; subject = None }))) }
+{
+    match error {
+        CompileError::NoMemory => Err(NoMemory),
+        other => Ok(Explained::Refused(Finding::without_place(other))),
     }
 }
 

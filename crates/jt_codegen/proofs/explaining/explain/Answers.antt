@@ -6,7 +6,7 @@ use Rattle.jt_checks.specs.FindingView.{finding_view}
 use Rattle.jt_rules.specs.CompileEnv.{cenv_of}
 use Rattle.jt_rules.specs.Rules.{Breaks, KeepsRules}
 use Rattle.jt_codegen.proofs.ChainImages.{only_chain}
-use Rattle.jt_codegen.proofs.Findings.{chain_asked, chain_found, image_found, rule_found}
+use Rattle.jt_codegen.proofs.Findings.{chain_asked, chain_found, image_explained, rule_found}
 use Rattle.jt_codegen.proofs.explaining.explain.Goals as goal
 
 pub returns-in-Err : goal.returns-in-Err
@@ -21,8 +21,8 @@ returns-in-Some g c =
     (only_chain (g.L.Library.sources c.args.library.now) c.args.entry.now c.args.options seen c.in-Ok.ensures.chained
     c.in-Ok.ensures.only)
     (finding_view c.in-Some.found)
-    (rw c.in-Some.is at c.in_ok-find_broken.ensures.found) (rw c.in-Some.is at c.in_ok-find_broken.ensures.holds)
-    c.in_ok-of_rule.field-0 c.in_ok-of_rule.ensures
+    (rw c.in-Some.is at c.in_ok-found.ensures.found) (rw c.in-Some.is at c.in_ok-found.ensures.holds)
+    c.in_ok-of_rule-in-Some.field-0 c.in_ok-of_rule-in-Some.ensures
 
 pub compile_chain-requires : goal.compile_chain-requires
 compile_chain-requires g c = (
@@ -43,5 +43,12 @@ returns-in-Ok-compile_chain g c = (
       c.in-Ok.ensures.chained c.in-Ok.ensures.only c.in-Ok.ensures.weighs c.in-Ok.ensures.short c.in-Ok.ensures.few),
 )
 
-pub returns : goal.returns
-returns g c = ?
+pub returns-in-Err-compile_chain : goal.returns-in-Err-compile_chain
+returns-in-Err-compile_chain g c =
+    let asked = chain_asked (g.L.Library.sources c.args.library.now) c.args.entry.now c.args.options
+    (chain_view c.in-Ok.chain) c.in-Ok.ensures.chained c.in-Ok.ensures.only c.in-Ok.ensures.weighs c.in-Ok.ensures.short
+    c.in-Ok.ensures.few in
+    image_explained (g.L.Library.sources c.args.library.now) c.args.entry.now c.args.options
+    c.in-Err-compile_chain.error (c.in-Err-compile_chain.ensures.refused _ asked)
+    (c.in-Err-compile_chain.ensures.lawful (rw c.in-None.is at c.in_ok-found.ensures.kept)) c.image_finding.result
+    c.image_finding.ensures
