@@ -43,8 +43,8 @@ returns-in-Ok-compile_chain g c = (
       c.in-Ok.ensures.chained c.in-Ok.ensures.only c.in-Ok.ensures.weighs c.in-Ok.ensures.short c.in-Ok.ensures.few),
 )
 
-pub returns-in-Err-compile_chain : goal.returns-in-Err-compile_chain
-returns-in-Err-compile_chain g c =
+pub returns : goal.returns
+returns g c =
     let asked = chain_asked (g.L.Library.sources c.args.library.now) c.args.entry.now c.args.options
     (chain_view c.in-Ok.chain) c.in-Ok.ensures.chained c.in-Ok.ensures.only c.in-Ok.ensures.weighs c.in-Ok.ensures.short
     c.in-Ok.ensures.few in
