@@ -144,6 +144,18 @@ impl<'a> ItemAction<'a> {
         }
     }
 
+    /// Returns whether a result of the action may be much larger than its item.
+    pub(crate) fn may_grow(self) -> bool {
+        match self {
+            ItemAction::Keep(_) | ItemAction::Attribute(_) => false,
+            ItemAction::Filter(call) => !matches!(
+                call.filter,
+                FilterId::List | FilterId::Reverse | FilterId::Sort | FilterId::Unique
+            ),
+            ItemAction::Join(_) => true,
+        }
+    }
+
     /// Returns the size and the nesting of the action's result on an item, or zeros if it has none.
     #[tactic(auto, using(crate::proofs::ItemResults::action_measures))]
     pub(crate) fn measure(self, alloc: Global, item: Operand<'a>) -> Result<(u64, u32), Fault>

@@ -1,6 +1,6 @@
 //! Implements filters that call a filter or a test on each item of their input, or look up its
 //! attribute.
-ghost use Rattle.std.specs.Prelude.{◌≡◌, ◌∷◌, map, Ok, IfOk, IfErr, IfSome, Some, option_map};
+ghost use Rattle.std.specs.Prelude.{◌≡◌, ◌∷◌, map, Ok, Err, IfOk, IfErr, IfSome, Some, option_map};
 ghost use Rattle.jt_value.specs.Payload.{text_of};
 ghost use Rattle.jt_value.specs.View.{view, items_view};
 ghost use Rattle.jt_ops.specs.Limited.{limited_by, Answers};
@@ -9,7 +9,7 @@ ghost use Rattle.jt_ids.specs.TestTable.{test_of_name};
 ghost use Rattle.jt_filter_semantics.specs.Mapping.{named_by, filter_named, gathered, alone};
 ghost use Rattle.jt_filter_semantics.specs.Single.{single};
 ghost use Rattle.jt_filter_semantics.specs.Mapping.{as_list};
-ghost use Rattle.jt_filters.specs.internal.Operands.{items_in, measured, Builds};
+ghost use Rattle.jt_filters.specs.internal.Operands.{items_in, measured, Builds, HasPayload};
 ghost use Rattle.jt_filters.specs.internal.Rows.{gives, Gives, row_measured, Changes};
 ghost use Rattle.jt_filters.specs.internal.Rows.{MakesPredicate, RowFault, IsSought};
 
@@ -19,7 +19,7 @@ use crate::joining::Separator;
 use crate::members::Members;
 use crate::operand::Operand;
 use jt_ids::{FilterId, TestId};
-use jt_ops::{Limits, OpError, allow};
+use jt_ops::{Limits, OpError, allow, within};
 use jt_value::{Fault, ListItems, Value, ValueError};
 use std::alloc::Global;
 
@@ -82,10 +82,71 @@ fn members_of<'a>(alloc: Global, items: ItemList<'_>, list: &'a [Value]) -> Opti
     }
 }
 
+/// Returns the list of what the action makes of the items, under limits.
+fn limited_row_list<'a>(
+    alloc: Global,
+    items: ItemList<'a>,
+    change: ItemAction<'a>,
+    limits: Limits,
+) -> Result<Value, OpError>
+    requires { Gives change }
+    ensures { Answers result (limited_by limits
+        (as_list (gathered (gives change.entry) (items_in items.entry)))) }
+{
+    if change.may_grow() {
+        measured_row_list(alloc, items, change, limits)
+    } else {
+        built_row_list(alloc, items, change, limits)
+    }
+}
+
+/// Returns the list of what the action makes of the items, under limits. It is built before it is
+/// measured, which takes half the time.
+fn built_row_list<'a>(
+    alloc: Global,
+    items: ItemList<'a>,
+    change: ItemAction<'a>,
+    limits: Limits,
+) -> Result<Value, OpError>
+    requires { Gives change }
+    ensures { Answers result (limited_by limits
+        (as_list (gathered (gives change.entry) (items_in items.entry)))) }
+{
+    match row_list(alloc, items, change) {
+        Ok(list) => within(list, limits),
+        Err(ValueError::Fault(fault)) => Err(OpError::Fault(fault)),
+        Err(ValueError::NoMemory) => Err(refused_row_list(alloc, items, change, limits)),
+    }
+}
+
+/// Returns the error if memory for the list of the action's results is refused: the limit that the
+/// list exceeds, else `NoMemory`.
+#[tactic(auto, using(crate::proofs::ApplyCorrect::refusals))]
+fn refused_row_list<'a>(
+    alloc: Global,
+    items: ItemList<'a>,
+    change: ItemAction<'a>,
+    limits: Limits,
+) -> OpError
+    requires gives { Gives change }
+    requires payload { HasPayload (as_list (gathered (gives change) (items_in items))) }
+    ensures { Answers (Err result) (limited_by limits
+        (as_list (gathered (gives change.entry) (items_in items.entry)))) }
+{
+    let (size, nesting) = match row_list_measure(alloc, items, change) {
+        Ok(measure) => measure,
+        Err(fault) => return OpError::Fault(fault),
+    };
+    match allow(size, nesting, limits) {
+        Ok(()) => OpError::NoMemory,
+        Err(error) => error,
+    }
+}
+
 /// Returns the list of what the action makes of the items, under limits. It is measured before it
 /// is built.
 #[tactic(auto, using(crate::proofs::ApplyCorrect::refusals))]
-fn limited_row_list<'a>(
+fn measured_row_list<'a>(
     alloc: Global,
     items: ItemList<'a>,
     change: ItemAction<'a>,
