@@ -2,6 +2,7 @@
 //! attribute.
 ghost use Rattle.std.specs.Prelude.{◌≡◌, ◌∷◌, map, Ok, Err, IfOk, IfErr, IfSome, Some, option_map};
 ghost use Rattle.jt_value.specs.Payload.{text_of};
+ghost use Rattle.jt_value.specs.Tree as tree;
 ghost use Rattle.jt_value.specs.View.{view, items_view};
 ghost use Rattle.jt_ops.specs.Limited.{limited_by, Answers};
 ghost use Rattle.jt_filter_semantics.specs.Mapping as the;
@@ -20,12 +21,20 @@ use crate::members::Members;
 use crate::operand::Operand;
 use jt_ids::{FilterId, TestId};
 use jt_ops::{Limits, OpError, allow, within};
+use jt_search::TextIndex;
 use jt_value::{Fault, ListItems, Value, ValueError};
 use std::alloc::Global;
 
 /// The least number of items, and of members of a list, for which the members are found by their
 /// keys. To compare fewer takes less time.
 const MANY: usize = 64;
+
+/// The least number of items for which a text is searched by its index. To make the index takes as
+/// long as some 1,000 searches.
+const MANY_PARTS: usize = 1000;
+
+/// The least number of bytes of such a text.
+const LONG: usize = 4096;
 
 /// Returns the list of what the action makes of the items, under limits.
 pub(crate) fn row_list_under<'a>(
@@ -38,13 +47,71 @@ pub(crate) fn row_list_under<'a>(
     ensures { Answers result (limited_by limits
         (as_list (gathered (gives change.entry) (items_in items.entry)))) }
 {
-    match change.sought() {
+    match change.container() {
+        Some(container) => row_list_in(alloc, items, change, container, limits),
+        None => limited_row_list(alloc, items, change, limits),
+    }
+}
+
+/// Returns the list of what the action makes of the items, under limits. The action looks up each
+/// item in a container.
+fn row_list_in<'a>(
+    alloc: Global,
+    items: ItemList<'a>,
+    change: ItemAction<'a>,
+    container: &'a Value,
+    limits: Limits,
+) -> Result<Value, OpError>
+    requires gives { Gives change }
+    requires sought { IsSought (view container.now) change }
+    ensures { Answers result (limited_by limits
+        (as_list (gathered (gives change.entry) (items_in items.entry)))) }
+{
+    match container.as_list() {
         Some(ListItems::Values(list)) => row_list_among(alloc, items, change, list, limits),
         Some(ListItems::Numbers(numbers)) => match numbers.values(alloc) {
             Ok(list) => row_list_among(alloc, items, change, &list, limits),
             Err(_) => limited_row_list(alloc, items, change, limits),
         },
+        None => row_list_within(alloc, items, change, container, limits),
+    }
+}
+
+/// Returns the list of what the action makes of the items, under limits. The action looks up each
+/// item in a container that is no list.
+fn row_list_within<'a>(
+    alloc: Global,
+    items: ItemList<'a>,
+    change: ItemAction<'a>,
+    container: &'a Value,
+    limits: Limits,
+) -> Result<Value, OpError>
+    requires gives { Gives change }
+    requires sought { IsSought (view container.now) change }
+    ensures { Answers result (limited_by limits
+        (as_list (gathered (gives change.entry) (items_in items.entry)))) }
+{
+    match index_of(alloc, items, container) {
+        Some(index) => {
+            let change = change.within(container, &index);
+            limited_row_list(alloc, items, change, limits)
+        },
         None => limited_row_list(alloc, items, change, limits),
+    }
+}
+
+/// Returns the index of a text in which each item is looked up. Returns `None` if a search for each
+/// item is faster, if memory is refused, or for any other value.
+fn index_of<'a>(alloc: Global, items: ItemList<'_>, container: &'a Value) -> Option<TextIndex<'a>>
+    ensures { IfSome result (λ i. text_of (view container.now) ≡ Some i) }
+{
+    let text = container.as_text()?;
+    if text.len() < LONG || items.len() < MANY_PARTS {
+        return None;
+    }
+    match TextIndex::new(alloc, text) {
+        Ok(index) => Some(index),
+        Err(_) => None,
     }
 }
 
@@ -58,7 +125,7 @@ fn row_list_among<'a>(
     limits: Limits,
 ) -> Result<Value, OpError>
     requires gives { Gives change }
-    requires sought { IsSought (items_view list.now) change }
+    requires sought { IsSought (tree.list (items_view list.now)) change }
     ensures { Answers result (limited_by limits
         (as_list (gathered (gives change.entry) (items_in items.entry)))) }
 {

@@ -1,6 +1,6 @@
-//! Implements filter `unique`. Each item of a short list is compared with the earlier ones. Each item
-//! of a longer list is looked up among them, numbers by value and other items by their codes. So a
-//! list of n items takes time in proportion to n log n.
+//! Implements filter `unique`. Each item of a short list is compared with the earlier ones. Each
+//! item of a longer list is looked up among them, numbers by value and other items by their codes.
+//! So a list of n items takes time in proportion to n log n.
 ghost use Rattle.std.specs.Prelude.{◌≡◌, ℤ, ◌+◌, ◌-◌, ◌^◌, ◌||◌, min, max, IfOk, OnOk, Ok, Err};
 ghost use Rattle.std.specs.Prelude.{None};
 ghost use Rattle.std.specs.Ordering.{int_eq};

@@ -12,7 +12,8 @@ invariant-loop-item l = record {
   left : l.left ≡ items_count (items_in l.items);
   inside : l.left ≤ l.total;
   whole : joined_items (front (l.total - l.left) (items_in l.all)) (items_in l.items) ≡ items_in l.all;
-  same : joined_items (items_view l.values.items) (unseen (front (l.total - l.left) (items_in l.all)) (items_in l.items))
+  same : joined_items (items_view l.values.items)
+      (unseen (front (l.total - l.left) (items_in l.all)) (items_in l.items))
       ≡ unseen no_items (items_in l.all);
 }
 
