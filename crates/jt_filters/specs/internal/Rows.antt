@@ -26,14 +26,14 @@ abbrev pub judges : Predicate → Tree → Result Bool Fault
 judges predicate.Truth = λ t. Ok (truth t)
 judges (predicate.Test test arguments) = λ t. tested test (t ∷ map view arguments.now)
 judges (predicate.Among members) = λ t. tested test.In (t ∷ list (items_view members.now.items.now) ∷ [])
-judges (predicate.Within text index) = λ t. tested test.In (t ∷ view text.now ∷ [])
+judges (predicate.Within container index) = λ t. tested test.In (t ∷ view container.now ∷ [])
 
 -- Holds if a test has the number of arguments that it takes, and an index is that of its text.
 abbrev pub Judges : Predicate → Type 0
 Judges predicate.Truth = Unit {0}
 Judges (predicate.Test test arguments) = length arguments.now + 1 ≡ test_values test
 Judges (predicate.Among members) = Unit {0}
-Judges (predicate.Within text index) = text_of (view text.now) ≡ Some index.now
+Judges (predicate.Within container index) = text_of (view container.now) ≡ Some index.now
 
 -- The function of a predicate, or the fault.
 abbrev pub judging : Result Predicate Fault → Result (Tree → Result Bool Fault) Fault
