@@ -67,8 +67,8 @@ OPERANDS = {
     "fibonacci": fibonacci(MILLION),
     "falling": [[2, 1] for _ in range(ITEMS // 3)],
     "seventeen": [random.sample(range(1000), 17) for _ in range(ITEMS // 18)],
-    "few": [f"{i:03}" for i in range(999)],
-    "slices": [f"{random.randrange(2**20):020b}".replace("0", "a").replace("1", "b") for _ in range(ITEMS // 20)],
+    "few": ["".join(random.choices("ab", k=60)) for _ in range(23)],
+    "slices": ["".join(random.choices("ab", k=60)) for _ in range(ITEMS // 60)],
 }
 TEXTS = ["letter", "word", "text", "blank", "letters", "marks", "greek", "han"]
 LISTS = ["numbers", "shuffled", "equal", "great", "truths", "mixed", "nones", "empties", "lists", "voids", "pairs", "short", "words", "alike", "maps", "falling", "seventeen"]

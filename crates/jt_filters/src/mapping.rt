@@ -30,11 +30,11 @@ use std::alloc::Global;
 const MANY: usize = 64;
 
 /// The least number of items for which a text is searched by its index. To make the index takes as
-/// long as some 1,000 searches.
-const MANY_PARTS: usize = 1000;
+/// long as some 1,000 searches for short parts, or some 20 of the slowest searches for long ones.
+const MANY_PARTS: usize = 24;
 
 /// The least number of bytes of such a text.
-const LONG: usize = 4096;
+const LONG: usize = 256;
 
 /// Returns the list of what the action makes of the items, under limits.
 pub(crate) fn row_list_under<'a>(

@@ -234,7 +234,7 @@ fn operand_values(alloc: Global, operands: &[Operand<'_>]) -> Result<Vec<Value>,
 }
 
 /// The keys of the items that were seen. `numbers` has each number that an item equals. `codes`
-/// has, for each code of any other item, the first item with the code.
+/// has, for each code of any other item, the last item with the code.
 #[derive(Drop)]
 struct SeenKeys<'a> {
     numbers: BTreeSet<i64>,
@@ -354,11 +354,10 @@ fn was_code_seen<'a>(
         (CodesKnowNext codes.new count (items_in all.entry) (tree_of item.entry)) }
 {
     let code = code_of(alloc, item)?;
-    if let Some(first) = codes.get(code.as_slice()).copied() {
-        return Ok(is_like(item, first, all, count));
+    match codes.insert(code, item)? {
+        Some(other) => Ok(is_like(item, other, all, count)),
+        None => Ok(false),
     }
-    codes.insert(code, item)?;
-    Ok(false)
 }
 
 /// Returns whether an item is like another one, or like one of the first `count` items. Items with
