@@ -61,7 +61,8 @@ named_there wanted filter place (expr first rest) x e =
     either_some
     (λ y. (literal_text first ≡ Some y) × (argument_unknown wanted (named_at filter place) (Some y) ≡ true))
     (λ y. NamedIn wanted filter (suc place) rest y)
-    (argument_name wanted (named_at filter place) (literal_text first)) (unknown_argument wanted filter (suc place) rest) x
+    (argument_name wanted (named_at filter place) (literal_text first))
+    (unknown_argument wanted filter (suc place) rest) x
     (argument_named wanted (named_at filter place) (literal_text first) x)
     (named_there wanted filter (suc place) rest x) e
 
@@ -80,7 +81,8 @@ filter_there wanted y ts ps x false is e = inr (among_there wanted (filter_writt
 use_there : (wanted : Named) (u : uses.Use) (x : Text) → unknown_in wanted u ≡ Some x → NamesUnknown wanted x u
 use_there wanted (uses.filters y ts ps) x e = filter_there wanted y ts ps x (unknown_filter wanted y) refl e
 use_there wanted (uses.tests y ts ps) x e =
-    let g = given_if (unknown_test wanted y) y x e in (sym g.0, subst (λ (z : Text). unknown_test wanted z ≡ true) g.0 g.1)
+    let g = given_if (unknown_test wanted y) y x e in
+    (sym g.0, subst (λ (z : Text). unknown_test wanted z ≡ true) g.0 g.1)
 use_there wanted u x e = absurd (cc)
 
 here : (wanted : Named) (line : ℕ) (s : Site) (x : Text) (b : Bool) → (s.place.line == line) ≡ b
@@ -105,7 +107,8 @@ stands_there = stands
 pub tree_there : (options : Options) (given : Text) (s : Held)
     → s ≡ record { text = normalized options.keep_trailing_newline given; options = options } → (ss : List Segment)
     → (t : Template) → IsCut (cut_of ss) (chars s.text) → HaveOptions s.options ss
-    → Spelled (body_of t) (pieces (reads_of ss)) → HasUses options given (λ sites. sites ≡ body_uses (body_of t) outside)
+    → Spelled (body_of t) (pieces (reads_of ss))
+    → HasUses options given (λ sites. sites ≡ body_uses (body_of t) outside)
 tree_there options given s is ss t c h p = record {
   segments = cut_of ss;
   cut = subst (λ x. IsCut (cut_of ss) (chars x)) (ap (λ (z : Held). z.text) is) c;

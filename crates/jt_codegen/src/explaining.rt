@@ -15,8 +15,8 @@ use jt_scopes::find_broken;
 use jt_value::NoMemory;
 use std::alloc::{AllocError, Global};
 
-/// Explains whether the entry of a library compiles, with all templates that it reaches: it does, or
-/// a rule is broken, which the finding states, with the place and the names where they are known.
+/// Explains whether the entry of a library compiles, with all templates that it reaches. If it does
+/// not, the finding states the broken rule, with the place and the name where they are known.
 ///
 /// # Errors
 ///

@@ -87,14 +87,14 @@ scope_sentence scope_error.NotCallable =
 scope_sentence scope_error.BadArguments =
     codes "the arguments do not fit what takes them, or a macro has two parameters of one name"
 scope_sentence scope_error.TooManySlots =
-    codes "more than 255 parameters of a macro, 4,096 bindings of a template or 65,535 names in all"
+    codes "over 255 parameters of a macro, 4,096 bindings of a template or 65,535 names in all"
 scope_sentence scope_error.NoMemory = codes "memory is not enough"
 
 abbrev pub sentence : CompileError → Text
 sentence (compile_error.Chain e) = chain_sentence e
 sentence (compile_error.Scope e) = scope_sentence e
 sentence compile_error.CodeTooLong =
-    codes "the image would pass one of its limits, such as 262,144 instructions or 65,535 constants"
+    codes "the image would pass one of its limits, as 262,144 instructions or 65,535 constants"
 sentence compile_error.NoMemory = codes "memory is not enough"
 sentence compile_error.StackTooDeep =
     codes "more than 1,024 values would be needed at the same time, as by a list of 1,025 items"

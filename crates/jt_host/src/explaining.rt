@@ -225,7 +225,7 @@ fn sentence_of_scope(error: ScopeError) -> &'static str
             "the arguments do not fit what takes them, or a macro has two parameters of one name"
         }
         ScopeError::TooManySlots => {
-            "more than 255 parameters of a macro, 4,096 bindings of a template or 65,535 names in all"
+            "over 255 parameters of a macro, 4,096 bindings of a template or 65,535 names in all"
         }
         ScopeError::NoMemory => "memory is not enough",
     }
@@ -239,7 +239,7 @@ fn sentence_of(error: &CompileError) -> &'static str
         CompileError::Chain(error) => sentence_of_chain(error),
         CompileError::Scope(error) => sentence_of_scope(*error),
         CompileError::CodeTooLong => {
-            "the image would pass one of its limits, such as 262,144 instructions or 65,535 constants"
+            "the image would pass one of its limits, as 262,144 instructions or 65,535 constants"
         }
         CompileError::NoMemory => "memory is not enough",
         CompileError::StackTooDeep => {
