@@ -395,7 +395,7 @@ pub fn parse_unchecked(alloc: Global, segments: &[Segment<'_>]) -> Result<Templa
         Spelled (body_of template) (pieces_of segments.now)
         × (body_levels (body_of template) ≤ max_levels)) }
 {
-    let body = read(alloc, segments)?;
-    check_positions(&body)?;
-    Ok(Template::new(body))
+    let statements = read(alloc, segments)?;
+    check_positions(&statements)?;
+    Ok(Template::new(statements))
 }
