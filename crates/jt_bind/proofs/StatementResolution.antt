@@ -18,7 +18,7 @@ use Rattle.jt_value.specs.Place.{Place}
 use Rattle.jt_ir.specs.Pool.{Constant}
 use Rattle.jt_ir.specs.Slots as slots
 use Rattle.jt_ir.specs.Slots.{Slot, SlotExpr, SBody, local, global, one, Targets}
-use Rattle.jt_ir.specs.View.{slot_view, targets_view, expr_view}
+use Rattle.jt_ir.specs.View.{slot_view}
 use Rattle.jt_ir.specs.declared.program.Slot as code_slot
 use Rattle.jt_ir.specs.declared.program.SlotStmt.{SlotStmt}
 use Rattle.jt_semantics.specs.Layout.{Table, slot_in}

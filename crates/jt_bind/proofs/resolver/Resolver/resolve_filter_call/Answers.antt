@@ -1,4 +1,4 @@
-use Rattle.std.proofs.Common.{◌≡◌, ℕ, List, [], map, take, sym, ap, ◌∙◌, subst, Option, None, Some, arith, rules}
+use Rattle.std.proofs.Common.{◌≡◌, ℕ, List, [], map, take, sym, ap, ◌∙◌, subst, Option, None, Some}
 use Rattle.std.specs.Prelude.{option_map}
 use Rattle.std.proofs.lemmas.List.{take_at, take-map}
 use Rattle.jt_value.specs.Tree.{Tree}
