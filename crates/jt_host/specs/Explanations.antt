@@ -138,14 +138,16 @@ source_text sources options (Some place) =
     codes "  "
     ++ (source_line options (unwrap_or (sources (string_bytes place.template)) []) place.line ++ codes "\n")
 
+-- The place, the name of the refusal and what it is about.
+abbrev pub heading : Finding → Text
+heading f = place_text f.place ++ (error_name f.error ++ subject_text f.subject)
+
 -- The line of a finding, the line of the source, and the rule.
 abbrev pub finding_lines : SourceTexts → Options → Finding → Text
 finding_lines sources options f =
-    place_text f.place
-    ++ (error_name f.error
-    ++ (subject_text f.subject
+    heading f
     ++ (codes "\n"
-    ++ (source_text sources options f.place ++ (codes "  " ++ (sentence f.error ++ codes "\n"))))))
+    ++ (source_text sources options f.place ++ (codes "  " ++ (sentence f.error ++ codes "\n"))))
 
 abbrev pub told : SourceTexts → Options → Explained → Text
 told sources options explained.Compiles = codes "ok\n"

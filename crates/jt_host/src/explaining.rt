@@ -66,19 +66,53 @@ fn lines_of(
     options: Options,
     finding: &Finding,
 ) -> Result<String, AllocError>
-    ensures { IfOk result (λ text.
-        string_bytes text ≡ spec.finding_lines (source_of templates.now) options finding.now) }
+    ensures { IfOk result (λ text. string_bytes text
+        ≡ spec.finding_lines (source_of templates.now) options finding.now) }
 {
+    let heading = heading_of(alloc, finding)?;
+    let source = source_text(alloc, templates, options, &finding.place)?;
+    let sentence = sentence_of(&finding.error);
+    format!(in alloc; "{heading}\n{source}  {sentence}\n")
+}
+
+/// Returns the first line of a finding, without its end.
+fn heading_of(alloc: Global, finding: &Finding) -> Result<String, AllocError>
+    ensures { IfOk result (λ text. string_bytes text ≡ spec.heading finding.now) }
+{
+    let place = place_text(alloc, &finding.place)?;
     let name = name_of(&finding.error);
     let subject = subject_of(alloc, &finding.subject)?;
-    let sentence = sentence_of(&finding.error);
-    match &finding.place {
+    format!(in alloc; "{place}{name}{subject}")
+}
+
+/// Returns the template and the line before a refusal, or the empty text if they are not known.
+fn place_text(alloc: Global, place: &Option<TagPlace>) -> Result<String, AllocError>
+    ensures { IfOk result (λ text. string_bytes text ≡ spec.place_text place.now) }
+{
+    match place {
+        Some(TagPlace { template, line }) => format!(in alloc; "{template}:{line}: "),
+        None => Ok(String::new(alloc)),
+    }
+}
+
+/// Returns the line of the source at a place, behind two spaces, or the empty text if the place is
+/// not known.
+fn source_text(
+    alloc: Global,
+    templates: &Templates,
+    options: Options,
+    place: &Option<TagPlace>,
+) -> Result<String, AllocError>
+    ensures { IfOk result (λ text. string_bytes text
+        ≡ spec.source_text (source_of templates.now) options place.now) }
+{
+    match place {
         Some(TagPlace { template, line }) => {
             let source = templates.source(template).unwrap_or("");
             let source = source_line(alloc, source, options, *line)?;
-            format!(in alloc; "{template}:{line}: {name}{subject}\n  {source}\n  {sentence}\n")
+            format!(in alloc; "  {source}\n")
         }
-        None => format!(in alloc; "{name}{subject}\n  {sentence}\n"),
+        None => Ok(String::new(alloc)),
     }
 }
 
