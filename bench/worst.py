@@ -19,6 +19,15 @@ random.seed(1)
 # How many items a list has: a unit of fuel pays for 64 of a size, so more items only make a run longer.
 ITEMS = 250_000
 
+
+def fibonacci(length):
+    """The first letters of the Fibonacci word, whose suffixes have much in common."""
+    last, word = "a", "ab"
+    while len(word) < length:
+        last, word = word, word + last
+    return word[:length]
+
+
 # The values of the context.
 OPERANDS = {
     "zero": 0,
@@ -54,14 +63,20 @@ OPERANDS = {
     "maps": [{"a": i, "b": "x"} for i in range(ITEMS // 10)],
     "alone": {"a": 1},
     "deep": json.loads("[" * 31 + "]" * 31),
+    "binary": "".join(random.choices("ab", k=MILLION)),
+    "fibonacci": fibonacci(MILLION),
+    "falling": [[2, 1] for _ in range(ITEMS // 3)],
+    "seventeen": [random.sample(range(1000), 17) for _ in range(ITEMS // 18)],
+    "few": ["".join(random.choices("ab", k=60)) for _ in range(23)],
+    "slices": ["".join(random.choices("ab", k=60)) for _ in range(ITEMS // 60)],
 }
 TEXTS = ["letter", "word", "text", "blank", "letters", "marks", "greek", "han"]
-LISTS = ["numbers", "shuffled", "equal", "great", "truths", "mixed", "nones", "empties", "lists", "voids", "pairs", "short", "words", "alike", "maps"]
+LISTS = ["numbers", "shuffled", "equal", "great", "truths", "mixed", "nones", "empties", "lists", "voids", "pairs", "short", "words", "alike", "maps", "falling", "seventeen"]
 MAPS = ["keys", "turned", "scattered", "alone"]
 ALL = ["zero", *TEXTS, *LISTS, *MAPS, "deep"]
 
 ONE = ["abs", "capitalize", "default", "dictsort", "escape", "first", "forceescape", "int", "items", "join", "last", "length", "list", "lower", "map('abs')", "map('string')", "map('upper')", "map('length')", "map('list')", "map('default', 1)", "map('escape')", "map('unique')", "map('sort')", "max", "min", "reject", "reverse", "safe", "select", "sort", "sort(true)", "string", "sum", "trim", "unique", "upper"]
-JUDGED = ["select('odd')", "reject('odd')", "select('defined')", "select('eq', word)", "select('in', letters)", "select('in', short)", "select('eq', keys)", "map('join', text)", "select('divisibleby', 3)", "select('gt', 3)", "selectattr('a')", "rejectattr('a', 'eq', 2)", "map(attribute='a')", "map('replace', 'a', 'b')"]
+JUDGED = ["select('in', letters)", "select('lt', text)", "select('eq', text)", "map('default', text)", "map('replace', text, 'b')", "map('replace', 'b', text)", "select('odd')", "reject('odd')", "select('defined')", "select('eq', word)", "select('in', letters)", "select('in', short)", "select('eq', keys)", "map('join', text)", "select('divisibleby', 3)", "select('gt', 3)", "selectattr('a')", "rejectattr('a', 'eq', 2)", "map(attribute='a')", "map('replace', 'a', 'b')"]
 TESTS = ["defined", "undefined", "none", "boolean", "integer", "string", "mapping", "escaped", "true", "false"]
 
 
@@ -81,6 +96,8 @@ def expressions():
     for x in MAPS:
         yield from [f"'zzz' in {x}", f"{x}['000001']", f"{x}.zzz", f"keys == {x}", f"{x} == scattered", f"{x} is eq turned"]
     yield from ["text == text2", "text < text2", "text is eq text2", "text is lt text2", "numbers == numbers2", "numbers < numbers2", "-1 in numbers", "999999 in numbers", "word in words", "deep == deep", "keys in voids", "alike|unique", "letters|unique", "greek|unique|sort", "shuffled|sort|unique", "[text, text, text, text]|join", "[keys, turned]|unique", "[numbers, numbers2]|unique", "[scattered, turned]|unique", "[text, text2]|sort", "[text, text2]|unique"]
+    for x in ["short", "words", "slices", "few", "keys", "letter"]:
+        yield from [f"{x}|select('in', {whole})" for whole in ["text", "letters", "binary", "fibonacci", "greek", "half"]]
     # little that is read and much that is made
     for n in ["10", "100", "1000", "10000", "100000", "1000000"]:
         yield from [f"letter * {n}", f"range({n})", f"range(0, -{n}, -1)", f"range({n})|length", f"range({n})[0]", f"3 in range({n})", f"range({n}) == range({n})", f"range({n})|sum", f"(letter * {n})|length", f"(letter|safe) * {n}"]

@@ -11,6 +11,7 @@ tests/README.md and all of docs/. The script checks
     each `Type::call`              a crate with a type of this name has the call
     each call of contracts.md      the crate of its heading has it
     each module of definitions.md  it is in specs/ of the crate
+    each sentence of errors.md that `jt explain` prints     the code of jt_host has it, and each refusal of templates there has one
     each example of errors.md, from-jinja.md and tests/README.md (a line with ` => ` in a code block or a table)     it is a row of tests/rows/
     each code block after a line that ends with a link to a file of code and a colon      the file has these lines
     README.md                      it has at most 7,000 bytes
@@ -25,6 +26,10 @@ import sys
 import textwrap
 
 ROOT = pathlib.Path(__file__).resolve().parent.parent
+sys.path.insert(0, str(ROOT / "tests"))
+sys.dont_write_bytecode = True
+import explanations
+
 MOST = 7000
 LINK = re.compile(r"(?<!!)\[[^\]]*\]\(([^)\s]+)\)")
 QUOTED = re.compile(r"\[[^\]]*\]\(([^)\s]+\.(?:rt|rs|c|py))\):\n\n((?: {4}.*\n|\n(?= {4}))+)")
@@ -40,6 +45,9 @@ ITEM = r"\b(?:fn|struct|enum|trait|type|const|mod)\s+{0}\b|\bpub use [^;]*\b{0}\
 SHOWING = ("docs/errors.md", "docs/from-jinja.md", "tests/README.md")
 # the examples that embedding.md quotes
 HOSTS = ("main.rt", "example.c", "hello.rs", "example.py")
+# a refusal of templates in a text of Rust, and the end of a line inside of a text
+REFUSAL = re.compile(r'"([SPCVG]\d+ (?!NoMemory)\w+)"')
+SPLIT = re.compile(r"\\\n\s*")
 # the kit's types with calls that documents name
 KIT = {"Rc", "Vec", "String", "Write"}
 
@@ -185,6 +193,17 @@ class Checks:
                         there = any((specs / part / f"{word[1:-1]}.antt").exists() for part in ("", "internal"))
                         self.holds(there, file, f"no module: {crate}, {word}")
 
+    def explained(self, file, text, code):
+        """Checks the sentences of errors.md: the code of jt_host has each of them, and each refusal of templates has one."""
+        sentences, source = explanations.table(text), SPLIT.sub("", code["jt_host"])
+        refusals = set(REFUSAL.findall(source))
+        self.holds(refusals and sentences, file, "it has no sentence of `jt explain`")
+        for refusal in sorted(refusals | set(sentences)):
+            self.holds(refusal in refusals, file, f"jt_host has no {refusal}")
+            self.holds(refusal in sentences, file, f"no sentence of `jt explain` for {refusal}")
+            sentence = sentences.get(refusal, "")
+            self.holds(f'"{sentence}"' in source, file, f"jt_host does not say of {refusal}: {sentence}")
+
     def order(self):
         """crates.txt lists each crate after those that it names, and docs/architecture.md lists the same crates in the same order."""
         above = set()
@@ -215,6 +234,8 @@ def main():
             checks.holds(shown, file, "it shows no row")
             for row in shown:
                 checks.holds(row in known, file, f"no row: {row}")
+        if file.name == "errors.md":
+            checks.explained(file, text, code)
         if file.name == "contracts.md":
             checks.promised(file, text, code)
         if file.name == "definitions.md":

@@ -78,6 +78,7 @@ def of_templates(image_of):
         image = image_of(templates)
         yield Case(f"render, {name}", "render d t c", {**files, "c": text})
         yield Case(f"compile, {name}", "compile d t out", files, out="out")
+        yield Case(f"explain, {name}", "explain d t", files)
         yield Case(f"run, {name}", "run i c", {"i": image, "c": text})
         yield Case(f"check, {name}", "check i", {"i": image})
         yield Case(f"show, {name}", "show i", {"i": image})
@@ -118,6 +119,7 @@ def of_sources():
     for code, source in REFUSED.items():
         yield Case(f"render, {code}", "render d t", in_folder({"t": source}))
         yield Case(f"compile, {code}", "compile d t out", in_folder({"t": source}), out="out", kept=True)
+        yield Case(f"explain, {code}", "explain d t", in_folder({"t": source}))
     for code, source in FAULTS.items():
         yield Case(f"render, {code}", "render d t", in_folder({"t": source}))
     for words in ("--fuel 3", "--output 1", "--depth 0", "--size 2", "--nesting 0"):
@@ -127,6 +129,8 @@ def of_sources():
     yield Case("render, context not UTF-8", "render d t c", {**in_folder({"t": "{{ a }}"}), "c": b'{"a":"\xff"}'})
     yield Case("render, no directory", "render no t", {})
     yield Case("render, a file not UTF-8", "render d t", {**in_folder({"t": "x"}), "d/b": b"\xff"})
+    yield Case("explain, no directory", "explain no t", {})
+    yield Case("explain, another template", "explain d t", in_folder({"t": '{% include "p" %}', "p": "a\r\n\n{{ f.m(1) }}\n"}))
     yield Case("compile, no directory for OUT", "compile d t no/out", in_folder({"t": "x"}), out="no/out")
 
 

@@ -272,7 +272,8 @@ def outputs():
 
 def ends(program):
     """What is wrong where standard output fails."""
-    lines = {"run": ["run", "x"], "render": ["render", "d", "long"], "check": ["check", "x"], "show": ["show", "x"], "turns": ["turns", "x", "c"]}
+    lines = {"run": ["run", "x"], "render": ["render", "d", "long"], "explain": ["explain", "d", "long"], "check": ["check", "x"],
+             "show": ["show", "x"], "turns": ["turns", "x", "c"]}
     with tempfile.TemporaryDirectory(prefix="jt-growths-") as room:
         os.mkdir(f"{room}/d")
         for name, data in (("d/long", LONG.encode()), ("x", X), ("c", b"{}")):
@@ -305,8 +306,8 @@ def wrong_end(program, room, words, how, opened):
 def reads(program, shim):
     """What is wrong where the files of a line fail while they are read."""
     files = {"d/a": b"a" * 40, "d/t": b"{{ x }}" * 8, "x": X, "y": X, "c": b'{"x": "a longer text"}', "e": b" " * 20 + b"{}"}
-    lines = {"run x c": "x c", "check x": "x", "show x": "x", "render d t c": "d/a d/t c", "compile d t out": "d/a d/t", "turns x c y e": "x c y e",
-             "upgrade x out": "x"}
+    lines = {"run x c": "x c", "check x": "x", "show x": "x", "render d t c": "d/a d/t c", "compile d t out": "d/a d/t",
+             "explain d t": "d/a d/t", "turns x c y e": "x c y e", "upgrade x out": "x"}
     with tempfile.TemporaryDirectory(prefix="jt-growths-") as room:
         os.mkdir(f"{room}/d")
         for name, data in files.items():

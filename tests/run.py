@@ -4,8 +4,8 @@
 Without files it runs FILES, in rows/ beside this script. The last line is 'N passed, M failed', and the status is 1 if one failed. A
 missing program, a file without a row and a row that cannot be read are failures too.
 
-tests/README.md says how a row reads. A line `== KIND: TITLE ==` begins a section of rows of that kind, `templates` or `commands`;
-rows before the first section are templates.
+tests/README.md says how a row reads. A line `== KIND: TITLE ==` begins a section of rows of that kind, `templates`, `explanations` or
+`commands`; rows before the first section are templates.
 """
 import concurrent.futures
 import itertools
@@ -19,9 +19,10 @@ import subprocess
 import sys
 import tempfile
 
+import explanations
+
 HERE = pathlib.Path(__file__).resolve().parent
-FILES = ["templates.txt", "imports.txt", "values.txt", "refusals.txt", "faults.txt", "documents.txt", "hostile.txt", "commands.txt"]
-KINDS = ("templates", "commands")
+FILES = ["templates.txt", "imports.txt", "values.txt", "refusals.txt", "explain.txt", "faults.txt", "documents.txt", "hostile.txt", "commands.txt"]
 SECONDS = 60
 SIGNS = str.maketrans({**dict(zip("␇␈␉␤␋␌␍␠⍽␀", "\a\b\t\n\v\f\r \u00a0\0")), "⌧": "\udcff", "∅": ""})
 NAMES = dict(
@@ -210,7 +211,7 @@ def in_order(program, room, asked, wanted):
 
 
 def furnished(room, asked):
-    """Writes the files of a row of templates; returns the words after `render`, the options, and the limits."""
+    """Writes the files of a row of templates; returns the words after the command, the options, and the limits."""
     *parts, source = unfolded(asked).split("¦")
     words, options, limits = ["d", "t"], [], []
     put(room, "d/t", bytes_of(source))
@@ -237,6 +238,17 @@ def rendered(program, room, asked, wanted):
     return [(sent(*line, room), answer_of(unfolded(wanted)))]
 
 
+def explained(program, room, asked, wanted):
+    """What `explain` and `compile` of a row of explanations come to, and what is wanted of both."""
+    words, options, limits = furnished(room, asked)
+    explanation, refusal = explanations.answers(room / "d", unfolded(wanted))
+    line = limited(program, ["explain", *words, *options], limits)
+    return [(sent(*line, room), explanation), (sent(program, ["compile", *words, "image", *options], room), refusal)]
+
+
+KINDS = {"templates": rendered, "explanations": explained, "commands": in_order}
+
+
 def cut(text, most=400):
     return text if len(text) <= most else f"{text[:most]}.. ({len(text)} characters)"
 
@@ -257,8 +269,7 @@ def judged(program, place, row, kind, template):
             if not is_row:
                 raise Malformed("a row has no =>")
             shutil.copytree(template, room, symlinks=True, copy_function=copied)
-            does = rendered if kind == "templates" else in_order
-            found = does(program, room, asked, wanted)
+            found = KINDS[kind](program, room, asked, wanted)
         except (Malformed, OSError, ValueError, subprocess.TimeoutExpired) as error:
             return f"{place}: {cut(row)}\n    {cut(str(error))}"
     wrong = [f"\n    found  {cut(it)!r}\n    wanted {cut(was)!r}" for it, was in found if not is_wanted(it, was)]

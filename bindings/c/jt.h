@@ -57,8 +57,8 @@
  * - No length is above PTRDIFF_MAX.
  * - The fields of a handle are neither changed nor copied to a second handle in use.
  * - No call is made in a signal handler, or in a child that a process with threads has forked.
- * - The stack has 512 KiB left. This is measured (bindings/c/stack.c) and not proved: a template of
- *   97 nested loops, among the deepest that are accepted, took 256 KiB, and a run 96. */
+ * - The stack has 256 KiB left. This is measured (bindings/c/stack.c) and not proved: templates of
+ *   98 levels, which are the deepest that are accepted, take at most 128 KiB, and a run 160. */
 #ifndef JT_H
 #define JT_H
 

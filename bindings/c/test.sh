@@ -149,7 +149,7 @@ try 'the calls that keep nothing' "$room/test"
 try 'the calls over handles' "$room/handles_test"
 try 'a limit of memory' "$room/limit"
 try 'a refused growth' "$room/memory"
-try 'a stack of 512 KiB' "$room/stack" 512
+try 'a stack of 256 KiB' "$room/stack" 256
 
 # What is installed.
 try 'make' tree

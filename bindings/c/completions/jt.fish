@@ -30,6 +30,7 @@ end
 complete -c jt -s h -l help -d 'Print help'
 complete -c jt -n __fish_use_subcommand -s V -l version -d 'Print the version'
 complete -c jt -n __fish_use_subcommand -a compile -d 'Compile a template into an image'
+complete -c jt -n __fish_use_subcommand -a explain -d 'Explain why a template does not compile'
 complete -c jt -n __fish_use_subcommand -a check -d 'Verify an image'
 complete -c jt -n __fish_use_subcommand -a show -d 'Print the tables and instructions of an image'
 complete -c jt -n __fish_use_subcommand -a run -d 'Run an image and print its text'
@@ -37,7 +38,7 @@ complete -c jt -n __fish_use_subcommand -a render -d 'Compile a template and pri
 complete -c jt -n __fish_use_subcommand -a turns -d 'Run images, each for its context, in turns'
 complete -c jt -n __fish_use_subcommand -a upgrade -d 'Write an image in version 2'
 
-set -l templates '__fish_seen_subcommand_from compile render'
+set -l templates '__fish_seen_subcommand_from compile explain render'
 complete -c jt -n $templates -l trim-blocks -d 'Drop a newline directly after a block tag'
 complete -c jt -n $templates -l lstrip-blocks -d 'Drop the spaces of a line before a block tag'
 complete -c jt -n $templates -l keep-trailing-newline -d 'Keep the last newline of each template'
@@ -51,6 +52,6 @@ complete -c jt -n $budget -x -l size -d 'How large a value may be'
 complete -c jt -n $budget -x -l nesting -d 'How deep a value may nest'
 complete -c jt -n '__fish_seen_subcommand_from turns' -x -l slice -d 'How many instructions a turn has'
 
-complete -c jt -n '__jt_at 0 compile render' -a '(__fish_complete_directories)'
-complete -c jt -n '__jt_at 1 compile render' -a '(__jt_templates)'
+complete -c jt -n '__jt_at 0 compile explain render' -a '(__fish_complete_directories)'
+complete -c jt -n '__jt_at 1 compile explain render' -a '(__jt_templates)'
 complete -c jt -n '__jt_at 2 compile render; or __fish_seen_subcommand_from check show run turns upgrade' -F

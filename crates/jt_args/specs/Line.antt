@@ -58,6 +58,11 @@ abbrev pub compile_app : App
 compile_app = with_flags (with_rule (with_rule (with_rule (new_app (codes "compile"))
     (word_rule (codes "DIR"))) (word_rule (codes "NAME"))) (word_rule (codes "OUT")))
 
+-- The command `explain DIR NAME`.
+abbrev pub explain_app : App
+explain_app = with_flags (with_rule (with_rule (new_app (codes "explain"))
+    (word_rule (codes "DIR"))) (word_rule (codes "NAME")))
+
 -- The command `check IMAGE`.
 abbrev pub check_app : App
 check_app = with_rule (new_app (codes "check")) (word_rule (codes "IMAGE"))
@@ -100,15 +105,15 @@ upgrade_app =
 abbrev pub program_app : App
 program_app = let a = new_app (codes "jt") in
     with_subcommand (with_subcommand (with_subcommand (with_subcommand (with_subcommand
-    (with_subcommand (with_subcommand (record a {
+    (with_subcommand (with_subcommand (with_subcommand (record a {
       top = record a.top {
         no_binary_name = true;
         has_version = true;
         disable_help_subcommand = true;
         subcommand_required = true;
       };
-    }) compile_app.top) check_app.top) show_app.top) run_app.top) render_app.top) turns_app.top)
-    upgrade_app.top
+    }) compile_app.top) explain_app.top) check_app.top) show_app.top) run_app.top)
+    render_app.top) turns_app.top) upgrade_app.top
 
 -- The line has no fault.
 abbrev pub IsClear : List Text → Type 0
@@ -211,6 +216,10 @@ IsCommand name rows (command.Compile dir template out) options budget slice = (n
     × (string_bytes template ≡ word_of (codes "NAME") rows)
     × (string_bytes out ≡ word_of (codes "OUT") rows)
     × IsOptions rows options × (budget ≡ usual_budget) × (slice ≡ usual_slice)
+IsCommand name rows (command.Explain dir template) options budget slice = (name ≡ codes "explain")
+    × (string_bytes dir ≡ word_of (codes "DIR") rows)
+    × (string_bytes template ≡ word_of (codes "NAME") rows)
+    × IsOptions rows options × (budget ≡ usual_budget) × (slice ≡ usual_slice)
 IsCommand name rows (command.Check image) options budget slice = (name ≡ codes "check")
     × (string_bytes image ≡ word_of (codes "IMAGE") rows)
     × (options ≡ usual_options) × (budget ≡ usual_budget) × (slice ≡ usual_slice)
@@ -240,10 +249,10 @@ IsAsked (Some found) job =
 
 -- The name is that of a command.
 abbrev pub IsKnown : Option Text → Type 0
-IsKnown name = (name ≡ Some (codes "compile")) ⊎ ((name ≡ Some (codes "check"))
-    ⊎ ((name ≡ Some (codes "show")) ⊎ ((name ≡ Some (codes "run"))
-    ⊎ ((name ≡ Some (codes "render")) ⊎ ((name ≡ Some (codes "turns"))
-    ⊎ (name ≡ Some (codes "upgrade")))))))
+IsKnown name = (name ≡ Some (codes "compile")) ⊎ ((name ≡ Some (codes "explain"))
+    ⊎ ((name ≡ Some (codes "check")) ⊎ ((name ≡ Some (codes "show"))
+    ⊎ ((name ≡ Some (codes "run")) ⊎ ((name ≡ Some (codes "render"))
+    ⊎ ((name ≡ Some (codes "turns")) ⊎ (name ≡ Some (codes "upgrade"))))))))
 
 -- The line names this command.
 abbrev pub Asks : Text → List Text → Type 0

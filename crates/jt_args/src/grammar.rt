@@ -147,7 +147,7 @@ const SLICE: Argument = Argument {
     help: "The number of instructions in a turn, 1 to 1000000 [default: 100]",
 };
 
-const COMMANDS: [CommandForm; 7] = [
+const COMMANDS: [CommandForm; 8] = [
     CommandForm {
         name: "compile",
         about: "Compiles a template into an image",
@@ -155,6 +155,18 @@ const COMMANDS: [CommandForm; 7] = [
             DIR,
             NAME,
             OUT,
+            TRIM_BLOCKS,
+            LSTRIP_BLOCKS,
+            KEEP_TRAILING_NEWLINE,
+            NO_AUTOESCAPE,
+        ],
+    },
+    CommandForm {
+        name: "explain",
+        about: "Explains why a template does not compile",
+        arguments: &[
+            DIR,
+            NAME,
             TRIM_BLOCKS,
             LSTRIP_BLOCKS,
             KEEP_TRAILING_NEWLINE,

@@ -15,6 +15,11 @@ pub enum Command {
         name: String,
         out: String,
     },
+    /// Explains why the template `name` from the files of the directory `dir` does not compile.
+    Explain {
+        dir: String,
+        name: String,
+    },
     /// Verifies the image at a path.
     Check {
         image: String,

@@ -53,6 +53,7 @@ fn asked(alloc: Global, matches: &ArgMatches<'_>) -> Result<Job, JobError>
 {
     match matches.subcommand() {
         Some(("compile", found)) => compile_job(alloc, found),
+        Some(("explain", found)) => explain_job(alloc, found),
         Some(("check", found)) => check_job(alloc, found),
         Some(("show", found)) => show_job(alloc, found),
         Some(("run", found)) => run_job(alloc, found),
@@ -73,6 +74,21 @@ fn compile_job(alloc: Global, found: &ArgMatches<'_>) -> Result<Job, JobError>
     let out = String::from_str(alloc, word(found, "OUT"))?;
     Ok(Job {
         command: jobs::Command::Compile { dir, name, out },
+        options: options(found),
+        budget: DEFAULT,
+        slice: SLICE,
+    })
+}
+
+fn explain_job(alloc: Global, found: &ArgMatches<'_>) -> Result<Job, JobError>
+    requires { HasSwitches (rows_of (found_of found.now)) }
+    ensures ok { IfOk result (IsAsked (Some (codes "explain", rows_of (found_of found.now)))) }
+    ensures err { IfErr result (λ e. e ≡ JobError.NoMemory) }
+{
+    let dir = String::from_str(alloc, word(found, "DIR"))?;
+    let name = String::from_str(alloc, word(found, "NAME"))?;
+    Ok(Job {
+        command: jobs::Command::Explain { dir, name },
         options: options(found),
         budget: DEFAULT,
         slice: SLICE,

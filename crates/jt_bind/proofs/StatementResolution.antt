@@ -32,7 +32,7 @@ use Rattle.jt_bind.specs.declared.name_scope.NameScope.{NameScope}
 use Rattle.jt_bind.specs.declared.emission.Turns.{Turns}
 use Rattle.jt_bind.specs.declared.senv.StaticEnv as code_senv
 use Rattle.jt_bind.specs.internal.Scoped.{IsPlaced, BodyLeads, cenv_in, order_in, senv_in, templates_in}
-use Rattle.jt_bind.specs.internal.Stated.{Led, IsAsked, AreTurns, slot_if, line_in, stmt_in, body_in, scoped_in}
+use Rattle.jt_bind.specs.internal.Stated.{Led, IsHead, AreTurns, slot_if, line_in, stmt_in, body_in, scoped_in}
 use Rattle.jt_bind.specs.internal.Stated.{values_in}
 use Rattle.jt_bind.proofs.BodyConcatenation.{led_of, lead_of, lead_both}
 use Rattle.jt_ast.proofs.RemainingParts.{names_left}
@@ -144,19 +144,16 @@ scoped_as s b sp sq es fs p q e =
 
 -- The environment of a loop's body may be replaced by an equal one.
 pub turns_as : (s : Chains) (b : trees.Body) (k : Option expressions.Expr) (sp sq : StaticEnv) (xs : Targets)
-    (c : SlotExpr Constant) (t : Turns) (p q r v : List Tree)
-    → sp ≡ sq → targets_view t.targets ≡ xs → IsPlaced c (expr_view t.items) p q
-    → IsAsked (resolved_condition (cenv_in s) (order_in s) k sp) t.condition q r
+    (c : SlotExpr Constant) (t : Turns) (p r v : List Tree)
+    → sp ≡ sq → IsHead xs c (resolved_condition (cenv_in s) (order_in s) k sp) t.head.value p r
     → Led (templates_in s) (scoped_in s b sp) [] t.body.items r v
     → AreTurns s xs c (resolved_condition (cenv_in s) (order_in s) k sq) (scoped_in s b sq) t p v
-turns_as s b k sp sq xs c t p q r v e f h g w =
-    let P : StaticEnv → Type 0 = λ z. IsAsked (resolved_condition (cenv_in s) (order_in s) k z) t.condition q r in
+turns_as s b k sp sq xs c t p r v e h w =
+    let P : StaticEnv → Type 0 =
+    λ z. IsHead xs c (resolved_condition (cenv_in s) (order_in s) k z) t.head.value p r in
     record {
-      given = q;
       between = r;
-      takes = f;
-      goes_over = h;
-      asked = subst P e g;
+      headed = subst P e h;
       taken = scoped_as s b sp sq [] t.body.items r v e w;
     }
 

@@ -1,16 +1,18 @@
 //! Fills the parameters that no positional argument fills.
 
-ghost use Rattle.std.specs.Prelude.{◌≡◌, List, drop, IfOk};
+ghost use Rattle.std.specs.Prelude.{◌≡◌, List, drop, length, IfOk};
 ghost use Rattle.jt_value.specs.Tree.{Tree};
 ghost use Rattle.jt_ast.specs.ExpressionView as written;
 ghost use Rattle.jt_chains.specs.Uses.{keywords};
 ghost use Rattle.jt_semantics.specs.Layout.{slot_in};
 ghost use Rattle.jt_semantics.specs.Resolve as resolve;
-ghost use Rattle.jt_bind.specs.internal.Resolving.{RowAdds, kept_of, filled_of, some_filled_of};
+ghost use Rattle.jt_bind.specs.internal.Resolving.{RowAdds, by_name, kept_of, filled_of};
+ghost use Rattle.jt_bind.specs.internal.Resolving.{some_filled_of};
 ghost use Rattle.jt_bind.specs.internal.Scoped.{IsAdded, RowLeads};
 ghost use Rattle.jt_ast.specs.Texts.{among};
 ghost use Rattle.jt_ast.specs.StatementView.{parameter_view, parameters_view};
 ghost use Rattle.jt_eval.specs.Filters.{some_given, default_value};
+ghost use Rattle.jt_eval.specs.TheFilters as the;
 ghost use Rattle.jt_ir.specs.Pool.{own};
 ghost use Rattle.jt_ir.specs.Slots as slots;
 
@@ -20,6 +22,8 @@ use crate::operator_forms::default_of;
 use crate::pool::add_value;
 use crate::resolver::{Arguments, Resolver};
 use jt_ast::{Expr, Parameter};
+use jt_eval::filter_parameters;
+use jt_ids::FilterId;
 use jt_ir::SlotExpr;
 use jt_layout::checked_sum;
 use jt_value::{NoMemory, Value};
@@ -49,10 +53,29 @@ impl<'t, 's, 'a> Resolver<'t, 's, 'a> {
         Ok(())
     }
 
-    /// Appends the values of the parameters of a filter that no positional argument fills, up to
+    /// Appends the values of the parameters of `filter` that no positional argument fills, up to
     /// the last parameter that a keyword argument names.
     #[inline(never)]
-    pub(crate) fn fill_some(
+    pub(crate) fn fill_filter(
+        &self,
+        filter: FilterId,
+        arguments: Arguments<'_>,
+        done: &mut Vec<(Option<usize>, SlotExpr)>,
+        pool: &mut Vec<Value>,
+    ) -> Result<(), NoMemory>
+        ensures { IfOk result (λ u. RowAdds (resolve.filled_some (the.filter_parameters filter)
+            (length arguments.entry.row.now) (keywords (by_name arguments.entry))
+            (kept_of self.now (by_name arguments.entry))) slots.none done.old done.new pool.old
+            pool.new) }
+    {
+        let parameters = filter_parameters(self.alloc, filter)?;
+        self.fill_some(&parameters, arguments, done, pool)
+    }
+
+    /// Appends the values of parameters that no positional argument fills, up to the last one that
+    /// a keyword argument names.
+    #[inline(never)]
+    fn fill_some(
         &self,
         parameters: &[Parameter],
         arguments: Arguments<'_>,

@@ -42,6 +42,7 @@ pub(crate) enum Callee<'s> {
 
 impl<'a> Tables<'a> {
     /// Returns the callee that the expression before the arguments of a call names.
+    #[inline(never)]
     pub(crate) fn callee_of<'s>(&'s self, called: &'s Expr) -> Result<Callee<'s>, NoMemory>
         ensures { IfOk result (λ k. IsCalled self.now (written.expr_view called.now) k) }
     {

@@ -1,6 +1,6 @@
 //! Appends resolved statements to others.
 
-ghost use Rattle.std.specs.Prelude.{List, Option, [], IfOk};
+ghost use Rattle.std.specs.Prelude.{◌≡◌, List, Option, [], ◌∷◌, ◌++◌, IfOk};
 ghost use Rattle.jt_value.specs.Tree as tree;
 ghost use Rattle.jt_bind.specs.internal.Chains.{Chains};
 ghost use Rattle.jt_semantics.specs.Resolve.{alone};
@@ -94,6 +94,18 @@ pub(crate) fn put_assign(
     Ok(())
 }
 
+/// Appends a resolved branch to others.
+#[inline(never)]
+pub(crate) fn put_branch(
+    made: &mut Vec<SlotBranch<SlotStmt>>,
+    branch: SlotBranch<SlotStmt>,
+) -> Result<(), NoMemory>
+    ensures { IfOk result (λ u. made.new.items ≡ made.old.items ++ branch ∷ []) }
+{
+    made.push(branch)?;
+    Ok(())
+}
+
 /// Emits an `if` of resolved branches and an `else` part.
 #[inline(never)]
 pub(crate) fn put_choice(
@@ -111,13 +123,79 @@ pub(crate) fn put_choice(
     Ok(())
 }
 
-/// The parts of a resolved loop: targets, items, condition and body.
+/// The head of a resolved loop: targets, items and condition.
 #[derive(Drop)]
-pub(crate) struct Turns {
+pub(crate) struct LoopHead {
     pub targets: Targets,
     pub items: SlotExpr,
     pub condition: Option<SlotExpr>,
+}
+
+/// The head and the body of a resolved loop. The head is on the heap, so that the frames of nested
+/// loops are small.
+pub(crate) struct Turns {
+    pub head: Box<LoopHead>,
     pub body: Vec<SlotStmt>,
+}
+
+impl Turns {
+    /// Returns the head and the body.
+    fn into_parts(self) -> (Box<LoopHead>, Vec<SlotStmt>)
+        ensures { result ≡ (self.head, self.body) }
+    {
+        let Turns { head, body } = self;
+        (head, body)
+    }
+}
+
+impl Drop for Turns {
+    /// Drops the head and the body in a frame of its own.
+    #[inline(never)]
+    fn drop(self) {
+        let Turns { head: _, body: _ } = self;
+    }
+}
+
+/// Resolved statements that are part of no other statement yet.
+pub(crate) struct Statements(pub Vec<SlotStmt>);
+
+impl Statements {
+    /// Returns the statements.
+    pub(crate) fn into_inner(self) -> Vec<SlotStmt>
+        ensures { result ≡ self.0 }
+    {
+        let Statements(statements) = self;
+        statements
+    }
+}
+
+impl Drop for Statements {
+    /// Drops the statements in a frame of its own.
+    #[inline(never)]
+    fn drop(self) {
+        let Statements(_) = self;
+    }
+}
+
+/// Resolved branches that are part of no `if` yet.
+pub(crate) struct Branches(pub Vec<SlotBranch<SlotStmt>>);
+
+impl Branches {
+    /// Returns the branches.
+    pub(crate) fn into_inner(self) -> Vec<SlotBranch<SlotStmt>>
+        ensures { result ≡ self.0 }
+    {
+        let Branches(branches) = self;
+        branches
+    }
+}
+
+impl Drop for Branches {
+    /// Drops the branches in a frame of its own.
+    #[inline(never)]
+    fn drop(self) {
+        let Branches(_) = self;
+    }
 }
 
 /// Emits a loop and its `else` part.
@@ -137,12 +215,18 @@ pub(crate) fn put_loop(
         → Puts s (alone (slots.for_each (line_in s senv.now line) xs c k turn last)) done.old
         done.new p r) }
 {
+    let (head, body) = turns.into_parts();
+    let LoopHead {
+        targets,
+        items,
+        condition,
+    } = Box::into_inner(head);
     done.push(SlotStmt::For {
         place: senv.place(line),
-        targets: turns.targets,
-        over: turns.items,
-        condition: turns.condition,
-        body: turns.body,
+        targets,
+        over: items,
+        condition,
+        body,
         other,
     })?;
     Ok(())

@@ -1,6 +1,6 @@
 //! Resolves expressions: names to slots, and literals and keys to indices of a pool.
 
-ghost use Rattle.std.specs.Prelude.{false, length, List, IfOk, Some};
+ghost use Rattle.std.specs.Prelude.{false, length, List, [], IfOk, Some};
 ghost use Rattle.jt_value.specs.Tree.{Tree};
 ghost use Rattle.jt_ast.specs.Expressions as trees;
 ghost use Rattle.jt_ast.specs.ExpressionView as written;
@@ -8,26 +8,27 @@ ghost use Rattle.jt_ids.specs.FilterTable.{filter_id};
 ghost use Rattle.jt_semantics.specs.Operators as operators;
 ghost use Rattle.jt_semantics.specs.Resolve as resolve;
 ghost use Rattle.jt_ids.specs.declared.op_id.OpId.TheVariants as op;
-ghost use Rattle.jt_ir.specs.Pool.{Constant};
+ghost use Rattle.jt_eval.specs.Values.{literal};
+ghost use Rattle.jt_ir.specs.Pool.{Constant, own};
 ghost use Rattle.jt_ir.specs.Slots as slots;
 ghost use Rattle.jt_bind.specs.internal.Resolving.{IsResolved, RowAdds, RowPuts, by_position};
 ghost use Rattle.jt_bind.specs.internal.Resolving.{by_name, expr_of};
 ghost use Rattle.jt_bind.specs.internal.Resolving.{row_of, asides_of, given_of, called_of};
 ghost use Rattle.jt_bind.specs.internal.Resolving.{entries_of};
 ghost use Rattle.jt_bind.specs.internal.Resolving.{filter_row_of};
-ghost use Rattle.jt_bind.specs.internal.Scoped.{IsAdded, turn_in};
+ghost use Rattle.jt_bind.specs.internal.Scoped.{values, IsAdded, RowLeads, turn_in};
 
 use crate::callee::{Callee, Signature};
 use crate::lookup::{absent, no_value, reading, told};
 use crate::operator_forms::{
-    chosen, form_of, formed, literal_value, on_one, on_two, range_of, turn_among, turned,
+    chosen, form_of, formed, item_in_turn, literal_value, on_one, on_two, range_of, turned,
     unary_operation,
 };
 use crate::pool::{add_text, add_value};
 use crate::resolver::{Arguments, Resolver};
-use crate::rows::row_of;
-use jt_ast::{BinaryOperator, Expr, Polarity, UnaryOperator};
-use jt_eval::{filter_of, filter_parameters, test_of};
+use crate::rows::{put_argument, row_of};
+use jt_ast::{BinaryOperator, Expr, Literal, Polarity, UnaryOperator};
+use jt_eval::{filter_of, test_of};
 use jt_ids::{FilterId, LoopField, OpId};
 use jt_ir::{NaryOp, SlotExpr};
 use jt_layout::checked_sum;
@@ -47,7 +48,7 @@ impl<'t, 's, 'a> Resolver<'t, 's, 'a> {
             pool.old pool.new) }
     {
         match expr {
-            Expr::Constant(literal) => add_value(pool, literal_value(self.alloc, literal)?),
+            Expr::Constant(literal) => self.resolve_constant(literal, pool),
             Expr::Name(name) => Ok(reading(self.slot(name.as_str()))),
             Expr::Group(inside) => self.resolve_expression(inside, pool),
             Expr::List(row) => self.resolve_list(row, pool),
@@ -85,6 +86,20 @@ impl<'t, 's, 'a> Resolver<'t, 's, 'a> {
                 other,
             } => self.resolve_choice(condition, value, other, pool),
         }
+    }
+
+    /// Resolves a literal.
+    #[inline(never)]
+    fn resolve_constant(
+        &self,
+        constant: &Literal,
+        pool: &mut Vec<Value>,
+    ) -> Result<SlotExpr, NoMemory>
+        ensures { IfOk result (λ e. IsAdded
+            (slots.pooled (own (literal (written.literal_view constant.now)))) e pool.old
+            pool.new) }
+    {
+        add_value(pool, literal_value(self.alloc, constant)?)
     }
 
     /// Resolves a list.
@@ -233,6 +248,7 @@ impl<'t, 's, 'a> Resolver<'t, 's, 'a> {
 
     /// Resolves a test, which is negated after `is not`.
     #[cycle(expressions)]
+    #[inline(never)]
     fn resolve_test(
         &self,
         value: &Expr,
@@ -267,12 +283,27 @@ impl<'t, 's, 'a> Resolver<'t, 's, 'a> {
         match test_of(name) {
             None => Ok(absent()),
             Some(test) => {
-                let first = self.resolve_expression(value, pool)?;
-                let mut operands = row_of(self.alloc, first)?;
+                let mut operands = self.resolve_first(value, pool)?;
                 self.resolve_row(row, &mut operands, pool)?;
                 Ok(SlotExpr::Made(NaryOp::Test(test), operands))
             }
         }
+    }
+
+    /// Resolves the value of a filter or a test. Returns it as the first argument.
+    #[cycle(expressions)]
+    #[inline(never)]
+    fn resolve_first(
+        &self,
+        value: &Expr,
+        pool: &mut Vec<Value>,
+    ) -> Result<Vec<(Option<usize>, SlotExpr)>, NoMemory>
+        ensures { IfOk result (λ row. (left : slots.SRow Constant)
+            → RowLeads (slots.item (expr_of self.now (written.expr_view value.now)) left) left []
+            row.items (values pool.old) (values pool.new)) }
+    {
+        let first = self.resolve_expression(value, pool)?;
+        row_of(self.alloc, first)
     }
 
     /// Resolves a filter.
@@ -292,8 +323,7 @@ impl<'t, 's, 'a> Resolver<'t, 's, 'a> {
         match filter_of(name, arguments.row, arguments.pairs) {
             None => Ok(absent()),
             Some(filter) => {
-                let first = self.resolve_expression(value, pool)?;
-                let mut given = row_of(self.alloc, first)?;
+                let mut given = self.resolve_first(value, pool)?;
                 self.resolve_filter_row(filter, arguments, &mut given, pool)?;
                 Ok(SlotExpr::Made(
                     NaryOp::Filter {
@@ -321,8 +351,7 @@ impl<'t, 's, 'a> Resolver<'t, 's, 'a> {
             pool.old pool.new) }
     {
         self.resolve_given(arguments, done, pool)?;
-        let parameters = filter_parameters(self.alloc, filter)?;
-        self.fill_some(&parameters, arguments, done, pool)
+        self.fill_filter(filter, arguments, done, pool)
     }
 
     /// Resolves a call.
@@ -373,6 +402,7 @@ impl<'t, 's, 'a> Resolver<'t, 's, 'a> {
 
     /// Resolves a call of `range`.
     #[cycle(expressions)]
+    #[inline(never)]
     fn resolve_range(&self, row: &[Expr], pool: &mut Vec<Value>) -> Result<SlotExpr, NoMemory>
         ensures { IfOk result (λ e. IsAdded (slots.made
             (slots.operator (operators.range_of (length row.now)))
@@ -392,8 +422,7 @@ impl<'t, 's, 'a> Resolver<'t, 's, 'a> {
             (turn_in (length row.now))) e pool.old pool.new) }
     {
         let items = self.resolve_list(row, pool)?;
-        let turn = turn_among(self.alloc, row.len(), pool)?;
-        on_two(self.alloc, OpId::Item, items, turn)
+        item_in_turn(self.alloc, items, row.len(), pool)
     }
 
     /// Resolves a list of expressions and appends them.
@@ -409,7 +438,7 @@ impl<'t, 's, 'a> Resolver<'t, 's, 'a> {
     {
         for expr in row {
             let next = self.resolve_expression(expr, pool)?;
-            done.push((None, next))?;
+            put_argument(done, None, next)?;
         }
         Ok(())
     }
@@ -430,7 +459,7 @@ impl<'t, 's, 'a> Resolver<'t, 's, 'a> {
         for (_, value) in pairs {
             let here = Resolver { senv, ..*self };
             let next = here.resolve_expression(value, pool)?;
-            done.push((Some(senv.free), next))?;
+            put_argument(done, Some(senv.free), next)?;
             senv.free = checked_sum(senv.free, 1)?;
         }
         Ok(())
@@ -465,9 +494,9 @@ impl<'t, 's, 'a> Resolver<'t, 's, 'a> {
     {
         for (key, value) in pairs {
             let entry_key = add_text(self.alloc, key.as_str(), pool)?;
-            done.push((None, entry_key))?;
+            put_argument(done, None, entry_key)?;
             let next = self.resolve_expression(value, pool)?;
-            done.push((None, next))?;
+            put_argument(done, None, next)?;
         }
         Ok(())
     }

@@ -12,7 +12,9 @@ ghost use Rattle.jt_ir.specs.Pool.{Constant};
 ghost use Rattle.jt_ir.specs.Slots as slots;
 ghost use Rattle.jt_eval.specs.Values.{literal};
 ghost use Rattle.jt_bind.specs.internal.Formed.{form_view, IsNumber};
-ghost use Rattle.jt_bind.specs.internal.Scoped.{IsShown, IsAdded, MadeOfOne, MadeOfTwo, turn_in};
+ghost use Rattle.jt_bind.specs.internal.Scoped.{values, IsShown, IsAdded, MadeOfOne, MadeOfTwo};
+ghost use Rattle.jt_bind.specs.internal.Scoped.{turn_in};
+ghost use Rattle.jt_ids.specs.declared.op_id.OpId.TheVariants as op;
 
 use crate::pool::add_value;
 use jt_ast::{BinaryOperator, Literal, Parameter, UnaryOperator};
@@ -35,6 +37,7 @@ pub(crate) enum OperatorForm {
 }
 
 /// Returns the value of a literal.
+#[inline(never)]
 pub(crate) fn literal_value(alloc: Global, constant: &Literal) -> Result<Value, NoMemory>
     ensures { IfOk result (λ v. view v ≡ literal (literal_view constant.now)) }
 {
@@ -206,11 +209,7 @@ pub(crate) fn chosen(
 
 /// Returns the expression for the index of a loop's turn modulo `count`.
 #[inline(never)]
-pub(crate) fn turn_among(
-    alloc: Global,
-    count: usize,
-    pool: &mut Vec<Value>,
-) -> Result<SlotExpr, NoMemory>
+fn turn_among(alloc: Global, count: usize, pool: &mut Vec<Value>) -> Result<SlotExpr, NoMemory>
     ensures { IfOk result (λ e. IsAdded (turn_in count) e pool.old pool.new) }
 {
     let number = number_of(count)?;
@@ -221,6 +220,22 @@ pub(crate) fn turn_among(
         SlotExpr::Field(LoopField::Index0),
         items,
     )
+}
+
+/// Returns the expression for the item of `items` at the index of a loop's turn modulo `count`.
+#[inline(never)]
+pub(crate) fn item_in_turn(
+    alloc: Global,
+    items: SlotExpr,
+    count: usize,
+    pool: &mut Vec<Value>,
+) -> Result<SlotExpr, NoMemory>
+    ensures { IfOk result (λ e. (a : slots.SlotExpr Constant) (p : List Tree)
+        → IsShown a items p (values pool.old)
+        → IsShown (resolve.operation_of op.Item a (turn_in count)) e p (values pool.new)) }
+{
+    let turn = turn_among(alloc, count, pool)?;
+    on_two(alloc, OpId::Item, items, turn)
 }
 
 /// Returns a count as a value.

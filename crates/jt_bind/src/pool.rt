@@ -12,6 +12,7 @@ use jt_value::{NoMemory, Value};
 use std::alloc::Global;
 
 /// Appends a value to the pool and returns the expression that reads it.
+#[inline(never)]
 pub(crate) fn add_value(pool: &mut Vec<Value>, value: Value) -> Result<SlotExpr, NoMemory>
     ensures { IfOk result (λ e. IsAdded (slots.pooled (own (view value))) e pool.old pool.new) }
 {

@@ -14,6 +14,15 @@ pub(crate) struct Resolver<'t, 's, 'a> {
     pub senv: StaticEnv<'s, 'a>,
 }
 
+/// The head of a loop: the line of its tag, the names of its targets, its items and its condition.
+#[derive(Clone, Copy)]
+pub(crate) struct ForTag<'e> {
+    pub line: u32,
+    pub names: &'e [String],
+    pub over: &'e Expr,
+    pub condition: &'e Option<Expr>,
+}
+
 /// The arguments of a call: the positional ones, and the keywords with their values.
 #[derive(Clone, Copy)]
 pub(crate) struct Arguments<'e> {

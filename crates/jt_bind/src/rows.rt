@@ -1,6 +1,6 @@
 //! Builds lists of resolved expressions.
 
-ghost use Rattle.std.specs.Prelude.{◌≡◌, List, [], ◌∷◌, length, None, IfOk};
+ghost use Rattle.std.specs.Prelude.{◌≡◌, List, [], ◌∷◌, ◌++◌, length, None, IfOk};
 ghost use Rattle.jt_ast.specs.Expressions.{Text};
 ghost use Rattle.jt_ast.specs.Texts.{texts};
 ghost use Rattle.jt_semantics.specs.Resolve as resolve;
@@ -40,6 +40,19 @@ pub(crate) fn first_locals(
         row.push((None, SlotExpr::Variable(Slot::Local(local))))?;
     }
     Ok(row)
+}
+
+/// Appends an argument, which is kept aside in a local if `aside` has its number.
+#[inline(never)]
+pub(crate) fn put_argument(
+    done: &mut Vec<(Option<usize>, SlotExpr)>,
+    aside: Option<usize>,
+    value: SlotExpr,
+) -> Result<(), NoMemory>
+    ensures { IfOk result (λ u. done.new.items ≡ done.old.items ++ (aside, value) ∷ []) }
+{
+    done.push((aside, value))?;
+    Ok(())
 }
 
 /// Returns a list of one expression.

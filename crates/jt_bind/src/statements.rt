@@ -7,7 +7,7 @@ ghost use Rattle.jt_semantics.specs.Meaning.{is_set};
 ghost use Rattle.jt_bind.specs.internal.Resolving.{BodyAdds, BodyIs, StmtAdds, BranchIs, TurnsAre};
 ghost use Rattle.jt_bind.specs.internal.Resolving.{templates_of, senv_of, stmt_of, body_of};
 ghost use Rattle.jt_bind.specs.internal.Resolving.{scoped_of};
-ghost use Rattle.jt_bind.specs.internal.Resolving.{values_of, inside_of, condition_of};
+ghost use Rattle.jt_bind.specs.internal.Resolving.{expr_of, values_of, inside_of, condition_of};
 ghost use Rattle.jt_bind.specs.internal.Scoped.{values, BodyLeads};
 ghost use Rattle.jt_ast.specs.Statements as trees;
 ghost use Rattle.jt_ast.specs.StatementView.{stmt_view, body_view, branches_view, names_view};
@@ -16,12 +16,13 @@ ghost use Rattle.jt_ir.specs.Pool.{Constant};
 ghost use Rattle.jt_ir.specs.Slots as slots;
 ghost use Rattle.jt_ir.specs.View.{slot_view};
 ghost use Rattle.jt_ast.specs.Texts.{texts};
-ghost use Rattle.jt_bind.specs.internal.Stated.{IsAsked};
+ghost use Rattle.jt_bind.specs.internal.Stated.{IsAsked, IsHead};
 
 use crate::emission::{
-    Turns, put_assign, put_capture, put_choice, put_data, put_filtered, put_loop, put_print,
+    Branches, LoopHead, Statements, Turns, put_assign, put_branch, put_capture, put_choice,
+    put_data, put_filtered, put_loop, put_print,
 };
-use crate::resolver::Resolver;
+use crate::resolver::{ForTag, Resolver};
 use crate::scope_entry::entered;
 use crate::targets::fresh_targets;
 use jt_ast::{Branch, Expr, FilterCall, Stmt};
@@ -72,9 +73,13 @@ impl<'t, 's, 'a> Resolver<'t, 's, 'a> {
                 body,
                 other,
             } => {
-                let turns = self.resolve_turns(body, targets, over, condition, pool)?;
-                let last = self.resolve_whole(other, pool)?;
-                put_loop(&self.senv, *line, turns, last, done)
+                let tag = ForTag {
+                    line: *line,
+                    names: targets,
+                    over,
+                    condition,
+                };
+                self.resolve_for(tag, body, other, done, pool)
             }
             Stmt::Set { .. } | Stmt::SetBlock { .. } => self.resolve_if_set(statement, done, pool),
             Stmt::With { line, values, body } => self.resolve_with(body, *line, values, done, pool),
@@ -142,6 +147,27 @@ impl<'t, 's, 'a> Resolver<'t, 's, 'a> {
         }
     }
 
+    /// Resolves a loop and its `else` part, and emits the loop.
+    #[cycle(statements)]
+    #[inline(never)]
+    fn resolve_for(
+        &self,
+        tag: ForTag<'a>,
+        body: &'a [Stmt],
+        other: &'a [Stmt],
+        done: &mut Vec<SlotStmt>,
+        pool: &mut Vec<Value>,
+    ) -> Result<(), NoMemory>
+        ensures { IfOk result (λ u. StmtAdds self.now (trees.for_each tag.entry.line
+            (names_view tag.entry.names.now) (written.expr_view tag.entry.over.now)
+            (option_map written.expr_view tag.entry.condition.now) (body_view body.now)
+            (body_view other.now)) done.old done.new pool.old pool.new) }
+    {
+        let turns = self.resolve_turns(body, tag, pool)?;
+        let last = self.resolve_whole(other, pool)?;
+        put_loop(&self.senv, tag.line, turns, last, done)
+    }
+
     /// Resolves the branches of an `if` and its `else` part, and emits the `if`.
     #[cycle(statements)]
     #[inline(never)]
@@ -155,12 +181,12 @@ impl<'t, 's, 'a> Resolver<'t, 's, 'a> {
         ensures { IfOk result (λ u. StmtAdds self.now (trees.choose (branches_view branches.now)
             (body_view other.now)) done.old done.new pool.old pool.new) }
     {
-        let mut made = Vec::with_capacity(self.alloc, branches.len())?;
+        let mut made = Branches(Vec::with_capacity(self.alloc, branches.len())?);
         for branch in branches {
-            made.push(self.resolve_branch(branch, pool)?)?;
+            put_branch(&mut made.0, self.resolve_branch(branch, pool)?)?;
         }
         let last = self.resolve_whole(other, pool)?;
-        put_choice(made, last, done)
+        put_choice(made.into_inner(), last, done)
     }
 
     /// Resolves a branch of an `if`.
@@ -189,29 +215,51 @@ impl<'t, 's, 'a> Resolver<'t, 's, 'a> {
     fn resolve_turns(
         &self,
         body: &'a [Stmt],
-        names: &'a [String],
-        over: &Expr,
-        condition: &Option<Expr>,
+        tag: ForTag<'a>,
         pool: &mut Vec<Value>,
     ) -> Result<Turns, NoMemory>
-        ensures { IfOk result (λ t. TurnsAre self.now (names_view names.now)
-            (written.expr_view over.now) (option_map written.expr_view condition.now)
-            (body_view body.now) t pool.old pool.new) }
+        ensures { IfOk result (λ t. TurnsAre self.now (names_view tag.entry.names.now)
+            (written.expr_view tag.entry.over.now)
+            (option_map written.expr_view tag.entry.condition.now) (body_view body.now) t pool.old
+            pool.new) }
     {
-        let items = self.resolve_expression(over, pool)?;
-        let inner = entered(self.alloc, &self.senv, names_of(self.alloc, names)?)?;
+        let inner = entered(self.alloc, &self.senv, names_of(self.alloc, tag.names)?)?;
         let inside = Resolver {
             senv: self.senv.inside(&inner),
             ..*self
         };
-        let asked = inside.resolve_condition(condition, pool)?;
-        let turn = inside.resolve_inside(body, pool)?;
-        Ok(Turns {
-            targets: fresh_targets(self.alloc, self.senv.free, names)?,
+        let head = self.resolve_head(&inside, tag, pool)?;
+        let mut turns = Turns {
+            head,
+            body: Vec::new(self.alloc),
+        };
+        inside.resolve_scoped(body, &mut turns.body, pool)?;
+        Ok(turns)
+    }
+
+    /// Resolves the items of a loop, and its condition in the environment of its body.
+    #[inline(never)]
+    fn resolve_head(
+        &self,
+        inside: &Resolver<'t, '_, 'a>,
+        tag: ForTag<'a>,
+        pool: &mut Vec<Value>,
+    ) -> Result<Box<LoopHead>, NoMemory>
+        ensures { IfOk result (λ h. IsHead (resolve.fresh_targets self.now.senv.free
+            (names_view tag.entry.names.now)) (expr_of self.now (written.expr_view
+            tag.entry.over.now)) (condition_of inside.now (option_map written.expr_view
+            tag.entry.condition.now) (senv_of inside.now)) h.value (values pool.old)
+            (values pool.new)) }
+    {
+        let items = self.resolve_expression(tag.over, pool)?;
+        let condition = inside.resolve_condition(tag.condition, pool)?;
+        let targets = fresh_targets(self.alloc, self.senv.free, tag.names)?;
+        let head = LoopHead {
+            targets,
             items,
-            condition: asked,
-            body: turn,
-        })
+            condition,
+        };
+        Ok(Box::new(self.alloc, head)?)
     }
 
     /// Resolves the values of a `with` tag, and its body in a scope with their names.
@@ -312,9 +360,9 @@ impl<'t, 's, 'a> Resolver<'t, 's, 'a> {
         ensures { IfOk result (λ ss. BodyIs self.now
             (scoped_of self.now (body_view body.now) (senv_of self.now)) ss pool.old pool.new) }
     {
-        let mut done = Vec::new(self.alloc);
-        self.resolve_scoped(body, &mut done, pool)?;
-        Ok(done)
+        let mut done = Statements(Vec::new(self.alloc));
+        self.resolve_scoped(body, &mut done.0, pool)?;
+        Ok(done.into_inner())
     }
 
     /// Resolves a body in the current scope and returns it.
@@ -327,9 +375,9 @@ impl<'t, 's, 'a> Resolver<'t, 's, 'a> {
         ensures { IfOk result
             (λ ss. BodyIs self.now (body_of self.now (body_view body.now)) ss pool.old pool.new) }
     {
-        let mut done = Vec::new(self.alloc);
-        self.resolve_body(body, &mut done, pool)?;
-        Ok(done)
+        let mut done = Statements(Vec::new(self.alloc));
+        self.resolve_body(body, &mut done.0, pool)?;
+        Ok(done.into_inner())
     }
 
     /// Resolves a body in a scope of its own and emits a capture of its text in a slot.

@@ -6,6 +6,7 @@ use mathlib.Core.Logic.{inr}
 use Rattle.jt_ast.specs.Expressions.{Expr, Exprs, Pairs, attribute, Text}
 use Rattle.jt_chains.specs.Chain.{Namespace, a_library, Sources, Definition, given_to, MacroBody, macros, public_macro}
 use Rattle.jt_chains.specs.Chain.{in_library, of_library, Callee, no_callee, callee, named_in}
+use Rattle.jt_checks.specs.Findings.{Subject, a_called_field, a_called_expression, called}
 use Rattle.jt_checks.specs.internal.RuleTests as rules
 use Rattle.jt_checks.specs.internal.ScopeLookup.{known_of}
 use Rattle.jt_checks.specs.internal.ScopeView.{name_in}
@@ -19,6 +20,13 @@ broken_of None k = None
 
 pub attribute_broken : (a : Expr) (k : Text) → rules.callee_broken (attribute a k) ≡ broken_of (name_in a) k
 attribute_broken a0 k = search (arith, rules)
+
+abbrev pub called_of : Option Text → Text → Subject
+called_of (Some of) k = a_called_field of k
+called_of None k = a_called_expression
+
+pub attribute_called : (a : Expr) (k : Text) → called (attribute a k) ≡ called_of (name_in a) k
+attribute_called a0 k = search (arith, rules)
 
 abbrev pub callee_of : Sources → List (Text × Definition) → Option Text → Text → Callee
 callee_of sources gs (Some of) k = named_in sources (given_to of gs) of k

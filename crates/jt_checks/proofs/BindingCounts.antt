@@ -2,7 +2,10 @@
 use Rattle.std.proofs.Common.{◌≡◌, ℕ, suc, ◌+◌, Bool, true, false, if◌then◌else◌, List, [], ◌∷◌, ◌++◌, length, refl}
 use Rattle.std.proofs.Common.{sym, ap, ◌∙◌}
 use Rattle.std.proofs.Common.{Option, Some, None, arith}
+use Rattle.std.specs.List as list
 use Rattle.std.specs.List.{count_by}
+use Rattle.std.proofs.lemmas.List.{length-map}
+use Rattle.std.proofs.lemmas.List.Sums.{length-filter}
 use Rattle.std.proofs.lemmas.List.Recursion.{is_count_by}
 use Rattle.jt_ast.specs.Expressions.{Expr, constant, name, group, list_of, map_of, attribute, item, call, filter, test}
 use Rattle.jt_ast.specs.Expressions.{unary, binary, when, choice, Exprs, no_exprs, expr, Pairs, no_pairs, pair, Text}
@@ -18,7 +21,7 @@ use Rattle.jt_uses.specs.Uses.{filter_call_uses, bound, keys_bound, parameters_b
 use Rattle.jt_uses.specs.Uses.{inside_loop, inside_block, inside_macro, inside_callee, escaped}
 use Rattle.jt_uses.specs.declared.site.Place.{Place}
 use Rattle.jt_uses.specs.declared.site.Enclosing.{Enclosing}
-use Rattle.jt_checks.specs.internal.UseRules.{binds_name, is_binding}
+use Rattle.jt_checks.specs.Findings.{binds_name, is_binding, lines_bound}
 
 abbrev names_bound : List Site → ℕ
 names_bound [] = 0
@@ -167,8 +170,13 @@ more : (b : Bool) (n : ℕ) → (if b then suc n else n) ≡ (if b then 1 + n el
 more true n = omega arith
 more false n = refl
 
-pub bindings_counted : (b : Body) → count_by binds_name (body_uses b uses.outside) ≡ body_bound b
+bindings_counted : (b : Body) → count_by binds_name (body_uses b uses.outside) ≡ body_bound b
 bindings_counted b =
     sym (is_count_by names_bound binds_name refl (λ s ss. more (binds_name s) (names_bound ss))
     (body_uses b uses.outside))
     ∙ (body_by b uses.outside).is
+
+pub lines_counted : (b : Body) → length (lines_bound (body_uses b uses.outside)) ≡ body_bound b
+lines_counted b =
+    let ss = body_uses b uses.outside in
+    length-map (list.filter binds_name ss) (λ s. s.place.line) ∙ length-filter binds_name ss ∙ bindings_counted b

@@ -7,6 +7,7 @@ pub mod AttributeForms
 pub mod RuleTestsCorrect
 pub mod UsesAreSites
 pub mod UsesCorrect
+pub mod FindingsHold
 pub mod NestedCallNames
 pub mod ScopeLookup
 pub mod NameLookup

@@ -1,6 +1,6 @@
--- Steps of loops: the first broken rule of the remaining items of a list.
+-- Steps of loops: the first finding in the remaining items of a list.
 use Rattle.std.proofs.Common.{◌≡◌, ℕ, suc, ◌+◌, ◌<◌, ◌≤◌, Bool, true, false, List, [], ◌∷◌, length, map, drop, get_or}
-use Rattle.std.proofs.Common.{nat_lt, nat_le, if◌then◌else◌, string_bytes, refl, sym, ap, ◌∙◌, arith, Option, Some}
+use Rattle.std.proofs.Common.{nat_le, if◌then◌else◌, string_bytes, refl, sym, ap, ◌∙◌, arith, Option, Some}
 use Rattle.std.proofs.Common.{None, rules}
 use Rattle.std.specs.Option.{option_or}
 use Rattle.std.proofs.lemmas.List.{drop_more}
@@ -8,8 +8,7 @@ use Rattle.std.proofs.lemmas.Option.{unwrap_or-slice_get}
 use Rattle.jt_ast.specs.Texts.{ascending, texts}
 use denote.Ref.{Bor}
 use Rattle.jt_ast.specs.Expressions.{Text}
-use Rattle.jt_ast.specs.StatementView.{body_view}
-use Rattle.jt_chains.specs.Chain.{Namespace, a_chain, a_library, Template, templates, libraries}
+use Rattle.jt_chains.specs.Chain.{Namespace, namespace_name, a_chain, a_library, Template, templates, libraries}
 use Rattle.jt_chains.specs.Layers.{layer_view}
 use Rattle.jt_chains.specs.declared.layers.Layer.{Layer}
 use Rattle.jt_chains.specs.Indices.{namespace_at}
@@ -26,13 +25,13 @@ use Rattle.jt_chains.specs.View.{chain_view, sources_of}
 use Rattle.jt_chains.specs.declared.chain.Chain.{Chain}
 use Rattle.jt_checks.specs.internal.ScopeLookup.{cenv_in, namespace_in, names_of}
 use Rattle.jt_rules.specs.CompileEnv.{CompileEnv}
-use Rattle.jt_rules.specs.declared.error.ScopeError.{ScopeError}
+use Rattle.jt_checks.specs.Findings.{Finding}
 
 abbrev Found : Type 0
-Found = Option ScopeError
+Found = Option Finding
 
--- The first part breaks a rule, or it does not.
-pub some_first : (a rest : Found) (e : ScopeError) → a ≡ Some e → Some e ≡ option_or a rest
+-- There is a finding in the first part, or there is none.
+pub some_first : (a rest : Found) (e : Finding) → a ≡ Some e → Some e ≡ option_or a rest
 some_first a rest e h = sym (ap (λ z. option_or z rest) h)
 
 pub none_first : (a rest : Found) → a ≡ None → rest ≡ option_or a rest
@@ -44,16 +43,23 @@ shown_layers ts = map (layer_view ts)
 pub layers_left : (cenv : CompileEnv) (namespace : Namespace) (ts : List Template) (ls : List Layer) (i : ℕ) (l : Layer)
     → i < length ls → l ≡ get_or ls i l
     → broken.templates_broken cenv namespace (shown_layers ts (drop i ls))
-    ≡ option_or (broken.template_broken cenv namespace (body_view l.body.now))
+    ≡ option_or (broken.template_broken cenv namespace (layer_view ts l))
     (broken.templates_broken cenv namespace (shown_layers ts (drop (i + 1) ls)))
 layers_left cenv namespace ts ls i l lt is = search (arith, rules, drop_more)
 
-pub uses_left : (cenv : CompileEnv) (namespace : Namespace) (ss : List UseSite) (i : ℕ) (s : UseSite) → i < length ss
-    → s ≡ get_or ss i s
-    → broken.uses_broken cenv namespace (sites_view (drop i ss))
-    ≡ option_or (broken.site_broken cenv namespace (site_view s))
-    (broken.uses_broken cenv namespace (sites_view (drop (i + 1) ss)))
-uses_left cenv namespace ss i s lt is = search (arith, rules, drop_more)
+pub uses_left : (cenv : CompileEnv) (namespace : Namespace) (n : Text) (ss : List UseSite) (i : ℕ) (s : UseSite)
+    → i < length ss → s ≡ get_or ss i s
+    → broken.uses_broken cenv namespace n (sites_view (drop i ss))
+    ≡ option_or (broken.site_finding cenv namespace n (site_view s))
+    (broken.uses_broken cenv namespace n (sites_view (drop (i + 1) ss)))
+uses_left cenv namespace n ss i s lt is = search (arith, rules, drop_more)
+
+pub lines_left : (ss : List UseSite) (i : ℕ) (s : UseSite) → i < length ss → s ≡ get_or ss i s
+    → broken.lines_bound (sites_view (drop i ss))
+    ≡ (if broken.binds_name (site_view s)
+    then s.place.line ∷ broken.lines_bound (sites_view (drop (i + 1) ss))
+    else broken.lines_bound (sites_view (drop (i + 1) ss)))
+lines_left ss i s lt is = search (arith, rules, drop_more)
 
 -- ---- chains
 
@@ -120,6 +126,18 @@ pub namespace_seen : (c : Chain) (i : ℕ) (h : written.Namespace) → i < lengt
     → h ≡ get_or c.namespaces.items i h → namespace_in c i ≡ namespace_view h
 unfolding namespace_in
 namespace_seen c i h lt is = name_of_namespace c.namespaces.items i h lt is
+
+-- The name of a chain or a library.
+pub name_seen : (c : Chain) (i : ℕ) (h : written.Namespace) → i < length c.namespaces.items
+    → h ≡ get_or c.namespaces.items i h → string_bytes h.name ≡ namespace_name (namespace_at (chain_view c).order i)
+name_seen c i h lt is =
+    sym (ap namespace_name (sym (its_place c i) ∙ namespace_seen c i h lt is) ∙ by h.is_library)
+  where
+    by : (b : Bool)
+        → namespace_name (if b then a_library (string_bytes h.name) else a_chain (string_bytes h.name))
+        ≡ string_bytes h.name
+    by true = refl
+    by false = refl
 
 pub library_free : (cenv : CompileEnv) (h : written.Namespace) → h.is_library ≡ true
     → names_of cenv (namespace_view h) ≡ 0

@@ -27,6 +27,7 @@ use Rattle.jt_rules.specs.UseSites.{names_import, UseSite, at, parameter_names, 
 use Rattle.jt_rules.specs.CompileEnv.{CompileEnv}
 use Rattle.jt_rules.specs.declared.error.ScopeError.{ScopeError}
 use Rattle.jt_rules.specs.declared.error.ScopeError.TheVariants as error
+use Rattle.jt_checks.specs.Findings.{BreaksAt}
 use Rattle.jt_checks.specs.internal.RuleTests.{read_alone, unless, test_broken, filter_broken, refused, is_macro, used}
 use Rattle.jt_checks.specs.internal.RuleTests.{call_broken, callee_broken}
 
@@ -389,6 +390,15 @@ module _ (cenv : CompileEnv) (namespace : Namespace) where
   no_memory [] h = h
   no_memory (s ∷ ss) (inl h) = memory_to s.use_made s.around h
   no_memory (s ∷ ss) (inr h) = no_memory ss h
+
+  -- The rule is broken there as it is defined.
+  pub at_breaks : (u : Use) (w : Enclosing) (rule : ScopeError) → At u w rule → BreaksAt cenv namespace rule u w
+  at_breaks u w error.LoopOutside h = loop_to u w h
+  at_breaks u w error.MacroAsValue h = macro_to u w h
+  at_breaks u w error.NotCallable h = called_to u w h
+  at_breaks u w error.BadArguments h = arguments_to u w h
+  at_breaks u w error.TooManySlots h = slots_to u w h
+  at_breaks u w error.NoMemory h = memory_to u w h
 
   abbrev By : (Use → Enclosing → Type 0) → UseSite → Type 0
   By P s = P s.use_made s.around

@@ -21,23 +21,15 @@ use Rattle.jt_uses.specs.Uses.{filter_call_uses, bound, keys_bound, parameters_b
 use Rattle.jt_uses.specs.Uses.{inside_loop, inside_block, inside_macro, inside_callee, escaped}
 use Rattle.jt_uses.specs.declared.site.Place.{Place}
 use Rattle.jt_uses.specs.declared.site.Enclosing.{Enclosing}
-use Rattle.jt_checks.specs.internal.UseRules.{within_view}
+use Rattle.jt_checks.specs.Findings.{rules_use, within_view}
 
--- The use sites of jt_rules that a use is: one, or none for a block and for a template's name.
+abbrev pub sites_made : Option sites.Use → sites.Enclosing → List UseSite
+sites_made None w = []
+sites_made (Some u) w = sites.at w u
+
+-- The use sites of jt_rules that a use is: one, or none for a use without rules.
 abbrev pub site_of : Use → sites.Enclosing → List UseSite
-site_of (uses.reads x) w = sites.at w (sites.reads x)
-site_of (uses.binds x) w = sites.at w (sites.binds x)
-site_of (uses.reads_loop_field k) w = sites.at w (sites.reads_loop_field k)
-site_of (uses.calls f ts ps) w = sites.at w (sites.calls f ts ps)
-site_of (uses.filters x ts ps) w = sites.at w (sites.filters x ts ps)
-site_of (uses.tests x ts ps) w = sites.at w (sites.tests x ts ps)
-site_of (uses.declares_macro x ps body) w = sites.at w (sites.declares x ps)
-site_of (uses.declares_block x scoped required body) w = []
-site_of (uses.includes n ignore_missing with_context) w = []
-site_of (uses.imports n) w = []
-site_of (uses.binds_library n x) w = sites.at w (sites.names_import x)
-site_of (uses.binds_macro n m x) w = sites.at w (sites.names_import x)
-site_of (uses.extends n) w = []
+site_of u w = sites_made (rules_use u) w
 
 abbrev pub of_use : Site → List UseSite
 of_use s = site_of s.made (within_view s.place.around)

@@ -1,21 +1,25 @@
-//! Checks that chains keep the static rules of names and calls.
+//! Checks that chains keep the static rules of names and calls, and finds the first broken rule.
 
 ghost use Rattle.std.specs.Prelude.{◌≡◌, ◌<◌, nat_le, length, IfOk, OnOk, IfErr};
+ghost use Rattle.std.specs.Prelude.{IfSome, IfNone, option_map};
 ghost use Rattle.jt_ast.specs.Texts.{ascending, texts};
 ghost use Rattle.jt_ast.specs.StatementView.{body_view};
 ghost use Rattle.jt_chains.specs.Chain.{templates, libraries, a_library};
+ghost use Rattle.jt_chains.specs.Parts.{name_at};
 ghost use Rattle.jt_chains.specs.View.{chain_view};
 ghost use Rattle.jt_rules.specs.Rules.{KeepsRules, Breaks, libraries_counted};
 ghost use Rattle.jt_rules.specs.Rules.{max_names, names_counted};
+ghost use Rattle.jt_checks.specs.Findings.{Holds};
+ghost use Rattle.jt_checks.specs.FindingView.{finding_view};
 ghost use Rattle.jt_checks.specs.internal.ScopeView.{capped, its_namespace, names_in, own_count};
 ghost use Rattle.jt_checks.specs.internal.ScopeView.{its_sources, in_scope};
 ghost use Rattle.jt_checks.specs.internal.ScopeLookup.{cenv_in, namespace_in};
 ghost use Rattle.jt_checks.specs.internal.UseRules as broken;
 ghost use Rattle.jt_rules.specs.CompileEnv.{cenv_of};
 
-use crate::arguments::refused;
+use crate::finding::{Finding, Subject};
 use crate::scope::Scope;
-use crate::uses::{count_bindings, uses_broken};
+use crate::uses::{binding_line, uses_broken};
 use jt_ast::Stmt;
 use jt_chains::Chain;
 use jt_names::{in_order, library_names, own_names};
@@ -42,56 +46,99 @@ pub fn check_rules(alloc: Global, chain: &Chain) -> Result<(), ScopeError>
     ensures refused { IfErr result
         (λ e. Breaks e (cenv_of (chain_view chain.now)) (chain_view chain.now).order) }
 {
-    if let Some(rule) = chains_broken(alloc, chain)? {
-        return Err(rule);
-    }
-    if has_few_names(alloc, chain)? {
-        Ok(())
-    } else {
-        Err(ScopeError::TooManySlots)
+    match find_broken(alloc, chain)? {
+        Some(finding) => Err(finding.rule),
+        None => Ok(()),
     }
 }
 
-/// Returns the first rule that the templates of the chains break.
-fn chains_broken(alloc: Global, chain: &Chain) -> Result<Option<ScopeError>, AllocError>
-    ensures { IfOk result
-        (λ o. o ≡ broken.chains_broken (cenv_in chain.now) (chain_view chain.now).order) }
+/// Returns a rule that the chains break and where, if they break one: the first broken rule in the
+/// order of the chains, their templates and the source.
+pub fn find_broken(alloc: Global, chain: &Chain) -> Result<Option<Finding<'_>>, AllocError>
+    ensures kept { IfOk result (λ o. IfNone o
+        (KeepsRules (cenv_of (chain_view chain.now)) (chain_view chain.now).order)) }
+    ensures found { IfOk result (λ o. IfSome o
+        (λ f. Breaks f.rule (cenv_of (chain_view chain.now)) (chain_view chain.now).order)) }
+    // The finding is true of the templates.
+    ensures holds { IfOk result (λ o. IfSome o (λ f. Holds (finding_view f)
+        (cenv_of (chain_view chain.now)) (chain_view chain.now).order)) }
+{
+    if let Some(finding) = chains_broken(alloc, chain)? {
+        return Ok(Some(finding));
+    }
+    if has_few_names(alloc, chain)? {
+        return Ok(None);
+    }
+    Ok(Some(Finding {
+        rule: ScopeError::TooManySlots,
+        template: chain.namespaces[0].name.as_str(),
+        line: 1,
+        subject: Subject::Names,
+    }))
+}
+
+/// Returns the first finding in the templates of the chains.
+fn chains_broken(alloc: Global, chain: &Chain) -> Result<Option<Finding<'_>>, AllocError>
+    ensures { IfOk result (λ o. option_map finding_view o
+        ≡ broken.chains_broken (cenv_in chain.now) (chain_view chain.now).order) }
 {
     for namespace in 0..chain.namespaces.len() {
         let scope = Scope::new(alloc, chain, namespace)?;
-        if let Some(rule) = templates_broken(&scope)? {
-            return Ok(Some(rule));
+        if let Some(finding) = templates_broken(&scope)? {
+            return Ok(Some(finding));
         }
     }
     Ok(None)
 }
 
-/// Returns the first rule that the templates of a chain break.
-fn templates_broken(scope: &Scope<'_>) -> Result<Option<ScopeError>, AllocError>
-    ensures { IfOk result (λ o. o ≡ in_scope broken.templates_broken scope.now (templates
+/// Returns the first finding in the templates of a chain.
+fn templates_broken<'a>(scope: &Scope<'a>) -> Result<Option<Finding<'a>>, AllocError>
+    ensures { IfOk result (λ o. option_map finding_view o
+        ≡ in_scope broken.templates_broken scope.now (templates
         (its_sources scope.now) (its_namespace scope.now))) }
 {
     let layers = scope.chain.layers(scope.alloc, scope.namespace)?;
     for layer in layers.iter() {
-        if let Some(rule) = template_broken(scope, layer.body)? {
-            return Ok(Some(rule));
+        let name = template_name(scope.chain, layer.template);
+        if let Some(finding) = template_broken(scope, name, layer.body)? {
+            return Ok(Some(finding));
         }
     }
     Ok(None)
 }
 
-/// Returns the first rule that a template breaks.
-#[tactic(auto, using(crate::proofs::BindingCounts::bindings_counted))]
-fn template_broken(scope: &Scope<'_>, body: &[Stmt]) -> Result<Option<ScopeError>, AllocError>
-    ensures { IfOk result
-        (λ o. o ≡ in_scope broken.template_broken scope.now (body_view body.now)) }
+/// Returns the name of the template at `index`, or an empty name if the index is out of range.
+fn template_name(chain: &Chain, index: usize) -> &str
+    ensures { result.now ≡ name_at (chain_view chain.now).templates index }
+{
+    match chain.templates.get(index) {
+        Some(file) => file.name.as_str(),
+        None => "",
+    }
+}
+
+/// Returns the first finding in a template.
+fn template_broken<'a>(
+    scope: &Scope<'_>,
+    name: &'a str,
+    body: &'a [Stmt],
+) -> Result<Option<Finding<'a>>, AllocError>
+    ensures { IfOk result (λ o. option_map finding_view o ≡ in_scope broken.template_broken
+        scope.now (record { name = name.now; body = body_view body.now })) }
 {
     let uses = uses_of(scope.alloc, body)?;
-    if let Some(rule) = uses_broken(scope, &uses)? {
-        return Ok(Some(rule));
+    if let Some(finding) = uses_broken(scope, name, &uses)? {
+        return Ok(Some(finding));
     }
-    let bindings = count_bindings(&uses);
-    Ok(refused(MAX_BINDINGS < bindings, ScopeError::TooManySlots))
+    let Some(line) = binding_line(&uses, MAX_BINDINGS) else {
+        return Ok(None);
+    };
+    Ok(Some(Finding {
+        rule: ScopeError::TooManySlots,
+        template: name,
+        line,
+        subject: Subject::Bindings,
+    }))
 }
 
 /// Returns whether the chains read or bind at most `MAX_NAMES` names, each counted once for each

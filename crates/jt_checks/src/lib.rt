@@ -1,15 +1,18 @@
 //! Checks the static rules of names and calls.
 //!
-//! `check_rules` (in `checking`) visits the list of the uses of each template (`uses`, `calls`,
-//! `arguments`, `nested_calls`). `scope` holds what can be called. Read first: specs/Rules.antt of
-//! jt_rules, and uses.rt, which follows it.
+//! `find_broken` (in `checking`) visits the list of the uses of each template (`uses`, `calls`,
+//! `arguments`, `nested_calls`), and returns the first broken rule with its place (`finding`);
+//! `check_rules` returns only the rule. `scope` holds what can be called. Read first:
+//! specs/Rules.antt of jt_rules, specs/Findings.antt, and uses.rt, which follows the rules.
 #![tactic(auto)]
 
 mod arguments;
 mod calls;
 mod checking;
+mod finding;
 mod nested_calls;
 mod scope;
 mod uses;
 
-pub use checking::check_rules;
+pub use checking::{check_rules, find_broken};
+pub use finding::{Finding, Subject};

@@ -1,9 +1,9 @@
 //! Checks the static rules of uses and finds the first broken one, in the order of the source.
 
-ghost use Rattle.std.specs.Prelude.{◌≡◌, IfOk};
-ghost use Rattle.std.specs.List.{count_by};
+ghost use Rattle.std.specs.Prelude.{◌≡◌, IfOk, option_map, slice_get};
 ghost use Rattle.jt_ast.specs.ExpressionView.{expr_view};
 ghost use Rattle.jt_ast.specs.StatementView.{parameters_view};
+ghost use Rattle.jt_checks.specs.FindingView.{finding_view};
 ghost use Rattle.jt_checks.specs.internal.RuleTests as rules;
 ghost use Rattle.jt_uses.specs.UseView.{site_view, sites_view};
 ghost use Rattle.jt_checks.specs.internal.ScopeView.{in_scope};
@@ -11,6 +11,7 @@ ghost use Rattle.jt_checks.specs.internal.UseRules as broken;
 
 use crate::arguments::{any_repeated, filter_broken, refused, test_broken, unless};
 use crate::calls::{call_broken, name_of};
+use crate::finding::{Finding, subject_of};
 use crate::scope::Scope;
 use jt_ast::{Expr, Parameter};
 use jt_ids::LoopField;
@@ -120,16 +121,41 @@ fn site_broken(scope: &Scope<'_>, site: &UseSite<'_>) -> Result<Option<ScopeErro
     }
 }
 
-/// Returns the first rule that uses break.
-pub(crate) fn uses_broken(
+/// Returns the finding at a use of a template, if the use breaks a rule.
+fn site_finding<'a>(
     scope: &Scope<'_>,
-    uses: &[UseSite<'_>],
-) -> Result<Option<ScopeError>, AllocError>
-    ensures { IfOk result (λ o. o ≡ in_scope broken.uses_broken scope.now (sites_view uses.now)) }
+    template: &'a str,
+    site: &UseSite<'a>,
+) -> Result<Option<Finding<'a>>, AllocError>
+    ensures { IfOk result (λ o. option_map finding_view o
+        ≡ in_scope broken.site_finding scope.now template.now (site_view site.now)) }
+{
+    let Some(subject) = subject_of(site) else {
+        return Ok(None);
+    };
+    let Some(rule) = site_broken(scope, site)? else {
+        return Ok(None);
+    };
+    Ok(Some(Finding {
+        rule,
+        template,
+        line: site.place.line,
+        subject,
+    }))
+}
+
+/// Returns the first finding at the uses of a template.
+pub(crate) fn uses_broken<'a>(
+    scope: &Scope<'_>,
+    template: &'a str,
+    uses: &[UseSite<'a>],
+) -> Result<Option<Finding<'a>>, AllocError>
+    ensures { IfOk result (λ o. option_map finding_view o
+        ≡ in_scope broken.uses_broken scope.now template.now (sites_view uses.now)) }
 {
     for site in uses {
-        if let Some(rule) = site_broken(scope, site)? {
-            return Ok(Some(rule));
+        if let Some(finding) = site_finding(scope, template, site)? {
+            return Ok(Some(finding));
         }
     }
     Ok(None)
@@ -142,9 +168,18 @@ fn binds_name(site: &UseSite<'_>) -> bool
     matches!(site.made, Use::Binds(_))
 }
 
-/// Returns how many names uses bind, each counted as often as it is written.
-pub(crate) fn count_bindings(uses: &[UseSite<'_>]) -> usize
-    ensures { result ≡ count_by broken.binds_name (sites_view uses.now) }
+/// Returns the line of the binding after the first `count` ones, if there is one.
+pub(crate) fn binding_line(uses: &[UseSite<'_>], count: usize) -> Option<u32>
+    ensures { result ≡ slice_get (broken.lines_bound (sites_view uses.now)) count }
 {
-    uses.iter().filter(|site| binds_name(site)).count()
+    let mut left = count;
+    for site in uses {
+        if binds_name(site) {
+            if left == 0 {
+                return Some(site.place.line);
+            }
+            left -= 1;
+        }
+    }
+    None
 }

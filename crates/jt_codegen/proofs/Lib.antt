@@ -20,3 +20,5 @@ pub mod AscendingSubsets
 pub mod TemplateNamesInOrder
 pub mod MergedUnitsFit
 pub mod PoolSize
+pub mod UnknownNames
+pub mod Findings

@@ -1,2 +1,4 @@
+pub mod Asked
 pub mod Naming
 pub mod Statements
+pub mod UnknownNames

@@ -1,13 +1,18 @@
 //! Compiles templates to images.
 
 ghost use Rattle.std.specs.Prelude.{IfOk, IfErr};
+ghost use Rattle.jt_chains.specs.View.{chain_view};
 ghost use Rattle.jt_inherit.specs.Small.{IsSmall};
+ghost use Rattle.jt_rules.specs.CompileEnv.{cenv_of};
+ghost use Rattle.jt_rules.specs.Rules.{KeepsRules};
 ghost use Rattle.jt_codegen.specs.Compiled.{IsCompiled};
 ghost use Rattle.jt_codegen.specs.Refusals.{Breaks, NamesLimit};
+ghost use Rattle.jt_codegen.specs.internal.Asked.{Asked, IsChainOf, IsOfImage};
 
 use crate::entries::fits_entries;
 use crate::error::CompileError;
 use crate::image::image_of;
+use jt_chains::Chain;
 use jt_image::{Image, MAX_ENTRIES, code_laws};
 use jt_inherit::{Library, chain};
 use jt_lower::low_laws;
@@ -40,11 +45,27 @@ pub fn compile<L: Library>(
     ensures small { IfErr result
         (λ e. NamesLimit e → ¬ (IsSmall (L.sources library.now) entry.now options)) }
 {
+    let chain = chain(alloc, entry, library, options)?;
+    compile_chain(alloc, &chain)
+}
+
+/// Compiles the chain of an entry to an image.
+pub(crate) fn compile_chain(alloc: Global, chain: &Chain) -> Result<Image, CompileError>
+    requires { (asked : Asked) × IsChainOf asked (chain_view chain.now) }
+    ensures compiled { (asked : Asked) → IsChainOf asked (chain_view chain.now) → IfOk result
+        (λ image. IsCompiled asked.given asked.entry asked.options image) }
+    ensures refused { (asked : Asked) → IsChainOf asked (chain_view chain.now) → IfErr result
+        (λ e. Breaks asked.given asked.entry asked.options e) }
+    ensures small { (asked : Asked) → IsChainOf asked (chain_view chain.now) → IfErr result
+        (λ e. NamesLimit e → ¬ (IsSmall asked.given asked.entry asked.options)) }
+    // No rule is reported for a chain that keeps all of them.
+    ensures lawful { KeepsRules (cenv_of (chain_view chain.now)) (chain_view chain.now).order
+        → IfErr result IsOfImage }
+{
     code_laws();
     low_laws();
     program_laws();
-    let chain = chain(alloc, entry, library, options)?;
-    let program = resolve(alloc, &chain)?;
+    let program = resolve(alloc, chain)?;
     if !fits_entries(&program.routines, MAX_ENTRIES) {
         return Err(CompileError::StackTooDeep);
     }

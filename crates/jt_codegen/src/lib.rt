@@ -2,21 +2,27 @@
 //!
 //! `compile` (`compiling`) goes from an entry to an image. Statements and routines are emitted in
 //! `emission`, `targets` and `entries`, tables and places are built in `tables`, `places` and
-//! `image`, and refusals are in `error`. Read first: compiling.rt, and specs/Compiled.antt, which
-//! states the guarantee.
+//! `image`, and refusals are in `error`. `explain` (`explaining`) finds the place of a broken rule
+//! and the names in it (`finding`, `unknown`). Read first: compiling.rt, and specs/Compiled.antt,
+//! which states the guarantee.
 #![tactic(auto)]
 
 mod compiling;
 mod emission;
 mod entries;
 mod error;
+mod explaining;
+mod finding;
 mod image;
 mod places;
 mod tables;
 mod targets;
+mod unknown;
 
 pub use compiling::compile;
 pub use error::CompileError;
+pub use explaining::explain;
+pub use finding::{Explained, Finding, Subject, TagPlace};
 pub use jt_inherit::{ChainError, Library};
 pub use jt_lower::low_laws;
 pub use jt_parse::ParseError;

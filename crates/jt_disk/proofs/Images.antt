@@ -58,6 +58,13 @@ texts_in disk dir sources library name source =
 two_names : codes "compile" ≡ codes "upgrade" → ⊥
 two_names e = let first : 99 ≡ 117 = ap (λ (t : Word). unwrap_or (slice_get t 0) 0) e in omega (arith, first)
 
+-- The command `explain` is none of them.
+not_compile : codes "explain" ≡ codes "compile" → ⊥
+not_compile e = let first : 101 ≡ 99 = ap (λ (t : Word). unwrap_or (slice_get t 0) 0) e in omega (arith, first)
+
+not_upgrade : codes "explain" ≡ codes "upgrade" → ⊥
+not_upgrade e = let first : 101 ≡ 117 = ap (λ (t : Word). unwrap_or (slice_get t 0) 0) e in omega (arith, first)
+
 -- A line of `compile` that succeeds leaves the image.
 image_held : (old new : Disk) (name : Word) (rows : List Row) (k : Command) (o : Options) (b : Budget) (n : ℕ)
     (text : String Global)
@@ -79,6 +86,8 @@ image_held old new name rows (command.Compile dir template out) o b n text is (o
     }
 image_held old new name rows (command.Upgrade image out) o b n text is ends named =
     absurd (two_names (sym named ∙ is.0))
+image_held old new name rows (command.Explain dir template) o b n text is ends named =
+    absurd (not_compile (sym is.0 ∙ named))
 image_held old new name rows k o b n text is ends named = absurd (cc)
 
 -- A line of `upgrade` that succeeds leaves the image in version 2.
@@ -98,6 +107,8 @@ upgrade_held old new name rows (command.Upgrade image out) o b n text is (only, 
     }
 upgrade_held old new name rows (command.Compile dir template out) o b n text is ends named =
     absurd (two_names (sym is.0 ∙ named))
+upgrade_held old new name rows (command.Explain dir template) o b n text is ends named =
+    absurd (not_upgrade (sym is.0 ∙ named))
 upgrade_held old new name rows k o b n text is ends named = absurd (cc)
 
 -- No failure has the status 0.

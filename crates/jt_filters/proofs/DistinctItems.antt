@@ -1,9 +1,13 @@
 -- Items that count once, and the first n items of a list.
-use Rattle.std.proofs.Common.{◌≡◌, ℕ, zero, suc, ◌+◌, ◌-◌, max, true, false, List, Some, None, refl, sym, ap, ◌∙◌}
+use Rattle.std.proofs.Common.{◌≡◌, ℕ, zero, suc, ◌+◌, ◌-◌, max, true, false, List, [], ◌∷◌, ◌++◌, Some, None}
+use Rattle.std.proofs.Common.{refl, sym, ap, ◌∙◌}
 use Rattle.std.proofs.Common.{arith, bytes_eq, rules}
 use Rattle.jt_value.specs.Equality.{equal}
 use Rattle.jt_value.specs.Payload.{text_of, joined_items}
 use Rattle.jt_value.specs.Tree.{Tree, Items, no_items, item, size, nesting, items_size, items_nesting}
+use Rattle.jt_value.specs.View.{view, items_view}
+use Rattle.jt_value.specs.declared.value.Value.{Value}
+use Rattle.jt_filters.proofs.ListAppend.{pushed}
 use Rattle.jt_filters.specs.internal.Operands.{front}
 use Rattle.jt_filter_semantics.specs.Ordering.{alike, fold, has_alike, unseen}
 
@@ -94,6 +98,17 @@ pub values_left : (all : Items) (n : ℕ) (t : Tree) (rest : Items) (before : It
     → joined_items before (unseen (front (n + 1) all) rest) ≡ joined_items before (unseen (front n all) (item t rest))
 values_left all n t rest before e old =
     ap (λ (ts : Items). joined_items before ts) (sym (unseen_left all n t rest e old))
+
+pub values_kept : (all : Items) (n : ℕ) (t : Tree) (rest : Items) (before after : List Value) (v : Value)
+    → joined_items (front n all) (item t rest) ≡ all → has_alike t (front n all) ≡ false
+    → after ≡ before ++ v ∷ [] → view v ≡ t
+    → joined_items (items_view after) (unseen (front (n + 1) all) rest)
+    ≡ joined_items (items_view before) (unseen (front n all) (item t rest))
+values_kept all n t rest before after v e new is same =
+    pushed before after v t (unseen (front (n + 1) all) rest) is same
+    ∙ ap (λ (ts : Items). joined_items (items_view before) ts) (sym (unseen_kept all n t rest e new))
+
+pub ruleset unseen_values = (values_left, values_kept)
 
 pub ruleset item_measures = (left_size, kept_size, left_nesting, kept_nesting)
 

@@ -3,6 +3,8 @@ use Rattle.std.proofs.Common.{◌≡◌, ℕ, ◌+◌, ◌-◌, ◌^◌, min, Bo
 use Rattle.std.proofs.Common.{length, flat_map, Option, Some, None, refl, sym, ap, ◌∙◌, arith, length-append}
 use Rattle.std.proofs.Common.{append_assoc, rules}
 use Rattle.std.proofs.lemmas.List.{append-nil}
+use Rattle.std.proofs.Math.Logic.{∥∥₁_elim}
+use Rattle.std.proofs.Props.{props}
 use Rattle.std.specs.Prelude.{Ok, Err, option_map}
 use Rattle.std.specs.List.{join_by}
 use Rattle.std.specs.Option.{option_and_then}
@@ -16,6 +18,7 @@ use Rattle.jt_escape.specs.Joining as joins
 use Rattle.jt_op_semantics.specs.Testing.{is_markup}
 use Rattle.jt_filter_semantics.specs.Listing.{joined_by}
 use Rattle.jt_filters.specs.internal.Operands.{measured, text_length, text_measure, led_length, on_length}
+use Rattle.jt_filters.specs.internal.Operands.{has_second}
 
 -- The two crates' tests for markup are the same.
 same_markup : (d : Tree) (ts : Items) → joins.is_markup d || has_markup ts ≡ is_markup d || has_markup ts
@@ -28,6 +31,31 @@ piece_is a0 a1 a2 a3 = search (arith, rules)
 
 pub no_piece : (escaping : Bool) (t : Tree) → printed t ≡ None → piece escaping t ≡ None
 no_piece a0 a1 a2 = search (arith, rules)
+
+-- A length that was counted is the length of the text.
+pub counted_length : (o : Option (List ℕ)) (n : ℕ) → ∥ Ok n ≡ text_length o ∥₁ → Ok n ≡ text_length o
+counted_length None n counted = absurd (∥∥₁_elim counted (hlevel) (λ e. cc))
+counted_length (Some s) n counted =
+    let same : n ≡ min (length s) (2 ^ 64 - 1) = ∥∥₁_elim counted (hlevel props) (λ e. cc) in
+    ap (λ (k : ℕ). Ok k) same
+
+-- If a value has no piece, it has no escaped piece, and the other way round.
+no_text : (a b : Bool) (t : Tree) → piece a t ≡ None → piece b t ≡ None
+no_text a0 a1 a2 a3 = search (arith, rules)
+
+fault_by : (o p : Option (List ℕ)) (x : Fault) → (o ≡ None → p ≡ None) → Err x ≡ text_length o → Err x ≡ text_length p
+fault_by None p x none e = e ∙ ap text_length (sym (none refl))
+fault_by (Some s) p x none e = absurd (cc)
+
+length_by : (o p : Option (List ℕ)) (m : ℕ) → (p ≡ None → o ≡ None) → Ok m ≡ text_length o
+    → (k : ℕ) × (Ok k ≡ text_length p)
+length_by o None m none e = absurd (let h : text_length o ≡ text_length None = ap text_length (none refl) in cc)
+length_by o (Some s) m none e = (min (length s) (2 ^ 64 - 1), refl)
+
+-- If the piece of a value has a length, the escaped piece has one too, and the other way round.
+other_length : (a b : Bool) (d : Tree) (m : ℕ) → Ok m ≡ text_length (piece a d)
+    → (k : ℕ) × (Ok k ≡ text_length (piece b d))
+other_length a b d m e = length_by (piece a d) (piece b d) m (no_text b a d) e
 
 grown : (head between p : List ℕ) (n : ℕ) → n ≡ min (length p) (2 ^ 64 - 1)
     → min (min (min (length head) (2 ^ 64 - 1) + min (length between) (2 ^ 64 - 1)) (2 ^ 64 - 1) + n) (2 ^ 64 - 1)
@@ -86,10 +114,15 @@ first_length escaping ts (Some d) (Some p) n m e f =
     joins_first p d None = refl
     joins_first p d (Some ps) = refl
 
-pub joined_length : (escaping : Bool) (t d : Tree) (ts : Items) (n m : ℕ) → Ok m ≡ text_length (piece escaping d)
-    → Ok n ≡ text_length (piece escaping t)
+-- The length of the separator is not used without a second item.
+pub joined_length : (escaping : Bool) (t d : Tree) (ts : Items) (n m : ℕ)
+    → Ok m ≡ text_length (piece (escaping && has_second (item t ts)) d) → Ok n ≡ text_length (piece escaping t)
     → led_length escaping n m ts ≡ text_length (joined_text escaping (item t ts) d)
-joined_length escaping t d ts n m e f = first_length escaping ts (piece escaping d) (piece escaping t) n m e f
+joined_length escaping t d no_items n m e f =
+    let k = other_length (escaping && false) escaping d m e in
+    first_length escaping no_items (piece escaping d) (piece escaping t) n k.0 k.1 f
+joined_length false t d (item u us) n m e f = first_length false (item u us) (piece false d) (piece false t) n m e f
+joined_length true t d (item u us) n m e f = first_length true (item u us) (piece true d) (piece true t) n m e f
 
 -- If the first item has no printed text, the join has none.
 unprintable_by : (escaping : Bool) (ts : Items) (d p : Option (List ℕ)) (m : ℕ) (x : Fault) → Ok m ≡ text_length d
@@ -100,10 +133,12 @@ unprintable_by : (escaping : Bool) (ts : Items) (d p : Option (List ℕ)) (m : �
     ≡ Err x
 unprintable_by a0 a1 a2 a3 a4 a5 a6 a7 = search (arith, rules)
 
-pub unprintable_first : (escaping : Bool) (t d : Tree) (ts : Items) (m : ℕ) (x : Fault)
-    → Ok m ≡ text_length (piece escaping d) → Err x ≡ text_length (piece escaping t)
+pub unprintable_first : (escaping second : Bool) (t d : Tree) (ts : Items) (m : ℕ) (x : Fault)
+    → Ok m ≡ text_length (piece (escaping && second) d) → Err x ≡ text_length (piece escaping t)
     → text_length (joined_text escaping (item t ts) d) ≡ Err x
-unprintable_first escaping t d ts m x e f = unprintable_by escaping ts (piece escaping d) (piece escaping t) m x e f
+unprintable_first escaping second t d ts m x e f =
+    let k = other_length (escaping && second) escaping d m e in
+    unprintable_by escaping ts (piece escaping d) (piece escaping t) k.0 x k.1 f
 
 none_by : (d : Option (List ℕ)) (m : ℕ) → Ok m ≡ text_length d
     → text_length
@@ -112,9 +147,11 @@ none_by : (d : Option (List ℕ)) (m : ℕ) → Ok m ≡ text_length d
 none_by None m e = cc
 none_by (Some d) m e = refl
 
-pub none_joined : (escaping : Bool) (d : Tree) (m : ℕ) → Ok m ≡ text_length (piece escaping d)
+pub none_joined : (escaping second : Bool) (d : Tree) (m : ℕ) → Ok m ≡ text_length (piece (escaping && second) d)
     → text_length (joined_text escaping no_items d) ≡ Ok 0
-none_joined escaping d m e = none_by (piece escaping d) m e
+none_joined escaping second d m e =
+    let k = other_length (escaping && second) escaping d m e in
+    none_by (piece escaping d) k.0 k.1
 
 separator_by : (o : Option (List (List ℕ))) (d : Option (List ℕ)) (x : Fault) → Err x ≡ text_length d
     → text_length (option_and_then (λ (between : List ℕ). option_map (join_by (λ (text : List ℕ). text) between) o) d)
@@ -122,9 +159,11 @@ separator_by : (o : Option (List (List ℕ))) (d : Option (List ℕ)) (x : Fault
 separator_by o None x e = sym e
 separator_by o (Some d) x e = cc
 
-pub unprintable_separator : (escaping : Bool) (d : Tree) (ts : Items) (x : Fault)
-    → Err x ≡ text_length (piece escaping d) → text_length (joined_text escaping ts d) ≡ Err x
-unprintable_separator escaping d ts x e = separator_by (pieces escaping ts) (piece escaping d) x e
+pub unprintable_separator : (escaping second : Bool) (d : Tree) (ts : Items) (x : Fault)
+    → Err x ≡ text_length (piece (escaping && second) d) → text_length (joined_text escaping ts d) ≡ Err x
+unprintable_separator escaping second d ts x e =
+    separator_by (pieces escaping ts) (piece escaping d) x
+    (fault_by (piece (escaping && second) d) (piece escaping d) x (no_text (escaping && second) escaping d) e)
 
 plain_size : (o : Option (List ℕ)) → measured (or_unprintable tree.text o) ≡ text_measure (text_length o)
 plain_size None = refl

@@ -13,6 +13,7 @@ pub mod SeenCodes
 pub mod SeenNumbers
 pub mod ListAppend
 pub mod ListMembers
+pub mod IndexedTexts
 pub mod TextMeasures
 pub mod Measures
 pub mod Numerals

@@ -96,29 +96,6 @@ old_item m ts t c o known is =
     (subst (λ (x : Option Operand). IfSome x (λ y. alike t (tree_of y) ≡ true → has_alike t ts ≡ true)) is
     (known.seen c t))
 
--- The map knows one more item if its code is stored.
-knows_coded : (m : Seen) (ts : Items) (t : Tree) → KnowsCodes m ts → IsSome (found m (item_code t))
-    → KnowsCodes m (joined_items ts (item t no_items))
-knows_coded m ts t known there = record {
-  coded =
-      λ u plain e. either (has_alike u ts) (alike u t) (sym (alike_more u t ts) ∙ e) (λ old. known.coded u plain old)
-      (λ new. subst (λ (c : List ℕ). IsSome (found m c)) (sym (alike_code u t new)) there);
-  seen =
-      λ c u. kept_still (found m c) (λ o. alike u (tree_of o) ≡ true → has_alike u ts ≡ true)
-      (λ o. alike u (tree_of o) ≡ true → has_alike u (joined_items ts (item t no_items)) ≡ true) (known.seen c u)
-      (λ o h e. still_alike u t ts (h e));
-}
-
-some_there : (o : Option Operand) (x : Operand) → o ≡ Some x → IsSome o
-some_there o x e = ap is_some e
-
-pub knows_more : (m : Seen) (all : Items) (n : ℕ) (t : Tree) (rest : Items) (c : List ℕ) (o : Operand)
-    → KnowsCodes m (front n all) → c ≡ item_code t → found m c ≡ Some o → joined_items (front n all) (item t rest) ≡ all
-    → KnowsCodes m (front (n + 1) all)
-knows_more m all n t rest c o known is there whole =
-    subst (λ (ts : Items). KnowsCodes m ts) (sym (front_next all n t rest whole))
-    (knows_coded m (front n all) t known (some_there (found m (item_code t)) o (ap (found m) (sym is) ∙ there)))
-
 -- The map knows one more item once its code is inserted.
 found_put : (m n : Seen) (k : Vec ℕ Global) (o : Operand) (c : List ℕ)
     → n.entries ≡ insert_entry (λ x y. cmp x.items y.items) m.entries k o

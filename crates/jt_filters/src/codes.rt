@@ -15,6 +15,9 @@ use jt_value::{ListItems, NoMemory, NumberRange, Value, ValueList};
 use std::alloc::Global;
 use std::collections::BTreeMap;
 
+/// The bytes that are reserved for the code of an item that is no text.
+const ROOM: usize = 32;
+
 /// Returns the code of an item. A text, plain or markup, has the code of its fold.
 #[tactic(auto, using(crate::proofs::SameCodes::folded_text, crate::proofs::SameCodes::no_text))]
 pub(crate) fn code_of(alloc: Global, item: Operand<'_>) -> Result<Vec<u8>, NoMemory>
@@ -23,7 +26,10 @@ pub(crate) fn code_of(alloc: Global, item: Operand<'_>) -> Result<Vec<u8>, NoMem
     let mut bytes = Vec::new(alloc);
     match item.as_text() {
         Some(text) => push_folded(&mut bytes, text)?,
-        None => push_operand(alloc, &mut bytes, item)?,
+        None => {
+            bytes.reserve(ROOM)?;
+            push_operand(alloc, &mut bytes, item)?;
+        },
     }
     Ok(bytes)
 }

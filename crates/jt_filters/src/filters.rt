@@ -30,7 +30,8 @@ struct Application<'a> {
 }
 
 /// Applies a filter to values, the input first, under limits. `autoescape` decides whether `join`
-/// keeps markup. The result's size and nesting are tested before it is built.
+/// keeps markup. The result's size and nesting are tested before it is built, or just afterwards if
+/// it cannot be much larger than the input.
 ///
 /// # Errors
 ///

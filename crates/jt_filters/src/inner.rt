@@ -1,24 +1,27 @@
 //! Defines the actions on each item: it is kept, dropped, or replaced by its attribute or by a
 //! filter's result.
 ghost use Rattle.std.specs.Prelude.{◌≡◌, ◌+◌, [], ◌∷◌, ◌++◌, map, length, Ok, IfSome, IfErr, OnOk};
-ghost use Rattle.std.specs.Prelude.{option_map};
-ghost use Rattle.jt_value.specs.ListItems.{listed};
+ghost use Rattle.std.specs.Prelude.{option_map, Some};
+ghost use Rattle.jt_value.specs.Payload.{text_of};
+ghost use Rattle.jt_value.specs.Tree as tree;
 ghost use Rattle.jt_value.specs.View.{view, items_view};
 ghost use Rattle.jt_ids.specs.TestTable.{test_values};
 ghost use Rattle.jt_op_semantics.specs.Testing as testing;
 ghost use Rattle.jt_filter_semantics.specs.Mapping.{attribute_or_item, if_kept, in_front, alone};
 ghost use Rattle.jt_filters.specs.internal.Operands.{tree_of, chosen};
 ghost use Rattle.jt_filters.specs.internal.Rows.{judges, Judges, kept, gives, Gives, row_measured};
-ghost use Rattle.jt_filters.specs.internal.Rows.{RowFault, IsSought};
+ghost use Rattle.jt_filters.specs.internal.Rows.{RowFault, IsSought, IsJudged};
 
 use crate::attributes::item_of;
 use crate::building::build;
+use crate::joining::{Separator, join, join_measure};
 use crate::measuring::measure;
 use crate::members::Members;
 use crate::operand::Operand;
 use jt_ids::{FilterId, TestId};
 use jt_ops::{test_of, test_of_text};
-use jt_value::{Fault, ListItems, NoMemory, Value, ValueError};
+use jt_search::TextIndex;
+use jt_value::{Fault, NoMemory, Value, ValueError};
 use std::alloc::Global;
 
 /// The predicate that selects items.
@@ -30,6 +33,8 @@ pub(crate) enum Predicate<'a> {
     Test(TestId, &'a [Value]),
     /// Test `in` with a list.
     Among(&'a Members<'a>),
+    /// Test `in` with a text that has an index.
+    Within(&'a Value, &'a TextIndex<'a>),
 }
 
 /// The rule by which items are kept.
@@ -59,11 +64,13 @@ pub(crate) enum ItemAction<'a> {
     Attribute(&'a str),
     /// The result of a filter on the item.
     Filter(InnerCall<'a>),
+    /// The join of the item's items under autoescaping.
+    Join(Separator<'a>),
 }
 
 impl Predicate<'_> {
     /// Returns whether an operand passes.
-    #[tactic(auto, using(crate::proofs::ListMembers::in_list))]
+    #[tactic(auto, using(crate::proofs::ListMembers::in_list, crate::proofs::IndexedTexts::in_text))]
     fn passes(self, alloc: Global, operand: Operand<'_>) -> Result<bool, Fault>
         requires { Judges self }
         ensures { result ≡ judges self.entry (tree_of operand.entry) }
@@ -72,7 +79,20 @@ impl Predicate<'_> {
             Predicate::Truth => Ok(operand.truth()),
             Predicate::Test(test, arguments) => test_operand(test, operand, arguments),
             Predicate::Among(members) => Ok(members.has(alloc, operand)),
+            Predicate::Within(_, index) => is_within(index, operand),
         }
+    }
+}
+
+/// Returns whether test `in` holds of an operand and the indexed text.
+#[tactic(auto, using(crate::proofs::IndexedTexts::part_in_text, crate::proofs::IndexedTexts::no_part))]
+fn is_within(index: &TextIndex<'_>, operand: Operand<'_>) -> Result<bool, Fault>
+    ensures { result ≡ testing.tested TestId.In
+        (tree_of operand.entry ∷ tree.text index.now ∷ []) }
+{
+    match operand.as_text() {
+        Some(part) => Ok(index.has(part)),
+        None => Err(operand.operand_fault()),
     }
 }
 
@@ -112,13 +132,13 @@ impl<'a> Selection<'a> {
 }
 
 impl<'a> ItemAction<'a> {
-    /// Returns the list in which the action looks up each item by test `in`, if it does.
-    pub(crate) fn sought(self) -> Option<ListItems<'a>>
-        ensures { IfSome result (λ list. IsSought (listed list) self.entry) }
+    /// Returns the container in which the action looks up each item by test `in`, if it does.
+    pub(crate) fn container(self) -> Option<&'a Value>
+        ensures { IfSome result (λ v. IsSought (view v.now) self.entry) }
     {
         match self {
             ItemAction::Keep(selection) => match selection.predicate {
-                Predicate::Test(TestId::In, [Value::List(list)]) => Some(list.items()),
+                Predicate::Test(TestId::In, [container]) => Some(container),
                 _ => None,
             },
             _ => None,
@@ -128,16 +148,50 @@ impl<'a> ItemAction<'a> {
     /// Returns the action that looks up each item in the members of its list.
     pub(crate) fn among(self, members: &'a Members<'a>) -> ItemAction<'a>
         requires gives { Gives self }
-        requires sought { IsSought (items_view members.now.items.now) self }
+        requires sought { IsSought (tree.list (items_view members.now.items.now)) self }
+        ensures same { gives result ≡ gives self.entry }
+        ensures gives { Gives result }
+    {
+        self.with(Predicate::Among(members))
+    }
+
+    /// Returns the action that looks up each item in the index of its text.
+    pub(crate) fn within(self, text: &'a Value, index: &'a TextIndex<'a>) -> ItemAction<'a>
+        requires gives { Gives self }
+        requires sought { IsSought (view text.now) self }
+        requires indexed { text_of (view text.now) ≡ Some index.now }
+        ensures same { gives result ≡ gives self.entry }
+        ensures gives { Gives result }
+    {
+        self.with(Predicate::Within(text, index))
+    }
+
+    /// Returns the action with another predicate that has the same results.
+    fn with(self, predicate: Predicate<'a>) -> ItemAction<'a>
+        requires gives { Gives self }
+        requires judges { Judges predicate }
+        requires sought { IsJudged (judges predicate) self }
         ensures same { gives result ≡ gives self.entry }
         ensures gives { Gives result }
     {
         match self {
             ItemAction::Keep(selection) => ItemAction::Keep(Selection {
-                predicate: Predicate::Among(members),
+                predicate,
                 ..selection
             }),
             _ => self,
+        }
+    }
+
+    /// Returns whether a result of the action may be much larger than its item.
+    pub(crate) fn may_grow(self) -> bool {
+        match self {
+            ItemAction::Keep(_) | ItemAction::Attribute(_) => false,
+            ItemAction::Filter(call) => !matches!(
+                call.filter,
+                FilterId::List | FilterId::Reverse | FilterId::Sort | FilterId::Unique
+            ),
+            ItemAction::Join(_) => true,
         }
     }
 
@@ -157,6 +211,7 @@ impl<'a> ItemAction<'a> {
                 call.arguments,
                 call.autoescape,
             ),
+            ItemAction::Join(separator) => join_measure(item, separator, true),
         }
     }
 
@@ -185,6 +240,7 @@ impl<'a> ItemAction<'a> {
             ItemAction::Filter(call) => {
                 build(alloc, call.filter, item, call.arguments, call.autoescape)?
             },
+            ItemAction::Join(separator) => join(alloc, item, separator.operand, true)?,
         };
         Ok(put(values, value)?)
     }

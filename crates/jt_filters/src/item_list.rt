@@ -5,7 +5,7 @@ ghost use Rattle.jt_value.specs.Iteration.{items_of_tree, character_items};
 ghost use Rattle.jt_value.specs.ListItems.{listed};
 ghost use Rattle.jt_value.specs.Tree as tree;
 ghost use Rattle.jt_op_semantics.specs.ItemOf.{items_count};
-ghost use Rattle.jt_filters.specs.internal.Operands.{tree_of, items_in, HasItems};
+ghost use Rattle.jt_filters.specs.internal.Operands.{tree_of, items_in, has_second, HasItems};
 
 use crate::operand::Operand;
 use jt_ops::character_count;
@@ -31,6 +31,16 @@ impl<'a> ItemList<'a> {
             ItemList::Numbers(numbers) => numbers.len(),
             ItemList::Characters(text) => character_count(text),
             ItemList::Keys(entries) => entries.len(),
+        }
+    }
+
+    /// Returns whether there is a second item.
+    pub(crate) fn has_second(self) -> bool
+        ensures { result ≡ has_second (items_in self.entry) }
+    {
+        match self.split_first() {
+            Some((_, behind)) => behind.split_first().is_some(),
+            None => false,
         }
     }
 

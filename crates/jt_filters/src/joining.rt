@@ -1,5 +1,5 @@
 //! Implements filter `join`: the length of its text, and the text.
-ghost use Rattle.std.specs.Prelude.{◌≡◌, ◌&&◌, ◌||◌};
+ghost use Rattle.std.specs.Prelude.{◌≡◌, ◌&&◌, ◌||◌, true, Ok, IfSome};
 ghost use Rattle.jt_op_semantics.specs.Testing.{is_markup};
 ghost use Rattle.jt_filters.specs.internal.Operands as operands;
 ghost use Rattle.jt_escape.specs.Joining.{IsAnswer, piece, joined_text};
@@ -18,17 +18,59 @@ use jt_ops::Piece;
 use jt_value::{Fault, Value, ValueError};
 use std::alloc::Global;
 
+/// The separator of a join.
+#[derive(Clone, Copy)]
+pub(crate) struct Separator<'a> {
+    pub(crate) operand: Operand<'a>,
+    /// The number of bytes of its escaped text, at most 2^64 - 1, if they were counted.
+    escaped: Option<u64>,
+    ghost counted: { ∥ IfSome escaped (λ n. Ok n ≡ text_length (piece true (tree_of operand))) ∥₁ },
+}
+
+impl<'a> Separator<'a> {
+    /// Returns the separator of one join, which counts the bytes if it needs their number.
+    pub(crate) fn new(operand: Operand<'a>) -> Separator<'a>
+        ensures { result.operand ≡ operand.entry }
+    {
+        Separator {
+            operand,
+            escaped: None,
+        }
+    }
+
+    /// Returns the separator of many joins. Its bytes are counted here, once for all of them.
+    pub(crate) fn counted(operand: Operand<'a>) -> Separator<'a>
+        ensures { result.operand ≡ operand.entry }
+    {
+        Separator {
+            operand,
+            escaped: piece_len(operand, true).ok(),
+        }
+    }
+
+    /// Returns the number of bytes that the separator adds between two items, at most 2^64 - 1.
+    fn len(self, escaping: bool) -> Result<u64, Fault>
+        ensures { result ≡ text_length (piece escaping (tree_of self.entry.operand)) }
+    {
+        match self.escaped {
+            Some(len) if escaping => Ok(len),
+            _ => piece_len(self.operand, escaping),
+        }
+    }
+}
+
 /// Returns the measure of filter `join`.
 #[tactic(auto, using(crate::proofs::JoinLengths::joined_measured))]
 pub(crate) fn join_measure(
     operand: Operand<'_>,
-    separator: Operand<'_>,
+    separator: Separator<'_>,
     autoescape: bool,
 ) -> Result<(u64, u32), Fault>
-    ensures { result ≡ measured (joining autoescape separator.entry operand.entry) }
+    ensures { result ≡ measured (joining autoescape separator.entry.operand operand.entry) }
 {
     let items = items_of(operand)?;
-    text_measure(joined_len(items, separator, escapes(items, separator, autoescape)))
+    let escaping = escapes(items, separator.operand, autoescape);
+    text_measure(joined_len(items, separator, escaping))
 }
 
 /// Returns the measure of a text of this length.
@@ -63,13 +105,13 @@ fn has_markup(items: ItemList<'_>) -> bool
 }
 
 /// Returns the length in bytes of the joined text, at most 2^64 - 1. A fault of the separator comes
-/// before the faults of the items.
+/// before the faults of the items. Its bytes are counted only if there is a second item.
 #[tactic(auto, using(crate::proofs::JoinLengths::joined_lengths))]
-fn joined_len(items: ItemList<'_>, separator: Operand<'_>, escaping: bool) -> Result<u64, Fault>
-    ensures { result
-        ≡ text_length (joined_text escaping (items_in items.entry) (tree_of separator.entry)) }
+fn joined_len(items: ItemList<'_>, separator: Separator<'_>, escaping: bool) -> Result<u64, Fault>
+    ensures { result ≡ text_length
+        (joined_text escaping (items_in items.entry) (tree_of separator.entry.operand)) }
 {
-    let between = piece_len(separator, escaping)?;
+    let between = separator.len(escaping && items.has_second())?;
     match items.split_first() {
         Some((first, behind)) => led_len(piece_len(first, escaping)?, between, behind, escaping),
         None => Ok(0),

@@ -54,7 +54,7 @@ pub(crate) fn values(alloc: Global, items: ItemList<'_>) -> Result<Vec<Value>, N
     ensures { IfOk result (λ v. items_view v.items ≡ items_in items.entry) }
 {
     let mut items = items;
-    let mut values = Vec::new(alloc);
+    let mut values = Vec::with_capacity(alloc, items.len())?;
     while let Some((item, behind)) = items.split_first() {
         values.push(item.value(alloc)?)?;
         items = behind;

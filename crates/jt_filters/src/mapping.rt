@@ -1,28 +1,40 @@
 //! Implements filters that call a filter or a test on each item of their input, or look up its
 //! attribute.
-ghost use Rattle.std.specs.Prelude.{◌≡◌, map, Ok, IfOk, IfErr, IfSome, Some, option_map};
+ghost use Rattle.std.specs.Prelude.{◌≡◌, ◌∷◌, map, Ok, Err, IfOk, IfErr, IfSome, Some, option_map};
 ghost use Rattle.jt_value.specs.Payload.{text_of};
+ghost use Rattle.jt_value.specs.Tree as tree;
 ghost use Rattle.jt_value.specs.View.{view, items_view};
 ghost use Rattle.jt_ops.specs.Limited.{limited_by, Answers};
 ghost use Rattle.jt_filter_semantics.specs.Mapping as the;
 ghost use Rattle.jt_ids.specs.TestTable.{test_of_name};
-ghost use Rattle.jt_filter_semantics.specs.Mapping.{named_by, filter_named, gathered};
+ghost use Rattle.jt_filter_semantics.specs.Mapping.{named_by, filter_named, gathered, alone};
+ghost use Rattle.jt_filter_semantics.specs.Single.{single};
 ghost use Rattle.jt_filter_semantics.specs.Mapping.{as_list};
-ghost use Rattle.jt_filters.specs.internal.Operands.{items_in, measured, Builds};
+ghost use Rattle.jt_filters.specs.internal.Operands.{items_in, measured, Builds, HasPayload};
 ghost use Rattle.jt_filters.specs.internal.Rows.{gives, Gives, row_measured, Changes};
 ghost use Rattle.jt_filters.specs.internal.Rows.{MakesPredicate, RowFault, IsSought};
 
 use crate::inner::{InnerCall, ItemAction, Predicate, Selection};
 use crate::item_list::ItemList;
+use crate::joining::Separator;
 use crate::members::Members;
+use crate::operand::Operand;
 use jt_ids::{FilterId, TestId};
-use jt_ops::{Limits, OpError, allow};
+use jt_ops::{Limits, OpError, allow, within};
+use jt_search::TextIndex;
 use jt_value::{Fault, ListItems, Value, ValueError};
 use std::alloc::Global;
 
 /// The least number of items, and of members of a list, for which the members are found by their
 /// keys. To compare fewer takes less time.
 const MANY: usize = 64;
+
+/// The least number of items for which a text is searched by its index. To make the index takes as
+/// long as some 1,000 searches for short parts, or some 20 of the slowest searches for long ones.
+const MANY_PARTS: usize = 24;
+
+/// The least number of bytes of such a text.
+const LONG: usize = 256;
 
 /// Returns the list of what the action makes of the items, under limits.
 pub(crate) fn row_list_under<'a>(
@@ -35,13 +47,71 @@ pub(crate) fn row_list_under<'a>(
     ensures { Answers result (limited_by limits
         (as_list (gathered (gives change.entry) (items_in items.entry)))) }
 {
-    match change.sought() {
+    match change.container() {
+        Some(container) => row_list_in(alloc, items, change, container, limits),
+        None => limited_row_list(alloc, items, change, limits),
+    }
+}
+
+/// Returns the list of what the action makes of the items, under limits. The action looks up each
+/// item in a container.
+fn row_list_in<'a>(
+    alloc: Global,
+    items: ItemList<'a>,
+    change: ItemAction<'a>,
+    container: &'a Value,
+    limits: Limits,
+) -> Result<Value, OpError>
+    requires gives { Gives change }
+    requires sought { IsSought (view container.now) change }
+    ensures { Answers result (limited_by limits
+        (as_list (gathered (gives change.entry) (items_in items.entry)))) }
+{
+    match container.as_list() {
         Some(ListItems::Values(list)) => row_list_among(alloc, items, change, list, limits),
         Some(ListItems::Numbers(numbers)) => match numbers.values(alloc) {
             Ok(list) => row_list_among(alloc, items, change, &list, limits),
             Err(_) => limited_row_list(alloc, items, change, limits),
         },
+        None => row_list_within(alloc, items, change, container, limits),
+    }
+}
+
+/// Returns the list of what the action makes of the items, under limits. The action looks up each
+/// item in a container that is no list.
+fn row_list_within<'a>(
+    alloc: Global,
+    items: ItemList<'a>,
+    change: ItemAction<'a>,
+    container: &'a Value,
+    limits: Limits,
+) -> Result<Value, OpError>
+    requires gives { Gives change }
+    requires sought { IsSought (view container.now) change }
+    ensures { Answers result (limited_by limits
+        (as_list (gathered (gives change.entry) (items_in items.entry)))) }
+{
+    match index_of(alloc, items, container) {
+        Some(index) => {
+            let change = change.within(container, &index);
+            limited_row_list(alloc, items, change, limits)
+        },
         None => limited_row_list(alloc, items, change, limits),
+    }
+}
+
+/// Returns the index of a text in which each item is looked up. Returns `None` if a search for each
+/// item is faster, if memory is refused, or for any other value.
+fn index_of<'a>(alloc: Global, items: ItemList<'_>, container: &'a Value) -> Option<TextIndex<'a>>
+    ensures { IfSome result (λ i. text_of (view container.now) ≡ Some i) }
+{
+    let text = container.as_text()?;
+    if text.len() < LONG || items.len() < MANY_PARTS {
+        return None;
+    }
+    match TextIndex::new(alloc, text) {
+        Ok(index) => Some(index),
+        Err(_) => None,
     }
 }
 
@@ -55,7 +125,7 @@ fn row_list_among<'a>(
     limits: Limits,
 ) -> Result<Value, OpError>
     requires gives { Gives change }
-    requires sought { IsSought (items_view list.now) change }
+    requires sought { IsSought (tree.list (items_view list.now)) change }
     ensures { Answers result (limited_by limits
         (as_list (gathered (gives change.entry) (items_in items.entry)))) }
 {
@@ -79,10 +149,71 @@ fn members_of<'a>(alloc: Global, items: ItemList<'_>, list: &'a [Value]) -> Opti
     }
 }
 
+/// Returns the list of what the action makes of the items, under limits.
+fn limited_row_list<'a>(
+    alloc: Global,
+    items: ItemList<'a>,
+    change: ItemAction<'a>,
+    limits: Limits,
+) -> Result<Value, OpError>
+    requires { Gives change }
+    ensures { Answers result (limited_by limits
+        (as_list (gathered (gives change.entry) (items_in items.entry)))) }
+{
+    if change.may_grow() {
+        measured_row_list(alloc, items, change, limits)
+    } else {
+        built_row_list(alloc, items, change, limits)
+    }
+}
+
+/// Returns the list of what the action makes of the items, under limits. It is built before it is
+/// measured, which takes half the time.
+fn built_row_list<'a>(
+    alloc: Global,
+    items: ItemList<'a>,
+    change: ItemAction<'a>,
+    limits: Limits,
+) -> Result<Value, OpError>
+    requires { Gives change }
+    ensures { Answers result (limited_by limits
+        (as_list (gathered (gives change.entry) (items_in items.entry)))) }
+{
+    match row_list(alloc, items, change) {
+        Ok(list) => within(list, limits),
+        Err(ValueError::Fault(fault)) => Err(OpError::Fault(fault)),
+        Err(ValueError::NoMemory) => Err(refused_row_list(alloc, items, change, limits)),
+    }
+}
+
+/// Returns the error if memory for the list of the action's results is refused: the limit that the
+/// list exceeds, else `NoMemory`.
+#[tactic(auto, using(crate::proofs::ApplyCorrect::refusals))]
+fn refused_row_list<'a>(
+    alloc: Global,
+    items: ItemList<'a>,
+    change: ItemAction<'a>,
+    limits: Limits,
+) -> OpError
+    requires gives { Gives change }
+    requires payload { HasPayload (as_list (gathered (gives change) (items_in items))) }
+    ensures { Answers (Err result) (limited_by limits
+        (as_list (gathered (gives change.entry) (items_in items.entry)))) }
+{
+    let (size, nesting) = match row_list_measure(alloc, items, change) {
+        Ok(measure) => measure,
+        Err(fault) => return OpError::Fault(fault),
+    };
+    match allow(size, nesting, limits) {
+        Ok(()) => OpError::NoMemory,
+        Err(error) => error,
+    }
+}
+
 /// Returns the list of what the action makes of the items, under limits. It is measured before it
 /// is built.
 #[tactic(auto, using(crate::proofs::ApplyCorrect::refusals))]
-fn limited_row_list<'a>(
+fn measured_row_list<'a>(
     alloc: Global,
     items: ItemList<'a>,
     change: ItemAction<'a>,
@@ -263,13 +394,28 @@ fn called(filter: FilterId, arguments: &[Value], autoescape: bool) -> Result<Ite
     ensures { Changes (the.mapping_by (Some filter) autoescape (map view arguments.now)) result }
 {
     if filter.takes(arguments.len() + 1) {
-        Ok(ItemAction::Filter(InnerCall {
+        Ok(inner_action(filter, arguments, autoescape))
+    } else {
+        Err(Fault::BadArgument)
+    }
+}
+
+/// Returns the action that calls `filter`. The separator of `join` is counted once for all items.
+/// Without autoescaping it needs no count.
+fn inner_action(filter: FilterId, arguments: &[Value], autoescape: bool) -> ItemAction<'_>
+    ensures same { gives result
+        ≡ (λ t. alone (single filter autoescape (t ∷ map view arguments.now))) }
+    ensures gives { Gives result }
+{
+    match (filter, arguments) {
+        (FilterId::Join, [separator]) if autoescape => {
+            ItemAction::Join(Separator::counted(Operand::Value(separator)))
+        },
+        _ => ItemAction::Filter(InnerCall {
             filter,
             autoescape,
             arguments,
-        }))
-    } else {
-        Err(Fault::BadArgument)
+        }),
     }
 }
 

@@ -7,7 +7,7 @@ ghost use Rattle.jt_filters.specs.internal.Operands.{tree_of, inputs, measured};
 ghost use Rattle.jt_filters.specs.internal.Operands as operands;
 
 use crate::attributes::attribute;
-use crate::joining::join_measure;
+use crate::joining::{Separator, join_measure};
 use crate::listing::{dictsort_measure, listed_measure, pairs_of_measure, reversed_measure};
 use crate::operand::Operand;
 use crate::replacing::replace_measure;
@@ -65,7 +65,7 @@ fn measure_one(
         FilterId::ForceEscape => force_escape_measure(operand),
         FilterId::Int => scalar_measure(int(operand, Operand::Number(0))),
         FilterId::Items => pairs_of_measure(operand),
-        FilterId::Join => join_measure(operand, Operand::Text(""), autoescape),
+        FilterId::Join => join_measure(operand, Separator::new(Operand::Text("")), autoescape),
         FilterId::Last => scalar_measure(last(operand)),
         FilterId::Length => scalar_measure(length(operand)),
         FilterId::List => listed_measure(operand),
@@ -102,7 +102,11 @@ fn measure_two(
             false,
         ))),
         FilterId::Int => scalar_measure(int(operand, Operand::Value(argument))),
-        FilterId::Join => join_measure(operand, Operand::Value(argument), autoescape),
+        FilterId::Join => join_measure(
+            operand,
+            Separator::new(Operand::Value(argument)),
+            autoescape,
+        ),
         FilterId::Sort => sort_measure(operand, argument.truth()),
         _ => Err(Fault::BadType),
     }

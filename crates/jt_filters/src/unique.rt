@@ -1,5 +1,6 @@
-//! Implements filter `unique`. Each item is looked up among the earlier ones, numbers by value and
-//! other items by their codes. So a list of n items takes time in proportion to n log n.
+//! Implements filter `unique`. Each item of a short list is compared with the earlier ones. Each
+//! item of a longer list is looked up among them, numbers by value and other items by their codes.
+//! So a list of n items takes time in proportion to n log n.
 ghost use Rattle.std.specs.Prelude.{◌≡◌, ℤ, ◌+◌, ◌-◌, ◌^◌, ◌||◌, min, max, IfOk, OnOk, Ok, Err};
 ghost use Rattle.std.specs.Prelude.{None};
 ghost use Rattle.std.specs.Ordering.{int_eq};
@@ -11,7 +12,7 @@ ghost use Rattle.jt_value.specs.View.{view, items_view};
 ghost use Rattle.jt_escape.specs.Joining.{IsAnswer};
 ghost use Rattle.jt_ops.specs.Limited.{limited_by, Answers};
 ghost use Rattle.jt_filter_semantics.specs.Listing.{on_items};
-ghost use Rattle.jt_filters.specs.internal.Operands.{tree_of, items_in, measured, front};
+ghost use Rattle.jt_filters.specs.internal.Operands.{tree_of, items_in, measured, front, Lists};
 ghost use Rattle.jt_filter_semantics.specs.Ordering.{distinct, unseen};
 ghost use Rattle.jt_filter_semantics.specs.Ordering as ordering;
 ghost use Rattle.jt_filters.specs.internal.Seen.{operand_items, has_number, Knows, KnowsCodes};
@@ -25,6 +26,9 @@ use jt_ops::{Limits, OpError, allow};
 use jt_value::{Fault, NoMemory, Value, ValueError};
 use std::alloc::Global;
 use std::collections::{BTreeMap, BTreeSet};
+
+/// The greatest number of items that are compared with each other. To look them up takes more time.
+const FEW: usize = 16;
 
 /// Applies filter `unique`, under limits. The first items are found once, then measured, and then
 /// the list of them is built.
@@ -72,12 +76,15 @@ fn refused(items: ItemList<'_>, limits: Limits) -> OpError
     }
 }
 
-/// Returns the measure of filter `unique`. If memory is refused each item is compared to all
-/// earlier ones, which allocates nothing.
+/// Returns the measure of filter `unique`. If there are few items, or if memory is refused, each
+/// item is compared to all earlier ones, which allocates nothing.
 pub(crate) fn unique_measure(alloc: Global, operand: Operand<'_>) -> Result<(u64, u32), Fault>
     ensures { result ≡ measured (on_items distinct (tree_of operand.entry)) }
 {
     let items = items_of(operand)?;
+    if items.len() <= FEW {
+        return Ok(unseen_list_measure(items));
+    }
     match first_items(alloc, items) {
         Ok(firsts) => Ok(list_measure(&firsts)),
         Err(_) => Ok(unseen_list_measure(items)),
@@ -158,8 +165,54 @@ fn item_measure(item: Operand<'_>, all: ItemList<'_>, count: usize) -> (u64, u32
 pub(crate) fn unique(alloc: Global, operand: Operand<'_>) -> Result<Value, ValueError>
     ensures { IsAnswer (on_items distinct (tree_of operand.entry)) result }
 {
-    let firsts = first_items(alloc, items_of(operand)?)?;
-    Ok(operand_list(alloc, &firsts)?)
+    let items = items_of(operand)?;
+    Ok(distinct_list(alloc, items)?)
+}
+
+/// Returns the list of the items that are like no earlier one.
+fn distinct_list(alloc: Global, items: ItemList<'_>) -> Result<Value, NoMemory>
+    ensures { Lists (unseen tree.no_items (items_in items.entry)) result }
+{
+    if items.len() <= FEW {
+        return Value::list(alloc, unseen_values(alloc, items)?);
+    }
+    let firsts = first_items(alloc, items)?;
+    operand_list(alloc, &firsts)
+}
+
+/// Returns the values of the items that are like no earlier one. Allocates nothing else.
+fn unseen_values(alloc: Global, all: ItemList<'_>) -> Result<Vec<Value>, NoMemory>
+    ensures { IfOk result (λ v. items_view v.items ≡ unseen tree.no_items (items_in all.entry)) }
+{
+    let total = all.len();
+    let mut left = total;
+    let mut items = all;
+    let mut values = Vec::with_capacity(alloc, total)?;
+    while let Some((item, behind)) = items.split_first() {
+        push_unseen(alloc, &mut values, item, all, total - left)?;
+        left -= 1;
+        items = behind;
+    }
+    Ok(values)
+}
+
+/// Appends the value of an item unless the item is like one of the first `count` items.
+#[tactic(auto, using(crate::proofs::DistinctItems::unseen_values))]
+fn push_unseen(
+    alloc: Global,
+    values: &mut Vec<Value>,
+    item: Operand<'_>,
+    all: ItemList<'_>,
+    count: usize,
+) -> Result<(), NoMemory>
+    ensures { OnOk result (Before count (items_in all.entry) (tree_of item.entry)
+        (λ left behind. joined_items (items_view values.new.items) behind
+        ≡ joined_items (items_view values.old.items) left)) }
+{
+    if !has_alike(item, all, count) {
+        values.push(item.value(alloc)?)?;
+    }
+    Ok(())
 }
 
 /// Returns the list of the operands.
@@ -181,7 +234,7 @@ fn operand_values(alloc: Global, operands: &[Operand<'_>]) -> Result<Vec<Value>,
 }
 
 /// The keys of the items that were seen. `numbers` has each number that an item equals. `codes`
-/// has, for each code of any other item, the first item with the code.
+/// has, for each code of any other item, the last item with the code.
 #[derive(Drop)]
 struct SeenKeys<'a> {
     numbers: BTreeSet<i64>,
@@ -301,11 +354,10 @@ fn was_code_seen<'a>(
         (CodesKnowNext codes.new count (items_in all.entry) (tree_of item.entry)) }
 {
     let code = code_of(alloc, item)?;
-    if let Some(first) = codes.get(code.as_slice()).copied() {
-        return Ok(is_like(item, first, all, count));
+    match codes.insert(code, item)? {
+        Some(other) => Ok(is_like(item, other, all, count)),
+        None => Ok(false),
     }
-    codes.insert(code, item)?;
-    Ok(false)
 }
 
 /// Returns whether an item is like another one, or like one of the first `count` items. Items with

@@ -1,5 +1,5 @@
 -- The results of the calls over bytes.
-use Rattle.std.specs.Prelude.{◌≡◌, ◌≢◌, ◌⊎◌, ℕ, List, length, Result, Ok, Err, String, Vec}
+use Rattle.std.specs.Prelude.{◌≡◌, ◌≢◌, ◌⊎◌, ℕ, List, length, Result, Ok, Err, String, string_bytes, Vec}
 use Rattle.std.specs.declared.alloc.Global.{Global}
 use Rattle.std.specs.Str.{IsUtf8}
 use Rattle.jt_scan.specs.declared.Options.{Options}
@@ -9,6 +9,8 @@ use Rattle.jt_value.specs.declared.Context.{Context}
 use Rattle.jt_inherit.specs.Chains.{SourceTexts}
 use Rattle.jt_ast.specs.Expressions.{Text}
 use Rattle.jt_codegen.specs.Compiled.{IsCompiled}
+use Rattle.jt_codegen.specs.Explaining.{IsExplained}
+use Rattle.jt_codegen.specs.declared.Explained.{Explained}
 use Rattle.jt_image.specs.Code.{Code}
 use Rattle.jt_image.specs.Spelling.{spelling}
 use Rattle.jt_image.specs.IsCode.{total_len}
@@ -20,6 +22,7 @@ use Rattle.jt_image.specs.declared.ImageError.{ImageError}
 use Rattle.jt_image.specs.declared.ImageError.TheVariants as image_error
 use Rattle.jt_budget.specs.declared.Budget.{Budget}
 use Rattle.jt_contexts.specs.Json.{IsContext, Holds}
+use Rattle.jt_host.specs.Explanations.{told}
 use Rattle.jt_host.specs.Rendering.{IsRefused as IsUncompiled, IsRendered}
 use Rattle.jt_contexts.specs.declared.ContextError.TheVariants as context_error
 use Rattle.jt_verify.specs.Refusing.{RefusalHolds}
@@ -155,3 +158,13 @@ module _ (sources : SourceTexts) (entry : Text) (options : Options) where
       IsUncompiled sources entry options refusal
   RendersTo context b (Err error.NoMemory) = Unit {0}
   RendersTo context b (Err other) = ⊥
+
+  -- The text prints what holds of the entry.
+  abbrev pub IsTold : Text → Type 0
+  IsTold text = (x : Explained) × IsExplained sources entry options x × (text ≡ told sources options x)
+
+  -- The result is the text of an explanation; it exists unless memory is refused.
+  abbrev pub ExplainsTo : Result (String Global) CallError → Type 0
+  ExplainsTo (Ok text) = IsTold (string_bytes text)
+  ExplainsTo (Err error.NoMemory) = Unit {0}
+  ExplainsTo (Err other) = ⊥

@@ -1,11 +1,15 @@
 pub mod CallErrors
 pub mod Calls
+pub mod Explanations
 pub mod Reasons
 pub mod Rendering
+pub mod SourceLines
 pub mod Templates
 -- The modules that the clauses of the exported calls cite, and that an embedder's own clauses may
 -- need.
+pub use Rattle.jt_checks.specs.Findings
 pub use Rattle.jt_codegen.specs.Compiled
+pub use Rattle.jt_codegen.specs.Explaining
 pub use Rattle.jt_codegen.specs.Refusals
 pub use Rattle.jt_contexts.specs.Json
 pub use Rattle.jt_image.specs.Code

@@ -121,22 +121,27 @@ scope_text scope_error.BadArguments = codes "V4 BadArguments"
 scope_text scope_error.TooManySlots = codes "V5 TooManySlots"
 scope_text scope_error.NoMemory = codes "V6 NoMemory"
 
+abbrev pub chain_name : ChainError → Text
+chain_name chain_error.Missing = codes "C1 Missing"
+chain_name chain_error.BadName = codes "C2 BadName"
+chain_name chain_error.ExtendsCycle = codes "C3 ExtendsCycle"
+chain_name chain_error.ChainTooLong = codes "C4 ChainTooLong"
+chain_name chain_error.DoubleBlock = codes "C5 DoubleBlock"
+chain_name chain_error.RequiredNotGiven = codes "C6 RequiredNotGiven"
+chain_name chain_error.NoSuper = codes "C7 NoSuper"
+chain_name chain_error.IncludeCycle = codes "C8 IncludeCycle"
+chain_name chain_error.MacroTwice = codes "C9 MacroTwice"
+chain_name chain_error.NoMemory = codes "C10 NoMemory"
+chain_name chain_error.NoMacro = codes "C11 NoMacro"
+chain_name chain_error.NotALibrary = codes "C12 NotALibrary"
+chain_name (chain_error.Scan template e) = scan_name e
+chain_name (chain_error.Parse template e) = parse_name e
+
 abbrev pub chain_text : ChainError → Text
-chain_text chain_error.Missing = codes "C1 Missing"
-chain_text chain_error.BadName = codes "C2 BadName"
-chain_text chain_error.ExtendsCycle = codes "C3 ExtendsCycle"
-chain_text chain_error.ChainTooLong = codes "C4 ChainTooLong"
-chain_text chain_error.DoubleBlock = codes "C5 DoubleBlock"
-chain_text chain_error.RequiredNotGiven = codes "C6 RequiredNotGiven"
-chain_text chain_error.NoSuper = codes "C7 NoSuper"
-chain_text chain_error.IncludeCycle = codes "C8 IncludeCycle"
-chain_text chain_error.MacroTwice = codes "C9 MacroTwice"
-chain_text chain_error.NoMemory = codes "C10 NoMemory"
-chain_text chain_error.NoMacro = codes "C11 NoMacro"
-chain_text chain_error.NotALibrary = codes "C12 NotALibrary"
 chain_text (chain_error.Scan template e) = placed (scan_name e) (string_bytes template) (scan_line e)
 chain_text (chain_error.Parse template e) =
     placed (parse_name e) (string_bytes template) (parse_line e)
+chain_text e = chain_name e
 
 abbrev pub compile_text : CompileError → Text
 compile_text (compile_error.Chain e) = chain_text e

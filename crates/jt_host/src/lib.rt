@@ -26,8 +26,10 @@
 mod call_error;
 mod calls;
 mod error;
+mod explaining;
 mod reasons;
 mod rendering;
+mod source_lines;
 mod templates;
 
 pub use call_error::CallError;
@@ -36,8 +38,9 @@ pub use calls::{
     verified_image, verified_template,
 };
 pub use error::RenderError;
+pub use explaining::explained;
 pub use jt_budget::{Budget, Spent};
-pub use jt_codegen::{CompileError, compile};
+pub use jt_codegen::{CompileError, Explained, Finding, Subject, TagPlace, compile, explain};
 pub use jt_contexts::{ContextError, context_from_json};
 pub use jt_image::{Code, Image, ImageError, View, decode, encode, upgrade, view};
 pub use jt_inherit::Library;

@@ -2,7 +2,8 @@
 
 ghost use Rattle.std.specs.Prelude.{◌≡◌, Some};
 ghost use Rattle.std.specs.Fmt.{DisplaysOnOk};
-ghost use Rattle.jt_host.specs.Reasons.{chain_text, code_text, compile_text, context_text};
+ghost use Rattle.jt_host.specs.Reasons.{chain_name, chain_text, code_text, compile_text};
+ghost use Rattle.jt_host.specs.Reasons.{context_text};
 ghost use Rattle.jt_host.specs.Reasons.{error_text, flaw_name, image_text, parse_line};
 ghost use Rattle.jt_host.specs.Reasons.{parse_name, placed, scan_line, scan_name, scope_text};
 ghost use Rattle.jt_host.specs.Reasons.{spent_name};
@@ -66,18 +67,6 @@ fn write_chain<W: fmt::Write>(refusal: &ChainError, f: &mut fmt::Formatter<W>) -
     ensures { DisplaysOnOk W.write_str_gives f.old result (Some (chain_text refusal.now)) f.new }
 {
     match refusal {
-        ChainError::Missing => f.write_str("C1 Missing"),
-        ChainError::BadName => f.write_str("C2 BadName"),
-        ChainError::ExtendsCycle => f.write_str("C3 ExtendsCycle"),
-        ChainError::ChainTooLong => f.write_str("C4 ChainTooLong"),
-        ChainError::DoubleBlock => f.write_str("C5 DoubleBlock"),
-        ChainError::RequiredNotGiven => f.write_str("C6 RequiredNotGiven"),
-        ChainError::NoSuper => f.write_str("C7 NoSuper"),
-        ChainError::IncludeCycle => f.write_str("C8 IncludeCycle"),
-        ChainError::MacroTwice => f.write_str("C9 MacroTwice"),
-        ChainError::NoMemory => f.write_str("C10 NoMemory"),
-        ChainError::NoMacro => f.write_str("C11 NoMacro"),
-        ChainError::NotALibrary => f.write_str("C12 NotALibrary"),
         ChainError::Scan(template, refusal) => {
             write_placed(name_of_scan(*refusal), template, line_of_scan(*refusal), f)
         }
@@ -89,6 +78,29 @@ fn write_chain<W: fmt::Write>(refusal: &ChainError, f: &mut fmt::Formatter<W>) -
                 f,
             )
         }
+        other => f.write_str(name_of_chain(other)),
+    }
+}
+
+/// Returns the code and the name of a refusal of a chain.
+pub(crate) fn name_of_chain(refusal: &ChainError) -> &'static str
+    ensures { result.now ≡ chain_name refusal.now }
+{
+    match refusal {
+        ChainError::Missing => "C1 Missing",
+        ChainError::BadName => "C2 BadName",
+        ChainError::ExtendsCycle => "C3 ExtendsCycle",
+        ChainError::ChainTooLong => "C4 ChainTooLong",
+        ChainError::DoubleBlock => "C5 DoubleBlock",
+        ChainError::RequiredNotGiven => "C6 RequiredNotGiven",
+        ChainError::NoSuper => "C7 NoSuper",
+        ChainError::IncludeCycle => "C8 IncludeCycle",
+        ChainError::MacroTwice => "C9 MacroTwice",
+        ChainError::NoMemory => "C10 NoMemory",
+        ChainError::NoMacro => "C11 NoMacro",
+        ChainError::NotALibrary => "C12 NotALibrary",
+        ChainError::Scan(_, refusal) => name_of_scan(*refusal),
+        ChainError::Parse(_, refusal) => name_of_parse(*refusal),
     }
 }
 
@@ -153,7 +165,7 @@ fn text_of_context(refusal: ContextError) -> &'static str
 }
 
 /// Returns the text of a broken rule of names and calls.
-fn text_of_scope(refusal: ScopeError) -> &'static str
+pub(crate) fn text_of_scope(refusal: ScopeError) -> &'static str
     ensures { result.now ≡ scope_text refusal }
 {
     match refusal {

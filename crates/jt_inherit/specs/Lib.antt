@@ -1,5 +1,6 @@
 pub mod Chains
 pub mod Laws
+pub mod Lines
 pub mod Refusals
 pub mod Refused
 pub mod Small

@@ -4,7 +4,6 @@ pub mod ExtendsPaths
 pub mod Faults
 pub mod Found
 pub mod Given
-pub mod Lines
 pub mod Numbers
 pub mod RuleTests
 pub mod SetView

@@ -1,7 +1,7 @@
 //! Defines the error of `chain`.
 
-ghost use Rattle.std.specs.Prelude.{◌≡◌};
-ghost use Rattle.jt_inherit.specs.internal.Lines as lines;
+ghost use Rattle.std.specs.Prelude.{◌≡◌, option_map};
+ghost use Rattle.jt_inherit.specs.Lines as lines;
 
 use jt_graph::OrderError;
 use jt_parse::ParseError;
@@ -84,6 +84,20 @@ fn parse_line(refusal: &ParseError) -> u32
         ParseError::UnknownFilter { line } => *line,
         ParseError::UnknownTest { line } => *line,
         ParseError::NoMemory => 1,
+    }
+}
+
+impl ChainError {
+    /// Returns the name of the template that cannot be cut or spells no tree, and the line of the
+    /// fault. Returns `None` for every other error.
+    pub fn place(&self) -> Option<(&str, u32)>
+        ensures { option_map (λ p. (p.0.now, p.1)) result ≡ lines.place self.now }
+    {
+        match self {
+            ChainError::Scan(name, refusal) => Some((name.as_str(), scan_line(refusal))),
+            ChainError::Parse(name, refusal) => Some((name.as_str(), parse_line(refusal))),
+            _ => None,
+        }
     }
 }
 

@@ -74,6 +74,13 @@ pub answer_spelled : (ps : List SourcePiece) (r : Result Template ParseError) �
 answer_spelled ps (Ok t) g = let h = exact 100 (body_of t) ps g.0 in ((h.0, g.1), h.1)
 answer_spelled ps (Err x) g = tt
 
+-- The statements that are read, at allowed positions, are spelled by the pieces.
+pub placed_spelled : (ps : List SourcePiece) (b : Body) (t : Template) → body_of t ≡ b → Parsed 100 ps (Ok b)
+    → is_placed b ≡ true → Spelled (body_of t) ps × (body_levels (body_of t) ≤ 100)
+placed_spelled ps b t e is p =
+    let h = exact 100 b ps is in
+    subst (λ z. Spelled z ps × (body_levels z ≤ 100)) (sym e) ((h.0, p), h.1)
+
 pub answer_known : (ps : List SourcePiece) (r : Result Template ParseError) → GivesKnown (Parsed 100 ps) r
     → IfOk r (λ t. body_unknown (body_of t) ≡ None)
 answer_known ps (Ok t) g = g.2

@@ -22,7 +22,7 @@ pub use jt_ast::{
     BinaryOperator, Branch, Expr, FilterCall, IncludeContext, Literal, Missing, Parameter,
     Polarity, Stmt, Template, UnaryOperator,
 };
-pub use parser::parse;
+pub use parser::{parse, parse_unchecked};
 
 /// The parser of the tokens of one expression, of jt_expr.
 pub mod expressions {

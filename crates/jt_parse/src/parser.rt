@@ -383,3 +383,19 @@ pub fn parse(alloc: Global, segments: &[Segment<'_>]) -> Result<Template, ParseE
     expression_laws();
     read_known(alloc, segments)
 }
+
+/// Parses the segments of a template as `parse` does, but accepts unknown filters and tests.
+///
+/// # Errors
+///
+/// - `Syntax` or `TooDeep` as for `parse`.
+/// - `NoMemory` if a growth is refused.
+pub fn parse_unchecked(alloc: Global, segments: &[Segment<'_>]) -> Result<Template, ParseError>
+    ensures { IfOk result (λ template.
+        Spelled (body_of template) (pieces_of segments.now)
+        × (body_levels (body_of template) ≤ max_levels)) }
+{
+    let statements = read(alloc, segments)?;
+    check_positions(&statements)?;
+    Ok(Template::new(statements))
+}

@@ -30,8 +30,8 @@ use Rattle.jt_turns.specs.Openings.{all_under}
 use Rattle.jt_turns.specs.Outcomes.{AreOutcomes}
 use Rattle.jt_turns.specs.SessionStates.{Stands}
 use Rattle.jt_turns.specs.declared.Start.{Start}
-use Rattle.jt_host.specs.Calls.{ComesTo, IsCounted, IsImage, IsImageOf, IsNoContext, IsNoImage, IsNoUpgrade, IsUpgraded}
-use Rattle.jt_host.specs.Calls.{RendersTo}
+use Rattle.jt_host.specs.Calls.{ComesTo, ExplainsTo, IsCounted, IsImage, IsImageOf, IsNoContext, IsNoImage}
+use Rattle.jt_host.specs.Calls.{IsNoUpgrade, IsUpgraded, RendersTo}
 use Rattle.jt_host.specs.declared.CallError.{CallError}
 use Rattle.jt_host.specs.declared.CallError.TheVariants as call_error
 use Rattle.jt_program.specs.declared.messages.Failure.{Failure}
@@ -166,6 +166,13 @@ module _ (files : Known) where
     pub given : IsContextAt files context pairs
     pub comes : EndsAs (RendersTo sources name options pairs b) e
 
+  -- The template of a name, from the files of a directory, is explained to a person: whether it
+  -- compiles, and otherwise why not.
+  pub record Diagnoses (dir name : Text) (options : Options) (e : Ending) : Type 0 where
+    pub sources : SourceTexts
+    pub library : IsLibrary files dir sources
+    pub explained : EndsAs (ExplainsTo sources name options) e
+
 module _ (files : Known) where
   -- The code of the image of a pair, and the context of its other file.
   pub record IsStart (p : Pair) (s : Start) : Type 0 where
@@ -249,6 +256,9 @@ module _ (files after : Known) where
   CommandEnds (command.Compile dir name out) o b e = ChangesOnly (string_bytes out)
       × (IsUnread files (IsOfDirectory files (string_bytes dir)) None e
       ⊎ Compiles (string_bytes dir) (string_bytes name) (string_bytes out) o e)
+  CommandEnds (command.Explain dir name) o b e =
+      IsUnread files (IsOfDirectory files (string_bytes dir)) None e
+      ⊎ Diagnoses files (string_bytes dir) (string_bytes name) o e
   CommandEnds (command.Check image) o b e =
       IsUnread files (IsPath (string_bytes image)) None e ⊎ Checks files (string_bytes image) e
   CommandEnds (command.Show image) o b e =

@@ -7,10 +7,11 @@ ghost use Rattle.clap.specs.Walk.{texts};
 ghost use Rattle.clap.specs.Words.{subcommand_of};
 ghost use Rattle.jt_value.specs.ContextView.{pairs_of};
 ghost use Rattle.jt_args.specs.Line.{Takes, Asks, program_app};
-ghost use Rattle.jt_program.specs.Commands.{Answers, ChangesOnly, Checks, Compiles, Ending};
-ghost use Rattle.jt_program.specs.Commands.{HasImage, HasUpgrade, IsContextAt, IsOfContext, IsPath};
-ghost use Rattle.jt_program.specs.Commands.{IsUnread, IsWriting, JobEnds, LineEnds, LineWrites};
-ghost use Rattle.jt_program.specs.Commands.{Renders, Runs, Shows, Upgrades, WritesImage, out_of};
+ghost use Rattle.jt_program.specs.Commands.{Answers, ChangesOnly, Checks, Compiles, Diagnoses};
+ghost use Rattle.jt_program.specs.Commands.{Ending, HasImage, HasUpgrade, IsContextAt, IsOfContext};
+ghost use Rattle.jt_program.specs.Commands.{IsPath, IsUnread, IsWriting, JobEnds, LineEnds};
+ghost use Rattle.jt_program.specs.Commands.{LineWrites, Renders, Runs, Shows, Upgrades};
+ghost use Rattle.jt_program.specs.Commands.{WritesImage, out_of};
 ghost use Rattle.jt_program.specs.Ending.{IfUntaken, status_of};
 ghost use Rattle.jt_program.specs.Files.{AreSources, IsLibrary, IsOfDirectory, path_in};
 ghost use Rattle.jt_program.specs.Reports.{Explains, Prints, TookUnlessFailed, memory_line};
@@ -23,7 +24,8 @@ use crate::turns::run_turns;
 use jt_args::{Command, Job, job};
 use jt_budget::Budget;
 use jt_host::{
-    EntryTemplate, Templates, context_of, counts_of, image_of, render_text, run_image, upgraded,
+    EntryTemplate, Templates, context_of, counts_of, explained, image_of, render_text, run_image,
+    upgraded,
 };
 use jt_machine::{Sink, put_all};
 use jt_scan::Options;
@@ -156,6 +158,10 @@ fn perform_job<F: Files>(alloc: Global, job: Job, files: &mut F) -> Result<Strin
             let entry = EntryFile { dir, name, options };
             compile_to(alloc, files, entry, out)
         }
+        Command::Explain { dir, name } => {
+            let entry = EntryFile { dir, name, options };
+            explain_in(alloc, files, entry)
+        }
         Command::Check { image } => check_at(alloc, files, image),
         Command::Show { image } => show_at(alloc, files, image),
         Command::Run { image, context } => run_at(alloc, files, image, context, budget),
@@ -208,6 +214,24 @@ fn compile_to<F: Files>(
     let bytes = image_of(alloc, &entry)?;
     write_at(files, out, &bytes)?;
     Ok(String::new(alloc))
+}
+
+/// Returns the text that states for a person whether the entry compiles, and otherwise why not.
+fn explain_in<F: Files>(alloc: Global, files: &mut F, entry: EntryFile) -> Result<String, Failure>
+    ensures ends { IsUnread (F.known (F.contents files.old))
+        (IsOfDirectory (F.known (F.contents files.old)) (string_bytes entry.dir)) None result
+        ⊎ Diagnoses (F.known (F.contents files.old)) (string_bytes entry.dir)
+        (string_bytes entry.name) entry.options result }
+    ensures kept { F.contents files.new ≡ F.contents files.old }
+{
+    let EntryFile { dir, name, options } = entry;
+    let templates = templates_in(alloc, files, dir)?;
+    let entry = EntryTemplate {
+        name: name.as_str(),
+        templates: &templates,
+        options,
+    };
+    Ok(explained(alloc, &entry)?)
 }
 
 /// Writes the image at a path in version 2 to the file at `out`. Returns an empty text.

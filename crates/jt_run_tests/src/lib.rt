@@ -3,6 +3,8 @@
 #![tactic(auto)]
 
 #[cfg(test)]
+mod findings;
+#[cfg(test)]
 mod parts;
 #[cfg(test)]
 mod pieces;

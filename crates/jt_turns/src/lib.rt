@@ -10,5 +10,5 @@ mod shown;
 mod turns;
 
 pub use lines::limit_text;
-pub use shown::hex_digits;
+pub use shown::{hex_digits, shown_text};
 pub use turns::{Sessions, Start};

@@ -15,7 +15,7 @@ pub(crate) fn line_of(alloc: Global, text: &str) -> Result<String, AllocError>
 }
 
 /// Returns a text with each control character shown as `\x` and two hexadecimal digits.
-fn shown_text(alloc: Global, text: &str) -> Result<String, AllocError>
+pub fn shown_text(alloc: Global, text: &str) -> Result<String, AllocError>
     ensures { IfOk result (λ made. string_bytes made ≡ shown text.now) }
 {
     let mut made = String::new(alloc);

@@ -25,6 +25,7 @@ use Rattle.jt_ir.specs.declared.program.SlotStmt.{SlotStmt}
 use Rattle.jt_semantics.specs.Resolve as resolve
 use Rattle.jt_semantics.specs.Resolve.{followed}
 use Rattle.jt_bind.specs.internal.Chains.{Chains}
+use Rattle.jt_bind.specs.declared.emission.LoopHead.{LoopHead}
 use Rattle.jt_bind.specs.declared.emission.Turns.{Turns}
 use Rattle.jt_bind.specs.declared.senv.StaticEnv.{StaticEnv}
 use Rattle.jt_bind.specs.internal.Scoped.{values, IsPlaced, BodyLeads, cenv_in, order_in, namespace_in, senv_in}
@@ -47,6 +48,14 @@ pub record IsAsked (k : Option (slots.SlotExpr Constant)) (condition : Option Sl
     0 where
   pub shown : option_map expr_view condition ≡ placed_condition k (length old)
   pub pooled : new ≡ old ++ condition_values k
+
+-- The head of a loop: targets, items and condition.
+pub record IsHead (xs : slots.Targets) (c : slots.SlotExpr Constant) (k : Option (slots.SlotExpr Constant))
+    (h : LoopHead) (old new : List Tree) : Type 0 where
+  pub given : List Tree
+  pub takes : targets_view h.targets ≡ xs
+  pub goes_over : IsPlaced c (expr_view h.items) old given
+  pub asked : IsAsked k h.condition given new
 
 -- A function that puts a body before other statements, from one pool index to another.
 pub record StandsFor (whole left : SBody Constant) (f : Front) (old new : ℕ) : Type 0 where
@@ -133,9 +142,6 @@ module _ (s : Chains) where
   -- The parts of a loop: targets, items, condition and body.
   pub record AreTurns (xs : slots.Targets) (c : slots.SlotExpr Constant) (k : Option (slots.SlotExpr Constant))
       (whole : SBody Constant) (t : Turns) (old new : List Tree) : Type 0 where
-    pub given : List Tree
     pub between : List Tree
-    pub takes : targets_view t.targets ≡ xs
-    pub goes_over : IsPlaced c (expr_view t.items) old given
-    pub asked : IsAsked k t.condition given between
+    pub headed : IsHead xs c k t.head.value old between
     pub taken : IsBody (templates_in s) whole t.body.items between new

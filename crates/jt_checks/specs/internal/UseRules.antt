@@ -1,10 +1,10 @@
--- The rule that a use breaks, and the first rule that the uses of templates break. Only private
--- clauses cite this module.
-use Rattle.std.specs.Prelude.{nat_lt, Bool, true, false, not, ◌&&◌, List, [], ◌∷◌, Option, None}
+-- The rule that a use breaks, and the first finding in templates. Only private clauses cite this
+-- module.
+use Rattle.std.specs.Prelude.{ℕ, not, ◌&&◌, List, [], ◌∷◌, Option, Some, None, option_map, slice_get}
 use Rattle.std.specs.Option.{option_or, is_some}
 use Rattle.jt_ids.specs.LoopTable.{field_named}
 use Rattle.jt_ast.specs.Expressions.{Text}
-use Rattle.jt_ast.specs.Statements.{Body, body_bound}
+use Rattle.jt_ast.specs.Statements.{Body}
 use Rattle.jt_chains.specs.Chain.{Namespace, Template, templates, given, callee}
 use Rattle.jt_eval.specs.Tests.{test_named}
 use Rattle.jt_uses.specs.Uses.{Use, reads, binds, reads_loop_field, calls, filters, tests, declares_macro}
@@ -12,25 +12,28 @@ use Rattle.jt_uses.specs.Uses.{binds_library, binds_macro, Site, body_uses, outs
 use Rattle.jt_uses.specs.declared.site.Enclosing.{Enclosing}
 use Rattle.jt_rules.specs.CompileEnv.{CompileEnv}
 use Rattle.jt_rules.specs.Rules.{max_bindings}
+use Rattle.jt_checks.specs.Findings.{Finding, Subject, the_bindings, subject_of}
+pub use Rattle.jt_checks.specs.Findings.{within_view, binds_name, lines_bound}
 use Rattle.jt_checks.specs.internal.RuleTests as rules
 use Rattle.jt_rules.specs.declared.error.ScopeError.{ScopeError}
 use Rattle.jt_rules.specs.declared.error.ScopeError.TheVariants as error
-
--- The context of a use, as the rules see it.
-abbrev pub within_view : Enclosing → rules.Enclosing
-within_view w = record { in_loop = w.in_loop; in_block = w.in_block }
 
 -- The rule that a read of a field of `loop` breaks.
 abbrev pub field_broken : Text → Enclosing → Option ScopeError
 field_broken k w = rules.refused (not (w.in_loop && is_some (field_named k))) error.LoopOutside
 
-abbrev pub is_binding : Use → Bool
-is_binding (binds x) = true
-is_binding u = false
+-- The finding of a broken rule, if there is one, in the template of this name.
+abbrev pub finding_of : Text → ℕ → Option Subject → Option ScopeError → Option Finding
+finding_of n l (Some x) (Some r) = Some (record { rule = r; template = n; line = l; subject = x })
+finding_of n l x r = None
 
--- True if the use binds a name that counts as a binding of its template.
-abbrev pub binds_name : Site → Bool
-binds_name s = is_binding s.made
+-- The line of the first name beyond the limit that a template binds.
+abbrev pub line_over : Body → Option ℕ
+line_over b = slice_get (lines_bound (body_uses b outside)) max_bindings
+
+-- The finding of a template that binds too many names.
+abbrev pub finding_over : Text → ℕ → Finding
+finding_over n l = record { rule = error.TooManySlots; template = n; line = l; subject = the_bindings }
 
 module _ (cenv : CompileEnv) (namespace : Namespace) where
   -- The rule that a use breaks.
@@ -51,22 +54,25 @@ module _ (cenv : CompileEnv) (namespace : Namespace) where
   abbrev pub site_broken : Site → Option ScopeError
   site_broken s = use_broken s.made s.place.around
 
-  -- The first rule that uses break.
-  abbrev pub uses_broken : List Site → Option ScopeError
-  uses_broken [] = None
-  uses_broken (s ∷ ss) = option_or (site_broken s) (uses_broken ss)
+  -- The finding at a use, in the template of this name.
+  abbrev pub site_finding : Text → Site → Option Finding
+  site_finding n s = finding_of n s.place.line (subject_of s.made) (site_broken s)
 
-  -- The first rule that a template breaks.
-  abbrev pub template_broken : Body → Option ScopeError
-  template_broken b =
-      option_or (uses_broken (body_uses b outside))
-      (rules.refused (nat_lt max_bindings (body_bound b)) error.TooManySlots)
+  -- The first finding at uses.
+  abbrev pub uses_broken : Text → List Site → Option Finding
+  uses_broken n [] = None
+  uses_broken n (s ∷ ss) = option_or (site_finding n s) (uses_broken n ss)
 
-  abbrev pub templates_broken : List Template → Option ScopeError
+  -- The first finding in a template.
+  abbrev pub template_broken : Template → Option Finding
+  template_broken t =
+      option_or (uses_broken t.name (body_uses t.body outside)) (option_map (finding_over t.name) (line_over t.body))
+
+  abbrev pub templates_broken : List Template → Option Finding
   templates_broken [] = None
-  templates_broken (t ∷ ts) = option_or (template_broken t.body) (templates_broken ts)
+  templates_broken (t ∷ ts) = option_or (template_broken t) (templates_broken ts)
 
--- The first rule that chains break.
-abbrev pub chains_broken : CompileEnv → List Namespace → Option ScopeError
+-- The first finding in chains.
+abbrev pub chains_broken : CompileEnv → List Namespace → Option Finding
 chains_broken cenv [] = None
 chains_broken cenv (h ∷ hs) = option_or (templates_broken cenv h (templates cenv.sources h)) (chains_broken cenv hs)

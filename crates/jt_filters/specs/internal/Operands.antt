@@ -1,5 +1,5 @@
 -- Definitions for the contracts of private functions: operands, and the results of calls on them.
-use Rattle.std.specs.Prelude.{◌≡◌, ℕ, zero, suc, List, ◌∷◌, map, length, Bool, IfOk, ◌+◌, ℤ, ◌-◌, ◌^◌, min, true}
+use Rattle.std.specs.Prelude.{◌≡◌, ℕ, zero, suc, List, ◌∷◌, map, length, Bool, IfOk, ◌+◌, ℤ, ◌-◌, ◌^◌, min, true, false}
 use Rattle.std.specs.Prelude.{Option, Some, None, Result, Ok, Err}
 use Rattle.std.specs.Str.{chars}
 use Rattle.jt_value.specs.Iteration.{character_items, key_items}
@@ -35,6 +35,11 @@ items_in (item_list.Values vs) = items_view vs.now
 items_in (item_list.Numbers range) = numbers_of range
 items_in (item_list.Characters s) = character_items (chars s.now)
 items_in (item_list.Keys es) = key_items (entries_view es.now)
+
+-- True if there is a second item.
+abbrev pub has_second : Items → Bool
+has_second (item t (item u us)) = true
+has_second ts = false
 
 -- The number of a value, if it is one.
 abbrev pub number_of : Tree → Option ℤ

@@ -1,6 +1,7 @@
 use Rattle.std.proofs.Common.{codes, rules, true, arith}
 use Rattle.clap.specs.Words.{App, new_app, with_subcommand}
-use Rattle.jt_args.specs.Line.{check_app, compile_app, render_app, run_app, show_app, turns_app, upgrade_app}
+use Rattle.jt_args.specs.Line.{check_app, compile_app, explain_app, render_app, run_app, show_app, turns_app}
+use Rattle.jt_args.specs.Line.{upgrade_app}
 use Rattle.jt_args.proofs.grammar.program.Goals as goal
 
 -- The program without its commands.
@@ -14,8 +15,9 @@ bare = let a = new_app (codes "jt") in record a {
 -- A program with the commands of the table added.
 abbrev with_all : App → App
 with_all a =
-    with_subcommand (with_subcommand (with_subcommand (with_subcommand
-    (with_subcommand (with_subcommand (with_subcommand a compile_app.top) check_app.top) show_app.top) run_app.top)
+    with_subcommand (with_subcommand (with_subcommand (with_subcommand (with_subcommand
+    (with_subcommand (with_subcommand (with_subcommand a compile_app.top) explain_app.top) check_app.top) show_app.top)
+    run_app.top)
     render_app.top)
     turns_app.top)
     upgrade_app.top

@@ -1,9 +1,7 @@
 use Rattle.std.proofs.lemmas.Result.{err_from_is_err_and}
 use Rattle.jt_chains.specs.View.{chain_view}
-use Rattle.jt_ir.specs.View.{program_of}
-use Rattle.jt_codegen.proofs.ChainImages.{only_chain, low_of, high_of, chain_refused, rule_refused, tables_of, fits_of}
-use Rattle.jt_codegen.proofs.ChainImages.{few_of, image_compiled, stack_refused, stack_not_small, code_refused}
-use Rattle.jt_codegen.proofs.ChainImages.{code_not_small}
+use Rattle.jt_codegen.proofs.ChainImages.{chain_refused}
+use Rattle.jt_codegen.proofs.Findings.{chain_asked}
 use Rattle.jt_codegen.proofs.compiling.compile.Goals as goal
 
 pub returns-in_err-chain-clause-refused : goal.returns-in_err-chain-clause-refused
@@ -13,104 +11,34 @@ returns-in_err-chain-clause-refused g c =
     (chain_refused (g.L.Library.sources c.args.library.now) c.args.entry.now c.args.options c.in_err-chain.field-0.0
     c.in_err-chain.ensures.refused c.in_err-chain.ensures.only)
 
-pub returns-in_err-program-clause-refused : goal.returns-in_err-program-clause-refused
-returns-in_err-program-clause-refused g c =
-    let p = err_from_is_err_and c.from_residual-in_err-program.result c.from_residual-in_err-program.ensures.1 in
-    rw (p.1, p.2)
-    (rule_refused (g.L.Library.sources c.args.library.now) c.args.entry.now c.args.options
-    (chain_view c.in_ok-chain.chain)
-    (only_chain (g.L.Library.sources c.args.library.now) c.args.entry.now c.args.options
-    (chain_view c.in_ok-chain.chain) c.in_ok-chain.ensures.chained c.in_ok-chain.ensures.only)
-    c.in_err-program.field-0.0 c.in_err-program.ensures.refused)
-
-pub returns-then-not-fits_entries-clause-refused : goal.returns-then-not-fits_entries-clause-refused
-returns-then-not-fits_entries-clause-refused g c =
-    let q = c.in_ok-program.program in
-    let high = high_of q c.deref.result.now c.fits_entries.result c.deref.ensures.value c.fits_entries.ensures
-    c.if-not-fits_entries.true in
-    stack_refused c.code_laws.ensures c.low_laws.ensures c.program_laws.ensures (g.L.Library.sources c.args.library.now)
-    c.args.entry.now c.args.options (chain_view c.in_ok-chain.chain)
-    (only_chain (g.L.Library.sources c.args.library.now) c.args.entry.now c.args.options
-    (chain_view c.in_ok-chain.chain) c.in_ok-chain.ensures.chained c.in_ok-chain.ensures.only)
-    c.in_ok-program.ensures.kept
-    (program_of q) c.in_ok-program.ensures.resolved high
-
-pub returns-then-not-fits_entries-clause-small : goal.returns-then-not-fits_entries-clause-small
-returns-then-not-fits_entries-clause-small g c =
-    let q = c.in_ok-program.program in
-    let high = high_of q c.deref.result.now c.fits_entries.result c.deref.ensures.value c.fits_entries.ensures
-    c.if-not-fits_entries.true in
-    let not_small = stack_not_small c.code_laws.ensures c.low_laws.ensures c.program_laws.ensures
-    (g.L.Library.sources c.args.library.now) c.args.entry.now c.args.options (chain_view c.in_ok-chain.chain)
-    (only_chain (g.L.Library.sources c.args.library.now) c.args.entry.now c.args.options
-    (chain_view c.in_ok-chain.chain) c.in_ok-chain.ensures.chained c.in_ok-chain.ensures.only)
-    c.in_ok-program.ensures.kept
-    (program_of q) c.in_ok-program.ensures.resolved high c.in_ok-chain.ensures.weighs in
-    λ limit. not_small
-
-pub image_of-requires-clause-tables : goal.image_of-requires-clause-tables
-image_of-requires-clause-tables g c =
-    tables_of c.code_laws.ensures c.low_laws.ensures c.program_laws.ensures (g.L.Library.sources c.args.library.now)
-    c.args.entry.now c.args.options (chain_view c.in_ok-chain.chain)
-    (only_chain (g.L.Library.sources c.args.library.now) c.args.entry.now c.args.options
-    (chain_view c.in_ok-chain.chain) c.in_ok-chain.ensures.chained c.in_ok-chain.ensures.only)
-    c.in_ok-program.ensures.kept
-    (program_of c.in_ok-program.program) c.in_ok-program.ensures.resolved
-
-pub image_of-requires-clause-fits : goal.image_of-requires-clause-fits
-image_of-requires-clause-fits g c =
-    let q = c.in_ok-program.program in
-    let low = low_of q c.deref.result.now c.fits_entries.result c.deref.ensures.value c.fits_entries.ensures
-    c.if-not-fits_entries.false in
-    fits_of c.code_laws.ensures c.low_laws.ensures c.program_laws.ensures (g.L.Library.sources c.args.library.now)
-    c.args.entry.now c.args.options (chain_view c.in_ok-chain.chain)
-    (only_chain (g.L.Library.sources c.args.library.now) c.args.entry.now c.args.options
-    (chain_view c.in_ok-chain.chain) c.in_ok-chain.ensures.chained c.in_ok-chain.ensures.only)
-    c.in_ok-program.ensures.kept
-    (program_of q) c.in_ok-program.ensures.resolved low
-
-pub image_of-requires-clause-few : goal.image_of-requires-clause-few
-image_of-requires-clause-few g c =
-    few_of c.code_laws.ensures c.low_laws.ensures c.program_laws.ensures (g.L.Library.sources c.args.library.now)
-    c.args.entry.now c.args.options (chain_view c.in_ok-chain.chain)
-    (only_chain (g.L.Library.sources c.args.library.now) c.args.entry.now c.args.options
-    (chain_view c.in_ok-chain.chain) c.in_ok-chain.ensures.chained c.in_ok-chain.ensures.only)
-    c.in_ok-program.ensures.kept
-    (program_of c.in_ok-program.program) c.in_ok-program.ensures.resolved
-
-pub returns-in_err-image-clause-refused : goal.returns-in_err-image-clause-refused
-returns-in_err-image-clause-refused g c =
-    let p = err_from_is_err_and c.from_residual-in_err-image.result c.from_residual-in_err-image.ensures.1 in
-    rw (p.1, p.2)
-    (code_refused c.code_laws.ensures c.low_laws.ensures c.program_laws.ensures (g.L.Library.sources c.args.library.now)
-    c.args.entry.now c.args.options (chain_view c.in_ok-chain.chain)
-    (only_chain (g.L.Library.sources c.args.library.now) c.args.entry.now c.args.options
-    (chain_view c.in_ok-chain.chain) c.in_ok-chain.ensures.chained c.in_ok-chain.ensures.only)
-    c.in_ok-program.ensures.kept
-    c.in_err-image.field-0.0 (program_of c.in_ok-program.program) c.in_ok-program.ensures.resolved
-    c.in_err-image.ensures.refused)
-
-pub returns-in_err-image-clause-small : goal.returns-in_err-image-clause-small
-returns-in_err-image-clause-small g c =
-    let p = err_from_is_err_and c.from_residual-in_err-image.result c.from_residual-in_err-image.ensures.1 in
-    rw (p.1, p.2)
-    (code_not_small c.code_laws.ensures c.low_laws.ensures c.program_laws.ensures
-    (g.L.Library.sources c.args.library.now) c.args.entry.now c.args.options (chain_view c.in_ok-chain.chain)
-    (only_chain (g.L.Library.sources c.args.library.now) c.args.entry.now c.args.options
-    (chain_view c.in_ok-chain.chain) c.in_ok-chain.ensures.chained c.in_ok-chain.ensures.only)
-    c.in_ok-program.ensures.kept
-    c.in_err-image.field-0.0 (program_of c.in_ok-program.program) c.in_ok-program.ensures.resolved
-    c.in_err-image.ensures.refused c.in_ok-chain.ensures.weighs c.in_ok-chain.ensures.short c.in_ok-chain.ensures.few)
+pub compile_chain-requires : goal.compile_chain-requires
+compile_chain-requires g c = (
+  record {
+    given = g.L.Library.sources c.args.library.now;
+    entry = c.args.entry.now;
+    options = c.args.options;
+  },
+  chain_asked _ _ _ (chain_view c.in_ok-chain.chain) c.in_ok-chain.ensures.chained c.in_ok-chain.ensures.only
+      c.in_ok-chain.ensures.weighs c.in_ok-chain.ensures.short c.in_ok-chain.ensures.few,
+)
 
 pub returns-clause-compiled : goal.returns-clause-compiled
 returns-clause-compiled g c =
-    let q = c.in_ok-program.program in
-    let low = low_of q c.deref.result.now c.fits_entries.result c.deref.ensures.value c.fits_entries.ensures
-    c.if-not-fits_entries.false in
-    image_compiled c.code_laws.ensures c.low_laws.ensures c.program_laws.ensures
-    (g.L.Library.sources c.args.library.now) c.args.entry.now c.args.options (chain_view c.in_ok-chain.chain)
-    (only_chain (g.L.Library.sources c.args.library.now) c.args.entry.now c.args.options
-    (chain_view c.in_ok-chain.chain) c.in_ok-chain.ensures.chained c.in_ok-chain.ensures.only)
-    c.in_ok-program.ensures.kept
-    (program_of q) c.in_ok-image.image c.in_ok-program.ensures.resolved low c.in_ok-image.ensures.is
-    c.in_ok-image.ensures.whole
+    c.compile_chain.ensures.compiled _
+    (chain_asked (g.L.Library.sources c.args.library.now) c.args.entry.now c.args.options
+    (chain_view c.in_ok-chain.chain) c.in_ok-chain.ensures.chained c.in_ok-chain.ensures.only
+    c.in_ok-chain.ensures.weighs c.in_ok-chain.ensures.short c.in_ok-chain.ensures.few)
+
+pub returns-clause-refused : goal.returns-clause-refused
+returns-clause-refused g c =
+    c.compile_chain.ensures.refused _
+    (chain_asked (g.L.Library.sources c.args.library.now) c.args.entry.now c.args.options
+    (chain_view c.in_ok-chain.chain) c.in_ok-chain.ensures.chained c.in_ok-chain.ensures.only
+    c.in_ok-chain.ensures.weighs c.in_ok-chain.ensures.short c.in_ok-chain.ensures.few)
+
+pub returns-clause-small : goal.returns-clause-small
+returns-clause-small g c =
+    c.compile_chain.ensures.small _
+    (chain_asked (g.L.Library.sources c.args.library.now) c.args.entry.now c.args.options
+    (chain_view c.in_ok-chain.chain) c.in_ok-chain.ensures.chained c.in_ok-chain.ensures.only
+    c.in_ok-chain.ensures.weighs c.in_ok-chain.ensures.short c.in_ok-chain.ensures.few)

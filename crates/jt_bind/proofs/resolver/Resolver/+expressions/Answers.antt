@@ -24,6 +24,7 @@ use Rattle.jt_ir.specs.Pool.{Constant, own}
 use Rattle.jt_ir.specs.Slots as slots
 use Rattle.jt_ir.specs.Slots.{invoke}
 use Rattle.jt_eval.specs.TheFilters.{the_filters}
+use Rattle.jt_eval.specs.TheFilters.{filter_parameters as written_parameters}
 use Rattle.jt_ir.specs.View.{expr_view as coded, row_view}
 use Rattle.jt_ir.specs.declared.program.SlotExpr.TheVariants as e
 use Rattle.jt_ir.specs.declared.program.NaryOp.TheVariants as m
@@ -53,7 +54,7 @@ resolve_row-loop-expr-preserved t c = λ left.
     (of_whole _ _ _ _ _ _ _
     (ap (λ r. row_in scope r senv left) (sym (row_left ts l.expr-index x c.loop-expr-test.true c.expr-item.is)))
     (row_item (expr_in scope (expr_view x) senv) (row_in scope (exprs_view (drop (l.expr-index + 1) ts)) senv left)
-    c.in_ok-next.next l.done.items _ (values l.pool) _ c.in_ok-next.ensures c.in_ok-push.ensures.items))
+    c.in_ok-next.next l.done.items _ (values l.pool) _ c.in_ok-next.ensures c.in_ok-put_argument.ensures))
 
 pub resolve_row-returns : goal.resolve_row-returns
 resolve_row-returns t c = λ left.
@@ -78,8 +79,8 @@ resolve_entries-loop-key-preserved t c =
     ∙ ap (λ r. entries_in scope r senv) (sym (pairs_left ps l.key-index x c.loop-key-test.true c.loop-key-item.is)))
     (row_both _ _ _ _ _ _ _ _ _ (row_item _ (slots.item value rest) c.in_ok-entry_key.entry_key l.done.items _
     (values l.pool) _
-    c.in_ok-entry_key.ensures c.in_ok-push.ensures.items)
-    (row_item value rest c.in_ok-next.next _ _ _ _ c.in_ok-next.ensures c.in_ok-push-2.ensures.items)))
+    c.in_ok-entry_key.ensures c.in_ok-put_argument.ensures)
+    (row_item value rest c.in_ok-next.next _ _ _ _ c.in_ok-next.ensures c.in_ok-put_argument-2.ensures)))
 
 pub resolve_list-returns : goal.resolve_list-returns
 resolve_list-returns t c =
@@ -129,7 +130,7 @@ resolve_asides-loop-value-preserved t c = λ left.
     ∙ ap (λ r. asides_in scope r l.senv left)
     (sym (pairs_left ps l.value-index x c.loop-value-test.true c.loop-value-item.is)))
     (row_aside l.senv.free value (asides_in scope rest (record l.senv { free = c.in_ok-senv.field-0 }) left)
-    c.in_ok-next.next l.done.items _ (values l.pool) _ c.in_ok-next.ensures c.in_ok-push.ensures.items))
+    c.in_ok-next.next l.done.items _ (values l.pool) _ c.in_ok-next.ensures c.in_ok-put_argument.ensures))
 
 pub resolve_item-returns : goal.resolve_item-returns
 resolve_item-returns t c =
@@ -260,6 +261,11 @@ resolve_test-returns t c =
     λ n. IsPlaced (turned_round n a) (coded e) (values c.args.pool.now) (values c.resolve_plain_test.new.pool) in
     subst P c.is_negated.ensures (h a _ _ (c.in_ok-test.ensures ps))) c.turned.ensures
 
+pub resolve_first-returns : goal.resolve_first-returns
+resolve_first-returns t c =
+    IfOk-weaker c.row_of.result _ _
+    (λ row h. λ left. row_item _ left c.in_ok-first.first [] row.items _ _ c.in_ok-first.ensures h) c.row_of.ensures
+
 pub resolve_plain_test-returns-in_ok-resolve_row-in-Some : goal.resolve_plain_test-returns-in_ok-resolve_row-in-Some
 resolve_plain_test-returns-in_ok-resolve_row-in-Some t c = λ ps.
     let s = c.args.self.now.tables.now in
@@ -270,15 +276,14 @@ resolve_plain_test-returns-in_ok-resolve_row-in-Some t c = λ ps.
     let given = c.in_ok-operands-in-Some.operands in
     let done = c.resolve_row.new.done in
     let p = values c.args.pool.now in
-    let q = values c.resolve_expression.new.pool in
+    let q = values c.resolve_first.new.pool in
     let r = values c.resolve_row.new.pool in
     let P : Option TestId → Type 0 =
     λ o. IsPlaced (tested_by o whole) (coded (e.Made (m.Test c.in-Some.test) done)) p r in
     subst P (sym c.in-Some.is ∙ c.test_of.ensures)
     (made_placed (slots.test c.in-Some.test) whole done.items _ p r
     (row_both whole es slots.none [] given.items done.items p q r
-    (row_item a es c.in_ok-first-in-Some.first [] given.items p q c.in_ok-first-in-Some.ensures
-    c.in_ok-operands-in-Some.ensures)
+    (c.in_ok-operands-in-Some.ensures es)
     (c.in_ok-resolve_row-in-Some.ensures slots.none))
     (view_Made (m.Test c.in-Some.test) done))
 
@@ -319,7 +324,7 @@ resolve_filter-returns-in_ok-resolve_filter_row-in-Some t c =
     let given = c.in_ok-given-in-Some.given in
     let done = c.resolve_filter_row.new.done in
     let p = values c.args.pool.now in
-    let q = values c.resolve_expression.new.pool in
+    let q = values c.resolve_first.new.pool in
     let r = values c.resolve_filter_row.new.pool in
     let named : (cenv_in s).filters.named c.args.name.now ts ps ≡ Some (filter_id f) =
     named_is c.args.name.now ts ps ∙ ap (option_map filter_id) (sym c.filter_of.ensures ∙ c.in-Some.is) in
@@ -328,8 +333,7 @@ resolve_filter-returns-in_ok-resolve_filter_row-in-Some t c =
     subst P (sym named)
     (made_placed (slots.filter (filter_id f) senv.escaping) whole done.items _ p r
     (row_both whole es slots.none [] given.items done.items p q r
-    (row_item a es c.in_ok-first-in-Some.first [] given.items p q c.in_ok-first-in-Some.ensures
-    c.in_ok-given-in-Some.ensures)
+    (c.in_ok-given-in-Some.ensures es)
     c.in_ok-resolve_filter_row-in-Some.ensures)
     (view_Made (m.Filter f senv.escaping) done))
 
@@ -343,14 +347,12 @@ resolve_filter_row-returns t c =
     let xs = keywords ps in
     let ks = locals_from senv.free xs in
     let n = length c.args.arguments.row.now in
-    let left = filled_some (parameters_view c.deref.result.now) n xs ks in
-    let known : parameters_view c.deref.result.now ≡ filter_parameters the_filters (Some (filter_id f)) =
-    ap parameters_view c.deref.ensures.value ∙ c.in_ok-parameters.ensures ∙ sym (parameters_are f) in
-    IfOk-weaker c.fill_some.result _ _ (λ u h. of_whole _ _ slots.none _ _ _ _
-    (ap (λ z. row_in s ts senv (asides_in s ps senv z)) (ap (λ z. filled_some z n xs ks) known
+    let left = filled_some (written_parameters f) n xs ks in
+    IfOk-weaker c.fill_filter.result _ _ (λ u h. of_whole _ _ slots.none _ _ _ _
+    (ap (λ z. row_in s ts senv (asides_in s ps senv z)) (ap (λ z. filled_some z n xs ks) (sym (parameters_are f))
     ∙ ap (λ (i : ℕ). filled_some (filter_parameters the_filters (Some (filter_id f))) i xs ks)
     (sym (count_length c.args.arguments.row.now))))
-    (row_both _ left slots.none _ _ _ _ _ _ (c.in_ok-resolve_given.ensures left) h)) c.fill_some.ensures
+    (row_both _ left slots.none _ _ _ _ _ _ (c.in_ok-resolve_given.ensures left) h)) c.fill_filter.ensures
 
 -- ---- calls
 
@@ -382,7 +384,7 @@ resolve_range-returns t c =
 
 pub resolve_cycle-returns : goal.resolve_cycle-returns
 resolve_cycle-returns t c =
-    IfOk-weaker c.on_two.result _ _ (λ e h. h _ _ _ _ _ c.in_ok-items.ensures c.in_ok-turn.ensures) c.on_two.ensures
+    IfOk-weaker c.item_in_turn.result _ _ (λ e h. h _ _ c.in_ok-items.ensures) c.item_in_turn.ensures
 
 pub resolve_call-returns-in-Macro : goal.resolve_call-returns-in-Macro
 resolve_call-returns-in-Macro t c =

@@ -57,6 +57,9 @@ decreases-resolve_test l = 6 * max (size-Expr l.value.now) (most (λ x. size-Exp
 abbrev pub decreases-resolve_plain_test : goal.decreases-resolve_plain_test
 decreases-resolve_plain_test l = 6 * max (size-Expr l.value.now) (most (λ x. size-Expr x) l.row.now) + 2
 
+abbrev pub decreases-resolve_first : goal.decreases-resolve_first
+decreases-resolve_first l = 6 * size-Expr l.value.now + 1
+
 abbrev pub decreases-resolve_filter : goal.decreases-resolve_filter
 decreases-resolve_filter l =
     6 * max (size-Expr l.value.now)

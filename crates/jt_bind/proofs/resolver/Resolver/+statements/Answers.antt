@@ -1,4 +1,5 @@
-use Rattle.std.proofs.Common.{◌+◌, List, drop, refl, sym, ap, ◌∙◌, arith}
+use Rattle.std.proofs.Common.{◌+◌, List, drop, refl, sym, ap, subst, ◌∙◌, arith, Global}
+use Rattle.std.specs.Prelude.{Vec}
 use Rattle.std.proofs.lemmas.List.{at_drop_all}
 use Rattle.std.proofs.lemmas.Result.{IfOk-weaker}
 use Rattle.jt_ast.specs.ExpressionView.{expr_view, pairs_view}
@@ -7,9 +8,12 @@ use Rattle.jt_ast.specs.StatementView.{is_ignored, passes_context, names_view, f
 use Rattle.jt_ast.specs.StatementView.{branches_view}
 use Rattle.jt_ast.specs.declared.statement.Stmt.{Stmt}
 use Rattle.jt_ir.specs.Slots as slots
+use Rattle.jt_ir.specs.declared.program.SlotBranch.{SlotBranch}
+use Rattle.jt_ir.specs.declared.program.SlotStmt.{SlotStmt}
 use Rattle.jt_semantics.specs.Resolve.{followed, alone, bound_all, resolved_filters}
 use Rattle.jt_ast.specs.Texts.{texts}
 use Rattle.jt_bind.specs.internal.Scoped.{values, cenv_in, order_in, expr_in, senv_in, templates_in}
+use Rattle.jt_bind.specs.internal.Stated.{IsBody, ChoiceLeads}
 use Rattle.jt_bind.specs.internal.Stated.{line_in, stmt_in, body_in, choice_in, scoped_in, values_in}
 use Rattle.jt_bind.proofs.BodyConcatenation.{lead_both, lead_of, lead_left, lead_same, led_of, led_both, led_begun}
 use Rattle.jt_bind.proofs.BodyConcatenation.{followed_again, choice_same, choice_other, branch_led}
@@ -48,13 +52,22 @@ resolve_body-returns t c = λ left.
 
 pub resolve_whole-returns : goal.resolve_whole-returns
 resolve_whole-returns t c =
-    led_begun (templates_in c.args.self.now.tables.now) _ _ _ _ _ _ c.new-done.ensures.items
-    c.in_ok-resolve_body.ensures
+    let scope = c.args.self.now.tables.now in
+    let P : Vec SlotStmt Global → Type 0 =
+    λ z. IsBody (templates_in scope) (body_in scope (body_view c.args.body.now) c.args.self.now.senv) z.items
+    (values c.args.pool.now) (values c.resolve_body.new.pool) in
+    subst P (sym c.into_inner.ensures)
+    (led_begun (templates_in scope) _ _ _ _ _ _ c.new.ensures.items c.in_ok-resolve_body.ensures)
 
 pub resolve_inside-returns : goal.resolve_inside-returns
 resolve_inside-returns t c =
-    led_begun (templates_in c.args.self.now.tables.now) _ _ _ _ _ _ c.new-done.ensures.items
-    c.in_ok-resolve_scoped.ensures
+    let scope = c.args.self.now.tables.now in
+    let P : Vec SlotStmt Global → Type 0 =
+    λ z. IsBody (templates_in scope)
+    (scoped_in scope (body_view c.args.body.now) (senv_in scope c.args.self.now.senv)) z.items
+    (values c.args.pool.now) (values c.resolve_scoped.new.pool) in
+    subst P (sym c.into_inner.ensures)
+    (led_begun (templates_in scope) _ _ _ _ _ _ c.new.ensures.items c.in_ok-resolve_scoped.ensures)
 
 -- ---- scopes
 
@@ -93,7 +106,7 @@ resolve_branch-returns t c =
 
 pub resolve_branches-loop-branch-init : goal.resolve_branches-loop-branch-init
 resolve_branches-loop-branch-init t c =
-    λ other. choice_same (templates_in c.args.self.now.tables.now) _ _ _ c.in_ok-made.ensures.items
+    λ other. choice_same (templates_in c.args.self.now.tables.now) _ _ _ c.in_ok-with_capacity.ensures.items
 
 pub resolve_branches-loop-branch-preserved : goal.resolve_branches-loop-branch-preserved
 resolve_branches-loop-branch-preserved t c = λ other.
@@ -109,7 +122,7 @@ resolve_branches-loop-branch-preserved t c = λ other.
     (l.invariant other) in
     branch_led T _ rest (body_in scope (body_view x.body.items) senv) (line_in scope senv x.line)
     (expr_in scope (expr_view x.condition) senv) _ _ _ _ _ _ here c.in_ok-resolve_branch.ensures
-    c.in_ok-push.ensures.items
+    c.in_ok-put_branch.ensures
 
 pub resolve_branches-returns : goal.resolve_branches-returns
 resolve_branches-returns t c =
@@ -119,19 +132,29 @@ resolve_branches-returns t c =
     let bs = c.args.branches.now in
     let T = templates_in scope in
     let last = body_in scope (body_view c.args.other.now) senv in
+    let P : Vec (SlotBranch SlotStmt) Global → Type 0 =
+    λ z. ChoiceLeads T (choice_in scope (branches_view bs) senv last) last z.items (values c.args.pool.now)
+    (values l.pool) in
     IfOk-weaker c.put_choice.result _ _ (λ u h.
-    h T _ _ _ _ _ (choice_other T _ _ _ _ _ _
+    h T _ _ _ _ _ (subst P (sym c.into_inner.ensures) (choice_other T _ _ _ _ _ _
     (at_drop_all (λ (z : List Branch). choice_in scope (branches_view z) senv last) bs l.branch-index (omega arith))
-    (l.invariant last))
+    (l.invariant last)))
     c.in_ok-last.ensures) c.put_choice.ensures
+
+pub resolve_for-returns : goal.resolve_for-returns
+resolve_for-returns t c =
+    IfOk-weaker c.put_loop.result _ _
+    (λ u h. h c.args.self.now.tables.now _ _ _ _ _ _ _ _ c.in_ok-turns.ensures c.in_ok-last.ensures)
+    c.put_loop.ensures
 
 pub resolve_turns-returns : goal.resolve_turns-returns
 resolve_turns-returns t c =
     let scope = c.args.self.now.tables.now in
     let sp = senv_in scope c.args.self.now.senv in
-    turns_as scope (body_view c.args.body.now) _ _ _ _ _ _ _ _ _ _
+    turns_as scope (body_view c.args.body.now) _ _ _ _ _ _ _ _ _
     (c.inside.ensures _ scope c.in_ok-inner.ensures ∙ ap (λ xs. bound_all xs sp) c.in_ok-names_of.ensures)
-    c.in_ok-fresh_targets.ensures c.in_ok-items.ensures c.in_ok-asked.ensures c.in_ok-turn.ensures
+    c.in_ok-head.ensures
+    (led_begun (templates_in scope) _ _ _ _ _ _ c.new.ensures.items c.in_ok-resolve_scoped.ensures)
 
 pub resolve_with-returns : goal.resolve_with-returns
 resolve_with-returns t c =
@@ -196,15 +219,13 @@ resolve_statement-returns-in-If t c =
     c.in-If.is c.deref-in-If.ensures.value c.deref-in-If-2.ensures.value) h)
     c.resolve_branches.ensures
 
-pub resolve_statement-returns-in_ok-last-in-For : goal.resolve_statement-returns-in_ok-last-in-For
-resolve_statement-returns-in_ok-last-in-For t c =
-    let scope = c.args.self.now.tables.now in
+pub resolve_statement-returns-in-For : goal.resolve_statement-returns-in-For
+resolve_statement-returns-in-For t c =
     let v = c.in-For in
-    IfOk-weaker c.put_loop.result _ _ (λ u h. stmt_as scope c.args.self.now.senv _ _ _ _ _ _
-    (shown_for c.args.statement.now v.line v.targets v.over v.condition v.body v.other c.deref-in-For-2.result.now
-    c.deref-in-For.result.now c.deref-in-For-3.result.now v.is c.deref-in-For-2.ensures.value
-    c.deref-in-For.ensures.value c.deref-in-For-3.ensures.value)
-    (h scope _ _ _ _ _ _ _ _ c.in_ok-turns-in-For.ensures c.in_ok-last-in-For.ensures)) c.put_loop.ensures
+    IfOk-weaker c.resolve_for.result _ _ (λ u h. stmt_as c.args.self.now.tables.now c.args.self.now.senv _ _ _ _ _ _
+    (shown_for c.args.statement.now v.line v.targets v.over v.condition v.body v.other c.deref-in-For.result.now
+    c.deref-in-For-2.result.now c.deref-in-For-3.result.now v.is c.deref-in-For.ensures.value
+    c.deref-in-For-2.ensures.value c.deref-in-For-3.ensures.value) h) c.resolve_for.ensures
 
 pub resolve_statement-returns-in-With : goal.resolve_statement-returns-in-With
 resolve_statement-returns-in-With t c =

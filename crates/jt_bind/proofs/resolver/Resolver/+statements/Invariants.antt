@@ -42,6 +42,9 @@ decreases-resolve_text l = 6 * most (λ x. size-Stmt x) l.body.now + 5
 abbrev pub decreases-resolve_turns : goal.decreases-resolve_turns
 decreases-resolve_turns l = 6 * most (λ x. size-Stmt x) l.body.now + 5
 
+abbrev pub decreases-resolve_for : goal.decreases-resolve_for
+decreases-resolve_for l = 6 * max (most (λ x. size-Stmt x) l.body.now) (most (λ x. size-Stmt x) l.other.now) + 6
+
 abbrev pub decreases-resolve_with : goal.decreases-resolve_with
 decreases-resolve_with l = 6 * most (λ x. size-Stmt x) l.body.now + 5
 
@@ -71,4 +74,4 @@ invariant-resolve_branches-loop-branch l =
     (other : SBody Constant) → ChoiceLeads (templates_in l.self.tables.now)
     (choice_in l.self.tables.now (branches_view l.branches) l.self.senv other)
     (choice_in l.self.tables.now (branches_view (drop l.branch-index l.branches)) l.self.senv other)
-    l.made.items (values l.initial.pool) (values l.pool)
+    l.made.0.items (values l.initial.pool) (values l.pool)

@@ -2,7 +2,7 @@ use Rattle.jt_filter_semantics.specs.Mapping.{as_list, gathered}
 use Rattle.jt_filters.specs.internal.Operands.{items_in}
 use Rattle.jt_filters.specs.internal.Rows.{gives}
 use Rattle.jt_filters.proofs.ApplyCorrect.{refused}
-use Rattle.jt_filters.proofs.mapping.limited_row_list.Goals as goal
+use Rattle.jt_filters.proofs.mapping.measured_row_list.Goals as goal
 
 pub returns-in-Err-allow : goal.returns-in-Err-allow
 returns-in-Err-allow c =

@@ -1,0 +1,63 @@
+use Rattle.std.proofs.Common.{◌≡◌, Some, refl, sym, ap, ◌∙◌}
+use Rattle.std.specs.Prelude.{option_map}
+use mathlib.Core.Logic.{inl, inr}
+use Rattle.jt_chains.specs.View.{chain_view}
+use Rattle.jt_rules.specs.Rules.{names_counted}
+use Rattle.jt_rules.specs.CompileEnv.{cenv_of}
+use Rattle.jt_checks.specs.FindingView.{finding_view}
+use Rattle.jt_checks.specs.internal.ScopeLookup.{cenv_in}
+use Rattle.jt_checks.specs.internal.UseRules as broken
+use Rattle.jt_checks.proofs.FindingsHold.{chains_hold}
+use Rattle.jt_checks.proofs.LoopSteps.{few_enough, over, name_seen}
+use Rattle.jt_checks.proofs.RuleTestsCorrect.{broken_breaks}
+use Rattle.jt_checks.proofs.UsesCorrect.{rule_of, found_is_broken, none_is_broken}
+use Rattle.jt_checks.proofs.checking.find_broken.Goals as goal
+
+pub returns-in-Some-clause-found : goal.returns-in-Some-clause-found
+unfolding cenv_in
+returns-in-Some-clause-found c =
+    let seen = chain_view c.args.chain.now in
+    let f = finding_view c.in-Some.finding in
+    let found : broken.chains_broken (cenv_of seen) seen.order ≡ Some f
+    = sym c.in_ok-finding.ensures ∙ ap (option_map finding_view) c.in-Some.is in
+    broken_breaks (cenv_of seen) seen.order f.rule
+    (found_is_broken (cenv_of seen) seen.order f.rule (ap rule_of found))
+
+pub returns-in-Some-clause-holds : goal.returns-in-Some-clause-holds
+unfolding cenv_in
+returns-in-Some-clause-holds c =
+    let seen = chain_view c.args.chain.now in
+    inl (chains_hold (cenv_of seen) seen.order (finding_view c.in-Some.finding)
+    (sym c.in_ok-finding.ensures ∙ ap (option_map finding_view) c.in-Some.is))
+
+pub returns-then-branch-clause-kept : goal.returns-then-branch-clause-kept
+unfolding cenv_in
+returns-then-branch-clause-kept c =
+    let seen = chain_view c.args.chain.now in
+    none_is_broken (cenv_of seen) seen.order
+    (sym c.in_ok-finding.ensures ∙ ap (option_map finding_view) c.in_default.is)
+    (few_enough c.in_ok-has_few_names.field-0 (names_counted (cenv_of seen) seen.order) 65535
+    c.in_ok-has_few_names.ensures c.if-branch.true)
+
+pub returns-clause-found : goal.returns-clause-found
+unfolding cenv_in
+returns-clause-found c =
+    let seen = chain_view c.args.chain.now in
+    inr (over c.in_ok-has_few_names.field-0 (names_counted (cenv_of seen) seen.order) 65535
+    c.in_ok-has_few_names.ensures c.if-branch.false)
+
+pub returns-clause-holds : goal.returns-clause-holds
+unfolding cenv_in
+returns-clause-holds c =
+    let seen = chain_view c.args.chain.now in
+    inr (record {
+      rule = refl;
+      broken =
+          over c.in_ok-has_few_names.field-0 (names_counted (cenv_of seen) seen.order) 65535
+          c.in_ok-has_few_names.ensures c.if-branch.false;
+      template =
+          c.as_str.ensures.value
+          ∙ name_seen c.args.chain.now 0 c.index.result.now c.args.chain.now.some c.index.ensures;
+      line = refl;
+      subject = refl;
+    })

@@ -1,0 +1,10 @@
+use Rattle.std.proofs.Common.{◌≡◌, drop}
+use Rattle.std.specs.Prelude.{slice_get}
+use Rattle.jt_uses.specs.UseView.{sites_view}
+use Rattle.jt_checks.specs.internal.UseRules as broken
+use Rattle.jt_checks.proofs.uses.binding_line.Given as goal
+
+abbrev pub invariant-loop-site : goal.invariant-loop-site
+invariant-loop-site l =
+    slice_get (broken.lines_bound (sites_view (drop l.site-index l.uses))) l.left
+    ≡ slice_get (broken.lines_bound (sites_view l.uses)) l.count

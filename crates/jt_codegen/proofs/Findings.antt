@@ -1,0 +1,150 @@
+-- What an explanation states is true of the entry.
+use Rattle.std.proofs.Common.{◌≡◌, ℕ, List, [], ◌∷◌, Option, Some, None, refl, sym, ap, ◌∙◌, subst, inl, inr}
+use Rattle.std.specs.Prelude.{◌≢◌, ◌⊎◌, ◌≤◌, ◌+◌, ◌*◌, length, Result, Ok, Err, IfOk}
+use Rattle.std.specs.List.{AllByRecursion}
+use Rattle.jt_scan.specs.declared.options.Options.{Options}
+use Rattle.jt_ast.specs.Expressions.{Text}
+use Rattle.jt_ast.specs.Sizes.{body_bytes}
+use Rattle.jt_chains.specs.Chain.{Namespace, Template}
+use Rattle.jt_chains.specs.View.{Seen, sources_of}
+use Rattle.jt_chains.specs.Weights.{chains_weight}
+use Rattle.jt_checks.specs.Findings as findings
+use Rattle.jt_checks.specs.Findings.{IsFoundAt, IsFoundIn, UseBreaks}
+use Rattle.jt_inherit.specs.Chains.{SourceTexts, IsChain}
+use Rattle.jt_inherit.specs.Refusals as inherit
+use Rattle.jt_inherit.specs.Small.{chains_len, source_len}
+use Rattle.jt_inherit.specs.declared.error.ChainError.{ChainError}
+use Rattle.jt_inherit.specs.declared.error.ChainError.TheVariants as chain_error
+use Rattle.jt_rules.specs.CompileEnv.{CompileEnv, cenv_of}
+use Rattle.jt_rules.specs.Rules as rules
+use Rattle.jt_rules.specs.Rules.{ForSome, KeepsRules}
+use Rattle.jt_rules.specs.UseSites as sites
+use Rattle.jt_rules.specs.declared.error.ScopeError.{ScopeError}
+use Rattle.jt_rules.specs.declared.error.ScopeError.TheVariants as scope_error
+use Rattle.jt_uses.specs.Uses.{Site, body_uses, outside}
+use Rattle.jt_value.specs.declared.fault.NoMemory.{NoMemory}
+use Rattle.jt_codegen.specs.Compiled.{IsOnlyChain}
+use Rattle.jt_codegen.specs.Explaining.{IsBroken, IsExplained, IsFinding, IsOfChain, IsPlaceOf, rule_at}
+use Rattle.jt_codegen.specs.Refusals.{Breaks, of_emit, of_scope}
+use Rattle.jt_codegen.specs.internal.Asked.{IsChainOf, IsOfImage}
+use Rattle.jt_codegen.proofs.ChainImages.{only_chain}
+use Rattle.jt_codegen.specs.declared.emission.EmitError.{EmitError}
+use Rattle.jt_codegen.specs.declared.emission.EmitError.TheVariants as emit_error
+use Rattle.jt_codegen.specs.declared.error.CompileError.{CompileError}
+use Rattle.jt_codegen.specs.declared.error.CompileError.TheVariants as error
+use Rattle.jt_codegen.specs.declared.finding.Explained.{Explained}
+use Rattle.jt_codegen.specs.declared.finding.Explained.TheVariants as explained
+use Rattle.jt_codegen.specs.declared.finding.Finding.{Finding}
+use Rattle.jt_codegen.specs.declared.finding.TagPlace.{TagPlace}
+use Rattle.jt_codegen.specs.declared.finding.Subject.{Subject}
+
+-- The chain that is read is that of the entry.
+pub chain_asked : (given : SourceTexts) (entry : Text) (options : Options) (c : Seen) → IsChain given entry options c
+    → ((d : Seen) → IsChain given entry options d → (n : Text) → sources_of c n ≡ sources_of d n)
+    → chains_weight (sources_of c) c.order ≤ chains_len given (sources_of c) c.order
+    → AllByRecursion (λ template. body_bytes template.body ≤ source_len (given template.name)) c.templates
+    → 7 * length c.order ≤ chains_weight (sources_of c) c.order + 7
+    → IsChainOf (record { given = given; entry = entry; options = options }) c
+chain_asked given entry options c is one weighs short few =
+    record { only = only_chain given entry options c is one; weighs = weighs; short = short; few = few }
+
+-- A chain that keeps the rules of names and calls breaks none.
+pub rule_not_broken : (c : Seen) (e : ScopeError) → rules.Breaks e (cenv_of c) c.order → KeepsRules (cenv_of c) c.order
+    → IsOfImage (of_scope e)
+rule_not_broken c scope_error.NoMemory b kept = tt
+rule_not_broken c scope_error.LoopOutside b kept = absurd (kept.none scope_error.LoopOutside b)
+rule_not_broken c scope_error.MacroAsValue b kept = absurd (kept.none scope_error.MacroAsValue b)
+rule_not_broken c scope_error.NotCallable b kept = absurd (kept.none scope_error.NotCallable b)
+rule_not_broken c scope_error.BadArguments b kept = absurd (kept.none scope_error.BadArguments b)
+rule_not_broken c scope_error.TooManySlots b kept = absurd (kept.none scope_error.TooManySlots b)
+
+pub emit_of_image : (e : EmitError) → IsOfImage (of_emit e)
+emit_of_image emit_error.CodeTooLong = tt
+emit_of_image emit_error.NoMemory = tt
+
+-- What no item has, none of the items of a list has.
+some_not : {A : Type 0} (P : A → Type 0) (xs : List A) → ((x : A) → P x → ⊥) → ForSome P xs → ⊥
+some_not P [] none s = s
+some_not P (x ∷ xs) none (inl p) = none x p
+some_not P (x ∷ xs) none (inr s) = some_not P xs none s
+
+-- Lack of memory is no broken rule.
+use_not : (cenv : CompileEnv) (h : Namespace) (rule : ScopeError) (o : Option sites.Use) (w : sites.Enclosing)
+    → rule ≡ scope_error.NoMemory → UseBreaks cenv h rule o w → ⊥
+use_not cenv h rule None w e b = b
+use_not cenv h rule (Some u) w e b = subst (λ r. UseBreaks cenv h r (Some u) w) e b
+
+site_not : (cenv : CompileEnv) (h : Namespace) (f : findings.Finding) → f.rule ≡ scope_error.NoMemory → (s : Site)
+    → IsFoundAt cenv h f s → ⊥
+site_not cenv h f e s at = use_not cenv h f.rule _ _ e at.broken
+
+template_not : (cenv : CompileEnv) (h : Namespace) (f : findings.Finding) → f.rule ≡ scope_error.NoMemory
+    → (t : Template) → IsFoundIn cenv h f t → ⊥
+template_not cenv h f e t found = of found.found
+  where
+    of : ForSome (IsFoundAt cenv h f) (body_uses t.body outside) ⊎ findings.PassesBindings cenv h f t → ⊥
+    of (inl s) = some_not (IsFoundAt cenv h f) (body_uses t.body outside) (site_not cenv h f e) s
+    of (inr b) = let is = b.rule in cc
+
+pub memory_not : (cenv : CompileEnv) (order : List Namespace) (f : findings.Finding) → findings.Holds f cenv order
+    → f.rule ≡ scope_error.NoMemory → ⊥
+memory_not cenv order f (inl s) e =
+    some_not _ order (λ h. some_not (IsFoundIn cenv h f) _ (template_not cenv h f e)) s
+memory_not cenv order f (inr p) e = let is = p.rule in cc
+
+abbrev finding_of : ScopeError → Text → ℕ → findings.Subject → findings.Finding
+finding_of rule t line a = record { rule = rule; template = t; line = line; subject = a }
+
+-- Findings are equal if their templates and subjects are.
+pub same_finding : (rule : ScopeError) (t u : Text) (line : ℕ) (a b : findings.Subject) → t ≡ u → a ≡ b
+    → finding_of rule t line a ≡ finding_of rule u line b
+same_finding rule t u line a b e f =
+    ap (λ (x : Text). finding_of rule x line a) e ∙ ap (λ (x : findings.Subject). finding_of rule u line x) f
+
+-- The finding of a broken rule of names and calls.
+pub rule_found : (given : SourceTexts) (entry : Text) (options : Options) (c : Seen)
+    → IsOnlyChain given entry options c → (found : findings.Finding) → rules.Breaks found.rule (cenv_of c) c.order
+    → findings.Holds found (cenv_of c) c.order → (f : Finding) → IsBroken found f → IsFinding given entry options f
+rule_found given entry options c is found broken holds f (place, subject, e, same) =
+    subst (IsFinding given entry options) (sym e) (record {
+      some = λ q. cc;
+      broken =
+          record { chain = c; is = is; fault = memory_not (cenv_of c) c.order found holds; broken = broken };
+      placed = record {
+        chain = c;
+        is = is;
+        holds = subst (λ z. findings.Holds z (cenv_of c) c.order) (sym same) holds;
+      };
+    })
+
+-- The finding of an error of a chain.
+pub chain_found : (given : SourceTexts) (entry : Text) (options : Options) (e : ChainError)
+    → inherit.Breaks e given entry options → ((c : Seen) → IsChain given entry options c → e ≡ chain_error.NoMemory)
+    → (f : Finding) → IsOfChain given options e f → IsFinding given entry options f
+chain_found given entry options e broken none f of = record {
+  some = λ q. let is = of.states in cc;
+  broken =
+      subst (Breaks given entry options) (sym of.states) (of.some, broken, λ c is. of.some (none c is));
+  placed = subst (λ x. IsPlaceOf given entry options x f.place f.subject) (sym of.states) of.placed;
+}
+
+-- The finding of an image that would pass a limit.
+image_found : (given : SourceTexts) (entry : Text) (options : Options) (e : CompileError) → e ≢ error.NoMemory
+    → Breaks given entry options e → IsOfImage e
+    → IsFinding given entry options (record { error = e; place = None; subject = None })
+image_found given entry options (error.Chain e) some broken of = absurd of
+image_found given entry options (error.Scope e) some broken of = absurd of
+image_found given entry options error.CodeTooLong some broken of =
+    record { some = some; broken = broken; placed = (refl, refl) }
+image_found given entry options error.NoMemory some broken of = absurd (some refl)
+image_found given entry options error.StackTooDeep some broken of =
+    record { some = some; broken = broken; placed = (refl, refl) }
+
+pub image_explained : (given : SourceTexts) (entry : Text) (options : Options) (e : CompileError)
+    → Breaks given entry options e → IsOfImage e → (r : Result Explained NoMemory)
+    → IfOk r (λ x. (e ≢ error.NoMemory)
+    × (x ≡ explained.Refused (record { error = e; place = None; subject = None })))
+    → IfOk r (IsExplained given entry options)
+image_explained given entry options e broken of (Ok x) h =
+    subst (IsExplained given entry options) (sym h.1) (image_found given entry options e h.0 broken of)
+image_explained given entry options e broken of (Err n) h = tt

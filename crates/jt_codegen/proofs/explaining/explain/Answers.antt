@@ -1,0 +1,54 @@
+use Rattle.std.proofs.Common.{subst, sym}
+use Rattle.std.specs.Prelude.{IfNone, IfSome}
+use Rattle.jt_chains.specs.View.{chain_view}
+use Rattle.jt_checks.specs.Findings.{Holds}
+use Rattle.jt_checks.specs.FindingView.{finding_view}
+use Rattle.jt_rules.specs.CompileEnv.{cenv_of}
+use Rattle.jt_rules.specs.Rules.{Breaks, KeepsRules}
+use Rattle.jt_codegen.proofs.ChainImages.{only_chain}
+use Rattle.jt_codegen.proofs.Findings.{chain_asked, chain_found, image_explained, rule_found}
+use Rattle.jt_codegen.proofs.explaining.explain.Goals as goal
+
+pub returns-in-Err : goal.returns-in-Err
+returns-in-Err g c =
+    chain_found (g.L.Library.sources c.args.library.now) c.args.entry.now c.args.options c.in-Err.error
+    c.in-Err.ensures.refused c.in-Err.ensures.only c.in_ok-found-in-Err.found c.in_ok-found-in-Err.ensures
+
+pub returns-in-Some : goal.returns-in-Some
+returns-in-Some g c =
+    let seen = chain_view c.in-Ok.chain in
+    rule_found (g.L.Library.sources c.args.library.now) c.args.entry.now c.args.options seen
+    (only_chain (g.L.Library.sources c.args.library.now) c.args.entry.now c.args.options seen c.in-Ok.ensures.chained
+    c.in-Ok.ensures.only)
+    (finding_view c.in-Some.found)
+    (rw c.in-Some.is at c.in_ok-found.ensures.found) (rw c.in-Some.is at c.in_ok-found.ensures.holds)
+    c.in_ok-of_rule-in-Some.field-0 c.in_ok-of_rule-in-Some.ensures
+
+pub compile_chain-requires : goal.compile_chain-requires
+compile_chain-requires g c = (
+  record {
+    given = g.L.Library.sources c.args.library.now;
+    entry = c.args.entry.now;
+    options = c.args.options;
+  },
+  chain_asked (g.L.Library.sources c.args.library.now) c.args.entry.now c.args.options (chain_view c.in-Ok.chain)
+      c.in-Ok.ensures.chained c.in-Ok.ensures.only c.in-Ok.ensures.weighs c.in-Ok.ensures.short c.in-Ok.ensures.few,
+)
+
+pub returns-in-Ok-compile_chain : goal.returns-in-Ok-compile_chain
+returns-in-Ok-compile_chain g c = (
+  c.in-Ok-compile_chain._image,
+  c.in-Ok-compile_chain.ensures.compiled _
+      (chain_asked (g.L.Library.sources c.args.library.now) c.args.entry.now c.args.options (chain_view c.in-Ok.chain)
+      c.in-Ok.ensures.chained c.in-Ok.ensures.only c.in-Ok.ensures.weighs c.in-Ok.ensures.short c.in-Ok.ensures.few),
+)
+
+pub returns : goal.returns
+returns g c =
+    let asked = chain_asked (g.L.Library.sources c.args.library.now) c.args.entry.now c.args.options
+    (chain_view c.in-Ok.chain) c.in-Ok.ensures.chained c.in-Ok.ensures.only c.in-Ok.ensures.weighs c.in-Ok.ensures.short
+    c.in-Ok.ensures.few in
+    image_explained (g.L.Library.sources c.args.library.now) c.args.entry.now c.args.options
+    c.in-Err-compile_chain.error (c.in-Err-compile_chain.ensures.refused _ asked)
+    (c.in-Err-compile_chain.ensures.lawful (rw c.in-None.is at c.in_ok-found.ensures.kept)) c.image_finding.result
+    c.image_finding.ensures

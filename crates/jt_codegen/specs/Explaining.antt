@@ -1,0 +1,108 @@
+-- What an explanation says of an entry in a library.
+use Rattle.std.specs.Prelude.{◌≡◌, ◌≢◌, Option, Some, None, option_map, string_bytes}
+use Rattle.jt_scan.specs.declared.options.Options.{Options}
+use Rattle.jt_ast.specs.Expressions.{Text}
+use Rattle.jt_expr.specs.declared.named.Named.TheVariants as named
+use Rattle.jt_parse.specs.declared.error.ParseError.{ParseError}
+use Rattle.jt_parse.specs.declared.error.ParseError.TheVariants as parse_error
+use Rattle.jt_chains.specs.View.{Seen}
+use Rattle.jt_checks.specs.Findings as findings
+use Rattle.jt_image.specs.Code.{Code}
+use Rattle.jt_inherit.specs.Chains.{SourceTexts}
+use Rattle.jt_inherit.specs.Lines as errors
+use Rattle.jt_inherit.specs.declared.error.ChainError.{ChainError}
+use Rattle.jt_inherit.specs.declared.error.ChainError.TheVariants as chain_error
+use Rattle.jt_rules.specs.CompileEnv.{cenv_of}
+use Rattle.jt_rules.specs.declared.error.ScopeError.{ScopeError}
+use Rattle.jt_codegen.specs.Compiled.{IsCompiled, IsOnlyChain}
+use Rattle.jt_codegen.specs.Refusals.{Breaks}
+use Rattle.jt_codegen.specs.Unknown.{HasUnknown}
+use Rattle.jt_codegen.specs.declared.error.CompileError.{CompileError}
+use Rattle.jt_codegen.specs.declared.error.CompileError.TheVariants as error
+use Rattle.jt_codegen.specs.declared.finding.Explained.{Explained}
+use Rattle.jt_codegen.specs.declared.finding.Explained.TheVariants as explained
+use Rattle.jt_codegen.specs.declared.finding.Finding.{Finding}
+use Rattle.jt_codegen.specs.declared.finding.TagPlace.{TagPlace}
+use Rattle.jt_codegen.specs.declared.finding.Subject.{Subject}
+use Rattle.jt_codegen.specs.declared.finding.Subject.TheVariants as v
+
+-- The subject as the rules of names and calls have it.
+abbrev pub subject_view : Subject → findings.Subject
+subject_view (v.Name x) = findings.a_name (string_bytes x)
+subject_view (v.LoopField k) = findings.a_loop_field (string_bytes k)
+subject_view (v.CalledName x) = findings.a_called_name (string_bytes x)
+subject_view (v.CalledField of k) = findings.a_called_field (string_bytes of) (string_bytes k)
+subject_view v.CalledExpression = findings.a_called_expression
+subject_view (v.Filter x) = findings.a_filter (string_bytes x)
+subject_view (v.Test x) = findings.a_test (string_bytes x)
+subject_view (v.Macro x) = findings.a_macro (string_bytes x)
+subject_view v.Bindings = findings.the_bindings
+subject_view v.Names = findings.the_names
+
+-- The broken rule of names and calls that a place and a subject state.
+abbrev pub rule_at : ScopeError → TagPlace → Subject → findings.Finding
+rule_at rule place subject = record {
+  rule = rule;
+  template = string_bytes place.template;
+  line = place.line;
+  subject = subject_view subject;
+}
+
+-- The finding states that broken rule.
+abbrev pub IsBroken : findings.Finding → Finding → Type 0
+IsBroken found f =
+    (place : TagPlace) × (subject : Subject)
+    × (f ≡ record { error = error.Scope found.rule; place = Some place; subject = Some subject })
+    × (rule_at found.rule place subject ≡ found)
+
+module _ (given : SourceTexts) (options : Options) where
+  -- The subject of a source that spells no allowed tree, if it is known: an unknown filter or an
+  -- unknown test, which a tag at the line names.
+  abbrev pub IsUnread : Text → ParseError → Option Subject → Type 0
+  IsUnread template e None = Unit {0}
+  IsUnread template (parse_error.UnknownFilter line) (Some (v.Filter x)) =
+      HasUnknown given options template line named.Filter (string_bytes x)
+  IsUnread template (parse_error.UnknownTest line) (Some (v.Test x)) =
+      HasUnknown given options template line named.Test (string_bytes x)
+  IsUnread template e subject = ⊥
+
+  -- The subject of an error of a chain. Only an unknown filter or test has one.
+  abbrev pub IsUnknown : ChainError → Option Subject → Type 0
+  IsUnknown (chain_error.Parse name e) subject = IsUnread (string_bytes name) e subject
+  IsUnknown e subject = subject ≡ None
+
+  -- The place and the subject of an error of a chain. The error of a source has a place.
+  pub record IsChainPlace (e : ChainError) (place : Option TagPlace) (subject : Option Subject) : Type 0 where
+    pub at : option_map (λ p. (string_bytes p.template, p.line)) place ≡ errors.place e
+    pub about : IsUnknown e subject
+
+  -- The finding states the error of a chain.
+  pub record IsOfChain (e : ChainError) (f : Finding) : Type 0 where
+    pub some : e ≢ chain_error.NoMemory
+    pub states : f.error ≡ error.Chain e
+    pub placed : IsChainPlace e f.place f.subject
+
+module _ (given : SourceTexts) (entry : Text) (options : Options) where
+  -- A chain of the entry breaks the rule at the place, in the subject.
+  pub record IsTrueOfChain (found : findings.Finding) : Type 0 where
+    pub chain : Seen
+    pub is : IsOnlyChain given entry options chain
+    pub holds : findings.Holds found (cenv_of chain) chain.order
+
+  -- The place and the subject are those of the error. A broken rule of names and calls has both.
+  abbrev pub IsPlaceOf : CompileError → Option TagPlace → Option Subject → Type 0
+  IsPlaceOf (error.Scope rule) (Some place) (Some subject) = IsTrueOfChain (rule_at rule place subject)
+  IsPlaceOf (error.Scope rule) place subject = ⊥
+  IsPlaceOf (error.Chain e) place subject = IsChainPlace given options e place subject
+  IsPlaceOf e place subject = (place ≡ None) × (subject ≡ None)
+
+  -- The finding is true: `compile` may answer the error, and its place and subject are right.
+  pub record IsFinding (f : Finding) : Type 0 where
+    pub some : f.error ≢ error.NoMemory
+    pub broken : Breaks given entry options f.error
+    pub placed : IsPlaceOf f.error f.place f.subject
+
+  -- What is said of the entry holds.
+  abbrev pub IsExplained : Explained → Type 0
+  IsExplained explained.Compiles = (code : Code) × IsCompiled given entry options code
+  IsExplained (explained.Refused f) = IsFinding f

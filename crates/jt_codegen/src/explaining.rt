@@ -1,0 +1,120 @@
+//! Explains why an entry does not compile.
+
+ghost use Rattle.std.specs.Prelude.{◌≡◌, ◌≢◌, None, IfOk};
+ghost use Rattle.jt_codegen.specs.Explaining.{IsExplained, IsOfChain, IsUnknown};
+
+use crate::compiling::compile_chain;
+use crate::error::CompileError;
+use crate::finding::{Explained, Finding, Subject, TagPlace};
+use crate::unknown::find_unknown;
+use jt_expr::Named;
+use jt_inherit::{ChainError, Library, chain};
+use jt_parse::ParseError;
+use jt_scan::Options;
+use jt_scopes::find_broken;
+use jt_value::NoMemory;
+use std::alloc::{AllocError, Global};
+
+/// Explains whether the entry of a library compiles, with all templates that it reaches. If it does
+/// not, the finding states the broken rule, with the place and the name where they are known.
+///
+/// # Errors
+///
+/// `NoMemory` if a growth is refused.
+pub fn explain<L: Library>(
+    alloc: Global,
+    entry: &str,
+    library: &L,
+    options: Options,
+) -> Result<Explained, NoMemory>
+    ensures { IfOk result (IsExplained (L.sources library.now) entry.now options) }
+{
+    let chain = match chain(alloc, entry, library, options) {
+        Ok(chain) => chain,
+        Err(error) => {
+            let found = chain_finding(alloc, library, options, error)?;
+            return Ok(Explained::Refused(found));
+        }
+    };
+    match find_broken(alloc, &chain)? {
+        Some(found) => Ok(Explained::Refused(Finding::of_rule(alloc, &found)?)),
+        None => match compile_chain(alloc, &chain) {
+            Ok(_image) => Ok(Explained::Compiles),
+            Err(error) => image_finding(error),
+        },
+    }
+}
+
+/// Returns what an error states of the image of a chain that keeps the rules.
+///
+/// # Errors
+///
+/// `NoMemory` if that is the error.
+fn image_finding(error: CompileError) -> Result<Explained, NoMemory>
+    ensures { IfOk result (λ x. (error ≢ CompileError.NoMemory)
+        × (x ≡ Explained.Refused (record { error = error; place = None; subject = None }))) }
+{
+    match error {
+        CompileError::NoMemory => Err(NoMemory),
+        other => Ok(Explained::Refused(Finding::without_place(other))),
+    }
+}
+
+/// Returns the finding of an error of the entry's chain.
+///
+/// # Errors
+///
+/// `NoMemory` if that is the error, or if a growth is refused.
+fn chain_finding<L: Library>(
+    alloc: Global,
+    library: &L,
+    options: Options,
+    error: ChainError,
+) -> Result<Finding, NoMemory>
+    ensures { IfOk result (IsOfChain (L.sources library.now) options error) }
+{
+    if error == ChainError::NoMemory {
+        return Err(NoMemory);
+    }
+    let subject = unknown_name(alloc, library, options, &error)?;
+    let place = match error.place() {
+        Some((template, line)) => Some(TagPlace {
+            template: String::from_str(alloc, template)?,
+            line,
+        }),
+        None => None,
+    };
+    Ok(Finding {
+        error: CompileError::Chain(error),
+        place,
+        subject,
+    })
+}
+
+/// Returns the unknown filter or test, if that is the error, as the source has it.
+fn unknown_name<L: Library>(
+    alloc: Global,
+    library: &L,
+    options: Options,
+    error: &ChainError,
+) -> Result<Option<Subject>, AllocError>
+    ensures { IfOk result (IsUnknown (L.sources library.now) options error.now) }
+{
+    let ChainError::Parse(name, error) = error else {
+        return Ok(None);
+    };
+    let Some(source) = library.source(name) else {
+        return Ok(None);
+    };
+    match error {
+        ParseError::UnknownFilter { line } => {
+            let found = find_unknown(alloc, source, options, *line, Named::Filter)?;
+            Ok(found.map(Subject::Filter))
+        }
+        ParseError::UnknownTest { line } => {
+            let found = find_unknown(alloc, source, options, *line, Named::Test)?;
+            Ok(found.map(Subject::Test))
+        }
+        _ => Ok(None),
+    }
+}

@@ -1,0 +1,115 @@
+//! Defines what an explanation says: the error, and where and in what the templates break a rule.
+
+ghost use Rattle.std.specs.Prelude.{◌≡◌, IfOk};
+ghost use Rattle.jt_checks.specs.FindingView as view;
+ghost use Rattle.jt_codegen.specs.Explaining.{IsBroken, subject_view};
+
+use crate::error::CompileError;
+use jt_scopes as scopes;
+use std::alloc::{AllocError, Global};
+
+/// What an error is about, by the names in the template.
+#[derive(Debug, Drop, PartialEq, Eq)]
+pub enum Subject {
+    /// A name that is read or bound.
+    Name(String),
+    /// A field of `loop` that is read.
+    LoopField(String),
+    /// A callee that is a name.
+    CalledName(String),
+    /// A callee that is a field of a name.
+    CalledField { of: String, field: String },
+    /// A callee that is any other expression.
+    CalledExpression,
+    /// A filter, by its name.
+    Filter(String),
+    /// A test, by its name.
+    Test(String),
+    /// A macro that is declared, by its name.
+    Macro(String),
+    /// The number of names that a template binds.
+    Bindings,
+    /// The number of names that the chains read or bind.
+    Names,
+}
+
+/// A tag: the name of its template, and its line, counted from 1.
+#[derive(Debug, Drop, PartialEq, Eq)]
+pub struct TagPlace {
+    pub template: String,
+    pub line: u32,
+}
+
+/// An error of `compile` with the place of the tag and what the error is about, where they are
+/// known. They are known for each rule of names and calls, and for unknown filters and tests. The
+/// place alone is known for a source that cannot be read.
+#[derive(Debug, Drop, PartialEq, Eq)]
+pub struct Finding {
+    pub error: CompileError,
+    pub place: Option<TagPlace>,
+    pub subject: Option<Subject>,
+}
+
+/// What `explain` says of an entry.
+#[derive(Debug, Drop, PartialEq, Eq)]
+pub enum Explained {
+    /// The entry compiles.
+    Compiles,
+    /// The entry does not compile.
+    Refused(Finding),
+}
+
+impl Finding {
+    /// Returns the finding of an error without a place.
+    pub(crate) fn without_place(error: CompileError) -> Self
+        ensures { result ≡ record { error = error; place = None; subject = None } }
+    {
+        Finding {
+            error,
+            place: None,
+            subject: None,
+        }
+    }
+
+    /// Returns the finding of a broken rule of names and calls.
+    pub(crate) fn of_rule(alloc: Global, found: &scopes::Finding<'_>) -> Result<Self, AllocError>
+        ensures { IfOk result (IsBroken (view.finding_view found.now)) }
+    {
+        let template = String::from_str(alloc, found.template)?;
+        let subject = owned(alloc, found.subject)?;
+        Ok(Finding {
+            error: CompileError::Scope(found.rule),
+            place: Some(TagPlace {
+                template,
+                line: found.line,
+            }),
+            subject: Some(subject),
+        })
+    }
+}
+
+/// Returns a copy of a subject that owns its names.
+fn owned(alloc: Global, subject: scopes::Subject<'_>) -> Result<Subject, AllocError>
+    ensures { IfOk result (λ s. subject_view s ≡ view.subject_view subject.entry) }
+{
+    match subject {
+        scopes::Subject::Name(name) => Ok(Subject::Name(String::from_str(alloc, name)?)),
+        scopes::Subject::LoopField(field) => {
+            Ok(Subject::LoopField(String::from_str(alloc, field)?))
+        }
+        scopes::Subject::CalledName(name) => {
+            Ok(Subject::CalledName(String::from_str(alloc, name)?))
+        }
+        scopes::Subject::CalledField { of, field } => {
+            let of = String::from_str(alloc, of)?;
+            let field = String::from_str(alloc, field)?;
+            Ok(Subject::CalledField { of, field })
+        }
+        scopes::Subject::CalledExpression => Ok(Subject::CalledExpression),
+        scopes::Subject::Filter(name) => Ok(Subject::Filter(String::from_str(alloc, name)?)),
+        scopes::Subject::Test(name) => Ok(Subject::Test(String::from_str(alloc, name)?)),
+        scopes::Subject::Macro(name) => Ok(Subject::Macro(String::from_str(alloc, name)?)),
+        scopes::Subject::Bindings => Ok(Subject::Bindings),
+        scopes::Subject::Names => Ok(Subject::Names),
+    }
+}
