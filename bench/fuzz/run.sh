@@ -9,9 +9,10 @@
 # tests/rows/ and with bench/fuzz/corpus, which `all` writes anew: the smallest inputs that together reach all that was reached, at most
 # 400 KB a target.
 #
-# A target has STACK KiB of stack (1024, or 2048 over a library without a proof) and MEMORY MiB of memory (512). The library is made by tools/static_library.py over what
-# `rt ci` has proved; where nothing is proved, by bindings/unproved.py, which checks each operation while it runs. LIBRARY names one
-# that was compiled with these counters. It needs clang with its libFuzzer; CLANG names it.
+# A target has STACK KiB of stack (1024, or 2048 over a library without a proof) and MEMORY MiB of memory (512), and ends if one input
+# takes TIMEOUT seconds by the clock (10): give more where other work has the processors. The library is made by
+# tools/static_library.py over what `rt ci` has proved; where nothing is proved, by bindings/unproved.py, which checks each operation
+# while it runs. LIBRARY names one that was compiled with these counters. It needs clang with its libFuzzer; CLANG names it.
 set -euo pipefail
 usage='usage: bench/fuzz/run.sh image|source|context|compare|handles SECONDS FOLDER, or all HOURS FOLDER'
 target=${1:?$usage} time=${2:?$usage}
@@ -39,7 +40,7 @@ built() {
 
 # Runs a target, with words for libFuzzer, within its stack and its memory.
 limited() {
-    (ulimit -s "${STACK:-$stack}" && ulimit -c 0 && exec "$folder/fuzz-$1" -max_len=4096 -timeout=10 \
+    (ulimit -s "${STACK:-$stack}" && ulimit -c 0 && exec "$folder/fuzz-$1" -max_len=4096 -timeout="${TIMEOUT:-10}" \
         -rss_limit_mb="${MEMORY:-512}" -dict="$folder/seeds/words" -artifact_prefix="$folder/$1-" "${@:2}")
 }
 
