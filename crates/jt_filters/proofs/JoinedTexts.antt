@@ -120,7 +120,8 @@ whole_by : (escaping : Bool) (d : Tree) (ts : Items) (o p : Option (List ℕ)) (
     → p ≡ Some one
     → option_map (λ (ps : List (List ℕ)). one ++ flat_map (λ q. between ++ q) ps) (pieces escaping ts)
     ≡ option_and_then (λ (b : List ℕ). option_map (join_by (λ (text : List ℕ). text) b)
-    (option_and_then (λ (first : List ℕ). option_map (λ (rest : List (List ℕ)). first ∷ rest) (pieces escaping ts)) p)) o
+    (option_and_then (λ (first : List ℕ). option_map (λ (rest : List (List ℕ)). first ∷ rest) (pieces escaping ts)) p))
+    o
 whole_by escaping d ts o p between one is first =
     joins_first one between (pieces escaping ts)
     ∙ ap (λ (x : Option (List ℕ)). option_map (join_by (λ (text : List ℕ). text) between)

@@ -1,12 +1,13 @@
 -- The entries of numbers: which were seen, and that no two have the same number.
-use Rattle.std.proofs.Common.{◌≡◌, ℕ, zero, suc, ℤ, ◌+◌, ◌<◌, ◌≤◌, Bool, true, false, ◌||◌, ◌&&◌, List, [], ◌∷◌, ◌++◌, length}
-use Rattle.std.proofs.Common.{get_or, refl, sym, ap, ◌∙◌, ◌⊎◌, inl, inr, subst, true≢false, arith, length-append}
+use Rattle.std.proofs.Common.{◌≡◌, ℕ, zero, suc, ℤ, ◌+◌, ◌<◌, ◌≤◌, Bool, true, false, ◌||◌, ◌&&◌, List, [], ◌∷◌, ◌++◌}
+use Rattle.std.proofs.Common.{length, get_or, refl, sym, ap, ◌∙◌, ◌⊎◌, inl, inr, subst, true≢false, arith}
+use Rattle.std.proofs.Common.{length-append}
 use Rattle.std.proofs.Math.ListN.{set}
 use Rattle.std.proofs.lemmas.Bool.{cases_lt}
 use Rattle.std.proofs.lemmas.Bool.Decides.{Decides-int_eq}
 use Rattle.std.proofs.lemmas.Int.{by_lt_z}
 use Rattle.std.proofs.lemmas.List.{get_or_append_left, get_or_push, length-set}
-use Rattle.std.proofs.lemmas.List.Folds.{list_any_at, list_any-append, list_any_more}
+use Rattle.std.proofs.lemmas.List.Folds.{list_any_at, list_any-append}
 use Rattle.std.specs.Cmp.{int_chain}
 use Rattle.std.specs.Int.Signed.{◌<ℤ◌, ◌≤ℤ◌, ≤ℤ_refl, clash_ℤ, <ℤ_irrefl, <ℤ-≤ℤ_trans}
 use Rattle.std.specs.List.{list_any}
@@ -85,7 +86,7 @@ not_seen es i z distinct here off = any_false (λ e. int_eq e.number z && e.is_s
         (distinct k i d lt here.0 ((Decides-int_eq (get_or es k d).number z).0 e ∙ sym (here.1 d)))
         ∙ off d)
 
-pub had_number : (es : List Entry) (i : ℕ) (z : ℤ) (b : Bool) → AreDistinct es → IsAt z i es
+had_number : (es : List Entry) (i : ℕ) (z : ℤ) (b : Bool) → AreDistinct es → IsAt z i es
     → ((d : Entry) → (get_or es i d).is_seen ≡ b) → b ≡ was_seen es z
 had_number es i z false distinct here is = sym (not_seen es i z distinct here is)
 had_number es i z true distinct here is =
@@ -188,7 +189,7 @@ still_below : (a b c : ℤ) → a ≤ℤ b → b <ℤ c → a ≤ℤ c
 still_below a b c le lt =
     by_lt_z c a (λ more. absurd (<ℤ_irrefl (int_chain c b c (<ℤ-≤ℤ_trans more le) lt))) (λ fine. fine)
 
-pub rising_one : (e : Entry) → e.is_seen ≡ false → AreRising ([] ++ e ∷ []) e.number
+rising_one : (e : Entry) → e.is_seen ≡ false → AreRising ([] ++ e ∷ []) e.number
 rising_one e off = record {
   distinct = λ i j d li lj same. omega (arith, li, lj);
   unseen = λ z. ap (λ (b : Bool). (int_eq e.number z && b) || false) off ∙ off_or (int_eq e.number z);
@@ -202,7 +203,7 @@ rising_one e off = record {
     here : (k : ℕ) (d : Entry) → k ≡ 0 → (get_or (e ∷ []) k d).number ≤ℤ e.number
     here k d zero_is = subst (λ (n : ℕ). (get_or (e ∷ []) n d).number ≤ℤ e.number) (sym zero_is) (≤ℤ_refl e.number)
 
-pub rising_more : (es : List Entry) (last : ℤ) (e : Entry) → AreRising es last → last <ℤ e.number → e.is_seen ≡ false
+rising_more : (es : List Entry) (last : ℤ) (e : Entry) → AreRising es last → last <ℤ e.number → e.is_seen ≡ false
     → AreRising (es ++ e ∷ []) e.number
 rising_more es last e up lt off = record {
   distinct = distinct_added es e up.distinct (missing es last e.number up lt);
@@ -224,9 +225,6 @@ rising_more es last e up lt off = record {
         (sym (get_or_push es e d k (omega (arith, new, inside, length-append es (e ∷ [])))))
         (≤ℤ_refl e.number)
 
-pub none_rising : AreDistinct [] × AreUnseen []
-none_rising = (λ i j d li lj same. absurd (omega (arith, li)), λ z. refl)
-
 -- What is read at an index does not depend on the default.
 any_default : {X : Type 0} (xs : List X) (i : ℕ) (d e : X) → i < length xs → get_or xs i d ≡ get_or xs i e
 any_default [] i d e lt = absurd (omega (arith, lt))
@@ -238,9 +236,6 @@ pub had_at : (es : List Entry) (i : ℕ) (z : ℤ) (d : Entry) → AreDistinct e
 had_at es i z d distinct here =
     had_number es i z (get_or es i d).is_seen distinct here
     (λ e. ap (λ (x : Entry). x.is_seen) (any_default es i e d here.0))
-
-pub is_at : (es : List Entry) (i : ℕ) (z : ℤ) (d : Entry) → i < length es → (get_or es i d).number ≡ z → IsAt z i es
-is_at es i z d lt n = (lt, λ e. ap (λ (x : Entry). x.number) (any_default es i e d lt) ∙ n)
 
 pub rising_first : (es new : List Entry) (n : ℤ) (e : Entry) → es ≡ [] → e.number ≡ n → e.is_seen ≡ false
     → new ≡ es ++ e ∷ [] → AreRising new n
