@@ -82,8 +82,8 @@ fn context_of(alloc: Global, members: Vec<(String, Value)>) -> Result<Context, R
     Ok(context)
 }
 
-/// Reads the value that the next tokens spell, if it nests at most `depth` deep. The next object is
-/// expected to have `expected` members, as many as the object before it.
+/// Reads the value that the next tokens spell, if it nests at most `depth` deep. `expected` is the
+/// number of members of the object that was read last, for which the next object reserves memory.
 #[cycle(read)]
 #[inline(always)]
 fn read(
