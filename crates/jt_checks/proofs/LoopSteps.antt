@@ -17,6 +17,7 @@ use Rattle.std.specs.Prelude.{flat_map}
 use Rattle.jt_chains.specs.Uses.{own_names}
 use Rattle.jt_chains.specs.TemplateFiles.{namespace_view}
 use Rattle.jt_chains.proofs.TemplatesByIndex.{name_of_namespace, namespace_along}
+use Rattle.jt_chains.proofs.TemplatesByIndex.{namespace_indices, index_within}
 use Rattle.jt_rules.specs.Rules.{libraries_counted, names_counted}
 use Rattle.jt_chains.specs.declared.chain.Namespace as written
 use Rattle.std.proofs.lemmas.Bool.Decides.{nat_tests}
@@ -86,6 +87,15 @@ its_templates c i h lt at =
     namespace_along c.templates.items c.templates.items c.namespaces.items i h h.templates.items refl refl lt at c.once
     c.whole alone
     ∙ each_alone (templates (sources_of (chain_view c)) (namespace_at (chain_view c).order i))
+
+-- The indices of a chain are those of templates.
+pub template_within : (c : Chain) (i : ℕ) (h : written.Namespace) → i < length c.namespaces.items
+    → h ≡ get_or c.namespaces.items i h → (k : ℕ) → k < length h.templates.items
+    → get_or h.templates.items k 0 < length c.templates.items
+template_within c i h lt at k within =
+    index_within c.templates.items h.templates.items k within
+    (namespace_indices c.templates.items c.templates.items c.namespaces.items i h h.templates.items refl refl lt at
+    c.once c.whole)
 
 there : (order : List Namespace) (i : ℕ) → get_or order i (a_chain []) ≡ namespace_at order i
 there order i = sym (unwrap_or-slice_get order i (a_chain []))
