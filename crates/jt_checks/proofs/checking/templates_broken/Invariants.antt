@@ -8,6 +8,6 @@ use Rattle.jt_checks.proofs.checking.templates_broken.Given as goal
 abbrev pub invariant-loop-template : goal.invariant-loop-template
 invariant-loop-template l =
     broken.templates_broken (its_cenv l.scope) (its_namespace l.scope)
-    (layers_along (chain_view l.scope.chain.now).templates (drop l.template-index l.itself.templates.items))
+    (layers_along (chain_view l.scope.chain.now).templates (drop l.template-index l.template-items))
     ≡ broken.templates_broken (its_cenv l.scope) (its_namespace l.scope)
-    (layers_along (chain_view l.scope.chain.now).templates l.itself.templates.items)
+    (layers_along (chain_view l.scope.chain.now).templates l.template-items)

@@ -58,7 +58,9 @@ returns c =
     omega (arith, c.requires.stands, length-map chain.namespaces.items namespace_view) in
     let names = own_names (its_sources chain) (namespace_in chain c.args.namespace) in
     let own : first ≡ ascending names =
-    c.in_ok-add_names.ensures ∙ ap (λ zs. all_inserted zs []) (ap texts c.deref.ensures.value ∙ c.at.ensures.names)
+    c.in_ok-add_names.ensures
+    ∙ ap (λ (ks : List (Bor Text)). all_inserted (texts c.deref.result.now) (texts ks)) c.new-names.ensures.empty
+    ∙ ap (λ (zs : List Text). all_inserted zs []) (ap texts c.deref.ensures.value ∙ c.at.ensures.names)
     ∙ ascending_inserted names [] in
     let ended = at_drop_all
     (λ (z : List NeededTemplate). all_inserted (names_of chain c.args.namespace z) (texts l.names.keys)) ks
