@@ -219,11 +219,7 @@ fn count_own(facts: &ChainFacts<'_>, namespace: usize) -> usize
 /// Returns the number of different names that a chain and the libraries that it imports read or
 /// bind, at most the greatest `usize`. A library has none of its own: its names count in the chains
 /// that import it.
-fn count_names(
-    alloc: Global,
-    facts: &ChainFacts<'_>,
-    namespace: usize,
-) -> Result<usize, AllocError>
+fn count_names(alloc: Global, facts: &ChainFacts<'_>, namespace: usize) -> Result<usize, AllocError>
     requires known { AllKnown facts.now }
     requires stands { namespace < length facts.now.chain.now.namespaces.items }
     ensures { IfOk result (λ n. n ≡ capped (names_in facts.now.chain.now namespace)) }

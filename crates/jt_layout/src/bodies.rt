@@ -74,10 +74,7 @@ pub(crate) struct Bodies<'a> {
 }
 
 /// Returns the bodies of the blocks of a chain, with their indices.
-pub(crate) fn bodies_of<'a>(
-    alloc: Global,
-    blocks: &[Block<'a>],
-) -> Result<Bodies<'a>, NoMemory>
+pub(crate) fn bodies_of<'a>(alloc: Global, blocks: &[Block<'a>]) -> Result<Bodies<'a>, NoMemory>
     ensures all { IfOk result (λ b. b.all.items ≡ blocks.now) }
     ensures firsts { IfOk result
         (λ b. AreIndices 0 (map (λ k. k.name.now) blocks.now) b.firsts.indices) }

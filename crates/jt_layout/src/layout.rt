@@ -186,10 +186,7 @@ fn lay_chains<'a>(
 /// # Errors
 ///
 /// `NoMemory` if a growth is refused or a number overflows.
-pub fn lay_out<'a>(
-    alloc: Global,
-    facts: &ChainFacts<'a>,
-) -> Result<NamespaceTables<'a>, NoMemory>
+pub fn lay_out<'a>(alloc: Global, facts: &ChainFacts<'a>) -> Result<NamespaceTables<'a>, NoMemory>
     requires { AllKnown facts.now }
     ensures namespace_layout { IfOk result (λ tables. IsLaidOut tables) }
     ensures chain { IfOk result (λ tables. tables.chain.now ≡ facts.now.chain.now) }

@@ -41,7 +41,10 @@ fn name_used<'a>(site: &UseSite<'a>) -> Option<&'a str>
 }
 
 /// Adds the names that uses read or bind.
-pub(crate) fn add_used<'a>(names: &mut BTreeSet<&'a str>, uses: &[UseSite<'a>]) -> Result<(), AllocError>
+pub(crate) fn add_used<'a>(
+    names: &mut BTreeSet<&'a str>,
+    uses: &[UseSite<'a>],
+) -> Result<(), AllocError>
     ensures { IfOk result (λ _. Puts names.old names.new (names_used (sites_view uses.now))) }
 {
     for site in uses {

@@ -19,7 +19,7 @@ loop-index-preserved c = λ ts e.
     let k = l.index-index in
     let i = get_or is k 0 in
     elim c.match-get.branch [
-      in-Some+in_ok-add_names w ↦
+      | in-Some+in_ok-add_names w ↦
           let known = facts_at ts fs i w.in-Some.known.now (ltb-true _ _ (sym w.in-Some.ensures.lookup.0))
           w.in-Some.ensures.lookup.1 e in
           names_turn ts is k (texts w.deref.result.now) (texts l.names.keys) (texts c.match-get.names.keys)
@@ -27,7 +27,7 @@ loop-index-preserved c = λ ts e.
           (ap texts w.deref.ensures.value ∙ ap (λ (p : List Site × List Text). p.1) known)
           (ap (λ (s : BTreeSet (Bor Text)). texts s.keys) w.names-is ∙ w.in_ok-add_names.ensures)
           ∙ l.invariant ts e
-    | in_default w ↦
+      | in_default w ↦
           ap (λ (s : BTreeSet (Bor Text)).
           all_inserted (along ts (λ n b. body_names b) (drop (k + 1) is)) (texts s.keys)) w.names-is
           ∙ no_names_turn ts is k (texts l.names.keys) c.loop-index-test.true
