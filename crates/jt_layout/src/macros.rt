@@ -45,7 +45,8 @@ pub(crate) struct Macros<'a> {
     pub(crate) defaults: Defaults,
 }
 
-/// Returns a chain's macros with their indices; the pool indices of their defaults begin at `first`.
+/// Returns a chain's macros with their indices. The pool indices of their defaults begin at
+/// `first`.
 pub(crate) fn macros_of<'a>(
     alloc: Global,
     macros: &[Macro<'a>],

@@ -52,8 +52,8 @@ pub(crate) fn facts_of_files(
     Ok(found)
 }
 
-/// Returns whether the template at `index` is a library. An index out of range stands for a template
-/// without statements.
+/// Returns whether the template at `index` is a library. An index out of range stands for a
+/// template without statements.
 pub(crate) fn is_library_at(files: &[TemplateFile], index: usize) -> bool
     ensures { result ≡ holds_macros (body_at (files_view files.now) index) }
 {

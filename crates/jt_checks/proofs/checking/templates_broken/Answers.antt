@@ -40,8 +40,8 @@ returns-in-Some c =
     let k = c.loop-template.template-index in
     let i = get_or is k 0 in
     let f = finding_view c.in-Some.finding in
-    let uses = c.uses_at.ensures ∙ ap (λ (z : Chain). body_uses (body_at (chain_view z).templates i) outside) c.requires.same
-    in
+    let uses = c.uses_at.ensures
+    ∙ ap (λ (z : Chain). body_uses (body_at (chain_view z).templates i) outside) c.requires.same in
     let found : broken.template_broken cenv namespace (template_at ts i) ≡ Some f =
     sym (c.in_ok-finding.ensures
     ∙ ap (λ n. broken.found_in cenv namespace n (sites_view c.uses_at.result.now)) c.template_name-name.ensures
@@ -63,8 +63,8 @@ loop-template-preserved c =
     let is = c.deref-template-items.result.now in
     let k = c.loop-template.template-index in
     let i = get_or is k 0 in
-    let uses = c.uses_at.ensures ∙ ap (λ (z : Chain). body_uses (body_at (chain_view z).templates i) outside) c.requires.same
-    in
+    let uses = c.uses_at.ensures
+    ∙ ap (λ (z : Chain). body_uses (body_at (chain_view z).templates i) outside) c.requires.same in
     let none : broken.template_broken cenv namespace (template_at ts i) ≡ None =
     sym (c.in_ok-finding.ensures
     ∙ ap (λ n. broken.found_in cenv namespace n (sites_view c.uses_at.result.now)) c.template_name-name.ensures

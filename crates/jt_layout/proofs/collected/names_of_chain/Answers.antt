@@ -1,4 +1,5 @@
-use Rattle.std.proofs.Common.{◌≡◌, List, [], true, ◌+◌, drop, sym, ap, ◌∙◌, Vec, Global, not, get_or, ◌<◌, length, arith}
+use Rattle.std.proofs.Common.{◌≡◌, List, [], true, ◌+◌, drop, sym, ap}
+use Rattle.std.proofs.Common.{◌∙◌, Vec, Global, not, get_or, ◌<◌, length, arith}
 use Rattle.std.proofs.lemmas.Result.{IfOk-weaker}
 use Rattle.std.specs.Prelude.{flat_map}
 use Rattle.std.specs.Option.{is_none}
