@@ -1,6 +1,6 @@
 use Rattle.std.proofs.Common.{◌≡◌, drop}
 use Rattle.jt_ast.specs.Texts.{all_inserted, texts}
-use Rattle.jt_layout.proofs.collected.add_names.Given as goal
+use Rattle.jt_names.proofs.ordered.add_names.Given as goal
 
 abbrev pub invariant-loop-name : goal.invariant-loop-name
 invariant-loop-name l =
