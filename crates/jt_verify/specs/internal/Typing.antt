@@ -9,7 +9,7 @@ use Rattle.jt_image.specs.Code.{Section}
 use Rattle.jt_image.specs.Effect as effects
 use Rattle.jt_image.specs.Effect.{Shape}
 use Rattle.jt_image.specs.Readers.{header_of}
-use Rattle.jt_image.specs.Typed.{Among, max_entries}
+use Rattle.jt_image.specs.Typed.{max_entries}
 use Rattle.jt_verify.specs.declared.nodes.ShapeId.{ShapeId}
 use Rattle.jt_verify.specs.declared.nodes.NonValue.{NonValue}
 use Rattle.jt_verify.specs.declared.effect.Successors.{Successors}
@@ -33,9 +33,9 @@ abbrev pub unmarked : ShapeId → Option ℕ → Option ℕ → Effect
 unmarked h next target =
     record { shape = h; mark = None; leads = record { next = next; target = target } }
 
--- An effect that leads to the point with a shape that is too long.
+-- An effect that leads only to the point, with a shape that is too long.
 abbrev pub IsTall : ℕ → Result effects.Successors Flaw → Type 0
-IsTall q (Ok l) = Among q l.points × (max_entries < length l.shape)
+IsTall q (Ok l) = (l.points ≡ q ∷ []) × (max_entries < length l.shape)
 IsTall q (Err f) = ⊥
 
 -- The shape id belongs to the arena of this context, with its shape there.
