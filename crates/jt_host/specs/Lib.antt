@@ -3,6 +3,7 @@ pub mod Calls
 pub mod Explanations
 pub mod Reasons
 pub mod Rendering
+pub mod RunExplanations
 pub mod SourceLines
 pub mod Templates
 -- The modules that the clauses of the exported calls cite, and that an embedder's own clauses may

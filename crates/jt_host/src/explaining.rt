@@ -86,7 +86,7 @@ fn heading_of(alloc: Global, finding: &Finding) -> Result<String, AllocError>
 }
 
 /// Returns the template and the line before a refusal, or the empty text if they are not known.
-fn place_text(alloc: Global, place: &Option<TagPlace>) -> Result<String, AllocError>
+pub(crate) fn place_text(alloc: Global, place: &Option<TagPlace>) -> Result<String, AllocError>
     ensures { IfOk result (λ text. string_bytes text ≡ spec.place_text place.now) }
 {
     match place {
@@ -97,7 +97,7 @@ fn place_text(alloc: Global, place: &Option<TagPlace>) -> Result<String, AllocEr
 
 /// Returns the line of the source at a place, behind two spaces, or the empty text if the place is
 /// not known.
-fn source_text(
+pub(crate) fn source_text(
     alloc: Global,
     templates: &Templates,
     options: Options,

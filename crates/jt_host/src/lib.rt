@@ -27,6 +27,7 @@ mod call_error;
 mod calls;
 mod error;
 mod explaining;
+mod explaining_runs;
 mod reasons;
 mod rendering;
 mod source_lines;
@@ -39,6 +40,7 @@ pub use calls::{
 };
 pub use error::RenderError;
 pub use explaining::explained;
+pub use explaining_runs::explained_run;
 pub use jt_budget::{Budget, Spent};
 pub use jt_codegen::{CompileError, Explained, Finding, Subject, TagPlace, compile, explain};
 pub use jt_contexts::{ContextError, context_from_json};
