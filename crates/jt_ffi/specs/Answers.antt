@@ -1,6 +1,6 @@
 -- The answers of calls, and the bytes that they write to the caller's buffer.
-use Rattle.std.specs.Prelude.{◌≡◌, ◌⊎◌, ℕ, List, [], ◌++◌, length, drop, nat_le, Option, Some, None, Result, Ok, Err, Vec}
-use Rattle.std.specs.Prelude.{string_bytes, if◌then◌else◌}
+use Rattle.std.specs.Prelude.{◌≡◌, ◌⊎◌, ℕ, List, [], ◌++◌, length, drop, nat_le, Option, Some, None, Result, Ok, Err}
+use Rattle.std.specs.Prelude.{Vec, string_bytes, if◌then◌else◌}
 use Rattle.std.specs.declared.alloc.Global.{Global}
 use Rattle.std.specs.Option.{option_map_or}
 use Rattle.jt_host.specs.Reasons.{error_text}

@@ -94,9 +94,9 @@ pub extern "C" fn jt_library_explain(
         → AnswersExplained (Explains lengths texts entry.now (options_of options)) out.old out.new
         result }
 {
-    let held = library.take(alloc);
-    let outcome = explain_held(alloc, &held, entry, options.options());
-    library.put_back(held);
+    let taken = library.take(alloc);
+    let outcome = explain_held(alloc, &taken, entry, options.options());
+    library.put_back(taken);
     write_explanation(alloc, out, &outcome)
 }
 

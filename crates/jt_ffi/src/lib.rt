@@ -7,10 +7,10 @@
 //! libraries, images, contexts and outcomes in handles, whose memory is the caller's.
 //!
 //! A call reads its input (templates, repr), makes a call of jt_host (calls, explaining, held,
-//! error), and reports the result (answer). A handle (shared_handle, local_handle) holds the pointer (parts) of
-//! a boxed value (shared, local). Read first: exports.rt, the calls over bytes, and
-//! handle_exports.rt, the calls over handles. specs/Calls.antt and specs/Handles.antt state their
-//! results, and specs/Answers.antt their answers.
+//! error), and reports the result (answer). A handle (shared_handle, local_handle) holds the
+//! pointer (parts) of a boxed value (shared, local). Read first: exports.rt, the calls over bytes,
+//! and handle_exports.rt, the calls over handles. specs/Calls.antt and specs/Handles.antt state
+//! their results, and specs/Answers.antt their answers.
 #![tactic(auto)]
 
 mod answer;

@@ -31,7 +31,7 @@ use Rattle.jt_host.specs.declared.call_error.CallError.TheVariants as error
 abbrev pub fault_sentence : Fault → Text
 fault_sentence fault.BadType = codes "an operator, a filter or a test here does not take this kind of value"
 fault_sentence fault.Undefined =
-    codes "a value is needed here, and it is undefined: is a name misspelled or not in the context?"
+    codes "a value is needed here and is undefined: is a name misspelled or not in the context?"
 fault_sentence fault.Overflow = codes "a number here is outside of -9223372036854775808 to 9223372036854775807"
 fault_sentence fault.ZeroDivide = codes "a number is divided by 0 here"
 fault_sentence fault.Unprintable = codes "a list or a map is needed as printed text here: join its items"

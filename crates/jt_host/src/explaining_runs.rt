@@ -132,7 +132,7 @@ fn sentence_of_fault(fault: Fault) -> &'static str
     match fault {
         Fault::BadType => "an operator, a filter or a test here does not take this kind of value",
         Fault::Undefined => {
-            "a value is needed here, and it is undefined: is a name misspelled or not in the context?"
+            "a value is needed here and is undefined: is a name misspelled or not in the context?"
         }
         Fault::Overflow => {
             "a number here is outside of -9223372036854775808 to 9223372036854775807"

@@ -174,7 +174,8 @@ module _ (files : Known) where
     pub library : IsLibrary files dir sources
     pub explained : EndsAs (ExplainsTo sources name options) e
 
-  -- The same, and if the template compiles how its run for a context ends.
+  -- The template is explained as `Diagnoses` states, and if it compiles how its run for a context
+  -- ends.
   pub record DiagnosesRun (dir name : Text) (options : Options) (context : Option (String Global))
       (b : Budget) (e : Ending) : Type 0 where
     pub sources : SourceTexts

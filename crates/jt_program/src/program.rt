@@ -25,8 +25,8 @@ use crate::turns::run_turns;
 use jt_args::{Command, Job, job};
 use jt_budget::Budget;
 use jt_host::{
-    EntryTemplate, Templates, context_of, counts_of, explained, explained_run, image_of, render_text,
-    run_image, upgraded,
+    EntryTemplate, Templates, context_of, counts_of, explained, explained_run, image_of,
+    render_text, run_image, upgraded,
 };
 use jt_machine::{Sink, put_all};
 use jt_scan::Options;

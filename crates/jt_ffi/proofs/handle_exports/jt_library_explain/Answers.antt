@@ -11,10 +11,10 @@ returns-clause-answer c =
     let entry = c.args.entry.now in
     let o = options_of c.args.options in
     let r = c.explain_held-outcome.result in
-    let there = option_map (λ (q : Box Shared Global). q.value) c.take-held.result in
+    let there = option_map (λ (q : Box Shared Global). q.value) c.take-taken.result in
     let taken = subst (λ (k : Options). ExplainsHeld there entry k r) c.options.ensures
     c.explain_held-outcome.ensures in
-    let explained = subst (λ (m : Option Shared). ExplainsHeld m entry o r) (sym c.take-held.ensures.held) taken in
+    let explained = subst (λ (m : Option Shared). ExplainsHeld m entry o r) (sym c.take-taken.ensures.held) taken in
     (r, explained, c.write_explanation.ensures)
 
 pub returns-clause-explain : goal.returns-clause-explain
