@@ -184,6 +184,11 @@ module _ (files : Known) where
     pub given : IsContextAt files context pairs
     pub explained : EndsAs (ExplainsRunTo sources name options pairs b) e
 
+  -- Only with a context is there a run to explain.
+  abbrev pub DiagnosesFor : Text → Text → Options → Option (String Global) → Budget → Ending → Type 0
+  DiagnosesFor dir name options None b e = Diagnoses dir name options e
+  DiagnosesFor dir name options (Some context) b e = DiagnosesRun dir name options (Some context) b e
+
 module _ (files : Known) where
   -- The code of the image of a pair, and the context of its other file.
   pub record IsStart (p : Pair) (s : Start) : Type 0 where
@@ -267,12 +272,9 @@ module _ (files after : Known) where
   CommandEnds (command.Compile dir name out) o b e = ChangesOnly (string_bytes out)
       × (IsUnread files (IsOfDirectory files (string_bytes dir)) None e
       ⊎ Compiles (string_bytes dir) (string_bytes name) (string_bytes out) o e)
-  CommandEnds (command.Explain dir name None) o b e =
-      IsUnread files (IsOfDirectory files (string_bytes dir)) None e
-      ⊎ Diagnoses files (string_bytes dir) (string_bytes name) o e
-  CommandEnds (command.Explain dir name (Some context)) o b e =
-      IsUnread files (IsOfDirectory files (string_bytes dir)) (Some context) e
-      ⊎ DiagnosesRun files (string_bytes dir) (string_bytes name) o (Some context) b e
+  CommandEnds (command.Explain dir name context) o b e =
+      IsUnread files (IsOfDirectory files (string_bytes dir)) context e
+      ⊎ DiagnosesFor files (string_bytes dir) (string_bytes name) o context b e
   CommandEnds (command.Check image) o b e =
       IsUnread files (IsPath (string_bytes image)) None e ⊎ Checks files (string_bytes image) e
   CommandEnds (command.Show image) o b e =

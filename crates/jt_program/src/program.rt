@@ -8,7 +8,7 @@ ghost use Rattle.clap.specs.Words.{subcommand_of};
 ghost use Rattle.jt_value.specs.ContextView.{pairs_of};
 ghost use Rattle.jt_args.specs.Line.{Takes, Asks, program_app};
 ghost use Rattle.jt_program.specs.Commands.{Answers, ChangesOnly, Checks, Compiles, Diagnoses};
-ghost use Rattle.jt_program.specs.Commands.{DiagnosesRun};
+ghost use Rattle.jt_program.specs.Commands.{DiagnosesFor, DiagnosesRun};
 ghost use Rattle.jt_program.specs.Commands.{Ending, HasImage, HasUpgrade, IsContextAt, IsOfContext};
 ghost use Rattle.jt_program.specs.Commands.{IsPath, IsUnread, IsWriting, JobEnds, LineEnds};
 ghost use Rattle.jt_program.specs.Commands.{LineWrites, Renders, Runs, Shows, Upgrades};
@@ -159,17 +159,9 @@ fn perform_job<F: Files>(alloc: Global, job: Job, files: &mut F) -> Result<Strin
             let entry = EntryFile { dir, name, options };
             compile_to(alloc, files, entry, out)
         }
-        Command::Explain {
-            dir,
-            name,
-            context: None,
-        } => {
-            let entry = EntryFile { dir, name, options };
-            explain_in(alloc, files, entry)
-        }
         Command::Explain { dir, name, context } => {
             let entry = EntryFile { dir, name, options };
-            explain_run_in(alloc, files, entry, context, budget)
+            explain_in(alloc, files, entry, context, budget)
         }
         Command::Check { image } => check_at(alloc, files, image),
         Command::Show { image } => show_at(alloc, files, image),
@@ -225,8 +217,33 @@ fn compile_to<F: Files>(
     Ok(String::new(alloc))
 }
 
+/// Returns the text that explains the entry to a person, and its run if the file of a context is
+/// named.
+fn explain_in<F: Files>(
+    alloc: Global,
+    files: &mut F,
+    entry: EntryFile,
+    context: Option<String>,
+    budget: Budget,
+) -> Result<String, Failure>
+    ensures ends { IsUnread (F.known (F.contents files.old))
+        (IsOfDirectory (F.known (F.contents files.old)) (string_bytes entry.dir)) context result
+        ⊎ DiagnosesFor (F.known (F.contents files.old)) (string_bytes entry.dir)
+        (string_bytes entry.name) entry.options context budget result }
+    ensures kept { F.contents files.new ≡ F.contents files.old }
+{
+    match context {
+        Some(context) => explain_run_in(alloc, files, entry, context, budget),
+        None => explain_entry_in(alloc, files, entry),
+    }
+}
+
 /// Returns the text that states for a person whether the entry compiles, and otherwise why not.
-fn explain_in<F: Files>(alloc: Global, files: &mut F, entry: EntryFile) -> Result<String, Failure>
+fn explain_entry_in<F: Files>(
+    alloc: Global,
+    files: &mut F,
+    entry: EntryFile,
+) -> Result<String, Failure>
     ensures ends { IsUnread (F.known (F.contents files.old))
         (IsOfDirectory (F.known (F.contents files.old)) (string_bytes entry.dir)) None result
         ⊎ Diagnoses (F.known (F.contents files.old)) (string_bytes entry.dir)
@@ -249,17 +266,18 @@ fn explain_run_in<F: Files>(
     alloc: Global,
     files: &mut F,
     entry: EntryFile,
-    context: Option<String>,
+    context: String,
     budget: Budget,
 ) -> Result<String, Failure>
     ensures ends { IsUnread (F.known (F.contents files.old))
-        (IsOfDirectory (F.known (F.contents files.old)) (string_bytes entry.dir)) context result
+        (IsOfDirectory (F.known (F.contents files.old)) (string_bytes entry.dir)) (Some context)
+        result
         ⊎ DiagnosesRun (F.known (F.contents files.old)) (string_bytes entry.dir)
-        (string_bytes entry.name) entry.options context budget result }
+        (string_bytes entry.name) entry.options (Some context) budget result }
     ensures kept { F.contents files.new ≡ F.contents files.old }
 {
     let EntryFile { dir, name, options } = entry;
-    let (templates, context) = inputs_in(alloc, files, dir, context)?;
+    let (templates, context) = inputs_in(alloc, files, dir, Some(context))?;
     let entry = EntryTemplate {
         name: name.as_str(),
         templates: &templates,
