@@ -2,9 +2,9 @@
 use Rattle.std.specs.Prelude.{◌≡◌, ◌⊎◌, ℕ, List, [], ◌++◌, length, drop, nat_le, Option, Some, None, Result, Ok, Err}
 use Rattle.std.specs.Prelude.{Vec, string_bytes, if◌then◌else◌}
 use Rattle.std.specs.declared.alloc.Global.{Global}
-use Rattle.std.specs.Option.{option_map_or}
 use Rattle.jt_host.specs.Reasons.{error_text}
 use Rattle.jt_host.specs.declared.Explanation.{Explanation}
+use Rattle.jt_host.specs.declared.TagPlace.{TagPlace}
 use Rattle.jt_host.specs.declared.TemplateRefusal.{TemplateRefusal}
 use Rattle.jt_host.specs.declared.CallError.{CallError}
 use Rattle.jt_host.specs.declared.CallError.TheVariants as call_error
@@ -99,8 +99,12 @@ abbrev pub number_of : Option TemplateRefusal → ℕ
 number_of (Some r) = r.code.number
 number_of None = 0
 
+abbrev pub line_at : Option TagPlace → ℕ
+line_at (Some place) = place.line
+line_at None = 0
+
 abbrev pub line_of : Option TemplateRefusal → ℕ
-line_of (Some r) = option_map_or (λ place. place.line) r.place 0
+line_of (Some r) = line_at r.place
 line_of None = 0
 
 -- The answer has the code and the line of the refusal, and the buffer has the text at its start if
