@@ -1,6 +1,6 @@
 -- What an explanation prints: the place, the code and the name of a refusal, what it is about, the
 -- line of the source, and the rule.
-use Rattle.std.specs.Prelude.{◌++◌, [], codes, Option, Some, None, string_bytes, unwrap_or}
+use Rattle.std.specs.Prelude.{◌≡◌, ◌++◌, [], ◌∷◌, codes, Option, Some, None, option_map, string_bytes, unwrap_or}
 use Rattle.std.specs.Fmt.{decimal}
 use Rattle.jt_scan.specs.declared.Options.{Options}
 use Rattle.jt_ast.specs.Expressions.{Text}
@@ -21,6 +21,9 @@ use Rattle.jt_codegen.specs.declared.Finding.{Finding}
 use Rattle.jt_codegen.specs.declared.TagPlace.{TagPlace}
 use Rattle.jt_codegen.specs.declared.Subject.{Subject}
 use Rattle.jt_codegen.specs.declared.Subject.TheVariants as subject
+use Rattle.jt_host.specs.declared.refusal_code.RefusalCode.{RefusalCode}
+use Rattle.jt_host.specs.declared.explanation.TemplateRefusal.{TemplateRefusal}
+use Rattle.jt_host.specs.declared.explanation.Explanation.{Explanation}
 use Rattle.jt_host.specs.Reasons.{chain_name, scope_text}
 use Rattle.jt_host.specs.SourceLines.{source_line}
 use Rattle.jt_turns.specs.Shown.{shown}
@@ -113,18 +116,23 @@ error_name compile_error.StackTooDeep = codes "G3 StackTooDeep"
 abbrev pub quoted : Text → Text
 quoted x = codes " \"" ++ (shown x ++ codes "\"")
 
+-- The name that a refusal is about, if it has one.
+abbrev pub subject_name : Option Subject → Option Text
+subject_name (Some (subject.Name x)) = Some (string_bytes x)
+subject_name (Some (subject.LoopField x)) = Some (string_bytes x)
+subject_name (Some (subject.CalledName x)) = Some (string_bytes x)
+subject_name (Some (subject.CalledField of k)) = Some (string_bytes of ++ (codes "." ++ string_bytes k))
+subject_name (Some subject.CalledExpression) = None
+subject_name (Some (subject.Filter x)) = Some (string_bytes x)
+subject_name (Some (subject.Test x)) = Some (string_bytes x)
+subject_name (Some (subject.Macro x)) = Some (string_bytes x)
+subject_name (Some subject.Bindings) = None
+subject_name (Some subject.Names) = None
+subject_name None = None
+
+-- The name in quotes, or nothing.
 abbrev pub subject_text : Option Subject → Text
-subject_text (Some (subject.Name x)) = quoted (string_bytes x)
-subject_text (Some (subject.LoopField x)) = quoted (string_bytes x)
-subject_text (Some (subject.CalledName x)) = quoted (string_bytes x)
-subject_text (Some (subject.CalledField of k)) = quoted (string_bytes of ++ (codes "." ++ string_bytes k))
-subject_text (Some subject.CalledExpression) = codes ""
-subject_text (Some (subject.Filter x)) = quoted (string_bytes x)
-subject_text (Some (subject.Test x)) = quoted (string_bytes x)
-subject_text (Some (subject.Macro x)) = quoted (string_bytes x)
-subject_text (Some subject.Bindings) = codes ""
-subject_text (Some subject.Names) = codes ""
-subject_text None = codes ""
+subject_text about = unwrap_or (option_map quoted (subject_name about)) []
 
 -- The template and the line before a refusal.
 abbrev pub place_text : Option TagPlace → Text
@@ -152,3 +160,27 @@ finding_lines sources options f =
 abbrev pub told : SourceTexts → Options → Explained → Text
 told sources options explained.Compiles = codes "ok\n"
 told sources options (explained.Refused f) = finding_lines sources options f
+
+-- ---- what a host reads
+
+-- The text of a code: its letter, its number and its name.
+abbrev pub spelled : RefusalCode → Text
+spelled code = code.letter ∷ (decimal code.number ++ (codes " " ++ code.name.now))
+
+-- The code, the place and the name of a finding.
+pub record HasParts (f : Finding) (r : TemplateRefusal) : Type 0 where
+  pub code : spelled r.code ≡ error_name f.error
+  pub place : r.place ≡ f.place
+  pub subject : option_map string_bytes r.subject ≡ subject_name f.subject
+
+-- The refusal of a finding. An entry that compiles has none.
+abbrev pub IsRefusalOf : Explained → Option TemplateRefusal → Type 0
+IsRefusalOf explained.Compiles None = Unit {0}
+IsRefusalOf (explained.Refused f) (Some r) = HasParts f r
+IsRefusalOf x r = ⊥
+
+-- The lines and the refusal of what is explained.
+pub record IsExplanationOf (sources : SourceTexts) (options : Options) (x : Explained) (e : Explanation) :
+    Type 0 where
+  pub text : string_bytes e.text ≡ told sources options x
+  pub refusal : IsRefusalOf x e.refusal

@@ -1,13 +1,15 @@
 //! Explains, in words, why an entry does not compile.
 
-ghost use Rattle.std.specs.Prelude.{◌≡◌, IfOk, string_bytes};
-ghost use Rattle.jt_host.specs.Calls.{ExplainsTo};
+ghost use Rattle.std.specs.Prelude.{◌≡◌, IfOk, option_map, string_bytes};
+ghost use Rattle.jt_host.specs.Calls.{ExplainsTo, GivesExplanation};
 ghost use Rattle.jt_host.specs.Explanations as spec;
 ghost use Rattle.jt_host.specs.Templates.{source_of};
 
 use crate::call_error::CallError;
 use crate::calls::EntryTemplate;
+use crate::explanation::{Explanation, TemplateRefusal};
 use crate::reasons::{name_of_chain, text_of_scope};
+use crate::refusal_code::code_of;
 use crate::source_lines::source_line;
 use crate::templates::Templates;
 use jt_codegen::{
@@ -19,10 +21,31 @@ use jt_scan::Options;
 use jt_turns::shown_text;
 use std::alloc::{AllocError, Global};
 
-/// Returns what is to say of an entry, in lines for a person: `ok` if it compiles. Otherwise the
-/// first line has the place, the code and the name of the refusal and what it is about, as far as
-/// they are known. The line of the source follows if the place is known. The last line states the
-/// rule.
+/// Explains the entry: returns the lines for a person, and the parts of the refusal if it does not
+/// compile. The text is `ok` if it compiles. Otherwise the first line has the place, the code and
+/// the name of the refusal and what it is about, as far as they are known. The line of the source
+/// follows if the place is known. The last line states the rule.
+///
+/// # Errors
+///
+/// `NoMemory` if a growth is refused.
+pub fn explanation_of(alloc: Global, entry: &EntryTemplate<'_>) -> Result<Explanation, CallError>
+    ensures { GivesExplanation (source_of entry.now.templates.now) entry.now.name.now
+        entry.now.options result }
+{
+    let EntryTemplate {
+        name,
+        templates,
+        options,
+    } = *entry;
+    let explained = explain(alloc, name, templates, options)?;
+    match explanation_for(alloc, templates, options, explained) {
+        Ok(explanation) => Ok(explanation),
+        Err(_) => Err(CallError::NoMemory),
+    }
+}
+
+/// Returns the lines for a person that explain the entry, as [`explanation_of`] has them.
 ///
 /// # Errors
 ///
@@ -31,16 +54,37 @@ pub fn explained(alloc: Global, entry: &EntryTemplate<'_>) -> Result<String, Cal
     ensures { ExplainsTo (source_of entry.now.templates.now) entry.now.name.now entry.now.options
         result }
 {
-    let EntryTemplate {
-        name,
-        templates,
-        options,
-    } = *entry;
-    let explained = explain(alloc, name, templates, options)?;
-    match text_of(alloc, templates, options, &explained) {
-        Ok(text) => Ok(text),
-        Err(_) => Err(CallError::NoMemory),
-    }
+    let Explanation { text, refusal: _ } = explanation_of(alloc, entry)?;
+    Ok(text)
+}
+
+/// Returns the lines and the parts of what is explained.
+fn explanation_for(
+    alloc: Global,
+    templates: &Templates,
+    options: Options,
+    explained: Explained,
+) -> Result<Explanation, AllocError>
+    ensures { IfOk result (spec.IsExplanationOf (source_of templates.now) options explained) }
+{
+    let text = text_of(alloc, templates, options, &explained)?;
+    let refusal = match explained {
+        Explained::Compiles => None,
+        Explained::Refused(finding) => Some(refusal_of(alloc, finding)?),
+    };
+    Ok(Explanation { text, refusal })
+}
+
+/// Returns the parts of a finding.
+fn refusal_of(alloc: Global, finding: Finding) -> Result<TemplateRefusal, AllocError>
+    ensures { IfOk result (spec.HasParts finding) }
+{
+    let subject = subject_name(alloc, &finding.subject)?;
+    Ok(TemplateRefusal {
+        code: code_of(&finding.error),
+        place: finding.place,
+        subject,
+    })
 }
 
 /// Returns the lines that an explanation prints.
@@ -137,9 +181,9 @@ fn quoted(alloc: Global, name: &str) -> Result<String, AllocError>
     format!(in alloc; " \"{name}\"")
 }
 
-/// Returns what a refusal is about, in quotes after a space, or the empty text if it has no name.
-fn subject_of(alloc: Global, subject: &Option<Subject>) -> Result<String, AllocError>
-    ensures { IfOk result (λ text. string_bytes text ≡ spec.subject_text subject.now) }
+/// Returns the name that a refusal is about, if it has one.
+fn subject_name(alloc: Global, subject: &Option<Subject>) -> Result<Option<String>, AllocError>
+    ensures { IfOk result (λ name. option_map string_bytes name ≡ spec.subject_name subject.now) }
 {
     match subject {
         Some(
@@ -149,14 +193,19 @@ fn subject_of(alloc: Global, subject: &Option<Subject>) -> Result<String, AllocE
             | Subject::Filter(name)
             | Subject::Test(name)
             | Subject::Macro(name),
-        ) => quoted(alloc, name),
-        Some(Subject::CalledField { of, field }) => {
-            let name = format!(in alloc; "{of}.{field}")?;
-            quoted(alloc, &name)
-        }
-        Some(Subject::CalledExpression | Subject::Bindings | Subject::Names) | None => {
-            Ok(String::new(alloc))
-        }
+        ) => Ok(Some(String::from_str(alloc, name)?)),
+        Some(Subject::CalledField { of, field }) => { Ok(Some(format!(in alloc; "{of}.{field}")?)) }
+        Some(Subject::CalledExpression | Subject::Bindings | Subject::Names) | None => Ok(None),
+    }
+}
+
+/// Returns what a refusal is about, in quotes after a space, or the empty text if it has no name.
+fn subject_of(alloc: Global, subject: &Option<Subject>) -> Result<String, AllocError>
+    ensures { IfOk result (λ text. string_bytes text ≡ spec.subject_text subject.now) }
+{
+    match subject_name(alloc, subject)? {
+        Some(name) => quoted(alloc, &name),
+        None => Ok(String::new(alloc)),
     }
 }
 
