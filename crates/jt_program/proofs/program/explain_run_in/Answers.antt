@@ -15,8 +15,8 @@ returns-clause-ends g c =
     let text = c.in_ok-explained_run.field-0 in
     let same : c.as_str.result.now ≡ string_bytes c.args.entry.name = search rules in
     let diagnoses :
-        DiagnosesRun files (string_bytes c.args.entry.dir) (string_bytes c.args.entry.name) options
-        (Some c.args.context) b (Ok text) =
+    DiagnosesRun files (string_bytes c.args.entry.dir) (string_bytes c.args.entry.name) options
+    (Some c.args.context) b (Ok text) =
     record {
       sources = sources;
       library = c.in_ok-templates.ensures.library;
