@@ -2,10 +2,10 @@
 ghost use Rattle.std.specs.Prelude.{◌≡◌};
 ghost use Rattle.jt_ffi.specs.Answers.{IsAnswer, IsExplanationAnswer, Reports, ReportsError};
 ghost use Rattle.jt_ffi.specs.Answers.{ReportsExplanation, ReportsFailure, fault_number};
-ghost use Rattle.jt_ffi.specs.Answers.{put as put_in, spent_number};
+ghost use Rattle.jt_ffi.specs.Answers.{line_at, put as put_in, spent_number};
 
 use crate::error::FfiError;
-use jt_host::{CallError, Explanation, Fault, Spent};
+use jt_host::{CallError, Explanation, Fault, Spent, TagPlace};
 use std::alloc::Global;
 
 /// The end of a call, and the length of its result, whether or not the buffer holds it.
@@ -67,15 +67,21 @@ fn write_explained(out: &mut [u8], explanation: &Explanation) -> Answer
     let Some(refusal) = &explanation.refusal else {
         return write_answer(out, text, 0, 0, 0);
     };
-    let line = match &refusal.place {
-        Some(place) => place.line,
-        None => 0,
-    };
     let number = u32::from(refusal.code.number);
-    let answer = write_answer(out, text, 0, number, line);
+    let answer = write_answer(out, text, 0, number, line_of(&refusal.place));
     Answer {
         letter: u32::from(refusal.code.letter),
         ..answer
+    }
+}
+
+/// Returns the line of a place, or 0 if the place is not known.
+fn line_of(place: &Option<TagPlace>) -> u32
+    ensures { result ≡ line_at place.now }
+{
+    match place {
+        Some(place) => place.line,
+        None => 0,
     }
 }
 
