@@ -28,10 +28,13 @@ mod calls;
 mod error;
 mod explaining;
 mod explanation;
+mod marks;
 mod reasons;
 mod refusal_code;
 mod rendering;
+mod sentences;
 mod source_lines;
+mod subjects;
 mod templates;
 
 pub use call_error::CallError;
