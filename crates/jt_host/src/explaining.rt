@@ -93,8 +93,8 @@ fn text_of(
     options: Options,
     explained: &Explained,
 ) -> Result<String, AllocError>
-    ensures { IfOk result
-        (λ text. string_bytes text ≡ spec.told (source_of templates.now) options explained.now) }
+    ensures { IfOk result (λ text. string_bytes text
+        ≡ spec.told (source_of templates.now) options explained.now) }
 {
     match explained {
         Explained::Compiles => String::from_str(alloc, "ok\n"),
