@@ -200,11 +200,12 @@ class Checks:
         sentences, source = explanations.table(text), SPLIT.sub("", code["jt_host"])
         refusals = set(REFUSAL.findall(source))
         self.holds(refusals and sentences, file, "it has no sentence of `jt explain`")
-        for refusal in sorted(refusals | set(sentences)):
-            self.holds(refusal in refusals, file, f"jt_host has no {refusal}")
+        for refusal in sorted(refusals):
             self.holds(refusal in sentences, file, f"no sentence of `jt explain` for {refusal}")
-            sentence = sentences.get(refusal, "")
-            self.holds(f'"{sentence}"' in source, file, f"jt_host does not say of {refusal}: {sentence}")
+        for row, sentence in sorted(sentences.items()):
+            words = sentence.removesuffix(' "NAME"')
+            self.holds(re.match(r"\w+ \w+", row)[0] in refusals, file, f"jt_host has no {row}")
+            self.holds(f'"{words}"' in source, file, f"jt_host does not say of {row}: {words}")
 
     def runs_explained(self, file, text, code):
         """Checks the sentences of errors.md on runs: jt_host has each, and each fault and number of a budget has one."""

@@ -29,10 +29,13 @@ mod error;
 mod explaining;
 mod explaining_runs;
 mod explanation;
+mod marks;
 mod reasons;
 mod refusal_code;
 mod rendering;
+mod sentences;
 mod source_lines;
+mod subjects;
 mod templates;
 
 pub use call_error::CallError;
