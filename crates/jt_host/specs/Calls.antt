@@ -22,7 +22,8 @@ use Rattle.jt_image.specs.declared.ImageError.{ImageError}
 use Rattle.jt_image.specs.declared.ImageError.TheVariants as image_error
 use Rattle.jt_budget.specs.declared.Budget.{Budget}
 use Rattle.jt_contexts.specs.Json.{IsContext, Holds}
-use Rattle.jt_host.specs.Explanations.{told}
+use Rattle.jt_host.specs.Explanations.{told, IsExplanationOf}
+use Rattle.jt_host.specs.declared.explanation.Explanation.{Explanation}
 use Rattle.jt_host.specs.Rendering.{IsRefused as IsUncompiled, IsRendered}
 use Rattle.jt_contexts.specs.declared.ContextError.TheVariants as context_error
 use Rattle.jt_verify.specs.Refusing.{RefusalHolds}
@@ -125,6 +126,11 @@ GivesContext bytes (Err e) = IsNoContext bytes e
 
 -- ---- templates
 
+-- The error is lack of memory.
+abbrev pub IsNoMemory : CallError → Type 0
+IsNoMemory error.NoMemory = Unit {0}
+IsNoMemory other = ⊥
+
 -- The bytes spell a code to which the entry compiles.
 pub record IsImage (sources : SourceTexts) (entry : Text) (options : Options) (bytes : List ℕ) :
     Type 0 where
@@ -166,5 +172,13 @@ module _ (sources : SourceTexts) (entry : Text) (options : Options) where
   -- The result is the text of an explanation; it exists unless memory is refused.
   abbrev pub ExplainsTo : Result (String Global) CallError → Type 0
   ExplainsTo (Ok text) = IsTold (string_bytes text)
-  ExplainsTo (Err error.NoMemory) = Unit {0}
-  ExplainsTo (Err other) = ⊥
+  ExplainsTo (Err e) = IsNoMemory e
+
+  -- The text and the refusal report what holds of the entry.
+  abbrev pub IsExplanation : Explanation → Type 0
+  IsExplanation e = (x : Explained) × IsExplained sources entry options x × IsExplanationOf sources options x e
+
+  -- The result is an explanation of the entry; it exists unless memory is refused.
+  abbrev pub GivesExplanation : Result Explanation CallError → Type 0
+  GivesExplanation (Ok e) = IsExplanation e
+  GivesExplanation (Err e) = IsNoMemory e

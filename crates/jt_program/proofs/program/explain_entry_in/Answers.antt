@@ -2,7 +2,7 @@ use Rattle.std.proofs.Common.{◌≡◌, List, Ok, inr, rules, string_bytes, sub
 use Rattle.jt_program.specs.Commands.{Diagnoses}
 use Rattle.jt_host.specs.Calls.{ExplainsTo}
 use Rattle.jt_host.specs.Templates.{source_of}
-use Rattle.jt_program.proofs.program.explain_in.Goals as goal
+use Rattle.jt_program.proofs.program.explain_entry_in.Goals as goal
 
 pub returns-clause-ends : goal.returns-clause-ends
 returns-clause-ends g c =
