@@ -198,7 +198,7 @@ fn scope_lead(error: ScopeError, subject: &Subject) -> Option<&'static str>
         ScopeError::NotCallable => not_callable_lead(subject),
         ScopeError::BadArguments => bad_arguments_lead(subject),
         ScopeError::TooManySlots => match subject {
-            Subject::Macro(_) => Some("more than 255 parameters are those of the macro"),
+            Subject::Macro(_) => Some("more than 255 parameters are declared for the macro"),
             _ => None,
         },
         ScopeError::NoMemory => None,
