@@ -51,7 +51,7 @@ def marked(line, name):
 
 def sentence(refusal, name, kind):
     """The sentence of docs/errors.md for a refusal, with the name that it is about."""
-    key = f'{refusal}{' "NAME"' if name else ""}{kind}'
+    key = refusal + (' "NAME"' if name else "") + kind
     found = sentences().get(key) or (sentences().get(refusal) if not kind else None)
     if not found:
         raise ValueError(f"docs/errors.md has no sentence for {key}")

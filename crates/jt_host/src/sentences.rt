@@ -231,8 +231,8 @@ fn with_name(
     name: Option<String>,
     rule: &str,
 ) -> Result<String, AllocError>
-    ensures { IfOk result (λ text. string_bytes text
-        ≡ spec.with_name (option_map (λ x. x.now) lead.entry) (option_map string_bytes name) rule.now) }
+    ensures { IfOk result (λ text. string_bytes text ≡ spec.with_name
+        (option_map (λ x. x.now) lead.entry) (option_map string_bytes name) rule.now) }
 {
     if let Some(lead) = lead {
         if let Some(name) = name {
