@@ -1,6 +1,7 @@
 -- What an explanation prints: the place, the code and the name of a refusal, what it is about, the
 -- line of the source with marks, and the rule.
-use Rattle.std.specs.Prelude.{◌≡◌, ◌++◌, [], ◌∷◌, codes, Option, Some, None, option_map, string_bytes, unwrap_or}
+use Rattle.std.specs.Prelude.{◌≡◌, ℕ, ◌+◌, ◌/◌, ◌%◌, nat_lt, if◌then◌else◌}
+use Rattle.std.specs.Prelude.{◌++◌, [], ◌∷◌, codes, Option, Some, None, option_map, string_bytes, unwrap_or}
 use Rattle.std.specs.Fmt.{decimal}
 use Rattle.jt_scan.specs.declared.Options.{Options}
 use Rattle.jt_ast.specs.Expressions.{Text}
@@ -75,9 +76,13 @@ told sources options hint (explained.Refused f) = finding_lines sources options 
 
 -- ---- what a host reads
 
+-- The text of a number below 100.
+abbrev pub numeral : ℕ → Text
+numeral n = if nat_lt n 10 then (48 + n) ∷ [] else (48 + n / 10) ∷ ((48 + n % 10) ∷ [])
+
 -- The text of a code: its letter, its number and its name.
 abbrev pub spelled : RefusalCode → Text
-spelled code = code.letter ∷ (decimal code.number ++ (codes " " ++ code.name.now))
+spelled code = code.letter ∷ (numeral code.number ++ (codes " " ++ code.name.now))
 
 -- The code, the place and the name of a finding.
 pub record HasParts (f : Finding) (r : TemplateRefusal) : Type 0 where
