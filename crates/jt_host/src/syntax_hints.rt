@@ -1,5 +1,5 @@
-//! Finds the reason of an error of syntax: the form that a tag has and the language does not, or the
-//! statements that do not nest.
+//! Finds the reason of an error of syntax: the form that a tag has and the language does not, or
+//! the statements that do not nest.
 
 ghost use Rattle.std.specs.Prelude.{◌≡◌, IfOk, IfSome};
 ghost use Rattle.jt_host.specs.SyntaxHints as spec;
