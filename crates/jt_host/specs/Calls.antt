@@ -1,5 +1,5 @@
 -- The results of the calls over bytes.
-use Rattle.std.specs.Prelude.{◌≡◌, ◌≢◌, ◌⊎◌, ℕ, List, length, Result, Ok, Err, String, string_bytes, Vec}
+use Rattle.std.specs.Prelude.{◌≡◌, ◌≢◌, ◌⊎◌, ℕ, List, length, Option, Result, Ok, Err, String, string_bytes, Vec}
 use Rattle.std.specs.declared.alloc.Global.{Global}
 use Rattle.std.specs.Str.{IsUtf8}
 use Rattle.jt_scan.specs.declared.Options.{Options}
@@ -21,9 +21,11 @@ use Rattle.jt_image.specs.Typed.{IsTyped}
 use Rattle.jt_image.specs.declared.ImageError.{ImageError}
 use Rattle.jt_image.specs.declared.ImageError.TheVariants as image_error
 use Rattle.jt_budget.specs.declared.Budget.{Budget}
+use Rattle.jt_host.specs.declared.syntax_hints.SourceHint.{SourceHint}
 use Rattle.jt_contexts.specs.Json.{IsContext, Holds}
 use Rattle.jt_host.specs.Explanations.{told, IsExplanationOf}
 use Rattle.jt_host.specs.declared.explanation.Explanation.{Explanation}
+use Rattle.jt_host.specs.SyntaxHints.{IsHintFor}
 use Rattle.jt_host.specs.Rendering.{IsRefused as IsUncompiled, IsRendered}
 use Rattle.jt_contexts.specs.declared.ContextError.TheVariants as context_error
 use Rattle.jt_verify.specs.Refusing.{RefusalHolds}
@@ -167,7 +169,9 @@ module _ (sources : SourceTexts) (entry : Text) (options : Options) where
 
   -- The text prints what holds of the entry.
   abbrev pub IsTold : Text → Type 0
-  IsTold text = (x : Explained) × IsExplained sources entry options x × (text ≡ told sources options x)
+  IsTold text =
+      (x : Explained) × IsExplained sources entry options x
+      × ((hint : Option SourceHint) × IsHintFor sources options x hint × (text ≡ told sources options hint x))
 
   -- The result is the text of an explanation; it exists unless memory is refused.
   abbrev pub ExplainsTo : Result (String Global) CallError → Type 0

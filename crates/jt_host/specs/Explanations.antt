@@ -5,6 +5,7 @@ use Rattle.std.specs.Prelude.{◌++◌, [], ◌∷◌, codes, Option, Some, None
 use Rattle.std.specs.Fmt.{decimal}
 use Rattle.jt_scan.specs.declared.Options.{Options}
 use Rattle.jt_ast.specs.Expressions.{Text}
+use Rattle.jt_host.specs.declared.syntax_hints.SourceHint.{SourceHint}
 use Rattle.jt_inherit.specs.Chains.{SourceTexts}
 use Rattle.jt_codegen.specs.declared.CompileError.{CompileError}
 use Rattle.jt_codegen.specs.declared.CompileError.TheVariants as compile_error
@@ -20,6 +21,8 @@ use Rattle.jt_host.specs.Marks.{mark}
 use Rattle.jt_host.specs.Sentences.{sentence}
 use Rattle.jt_host.specs.SourceLines.{source_line}
 use Rattle.jt_host.specs.Subjects.{subject_name, subject_text}
+use Rattle.jt_host.specs.Suggestions.{suggestion}
+use Rattle.jt_host.specs.SyntaxHints.{IsHintFor}
 
 -- ---- what is printed
 
@@ -58,17 +61,18 @@ marks_text sources options f = marks_at sources options f.place (subject_name f.
 abbrev pub heading : Finding → Text
 heading f = place_text f.place ++ (error_name f.error ++ subject_text f.subject)
 
--- The line of a finding, the line of the source, the marks, and the rule.
-abbrev pub finding_lines : SourceTexts → Options → Finding → Text
-finding_lines sources options f =
+-- The line of a finding, the line of the source, the marks, the rule, and a suggestion.
+abbrev pub finding_lines : SourceTexts → Options → Option SourceHint → Finding → Text
+finding_lines sources options hint f =
     heading f
     ++ (codes "\n"
     ++ (source_text sources options f.place
-    ++ (marks_text sources options f ++ (codes "  " ++ (sentence f ++ codes "\n")))))
+    ++ (marks_text sources options f ++ (codes "  " ++ (sentence f ++ (suggestion hint f ++ codes "\n"))))))
 
-abbrev pub told : SourceTexts → Options → Explained → Text
-told sources options explained.Compiles = codes "ok\n"
-told sources options (explained.Refused f) = finding_lines sources options f
+-- The lines of what is explained, with the form that a tag has and the language does not.
+abbrev pub told : SourceTexts → Options → Option SourceHint → Explained → Text
+told sources options hint explained.Compiles = codes "ok\n"
+told sources options hint (explained.Refused f) = finding_lines sources options hint f
 
 -- ---- what a host reads
 
@@ -95,5 +99,7 @@ IsRefusalOf x r = ⊥
 -- The lines and the refusal of what is explained.
 pub record IsExplanationOf (sources : SourceTexts) (options : Options) (x : Explained) (e : Explanation) :
     Type 0 where
-  pub text : string_bytes e.text ≡ told sources options x
+  pub hint : Option SourceHint
+  pub hinted : IsHintFor sources options x hint
+  pub text : string_bytes e.text ≡ told sources options hint x
   pub refusal : IsRefusalOf x e.refusal

@@ -8,6 +8,8 @@ pub mod RunExplanations
 pub mod Sentences
 pub mod SourceLines
 pub mod Subjects
+pub mod Suggestions
+pub mod SyntaxHints
 pub mod Templates
 -- The modules that the clauses of the exported calls cite, and that an embedder's own clauses may
 -- need.

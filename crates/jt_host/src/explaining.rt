@@ -14,6 +14,8 @@ use crate::refusal_code::code_of;
 use crate::sentences::sentence_of;
 use crate::source_lines::source_line;
 use crate::subjects::{quoted_subject, subject_name};
+use crate::suggestions::suggestion_of;
+use crate::syntax_hints::{SourceHint, hint_for};
 use crate::templates::Templates;
 use jt_codegen::{CompileError, Explained, Finding, TagPlace, explain};
 use jt_inherit::Library;
@@ -66,7 +68,8 @@ fn explanation_for(
 ) -> Result<Explanation, AllocError>
     ensures { IfOk result (spec.IsExplanationOf (source_of templates.now) options explained) }
 {
-    let text = text_of(alloc, templates, options, &explained)?;
+    let hint = hint_for(alloc, templates, options, &explained)?;
+    let text = text_of(alloc, templates, options, &explained, hint)?;
     let refusal = match explained {
         Explained::Compiles => None,
         Explained::Refused(finding) => Some(refusal_of(alloc, finding)?),
@@ -92,13 +95,14 @@ fn text_of(
     templates: &Templates,
     options: Options,
     explained: &Explained,
+    hint: Option<SourceHint>,
 ) -> Result<String, AllocError>
     ensures { IfOk result (λ text. string_bytes text
-        ≡ spec.told (source_of templates.now) options explained.now) }
+        ≡ spec.told (source_of templates.now) options hint explained.now) }
 {
     match explained {
         Explained::Compiles => String::from_str(alloc, "ok\n"),
-        Explained::Refused(finding) => lines_of(alloc, templates, options, finding),
+        Explained::Refused(finding) => lines_of(alloc, templates, options, finding, hint),
     }
 }
 
@@ -108,15 +112,17 @@ fn lines_of(
     templates: &Templates,
     options: Options,
     finding: &Finding,
+    hint: Option<SourceHint>,
 ) -> Result<String, AllocError>
     ensures { IfOk result (λ text. string_bytes text
-        ≡ spec.finding_lines (source_of templates.now) options finding.now) }
+        ≡ spec.finding_lines (source_of templates.now) options hint finding.now) }
 {
     let heading = heading_of(alloc, finding)?;
     let source = source_text(alloc, templates, options, &finding.place)?;
     let marks = marks_text(alloc, templates, options, finding)?;
     let sentence = sentence_of(alloc, finding)?;
-    format!(in alloc; "{heading}\n{source}{marks}  {sentence}\n")
+    let suggestion = suggestion_of(alloc, finding, hint)?;
+    format!(in alloc; "{heading}\n{source}{marks}  {sentence}{suggestion}\n")
 }
 
 /// Returns the first line of a finding, without its end.

@@ -36,6 +36,8 @@ mod rendering;
 mod sentences;
 mod source_lines;
 mod subjects;
+mod suggestions;
+mod syntax_hints;
 mod templates;
 
 pub use call_error::CallError;
