@@ -363,7 +363,8 @@ found_in_none k u e = by u.code e
   where
     by : (c : List Instruction) → length c ≡ 0
         → refuses [] 0 flaw.FallsOff None
-        ≡ explores (2 * length c + 2) k (record { parameters = u.parameters; kind = u.kind; locals = u.locals; code = c })
+        ≡ explores (2 * length c + 2) k
+        (record { parameters = u.parameters; kind = u.kind; locals = u.locals; code = c })
         (replicate (length c) None) (record { point = 0; shape = [] } ∷ [])
     by [] e =
         sym (explores_flaw k (record { parameters = u.parameters; kind = u.kind; locals = u.locals; code = [] }) 1 []

@@ -1,6 +1,6 @@
 -- A typed code has no flaw that a refusal states.
-use Rattle.std.proofs.Common.{◌≡◌, ℕ, List, [], ◌∷◌, ◌++◌, length, Option, Some, None, Result, Ok, Err, refl, sym, subst}
-use Rattle.std.proofs.Common.{◌∙◌, ap, arith, inl, inr, rules}
+use Rattle.std.proofs.Common.{◌≡◌, ℕ, List, [], ◌∷◌, ◌++◌, length, Option, Some, None, Result, Ok, Err, refl, sym}
+use Rattle.std.proofs.Common.{subst, ◌∙◌, ap, arith, inl, inr, rules}
 use Rattle.std.specs.Prelude.{slice_get, option_map}
 use Rattle.jt_verify.specs.Findings.{OutcomeHolds}
 use Rattle.std.specs.List.{AllByRecursion}

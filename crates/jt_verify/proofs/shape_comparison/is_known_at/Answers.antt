@@ -1,4 +1,5 @@
-use Rattle.std.proofs.Common.{◌≡◌, ◌≤◌, ℕ, List, [], ◌∷◌, Option, Some, None, zero, suc, get_or, length, arith, refl, inr}
+use Rattle.std.proofs.Common.{◌≡◌, ◌≤◌, ℕ, List, [], ◌∷◌, Option, Some, None, zero}
+use Rattle.std.proofs.Common.{suc, get_or, length, arith, refl, inr}
 use Rattle.jt_image.specs.Typed.{max_entries}
 use Rattle.jt_verify.specs.Search.{shape_at}
 use Rattle.jt_verify.specs.declared.nodes.ShapeId.{ShapeId}

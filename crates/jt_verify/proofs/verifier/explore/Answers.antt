@@ -1,4 +1,5 @@
-use Rattle.std.proofs.Common.{◌≡◌, ◌∙◌, ◌+◌, ◌*◌, [], ◌∷◌, ◌++◌, Result, Ok, Err, arith, ap, length, reverse, rules, subst, sym}
+use Rattle.std.proofs.Common.{◌≡◌, ◌∙◌, ◌+◌, ◌*◌, [], ◌∷◌, ◌++◌, Result, Ok, Err, arith}
+use Rattle.std.proofs.Common.{ap, length, reverse, rules, subst, sym}
 use Rattle.std.specs.Prelude.{IfOk}
 use Rattle.jt_image.specs.declared.code.UnitHeader.{UnitHeader}
 use Rattle.jt_verify.specs.Findings.{FoundHolds}
