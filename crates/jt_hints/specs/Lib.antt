@@ -2,5 +2,4 @@ pub mod Edits
 pub mod Forms
 pub mod LeftOut
 pub mod Nesting
-pub mod PlaceView
 pub mod internal

@@ -2,7 +2,7 @@
 
 ghost use Rattle.std.specs.Prelude.{◌≡◌};
 ghost use Rattle.jt_hints.specs.Forms as spec;
-ghost use Rattle.jt_hints.specs.PlaceView.{place_view};
+ghost use Rattle.jt_hints.specs.internal.PlaceView.{place_view};
 
 use crate::places::{Before, Bracket, Place, compares};
 use crate::syntax::SyntaxHint;

@@ -147,7 +147,7 @@ impl Before {
 }
 
 impl Place {
-    ghost use Rattle.jt_hints.specs.PlaceView.{place_view};
+    ghost use Rattle.jt_hints.specs.internal.PlaceView.{place_view};
 
     /// Returns the place before the first token of a tag, or behind the first word of a statement.
     pub(crate) fn at_start(alloc: Global, form: TagForm) -> Place

@@ -2,7 +2,6 @@
 
 ghost use Rattle.std.specs.Prelude.{◌≡◌, IfOk};
 ghost use Rattle.jt_hints.specs.Forms as spec;
-ghost use Rattle.jt_hints.specs.PlaceView.{place_view};
 
 use crate::head_forms::head_hint;
 use crate::place_forms::token_hint;

@@ -1,6 +1,6 @@
 use Rattle.std.proofs.Common.{◌≡◌, length}
 use Rattle.jt_hints.specs.Forms as spec
-use Rattle.jt_hints.specs.PlaceView.{place_view}
+use Rattle.jt_hints.specs.internal.PlaceView.{place_view}
 use Rattle.jt_hints.proofs.syntax.first_hint.Given as goal
 
 abbrev pub invariant-tokens : goal.invariant-tokens
