@@ -11,7 +11,7 @@ ghost use Rattle.jt_machine.specs.Growing.{ComesToGrow};
 ghost use Rattle.jt_machine.specs.Session.{SessionLaws, led, stage_progress};
 ghost use Rattle.jt_machine.specs.StageView.{stage_view, IsReached, IsUnderway};
 ghost use Rattle.jt_machine.specs.View.{config_view, next_view};
-ghost use Rattle.jt_machine.specs.internal.ConstantCache.{AreCached};
+ghost use Rattle.jt_machine.specs.ConstantCache.{AreCached};
 
 use crate::constants::ConstantCache;
 use crate::fast_path::run_fast;
@@ -54,7 +54,7 @@ impl Model for Machine {
     ghost coded = { coded_session };
 
     ghost use Rattle.jt_machine.specs.StageView.{stage_view, IsUnderway};
-    ghost use Rattle.jt_machine.specs.internal.ConstantCache.{AreCached};
+    ghost use Rattle.jt_machine.specs.ConstantCache.{AreCached};
 
     ghost view = { λ m. record { code = m.verified; stage = stage_view m.stage } };
 

@@ -11,19 +11,19 @@ use Rattle.jt_image.specs.Typed.{Reaches, IsTypedBy, Equal, max_entries}
 use Rattle.jt_verify.specs.declared.nodes.ShapeId.{ShapeId}
 use Rattle.jt_verify.specs.declared.effect.Successors.{Successors}
 use Rattle.jt_verify.specs.declared.verifier.WorkItem.{WorkItem as Waiting}
-use Rattle.jt_verify.specs.internal.Arena.{Lists, shape_in, IsIn, IsKept}
-use Rattle.jt_verify.specs.internal.Typing.{as_list, points_of, AreWithin, IsTall}
+use Rattle.jt_verify.specs.Arena.{Lists, shape_in, IsIn, IsKept}
+use Rattle.jt_verify.specs.Typing.{as_list, points_of, AreWithin, IsTall}
 use Rattle.jt_verify.specs.Refusing.{HoldsAt}
 use Rattle.jt_verify.specs.Findings.{FoundHolds}
 use Rattle.jt_verify.specs.declared.halt.Refused.{Refused as Halted}
 use Rattle.jt_image.specs.declared.kind.Flaw.TheVariants as flaw
 use Rattle.jt_image.specs.Effect as effects
 use Rattle.jt_verify.specs.Search.{WorkItem, Table, Refused, Found, shape_at, refuses, sends, explores, unit_found}
-use Rattle.jt_verify.specs.internal.Working.{unknown, work_left, IsWorking, Clashes, StepFlaw, sent, path_in}
-use Rattle.jt_verify.specs.internal.Working.{paths_in, table_in}
-use Rattle.jt_verify.specs.internal.Working.{IsInPath, IsInIf, Works, Steps, HaltsIn, EndsIn, handles_sent}
-use Rattle.jt_verify.specs.internal.Working.{IsRefusedWith}
-use Rattle.jt_verify.specs.internal.Working.{refused_in, found_in}
+use Rattle.jt_verify.specs.Working.{unknown, work_left, IsWorking, Clashes, StepFlaw, sent, path_in}
+use Rattle.jt_verify.specs.Working.{paths_in, table_in}
+use Rattle.jt_verify.specs.Working.{IsInPath, IsInIf, Works, Steps, HaltsIn, EndsIn, handles_sent}
+use Rattle.jt_verify.specs.Working.{IsRefusedWith}
+use Rattle.jt_verify.specs.Working.{refused_in, found_in}
 use Rattle.jt_verify.specs.declared.halt.Halt.{Halt}
 use Rattle.jt_verify.specs.declared.halt.Halt.TheVariants as halt
 use Rattle.jt_verify.proofs.ShapeTables.{paths_last, paths_append}

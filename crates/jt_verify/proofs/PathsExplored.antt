@@ -12,7 +12,7 @@ use Rattle.jt_image.specs.Typed.{max_entries}
 use Rattle.jt_verify.specs.Differing.{DifferBy}
 use Rattle.jt_verify.specs.Search.{WorkItem, Table, Refused, After, shape_at, accepted, refuses}
 use Rattle.jt_verify.specs.Search.{are_same, difference, sends, passes, meets, comes, arrives, explores}
-use Rattle.jt_verify.specs.internal.Working.{ClashesAt, Clashes}
+use Rattle.jt_verify.specs.Working.{ClashesAt, Clashes}
 
 -- ---- two shapes at one point
 

@@ -13,9 +13,9 @@ use Rattle.jt_image.specs.Typed.{Shapes, Reaches, at_start, along, IsTypedBy, Is
 use Rattle.jt_image.specs.Typed.{Among}
 use Rattle.jt_verify.specs.Differing.{DifferBy}
 use Rattle.jt_verify.specs.Refusing.{HasClash, HasFlaw, HoldsAt, RefusalHolds}
-use Rattle.jt_verify.specs.internal.Typing.{IsTall}
+use Rattle.jt_verify.specs.Typing.{IsTall}
 use Rattle.jt_verify.specs.Search.{WorkItem, Table, Refused, shape_at}
-use Rattle.jt_verify.specs.internal.Working.{unit_of, ClashesAt, Clashes, StepFlaw, Comes, IsWorking, RefusesUnit}
+use Rattle.jt_verify.specs.Working.{unit_of, ClashesAt, Clashes, StepFlaw, Comes, IsWorking, RefusesUnit}
 use Rattle.jt_verify.specs.declared.refusal.Refusal.{Refusal}
 use Rattle.jt_verify.specs.declared.refusal.Refusal.TheVariants as refusal
 use Rattle.jt_verify.proofs.ShapeTables.{all_among, paths_last}

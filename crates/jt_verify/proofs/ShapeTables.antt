@@ -9,7 +9,7 @@ use Rattle.jt_image.specs.Readers.{header_of}
 use Rattle.jt_image.specs.Effect.{Shape}
 use Rattle.jt_image.specs.Typed.{Among}
 use Rattle.jt_verify.specs.Search.{WorkItem, Table, shape_at}
-use Rattle.jt_verify.specs.internal.Working.{unknown, Waits}
+use Rattle.jt_verify.specs.Working.{unknown, Waits}
 use Rattle.jt_verify.proofs.NodeNumbers.{same_or}
 
 -- ---- setting a shape in a table

@@ -13,8 +13,8 @@ use Rattle.jt_verify.specs.declared.nodes.ShapeId.{ShapeId}
 use Rattle.jt_verify.specs.declared.nodes.Node.{Node}
 use Rattle.jt_verify.specs.declared.nodes.Link.{Link}
 use Rattle.jt_verify.specs.declared.nodes.Link.TheVariants as link
-use Rattle.jt_verify.specs.internal.Arena.{Lists, shape_in, IsIn, entered, grow, lists_of, kind_of, digit_of, IsNode}
-use Rattle.jt_verify.specs.internal.Arena.{Finds, here, along, KeepsLinks, AreLinks, Finding, IsAt, IsArena}
+use Rattle.jt_verify.specs.Arena.{Lists, shape_in, IsIn, entered, grow, lists_of, kind_of, digit_of, IsNode}
+use Rattle.jt_verify.specs.Arena.{Finds, here, along, KeepsLinks, AreLinks, Finding, IsAt, IsArena}
 use Rattle.jt_verify.proofs.NodeNumbers.{some_node}
 use Rattle.jt_verify.proofs.ValuesOnTop.{HasNoValue, pushes_same, length-pushes, pops_too_many, below_values, at_end}
 use Rattle.jt_verify.proofs.ValuesOnTop.{values_counted, values_left_out}

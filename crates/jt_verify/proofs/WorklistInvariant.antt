@@ -7,10 +7,10 @@ use Rattle.jt_image.proofs.ReadPrefix.{all_weaker}
 use Rattle.jt_image.specs.Code.{Section, Code}
 use Rattle.jt_image.specs.Effect.{Shape, effect_at}
 use Rattle.jt_image.specs.Typed.{Reaches, at_start, along, IsTypedBy, Equal, HasSame, Among, max_entries}
-use Rattle.jt_verify.specs.internal.Typing.{as_list, points_of, AreWithin}
+use Rattle.jt_verify.specs.Typing.{as_list, points_of, AreWithin}
 use Rattle.jt_verify.specs.Search.{WorkItem, Table, shape_at}
-use Rattle.jt_verify.specs.internal.Working.{work_left, IsDue, IsFollowed, Comes, IsWorking}
-use Rattle.jt_verify.specs.internal.Working.{sent}
+use Rattle.jt_verify.specs.Working.{work_left, IsDue, IsFollowed, Comes, IsWorking}
+use Rattle.jt_verify.specs.Working.{sent}
 use Rattle.jt_verify.specs.declared.effect.Successors.{Successors}
 use Rattle.jt_verify.proofs.NodeNumbers.{same_or}
 use Rattle.jt_verify.proofs.ShapeTables.{set_here, set_there, set_keeps, set_gives, unknown-set, none_at, among_swapped}

@@ -5,4 +5,7 @@ pub mod Search
 pub mod Findings
 pub mod Entries
 pub mod Names
-pub mod internal
+pub mod Arena
+pub mod Shapes
+pub mod Typing
+pub mod Working

@@ -4,9 +4,9 @@ ghost use Rattle.std.specs.Prelude.{slice_get, slice_set, IfOk, OnOk, OnErr};
 ghost use Rattle.jt_image.specs.Effect.{may_return, pushes};
 ghost use Rattle.jt_image.specs.Typed.{max_entries};
 ghost use Rattle.jt_verify.specs.Entries.{values_on, without_values};
-ghost use Rattle.jt_verify.specs.internal.Arena.{TellsEqual, shape_in, IsIn, Holds, IsAdded};
-ghost use Rattle.jt_verify.specs.internal.Arena.{IsKept, StandsFor, Pops, PopsMany, kind_of};
-ghost use Rattle.jt_verify.specs.internal.Arena.{lists_of, IsArena};
+ghost use Rattle.jt_verify.specs.Arena.{TellsEqual, shape_in, IsIn, Holds, IsAdded};
+ghost use Rattle.jt_verify.specs.Arena.{IsKept, StandsFor, Pops, PopsMany, kind_of};
+ghost use Rattle.jt_verify.specs.Arena.{lists_of, IsArena};
 
 use crate::nodes::{
     Link, Node, NonValue, NonValueEntry, ShapeId, digits, find, is_same, jump_on, node_at, node_of,
@@ -31,7 +31,7 @@ impl Model for Arena {
 
     ghost Value = { List (List Kind) };
 
-    ghost use Rattle.jt_verify.specs.internal.Arena.{lists_of, IsArena};
+    ghost use Rattle.jt_verify.specs.Arena.{lists_of, IsArena};
 
     ghost view = { λ a. lists_of a.nodes.items };
 

@@ -1,9 +1,9 @@
 //! Compares the shape with which a path reaches a point and the shape that is known there.
 ghost use Rattle.std.specs.Prelude.{◌<◌, length};
 ghost use Rattle.std.specs.List.{AllByRecursion};
-ghost use Rattle.jt_verify.specs.internal.Arena.{shape_in, IsIn};
+ghost use Rattle.jt_verify.specs.Arena.{shape_in, IsIn};
 ghost use Rattle.jt_verify.specs.Differing.{Meets};
-ghost use Rattle.jt_verify.specs.internal.Working.{Arriving, path_in, table_in, IsInIf};
+ghost use Rattle.jt_verify.specs.Working.{Arriving, path_in, table_in, IsInIf};
 
 use crate::arena::Arena;
 use crate::halt::Refused;

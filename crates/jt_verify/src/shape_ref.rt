@@ -20,7 +20,7 @@ impl<'a> Model for ShapeRef<'a> {
 
     ghost Value = { List Kind };
 
-    ghost use Rattle.jt_verify.specs.internal.Arena.{shape_in, IsIn};
+    ghost use Rattle.jt_verify.specs.Arena.{shape_in, IsIn};
 
     ghost view = { λ r. shape_in r.arena.now r.shape };
 

@@ -29,7 +29,7 @@ impl Model for UnitShapes {
 
     ghost Value = { Found };
 
-    ghost use Rattle.jt_verify.specs.internal.Working.{found_in, AreInside};
+    ghost use Rattle.jt_verify.specs.Working.{found_in, AreInside};
 
     ghost view = { λ s. found_in s.arena s.shapes.items s.refused };
 

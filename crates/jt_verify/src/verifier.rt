@@ -2,11 +2,11 @@
 ghost use Rattle.std.specs.Prelude.{◌≡◌, ◌<◌, ◌≤◌, ◌++◌, [], length, IfOk, IfErr, OnOk};
 ghost use Rattle.jt_image.specs.IsCode.{IsCode};
 ghost use Rattle.jt_image.specs.Typed.{IsTyped, max_entries};
-ghost use Rattle.jt_verify.specs.internal.Arena.{shape_in, IsIn, IsKept};
-ghost use Rattle.jt_verify.specs.internal.Working.{IsUnit, WorksOn, IsTypedAt, WorksFrom};
-ghost use Rattle.jt_verify.specs.internal.Working.{StepsOn, IsBehind, path_in, unit_of};
-ghost use Rattle.jt_verify.specs.internal.Working.{handles_sent, left_of, left_from, Refuses};
-ghost use Rattle.jt_verify.specs.internal.Working.{HaltsWith, FindsSame, AreInside, found_in};
+ghost use Rattle.jt_verify.specs.Arena.{shape_in, IsIn, IsKept};
+ghost use Rattle.jt_verify.specs.Working.{IsUnit, WorksOn, IsTypedAt, WorksFrom};
+ghost use Rattle.jt_verify.specs.Working.{StepsOn, IsBehind, path_in, unit_of};
+ghost use Rattle.jt_verify.specs.Working.{handles_sent, left_of, left_from, Refuses};
+ghost use Rattle.jt_verify.specs.Working.{HaltsWith, FindsSame, AreInside, found_in};
 ghost use Rattle.jt_verify.specs.Findings.{FoundHolds};
 ghost use Rattle.jt_verify.specs.Refusing.{RefusalHolds};
 ghost use Rattle.jt_verify.specs.Search.{refuses, unit_found};

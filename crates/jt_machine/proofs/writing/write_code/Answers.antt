@@ -5,7 +5,7 @@ use Rattle.jt_value.specs.declared.value.Value.{Value}
 use Rattle.jt_image.specs.Config.{Caller, Config}
 use Rattle.jt_image.specs.Run.{next, start, Goes, Ends, passed}
 use Rattle.jt_machine.specs.Emitting.{emitted_by}
-use Rattle.jt_machine.specs.internal.ConstantCache.{AreCached}
+use Rattle.jt_machine.specs.ConstantCache.{AreCached}
 use Rattle.jt_machine.specs.View.{budget_view, config_view, outcome_view}
 use Rattle.jt_machine.proofs.FastPathCorrect.{found_same, gone_sent, so_far_gone}
 use Rattle.jt_machine.proofs.DrainedOutput.{nothing_yet, went_on, whole_run, cut_short, text_is, on_err}

@@ -3,8 +3,8 @@ use Rattle.std.proofs.Common.{suc, get_or, length, arith, refl, inr}
 use Rattle.jt_image.specs.Typed.{max_entries}
 use Rattle.jt_verify.specs.Search.{shape_at}
 use Rattle.jt_verify.specs.declared.nodes.ShapeId.{ShapeId}
-use Rattle.jt_verify.specs.internal.Arena.{Lists, shape_in}
-use Rattle.jt_verify.specs.internal.Working.{table_in}
+use Rattle.jt_verify.specs.Arena.{Lists, shape_in}
+use Rattle.jt_verify.specs.Working.{table_in}
 use Rattle.jt_verify.proofs.shape_comparison.is_known_at.Goals as goal
 
 known_there : (t : Lists) (hs : List (Option ShapeId)) (p : ℕ) (h : ShapeId) → get_or hs p None ≡ Some h

@@ -1,7 +1,7 @@
 use Rattle.std.proofs.Common.{◌≡◌, [], Some, ap, sym}
 use Rattle.std.specs.Prelude.{slice_get}
 use Rattle.jt_verify.specs.Search.{Found}
-use Rattle.jt_verify.specs.internal.Working.{unit_of}
+use Rattle.jt_verify.specs.Working.{unit_of}
 use Rattle.jt_verify.proofs.ShapeTables.{some_section}
 use Rattle.jt_verify.proofs.shapes.unit_shapes.Goals as goal
 

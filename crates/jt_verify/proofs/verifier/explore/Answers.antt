@@ -4,7 +4,7 @@ use Rattle.std.specs.Prelude.{IfOk}
 use Rattle.jt_image.specs.declared.code.UnitHeader.{UnitHeader}
 use Rattle.jt_verify.specs.Findings.{FoundHolds}
 use Rattle.jt_verify.specs.Search.{Found, explores}
-use Rattle.jt_verify.specs.internal.Working.{unit_of, paths_in, table_in, work_left}
+use Rattle.jt_verify.specs.Working.{unit_of, paths_in, table_in, work_left}
 use Rattle.jt_verify.proofs.DataflowInvariant.{works_at_start, left_at_start, same_at_start, same_next, same_refused}
 use Rattle.jt_verify.proofs.DataflowInvariant.{some_left, same_done, holds_done, found_in_none, holds_in_none}
 use Rattle.jt_verify.proofs.DataflowInvariant.{refused_ends, refused_halts}

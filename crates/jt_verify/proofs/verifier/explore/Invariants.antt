@@ -1,6 +1,6 @@
 use Rattle.std.proofs.Common.{◌≡◌, ◌<◌, ℕ, reverse}
 use Rattle.jt_verify.specs.Search.{explores, unit_found}
-use Rattle.jt_verify.specs.internal.Working.{unit_of, Works, table_in, paths_in, work_left}
+use Rattle.jt_verify.specs.Working.{unit_of, Works, table_in, paths_in, work_left}
 use Rattle.jt_verify.proofs.verifier.explore.Given as goal
 
 abbrev pub invariant-worklist : goal.invariant-worklist

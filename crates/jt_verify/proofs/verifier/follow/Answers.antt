@@ -3,8 +3,8 @@ use Rattle.std.specs.Result.{IsErrAnd}
 use Rattle.jt_image.specs.declared.code.UnitHeader.{UnitHeader}
 use Rattle.jt_verify.specs.declared.halt.Halt.{Halt}
 use Rattle.jt_verify.specs.declared.halt.Halt.TheVariants as halt
-use Rattle.jt_verify.specs.internal.Typing.{AreWithin}
-use Rattle.jt_verify.specs.internal.Working.{refused_in}
+use Rattle.jt_verify.specs.Typing.{AreWithin}
+use Rattle.jt_verify.specs.Working.{refused_in}
 use Rattle.jt_verify.proofs.DataflowInvariant.{path_inside, path_within, path_in_code, holds_clash}
 use Rattle.jt_verify.proofs.DataflowInvariant.{same_clash, same_met}
 use Rattle.jt_verify.proofs.DataflowInvariant.{works_met, less_met, works_stepped, less_stepped, halts_step, ends_step}

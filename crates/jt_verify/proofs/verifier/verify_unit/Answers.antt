@@ -1,5 +1,5 @@
 use Rattle.std.proofs.Common.{refl}
-use Rattle.jt_verify.specs.internal.Working.{unit_of}
+use Rattle.jt_verify.specs.Working.{unit_of}
 use Rattle.jt_verify.proofs.RefusalsSound.{unit_typed, outcome_refuses}
 use Rattle.jt_verify.proofs.verifier.verify_unit.Goals as goal
 

@@ -1,6 +1,6 @@
 use Rattle.std.proofs.Common.{◌≡◌, ◌∙◌, ℕ, List, [], sym, ap, subst}
 use Rattle.jt_value.specs.declared.value.Value.{Value}
-use Rattle.jt_machine.specs.internal.ConstantCache.{AreCached}
+use Rattle.jt_machine.specs.ConstantCache.{AreCached}
 use Rattle.jt_value.specs.ContextView.{pairs_of}
 use Rattle.jt_image.specs.Code.{Code}
 use Rattle.jt_image.specs.Run.{Goes, start}

@@ -1,6 +1,6 @@
 use Rattle.std.proofs.Common.{◌≡◌, sym, subst}
 use Rattle.jt_verify.specs.Entries.{values_on}
-use Rattle.jt_verify.specs.internal.Arena.{Lists, shape_in, IsIn}
+use Rattle.jt_verify.specs.Arena.{Lists, shape_in, IsIn}
 use Rattle.jt_verify.proofs.ShapesAreUnique.{values_are}
 use Rattle.jt_verify.proofs.arena.Arena.values.Goals as goal
 

@@ -1,6 +1,6 @@
 use Rattle.std.proofs.Common.{◌≡◌, [], get_or, sym, subst}
 use Rattle.jt_verify.specs.Entries.{without_values}
-use Rattle.jt_verify.specs.internal.Arena.{Lists, shape_in, IsIn}
+use Rattle.jt_verify.specs.Arena.{Lists, shape_in, IsIn}
 use Rattle.jt_verify.proofs.ShapesAreUnique.{rest_is}
 use Rattle.jt_verify.proofs.arena.Arena.without_values.Goals as goal
 

@@ -1,4 +1,4 @@
--- The state of a unit while it is verified. Only private clauses cite this module.
+-- The state of a unit while it is verified.
 use Rattle.std.specs.Prelude.{◌≡◌, ◌⊎◌, ℕ, suc, ◌+◌, ◌<◌, ◌≤◌, Bool, true, false, List, [], ◌∷◌, ◌++◌}
 use Rattle.std.specs.Prelude.{length, map, reverse, Option, Some, None, option_map, unwrap_or}
 use Rattle.std.specs.Prelude.{Result, Ok, Err, slice_get}
@@ -13,7 +13,7 @@ use Rattle.jt_image.specs.Effect.{Shape, effect_at}
 use Rattle.jt_image.specs.Typed.{Reaches, IsTypedUnit, Equal, max_entries}
 use Rattle.jt_verify.specs.Search.{WorkItem, Table, Refused, Found, shape_at, explores}
 use Rattle.jt_verify.specs.Findings.{FoundHolds}
-use Rattle.jt_verify.specs.internal.Typing.{as_list, points_of, IsTall, AreWithin}
+use Rattle.jt_verify.specs.Typing.{as_list, points_of, IsTall, AreWithin}
 use Rattle.jt_verify.specs.Differing.{IsTooDeep, DifferBy}
 use Rattle.jt_verify.specs.Refusing.{HoldsAt}
 use Rattle.jt_verify.specs.declared.effect.Successors.{Successors}
@@ -26,7 +26,7 @@ use Rattle.jt_verify.specs.declared.nodes.ShapeId.{ShapeId}
 use Rattle.jt_verify.specs.declared.verifier.WorkItem.{WorkItem as Waiting}
 use Rattle.jt_verify.specs.declared.verifier.OutState.{OutState}
 use Rattle.jt_verify.specs.declared.verifier.Dataflow.{Dataflow}
-use Rattle.jt_verify.specs.internal.Arena.{Lists, shape_in, IsIn}
+use Rattle.jt_verify.specs.Arena.{Lists, shape_in, IsIn}
 
 -- A unit of a code; a unit outside its table is empty, but is never used.
 abbrev pub unit_of : Code → ℕ → Section

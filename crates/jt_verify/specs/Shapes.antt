@@ -7,7 +7,7 @@ use Rattle.jt_image.specs.declared.kind.Kind.TheVariants as kind
 use Rattle.jt_image.specs.declared.kind.Flaw.{Flaw}
 use Rattle.jt_image.specs.Effect.{Shape, Successors, pops, pops_frame, pops_capture, on_frame}
 use Rattle.jt_verify.specs.declared.nodes.ShapeId.{ShapeId}
-use Rattle.jt_verify.specs.internal.Arena.{Lists, shape_in, IsIn}
+use Rattle.jt_verify.specs.Arena.{Lists, shape_in, IsIn}
 
 -- The test holds, or the error is the flaw.
 abbrev pub Requires : Bool → Flaw → Result (Unit {0}) Flaw → Type 0

@@ -1,4 +1,4 @@
--- The results of the verifier's effect. Only private clauses cite this module.
+-- The results of the verifier's effect.
 use Rattle.std.specs.Prelude.{◌≡◌, ℕ, ◌<◌, ◌≤◌, Bool, slice_get, List, [], ◌∷◌, ◌++◌, length}
 use Rattle.std.specs.Prelude.{Option, Some, None, Result, Ok, Err, IfOk, IsSome}
 use Rattle.std.specs.List.{AllByRecursion}
@@ -17,8 +17,8 @@ use Rattle.jt_verify.specs.declared.effect.Effect.{Effect}
 use Rattle.jt_verify.specs.declared.effect.EffectError.{EffectError}
 use Rattle.jt_verify.specs.declared.effect.EffectError.TheVariants as errors
 use Rattle.jt_verify.specs.declared.effect.InstrContext.{InstrContext}
-use Rattle.jt_verify.specs.internal.Arena.{Lists, shape_in, IsIn, kind_of}
-use Rattle.jt_verify.specs.internal.Shapes.{Takes, taking}
+use Rattle.jt_verify.specs.Arena.{Lists, shape_in, IsIn, kind_of}
+use Rattle.jt_verify.specs.Shapes.{Takes, taking}
 
 abbrev pub as_list : Option ℕ → List ℕ
 as_list None = []

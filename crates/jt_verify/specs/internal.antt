@@ -1,4 +1,0 @@
-pub mod Arena
-pub mod Shapes
-pub mod Typing
-pub mod Working
