@@ -1,5 +1,4 @@
--- The contents of an arena of shapes: the lists of kinds of its nodes, each once. Only private
--- clauses and proofs cite this module.
+-- The contents of an arena of shapes: the lists of kinds of its nodes, each once.
 use Rattle.std.specs.Prelude.{◌≡◌, ◌≢◌, Bool, MatchBool, ℕ, zero, suc, ◌+◌, ◌*◌, ◌/◌, ◌%◌, ◌<◌, ◌≤◌, List, [], ◌∷◌}
 use Rattle.std.specs.Prelude.{◌++◌}
 use Rattle.std.specs.Prelude.{length, get_or, slice_set, Option, Some, None, Result, Ok, Err, slice_get}

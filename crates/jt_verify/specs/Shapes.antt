@@ -1,5 +1,4 @@
--- The results of the parts of an effect, by shape ids. Only private clauses and proofs cite this
--- module.
+-- The results of the parts of an effect, by shape ids.
 use Rattle.std.specs.Prelude.{◌≡◌, ℕ, ◌<◌, ◌≤◌, Bool, true, false, ◌∷◌, length}
 use Rattle.std.specs.Prelude.{Option, Result, Ok, Err}
 use Rattle.jt_image.specs.declared.kind.Kind.{Kind}
