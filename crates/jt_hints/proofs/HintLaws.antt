@@ -1,5 +1,5 @@
 -- The first form that stands in the tokens from a place on, by the first token.
-use Rattle.std.proofs.Common.{arith, ◌≡◌, ℕ, ◌-◌, ◌<◌, ◌≤◌, ◌∙◌, ap, sym, refl, List, [], ◌∷◌, Option, Some, None}
+use Rattle.std.proofs.Common.{arith, ◌≡◌, ◌-◌, ◌<◌, ◌≤◌, ◌∙◌, ap, sym, refl, List, [], ◌∷◌, Some, None}
 use Rattle.std.proofs.Common.{length, get_or, take, drop}
 use Rattle.std.proofs.lemmas.List.{take_rest}
 use Rattle.std.specs.Option.{option_or}
@@ -17,7 +17,8 @@ first_of [] token h e = absurd (omega (arith, h))
 first_of (x ∷ rest) token h e =
     ap (λ z. z ∷ rest) (sym e) ∙ ap (λ z. token ∷ z) (sym (take_rest (x ∷ rest) 1))
 
-module _ (p : Place) (rest : List Token) (token : Token) (some : 1 ≤ length rest) (is : token ≡ get_or rest 0 token) where
+module _ (p : Place) (rest : List Token) (token : Token) (some : 1 ≤ length rest)
+    (is : token ≡ get_or rest 0 token) where
   at_first : first_hint p rest
       ≡ option_or (token_hint p token (behind_first rest)) (first_hint (after p token) (behind_first rest))
   at_first = ap (λ z. first_hint p z) (first_of rest token some is)

@@ -2,9 +2,9 @@
 -- A tag is read from the left. At each token it is known what stands before: the open brackets with
 -- their roles, the kind of the last token, and whether a comparison or the tag's expression has
 -- begun. The first place at which a form stands gives the hint.
-use Rattle.std.specs.Prelude.{ℕ, ◌==◌, ◌+◌, ◌-◌, ◌&&◌, ◌||◌, not, Bool, true, false, List, [], ◌∷◌, ◌++◌}
+use Rattle.std.specs.Prelude.{ℕ, ◌==◌, ◌-◌, ◌&&◌, ◌||◌, not, Bool, true, false, List, [], ◌∷◌, ◌++◌}
 use Rattle.std.specs.Prelude.{Option, Some, None, codes, if◌then◌else◌}
-use Rattle.std.specs.Prelude.{length, take, slice_get, unwrap_or, option_map, find, nat_lt}
+use Rattle.std.specs.Prelude.{length, take, slice_get, unwrap_or, option_map, find}
 use Rattle.std.specs.List.{list_any}
 use Rattle.std.specs.Option.{option_or}
 use Rattle.std.specs.Str.{bytes_eq}
