@@ -1,5 +1,5 @@
 -- Findings that have no place, and those of included and imported templates.
-use Rattle.std.proofs.Common.{◌≡◌, ℕ, List, [], ◌++◌, refl, sym, ap, subst, ◌∙◌, ◌⊎◌, ⊎_elim, Option, Some, None, string_bytes, ◌∷◌}
+use Rattle.std.proofs.Common.{◌≡◌, true, false, ℕ, List, [], ◌++◌, refl, sym, ap, subst, ◌∙◌, ◌⊎◌, ⊎_elim, Option, Some, None, string_bytes, ◌∷◌}
 use Rattle.std.proofs.lemmas.List.{append-nil}
 use Rattle.jt_graph.specs.declared.error.OrderError.{OrderError}
 use Rattle.jt_graph.specs.declared.error.OrderError.TheVariants as order

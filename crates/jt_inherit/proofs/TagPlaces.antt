@@ -9,11 +9,12 @@ use Rattle.jt_ast.specs.Expressions.{Text}
 use Rattle.jt_uses.specs.Uses as uses
 use Rattle.jt_uses.specs.Uses.{Use, Site}
 use Rattle.jt_chains.specs.Along.{templates_at}
-use Rattle.jt_chains.specs.Chain.{Template}
+use Rattle.jt_chains.specs.Chain.{Sources, Template}
 use Rattle.jt_chains.specs.TemplateFiles.{file_view, files_view}
 use Rattle.jt_chains.specs.declared.files.TemplateFile.{TemplateFile}
 use Rattle.jt_chains.proofs.TemplatesByIndex.{map_at}
-use Rattle.jt_inherit.specs.Findings.{ForSome, InTurn, IsAt, HasTag, all_uses, uses_in, asks, is_extends}
+use Rattle.jt_inherit.specs.Findings.{ForSome, InTurn, IsAt, HasTag, all_uses, uses_in, asks, binds_macro, is_extends}
+use Rattle.jt_inherit.specs.internal.Breaking.{lacks}
 use Rattle.jt_inherit.specs.internal.Tags.{tags, place_view}
 use Rattle.jt_inherit.specs.declared.finding.TagPlace.{TagPlace}
 
@@ -66,26 +67,31 @@ at_head test p x xs h e =
 pub first_shows : (test : Use → Bool) (p : TagPlace) (xs : List (Text × Site))
     → slice_get (tags test xs) 0 ≡ Some (place_view p) → ForSome (IsAt test p) xs
 first_shows test p [] e = absurd (cc)
-first_shows test p (x ∷ xs) e = by (test x.1.made) refl
+first_shows test p (x ∷ xs) e = by (test x.1.made) refl (λ f. first_shows test p xs f)
   where
-    by : (b : Bool) → test x.1.made ≡ b → ForSome (IsAt test p) (x ∷ xs)
-    by true h = inl (at_head test p x xs h e)
-    by false h = inr (first_shows test p xs (sym (ap (λ l. slice_get l 0) (begin test x xs false h)) ∙ e))
+    by : (b : Bool) → test x.1.made ≡ b
+        → (slice_get (tags test xs) 0 ≡ Some (place_view p) → ForSome (IsAt test p) xs)
+        → ForSome (IsAt test p) (x ∷ xs)
+    by true h go = inl (at_head test p x xs h e)
+    by false h go = inr (go (sym (ap (λ l. slice_get l 0) (begin test x xs false h)) ∙ e))
 
 pub second_shows : (test : Use → Bool) (p q : TagPlace) (xs : List (Text × Site))
     → slice_get (tags test xs) 0 ≡ Some (place_view p) → slice_get (tags test xs) 1 ≡ Some (place_view q)
     → InTurn (IsAt test p) (IsAt test q) xs
 second_shows test p q [] e f = absurd (cc)
-second_shows test p q (x ∷ xs) e f = by (test x.1.made) refl
+second_shows test p q (x ∷ xs) e f = by (test x.1.made) refl (λ g h. second_shows test p q xs g h)
   where
-    by : (b : Bool) → test x.1.made ≡ b → InTurn (IsAt test p) (IsAt test q) (x ∷ xs)
-    by true h =
+    by : (b : Bool) → test x.1.made ≡ b
+        → (slice_get (tags test xs) 0 ≡ Some (place_view p) → slice_get (tags test xs) 1 ≡ Some (place_view q)
+        → InTurn (IsAt test p) (IsAt test q) xs)
+        → InTurn (IsAt test p) (IsAt test q) (x ∷ xs)
+    by true h go =
         inl (
           at_head test p x xs h e,
           first_shows test q xs (sym (ap (λ l. slice_get l 1) (begin test x xs true h)) ∙ f),
         )
-    by false h =
-        inr (second_shows test p q xs (sym (ap (λ l. slice_get l 0) (begin test x xs false h)) ∙ e)
+    by false h go =
+        inr (go (sym (ap (λ l. slice_get l 0) (begin test x xs false h)) ∙ e)
         (sym (ap (λ l. slice_get l 1) (begin test x xs false h)) ∙ f))
 
 -- ---- some of the items
@@ -132,3 +138,10 @@ tag_weaker test weak f p ts h =
 pub extends_asks : (all : Bool) (n : Text) (u : Use) → is_extends n u ≡ true → asks all n u ≡ true
 extends_asks all n (uses.extends m) h = h
 extends_asks all n u h = absurd (cc)
+
+-- A macro that a library lacks, by equal names.
+pub macro_named : (s : Sources) (ts : List Template) (p : TagPlace) (a b l x : Text) → a ≡ l → b ≡ x
+    → HasTag (binds_macro l x) ts p → lacks s l x ≡ true → HasTag (binds_macro a b) ts p × (lacks s a b ≡ true)
+macro_named s ts p a b l x e f h k =
+    subst (λ z. HasTag (binds_macro z b) ts p × (lacks s z b ≡ true)) (sym e)
+    (subst (λ z. HasTag (binds_macro l z) ts p × (lacks s l z ≡ true)) (sym f) (h, k))
