@@ -1,5 +1,5 @@
 -- What the place of an error at the name of a template shows in each chain that reaches the tag.
-use Rattle.std.proofs.Common.{◌≡◌, ℕ, zero, suc, ◌+◌, ◌-◌, ◌<◌, ◌≤◌, Bool, true, false, not, ◌||◌, List, [], ◌∷◌, ◌++◌, length}
+use Rattle.std.proofs.Common.{◌≡◌, ℕ, suc, ◌+◌, ◌-◌, ◌<◌, ◌≤◌, Bool, true, false, not, ◌||◌, List, [], ◌∷◌, ◌++◌, length}
 use Rattle.std.proofs.Common.{String, Global, get_or, Result, Ok, Err, map, refl, sym, ap, subst, ◌∙◌, arith, inl, inr, ◌⊎◌, ⊎_elim, Option, Some, None, string_bytes}
 use Rattle.std.specs.Prelude.{IfOk, flat_map, slice_get}
 use Rattle.std.specs.Option.{is_some, option_to_list}
@@ -23,7 +23,7 @@ use Rattle.jt_inherit.specs.Chains.{SourceTexts}
 use Rattle.jt_inherit.specs.Findings.{ForSome, IsAt, HasTag, all_uses, uses_in, asks, is_extends, IsBrokenAt, Says}
 use Rattle.jt_inherit.specs.internal.ExtendsPaths.{AreKnown, BreaksAll, Grow, IsExtendsPath, Leads, SaysAll}
 use Rattle.jt_inherit.specs.internal.Faults.{IsFaultOf}
-use Rattle.jt_inherit.specs.internal.Placing.{IsOfHead, IsOfNeed, IsOfParent, HeadSubject, HeadAt, LastAt, PlacedAt, SubjectOf, IsOfName, need_test}
+use Rattle.jt_inherit.specs.internal.Placing.{IsOfHead, IsOfNeed, IsOfParent, HeadAt, LastAt, PlacedAt, SubjectOf, IsOfName, need_test}
 use Rattle.jt_chains.specs.Needs.{Need, need_view, needed, needs_view}
 use Rattle.jt_chains.specs.declared.include_tags.NeededTemplate.{NeededTemplate}
 use Rattle.jt_inherit.specs.internal.Along.{needs_of}
@@ -36,7 +36,7 @@ use Rattle.jt_inherit.specs.declared.finding.ChainSubject.{ChainSubject}
 use Rattle.jt_inherit.specs.declared.finding.ChainSubject.TheVariants as v
 use Rattle.jt_inherit.specs.declared.finding.TagPlace.{TagPlace}
 use Rattle.jt_inherit.proofs.DiscoveryInvariant.{some_source, none_read}
-use Rattle.jt_inherit.proofs.Membership.{among_front, among_next, once_more}
+use Rattle.jt_inherit.proofs.Membership.{among_next, once_more}
 use Rattle.jt_inherit.proofs.NameMembership.{map_more, of_texts, reflexive, same}
 use Rattle.jt_inherit.proofs.PathTemplates.{all_among, all_named, never}
 use Rattle.jt_inherit.proofs.PathsGrow.{names, names_lead, templates_lead, few_templates, all_templates, last_at}
@@ -311,9 +311,10 @@ module _ {given : SourceTexts} {options : Options} {root : Text} {ts : List Temp
           shown known r error.ExtendsCycle p (v.Template m)
           (subst (λ z. HasTag (is_extends z) (templates (sources_in ts) (a_chain h)) p
           × ((count : ℕ) × (among (string_bytes p.template) (names_up (sources_in ts) count (Some z)) ≡ true)))
-          (sym l.2.1.0)
-          (parent_tag known r last.0 on.0 l.0 on.1 n p l.2.0,
-          (back.0, ap (λ z. among z (names_up (sources_in ts) back.0 (Some n))) its_name ∙ back.1)))
+          (sym l.2.1.0) (
+            parent_tag known r last.0 on.0 l.0 on.1 n p l.2.0,
+            (back.0, ap (λ z. among z (names_up (sources_in ts) back.0 (Some n))) its_name ∙ back.1),
+          ))
       by (Some i) at (Some p) (Some v.Templates) l = let no = l.2.1 in absurd (cc)
       by (Some i) at (Some p) (Some x) l = absurd l.2.1
 

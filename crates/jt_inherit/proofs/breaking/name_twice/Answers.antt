@@ -18,8 +18,7 @@ returns c =
     let second : slice_get (tags test (all_uses ts)) 1 ≡ Some (place_view c.in-Some-3.second) =
     sym (ap (λ l. slice_get l 1) c.in_ok-tags.ensures)
     ∙ sym (ap (λ (l : List FoundTag). slice_get (tags_view l) 1) c.deref-3.ensures.value)
-    ∙ sym c.in_ok-second.ensures ∙ ap (option_map place_view) c.in-Some-3.is in
-    (
+    ∙ sym c.in_ok-second.ensures ∙ ap (option_map place_view) c.in-Some-3.is in (
       refl,
       (
         refl,

@@ -1,6 +1,5 @@
-use Rattle.std.proofs.Common.{◌≡◌, ◌<◌, ◌-◌, ℕ, length, get_or, arith, subst, Option, Some, None}
-use Rattle.std.specs.Prelude.{IfOk, slice_get}
-use Rattle.std.proofs.lemmas.List.{length-map}
+use Rattle.std.proofs.Common.{◌≡◌, ◌<◌, ℕ, length, subst, Option}
+use Rattle.std.specs.Prelude.{IfOk}
 use Rattle.jt_chains.specs.TemplateFiles.{file_view, files_view}
 use Rattle.jt_chains.proofs.TemplatesByIndex.{map_at}
 use Rattle.jt_inherit.specs.internal.Placing.{LastAt}
