@@ -5,6 +5,9 @@ pub mod Faults
 pub mod Found
 pub mod Given
 pub mod Numbers
+pub mod Placing
 pub mod RuleTests
 pub mod SetView
 pub mod Sets
+pub mod Tags
+pub mod Unmet
