@@ -198,11 +198,12 @@ class Checks:
         sentences, source = explanations.table(text), SPLIT.sub("", code["jt_host"])
         refusals = set(REFUSAL.findall(source))
         self.holds(refusals and sentences, file, "it has no sentence of `jt explain`")
-        for refusal in sorted(refusals | set(sentences)):
-            self.holds(refusal in refusals, file, f"jt_host has no {refusal}")
+        for refusal in sorted(refusals):
             self.holds(refusal in sentences, file, f"no sentence of `jt explain` for {refusal}")
-            sentence = sentences.get(refusal, "")
-            self.holds(f'"{sentence}"' in source, file, f"jt_host does not say of {refusal}: {sentence}")
+        for row, sentence in sorted(sentences.items()):
+            words = sentence.removesuffix(' "NAME"')
+            self.holds(re.match(r"\w+ \w+", row)[0] in refusals, file, f"jt_host has no {row}")
+            self.holds(f'"{words}"' in source, file, f"jt_host does not say of {row}: {words}")
 
     def order(self):
         """crates.txt lists each crate after those that it names, and docs/architecture.md lists the same crates in the same order."""

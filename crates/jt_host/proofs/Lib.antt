@@ -1,2 +1,3 @@
+pub mod FormsStand
 mod RefusedCode
 pub mod SourceInsertion

@@ -1,9 +1,8 @@
 -- The line of marks under a line of a source: `^` under the first place at which a name stands.
-use Rattle.std.specs.Prelude.{ℕ, ◌+◌, List, [], ◌∷◌, ◌++◌, Bool, not, ◌&&◌, ◌||◌, ◌==◌, nat_eq, nat_le, nat_lt, Option, None, Some}
-use Rattle.std.specs.Prelude.{codes, drop, take, flat_map, length, if◌then◌else◌, slice_index}
+use Rattle.std.specs.Prelude.{ℕ, ◌+◌, List, [], ◌∷◌, ◌++◌, Bool, not, ◌&&◌, ◌||◌, ◌==◌, Option, None, Some}
+use Rattle.std.specs.Prelude.{nat_eq, nat_le, nat_lt, codes, drop, take, flat_map, length, if◌then◌else◌, slice_index}
 use Rattle.std.specs.List.{position, range_with_len, starts_with}
 use Rattle.std.specs.Char.{is_ascii_alphanumeric, is_ascii_control}
-
 
 -- A byte of a word: a letter, a digit, `_`, or a byte of a character beyond ASCII.
 abbrev pub is_word : ℕ → Bool

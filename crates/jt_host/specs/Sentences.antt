@@ -126,7 +126,7 @@ scope_lead scope_error.MacroAsValue (subject.Name x) = Some (codes "only a call 
 scope_lead scope_error.NotCallable s = not_callable_lead s
 scope_lead scope_error.BadArguments s = bad_arguments_lead s
 scope_lead scope_error.TooManySlots (subject.Macro x) =
-    Some (codes "more than 255 parameters are those of the macro")
+    Some (codes "more than 255 parameters are declared for the macro")
 scope_lead e s = None
 
 abbrev pub parse_lead : ParseError → Option Text

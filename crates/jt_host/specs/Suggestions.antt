@@ -1,6 +1,7 @@
 -- What a writer of templates probably meant, and what to write in place of what the language leaves
 -- out.
-use Rattle.std.specs.Prelude.{◌++◌, List, [], ◌∷◌, codes, Option, Some, None, is_some, option_map, if◌then◌else◌, string_bytes}
+use Rattle.std.specs.Prelude.{◌++◌, List, [], ◌∷◌, codes, Option, Some, None, is_some, option_map, string_bytes}
+use Rattle.std.specs.Prelude.{if◌then◌else◌}
 use Rattle.std.specs.List.{flat_map}
 use Rattle.std.specs.Option.{option_or}
 use Rattle.jt_ast.specs.Expressions.{Text}

@@ -1,6 +1,7 @@
 //! Defines the codes of refusals of templates.
 
-ghost use Rattle.std.specs.Prelude.{◌≡◌};
+ghost use Rattle.std.specs.Prelude.{◌≡◌, ◌++◌, ◌∷◌, codes};
+ghost use Rattle.std.specs.Fmt.{decimal};
 ghost use Rattle.jt_host.specs.Explanations.{error_name, spelled};
 ghost use Rattle.jt_host.specs.Reasons.{chain_name, parse_name, scan_name, scope_text};
 
@@ -17,24 +18,30 @@ pub struct RefusalCode {
     pub name: &'static str,
 }
 
+/// Returns the code with this letter, number and name.
+fn code(letter: char, number: u8, name: &'static str) -> RefusalCode
+    ensures { spelled result ≡ letter ∷ (decimal number ++ (codes " " ++ name.now)) }
+{
+    RefusalCode {
+        letter,
+        number,
+        name,
+    }
+}
+
 /// Returns the code of an error of the scanner.
 fn code_of_scan(error: ScanError) -> RefusalCode
     ensures { spelled result ≡ scan_name error }
 {
-    let (number, name) = match error {
-        ScanError::UnclosedTag { .. } => (1, "UnclosedTag"),
-        ScanError::UnclosedText { .. } => (2, "UnclosedText"),
-        ScanError::BadCharacter { .. } => (3, "BadCharacter"),
-        ScanError::BadEscape { .. } => (4, "BadEscape"),
-        ScanError::NumberTooLarge { .. } => (5, "NumberTooLarge"),
-        ScanError::UnclosedRaw { .. } => (6, "UnclosedRaw"),
-        ScanError::SourceTooLong { .. } => (7, "SourceTooLong"),
-        ScanError::NoMemory => (8, "NoMemory"),
-    };
-    RefusalCode {
-        letter: 'S',
-        number,
-        name,
+    match error {
+        ScanError::UnclosedTag { .. } => code('S', 1, "UnclosedTag"),
+        ScanError::UnclosedText { .. } => code('S', 2, "UnclosedText"),
+        ScanError::BadCharacter { .. } => code('S', 3, "BadCharacter"),
+        ScanError::BadEscape { .. } => code('S', 4, "BadEscape"),
+        ScanError::NumberTooLarge { .. } => code('S', 5, "NumberTooLarge"),
+        ScanError::UnclosedRaw { .. } => code('S', 6, "UnclosedRaw"),
+        ScanError::SourceTooLong { .. } => code('S', 7, "SourceTooLong"),
+        ScanError::NoMemory => code('S', 8, "NoMemory"),
     }
 }
 
@@ -42,17 +49,12 @@ fn code_of_scan(error: ScanError) -> RefusalCode
 fn code_of_parse(error: ParseError) -> RefusalCode
     ensures { spelled result ≡ parse_name error }
 {
-    let (number, name) = match error {
-        ParseError::Syntax { .. } => (1, "Syntax"),
-        ParseError::TooDeep { .. } => (2, "TooDeep"),
-        ParseError::UnknownFilter { .. } => (3, "UnknownFilter"),
-        ParseError::UnknownTest { .. } => (4, "UnknownTest"),
-        ParseError::NoMemory => (5, "NoMemory"),
-    };
-    RefusalCode {
-        letter: 'P',
-        number,
-        name,
+    match error {
+        ParseError::Syntax { .. } => code('P', 1, "Syntax"),
+        ParseError::TooDeep { .. } => code('P', 2, "TooDeep"),
+        ParseError::UnknownFilter { .. } => code('P', 3, "UnknownFilter"),
+        ParseError::UnknownTest { .. } => code('P', 4, "UnknownTest"),
+        ParseError::NoMemory => code('P', 5, "NoMemory"),
     }
 }
 
@@ -60,26 +62,21 @@ fn code_of_parse(error: ParseError) -> RefusalCode
 fn code_of_chain(error: &ChainError) -> RefusalCode
     ensures { spelled result ≡ chain_name error.now }
 {
-    let (number, name) = match error {
-        ChainError::Missing => (1, "Missing"),
-        ChainError::BadName => (2, "BadName"),
-        ChainError::ExtendsCycle => (3, "ExtendsCycle"),
-        ChainError::ChainTooLong => (4, "ChainTooLong"),
-        ChainError::DoubleBlock => (5, "DoubleBlock"),
-        ChainError::RequiredNotGiven => (6, "RequiredNotGiven"),
-        ChainError::NoSuper => (7, "NoSuper"),
-        ChainError::IncludeCycle => (8, "IncludeCycle"),
-        ChainError::MacroTwice => (9, "MacroTwice"),
-        ChainError::NoMemory => (10, "NoMemory"),
-        ChainError::NoMacro => (11, "NoMacro"),
-        ChainError::NotALibrary => (12, "NotALibrary"),
-        ChainError::Scan(_, error) => return code_of_scan(*error),
-        ChainError::Parse(_, error) => return code_of_parse(*error),
-    };
-    RefusalCode {
-        letter: 'C',
-        number,
-        name,
+    match error {
+        ChainError::Missing => code('C', 1, "Missing"),
+        ChainError::BadName => code('C', 2, "BadName"),
+        ChainError::ExtendsCycle => code('C', 3, "ExtendsCycle"),
+        ChainError::ChainTooLong => code('C', 4, "ChainTooLong"),
+        ChainError::DoubleBlock => code('C', 5, "DoubleBlock"),
+        ChainError::RequiredNotGiven => code('C', 6, "RequiredNotGiven"),
+        ChainError::NoSuper => code('C', 7, "NoSuper"),
+        ChainError::IncludeCycle => code('C', 8, "IncludeCycle"),
+        ChainError::MacroTwice => code('C', 9, "MacroTwice"),
+        ChainError::NoMemory => code('C', 10, "NoMemory"),
+        ChainError::NoMacro => code('C', 11, "NoMacro"),
+        ChainError::NotALibrary => code('C', 12, "NotALibrary"),
+        ChainError::Scan(_, error) => code_of_scan(*error),
+        ChainError::Parse(_, error) => code_of_parse(*error),
     }
 }
 
@@ -87,18 +84,13 @@ fn code_of_chain(error: &ChainError) -> RefusalCode
 fn code_of_scope(error: ScopeError) -> RefusalCode
     ensures { spelled result ≡ scope_text error }
 {
-    let (number, name) = match error {
-        ScopeError::LoopOutside => (1, "LoopOutside"),
-        ScopeError::MacroAsValue => (2, "MacroAsValue"),
-        ScopeError::NotCallable => (3, "NotCallable"),
-        ScopeError::BadArguments => (4, "BadArguments"),
-        ScopeError::TooManySlots => (5, "TooManySlots"),
-        ScopeError::NoMemory => (6, "NoMemory"),
-    };
-    RefusalCode {
-        letter: 'V',
-        number,
-        name,
+    match error {
+        ScopeError::LoopOutside => code('V', 1, "LoopOutside"),
+        ScopeError::MacroAsValue => code('V', 2, "MacroAsValue"),
+        ScopeError::NotCallable => code('V', 3, "NotCallable"),
+        ScopeError::BadArguments => code('V', 4, "BadArguments"),
+        ScopeError::TooManySlots => code('V', 5, "TooManySlots"),
+        ScopeError::NoMemory => code('V', 6, "NoMemory"),
     }
 }
 
@@ -106,16 +98,11 @@ fn code_of_scope(error: ScopeError) -> RefusalCode
 pub(crate) fn code_of(error: &CompileError) -> RefusalCode
     ensures { spelled result ≡ error_name error.now }
 {
-    let (number, name) = match error {
-        CompileError::Chain(error) => return code_of_chain(error),
-        CompileError::Scope(error) => return code_of_scope(*error),
-        CompileError::CodeTooLong => (1, "CodeTooLong"),
-        CompileError::NoMemory => (2, "NoMemory"),
-        CompileError::StackTooDeep => (3, "StackTooDeep"),
-    };
-    RefusalCode {
-        letter: 'G',
-        number,
-        name,
+    match error {
+        CompileError::Chain(error) => code_of_chain(error),
+        CompileError::Scope(error) => code_of_scope(*error),
+        CompileError::CodeTooLong => code('G', 1, "CodeTooLong"),
+        CompileError::NoMemory => code('G', 2, "NoMemory"),
+        CompileError::StackTooDeep => code('G', 3, "StackTooDeep"),
     }
 }

@@ -198,7 +198,7 @@ fn scope_lead(error: ScopeError, subject: &Subject) -> Option<&'static str>
         ScopeError::NotCallable => not_callable_lead(subject),
         ScopeError::BadArguments => bad_arguments_lead(subject),
         ScopeError::TooManySlots => match subject {
-            Subject::Macro(_) => Some("more than 255 parameters are those of the macro"),
+            Subject::Macro(_) => Some("more than 255 parameters are declared for the macro"),
             _ => None,
         },
         ScopeError::NoMemory => None,
@@ -231,8 +231,8 @@ fn with_name(
     name: Option<String>,
     rule: &str,
 ) -> Result<String, AllocError>
-    ensures { IfOk result (λ text. string_bytes text
-        ≡ spec.with_name (option_map (λ x. x.now) lead.entry) (option_map string_bytes name) rule.now) }
+    ensures { IfOk result (λ text. string_bytes text ≡ spec.with_name
+        (option_map (λ x. x.now) lead.entry) (option_map string_bytes name) rule.now) }
 {
     if let Some(lead) = lead {
         if let Some(name) = name {

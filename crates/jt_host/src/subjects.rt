@@ -37,10 +37,7 @@ pub(crate) fn quoted(alloc: Global, name: &str) -> Result<String, AllocError>
 }
 
 /// Returns what a refusal is about, in quotes after a space, or the empty text if it has no name.
-pub(crate) fn quoted_subject(
-    alloc: Global,
-    subject: &Option<Subject>,
-) -> Result<String, AllocError>
+pub(crate) fn quoted_subject(alloc: Global, subject: &Option<Subject>) -> Result<String, AllocError>
     ensures { IfOk result (λ text. string_bytes text ≡ spec.subject_text subject.now) }
 {
     match subject_name(alloc, subject)? {

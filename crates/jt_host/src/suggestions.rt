@@ -9,8 +9,8 @@ ghost use Rattle.jt_host.specs.Suggestions as spec;
 use crate::subjects::quoted;
 use jt_codegen::{ChainError, CompileError, Finding, ScopeError, Subject};
 use jt_hints::{
-    SyntaxHint, filter_names, left_out_filter, left_out_function, left_out_method, left_out_test, nearest,
-    test_names,
+    SyntaxHint, filter_names, left_out_filter, left_out_function, left_out_method, left_out_test,
+    nearest, test_names,
 };
 use jt_ids::LoopField;
 use std::alloc::{AllocError, Global};
