@@ -26,9 +26,11 @@ pub(crate) fn first_place(subject: &Option<Subject>) -> Option<&TagPlace>
     ensures { option_map (λ x. x.now) result ≡ spec.first_place subject.now }
 {
     match subject {
-        Some(Subject::Chain(
-            ChainSubject::BlockTwice { first, .. } | ChainSubject::NameTwice { first, .. },
-        )) => Some(first),
+        Some(
+            Subject::Chain(
+                ChainSubject::BlockTwice { first, .. } | ChainSubject::NameTwice { first, .. },
+            ),
+        ) => Some(first),
         _ => None,
     }
 }
