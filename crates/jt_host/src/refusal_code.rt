@@ -1,4 +1,5 @@
 //! Defines the codes of refusals of templates.
+#![tactic(auto, unfolding(std::specs::Fmt::digits))]
 
 ghost use Rattle.std.specs.Prelude.{◌≡◌, ◌++◌, ◌∷◌, codes};
 ghost use Rattle.std.specs.Fmt.{decimal};
