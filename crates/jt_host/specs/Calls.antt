@@ -128,6 +128,11 @@ GivesContext bytes (Err e) = IsNoContext bytes e
 
 -- ---- templates
 
+-- The error is lack of memory.
+abbrev pub IsNoMemory : CallError → Type 0
+IsNoMemory error.NoMemory = Unit {0}
+IsNoMemory other = ⊥
+
 -- The bytes spell a code to which the entry compiles.
 pub record IsImage (sources : SourceTexts) (entry : Text) (options : Options) (bytes : List ℕ) :
     Type 0 where
@@ -171,8 +176,7 @@ module _ (sources : SourceTexts) (entry : Text) (options : Options) where
   -- The result is the text of an explanation; it exists unless memory is refused.
   abbrev pub ExplainsTo : Result (String Global) CallError → Type 0
   ExplainsTo (Ok text) = IsTold (string_bytes text)
-  ExplainsTo (Err error.NoMemory) = Unit {0}
-  ExplainsTo (Err other) = ⊥
+  ExplainsTo (Err e) = IsNoMemory e
 
   -- The text and the refusal report what holds of the entry.
   abbrev pub IsExplanation : Explanation → Type 0
@@ -181,5 +185,4 @@ module _ (sources : SourceTexts) (entry : Text) (options : Options) where
   -- The result is an explanation of the entry; it exists unless memory is refused.
   abbrev pub GivesExplanation : Result Explanation CallError → Type 0
   GivesExplanation (Ok e) = IsExplanation e
-  GivesExplanation (Err error.NoMemory) = Unit {0}
-  GivesExplanation (Err other) = ⊥
+  GivesExplanation (Err e) = IsNoMemory e
