@@ -24,7 +24,8 @@ use Rattle.jt_rules.specs.declared.error.ScopeError.TheVariants as scope_error
 use Rattle.jt_uses.specs.Uses.{Site, body_uses, outside}
 use Rattle.jt_value.specs.declared.fault.NoMemory.{NoMemory}
 use Rattle.jt_codegen.specs.Compiled.{IsOnlyChain}
-use Rattle.jt_codegen.specs.Explaining.{IsBroken, IsExplained, IsFinding, IsOfChain, IsPlaceOf, IsRuleOf, rule_at}
+use Rattle.jt_codegen.specs.Explaining.{IsBroken, IsExplained, IsFinding, IsOfChain, IsOfSource, IsPlaceOf, IsRuleOf}
+use Rattle.jt_codegen.specs.Explaining.{rule_at}
 use Rattle.jt_codegen.specs.Refusals.{Breaks, of_emit, of_scope}
 use Rattle.jt_codegen.specs.internal.Asked.{IsChainOf, IsOfImage}
 use Rattle.jt_codegen.proofs.ChainImages.{only_chain}
@@ -115,6 +116,14 @@ rule_found given entry options c is found broken holds f b =
         holds = subst (λ z. findings.Holds z (cenv_of c) c.order) (sym b.is) holds;
       });
     })
+
+-- The finding of a source is one of a chain.
+pub source_of_chain : {E : Type 0} (given : SourceTexts) (entry : Text) (options : Options) (e : ChainError)
+    → e ≢ chain_error.NoMemory → (r : Result Finding E) → IfOk r (IsOfSource given options e)
+    → IfOk r (IsOfChain given entry options e)
+source_of_chain given entry options e some (Ok f) h =
+    record { some = some; states = h.states; placed = inl h.placed }
+source_of_chain given entry options e some (Err x) h = tt
 
 -- The finding of an error of a chain.
 pub chain_found : (given : SourceTexts) (entry : Text) (options : Options) (e : ChainError)
