@@ -15,6 +15,7 @@ tests/README.md and all of docs/. The script checks
     each example of errors.md, from-jinja.md and tests/README.md (a line with ` => ` in a code block or a table)     it is a row of tests/rows/
     each code block after a line that ends with a link to a file of code and a colon      the file has these lines
     README.md                      it has at most 7,000 bytes
+    each name of Jinja (tests/jinja_names.py)      the language has it, or jt_hints names it as left out
     docs/architecture.md           it lists the crates of crates.txt, in the same order, each after those that it names
     each document                  links lead to it from README.md
 
@@ -29,6 +30,7 @@ ROOT = pathlib.Path(__file__).resolve().parent.parent
 sys.path.insert(0, str(ROOT / "tests"))
 sys.dont_write_bytecode = True
 import explanations
+import jinja_names
 
 MOST = 7000
 LINK = re.compile(r"(?<!!)\[[^\]]*\]\(([^)\s]+)\)")
@@ -244,6 +246,8 @@ def main():
     readme = ROOT / "README.md"
     checks.holds(len(readme.read_bytes()) <= MOST, readme, f"it has more than {MOST} bytes")
     checks.order()
+    wrong = jinja_names.failures()
+    checks.holds(not wrong, ROOT / "tests/jinja_names.py", "; ".join(wrong))
     reached, waiting = set(), [readme]
     while waiting:
         file = waiting.pop()

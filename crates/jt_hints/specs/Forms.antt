@@ -2,8 +2,9 @@
 -- A tag is read from the left. At each token it is known what stands before: the open brackets with
 -- their roles, the kind of the last token, and whether a comparison or the tag's expression has
 -- begun. The first place at which a form stands gives the hint.
-use Rattle.std.specs.Prelude.{ℕ, ◌==◌, ◌+◌, ◌-◌, ◌&&◌, ◌||◌, not, Bool, true, false, List, [], ◌∷◌, ◌++◌, Option, Some, None}
-use Rattle.std.specs.Prelude.{codes, if◌then◌else◌, length, take, slice_get, unwrap_or, option_map, find, nat_lt}
+use Rattle.std.specs.Prelude.{ℕ, ◌==◌, ◌+◌, ◌-◌, ◌&&◌, ◌||◌, not, Bool, true, false, List, [], ◌∷◌, ◌++◌}
+use Rattle.std.specs.Prelude.{Option, Some, None, codes, if◌then◌else◌}
+use Rattle.std.specs.Prelude.{length, take, slice_get, unwrap_or, option_map, find, nat_lt}
 use Rattle.std.specs.List.{list_any}
 use Rattle.std.specs.Option.{option_or}
 use Rattle.std.specs.Str.{bytes_eq}
@@ -29,7 +30,9 @@ is_one_of words word = list_any (bytes_eq word) words
 
 -- A word that is an operator or a part of an inline if: an operand begins after it.
 abbrev pub is_operator_word : List ℕ → Bool
-is_operator_word = is_one_of (codes "and" ∷ codes "or" ∷ codes "not" ∷ codes "if" ∷ codes "else" ∷ codes "in" ∷ codes "is" ∷ [])
+is_operator_word = is_one_of (
+    codes "and" ∷ codes "or" ∷ codes "not" ∷ codes "if" ∷ codes "else" ∷ codes "in" ∷ codes "is"
+    ∷ [])
 
 abbrev pub closes : Sign → Bool
 closes sign.RightParen = true
@@ -271,38 +274,46 @@ abbrev pub else_hint : List Token → Option SyntaxHint
 else_hint [] = None
 else_hint (token ∷ rest) = hint_if (is_name (codes "if") token) hint.ElseIf
 
--- A template's name is a text.
+-- A template's name is a text, alone or before a word other than `if`.
 abbrev pub template_hint : List Token → Option SyntaxHint
 template_hint [] = None
-template_hint (t.Text x ∷ rest) = None
-template_hint (token ∷ rest) = Some hint.ExpressionAsName
+template_hint (t.Text x ∷ []) = None
+template_hint (t.Text x ∷ t.Name word ∷ rest) = hint_if (bytes_eq word.now (codes "if")) hint.ExpressionAsName
+template_hint tokens = Some hint.ExpressionAsName
 
--- The last token is this name.
-abbrev pub ends_with : List ℕ → List Token → Bool
-ends_with word [] = false
-ends_with word (token ∷ []) = is_name word token
-ends_with word (token ∷ next ∷ rest) = ends_with word (next ∷ rest)
+-- The token exists, and is this name.
+abbrev pub is_name_at : List ℕ → Option Token → Bool
+is_name_at word (Some token) = is_name word token
+is_name_at word None = false
+
+-- The last token, and the one before it.
+abbrev pub last : List Token → Option Token
+last tokens = slice_get tokens (length tokens - 1)
+
+abbrev pub last_but_one : List Token → Option Token
+last_but_one tokens = slice_get tokens (length tokens - 2)
 
 abbrev pub import_hint : List Token → Option SyntaxHint
-import_hint [] = None
-import_hint (t.Text x ∷ rest) = hint_if (ends_with (codes "context") rest) hint.WithContext
-import_hint (token ∷ rest) = Some hint.ExpressionAsName
+import_hint tokens =
+    if is_name_at (codes "with") (last_but_one tokens) && is_name_at (codes "context") (last tokens)
+    then Some hint.WithContext
+    else template_hint tokens
 
 abbrev pub loop_hint : List Token → Option SyntaxHint
-loop_hint tokens = hint_if (ends_with (codes "recursive") tokens) hint.RecursiveLoop
+loop_hint tokens = hint_if (is_name_at (codes "recursive") (last tokens)) hint.RecursiveLoop
 
 -- An attribute in the place of a plain name.
 abbrev pub target_hint : List Token → Option SyntaxHint
 target_hint (t.Name x ∷ t.Sign sign.Dot ∷ rest) = Some hint.AttributeTarget
 target_hint tokens = None
 
--- Statements of which nothing more is looked for at their first word.
-abbrev pub plain_words : List (List ℕ)
-plain_words =
+-- The first words of tags of which nothing more is looked for there.
+abbrev pub is_plain_word : List ℕ → Bool
+is_plain_word = is_one_of (
     codes "if" ∷ codes "elif" ∷ codes "endif" ∷ codes "endfor" ∷ codes "endset" ∷ codes "with"
     ∷ codes "endwith" ∷ codes "filter" ∷ codes "endfilter" ∷ codes "autoescape"
     ∷ codes "endautoescape" ∷ codes "macro" ∷ codes "endmacro" ∷ codes "block" ∷ codes "endblock"
-    ∷ []
+    ∷ [])
 
 abbrev pub head_hint : List ℕ → List Token → Option SyntaxHint
 head_hint word tokens =
@@ -311,7 +322,7 @@ head_hint word tokens =
     else if is_one_of (codes "import" ∷ codes "from" ∷ []) word then import_hint tokens
     else if bytes_eq word (codes "for") then loop_hint tokens
     else if bytes_eq word (codes "set") then target_hint tokens
-    else if is_one_of plain_words word then None
+    else if is_plain_word word then None
     else Some (unknown_word word)
 
 -- ---- the hint of a tag
@@ -332,7 +343,7 @@ sentence hint.Fraction = codes "there are no fractions: numbers are whole, and /
 sentence hint.NumberAfterDot = codes "a name follows a dot: write x[0] in place of x.0"
 sentence hint.ChainedComparison = codes "comparisons are not chained: write a < b and b < c"
 sentence hint.Assignment = codes "= belongs to set and to named arguments: == compares"
-sentence hint.Comprehension = codes "there are no comprehensions: use filters such as map and select, or a for statement"
+sentence hint.Comprehension = codes "there are no comprehensions: use filters as map and select, or a for tag"
 sentence hint.Unpacking = codes "arguments are written one by one: * and ** do not unpack lists and maps"
 sentence hint.DoubledBar = codes "|| is no operator: write or"
 sentence hint.AdjacentTexts = codes "texts side by side are not joined: write ~ between them"
@@ -351,4 +362,4 @@ sentence hint.UnknownStatement = codes "no statement begins with this word"
 sentence hint.ExpressionAsName = codes "a template's name is a text in quotes: choose one of several by if"
 sentence hint.WithContext = codes "imported macros see no names of the importer: pass values as arguments"
 sentence hint.RecursiveLoop = codes "loops are not recursive: a macro may call itself"
-sentence hint.AttributeTarget = codes "set binds a plain name: there is no namespace, and values are never changed in place"
+sentence hint.AttributeTarget = codes "set binds a plain name: there is no namespace, and no value is changed"

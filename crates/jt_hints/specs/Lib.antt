@@ -1,5 +1,6 @@
 pub mod Edits
 pub mod Forms
 pub mod LeftOut
+pub mod Nesting
 pub mod PlaceView
 pub mod internal

@@ -1,9 +1,9 @@
 //! Finds the forms at the start and the end of a statement's tag.
 
-ghost use Rattle.std.specs.Prelude.{◌≡◌};
+ghost use Rattle.std.specs.Prelude.{◌≡◌, slice_get};
 ghost use Rattle.jt_hints.specs.Forms as spec;
 
-use crate::statement_words::unknown_word;
+use crate::statement_words::{is_plain_word, unknown_word};
 use crate::syntax::SyntaxHint;
 use jt_scan::{Sign, Token};
 
@@ -22,8 +22,19 @@ fn template_hint(tokens: &[Token<'_>]) -> Option<SyntaxHint>
     ensures { result ≡ spec.template_hint tokens.now }
 {
     match tokens {
-        [Token::Text(_), ..] | [] => None,
+        [] | [Token::Text(_)] => None,
+        [Token::Text(_), Token::Name(word), ..] if *word != "if" => None,
         _ => Some(SyntaxHint::ExpressionAsName),
+    }
+}
+
+/// Returns whether the token at an index is a name.
+fn is_name_at(tokens: &[Token<'_>], index: usize, name: &str) -> bool
+    ensures { result ≡ spec.is_name_at name.now (slice_get tokens.now index) }
+{
+    match tokens.get(index) {
+        Some(Token::Name(found)) => *found == name,
+        _ => false,
     }
 }
 
@@ -31,22 +42,22 @@ fn template_hint(tokens: &[Token<'_>]) -> Option<SyntaxHint>
 fn import_hint(tokens: &[Token<'_>]) -> Option<SyntaxHint>
     ensures { result ≡ spec.import_hint tokens.now }
 {
-    match tokens {
-        [Token::Text(_), .., Token::Name("with"), Token::Name("context")] => {
-            Some(SyntaxHint::WithContext)
-        }
-        _ => template_hint(tokens),
+    let count = tokens.len();
+    let with = is_name_at(tokens, count.saturating_sub(2), "with");
+    if with && is_name_at(tokens, count.saturating_sub(1), "context") {
+        return Some(SyntaxHint::WithContext);
     }
+    template_hint(tokens)
 }
 
 /// Returns the hint for a recursive loop, given the tokens after `for`.
 fn loop_hint(tokens: &[Token<'_>]) -> Option<SyntaxHint>
     ensures { result ≡ spec.loop_hint tokens.now }
 {
-    match tokens {
-        [.., Token::Name("recursive")] => Some(SyntaxHint::RecursiveLoop),
-        _ => None,
+    if is_name_at(tokens, tokens.len().saturating_sub(1), "recursive") {
+        return Some(SyntaxHint::RecursiveLoop);
     }
+    None
 }
 
 /// Returns the hint for a target that is an attribute, given the tokens after `set`.
@@ -70,9 +81,7 @@ pub(crate) fn head_hint(word: &str, tokens: &[Token<'_>]) -> Option<SyntaxHint>
         "import" | "from" => import_hint(tokens),
         "for" => loop_hint(tokens),
         "set" => target_hint(tokens),
-        "if" | "elif" | "endif" | "endfor" | "endset" | "with" | "endwith" | "filter"
-        | "endfilter" | "autoescape" | "endautoescape" | "macro" | "endmacro" | "block"
-        | "endblock" => None,
+        _ if is_plain_word(word) => None,
         _ => Some(unknown_word(word)),
     }
 }

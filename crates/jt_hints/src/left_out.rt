@@ -79,7 +79,8 @@ pub fn left_out_function(name: &str) -> Option<&'static str>
     }
 }
 
-/// Returns what to write in place of a method of Python's texts, lists and maps, or `None` for another name.
+/// Returns what to write in place of a method of Python's texts, lists and maps, or `None` for
+/// another name.
 pub fn left_out_method(name: &str) -> Option<&'static str>
     ensures { option_map (λ s. s.now) result ≡ table.left_out_method name.now }
 {

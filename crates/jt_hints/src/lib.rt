@@ -8,7 +8,9 @@
 //! - `known_names`: the names of all filters and tests, which are such candidates;
 //! - `left_out`: the tables of Jinja's filters, tests and functions, and of the methods of Python's
 //!   values;
-//! - `syntax`: the forms of a tag, with `statement_words`, `head_forms`, `places` and `place_forms`.
+//! - `syntax`: the forms of a tag, with `statement_words`, `head_forms`, `places` and
+//!   `place_forms`;
+//! - `nesting`: the statement that is never closed, and the tag that closes none.
 //!
 //! Nothing here decides whether a template compiles. Read first: specs/Forms.antt.
 #![tactic(auto)]
@@ -18,6 +20,7 @@ mod head_forms;
 mod known_names;
 mod left_out;
 mod nearest_name;
+mod nesting;
 mod place_forms;
 mod places;
 mod statement_words;
@@ -26,4 +29,5 @@ mod syntax;
 pub use known_names::{filter_names, test_names};
 pub use left_out::{left_out_filter, left_out_function, left_out_method, left_out_test};
 pub use nearest_name::nearest;
+pub use nesting::{NestingHint, Statement, nesting_hint};
 pub use syntax::{SyntaxHint, syntax_hint};

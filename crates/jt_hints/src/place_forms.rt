@@ -97,7 +97,10 @@ fn sign_hint(place: &Place, sign: Sign, rest: &[Token<'_>]) -> Option<SyntaxHint
         Sign::Percent => percent_hint(place, rest),
         Sign::Times | Sign::Power => star_hint(place),
         Sign::Pipe => hint_if(place.before == Before::Bar, SyntaxHint::DoubledBar),
-        _ => hint_if(place.compared && compares(sign), SyntaxHint::ChainedComparison),
+        _ => hint_if(
+            place.compared && compares(sign),
+            SyntaxHint::ChainedComparison,
+        ),
     }
 }
 
@@ -106,15 +109,14 @@ fn name_hint(place: &Place, name: &str) -> Option<SyntaxHint>
     ensures { result ≡ spec.name_hint (place_view place.now) name.now }
 {
     let loops = name == "for" && place.before.ends_operand();
-    hint_if(loops && !place.brackets.is_empty(), SyntaxHint::Comprehension)
+    hint_if(
+        loops && !place.brackets.is_empty(),
+        SyntaxHint::Comprehension,
+    )
 }
 
 /// Returns the hint for the token at a place, given the tokens after it.
-pub(crate) fn token_hint(
-    place: &Place,
-    token: Token<'_>,
-    rest: &[Token<'_>],
-) -> Option<SyntaxHint>
+pub(crate) fn token_hint(place: &Place, token: Token<'_>, rest: &[Token<'_>]) -> Option<SyntaxHint>
     ensures { result ≡ spec.token_hint (place_view place.now) token.entry rest.now }
 {
     match token {

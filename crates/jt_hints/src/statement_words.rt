@@ -10,9 +10,29 @@ use crate::syntax::SyntaxHint;
 pub(crate) fn is_operator_word(word: &str) -> bool
     ensures { result ≡ spec.is_operator_word word.now }
 {
+    matches!(word, "and" | "or" | "not" | "if" | "else" | "in" | "is")
+}
+
+/// Returns whether a word begins a statement's tag of which nothing more is looked for there.
+pub(crate) fn is_plain_word(word: &str) -> bool
+    ensures { result ≡ spec.is_plain_word word.now }
+{
     matches!(
         word,
-        "and" | "or" | "not" | "if" | "else" | "in" | "is"
+        "if" | "elif"
+            | "endif"
+            | "endfor"
+            | "endset"
+            | "with"
+            | "endwith"
+            | "filter"
+            | "endfilter"
+            | "autoescape"
+            | "endautoescape"
+            | "macro"
+            | "endmacro"
+            | "block"
+            | "endblock"
     )
 }
 

@@ -87,7 +87,7 @@ impl SyntaxHint {
             SyntaxHint::ChainedComparison => "comparisons are not chained: write a < b and b < c",
             SyntaxHint::Assignment => "= belongs to set and to named arguments: == compares",
             SyntaxHint::Comprehension => {
-                "there are no comprehensions: use filters such as map and select, or a for statement"
+                "there are no comprehensions: use filters as map and select, or a for tag"
             }
             SyntaxHint::Unpacking => {
                 "arguments are written one by one: * and ** do not unpack lists and maps"
@@ -118,13 +118,14 @@ impl SyntaxHint {
             }
             SyntaxHint::RecursiveLoop => "loops are not recursive: a macro may call itself",
             SyntaxHint::AttributeTarget => {
-                "set binds a plain name: there is no namespace, and values are never changed in place"
+                "set binds a plain name: there is no namespace, and no value is changed"
             }
         }
     }
 }
 
 /// Returns the first form that stands in the tokens from the first place of a tag on.
+#[tactic(auto, using(crate::proofs::HintLaws::hint_behind, crate::proofs::HintLaws::hint_here, crate::proofs::HintLaws::no_hint))]
 fn first_hint(
     alloc: Global,
     form: TagForm,

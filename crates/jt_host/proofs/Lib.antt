@@ -1,3 +1,3 @@
-pub mod FormsStand
+pub mod HintsHold
 mod RefusedCode
 pub mod SourceInsertion

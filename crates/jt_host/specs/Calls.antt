@@ -21,7 +21,7 @@ use Rattle.jt_image.specs.Typed.{IsTyped}
 use Rattle.jt_image.specs.declared.ImageError.{ImageError}
 use Rattle.jt_image.specs.declared.ImageError.TheVariants as image_error
 use Rattle.jt_budget.specs.declared.Budget.{Budget}
-use Rattle.jt_hints.specs.declared.syntax.SyntaxHint.{SyntaxHint}
+use Rattle.jt_host.specs.declared.syntax_hints.SourceHint.{SourceHint}
 use Rattle.jt_contexts.specs.Json.{IsContext, Holds}
 use Rattle.jt_host.specs.Explanations.{told, IsExplanationOf}
 use Rattle.jt_host.specs.declared.explanation.Explanation.{Explanation}
@@ -171,7 +171,7 @@ module _ (sources : SourceTexts) (entry : Text) (options : Options) where
   abbrev pub IsTold : Text → Type 0
   IsTold text =
       (x : Explained) × IsExplained sources entry options x
-      × ((hint : Option SyntaxHint) × IsHintFor sources options x hint × (text ≡ told sources options hint x))
+      × ((hint : Option SourceHint) × IsHintFor sources options x hint × (text ≡ told sources options hint x))
 
   -- The result is the text of an explanation; it exists unless memory is refused.
   abbrev pub ExplainsTo : Result (String Global) CallError → Type 0

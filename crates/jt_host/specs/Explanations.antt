@@ -1,10 +1,11 @@
 -- What an explanation prints: the place, the code and the name of a refusal, what it is about, the
 -- line of the source with marks, and the rule.
-use Rattle.std.specs.Prelude.{◌≡◌, ◌++◌, [], ◌∷◌, codes, Option, Some, None, option_map, string_bytes, unwrap_or}
+use Rattle.std.specs.Prelude.{◌≡◌, ℕ, ◌+◌, ◌/◌, ◌%◌, nat_lt, if◌then◌else◌}
+use Rattle.std.specs.Prelude.{◌++◌, [], ◌∷◌, codes, Option, Some, None, option_map, string_bytes, unwrap_or}
 use Rattle.std.specs.Fmt.{decimal}
 use Rattle.jt_scan.specs.declared.Options.{Options}
 use Rattle.jt_ast.specs.Expressions.{Text}
-use Rattle.jt_hints.specs.declared.syntax.SyntaxHint.{SyntaxHint}
+use Rattle.jt_host.specs.declared.syntax_hints.SourceHint.{SourceHint}
 use Rattle.jt_inherit.specs.Chains.{SourceTexts}
 use Rattle.jt_codegen.specs.declared.CompileError.{CompileError}
 use Rattle.jt_codegen.specs.declared.CompileError.TheVariants as compile_error
@@ -61,7 +62,7 @@ abbrev pub heading : Finding → Text
 heading f = place_text f.place ++ (error_name f.error ++ subject_text f.subject)
 
 -- The line of a finding, the line of the source, the marks, the rule, and a suggestion.
-abbrev pub finding_lines : SourceTexts → Options → Option SyntaxHint → Finding → Text
+abbrev pub finding_lines : SourceTexts → Options → Option SourceHint → Finding → Text
 finding_lines sources options hint f =
     heading f
     ++ (codes "\n"
@@ -69,15 +70,19 @@ finding_lines sources options hint f =
     ++ (marks_text sources options f ++ (codes "  " ++ (sentence f ++ (suggestion hint f ++ codes "\n"))))))
 
 -- The lines of what is explained, with the form that a tag has and the language does not.
-abbrev pub told : SourceTexts → Options → Option SyntaxHint → Explained → Text
+abbrev pub told : SourceTexts → Options → Option SourceHint → Explained → Text
 told sources options hint explained.Compiles = codes "ok\n"
 told sources options hint (explained.Refused f) = finding_lines sources options hint f
 
 -- ---- what a host reads
 
+-- The text of a number below 100.
+abbrev pub numeral : ℕ → Text
+numeral n = if nat_lt n 10 then (48 + n) ∷ [] else (48 + n / 10) ∷ ((48 + n % 10) ∷ [])
+
 -- The text of a code: its letter, its number and its name.
 abbrev pub spelled : RefusalCode → Text
-spelled code = code.letter ∷ (decimal code.number ++ (codes " " ++ code.name.now))
+spelled code = code.letter ∷ (numeral code.number ++ (codes " " ++ code.name.now))
 
 -- The code, the place and the name of a finding.
 pub record HasParts (f : Finding) (r : TemplateRefusal) : Type 0 where
@@ -94,7 +99,7 @@ IsRefusalOf x r = ⊥
 -- The lines and the refusal of what is explained.
 pub record IsExplanationOf (sources : SourceTexts) (options : Options) (x : Explained) (e : Explanation) :
     Type 0 where
-  pub hint : Option SyntaxHint
+  pub hint : Option SourceHint
   pub hinted : IsHintFor sources options x hint
   pub text : string_bytes e.text ≡ told sources options hint x
   pub refusal : IsRefusalOf x e.refusal

@@ -10,8 +10,8 @@ use Rattle.jt_ids.specs.FilterTable.{filters, filter_names}
 use Rattle.jt_ids.specs.LoopTable.{field_named}
 use Rattle.jt_ids.specs.TestTable.{tests, test_names}
 use Rattle.jt_hints.specs.Edits.{nearest}
-use Rattle.jt_hints.specs.Forms.{sentence}
-use Rattle.jt_hints.specs.declared.syntax.SyntaxHint.{SyntaxHint}
+use Rattle.jt_host.specs.SyntaxHints.{sentence}
+use Rattle.jt_host.specs.declared.syntax_hints.SourceHint.{SourceHint}
 use Rattle.jt_hints.specs.LeftOut.{left_out_filter, left_out_function, left_out_method, left_out_test}
 use Rattle.jt_codegen.specs.declared.ChainError.TheVariants as chain_error
 use Rattle.jt_codegen.specs.declared.CompileError.{CompileError}
@@ -82,7 +82,7 @@ advised (Some words) name first = codes "; " ++ words
 advised None name first = meant name first
 
 -- With the sentence of the form that the tag has, if there is no other advice.
-abbrev pub suggestion : Option SyntaxHint → Finding → Text
+abbrev pub suggestion : Option SourceHint → Finding → Text
 suggestion hint f =
     advised (option_or (advice f.error f.subject) (option_map sentence hint)) (near f.error f.subject)
     (first_text f.subject)

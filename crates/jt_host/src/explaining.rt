@@ -15,10 +15,9 @@ use crate::sentences::sentence_of;
 use crate::source_lines::source_line;
 use crate::subjects::{quoted_subject, subject_name};
 use crate::suggestions::suggestion_of;
-use crate::syntax_hints::hint_for;
+use crate::syntax_hints::{SourceHint, hint_for};
 use crate::templates::Templates;
 use jt_codegen::{CompileError, Explained, Finding, TagPlace, explain};
-use jt_hints::SyntaxHint;
 use jt_inherit::Library;
 use jt_scan::Options;
 use std::alloc::{AllocError, Global};
@@ -96,7 +95,7 @@ fn text_of(
     templates: &Templates,
     options: Options,
     explained: &Explained,
-    hint: Option<SyntaxHint>,
+    hint: Option<SourceHint>,
 ) -> Result<String, AllocError>
     ensures { IfOk result (λ text. string_bytes text
         ≡ spec.told (source_of templates.now) options hint explained.now) }
@@ -113,7 +112,7 @@ fn lines_of(
     templates: &Templates,
     options: Options,
     finding: &Finding,
-    hint: Option<SyntaxHint>,
+    hint: Option<SourceHint>,
 ) -> Result<String, AllocError>
     ensures { IfOk result (λ text. string_bytes text
         ≡ spec.finding_lines (source_of templates.now) options hint finding.now) }

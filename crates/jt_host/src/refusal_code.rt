@@ -1,9 +1,7 @@
 //! Defines the codes of refusals of templates.
-#![tactic(auto, unfolding(std::specs::Fmt::digits))]
 
 ghost use Rattle.std.specs.Prelude.{◌≡◌, ◌++◌, ◌∷◌, codes};
-ghost use Rattle.std.specs.Fmt.{decimal};
-ghost use Rattle.jt_host.specs.Explanations.{error_name, spelled};
+ghost use Rattle.jt_host.specs.Explanations.{error_name, numeral, spelled};
 ghost use Rattle.jt_host.specs.Reasons.{chain_name, parse_name, scan_name, scope_text};
 
 use jt_codegen::{ChainError, CompileError, ParseError, ScanError, ScopeError};
@@ -21,7 +19,7 @@ pub struct RefusalCode {
 
 /// Returns the code with this letter, number and name.
 fn code(letter: char, number: u8, name: &'static str) -> RefusalCode
-    ensures { spelled result ≡ letter ∷ (decimal number ++ (codes " " ++ name.now)) }
+    ensures { spelled result ≡ letter ∷ (numeral number ++ (codes " " ++ name.now)) }
 {
     RefusalCode {
         letter,

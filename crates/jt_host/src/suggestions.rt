@@ -3,14 +3,15 @@
 
 ghost use Rattle.std.specs.Prelude.{◌≡◌, IfOk, map, option_map, string_bytes};
 ghost use Rattle.std.specs.Option.{option_or};
-ghost use Rattle.jt_hints.specs.Forms.{sentence};
+ghost use Rattle.jt_host.specs.SyntaxHints.{sentence};
 ghost use Rattle.jt_host.specs.Suggestions as spec;
 
 use crate::subjects::{first_place, quoted};
+use crate::syntax_hints::SourceHint;
 use jt_codegen::{ChainError, CompileError, Finding, ScopeError, Subject, TagPlace};
 use jt_hints::{
-    SyntaxHint, filter_names, left_out_filter, left_out_function, left_out_method, left_out_test,
-    nearest, test_names,
+    filter_names, left_out_filter, left_out_function, left_out_method, left_out_test, nearest,
+    test_names,
 };
 use jt_ids::LoopField;
 use std::alloc::{AllocError, Global};
@@ -102,8 +103,8 @@ fn near_name(error: &CompileError, subject: &Option<Subject>) -> Option<&'static
     }
 }
 
-/// Returns what to write: the advice, or else the sentence of the form that the tag has.
-fn advice_or_hint(advice: Option<&'static str>, hint: Option<SyntaxHint>) -> Option<&'static str>
+/// Returns what to write: the advice, or else the sentence of the hint.
+fn advice_or_hint(advice: Option<&'static str>, hint: Option<SourceHint>) -> Option<&'static str>
     ensures { option_map (λ x. x.now) result
         ≡ option_or (option_map (λ x. x.now) advice.entry) (option_map sentence hint) }
 {
@@ -132,7 +133,7 @@ fn first_text(alloc: Global, subject: &Option<Subject>) -> Result<String, AllocE
 pub(crate) fn suggestion_of(
     alloc: Global,
     finding: &Finding,
-    hint: Option<SyntaxHint>,
+    hint: Option<SourceHint>,
 ) -> Result<String, AllocError>
     ensures { IfOk result (λ text. string_bytes text ≡ spec.suggestion hint finding.now) }
 {
