@@ -1,7 +1,9 @@
 pub mod Along
+pub mod Breaking
 pub mod Checks
 pub mod ExtendsPaths
 pub mod Faults
+pub mod FindsAt
 pub mod Found
 pub mod Given
 pub mod Numbers

@@ -8,7 +8,8 @@ ghost use Rattle.jt_ast.specs.Sizes.{body_bytes};
 ghost use Rattle.jt_ast.specs.Expressions.{Text};
 ghost use Rattle.jt_chains.specs.Along.{AreIndices};
 ghost use Rattle.jt_inherit.specs.Chains.{IsChain};
-ghost use Rattle.jt_inherit.specs.internal.Found.{AllKeep, BreaksAt, HasNamespaces};
+ghost use Rattle.jt_inherit.specs.internal.Found.{AllKeep, HasNamespaces};
+ghost use Rattle.jt_inherit.specs.internal.FindsAt.{FindsAt};
 ghost use Rattle.jt_inherit.specs.internal.Found.{found_namespaces};
 ghost use Rattle.jt_inherit.specs.internal.Found.{found_templates, found_paths};
 ghost use Rattle.jt_chains.specs.TemplateFiles.{namespace_view};
@@ -21,6 +22,7 @@ ghost use Rattle.jt_inherit.specs.internal.ExtendsPaths.{AreNamed};
 ghost use Rattle.jt_inherit.specs.Small.{chains_len, source_len};
 ghost use Rattle.jt_chains.specs.View.{Seen, chain_view, sources_of};
 
+use crate::breaking::rule_finding;
 use crate::discovery::{Discovery, discover};
 use crate::error::ChainError;
 use crate::finding::ChainFinding;
@@ -122,10 +124,7 @@ pub fn chain_or_finding<L: Library>(
 {
     let found = discover(alloc, entry, &Loader { library, options })?;
     check_chains(alloc, &found, options.autoescape)?;
-    let order = match order(alloc, &found.next) {
-        Ok(order) => order,
-        Err(refusal) => return Err(ChainFinding::without_place(ChainError::from(refusal))),
-    };
+    let order = order(alloc, &found.next)?;
     let namespaces = namespaces_in(alloc, &found, &order)?;
     let indices = indices_by_name(alloc, &found.files)?;
     Ok(Chain {
@@ -137,20 +136,23 @@ pub fn chain_or_finding<L: Library>(
 }
 
 /// Refuses chains and libraries whose blocks, macros or imports break a rule.
-fn check_chains(alloc: Global, found: &Discovery, escaping: bool) -> Result<(), ChainError>
+fn check_chains(alloc: Global, found: &Discovery, escaping: bool) -> Result<(), ChainFinding>
     requires named { AreNamed (found_templates found.now) (names_view found.now.names) }
     requires indices { AllByRecursion (AreIndices (found_templates found.now))
         (found_paths found.now) }
     ensures kept { OnOk result (AllKeep escaping found.now) }
     ensures broken { IfErr result
-        (BreaksAt escaping (found_templates found.now) (found_paths found.now)) }
+        (FindsAt escaping (found_templates found.now) (found_paths found.now)) }
 {
     for extends_path in &found.extends_paths {
         let store = TemplateStore {
             names: &found.names,
             files: &found.files,
         };
-        check_rules(alloc, store, extends_path, escaping)?;
+        match check_rules(alloc, store, extends_path, escaping) {
+            Ok(()) => {}
+            Err(error) => return Err(rule_finding(alloc, store, extends_path, error)?),
+        }
     }
     Ok(())
 }

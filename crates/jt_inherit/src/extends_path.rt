@@ -104,10 +104,8 @@ pub(crate) fn read_namespace<L: Library>(
             None => return Ok(extends_path),
         }
     }
-    let error = if is_on_path(files, &extends_path, &name) {
-        ChainError::ExtendsCycle
-    } else {
-        ChainError::ChainTooLong
-    };
-    Err(parent_finding(alloc, files, &extends_path, &name, error)?)
+    if is_on_path(files, &extends_path, &name) {
+        return Err(parent_finding(alloc, files, &extends_path, &name, ChainError::ExtendsCycle)?);
+    }
+    Err(parent_finding(alloc, files, &extends_path, &name, ChainError::ChainTooLong)?)
 }

@@ -123,8 +123,11 @@ pub(crate) fn read_includes<L: Library>(
     let found = needs_at(alloc, files, extends_path)?;
     let mut newly_read = Vec::new(alloc);
     for include in &found {
-        if let Err(error) = read_include(alloc, names, &mut newly_read, *include, loader) {
-            return Err(need_finding(alloc, files, extends_path, include.name, error)?);
+        match read_include(alloc, names, &mut newly_read, *include, loader) {
+            Ok(()) => {}
+            Err(error) => {
+                return Err(need_finding(alloc, files, extends_path, include.name, error)?);
+            }
         }
     }
     Ok(newly_read)

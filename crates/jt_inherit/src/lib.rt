@@ -8,6 +8,7 @@
 //! entry.
 #![tactic(auto)]
 
+mod breaking;
 mod chaining;
 mod discovery;
 mod error;

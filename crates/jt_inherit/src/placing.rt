@@ -2,10 +2,11 @@
 
 ghost use Rattle.std.specs.Prelude.{◌≡◌, IfOk};
 ghost use Rattle.jt_chains.specs.Along.{AreIndices, templates_at};
-ghost use Rattle.jt_chains.specs.TemplateFiles.{files_view};
+ghost use Rattle.jt_chains.specs.TemplateFiles.{file_view, files_view};
+ghost use Rattle.jt_inherit.specs.Findings.{is_extends, uses_in};
 ghost use Rattle.jt_inherit.specs.internal.Placing.{IsOfHead, IsOfNeed, IsOfParent, IsPlaced};
 ghost use Rattle.jt_inherit.specs.internal.Placing.{IsSubject, need_test};
-ghost use Rattle.jt_inherit.specs.internal.Tags.{tags_view, test_of};
+ghost use Rattle.jt_inherit.specs.internal.Tags.{tags, tags_view, test_of};
 
 use crate::error::ChainError;
 use crate::finding::{ChainFinding, ChainSubject};
@@ -22,17 +23,17 @@ pub(crate) fn head_finding(
 ) -> Result<ChainFinding, AllocError>
     ensures { IfOk result (IsOfHead name.now error) }
 {
-    let subject = match error {
+    match error {
         ChainError::Missing | ChainError::BadName => {
-            Some(ChainSubject::Template(String::from_str(alloc, name)?))
+            let name = String::from_str(alloc, name)?;
+            Ok(ChainFinding {
+                error,
+                place: None,
+                subject: Some(ChainSubject::Template(name)),
+            })
         }
-        _ => None,
-    };
-    Ok(ChainFinding {
-        error,
-        place: None,
-        subject,
-    })
+        _ => Ok(ChainFinding::without_place(error)),
+    }
 }
 
 /// Returns the subject of an error at the name of a template, if the error has one.
@@ -75,6 +76,20 @@ fn finding_at(
     })
 }
 
+/// Returns the finding of an error at the name that a template extends.
+fn extends_finding(
+    alloc: Global,
+    file: &TemplateFile,
+    name: &str,
+    error: ChainError,
+) -> Result<ChainFinding, AllocError>
+    ensures { IfOk result
+        (IsPlaced (tags (is_extends name.now) (uses_in (file_view file.now))) name.now error) }
+{
+    let tags = tags_of(alloc, file, Wanted::Extends(name))?;
+    finding_at(alloc, &tags, name, error)
+}
+
 /// Returns the finding of an error at the name that the last template of a path extends. The path
 /// is empty if the name is that of the chain.
 pub(crate) fn parent_finding(
@@ -87,11 +102,10 @@ pub(crate) fn parent_finding(
     requires { AreIndices (files_view files.now) extends_path.now }
     ensures { IfOk result (IsOfParent (files_view files.now) extends_path.now name.now error) }
 {
-    let Some(last) = extends_path.last() else {
-        return head_finding(alloc, name, error);
-    };
-    let tags = tags_of(alloc, &files[*last], Wanted::Extends(name))?;
-    finding_at(alloc, &tags, name, error)
+    match extends_path.last() {
+        Some(last) => extends_finding(alloc, &files[*last], name, error),
+        None => head_finding(alloc, name, error),
+    }
 }
 
 /// Returns the use that asks for a template: if the error is that the template is missing, the

@@ -46,17 +46,21 @@ HeadSubject n error.Missing (Some (v.Template x)) = string_bytes x ≡ n
 HeadSubject n error.BadName (Some (v.Template x)) = string_bytes x ≡ n
 HeadSubject n e (Some x) = ⊥
 
+abbrev pub HeadAt : Text → ChainError → Option TagPlace → Option ChainSubject → Type 0
+HeadAt n e None x = HeadSubject n e x
+HeadAt n e (Some p) x = ⊥
+
 abbrev pub IsOfHead : Text → ChainError → ChainFinding → Type 0
-IsOfHead n e f = (f.error ≡ e) × (f.place ≡ None) × HeadSubject n e f.subject
+IsOfHead n e f = (f.error ≡ e) × HeadAt n e f.place f.subject
 
 -- The place is that of the `extends` tag of the template at the index.
-abbrev pub IsOfLast : List Template → Option ℕ → Text → ChainError → ChainFinding → Type 0
-IsOfLast ts None n e f = IsOfHead n e f
-IsOfLast ts (Some i) n e f =
-    (t : Template) × (slice_get ts i ≡ Some t) × IsPlaced (tags (is_extends n) (uses_in t)) n e f
+abbrev pub LastAt : List Template → Option ℕ → Text → ChainError → Option TagPlace → Option ChainSubject → Type 0
+LastAt ts None n e p x = HeadAt n e p x
+LastAt ts (Some i) n e p x =
+    (t : Template) × (slice_get ts i ≡ Some t) × PlacedAt (tags (is_extends n) (uses_in t)) n e p x
 
 abbrev pub IsOfParent : List Template → List ℕ → Text → ChainError → ChainFinding → Type 0
-IsOfParent ts is n e f = IsOfLast ts (slice_get is (length is - 1)) n e f
+IsOfParent ts is n e f = (f.error ≡ e) × LastAt ts (slice_get is (length is - 1)) n e f.place f.subject
 
 -- A missing template may not be missing for the tag that asks for it.
 abbrev pub need_test : Text → ChainError → Use → Bool
