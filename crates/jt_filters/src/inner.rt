@@ -15,6 +15,7 @@ ghost use Rattle.jt_filters.specs.internal.Rows.{RowFault, IsSought, IsJudged};
 use crate::attributes::item_of;
 use crate::building::build;
 use crate::joining::{Separator, join, join_measure};
+use crate::maker::Maker;
 use crate::measuring::measure;
 use crate::members::Members;
 use crate::operand::Operand;
@@ -224,7 +225,7 @@ impl<'a> ItemAction<'a> {
     #[tactic(auto, using(crate::proofs::ItemResults::action_values))]
     pub(crate) fn push(
         self,
-        alloc: Global,
+        maker: Maker<'_>,
         values: &mut Vec<Value>,
         item: Operand<'a>,
     ) -> Result<(), ValueError>
@@ -236,16 +237,16 @@ impl<'a> ItemAction<'a> {
     {
         let value = match self {
             ItemAction::Keep(selection) => {
-                if !selection.keeps(alloc, item)? {
+                if !selection.keeps(maker.alloc, item)? {
                     return Ok(());
                 }
-                item.value(alloc)?
+                item.value(maker)?
             },
-            ItemAction::Attribute(key) => item_of(item, key)?.value(alloc)?,
+            ItemAction::Attribute(key) => item_of(item, key)?.value(maker)?,
             ItemAction::Filter(call) => {
-                build(alloc, call.filter, item, call.arguments, call.autoescape)?
+                build(maker, call.filter, item, call.arguments, call.autoescape)?
             },
-            ItemAction::Join(separator) => join(alloc, item, separator.operand, true)?,
+            ItemAction::Join(separator) => join(maker, item, separator.operand, true)?,
         };
         Ok(put(values, value)?)
     }

@@ -12,6 +12,7 @@ ghost use Rattle.jt_filters.specs.internal.Operands.{text_length, led_length};
 ghost use Rattle.jt_filters.specs.internal.JoinedTexts.{led_text, Leaves, MakesText};
 
 use crate::item_list::{ItemList, items_of};
+use crate::maker::Maker;
 use crate::operand::Operand;
 use itoa::Buffer;
 use jt_escape::{escape_into, join_markup, join_plain};
@@ -151,7 +152,7 @@ fn piece_len(operand: Operand<'_>, escaping: bool) -> Result<u64, Fault>
 
 /// Applies filter `join`.
 pub(crate) fn join(
-    alloc: Global,
+    maker: Maker<'_>,
     operand: Operand<'_>,
     separator: Operand<'_>,
     autoescape: bool,
@@ -159,8 +160,8 @@ pub(crate) fn join(
     ensures { IsAnswer (joining autoescape separator.entry operand.entry) result }
 {
     match items_of(operand)? {
-        ItemList::Values(values) => joined(alloc, values, &separator.value(alloc)?, autoescape),
-        items => joined_items(alloc, items, separator, autoescape),
+        ItemList::Values(values) => joined(maker.alloc, values, &separator.value(maker)?, autoescape),
+        items => joined_items(maker.alloc, items, separator, autoescape),
     }
 }
 

@@ -17,6 +17,7 @@ ghost use Rattle.jt_filters.specs.internal.Rows.{MakesPredicate, RowFault, IsSou
 use crate::inner::{InnerCall, ItemAction, Predicate, Selection};
 use crate::item_list::ItemList;
 use crate::joining::Separator;
+use crate::maker::{Maker, letters_for};
 use crate::members::Members;
 use crate::operand::Operand;
 use jt_ids::{FilterId, TestId};
@@ -302,11 +303,13 @@ fn row_values<'a>(
         (λ v. gathered (gives change.entry) (items_in items.entry) ≡ Ok (items_view v.items)) }
     ensures fault { IfErr result (RowFault (gathered (gives change.entry) (items_in items.entry))) }
 {
+    let letters = letters_for(alloc, items.len());
+    let maker = Maker::new(alloc, &letters);
     let room = if change.keeps_count() { items.len() } else { 0 };
     let mut values = Vec::with_capacity(alloc, room)?;
     let mut items = items;
     while let Some((item, behind)) = items.split_first() {
-        change.push(alloc, &mut values, item)?;
+        change.push(maker, &mut values, item)?;
         items = behind;
     }
     Ok(values)
