@@ -23,7 +23,8 @@ use Rattle.jt_inherit.specs.declared.finding.TagPlace.{TagPlace}
 pub tags-append : (test : Use → Bool) (xs ys : List (Text × Site)) → tags test (xs ++ ys) ≡ tags test xs ++ tags test ys
 tags-append test xs ys =
     ap (map (λ (x : Text × Site). (x.0, x.1.place.line))) (filter-append (λ x. test x.1.made) xs ys)
-    ∙ map-append (λ (x : Text × Site). (x.0, x.1.place.line)) (filter (λ x. test x.1.made) xs) (filter (λ x. test x.1.made) ys)
+    ∙ map-append (λ (x : Text × Site). (x.0, x.1.place.line)) (filter (λ x. test x.1.made) xs)
+    (filter (λ x. test x.1.made) ys)
 
 -- One template more.
 pub tags_turn : (test : Use → Bool) (ps : List TemplateFile) (is : List ℕ) (k : ℕ) (p : TemplateFile)
@@ -39,7 +40,8 @@ tags_turn test ps is k p old more new all lt within at theirs longer before =
     let here : templates_at (files_view ps) (drop k is) ≡ file_view p ∷ us =
     ap (templates_at (files_view ps)) (drop_more is k 0 lt)
     ∙ ap (λ o. option_to_list o ++ us) (map_at file_view ps i p within at) in
-    let split : tags test (all_uses (templates_at (files_view ps) (drop k is))) ≡ tags test (uses_in (file_view p)) ++ rest =
+    let split : tags test (all_uses (templates_at (files_view ps) (drop k is)))
+    ≡ tags test (uses_in (file_view p)) ++ rest =
     ap (λ l. tags test (all_uses l)) here ∙ tags-append test (uses_in (file_view p)) (all_uses us) in
     ap (λ l. l ++ rest) longer ∙ append_assoc old more rest ∙ ap (λ l. old ++ (l ++ rest)) theirs
     ∙ ap (λ l. old ++ l) (sym split) ∙ before

@@ -90,8 +90,8 @@ fn missing_finding(
     indices: &[usize],
 ) -> Result<ChainFinding, AllocError>
     requires { AreIndices (files_view store.files.now) indices.now }
-    ensures { IfOk result (IsOfRule (its_sources store.entry) (its_templates store.entry indices.now)
-        ChainError.NoMacro) }
+    ensures { IfOk result (IsOfRule (its_sources store.entry)
+        (its_templates store.entry indices.now) ChainError.NoMacro) }
 {
     let Some(missing) = missing_at(store, indices) else {
         return Ok(ChainFinding::without_place(ChainError::NoMacro));
@@ -131,8 +131,8 @@ fn name_twice(
     indices: &[usize],
 ) -> Result<ChainFinding, AllocError>
     requires { AreIndices (files_view store.files.now) indices.now }
-    ensures { IfOk result (IsOfRule (its_sources store.entry) (its_templates store.entry indices.now)
-        ChainError.MacroTwice) }
+    ensures { IfOk result (IsOfRule (its_sources store.entry)
+        (its_templates store.entry indices.now) ChainError.MacroTwice) }
 {
     let names = names_at(alloc, store, indices)?;
     let Some(name) = repeated(alloc, &names)? else {
@@ -161,8 +161,8 @@ pub(crate) fn rule_finding(
     error: ChainError,
 ) -> Result<ChainFinding, AllocError>
     requires { AreIndices (files_view store.files.now) indices.now }
-    ensures { IfOk result (IsOfRule (its_sources store.entry) (its_templates store.entry indices.now)
-        error) }
+    ensures { IfOk result (IsOfRule (its_sources store.entry)
+        (its_templates store.entry indices.now) error) }
 {
     match error {
         ChainError::NoMacro => missing_finding(alloc, store, indices),
