@@ -1,6 +1,8 @@
 -- What the place of an error at the name of a template shows in each chain that reaches the tag.
-use Rattle.std.proofs.Common.{◌≡◌, ℕ, suc, ◌+◌, ◌-◌, ◌<◌, ◌≤◌, Bool, true, false, not, ◌||◌, List, [], ◌∷◌, ◌++◌, length}
-use Rattle.std.proofs.Common.{String, Global, get_or, Result, Ok, Err, map, refl, sym, ap, subst, ◌∙◌, arith, inl, inr, ◌⊎◌, ⊎_elim, Option, Some, None, string_bytes}
+use Rattle.std.proofs.Common.{◌≡◌, ℕ, suc, ◌+◌, ◌-◌, ◌<◌, ◌≤◌, Bool, true, false, not, ◌||◌, List, [], ◌∷◌, ◌++◌}
+use Rattle.std.proofs.Common.{length}
+use Rattle.std.proofs.Common.{String, Global, get_or, Result, Ok, Err, map, refl, sym, ap, subst, ◌∙◌, arith, inl, inr}
+use Rattle.std.proofs.Common.{◌⊎◌, ⊎_elim, Option, Some, None, string_bytes}
 use Rattle.std.specs.Prelude.{IfOk, flat_map, slice_get}
 use Rattle.std.specs.Option.{is_some, option_to_list}
 use Rattle.std.specs.Str.{bytes_eq}
@@ -23,7 +25,8 @@ use Rattle.jt_inherit.specs.Chains.{SourceTexts}
 use Rattle.jt_inherit.specs.Findings.{ForSome, IsAt, HasTag, all_uses, uses_in, asks, is_extends, IsBrokenAt, Says}
 use Rattle.jt_inherit.specs.internal.ExtendsPaths.{AreKnown, BreaksAll, Grow, IsExtendsPath, Leads, SaysAll}
 use Rattle.jt_inherit.specs.internal.Faults.{IsFaultOf}
-use Rattle.jt_inherit.specs.internal.Placing.{IsOfHead, IsOfNeed, IsOfParent, HeadAt, LastAt, PlacedAt, SubjectOf, IsOfName, need_test}
+use Rattle.jt_inherit.specs.internal.Placing.{IsOfHead, IsOfNeed, IsOfParent, HeadAt, LastAt, PlacedAt, SubjectOf}
+use Rattle.jt_inherit.specs.internal.Placing.{IsOfName, need_test}
 use Rattle.jt_chains.specs.Needs.{Need, need_view, needed, needs_view}
 use Rattle.jt_chains.specs.declared.include_tags.NeededTemplate.{NeededTemplate}
 use Rattle.jt_inherit.specs.internal.Along.{needs_of}
@@ -307,7 +310,8 @@ module _ {given : SourceTexts} {options : Options} {root : Text} {ts : List Temp
           (subst (λ us. Leads (sources_in ts) (Some h) us (Some n)) last.1 w.leads)
           (sym (ap (λ us. among n (names us)) last.1) ∙ there) in
           let its_name : string_bytes p.template ≡ l.0.name =
-          tag_name (is_extends n) p l.0.name (body_uses l.0.body outside) (first_shows (is_extends n) p (uses_in l.0) l.2.0) in
+          tag_name (is_extends n) p l.0.name (body_uses l.0.body outside)
+          (first_shows (is_extends n) p (uses_in l.0) l.2.0) in
           shown known r error.ExtendsCycle p (v.Template m)
           (subst (λ z. HasTag (is_extends z) (templates (sources_in ts) (a_chain h)) p
           × ((count : ℕ) × (among (string_bytes p.template) (names_up (sources_in ts) count (Some z)) ≡ true)))

@@ -20,7 +20,8 @@ returns-then-is_on_path g c =
     let f = c.in_ok-parent_finding.field-0 in
     let there = sym (on_path c.deref-in-loop-turn.ensures.value c.deref-in-loop-turn-2.ensures.value
     c.deref-in-loop-turn-3.ensures c.is_on_path.ensures) ∙ c.if-is_on_path.true in
-    let told = same_parent error.ExtendsCycle f c.deref-then-is_on_path.ensures.value c.deref-then-is_on_path-2.ensures.value
+    let told = same_parent error.ExtendsCycle f c.deref-then-is_on_path.ensures.value
+    c.deref-then-is_on_path-2.ensures.value
     c.deref-then-is_on_path-3.ensures c.in_ok-parent_finding.ensures in
     refused_all (g.L.Library.sources c.args.loader.now.library.now) c.args.loader.now.options c.args.files.now.items
     l.files.items l.invariant.grown c.args.namespace.now c.if-namespace.false error.ExtendsCycle f told.0
@@ -111,7 +112,8 @@ returns-then-is_on_path-2 g c =
     let f = c.in_ok-parent_finding-2.field-0 in
     let there = sym (on_path c.deref-3.ensures.value c.deref-4.ensures.value c.deref-5.ensures
     c.is_on_path-2.ensures) ∙ c.if-is_on_path-2.true in
-    let told = same_parent error.ExtendsCycle f c.deref-then-is_on_path-2-2.ensures.value c.deref-then-is_on_path-2-3.ensures.value
+    let told = same_parent error.ExtendsCycle f c.deref-then-is_on_path-2-2.ensures.value
+    c.deref-then-is_on_path-2-3.ensures.value
     c.deref-then-is_on_path-2-4.ensures c.in_ok-parent_finding-2.ensures in
     refused_all (g.L.Library.sources c.args.loader.now.library.now) c.args.loader.now.options c.args.files.now.items
     l.files.items l.invariant.grown c.args.namespace.now c.if-namespace.false error.ExtendsCycle f told.0
