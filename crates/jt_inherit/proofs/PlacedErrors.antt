@@ -67,7 +67,7 @@ listed_source s h (a_library n) a =
     (among_passes (λ m. is_some (s m)) n (libraries s h)
     (sym (libraries_listed n (with_source s xs) (with_source s (libraries s h))) ∙ a)).1
 
-reached_source : {s : Sources} {e : Bool} {h k : Namespace} → Reaches s e h k
+pub reached_source : {s : Sources} {e : Bool} {h k : Namespace} → Reaches s e h k
     → (k ≡ h) ⊎ (is_some (s (namespace_name k)) ≡ true)
 reached_source here = inl refl
 reached_source {s} {e} (through {namespace = h} {next = m} a rest) =
