@@ -62,8 +62,8 @@
  * - No length is above PTRDIFF_MAX.
  * - The fields of a handle are neither changed nor copied to a second handle in use.
  * - No call is made in a signal handler, or in a child that a process with threads has forked.
- * - The stack has 256 KiB left. This is measured (bindings/c/stack.c) and not proved: templates of
- *   98 levels, which are the deepest that are accepted, take at most 128 KiB, and a run 160. */
+ * - The stack has 256 KiB left. This is tested (bindings/c/stack.c) and not proved, by templates of
+ *   98 levels, which are the deepest that are accepted, and by what they run. */
 #ifndef JT_H
 #define JT_H
 
