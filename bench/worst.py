@@ -1,20 +1,20 @@
 #!/usr/bin/env python3
 """Prints how long a unit of fuel can last: each operator, filter, test and statement over the operands that are worst for it.
 
-    bench/worst.py [--jt PATH] [--fuel N] [--rows N] [--most SECONDS] [WORD ..]
+    bench/worst.py [--jt PATH] [--fuel N] [--size N] [--rows N] [--most SECONDS] [WORD ..]
 
 Without --jt it takes the program that `rt run` keeps, crates/jt_cli/out/jt_cli. Each form stands in a loop that --fuel (100,000) ends.
 A row has the microseconds of processor time for a unit, the seconds that the default budget of 1,000,000 units lasts at that rate, and
 the form with the names of its operands (OPERANDS below). Reading the context is measured apart and taken off. A run is ended after --cap
 (5) seconds; its row then has a `>`. The --rows (40) slowest forms are printed, the slowest first; with words, all forms that have one of
-them. The status is 1 if a form is slower than --most (15 seconds for the default budget).
+them. With --size N the run has that limit of sizes, and lists have a quarter of it as items. The status is 1 if a form is slower than --most (15
+seconds for the default budget).
 """
 import json, os, pathlib, random, resource, subprocess, sys, tempfile
 from timing import flags, timed
 
 MILLION = 1_000_000
 DEFAULT = 1_000_000
-random.seed(1)
 
 # How many items a list has: a unit of fuel pays for 64 of a size, so more items only make a run longer.
 ITEMS = 250_000
@@ -28,48 +28,53 @@ def fibonacci(length):
     return word[:length]
 
 
-# The values of the context.
-OPERANDS = {
-    "zero": 0,
-    "one": 1,
-    "letter": "a",
-    "word": "abcdefghij",
-    "text": "a" * MILLION,
-    "text2": "a" * (MILLION - 1) + "b",
-    "half": "a" * (MILLION // 2 - 1) + "b",
-    "blank": " " * MILLION,
-    "letters": "".join(random.choices("abcdefghijklmnopqrstuvwxyzABCDEFGHIJKLMNOPQRSTUVWXYZ", k=MILLION)),
-    "marks": "<" * MILLION,
-    "greek": "".join(chr(random.randrange(0x80, 0x800)) for _ in range(MILLION // 2)),
-    "han": "".join(chr(random.randrange(0x4E00, 0x9FFF)) for _ in range(MILLION // 3)),
-    "numbers": list(range(ITEMS)),
-    "numbers2": list(range(ITEMS - 1)) + [-1],
-    "shuffled": random.sample(range(ITEMS), ITEMS),
-    "equal": [7] * ITEMS,
-    "great": random.sample(range(2**62, 2**62 + 2**40), ITEMS),
-    "truths": [random.random() < 0.5 for _ in range(ITEMS)],
-    "mixed": list(range(ITEMS - 1)) + ["a"],
-    "nones": [None] * ITEMS,
-    "empties": [""] * ITEMS,
-    "lists": [[] for _ in range(ITEMS)],
-    "pairs": [[i, i] for i in range(ITEMS // 3)],
-    "short": [f"{random.randrange(10**4):04}" for _ in range(ITEMS // 5)],
-    "words": [f"{random.randrange(10**9):09}" for _ in range(ITEMS // 10)],
-    "alike": ["a" * 990 + f"{i:09}" for i in range(ITEMS // 1000)],
-    "keys": {f"{i:06}": i for i in range(ITEMS // 8)},
-    "turned": {f"{i:06}": i for i in reversed(range(ITEMS // 8))},
-    "scattered": {f"{i:06}": i for i in random.sample(range(ITEMS // 8), ITEMS // 8)},
-    "voids": [{} for _ in range(ITEMS)],
-    "maps": [{"a": i, "b": "x"} for i in range(ITEMS // 10)],
-    "alone": {"a": 1},
-    "deep": json.loads("[" * 31 + "]" * 31),
-    "binary": "".join(random.choices("ab", k=MILLION)),
-    "fibonacci": fibonacci(MILLION),
-    "falling": [[2, 1] for _ in range(ITEMS // 3)],
-    "seventeen": [random.sample(range(1000), 17) for _ in range(ITEMS // 18)],
-    "few": ["".join(random.choices("ab", k=60)) for _ in range(23)],
-    "slices": ["".join(random.choices("ab", k=60)) for _ in range(ITEMS // 60)],
-}
+def operands(items, length):
+    """The values of the context, with lists of so many items and texts of so many bytes."""
+    random.seed(1)
+    return {
+        "zero": 0,
+        "one": 1,
+        "letter": "a",
+        "word": "abcdefghij",
+        "text": "a" * length,
+        "text2": "a" * (length - 1) + "b",
+        "half": "a" * (length // 2 - 1) + "b",
+        "blank": " " * length,
+        "letters": "".join(random.choices("abcdefghijklmnopqrstuvwxyzABCDEFGHIJKLMNOPQRSTUVWXYZ", k=length)),
+        "marks": "<" * length,
+        "greek": "".join(chr(random.randrange(0x80, 0x800)) for _ in range(length // 2)),
+        "han": "".join(chr(random.randrange(0x4E00, 0x9FFF)) for _ in range(length // 3)),
+        "numbers": list(range(items)),
+        "numbers2": list(range(items - 1)) + [-1],
+        "shuffled": random.sample(range(items), items),
+        "equal": [7] * items,
+        "great": random.sample(range(2**62, 2**62 + 2**40), items),
+        "truths": [random.random() < 0.5 for _ in range(items)],
+        "mixed": list(range(items - 1)) + ["a"],
+        "nones": [None] * items,
+        "empties": [""] * items,
+        "lists": [[] for _ in range(items)],
+        "pairs": [[i, i] for i in range(items // 3)],
+        "short": [f"{random.randrange(10**4):04}" for _ in range(items // 5)],
+        "words": [f"{random.randrange(10**9):09}" for _ in range(items // 10)],
+        "alike": ["a" * 990 + f"{i:09}" for i in range(items // 1000)],
+        "keys": {f"{i:06}": i for i in range(items // 8)},
+        "turned": {f"{i:06}": i for i in reversed(range(items // 8))},
+        "scattered": {f"{i:06}": i for i in random.sample(range(items // 8), items // 8)},
+        "voids": [{} for _ in range(items)],
+        "maps": [{"a": i, "b": "x"} for i in range(items // 10)],
+        "alone": {"a": 1},
+        "deep": json.loads("[" * 31 + "]" * 31),
+        "binary": "".join(random.choices("ab", k=length)),
+        "fibonacci": fibonacci(length),
+        "falling": [[2, 1] for _ in range(items // 3)],
+        "seventeen": [random.sample(range(1000), 17) for _ in range(items // 18)],
+        "few": ["".join(random.choices("ab", k=60)) for _ in range(23)],
+        "slices": ["".join(random.choices("ab", k=60)) for _ in range(items // 60)],
+    }
+
+
+OPERANDS = operands(ITEMS, MILLION)
 TEXTS = ["letter", "word", "text", "blank", "letters", "marks", "greek", "han"]
 LISTS = ["numbers", "shuffled", "equal", "great", "truths", "mixed", "nones", "empties", "lists", "voids", "pairs", "short", "words", "alike", "maps", "falling", "seventeen"]
 MAPS = ["keys", "turned", "scattered", "alone"]
@@ -95,7 +100,7 @@ def expressions():
         yield from [f"{x}|replace('a', 'b')", f"{x}|replace('a', 'bb')", f"{x}|replace('aa', '')", f"{x}|replace('b', 'c')", f"letter|replace(letter, {x})", f"{x}|replace({x}, letter)", f"{x}|replace(half, letter)", f"half in {x}", f"'b' in {x}", f"'ab' in {x}", f"{x} in {x}", f"{x}[999999]", f"{x} < {x}", f"{x}|join(',')", f"{x}|safe|upper", f"{x}|safe ~ {x}"]
     for x in MAPS:
         yield from [f"'zzz' in {x}", f"{x}['000001']", f"{x}.zzz", f"keys == {x}", f"{x} == scattered", f"{x} is eq turned"]
-    yield from ["text == text2", "text < text2", "text is eq text2", "text is lt text2", "numbers == numbers2", "numbers < numbers2", "-1 in numbers", "999999 in numbers", "word in words", "deep == deep", "keys in voids", "alike|unique", "letters|unique", "greek|unique|sort", "shuffled|sort|unique", "[text, text, text, text]|join", "[keys, turned]|unique", "[numbers, numbers2]|unique", "[scattered, turned]|unique", "[text, text2]|sort", "[text, text2]|unique"]
+    yield from ["text == text2", "text < text2", "text is eq text2", "text is lt text2", "numbers == numbers2", "numbers < numbers2", "-1 in numbers", "999999 in numbers", "word in words", "deep == deep", "keys in voids", "alike|unique", "letters|unique", "greek|unique|sort", "shuffled|sort|unique", "(great + ['a'])|unique", "(shuffled + [true])|unique", "[text, text, text, text]|join", "[keys, turned]|unique", "[numbers, numbers2]|unique", "[scattered, turned]|unique", "[text, text2]|sort", "[text, text2]|unique"]
     for x in ["short", "words", "slices", "few", "keys", "letter"]:
         yield from [f"{x}|select('in', {whole})" for whole in ["text", "letters", "binary", "fibonacci", "greek", "half"]]
     # little that is read and much that is made
@@ -164,15 +169,16 @@ def forms():
 class Bench:
     """A folder with one context for each set of operands, and the seconds that reading it takes."""
 
-    def __init__(self, jt, fuel, cap, folder):
-        self.jt, self.fuel, self.cap, self.folder, self.read = jt, fuel, cap, folder, {}
+    def __init__(self, jt, asked, folder):
+        self.jt, self.fuel, self.cap, self.folder, self.read = jt, asked.fuel, asked.cap, folder, {}
+        self.limits = ["--size", str(asked.size)] if asked.size else []
         os.mkdir(f"{folder}/d")
         pathlib.Path(folder, "d", "empty").write_text("")
         pathlib.Path(folder, "d", "tags").write_text("{{ '' }}" * 1000)
 
     def run(self, operands, source, fuel):
         pathlib.Path(self.folder, "d", "t").write_text(source)
-        words = [self.jt, "render", "d", "t", f"{'+'.join(operands) or 'none'}.json", "--fuel", str(fuel)]
+        words = [self.jt, "render", "d", "t", f"{'+'.join(operands) or 'none'}.json", "--fuel", str(fuel), *self.limits]
         limit = lambda: resource.setrlimit(resource.RLIMIT_CPU, (self.cap, self.cap))
         return timed(words, cwd=self.folder, stdin=subprocess.DEVNULL, preexec_fn=limit)
 
@@ -210,14 +216,17 @@ def measure(bench, words, found, others):
 def main():
     parser = flags(__doc__)
     parser.add_argument("--fuel", type=int, default=100_000)
+    parser.add_argument("--size", type=int, default=0)
     parser.add_argument("--cap", type=int, default=5)
     parser.add_argument("--rows", type=int, default=40)
     parser.add_argument("--most", type=float, default=15.0)
     parser.add_argument("words", nargs="*")
     asked = parser.parse_args()
+    if asked.size:
+        OPERANDS.update(operands(asked.size // 4, asked.size - 1000))
     found, others = [], {}
     with tempfile.TemporaryDirectory() as folder:
-        bench = Bench(asked.jt, asked.fuel, asked.cap, folder)
+        bench = Bench(asked.jt, asked, folder)
         try:
             measure(bench, asked.words, found, others)
         except KeyboardInterrupt:

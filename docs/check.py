@@ -12,9 +12,11 @@ tests/README.md and all of docs/. The script checks
     each call of contracts.md      the crate of its heading has it
     each module of definitions.md  it is in specs/ of the crate
     each sentence of errors.md that `jt explain` prints     the code of jt_host has it, and each refusal of templates there has one
+    each sentence of errors.md of a fault or a spent number     the same
     each example of errors.md, from-jinja.md and tests/README.md (a line with ` => ` in a code block or a table)     it is a row of tests/rows/
     each code block after a line that ends with a link to a file of code and a colon      the file has these lines
     README.md                      it has at most 7,000 bytes
+    each name of Jinja (tests/jinja_names.py)      the language has it, or jt_hints names it as left out
     docs/architecture.md           it lists the crates of crates.txt, in the same order, each after those that it names
     each document                  links lead to it from README.md
 
@@ -29,6 +31,8 @@ ROOT = pathlib.Path(__file__).resolve().parent.parent
 sys.path.insert(0, str(ROOT / "tests"))
 sys.dont_write_bytecode = True
 import explanations
+import jinja_names
+import run_explanations
 
 MOST = 7000
 LINK = re.compile(r"(?<!!)\[[^\]]*\]\(([^)\s]+)\)")
@@ -198,11 +202,22 @@ class Checks:
         sentences, source = explanations.table(text), SPLIT.sub("", code["jt_host"])
         refusals = set(REFUSAL.findall(source))
         self.holds(refusals and sentences, file, "it has no sentence of `jt explain`")
-        for refusal in sorted(refusals | set(sentences)):
-            self.holds(refusal in refusals, file, f"jt_host has no {refusal}")
+        for refusal in sorted(refusals):
             self.holds(refusal in sentences, file, f"no sentence of `jt explain` for {refusal}")
-            sentence = sentences.get(refusal, "")
-            self.holds(f'"{sentence}"' in source, file, f"jt_host does not say of {refusal}: {sentence}")
+        for row, sentence in sorted(sentences.items()):
+            words = sentence.removesuffix(' "NAME"')
+            self.holds(re.match(r"\w+ \w+", row)[0] in refusals, file, f"jt_host has no {row}")
+            self.holds(f'"{words}"' in source, file, f"jt_host does not say of {row}: {words}")
+
+    def runs_explained(self, file, text, code):
+        """Checks the sentences of errors.md on runs: jt_host has each, and each fault and number of a budget has one."""
+        sentences, source = run_explanations.table(text), SPLIT.sub("", code["jt_host"])
+        endings = {*re.findall(r"(?m)^### (F\d \w+)$", text), *run_explanations.SPENT}
+        for ending in sorted(endings | set(sentences)):
+            self.holds(ending in endings, file, f"no fault and no number of a budget: {ending}")
+            self.holds(ending in sentences, file, f"no sentence of `jt explain` for {ending}")
+            sentence = sentences.get(ending, "")
+            self.holds(f'"{sentence}"' in source, file, f"jt_host does not say of {ending}: {sentence}")
 
     def order(self):
         """crates.txt lists each crate after those that it names, and docs/architecture.md lists the same crates in the same order."""
@@ -236,6 +251,7 @@ def main():
                 checks.holds(row in known, file, f"no row: {row}")
         if file.name == "errors.md":
             checks.explained(file, text, code)
+            checks.runs_explained(file, text, code)
         if file.name == "contracts.md":
             checks.promised(file, text, code)
         if file.name == "definitions.md":
@@ -243,6 +259,8 @@ def main():
     readme = ROOT / "README.md"
     checks.holds(len(readme.read_bytes()) <= MOST, readme, f"it has more than {MOST} bytes")
     checks.order()
+    wrong = jinja_names.failures()
+    checks.holds(not wrong, ROOT / "tests/jinja_names.py", "; ".join(wrong))
     reached, waiting = set(), [readme]
     while waiting:
         file = waiting.pop()

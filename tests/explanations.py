@@ -1,6 +1,7 @@
 """What `jt explain` prints by the documents, for the rows of explanations of tests/run.py.
 
-A row wants the first line of the text alone. This module adds the line of the template's file and the sentence of docs/errors.md, and
+A row wants the first line of the text, and behind it in parentheses what the name is, if the sentence depends on that, and after `; ` what
+follows the sentence. This module adds the line of the template's file, the marks under the name, and the sentence of docs/errors.md, and
 tells what `jt compile` says of the same templates.
 """
 import functools
@@ -8,18 +9,23 @@ import pathlib
 import re
 
 ERRORS = pathlib.Path(__file__).resolve().parent.parent / "docs" / "errors.md"
-FIRST = re.compile(r'(?:(?P<template>[^\n]+):(?P<line>[0-9]+): )?(?P<code>[A-Z][0-9]+) (?P<name>\w+)(?: "(?P<subject>[^"\n]*)")?')
-ROW = re.compile(r"(?m)^\| (?P<code>[A-Z][0-9]+) (?P<name>\w+) \| (?P<sentence>[^|]+) \|$")
+FIRST = re.compile(
+    r'(?P<first>(?:(?P<template>[^\n]+):(?P<line>[0-9]+): )?(?P<code>[A-Z][0-9]+) (?P<name>\w+)(?: "(?P<subject>[^"\n]*)")?)'
+    r"(?P<kind> \(\w+\))?(?P<tail>; .+)?"
+)
+ROW = re.compile(r'(?m)^\| (?P<refusal>[A-Z][0-9]+ \w+(?: "NAME")?(?: \(\w+\))?) \| (?P<sentence>[^|]+) \|$')
+# A character of a word: the name is marked where none is beside it.
+WORD = "[A-Za-z0-9_\\x80-\U0010ffff]"
 LINE_END = re.compile("\r\n|\r|\n")
 # The greatest number of bytes of a source, S7 beyond it.
 MOST = 1 << 20
 
 
 def table(text):
-    """The sentences of docs/errors.md, by code and name."""
+    """The sentences of docs/errors.md, by code and name. In some, NAME stands for the name that the refusal is about."""
     _, _, after = text.partition("\n## What `jt explain` says\n")
     section = re.split(r"\n## ", after)[0]
-    return {f"{row['code']} {row['name']}": row["sentence"] for row in ROW.finditer(section)}
+    return {row["refusal"]: row["sentence"] for row in ROW.finditer(section)}
 
 
 @functools.lru_cache
@@ -36,6 +42,22 @@ def line_of(folder, template, number):
     return lines[number - 1]
 
 
+def marked(line, name):
+    """The marks under the first place in a line at which a name stands as a whole word, or no line. Control characters stay as they are."""
+    found = re.search(f"(?<!{WORD}){re.escape(name)}(?!{WORD})", line)
+    under = re.sub("[^\0-\x1f\x7f]", " ", line[: found.start()]) if found else ""
+    return [f"  {under}{'^' * len(name)}"] if found else []
+
+
+def sentence(refusal, name, kind):
+    """The sentence of docs/errors.md for a refusal, with the name that it is about."""
+    key = refusal + (' "NAME"' if name else "") + kind
+    found = sentences().get(key) or (sentences().get(refusal) if not kind else None)
+    if not found:
+        raise ValueError(f"docs/errors.md has no sentence for {key}")
+    return found.replace('"NAME"', f'"{name}"')
+
+
 def answers(folder, wanted):
     """What `explain` and `compile` of the templates of a folder must come to, by the first line that `explain` prints."""
     if wanted == "ok":
@@ -43,11 +65,10 @@ def answers(folder, wanted):
     found = FIRST.fullmatch(wanted)
     if not found:
         raise ValueError(f"no first line of an explanation: {wanted[:80]!r}")
-    refusal, place, lines = f"{found['code']} {found['name']}", "", [wanted]
-    if refusal not in sentences():
-        raise ValueError(f"docs/errors.md has no sentence for {refusal}")
+    refusal, place, lines = f"{found['code']} {found['name']}", "", [found["first"]]
     if found["template"]:
         place = f" in {found['template']} line {found['line']}" if found["code"][0] in "SP" else ""
-        lines.append(f"  {line_of(folder, found['template'], int(found['line']))}")
-    lines.append(f"  {sentences()[refusal]}")
+        line = line_of(folder, found["template"], int(found["line"]))
+        lines += [f"  {line}", *(marked(line, found["subject"]) if found["subject"] else [])]
+    lines.append(f"  {sentence(refusal, found['subject'], found['kind'] or '')}{found['tail'] or ''}")
     return "0 [" + "".join(f"{line}\n" for line in lines) + "][]", f"3 [][jt: refused {refusal}{place}\n]"

@@ -79,6 +79,7 @@ def of_templates(image_of):
         yield Case(f"render, {name}", "render d t c", {**files, "c": text})
         yield Case(f"compile, {name}", "compile d t out", files, out="out")
         yield Case(f"explain, {name}", "explain d t", files)
+        yield Case(f"explain, {name}, with a context", "explain d t c", {**files, "c": text})
         yield Case(f"run, {name}", "run i c", {"i": image, "c": text})
         yield Case(f"check, {name}", "check i", {"i": image})
         yield Case(f"show, {name}", "show i", {"i": image})
@@ -122,8 +123,10 @@ def of_sources():
         yield Case(f"explain, {code}", "explain d t", in_folder({"t": source}))
     for code, source in FAULTS.items():
         yield Case(f"render, {code}", "render d t", in_folder({"t": source}))
+        yield Case(f"explain, {code}", "explain d t c", {**in_folder({"t": source}), "c": "{}"})
     for words in ("--fuel 3", "--output 1", "--depth 0", "--size 2", "--nesting 0"):
-        yield Case(f"render, {words}", f"render d t c {words}", {**in_folder({"t": MACRO + LOOP}), "c": json.dumps(XS)})
+        for command in ("render", "explain"):
+            yield Case(f"{command}, {words}", f"{command} d t c {words}", {**in_folder({"t": MACRO + LOOP}), "c": json.dumps(XS)})
     for name, text in CONTEXTS.items():
         yield Case(f"render, context {name}", "render d t c", {**in_folder({"t": "{{ a }}"}), "c": text})
     yield Case("render, context not UTF-8", "render d t c", {**in_folder({"t": "{{ a }}"}), "c": b'{"a":"\xff"}'})

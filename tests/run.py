@@ -20,6 +20,7 @@ import sys
 import tempfile
 
 import explanations
+import run_explanations
 
 HERE = pathlib.Path(__file__).resolve().parent
 FILES = ["templates.txt", "imports.txt", "values.txt", "refusals.txt", "explain.txt", "faults.txt", "documents.txt", "hostile.txt", "commands.txt"]
@@ -41,6 +42,8 @@ FRONT = re.compile("(memory|output)=[0-9]+|shut=.+|2?>full")
 NOBODY = 65534
 HUGE = 1_000_000_000
 SPENT = ("Fuel", "Depth", "Output", "Size", "Nesting")
+# The options with which templates are read.
+READING = ("--trim-blocks", "--lstrip-blocks", "--keep-trailing-newline", "--no-autoescape")
 
 
 class Malformed(Exception):
@@ -239,11 +242,16 @@ def rendered(program, room, asked, wanted):
 
 
 def explained(program, room, asked, wanted):
-    """What `explain` and `compile` of a row of explanations come to, and what is wanted of both."""
+    """What `explain` of a row of explanations comes to, and beside it `compile`, or `render` for a context; and what is wanted of both."""
     words, options, limits = furnished(room, asked)
-    explanation, refusal = explanations.answers(room / "d", unfolded(wanted))
     line = limited(program, ["explain", *words, *options], limits)
-    return [(sent(*line, room), explanation), (sent(program, ["compile", *words, "image", *options], room), refusal)]
+    if "context" in words:
+        explanation, other = run_explanations.answers(room / "d", unfolded(wanted))
+        beside = ["render", *words, *options]
+    else:
+        explanation, other = explanations.answers(room / "d", unfolded(wanted))
+        beside = ["compile", *words, "image", *(option for option in options if option in READING)]
+    return [(sent(*line, room), explanation), (sent(program, beside, room), other)]
 
 
 KINDS = {"templates": rendered, "explanations": explained, "commands": in_order}

@@ -52,4 +52,5 @@ def main():
             print(f"{name:7} run {run:>11,}  compile {compiling:>9,}  context and start {start:>11,}", flush=True)
 
 
-main()
+if __name__ == "__main__":
+    main()

@@ -23,7 +23,7 @@ static void clear(struct result *result) { memset(result->out, 'x', sizeof resul
 
 static bool same(const struct result *a, const struct result *b) {
     return a->answer.status == b->answer.status && a->answer.code == b->answer.code &&
-           a->answer.line == b->answer.line && a->answer.reserved == b->answer.reserved &&
+           a->answer.line == b->answer.line && a->answer.letter == b->answer.letter &&
            a->answer.length == b->answer.length && memcmp(a->out, b->out, sizeof a->out) == 0;
 }
 
@@ -65,6 +65,9 @@ static void empty_handles(void) {
               JT_USAGE, JT_NOT_HELD) &&
                !nothing.full,
            "no library to compile from");
+    expect(is(jt_library_explain(&library, BYTES("page"), options, result.out, 256), JT_USAGE,
+              JT_NOT_HELD),
+           "no library to explain from");
     expect(is(jt_image_save(&nothing, result.out, 256), JT_USAGE, JT_NOT_HELD),
            "no image to save");
     expect(is(jt_image_run(&nothing, &context, budget, &outcome, result.out, 256), JT_USAGE,
@@ -118,6 +121,12 @@ static void libraries(void) {
             b.answer = jt_compile(TEMPLATES, BYTES(entries[which]), options, b.out, 256);
             expect(same(&a, &b) && !made.full, "a template of a library is refused");
         }
+        clear(&a);
+        clear(&b);
+        a.answer = jt_library_explain(&library, BYTES(entries[which]), options, a.out, 256);
+        b.answer = jt_explain(TEMPLATES, BYTES(entries[which]), options, b.out, 256);
+        expect(same(&a, &b) && library.full && a.answer.length <= 256,
+               "a template of a library is explained");
     }
     expect(jt_library_share(&library, &other) == JT_DONE && other.full, "a library is shared");
     expect(is(jt_library_load(BYTES(texts), &more, 1, &library, a.out, 256), JT_USAGE,
@@ -170,6 +179,9 @@ static void other_kinds(struct jt_image *kept, struct jt_context *context,
                                  256),
               JT_USAGE, JT_NOT_HELD),
            "an image is no library");
+    expect(is(jt_library_explain((struct jt_library *)kept, BYTES("page"), options, a.out, 256),
+              JT_USAGE, JT_NOT_HELD),
+           "an image is no library to explain from");
     jt_library_load(TEMPLATES, &library, a.out, 256);
     expect(is(jt_image_run((struct jt_image *)&library, context, budget, &other, a.out, 256),
               JT_USAGE, JT_NOT_HELD),

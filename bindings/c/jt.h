@@ -10,10 +10,12 @@
  * - jt_image_run runs an image for a context and keeps the outcome, and jt_outcome_read writes the
  *   outcome again, into a buffer of the right length.
  *
- * jt_compile, jt_check, jt_run and jt_render keep nothing.
+ * jt_compile, jt_check, jt_explain, jt_run and jt_render keep nothing.
  *
- * ANSWERS. Each call returns a struct jt_answer. A text, an image or a reason goes into the buffer
- * `out`, which has `room` bytes. It is not terminated by a zero byte. If it is longer than `room`,
+ * If templates are refused, jt_explain and jt_library_explain say more of it to their author.
+ *
+ * ANSWERS. Each call returns a struct jt_answer. A text, an image, a reason or an explanation goes
+ * into the buffer `out`, which has `room` bytes. It is not terminated by a zero byte. If it is longer than `room`,
  * the buffer stays as it was, and `length` is the length that is needed.
  *
  * ERRORS. `status` states what happened, and `code` and `line` state more:
@@ -25,6 +27,9 @@
  *     JT_REFUSED  the reason, as "X1 NotJson"         0
  *     JT_SPENT    nothing                             the number, as enum jt_spent
  *     JT_MEMORY   nothing                             0
+ *
+ * For JT_DONE of an explanation, `letter`, `code` and `line` state the refusal: 'P', 3 and the line
+ * of the tag for P3. They are 0 if there is none, and `line` also if it is not known.
  *
  * Every input is checked, so all bytes are safe: templates, images and contexts may come from
  * anyone. No call ends the process, prints, or reads a file.
@@ -57,8 +62,8 @@
  * - No length is above PTRDIFF_MAX.
  * - The fields of a handle are neither changed nor copied to a second handle in use.
  * - No call is made in a signal handler, or in a child that a process with threads has forked.
- * - The stack has 256 KiB left. This is measured (bindings/c/stack.c) and not proved: templates of
- *   98 levels, which are the deepest that are accepted, take at most 128 KiB, and a run 160. */
+ * - The stack has 256 KiB left. This is tested (bindings/c/stack.c) and not proved, by templates of
+ *   98 levels, which are the deepest that are accepted, and by what they run. */
 #ifndef JT_H
 #define JT_H
 
@@ -113,7 +118,7 @@ struct jt_answer {
     uint32_t status;   /* one of enum jt_status */
     uint32_t code;     /* see ERRORS */
     uint32_t line;     /* the line of a fault, from 1, or 0 if it is not known */
-    uint32_t reserved; /* 0 */
+    uint32_t letter;   /* of an explained refusal, else 0 */
     uint64_t length;   /* the number of bytes of the result, also if `out` is too short for it */
 };
 
@@ -190,6 +195,18 @@ struct jt_answer jt_library_compile(struct jt_library *library, const uint8_t *e
                                     size_t entry_length, struct jt_options options,
                                     struct jt_image *image, uint8_t *out, size_t room);
 
+/* Explains to the author of the templates why the template `entry` does not compile. `out` then
+ * holds lines for a person, each with its end. The first has the template and the line of the tag,
+ * where they are known, then the code, the name, and what the refusal is about, in quotes:
+ *
+ *     page:3: P3 UnknownFilter "uper"
+ *
+ * For a template that compiles `out` holds "ok" and a line end. Call this only after a refusal: it
+ * compiles the template again. */
+struct jt_answer jt_library_explain(struct jt_library *library, const uint8_t *entry,
+                                    size_t entry_length, struct jt_options options, uint8_t *out,
+                                    size_t room);
+
 /* Reads and verifies the bytes of an image into `image`; the bytes are copied. The image holds
  * nothing if the status is not JT_DONE. */
 struct jt_answer jt_image_load(const uint8_t *bytes, size_t bytes_length, struct jt_image *image,
@@ -241,6 +258,12 @@ uint64_t jt_memory_limit(uint64_t bytes);
 /* Returns how many bytes the calling thread holds more than when its limit was set. The number is
  * negative if it has freed more than it allocated, as by freeing handles that it had before. */
 int64_t jt_memory_held(void);
+
+/* Explains why the template `entry` does not compile, as jt_library_explain. */
+struct jt_answer jt_explain(const uint8_t *texts, size_t texts_length,
+                            const struct jt_lengths *lengths, size_t lengths_count,
+                            const uint8_t *entry, size_t entry_length, struct jt_options options,
+                            uint8_t *out, size_t room);
 
 /* Checks whether the bytes are an image that is accepted. */
 struct jt_answer jt_check(const uint8_t *image, size_t image_length, uint8_t *out, size_t room);

@@ -1,5 +1,5 @@
-/* Measures how much stack the calls need. Each input is compiled, rendered and run over handles on
- * a thread with a small stack, in a process of its own, because an overflow kills the process.
+/* Measures how much stack the calls need. Each input is compiled, rendered, explained and run over
+ * handles on a thread with a small stack, in a process of its own, because an overflow kills the process.
  *
  *     stack         prints the smallest stack on which each input passes, in steps of 16 KiB
  *     stack SIZE    checks that each input passes on a stack of SIZE KiB
@@ -115,6 +115,18 @@ static void open_parentheses(void) {
     nest(100000, "{{ ", "(", "1", "", " }}", "");
     wanted_status = JT_REFUSED;
 }
+static void unknown_filter(void) {
+    nest(96, "{{ ", "(", "x|nope", ")", " }}", "");
+    wanted_status = JT_REFUSED;
+}
+static void unknown_test(void) {
+    nest(97, "{{ ", "not ", "x is nope", "", " }}", "");
+    wanted_status = JT_REFUSED;
+}
+static void unknown_name(void) {
+    nest(97, "", "{% for i in [1] %}", "{{ f() }}", "{% endfor %}", "", "");
+    wanted_status = JT_REFUSED;
+}
 static void open_brackets(void) {
     nest_json(4000, 0);
     wanted_status = JT_REFUSED;
@@ -143,6 +155,9 @@ static const struct input {
     {"100,000 parentheses", many_parentheses},
     {"100,000 open parentheses", open_parentheses},
     {"4,000 open brackets", open_brackets},
+    {"a filter in 96 parentheses", unknown_filter},
+    {"a test after 97 nots", unknown_test},
+    {"a callee in 97 fors", unknown_name},
 };
 
 static bool is_wanted(struct jt_answer answer) {
@@ -151,10 +166,12 @@ static bool is_wanted(struct jt_answer answer) {
             (answer.length == strlen(wanted) && memcmp(out, wanted, answer.length) == 0));
 }
 
-/* Renders the input, then compiles it, keeps it and runs it. Returns NULL, or what is wrong. */
+/* Renders the input and explains it, then compiles it, keeps it and runs it. Returns NULL, or what
+ * is wrong. */
 static void *run(void *unused) {
     (void)unused;
-    static char rendered[] = "render", compiled[] = "compile", kept[] = "keep", ran[] = "run";
+    static char rendered[] = "render", explained[] = "explain", compiled[] = "compile";
+    static char kept[] = "keep", ran[] = "run";
     const uint8_t *entry = (const uint8_t *)"t", *json = (const uint8_t *)context;
     const size_t length = strlen(context);
     struct jt_image page = {0};
@@ -163,6 +180,10 @@ static void *run(void *unused) {
     if (!is_wanted(jt_render(texts, texts_length, lengths, lengths_count, entry, 1, options, json,
                              length, budget, out, sizeof out))) {
         return rendered;
+    }
+    if (jt_explain(texts, texts_length, lengths, lengths_count, entry, 1, options, out, sizeof out)
+            .status != JT_DONE) {
+        return explained;
     }
     if (wanted_status != JT_DONE) {
         return NULL;
@@ -231,7 +252,7 @@ int main(int count, char **words) {
         const struct input *input = &inputs[which];
         const size_t least = size == 0 ? needed(input) : passes(input, size) ? size : 0;
         failed = failed || least == 0;
-        printf("%-26s%6zu KiB%s\n", input->name, least, least == 0 ? ": it fails" : "");
+        printf("%-28s%6zu KiB%s\n", input->name, least, least == 0 ? ": it fails" : "");
         fflush(stdout);
     }
     return failed;

@@ -26,7 +26,7 @@ static struct jt_answer rendered(const char *source, const char *context, size_t
 static int tells(struct jt_answer answer, uint32_t status, uint32_t code, uint32_t line,
                  const char *told) {
     return answer.status == status && answer.code == code && answer.line == line &&
-           answer.reserved == 0 && answer.length == strlen(told) &&
+           answer.letter == 0 && answer.length == strlen(told) &&
            memcmp(out, told, answer.length) == 0;
 }
 
@@ -149,6 +149,49 @@ static void misuse(void) {
            "the last source of a name counts");
 }
 
+/* Explains the template `t` of this source. */
+static struct jt_answer explained(const char *source, size_t room) {
+    uint8_t texts[4096];
+    const struct jt_lengths lengths = {1, strlen(source)};
+    texts[0] = 't';
+    memcpy(texts + 1, source, lengths.source);
+    return jt_explain(texts, 1 + lengths.source, &lengths, 1, bytes("t"), 1, usual, out, room);
+}
+
+/* Returns whether an explanation has this code, this line and this first line. */
+static int explains(struct jt_answer answer, char letter, uint32_t code, uint32_t line,
+                    const char *first) {
+    return answer.status == JT_DONE && answer.letter == (uint32_t)letter && answer.code == code &&
+           answer.line == line && answer.length > strlen(first) &&
+           memcmp(out, first, strlen(first)) == 0 && out[strlen(first)] == '\n' &&
+           out[answer.length - 1] == '\n';
+}
+
+static void explanations(void) {
+    expect(tells(explained("a{{ x }}", 64), JT_DONE, 0, 0, "ok\n"), "nothing to explain");
+    expect(explains(explained("a\n{{ x|uper }}", sizeof out), 'P', 3, 2,
+                    "t:2: P3 UnknownFilter \"uper\""),
+           "P3");
+    expect(explains(explained("a\n\n{{ f() }}", sizeof out), 'V', 3, 3,
+                    "t:3: V3 NotCallable \"f\""),
+           "V3");
+    expect(explains(explained("\n{{ x", sizeof out), 'S', 1, 2, "t:2: S1 UnclosedTag"), "S1");
+    const struct jt_answer chain = explained("{% include 'no' %}", sizeof out);
+    expect(chain.status == JT_DONE && chain.letter == 'C' && chain.code == 1, "C1");
+    memset(out, '#', 8);
+    const struct jt_answer shown = explained("{{ x|uper }}", 4);
+    expect(shown.status == JT_DONE && shown.length > 4 && shown.code == 3 && out[0] == '#',
+           "an explanation that is longer than the buffer");
+    const struct jt_lengths more = {1, 9};
+    expect(tells(jt_explain(bytes("tabc"), 4, &more, 1, bytes("t"), 1, usual, out, 64), JT_USAGE,
+                 JT_LENGTHS, 0, ""),
+           "lengths beyond the bytes are not explained");
+    expect(tells(jt_explain(bytes("tabc"), 4, &(struct jt_lengths){1, 3}, 1, bytes("\xff"), 1,
+                            usual, out, 64),
+                 JT_USAGE, JT_NO_TEXT, 0, ""),
+           "an entry that is not UTF-8 is not explained");
+}
+
 static void images(void) {
     static uint8_t image[65536];
     const struct jt_lengths lengths = {1, 7};
@@ -177,6 +220,7 @@ int main(void) {
     statuses();
     constants();
     misuse();
+    explanations();
     images();
     return tally();
 }

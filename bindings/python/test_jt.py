@@ -211,11 +211,54 @@ class Calls(unittest.TestCase):
             Template("a b", {"a b": '{% include "c" %}', "c": "x\n\n{{ 1|nope }}"}).compile()
         error = caught.exception
         self.assertEqual((error.code, error.template, error.line), ("P3", "c", 3))
-        self.assertEqual(str(error), "refused P3 UnknownFilter in c line 3")
+        self.assertEqual((error.name, error.subject), ("UnknownFilter", "nope"))
+        self.assertEqual(error.reason, "P3 UnknownFilter in c line 3")
         self.assertEqual(error.entry, "a b")
-        with self.assertRaises(Refused) as caught:
-            Template("page", {"page": '{% include "no" %}'}).compile()
-        self.assertEqual(str(caught.exception), "refused C1 Missing, compiling page")
+        self.assertEqual(str(Refused(error.reason)), "refused P3 UnknownFilter in c line 3")
+        self.assertEqual(str(Refused("C1 Missing", "page")), "refused C1 Missing, compiling page")
+
+    def test_the_explanation_of_a_refusal(self):
+        for source, code, line, subject in (
+            ("a\n{{ x|uper }}", "P3", 2, "uper"),
+            ("\n\n{{ 1 is no }}", "P4", 3, "no"),
+            ("{{ f(1) }}", "V3", 1, "f"),
+            ("\n{{ x.y() }}", "V3", 2, "x.y"),
+            ("{{ loop.index }}", "V1", 1, "index"),
+            ("a\n{{ 1 + }}", "P1", 2, None),
+        ):
+            with self.assertRaises(Refused) as caught:
+                Template("a:1: b", {"a:1: b": source}).compile()
+            error, lines = caught.exception, str(caught.exception).split("\n")
+            found = (error.code, error.template, error.line, error.subject)
+            self.assertEqual(found, (code, "a:1: b", line, subject))
+            told = f' "{subject}"' if subject else ""
+            self.assertEqual(lines[0], f"a:1: b:{line}: {code} {error.name}{told}")
+            self.assertEqual(lines[1], "  " + source.split("\n")[line - 1])
+            self.assertEqual(error.explanation, str(error) + "\n")
+        for call in (
+            lambda: Template("page", {"page": '{% include "no" %}'}).compile(),
+            lambda: Templates({"page": "a"}).template("no"),
+        ):
+            with self.assertRaises(Refused) as caught:
+                call()
+            self.assertIn("C1 Missing", str(caught.exception).split("\n")[0])
+            self.assertEqual(caught.exception.reason, "C1 Missing")
+        for call in (lambda: Image(b"no image"), lambda: Context("[]")):
+            with self.assertRaises(Refused) as caught:
+                call()
+            self.assertIsNone(caught.exception.explanation)
+
+    def test_a_template_that_compiles_is_not_explained(self):
+        calls, real = [], jt._templates.explain
+        jt._templates.explain = lambda *given: calls.append(1) or real(*given)
+        try:
+            Template("t", {"t": "{{ n }}"}).render({"n": 1})
+            self.assertEqual(len(calls), 0)
+            with self.assertRaises(Refused):
+                Template("t", {"t": "{{ n|uper }}"}).compile()
+            self.assertEqual(len(calls), 1)
+        finally:
+            jt._templates.explain = real
 
     def test_an_image_travels_as_bytes(self):
         image = Template("t", {"t": "{{ n }}"}).compile()
@@ -766,6 +809,7 @@ class Lives(unittest.TestCase):
                 Fault(5, None, None),
                 Spent("fuel"),
                 Refused("P1 Syntax in t line 2", "t"),
+                Refused("V3 NotCallable", "t", 't:2: V3 NotCallable "f"\n  {{ f() }}\n  no\n'),
                 ContextError("X3 NotWhole", "a.b", "a float"),
                 NoMemory(),
                 JtError("x"),

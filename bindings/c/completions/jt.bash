@@ -11,10 +11,10 @@ _jt() {
         return
     fi
     case $command in
-        compile | explain) options=$templates ;;
+        compile) options=$templates ;;
         check | show | upgrade) ;;
         run) options=$budget ;;
-        render) options="$templates $budget" ;;
+        explain | render) options="$templates $budget" ;;
         turns) options="--slice $budget" ;;
         *) return ;;
     esac

@@ -30,7 +30,7 @@ end
 complete -c jt -s h -l help -d 'Print help'
 complete -c jt -n __fish_use_subcommand -s V -l version -d 'Print the version'
 complete -c jt -n __fish_use_subcommand -a compile -d 'Compile a template into an image'
-complete -c jt -n __fish_use_subcommand -a explain -d 'Explain why a template does not compile'
+complete -c jt -n __fish_use_subcommand -a explain -d 'Explain why a template does not compile, or has no text for a context'
 complete -c jt -n __fish_use_subcommand -a check -d 'Verify an image'
 complete -c jt -n __fish_use_subcommand -a show -d 'Print the tables and instructions of an image'
 complete -c jt -n __fish_use_subcommand -a run -d 'Run an image and print its text'
@@ -44,7 +44,7 @@ complete -c jt -n $templates -l lstrip-blocks -d 'Drop the spaces of a line befo
 complete -c jt -n $templates -l keep-trailing-newline -d 'Keep the last newline of each template'
 complete -c jt -n $templates -l no-autoescape -d 'Escape nothing unless a template says so'
 
-set -l budget '__fish_seen_subcommand_from run render turns'
+set -l budget '__fish_seen_subcommand_from explain run render turns'
 complete -c jt -n $budget -x -l fuel -d 'What the instructions may cost'
 complete -c jt -n $budget -x -l depth -d 'How many calls may be open'
 complete -c jt -n $budget -x -l output -d 'How many bytes may be written'
@@ -54,4 +54,4 @@ complete -c jt -n '__fish_seen_subcommand_from turns' -x -l slice -d 'How many i
 
 complete -c jt -n '__jt_at 0 compile explain render' -a '(__fish_complete_directories)'
 complete -c jt -n '__jt_at 1 compile explain render' -a '(__jt_templates)'
-complete -c jt -n '__jt_at 2 compile render; or __fish_seen_subcommand_from check show run turns upgrade' -F
+complete -c jt -n '__jt_at 2 compile explain render; or __fish_seen_subcommand_from check show run turns upgrade' -F

@@ -19,6 +19,12 @@ FAULTS = {
 _REASON = re.compile(
     r"(?P<code>[A-Z]\d+) (?P<name>\w+)(?: in (?P<template>.*) line (?P<line>\d+))?", re.S
 )
+# The first line of an explanation: `page:2: P3 UnknownFilter "uper"`.
+_HEADING = re.compile(
+    r"(?:(?P<template>.*?):(?P<line>\d+): )?(?P<code>[A-Z]\d+) (?P<name>\w+)"
+    r'(?: "(?P<subject>.*)")?',
+    re.S,
+)
 
 
 class JtError(Exception):
@@ -62,8 +68,10 @@ class Spent(JtError):
 class Refused(JtError):
     """A template that does not compile, or bytes that are no image or no context.
 
-    `reason` is the line of the program, as `P1 Syntax in page line 2`; `code`, `name`, `template`
-    and `line` are its parts. `entry` is the template that was compiled, if one was.
+    `reason` is the line of the program, as `P1 Syntax in page line 2`, and begins with `code` and
+    `name`. `template`, `line` and `subject`, the name that the refusal is about, are `None` where
+    they are not known. `entry` is the template that was compiled, if one was, and `explanation`
+    is what `jt explain` prints of it: `str(error)` is that, or the reason if there is none.
     """
 
     reason: str
@@ -71,17 +79,29 @@ class Refused(JtError):
     name: str
     template: Optional[str]
     line: Optional[int]
+    subject: Optional[str]
     entry: Optional[str]
+    explanation: Optional[str]
 
-    def __init__(self, reason: str, entry: Optional[str] = None) -> None:
-        super().__init__(reason, entry)
-        self.reason, self.entry = reason, entry
+    def __init__(
+        self, reason: str, entry: Optional[str] = None, explanation: Optional[str] = None
+    ) -> None:
+        super().__init__(reason, entry, explanation)
+        self.reason, self.entry, self.explanation = reason, entry, explanation
         found = _REASON.match(reason)
         self.code, self.name = (found["code"], found["name"]) if found else ("", "")
         self.template = found["template"] if found else None
         self.line = int(found["line"]) if found and found["line"] else None
+        self.subject = None
+        heading = _HEADING.fullmatch((explanation or "").partition("\n")[0])
+        if heading and (heading["code"], heading["name"]) == (self.code, self.name):
+            self.subject = heading["subject"]
+            if heading["line"]:
+                self.template, self.line = heading["template"], int(heading["line"])
 
     def __str__(self) -> str:
+        if self.explanation is not None:
+            return self.explanation.rstrip("\n")
         said = self.entry is None or self.template is not None
         return f"refused {self.reason}" + ("" if said else f", compiling {self.entry}")
 

@@ -5,7 +5,7 @@ Read _errors.py first: it has the exception for each answer.
 import ctypes
 import os
 import warnings
-from typing import Any, List, Tuple
+from typing import Any, List, Optional, Tuple
 
 from ._errors import Fault, JtError, NoMemory, Refused, Spent
 
@@ -28,7 +28,7 @@ class Answer(ctypes.Structure):
         ("status", _U32),
         ("code", _U32),
         ("line", _U32),
-        ("reserved", _U32),
+        ("letter", _U32),
         ("length", _U64),
     ]
 
@@ -108,6 +108,7 @@ _CALLS = {
     "jt_version": (Answer, _BYTES),
     "jt_library_load": (Answer, [*_TEMPLATES, _LIBRARY, *_BYTES]),
     "jt_library_compile": (Answer, [_LIBRARY, *_BYTES, FlagBytes, _IMAGE, *_BYTES]),
+    "jt_library_explain": (Answer, [_LIBRARY, *_BYTES, FlagBytes, *_BYTES]),
     "jt_image_load": (Answer, [*_BYTES, _IMAGE, *_BYTES]),
     "jt_image_save": (Answer, [_IMAGE, *_BYTES]),
     "jt_context_load": (Answer, [*_BYTES, _CONTEXT, *_BYTES]),
@@ -159,6 +160,14 @@ def tell(call: Any, *given: Any, room: int = FIRST_ROOM) -> bytes:
         if answer.length <= room:
             return outcome(answer, out)
         room = answer.length
+
+
+def explain(templates: LibraryHandle, entry: bytes, flags: FlagBytes) -> Optional[str]:
+    """Returns why a template does not compile, in words, or `None` if memory is refused."""
+    try:
+        return tell(library.jt_library_explain, templates, entry, len(entry), flags).decode()
+    except NoMemory:
+        return None
 
 
 def run(image: ImageHandle, context: ContextHandle, budget: Numbers) -> str:

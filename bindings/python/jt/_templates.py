@@ -9,7 +9,7 @@ from typing import Dict, Iterator, List, Mapping, Optional, Tuple, Union
 from ._contexts import ContextLike
 from ._errors import NoMemory, Refused
 from ._images import Budget, Image
-from ._library import FlagBytes, Lengths, LibraryHandle, library, tell
+from ._library import FlagBytes, Lengths, LibraryHandle, explain, library, tell
 
 # A source with more bytes is S7.
 _MOST_BYTES = 1_048_576
@@ -77,20 +77,33 @@ class Templates:
         `Refused` with the code C1 if there is no such name.
         """
         if name not in self._sources:
-            raise Refused("C1 Missing", name)
+            # (A name that has no UTF-8 is missing too.)
+            explanation = self._explanation(str(name).encode(errors="replace"))
+            raise Refused("C1 Missing", name, explanation)
         with self._lock:
             if name not in self._templates:
                 self._templates[name] = Template._of(name, self)
             return self._templates[name]
 
-    def _image(self, entry: bytes) -> Image:
-        """Compiles a template."""
-        handle, options = LibraryHandle(), self._options
+    def _shared(self) -> LibraryHandle:
+        """Returns a second handle of the sources."""
+        handle = LibraryHandle()
         with self._lock:
             if library.jt_library_share(self._first, handle) != 0:
                 raise NoMemory()
-        flags = FlagBytes(*(getattr(options, name) for name, _ in FlagBytes._fields_))
-        return Image._compiled(handle, entry, flags)
+        return handle
+
+    def _flags(self) -> FlagBytes:
+        """Returns the options as the library takes them."""
+        return FlagBytes(*(getattr(self._options, name) for name, _ in FlagBytes._fields_))
+
+    def _image(self, entry: bytes) -> Image:
+        """Compiles a template."""
+        return Image._compiled(self._shared(), entry, self._flags())
+
+    def _explanation(self, entry: bytes) -> Optional[str]:
+        """Returns why a template was refused, in words. It is compiled again for that."""
+        return explain(self._shared(), entry, self._flags())
 
     def __repr__(self) -> str:
         return f"<jt.Templates of {len(self._sources)} sources>"
@@ -154,7 +167,7 @@ class Template:
                 return self._image
             except Refused as error:
                 reason = error.reason
-        raise Refused(reason, self._name)
+        raise Refused(reason, self._name, self._templates._explanation(self._entry))
 
     def __repr__(self) -> str:
         return f"<jt.Template {self._name!r}>"

@@ -17,6 +17,15 @@ use std::{error, fmt, io};
 ///     _ => unreachable!(),
 /// }
 /// ```
+///
+/// The error of a template prints as its author reads it:
+///
+/// ```
+/// let templates = jt::Templates::new(&[("page", "a\n{{ x|uper }}")]);
+/// let error = templates.compile("page", jt::Options::default()).unwrap_err();
+/// let lines = error.to_string();
+/// assert!(lines.starts_with("page:2: P3 UnknownFilter \"uper\"\n  {{ x|uper }}\n"));
+/// ```
 #[derive(Clone, Debug, PartialEq, Eq)]
 #[non_exhaustive]
 pub enum Error {
@@ -31,8 +40,12 @@ pub enum Error {
         template: Option<String>,
         /// The line of the refused tag, counted from 1, if the refusal has a place.
         line: Option<u32>,
-        /// All that the library reports, as `P1 Syntax in page line 2`.
+        /// The name that the refusal is about, as of an unknown filter, if it has one.
+        subject: Option<String>,
+        /// The line of the program `jt`, as `P1 Syntax in page line 2`.
         reason: String,
+        /// What `jt explain` prints of the template, if templates were refused.
+        explanation: Option<String>,
     },
     /// A fault of a template, from [`Outcome::into_text`](crate::Outcome::into_text).
     Fault(Fault, Option<Place>),
@@ -53,14 +66,38 @@ impl Error {
             name: name.unwrap_or_default(),
             template: place.map(|(template, _)| template.to_string()),
             line: place.and_then(|(_, line)| line.parse().ok()),
+            subject: None,
             reason: reason.to_string(),
+            explanation: None,
         }
+    }
+    /// Adds the explanation of a refusal, whose first line is `TEMPLATE:LINE: CODE NAME "SUBJECT"`,
+    /// without the place if `at` is 0, and without the subject if there is none.
+    pub(crate) fn explained(mut self, text: String, at: u32) -> Error {
+        if let Error::Refused { code, name, template, line, subject, explanation, .. } = &mut self {
+            let heading = text.lines().next().unwrap_or_default();
+            let rule = format!("{code} {name}");
+            let about = if at == 0 {
+                heading.strip_prefix(&rule)
+            } else {
+                heading.split_once(&format!(":{at}: {rule}")).map(|(place, about)| {
+                    (*template, *line) = (Some(place.to_string()), Some(at));
+                    about
+                })
+            };
+            *subject = about
+                .and_then(|about| about.strip_prefix(" \"")?.strip_suffix('"'))
+                .map(str::to_string);
+            *explanation = Some(text);
+        }
+        self
     }
 }
 impl error::Error for Error {}
 impl fmt::Display for Error {
     fn fmt(&self, f: &mut fmt::Formatter<'_>) -> fmt::Result {
         match self {
+            Error::Refused { explanation: Some(lines), .. } => f.write_str(lines.trim_end()),
             Error::Refused { reason, .. } => write!(f, "refused {reason}"),
             Error::Fault(fault, Some(place)) => write!(f, "fault {fault} {place}"),
             Error::Fault(fault, None) => write!(f, "fault {fault}"),

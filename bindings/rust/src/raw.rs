@@ -17,7 +17,7 @@ pub(crate) struct Answer {
     pub(crate) status: u32,
     pub(crate) code: u32,
     pub(crate) line: u32,
-    reserved: u32,
+    letter: u32,
     length: u64,
 }
 
@@ -157,6 +157,7 @@ calls! {
     fn jt_library_compile(
         (library: &mut LibraryHandle), [entry: u8], options: Options, image: &mut ImageHandle
     );
+    fn jt_library_explain((library: &mut LibraryHandle), [entry: u8], options: Options);
     fn jt_image_load((), [bytes: u8], image: &mut ImageHandle);
     fn jt_image_save((image: &mut ImageHandle), [],);
     fn jt_context_load((), [bytes: u8], context: &mut ContextHandle);

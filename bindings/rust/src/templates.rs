@@ -1,6 +1,8 @@
 //! Sources, and their compilation to images.
 
-use crate::raw::{called, jt_library_compile, jt_library_load, ImageHandle, LibraryHandle};
+use crate::raw::{
+    called, jt_library_compile, jt_library_explain, jt_library_load, ImageHandle, LibraryHandle,
+};
 use crate::{Budget, Context, Error, Image, Outcome};
 use std::path::Path;
 use std::sync::{Mutex, PoisonError};
@@ -8,6 +10,8 @@ use std::{fmt, fs, io};
 
 /// The room for a reason.
 const ROOM: usize = 256;
+/// The room for an explanation that needs no second buffer.
+const LINES_ROOM: usize = 1024;
 
 /// How templates are read. By default escaping is on and everything else is off.
 #[derive(Clone, Copy, Debug, PartialEq, Eq)]
@@ -110,10 +114,14 @@ impl Templates {
         let (mut library, mut image) = (self.library()?, ImageHandle::empty());
         #[cfg(all(test, not(jt_installed)))]
         crate::tests::compiles();
-        called(ROOM, |out| {
+        let compiled = called(ROOM, |out| {
             jt_library_compile(&mut library, entry.as_bytes(), options, &mut image, out)
-        })?;
-        Ok(Image::of(image))
+        });
+        match compiled {
+            Ok(_) => Ok(Image::of(image)),
+            Err(Error::NoMemory) => Err(Error::NoMemory),
+            Err(refusal) => Err(explained(&mut library, entry, options, refusal)),
+        }
     }
     /// Returns a handle of the library of the sources, which are read if that is the first one.
     fn library(&self) -> Result<LibraryHandle, Error> {
@@ -126,6 +134,21 @@ impl Templates {
         first.insert(handle).share()
     }
 }
+/// Adds to the refusal of a template what its author has to know. Without memory nothing is added.
+fn explained(
+    library: &mut LibraryHandle,
+    entry: &str,
+    options: Options,
+    refusal: Error,
+) -> Error {
+    match called(LINES_ROOM, |out| jt_library_explain(library, entry.as_bytes(), options, out)) {
+        Ok((answer, lines)) => {
+            refusal.explained(String::from_utf8_lossy(&lines).into_owned(), answer.line)
+        }
+        Err(_) => refusal,
+    }
+}
+
 impl Clone for Templates {
     fn clone(&self) -> Templates {
         Templates {

@@ -109,8 +109,32 @@ fn a_refusal_has_its_parts() {
         let error = error.unwrap_err();
         let shown = error.to_string();
         let (code, name, template, line, reason) = parts(error);
-        assert_eq!((&*code, &*name, &*template, line, &*reason), wanted);
-        assert_eq!(shown, format!("refused {reason}"));
+        assert_eq!((&*code, &*name, &*reason), (wanted.0, wanted.1, wanted.4));
+        if wanted.3.is_some() {
+            assert_eq!((&*template, line), (wanted.2, wanted.3));
+        }
+        let first = shown.lines().next().unwrap();
+        assert!(first.contains(&format!("{code} {name}")), "{shown}");
+    }
+    for (name, source, wanted) in [
+        ("t", "a\n{{ x|uper }}", ("P3", "t", 2, Some("uper"))),
+        ("a:1: P3 b", "{{ 1 is no }}", ("P4", "a:1: P3 b", 1, Some("no"))),
+        ("t", "\n{{ x.y() }}", ("V3", "t", 2, Some("x.y"))),
+        ("t", "{{ x", ("S1", "t", 1, None)),
+    ] {
+        let error = Templates::new(&[(name, source)]).compile(name, Options::default());
+        let error = error.unwrap_err();
+        let shown = error.to_string();
+        match error {
+            Error::Refused { code, template, line, subject, explanation, .. } => {
+                let template = template.unwrap();
+                let found = (&*code, &*template, line.unwrap(), subject.as_deref());
+                assert_eq!(found, wanted);
+                assert!(shown.starts_with(&format!("{}:{}: {} ", wanted.1, wanted.2, wanted.0)));
+                assert_eq!(explanation, Some(shown + "\n"));
+            }
+            other => panic!("{other}"),
+        }
     }
     let mut image = template("a").compile().unwrap().to_bytes().unwrap();
     assert_eq!(code(Templates::default().compile("t", Options::default())), "C1");

@@ -58,10 +58,10 @@ abbrev pub compile_app : App
 compile_app = with_flags (with_rule (with_rule (with_rule (new_app (codes "compile"))
     (word_rule (codes "DIR"))) (word_rule (codes "NAME"))) (word_rule (codes "OUT")))
 
--- The command `explain DIR NAME`.
+-- The command `explain DIR NAME [CONTEXT]`.
 abbrev pub explain_app : App
-explain_app = with_flags (with_rule (with_rule (new_app (codes "explain"))
-    (word_rule (codes "DIR"))) (word_rule (codes "NAME")))
+explain_app = with_budget (with_flags (with_rule (with_rule (with_rule (new_app (codes "explain"))
+    (word_rule (codes "DIR"))) (word_rule (codes "NAME"))) context_rule))
 
 -- The command `check IMAGE`.
 abbrev pub check_app : App
@@ -216,10 +216,10 @@ IsCommand name rows (command.Compile dir template out) options budget slice = (n
     × (string_bytes template ≡ word_of (codes "NAME") rows)
     × (string_bytes out ≡ word_of (codes "OUT") rows)
     × IsOptions rows options × (budget ≡ usual_budget) × (slice ≡ usual_slice)
-IsCommand name rows (command.Explain dir template) options budget slice = (name ≡ codes "explain")
+IsCommand name rows (command.Explain dir template context) options budget slice = (name ≡ codes "explain")
     × (string_bytes dir ≡ word_of (codes "DIR") rows)
-    × (string_bytes template ≡ word_of (codes "NAME") rows)
-    × IsOptions rows options × (budget ≡ usual_budget) × (slice ≡ usual_slice)
+    × (string_bytes template ≡ word_of (codes "NAME") rows) × IsContext rows context
+    × IsOptions rows options × IsBudget rows budget × (slice ≡ usual_slice)
 IsCommand name rows (command.Check image) options budget slice = (name ≡ codes "check")
     × (string_bytes image ≡ word_of (codes "IMAGE") rows)
     × (options ≡ usual_options) × (budget ≡ usual_budget) × (slice ≡ usual_slice)

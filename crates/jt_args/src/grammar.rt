@@ -163,14 +163,20 @@ const COMMANDS: [CommandForm; 8] = [
     },
     CommandForm {
         name: "explain",
-        about: "Explains why a template does not compile",
+        about: "Explains why a template does not compile, or has no text for a context",
         arguments: &[
             DIR,
             NAME,
+            CONTEXT,
             TRIM_BLOCKS,
             LSTRIP_BLOCKS,
             KEEP_TRAILING_NEWLINE,
             NO_AUTOESCAPE,
+            FUEL,
+            DEPTH,
+            OUTPUT,
+            SIZE,
+            NESTING,
         ],
     },
     CommandForm {

@@ -6,7 +6,7 @@ use std::alloc::AllocError;
 use thiserror::Error;
 
 /// A command of the program with its words. `context` is the path of a context file; `None` is the
-/// empty context.
+/// empty context, except for `Explain`, which then runs nothing.
 #[derive(Debug, Drop, PartialEq, Eq)]
 pub enum Command {
     /// Compiles the template `name` from the files of the directory `dir` into an image at `out`.
@@ -15,10 +15,12 @@ pub enum Command {
         name: String,
         out: String,
     },
-    /// Explains why the template `name` from the files of the directory `dir` does not compile.
+    /// Explains why the template `name` from the files of the directory `dir` does not compile, or,
+    /// if `context` is not `None`, why it has no text for that context.
     Explain {
         dir: String,
         name: String,
+        context: Option<String>,
     },
     /// Verifies the image at a path.
     Check {

@@ -81,16 +81,18 @@ fn compile_job(alloc: Global, found: &ArgMatches<'_>) -> Result<Job, JobError>
 }
 
 fn explain_job(alloc: Global, found: &ArgMatches<'_>) -> Result<Job, JobError>
-    requires { HasSwitches (rows_of (found_of found.now)) }
+    requires numbers { HasNumbers (rows_of (found_of found.now)) }
+    requires switches { HasSwitches (rows_of (found_of found.now)) }
     ensures ok { IfOk result (IsAsked (Some (codes "explain", rows_of (found_of found.now)))) }
     ensures err { IfErr result (λ e. e ≡ JobError.NoMemory) }
 {
     let dir = String::from_str(alloc, word(found, "DIR"))?;
     let name = String::from_str(alloc, word(found, "NAME"))?;
+    let context = context(alloc, found)?;
     Ok(Job {
-        command: jobs::Command::Explain { dir, name },
+        command: jobs::Command::Explain { dir, name, context },
         options: options(found),
-        budget: DEFAULT,
+        budget: budget(found),
         slice: SLICE,
     })
 }

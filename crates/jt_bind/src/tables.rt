@@ -5,12 +5,14 @@ ghost use Rattle.std.specs.Option.{is_none};
 ghost use Rattle.jt_chains.specs.Chain.{a_chain, a_library};
 ghost use Rattle.jt_chains.specs.Indices.{namespace_at};
 ghost use Rattle.jt_layout.specs.NamespaceLayout.{IsNamespaceAt};
+ghost use Rattle.jt_names.specs.FactsOfChains.{AllKnown};
 ghost use Rattle.jt_semantics.specs.Layout.{keys};
 ghost use Rattle.jt_bind.specs.internal.Scoped.{cenv_in, order_in, namespace_in, IsTable};
 ghost use Rattle.jt_bind.specs.internal.Scoped.{AreTables};
 
 use jt_chains::Chain;
 use jt_layout::{NamespaceLayout, NamespaceTables, lay_out};
+use jt_names::ChainFacts;
 use jt_value::NoMemory;
 use std::alloc::Global;
 use std::marker::Model;
@@ -38,11 +40,12 @@ impl<'a> Model for Tables<'a> {
 
 impl<'a> Tables<'a> {
     /// Lays out the chains and libraries, and selects the entry's chain.
-    pub(crate) fn new(alloc: Global, chain: &'a Chain) -> Result<Self, NoMemory>
-        ensures chain { IfOk result (λ t. t.chain.now ≡ chain.now) }
+    pub(crate) fn new(alloc: Global, facts: &ChainFacts<'a>) -> Result<Self, NoMemory>
+        requires { AllKnown facts.now }
+        ensures chain { IfOk result (λ t. t.chain.now ≡ facts.now.chain.now) }
         ensures first { IfOk result (λ t. t.namespace ≡ 0) }
     {
-        let scope = lay_out(alloc, chain)?;
+        let scope = lay_out(alloc, facts)?;
         Ok(Tables { scope })
     }
 

@@ -9,12 +9,15 @@ use Rattle.jt_ast.specs.Texts.{ascending, texts}
 use denote.Ref.{Bor}
 use Rattle.jt_ast.specs.Expressions.{Text}
 use Rattle.jt_chains.specs.Chain.{Namespace, namespace_name, a_chain, a_library, Template, templates, libraries}
-use Rattle.jt_chains.specs.Layers.{layer_view}
-use Rattle.jt_chains.specs.declared.layers.Layer.{Layer}
+use Rattle.jt_chains.specs.Along.{body_at, layers_along}
 use Rattle.jt_chains.specs.Indices.{namespace_at}
+use Rattle.jt_chains.specs.Parts.{name_at}
+use Rattle.jt_ast.specs.Statements.{Body}
+use Rattle.std.specs.Prelude.{flat_map}
 use Rattle.jt_chains.specs.Uses.{own_names}
 use Rattle.jt_chains.specs.TemplateFiles.{namespace_view}
-use Rattle.jt_chains.proofs.TemplatesByIndex.{name_of_namespace}
+use Rattle.jt_chains.proofs.TemplatesByIndex.{name_of_namespace, namespace_along}
+use Rattle.jt_chains.proofs.TemplatesByIndex.{namespace_indices, index_within}
 use Rattle.jt_rules.specs.Rules.{libraries_counted, names_counted}
 use Rattle.jt_chains.specs.declared.chain.Namespace as written
 use Rattle.std.proofs.lemmas.Bool.Decides.{nat_tests}
@@ -37,15 +40,16 @@ some_first a rest e h = sym (ap (λ z. option_or z rest) h)
 pub none_first : (a rest : Found) → a ≡ None → rest ≡ option_or a rest
 none_first a rest h = sym (ap (λ z. option_or z rest) h)
 
-abbrev pub shown_layers : List Template → List Layer → List Template
-shown_layers ts = map (layer_view ts)
+abbrev pub template_at : List Template → ℕ → Template
+template_at ts i = record { name = name_at ts i; body = body_at ts i }
 
-pub layers_left : (cenv : CompileEnv) (namespace : Namespace) (ts : List Template) (ls : List Layer) (i : ℕ) (l : Layer)
-    → i < length ls → l ≡ get_or ls i l
-    → broken.templates_broken cenv namespace (shown_layers ts (drop i ls))
-    ≡ option_or (broken.template_broken cenv namespace (layer_view ts l))
-    (broken.templates_broken cenv namespace (shown_layers ts (drop (i + 1) ls)))
-layers_left cenv namespace ts ls i l lt is = search (arith, rules, drop_more)
+pub templates_left : (cenv : CompileEnv) (namespace : Namespace) (ts : List Template) (is : List ℕ) (i : ℕ)
+    → i < length is
+    → broken.templates_broken cenv namespace (layers_along ts (drop i is))
+    ≡ option_or (broken.template_broken cenv namespace (template_at ts (get_or is i 0)))
+    (broken.templates_broken cenv namespace (layers_along ts (drop (i + 1) is)))
+templates_left cenv namespace ts is i lt =
+    ap (λ js. broken.templates_broken cenv namespace (layers_along ts js)) (drop_more is i 0 lt)
 
 pub uses_left : (cenv : CompileEnv) (namespace : Namespace) (n : Text) (ss : List UseSite) (i : ℕ) (s : UseSite)
     → i < length ss → s ≡ get_or ss i s
@@ -67,12 +71,31 @@ pub its_place : (c : Chain) (i : ℕ) → namespace_in c i ≡ namespace_at (cha
 unfolding namespace_in
 its_place c i = refl
 
-pub its_layers : (c : Chain) (i : ℕ) (ls : List Layer)
-    → shown_layers (chain_view c).templates ls
-    ≡ templates (sources_of (chain_view c)) (namespace_at (chain_view c).order i)
-    → shown_layers (chain_view c).templates ls ≡ templates (cenv_in c).sources (namespace_in c i)
+abbrev alone : Text → Body → List Template
+alone n b = record { name = n; body = b } ∷ []
+
+each_alone : (ts : List Template) → flat_map (λ t. alone t.name t.body) ts ≡ ts
+each_alone [] = refl
+each_alone (t ∷ ts) = ap (λ us. t ∷ us) (each_alone ts)
+
+-- The templates of a chain, by their indices.
+pub its_templates : (c : Chain) (i : ℕ) (h : written.Namespace) → i < length c.namespaces.items
+    → h ≡ get_or c.namespaces.items i h
+    → layers_along (chain_view c).templates h.templates.items ≡ templates (cenv_in c).sources (namespace_in c i)
 unfolding cenv_in namespace_in
-its_layers c i ls h = h
+its_templates c i h lt at =
+    namespace_along c.templates.items c.templates.items c.namespaces.items i h h.templates.items refl refl lt at c.once
+    c.whole alone
+    ∙ each_alone (templates (sources_of (chain_view c)) (namespace_at (chain_view c).order i))
+
+-- The indices of a chain are those of templates.
+pub template_within : (c : Chain) (i : ℕ) (h : written.Namespace) → i < length c.namespaces.items
+    → h ≡ get_or c.namespaces.items i h → (k : ℕ) → k < length h.templates.items
+    → get_or h.templates.items k 0 < length c.templates.items
+template_within c i h lt at k within =
+    index_within c.templates.items h.templates.items k within
+    (namespace_indices c.templates.items c.templates.items c.namespaces.items i h h.templates.items refl refl lt at
+    c.once c.whole)
 
 there : (order : List Namespace) (i : ℕ) → get_or order i (a_chain []) ≡ namespace_at order i
 there order i = sym (unwrap_or-slice_get order i (a_chain []))

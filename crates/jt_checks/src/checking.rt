@@ -3,7 +3,6 @@
 ghost use Rattle.std.specs.Prelude.{◌≡◌, ◌<◌, nat_le, length, IfOk, OnOk, IfErr};
 ghost use Rattle.std.specs.Prelude.{IfSome, IfNone, option_map};
 ghost use Rattle.jt_ast.specs.Texts.{ascending, texts};
-ghost use Rattle.jt_ast.specs.StatementView.{body_view};
 ghost use Rattle.jt_chains.specs.Chain.{templates, libraries, a_library};
 ghost use Rattle.jt_chains.specs.Parts.{name_at};
 ghost use Rattle.jt_chains.specs.View.{chain_view};
@@ -15,18 +14,18 @@ ghost use Rattle.jt_checks.specs.internal.ScopeView.{capped, its_namespace, name
 ghost use Rattle.jt_checks.specs.internal.ScopeView.{its_sources, in_scope};
 ghost use Rattle.jt_checks.specs.internal.ScopeLookup.{cenv_in, namespace_in};
 ghost use Rattle.jt_checks.specs.internal.UseRules as broken;
+ghost use Rattle.jt_names.specs.FactsOfChains.{AllKnown};
+ghost use Rattle.jt_uses.specs.UseView.{sites_view};
 ghost use Rattle.jt_rules.specs.CompileEnv.{cenv_of};
 
 use crate::finding::{Finding, Subject};
 use crate::scope::Scope;
 use crate::uses::{binding_line, uses_broken};
-use jt_ast::Stmt;
 use jt_chains::Chain;
-use jt_names::{in_order, library_names, own_names};
+use jt_names::{ChainFacts, in_order};
 use jt_rules::ScopeError;
-use jt_uses::uses_of;
+use jt_uses::UseSite;
 use std::alloc::{AllocError, Global};
-use std::collections::BTreeSet;
 
 /// The greatest number of names that a template binds, each counted as often as it is written.
 const MAX_BINDINGS: usize = 4_096;
@@ -40,13 +39,16 @@ const MAX_NAMES: usize = 65_535;
 ///
 /// - A rule that the chains break.
 /// - `NoMemory` if a growth is refused.
-pub fn check_rules(alloc: Global, chain: &Chain) -> Result<(), ScopeError>
+pub fn check_rules(alloc: Global, facts: &ChainFacts<'_>) -> Result<(), ScopeError>
+    requires { AllKnown facts.now }
     ensures kept { OnOk result
-        (KeepsRules (cenv_of (chain_view chain.now)) (chain_view chain.now).order) }
+        (KeepsRules (cenv_of (chain_view facts.now.chain.now))
+        (chain_view facts.now.chain.now).order) }
     ensures refused { IfErr result
-        (λ e. Breaks e (cenv_of (chain_view chain.now)) (chain_view chain.now).order) }
+        (λ e. Breaks e (cenv_of (chain_view facts.now.chain.now))
+        (chain_view facts.now.chain.now).order) }
 {
-    match find_broken(alloc, chain)? {
+    match find_broken(alloc, facts)? {
         Some(finding) => Err(finding.rule),
         None => Ok(()),
     }
@@ -54,37 +56,47 @@ pub fn check_rules(alloc: Global, chain: &Chain) -> Result<(), ScopeError>
 
 /// Returns a rule that the chains break and where, if they break one: the first broken rule in the
 /// order of the chains, their templates and the source.
-pub fn find_broken(alloc: Global, chain: &Chain) -> Result<Option<Finding<'_>>, AllocError>
+pub fn find_broken<'a>(
+    alloc: Global,
+    facts: &ChainFacts<'a>,
+) -> Result<Option<Finding<'a>>, AllocError>
+    requires { AllKnown facts.now }
     ensures kept { IfOk result (λ o. IfNone o
-        (KeepsRules (cenv_of (chain_view chain.now)) (chain_view chain.now).order)) }
+        (KeepsRules (cenv_of (chain_view facts.now.chain.now))
+        (chain_view facts.now.chain.now).order)) }
     ensures found { IfOk result (λ o. IfSome o
-        (λ f. Breaks f.rule (cenv_of (chain_view chain.now)) (chain_view chain.now).order)) }
+        (λ f. Breaks f.rule (cenv_of (chain_view facts.now.chain.now))
+        (chain_view facts.now.chain.now).order)) }
     // The finding is true of the templates.
     ensures holds { IfOk result (λ o. IfSome o (λ f. Holds (finding_view f)
-        (cenv_of (chain_view chain.now)) (chain_view chain.now).order)) }
+        (cenv_of (chain_view facts.now.chain.now)) (chain_view facts.now.chain.now).order)) }
 {
-    if let Some(finding) = chains_broken(alloc, chain)? {
+    if let Some(finding) = chains_broken(alloc, facts)? {
         return Ok(Some(finding));
     }
-    if has_few_names(alloc, chain)? {
+    if has_few_names(alloc, facts)? {
         return Ok(None);
     }
     Ok(Some(Finding {
         rule: ScopeError::TooManySlots,
-        template: chain.namespaces[0].name.as_str(),
+        template: facts.chain.namespaces[0].name.as_str(),
         line: 1,
         subject: Subject::Names,
     }))
 }
 
 /// Returns the first finding in the templates of the chains.
-fn chains_broken(alloc: Global, chain: &Chain) -> Result<Option<Finding<'_>>, AllocError>
-    ensures { IfOk result (λ o. option_map finding_view o
-        ≡ broken.chains_broken (cenv_in chain.now) (chain_view chain.now).order) }
+fn chains_broken<'a>(
+    alloc: Global,
+    facts: &ChainFacts<'a>,
+) -> Result<Option<Finding<'a>>, AllocError>
+    requires { AllKnown facts.now }
+    ensures { IfOk result (λ o. option_map finding_view o ≡ broken.chains_broken
+        (cenv_in facts.now.chain.now) (chain_view facts.now.chain.now).order) }
 {
-    for namespace in 0..chain.namespaces.len() {
-        let scope = Scope::new(alloc, chain, namespace)?;
-        if let Some(finding) = templates_broken(&scope)? {
+    for namespace in 0..facts.chain.namespaces.len() {
+        let scope = Scope::new(alloc, facts, namespace)?;
+        if let Some(finding) = templates_broken(&scope, facts)? {
             return Ok(Some(finding));
         }
     }
@@ -92,15 +104,20 @@ fn chains_broken(alloc: Global, chain: &Chain) -> Result<Option<Finding<'_>>, Al
 }
 
 /// Returns the first finding in the templates of a chain.
-fn templates_broken<'a>(scope: &Scope<'a>) -> Result<Option<Finding<'a>>, AllocError>
+fn templates_broken<'a>(
+    scope: &Scope<'a>,
+    facts: &ChainFacts<'a>,
+) -> Result<Option<Finding<'a>>, AllocError>
+    requires known { AllKnown facts.now }
+    requires same { facts.now.chain.now ≡ scope.now.chain.now }
     ensures { IfOk result (λ o. option_map finding_view o
         ≡ in_scope broken.templates_broken scope.now (templates
         (its_sources scope.now) (its_namespace scope.now))) }
 {
-    let layers = scope.chain.layers(scope.alloc, scope.namespace)?;
-    for layer in layers.iter() {
-        let name = template_name(scope.chain, layer.template);
-        if let Some(finding) = template_broken(scope, name, layer.body)? {
+    let itself = &scope.chain.namespaces[scope.namespace];
+    for template in &itself.templates {
+        let name = template_name(scope.chain, *template);
+        if let Some(finding) = template_broken(scope, name, facts.uses_at(*template))? {
             return Ok(Some(finding));
         }
     }
@@ -117,20 +134,19 @@ fn template_name(chain: &Chain, index: usize) -> &str
     }
 }
 
-/// Returns the first finding in a template.
+/// Returns the first finding in a template with these uses.
 fn template_broken<'a>(
     scope: &Scope<'_>,
     name: &'a str,
-    body: &'a [Stmt],
+    uses: &[UseSite<'a>],
 ) -> Result<Option<Finding<'a>>, AllocError>
-    ensures { IfOk result (λ o. option_map finding_view o ≡ in_scope broken.template_broken
-        scope.now (record { name = name.now; body = body_view body.now })) }
+    ensures { IfOk result (λ o. option_map finding_view o
+        ≡ in_scope broken.found_in scope.now name.now (sites_view uses.now)) }
 {
-    let uses = uses_of(scope.alloc, body)?;
-    if let Some(finding) = uses_broken(scope, name, &uses)? {
+    if let Some(finding) = uses_broken(scope, name, uses)? {
         return Ok(Some(finding));
     }
-    let Some(line) = binding_line(&uses, MAX_BINDINGS) else {
+    let Some(line) = binding_line(uses, MAX_BINDINGS) else {
         return Ok(None);
     };
     Ok(Some(Finding {
@@ -143,25 +159,19 @@ fn template_broken<'a>(
 
 /// Returns whether the chains read or bind at most `MAX_NAMES` names, each counted once for each
 /// chain.
-fn has_few_names(alloc: Global, chain: &Chain) -> Result<bool, AllocError>
-    ensures { IfOk result (λ b. b ≡ nat_le
-        (names_counted (cenv_in chain.now) (chain_view chain.now).order) max_names) }
+fn has_few_names(alloc: Global, facts: &ChainFacts<'_>) -> Result<bool, AllocError>
+    requires { AllKnown facts.now }
+    ensures { IfOk result (λ b. b ≡ nat_le (names_counted (cenv_in facts.now.chain.now)
+        (chain_view facts.now.chain.now).order) max_names) }
 {
     let mut left = MAX_NAMES;
-    for namespace in 0..chain.namespaces.len() {
-        let Some(less) = left.checked_sub(count_names(alloc, chain, namespace)?) else {
+    for namespace in 0..facts.chain.namespaces.len() {
+        let Some(less) = left.checked_sub(count_names(alloc, facts, namespace)?) else {
             return Ok(false);
         };
         left = less;
     }
     Ok(true)
-}
-
-/// Returns the names of a set, in ascending order.
-fn list_of<'a>(alloc: Global, names: BTreeSet<&'a str>) -> Result<Vec<&'a str>, AllocError>
-    ensures { IfOk result (λ ns. ns.items ≡ names.entry.keys) }
-{
-    names.into_iter().collect(alloc)
 }
 
 /// Returns the libraries that a chain imports, each once, in ascending order.
@@ -171,49 +181,54 @@ fn libraries(alloc: Global, chain: &Chain, namespace: usize) -> Result<Vec<&str>
         ≡ ascending (libraries (cenv_in chain.now).sources (namespace_in chain.now namespace))) }
 {
     let found = chain.libraries(alloc, namespace)?;
-    list_of(alloc, in_order(alloc, &found)?)
+    in_order(alloc, &found)
 }
 
 /// Returns the number of different names that the libraries read or bind, at most the greatest
 /// `usize`.
-fn count_in_libraries(alloc: Global, chain: &Chain, libraries: &[&str]) -> Result<usize, AllocError>
-    ensures { IfOk result
-        (λ n. n ≡ capped (libraries_counted (cenv_in chain.now) (texts libraries.now))) }
+fn count_in_libraries(facts: &ChainFacts<'_>, libraries: &[&str]) -> usize
+    requires { AllKnown facts.now }
+    ensures { result
+        ≡ capped (libraries_counted (cenv_in facts.now.chain.now) (texts libraries.now)) }
 {
     let mut count = 0usize;
     for library in libraries {
-        count = count.saturating_add(count_in_library(alloc, chain, library)?);
+        count = count.saturating_add(count_in_library(facts, library));
     }
-    Ok(count)
+    count
 }
 
 /// Returns the number of different names that a library reads or binds.
-fn count_in_library(alloc: Global, chain: &Chain, library: &str) -> Result<usize, AllocError>
-    ensures { IfOk result (λ n. n ≡ own_count chain.now (a_library library.now)) }
+fn count_in_library(facts: &ChainFacts<'_>, library: &str) -> usize
+    requires { AllKnown facts.now }
+    ensures { result ≡ own_count facts.now.chain.now (a_library library.now) }
 {
-    Ok(library_names(alloc, chain, library)?.len())
+    facts.count_in_library(library)
 }
 
 /// Returns the number of different names that a chain reads or binds, without its libraries.
-fn count_own(alloc: Global, chain: &Chain, namespace: usize) -> Result<usize, AllocError>
-    requires { namespace < length chain.now.namespaces.items }
-    ensures { IfOk result (λ n. n ≡ own_count chain.now (namespace_in chain.now namespace)) }
+fn count_own(facts: &ChainFacts<'_>, namespace: usize) -> usize
+    requires known { AllKnown facts.now }
+    requires stands { namespace < length facts.now.chain.now.namespaces.items }
+    ensures { result
+        ≡ own_count facts.now.chain.now (namespace_in facts.now.chain.now namespace) }
 {
-    Ok(own_names(alloc, chain, namespace)?.len())
+    facts.at(namespace).names.len()
 }
 
 /// Returns the number of different names that a chain and the libraries that it imports read or
 /// bind, at most the greatest `usize`. A library has none of its own: its names count in the chains
 /// that import it.
-fn count_names(alloc: Global, chain: &Chain, namespace: usize) -> Result<usize, AllocError>
-    requires { namespace < length chain.now.namespaces.items }
-    ensures { IfOk result (λ n. n ≡ capped (names_in chain.now namespace)) }
+fn count_names(alloc: Global, facts: &ChainFacts<'_>, namespace: usize) -> Result<usize, AllocError>
+    requires known { AllKnown facts.now }
+    requires stands { namespace < length facts.now.chain.now.namespaces.items }
+    ensures { IfOk result (λ n. n ≡ capped (names_in facts.now.chain.now namespace)) }
 {
-    if chain.namespaces[namespace].is_library {
+    if facts.chain.namespaces[namespace].is_library {
         return Ok(0);
     }
-    let own = count_own(alloc, chain, namespace)?;
-    let imported = libraries(alloc, chain, namespace)?;
-    let others = count_in_libraries(alloc, chain, &imported)?;
+    let own = count_own(facts, namespace);
+    let imported = libraries(alloc, facts.chain, namespace)?;
+    let others = count_in_libraries(facts, &imported);
     Ok(own.saturating_add(others))
 }

@@ -15,6 +15,7 @@ ghost use Rattle.jt_checks.specs.internal.ScopeLookup.{known_view, is_among, is_
 
 use jt_ast::Parameter;
 use jt_chains::{Block, Chain, DefinedName, Definition};
+use jt_names::ChainFacts;
 use std::alloc::{AllocError, Global};
 use std::collections::{BTreeMap, BTreeSet};
 
@@ -45,24 +46,25 @@ pub(crate) struct Scope<'a> {
 impl<'a> Scope<'a> {
     ghost use Rattle.jt_checks.specs.internal.RuleTests as rules;
     ghost use Rattle.jt_checks.specs.internal.ScopeView.{its_given, in_scope};
+    ghost use Rattle.jt_names.specs.FactsOfChains.{AllKnown};
 
     /// Creates the scope of the chain or library at index `namespace`.
     pub(crate) fn new(
         alloc: Global,
-        chain: &'a Chain,
+        facts: &ChainFacts<'a>,
         namespace: usize,
     ) -> Result<Scope<'a>, AllocError>
-        requires { namespace < length chain.now.namespaces.items }
-        ensures same_chain { IfOk result (λ s. s.chain.now ≡ chain.now) }
+        requires known { AllKnown facts.now }
+        requires stands { namespace < length facts.now.chain.now.namespaces.items }
+        ensures same_chain { IfOk result (λ s. s.chain.now ≡ facts.now.chain.now) }
         ensures same_namespace { IfOk result (λ s. s.namespace ≡ namespace) }
     {
-        let parts = chain.given(alloc, namespace)?;
-        let names = known_by_name(alloc, &parts)?;
-        let bodies = chain.blocks(alloc, namespace)?;
-        let blocks = block_names(alloc, &bodies)?;
+        let parts = facts.at(namespace);
+        let names = known_by_name(alloc, &parts.given)?;
+        let blocks = block_names(alloc, &parts.blocks)?;
         Ok(Scope {
             alloc,
-            chain,
+            chain: facts.chain,
             namespace,
             names,
             blocks,

@@ -11,7 +11,7 @@ ghost use Rattle.jt_contexts.specs.Json.{IsContext};
 ghost use Rattle.jt_contexts.specs.internal.Reading.{Spells, SpellsItems, SpellsMembers};
 
 use crate::numbers::whole_number;
-use crate::ordering::{FEW, in_order};
+use crate::ordering::{FEW, Members};
 use json::{Invalid, Reader, Scratch, Token};
 use jt_value::{Context, NoMemory, Value};
 use std::alloc::{AllocError, AllocFailed, Global};
@@ -60,7 +60,8 @@ pub(crate) fn read_context(alloc: Global, text: &str) -> Result<Context, ReadErr
     let Some(Token::BeginObject) = reader.next() else {
         return Err(ReadError::NoContext);
     };
-    let members = read_members(alloc, &mut reader, MAX_DEPTH - 1)?;
+    let mut expected = 0;
+    let members = read_members(alloc, &mut reader, MAX_DEPTH - 1, &mut expected)?;
     if reader.next().is_some() {
         return Err(ReadError::NoContext);
     }
@@ -81,10 +82,16 @@ fn context_of(alloc: Global, members: Vec<(String, Value)>) -> Result<Context, R
     Ok(context)
 }
 
-/// Reads the value that the next tokens spell, if it nests at most `depth` deep.
+/// Reads the value that the next tokens spell, if it nests at most `depth` deep. `expected` is the
+/// number of members of the object that was read last, for which the next object reserves memory.
 #[cycle(read)]
 #[inline(always)]
-fn read(alloc: Global, reader: &mut Reader<'_>, depth: usize) -> Result<Value, ReadError>
+fn read(
+    alloc: Global,
+    reader: &mut Reader<'_>,
+    depth: usize,
+    expected: &mut usize,
+) -> Result<Value, ReadError>
     ensures ok { IfOk result (λ v. Spells depth reader.old (view v) reader.new) }
     ensures shorter { OnOk result (length reader.new < length reader.old) }
 {
@@ -98,11 +105,11 @@ fn read(alloc: Global, reader: &mut Reader<'_>, depth: usize) -> Result<Value, R
         Token::Bool(truth) => Ok(Value::Bool(truth)),
         Token::Null => Ok(Value::None),
         Token::BeginArray if depth > 0 => {
-            let items = read_items(alloc, reader, depth - 1)?;
+            let items = read_items(alloc, reader, depth - 1, expected)?;
             Ok(Value::list(alloc, items)?)
         }
         Token::BeginObject if depth > 0 => {
-            let members = read_members(alloc, reader, depth - 1)?;
+            let members = read_members(alloc, reader, depth - 1, expected)?;
             Ok(Value::from_entries(alloc, members)?)
         }
         _ => Err(ReadError::NoContext),
@@ -112,13 +119,18 @@ fn read(alloc: Global, reader: &mut Reader<'_>, depth: usize) -> Result<Value, R
 /// Reads the items up to the end of an array.
 #[cycle(read)]
 #[inline(never)]
-fn read_items(alloc: Global, reader: &mut Reader<'_>, depth: usize) -> Result<Vec<Value>, ReadError>
+fn read_items(
+    alloc: Global,
+    reader: &mut Reader<'_>,
+    depth: usize,
+    expected: &mut usize,
+) -> Result<Vec<Value>, ReadError>
     ensures ok { IfOk result (λ vs. SpellsItems depth reader.old vs.items reader.new) }
     ensures shorter { OnOk result (length reader.new < length reader.old) }
 {
     let mut found = Vec::new(alloc);
     'items: while !reader.take_end_array() {
-        let item = read(alloc, reader, depth)?;
+        let item = read(alloc, reader, depth, expected)?;
         found.push(item)?;
     }
     Ok(found)
@@ -132,17 +144,19 @@ fn read_members(
     alloc: Global,
     reader: &mut Reader<'_>,
     depth: usize,
+    expected: &mut usize,
 ) -> Result<Vec<(String, Value)>, ReadError>
     ensures ok { IfOk result (λ es. SpellsMembers depth reader.old es.items reader.new) }
     ensures ordered { IfOk result (λ es. IsStrictlySortedBy string_cmp (keys_of es.items)) }
     ensures shorter { OnOk result (length reader.new < length reader.old) }
 {
-    let mut found = Vec::with_capacity(alloc, FEW)?;
+    let mut found = Members::with_room(alloc, FEW.min(*expected))?;
     'members: while let Some(name) = reader.next_key()? {
         let key = String::from_str(alloc, name)?;
-        let member = read(alloc, reader, depth)?;
-        found.push((key, member))?;
+        let member = read(alloc, reader, depth, expected)?;
+        found.put(alloc, key, member)?;
     }
-    let members = in_order(alloc, found)?;
+    let members = found.into_list(alloc)?;
+    *expected = members.len();
     Ok(members)
 }

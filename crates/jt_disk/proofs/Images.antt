@@ -86,7 +86,7 @@ image_held old new name rows (command.Compile dir template out) o b n text is (o
     }
 image_held old new name rows (command.Upgrade image out) o b n text is ends named =
     absurd (two_names (sym named ∙ is.0))
-image_held old new name rows (command.Explain dir template) o b n text is ends named =
+image_held old new name rows (command.Explain dir template context) o b n text is ends named =
     absurd (not_compile (sym is.0 ∙ named))
 image_held old new name rows k o b n text is ends named = absurd (cc)
 
@@ -107,7 +107,7 @@ upgrade_held old new name rows (command.Upgrade image out) o b n text is (only, 
     }
 upgrade_held old new name rows (command.Compile dir template out) o b n text is ends named =
     absurd (two_names (sym is.0 ∙ named))
-upgrade_held old new name rows (command.Explain dir template) o b n text is ends named =
+upgrade_held old new name rows (command.Explain dir template context) o b n text is ends named =
     absurd (not_upgrade (sym is.0 ∙ named))
 upgrade_held old new name rows k o b n text is ends named = absurd (cc)
 

@@ -8,9 +8,10 @@ use Rattle.jt_host.specs.declared.Options.{Options}
 use Rattle.jt_image.specs.Code.{Code}
 use Rattle.jt_value.specs.ContextView.{pairs_of}
 use Rattle.std.specs.Arc.{arc_value}
-use Rattle.jt_ffi.specs.Answers.{Answers, CallResult}
-use Rattle.jt_ffi.specs.Calls.{Compiles, IsGiven, Renders, Runs}
-use Rattle.jt_ffi.specs.Handles.{CompilesFrom, CompilesHeld, CompilesInto, HoldsContext, HoldsImage, HoldsLibrary}
+use Rattle.jt_ffi.specs.Answers.{Answers, AnswersExplained, CallResult, ExplanationResult}
+use Rattle.jt_ffi.specs.Calls.{Compiles, Explains, IsGiven, Renders, Runs}
+use Rattle.jt_ffi.specs.Handles.{CompilesFrom, CompilesHeld, CompilesInto, ExplainsFrom, ExplainsHeld}
+use Rattle.jt_ffi.specs.Handles.{HoldsContext, HoldsImage, HoldsLibrary}
 use Rattle.jt_ffi.specs.Handles.{HoldsTemplate, ReportsKept, RunsAndKeeps, RunsFor, RunsHeld, SavesHeld}
 use Rattle.jt_ffi.specs.HostTemplates.{AreTexts, sources_in, total}
 use Rattle.jt_ffi.specs.declared.answer.Answer.{Answer}
@@ -138,6 +139,37 @@ pub answers_compile : (library : Option Shared) (ns : List Lengths) (texts entry
     → Answers (CompilesInto ns texts entry o held) old new a
 answers_compile library ns texts entry o held holds old new a h =
     (h.0, compiles_held library ns texts entry o held holds h.0 h.1, h.2)
+
+-- ---- explanations
+
+-- An explanation from the templates that bytes spell is one of the bytes.
+explains_from : (ns : List Lengths) (texts entry : List ℕ) (o : Options) → total ns ≡ length texts → AreTexts ns texts
+    → (r : ExplanationResult) → ExplainsFrom (sources_in ns texts) entry o r → Explains ns texts entry o r
+explains_from ns texts entry o whole templates (Ok x) h =
+    (record { whole = whole; templates = templates; name = h.0 }, h.1)
+explains_from ns texts entry o whole templates (Err ffi_error.NotText) h = λ _ name. h name
+explains_from ns texts entry o whole templates (Err (ffi_error.Call call_error.NoMemory)) h = tt
+explains_from ns texts entry o whole templates (Err (ffi_error.Call e)) h = absurd h
+explains_from ns texts entry o whole templates (Err e) h = absurd h
+
+explains_held : (library : Option Shared) (ns : List Lengths) (texts entry : List ℕ) (o : Options)
+    → HoldsLibrary ns texts library
+    → (r : ExplanationResult) → ExplainsHeld library entry o r → Explains ns texts entry o r
+explains_held (Some (Library t)) ns texts entry o holds r h =
+    explains_from ns texts entry o holds.0 holds.1 r
+    (subst (λ (sources : List ℕ → Option (List ℕ)). ExplainsFrom sources entry o r) (λ j name. holds.2 name j) h)
+explains_held (Some (Image p)) ns texts entry o holds r h = absurd holds
+explains_held None ns texts entry o holds r h = absurd holds
+
+-- The answer of an explanation from a held library is one of `jt_explain`.
+pub answers_explain : (library : Option Shared) (ns : List Lengths) (texts entry : List ℕ) (o : Options)
+    → HoldsLibrary ns texts library
+    → (old new : List ℕ) (a : Answer) → AnswersExplained (ExplainsHeld library entry o) old new a
+    → AnswersExplained (Explains ns texts entry o) old new a
+answers_explain library ns texts entry o holds old new a h =
+    (h.0, explains_held library ns texts entry o holds h.0 h.1, h.2)
+
+-- ---- bytes of images
 
 saves_held : (image : Option Shared) (ns : List Lengths) (texts entry : List ℕ) (o : Options) → IsGiven ns texts entry
     → HoldsTemplate (sources_in ns texts) entry o image → (r : CallResult) → SavesHeld image r

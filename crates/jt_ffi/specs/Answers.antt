@@ -1,8 +1,11 @@
 -- The answers of calls, and the bytes that they write to the caller's buffer.
-use Rattle.std.specs.Prelude.{◌≡◌, ◌⊎◌, ℕ, List, [], ◌++◌, length, drop, nat_le, Some, None, Result, Ok, Err, Vec}
-use Rattle.std.specs.Prelude.{string_bytes, if◌then◌else◌}
+use Rattle.std.specs.Prelude.{◌≡◌, ◌⊎◌, ℕ, List, [], ◌++◌, length, drop, nat_le, Option, Some, None, Result, Ok, Err}
+use Rattle.std.specs.Prelude.{Vec, string_bytes, if◌then◌else◌}
 use Rattle.std.specs.declared.alloc.Global.{Global}
 use Rattle.jt_host.specs.Reasons.{error_text}
+use Rattle.jt_host.specs.declared.Explanation.{Explanation}
+use Rattle.jt_host.specs.declared.TagPlace.{TagPlace}
+use Rattle.jt_host.specs.declared.TemplateRefusal.{TemplateRefusal}
 use Rattle.jt_host.specs.declared.CallError.{CallError}
 use Rattle.jt_host.specs.declared.CallError.TheVariants as call_error
 use Rattle.jt_host.specs.declared.Fault.{Fault}
@@ -28,7 +31,7 @@ IsAnswer bytes status code line old new answer =
       status = status;
       code = code;
       line = line;
-      reserved = 0;
+      letter = 0;
       length = length bytes;
     })
     × (new ≡ put bytes old)
@@ -65,15 +68,63 @@ ReportsError call_error.NoMemory old new answer = IsAnswer [] 6 0 0 old new answ
 ReportsError refusal old new answer =
     IsAnswer [] 6 0 0 old new answer ⊎ IsAnswer (error_text refusal) 3 0 0 old new answer
 
--- A result is reported: bytes with status 0, misuse with status 2 and its number, an error as
--- `ReportsError` states.
+-- A failure is reported: misuse with status 2 and its number, an error as `ReportsError` states.
+abbrev pub ReportsFailure : FfiError → List ℕ → List ℕ → Answer → Type 0
+ReportsFailure ffi_error.Lengths old new answer = IsAnswer [] 2 1 0 old new answer
+ReportsFailure ffi_error.NotText old new answer = IsAnswer [] 2 2 0 old new answer
+ReportsFailure ffi_error.NotHeld old new answer = IsAnswer [] 2 3 0 old new answer
+ReportsFailure (ffi_error.Call e) old new answer = ReportsError e old new answer
+
+-- A result is reported: bytes with status 0, and a failure as `ReportsFailure` states.
 abbrev pub Reports : CallResult → List ℕ → List ℕ → Answer → Type 0
 Reports (Ok bytes) old new answer = IsAnswer bytes.items 0 0 0 old new answer
-Reports (Err ffi_error.Lengths) old new answer = IsAnswer [] 2 1 0 old new answer
-Reports (Err ffi_error.NotText) old new answer = IsAnswer [] 2 2 0 old new answer
-Reports (Err ffi_error.NotHeld) old new answer = IsAnswer [] 2 3 0 old new answer
-Reports (Err (ffi_error.Call e)) old new answer = ReportsError e old new answer
+Reports (Err e) old new answer = ReportsFailure e old new answer
 
 -- The call has a result of this kind, and reports it.
 abbrev pub Answers : (CallResult → Type 0) → List ℕ → List ℕ → Answer → Type 0
 Answers IsSo old new answer = (r : CallResult) × IsSo r × Reports r old new answer
+
+-- ---- explanations
+
+-- The result of a call that explains: an explanation, or an error.
+abbrev pub ExplanationResult : Type 0
+ExplanationResult = Result Explanation FfiError
+
+-- The letter and the number of a refusal's code, and the line of its tag. What there is not is 0.
+abbrev pub letter_of : Option TemplateRefusal → ℕ
+letter_of (Some r) = r.code.letter
+letter_of None = 0
+
+abbrev pub number_of : Option TemplateRefusal → ℕ
+number_of (Some r) = r.code.number
+number_of None = 0
+
+abbrev pub line_at : Option TagPlace → ℕ
+line_at (Some place) = place.line
+line_at None = 0
+
+abbrev pub line_of : Option TemplateRefusal → ℕ
+line_of (Some r) = line_at r.place
+line_of None = 0
+
+-- The answer has the code and the line of the refusal, and the buffer has the text at its start if
+-- it fits.
+abbrev pub IsExplanationAnswer : Explanation → List ℕ → List ℕ → Answer → Type 0
+IsExplanationAnswer x old new answer =
+    (answer ≡ record {
+      status = 0;
+      code = number_of x.refusal;
+      line = line_of x.refusal;
+      letter = letter_of x.refusal;
+      length = length (string_bytes x.text);
+    })
+    × (new ≡ put (string_bytes x.text) old)
+
+-- An explanation is reported with status 0, and a failure as `ReportsFailure` states.
+abbrev pub ReportsExplanation : ExplanationResult → List ℕ → List ℕ → Answer → Type 0
+ReportsExplanation (Ok x) old new answer = IsExplanationAnswer x old new answer
+ReportsExplanation (Err e) old new answer = ReportsFailure e old new answer
+
+-- The call has an explanation of this kind, or an error, and reports it.
+abbrev pub AnswersExplained : (ExplanationResult → Type 0) → List ℕ → List ℕ → Answer → Type 0
+AnswersExplained IsSo old new answer = (r : ExplanationResult) × IsSo r × ReportsExplanation r old new answer

@@ -3,14 +3,14 @@ use Rattle.std.specs.Prelude.{◌≡◌, ◌≢◌, ℕ, List, [], Result, Ok, E
 use Rattle.std.specs.declared.alloc.Global.{Global}
 use Rattle.std.specs.Str.{IsUtf8}
 use Rattle.jt_contexts.specs.Json.{IsContext}
-use Rattle.jt_host.specs.Calls.{ComesTo, GivesImage, IsImageOf, IsNoContext, IsNoImage, RendersTo}
+use Rattle.jt_host.specs.Calls.{ComesTo, GivesImage, IsExplanation, IsImageOf, IsNoContext, IsNoImage, RendersTo}
 use Rattle.jt_host.specs.declared.Budget.{Budget}
 use Rattle.jt_host.specs.declared.CallError.{CallError}
 use Rattle.jt_host.specs.declared.CallError.TheVariants as call_error
 use Rattle.jt_host.specs.declared.Options.{Options}
 use Rattle.jt_image.specs.Code.{Code}
 use Rattle.jt_value.specs.Pairs.{Pairs}
-use Rattle.jt_ffi.specs.Answers.{CallResult}
+use Rattle.jt_ffi.specs.Answers.{CallResult, ExplanationResult}
 use Rattle.jt_ffi.specs.HostTemplates.{AreTexts, sources_in, total}
 use Rattle.jt_ffi.specs.declared.templates.Lengths.{Lengths}
 use Rattle.jt_ffi.specs.declared.error.FfiError.{FfiError}
@@ -47,6 +47,12 @@ module _ (lengths : List Lengths) (texts entry : List ℕ) where
   Compiles options (Err (ffi_error.Call e)) =
       IsGiven × GivesImage (sources_in lengths texts) entry options (Err e)
   Compiles options (Err e) = IsMisuse e
+
+  -- The explanation is true of the template of the entry. Or the error states why there is none,
+  -- which is misuse of the call or lack of memory.
+  abbrev pub Explains : Options → ExplanationResult → Type 0
+  Explains options (Ok x) = IsGiven × IsExplanation (sources_in lengths texts) entry options x
+  Explains options (Err e) = IsMisuse e
 
   -- The template of the entry renders for a context under a budget, or the error states why there
   -- is no text.

@@ -3,7 +3,7 @@ use Rattle.std.specs.Prelude.{◌≡◌, ◌⊎◌, ℕ, List, [], Option, Some,
 use Rattle.std.specs.Arc.{arc_value}
 use Rattle.std.specs.Str.{IsUtf8}
 use Rattle.jt_contexts.specs.Json.{IsContext}
-use Rattle.jt_host.specs.Calls.{CompilesTo, IsImageOf, IsNoContext, IsNoImage, RunsTo}
+use Rattle.jt_host.specs.Calls.{CompilesTo, IsExplanation, IsImageOf, IsNoContext, IsNoImage, RunsTo}
 use Rattle.jt_host.specs.Compiled.{IsCompiled}
 use Rattle.jt_host.specs.Chains.{SourceTexts}
 use Rattle.jt_host.specs.Templates.{source_of}
@@ -13,7 +13,7 @@ use Rattle.jt_host.specs.declared.Options.{Options}
 use Rattle.jt_image.specs.Code.{Code}
 use Rattle.jt_image.specs.Spelling.{spelling}
 use Rattle.jt_value.specs.ContextView.{pairs_of}
-use Rattle.jt_ffi.specs.Answers.{CallResult, Reports}
+use Rattle.jt_ffi.specs.Answers.{CallResult, ExplanationResult, Reports}
 use Rattle.jt_ffi.specs.Calls.{Compiles, ForText, IsGiven}
 use Rattle.jt_ffi.specs.HostTemplates.{IsUnpacked, sources_in}
 use Rattle.jt_ffi.specs.declared.answer.Answer.{Answer}
@@ -118,6 +118,24 @@ CompilesInto lengths texts entry options held (Ok bytes) =
     × HoldsTemplate (sources_in lengths texts) entry options held
 CompilesInto lengths texts entry options held (Err e) =
     (held ≡ None) × Compiles lengths texts entry options (Err e)
+
+-- ---- explanations
+
+-- The explanation is true of the entry, or the error states why there is none.
+abbrev pub ExplainsFrom : SourceTexts → List ℕ → Options → ExplanationResult → Type 0
+ExplainsFrom sources entry options (Ok x) = IsUtf8 entry × IsExplanation sources entry options x
+ExplainsFrom sources entry options (Err ffi_error.NotText) = IsUtf8 entry → ⊥
+ExplainsFrom sources entry options (Err (ffi_error.Call call_error.NoMemory)) = Unit {0}
+ExplainsFrom sources entry options (Err e) = ⊥
+
+-- The entry is explained from the library that is held.
+abbrev pub ExplainsHeld : Option Shared → List ℕ → Options → ExplanationResult → Type 0
+ExplainsHeld (Some (Library templates)) entry options r =
+    ExplainsFrom (source_of (arc_value templates)) entry options r
+ExplainsHeld (Some (Image image)) entry options r = r ≡ Err ffi_error.NotHeld
+ExplainsHeld None entry options r = r ≡ Err ffi_error.NotHeld
+
+-- ---- bytes of images
 
 -- The result is the bytes of the code, or memory ran out.
 abbrev pub Saves : Code → CallResult → Type 0

@@ -1,10 +1,11 @@
 //! Writes the answer of a call.
 ghost use Rattle.std.specs.Prelude.{◌≡◌};
-ghost use Rattle.jt_ffi.specs.Answers.{IsAnswer, Reports, ReportsError, fault_number};
-ghost use Rattle.jt_ffi.specs.Answers.{put as put_in, spent_number};
+ghost use Rattle.jt_ffi.specs.Answers.{IsAnswer, IsExplanationAnswer, Reports, ReportsError};
+ghost use Rattle.jt_ffi.specs.Answers.{ReportsExplanation, ReportsFailure, fault_number};
+ghost use Rattle.jt_ffi.specs.Answers.{line_at, put as put_in, spent_number};
 
 use crate::error::FfiError;
-use jt_host::{CallError, Fault, Spent};
+use jt_host::{CallError, Explanation, Fault, Spent, TagPlace};
 use std::alloc::Global;
 
 /// The end of a call, and the length of its result, whether or not the buffer holds it.
@@ -16,15 +17,16 @@ pub struct Answer {
     /// The details of the status, or 0:
     /// - of a fault its number, 2 for F2;
     /// - of a spent budget 1 fuel, 2 depth, 3 output, 4 size, 5 nesting;
-    /// - of misuse 1 lengths, 2 not text, 3 not held.
+    /// - of misuse 1 lengths, 2 not text, 3 not held;
+    /// - of an explanation the number of the refusal, 3 for P3.
     pub code: u32,
-    /// The line of the tag of a fault, counted from 1; 0 if the image has no place, and for every
-    /// other status.
+    /// The line of the tag of a fault or of an explained refusal, counted from 1; 0 if the place is
+    /// not known, and in every other case.
     pub line: u32,
-    /// Always 0.
-    pub reserved: u32,
-    /// The length in bytes of the result: the text or the image, the template of a fault, or the
-    /// reason of a refusal.
+    /// The letter of an explained refusal, `P` for P3; 0 in every other case.
+    pub letter: u32,
+    /// The length in bytes of the result: the text, the image or the explanation, the template of a
+    /// fault, or the reason of a refusal.
     pub length: u64,
 }
 
@@ -38,10 +40,60 @@ pub(crate) fn write_result(
 {
     match outcome {
         Ok(bytes) => write_answer(out, bytes.as_slice(), 0, 0, 0),
-        Err(FfiError::Lengths) => write_answer(out, b"", 2, 1, 0),
-        Err(FfiError::NotText) => write_answer(out, b"", 2, 2, 0),
-        Err(FfiError::NotHeld) => write_answer(out, b"", 2, 3, 0),
-        Err(FfiError::Call(error)) => write_error(alloc, out, error),
+        Err(error) => write_failure(alloc, out, error),
+    }
+}
+
+/// Writes an explanation to the buffer and returns the answer.
+pub(crate) fn write_explanation(
+    alloc: Global,
+    out: &mut [u8],
+    outcome: &Result<Explanation, FfiError>,
+) -> Answer
+    ensures { ReportsExplanation outcome.now out.old out.new result }
+{
+    match outcome {
+        Ok(explanation) => write_explained(out, explanation),
+        Err(error) => write_failure(alloc, out, error),
+    }
+}
+
+/// Writes the text of an explanation to the buffer. Returns the answer with the code of the
+/// refusal and the line.
+fn write_explained(out: &mut [u8], explanation: &Explanation) -> Answer
+    ensures { IsExplanationAnswer explanation.now out.old out.new result }
+{
+    let text = explanation.text.as_bytes();
+    let Some(refusal) = &explanation.refusal else {
+        return write_answer(out, text, 0, 0, 0);
+    };
+    let number = u32::from(refusal.code.number);
+    let answer = write_answer(out, text, 0, number, line_of(&refusal.place));
+    Answer {
+        letter: u32::from(refusal.code.letter),
+        ..answer
+    }
+}
+
+/// Returns the line of a place, or 0 if the place is not known.
+fn line_of(place: &Option<TagPlace>) -> u32
+    ensures { result ≡ line_at place.now }
+{
+    match place {
+        Some(place) => place.line,
+        None => 0,
+    }
+}
+
+/// Writes the reason why a call has no result to the buffer and returns the answer.
+fn write_failure(alloc: Global, out: &mut [u8], error: &FfiError) -> Answer
+    ensures { ReportsFailure error.now out.old out.new result }
+{
+    match error {
+        FfiError::Lengths => write_answer(out, b"", 2, 1, 0),
+        FfiError::NotText => write_answer(out, b"", 2, 2, 0),
+        FfiError::NotHeld => write_answer(out, b"", 2, 3, 0),
+        FfiError::Call(error) => write_error(alloc, out, error),
     }
 }
 
@@ -80,7 +132,7 @@ pub(crate) fn write_answer(
         status,
         code,
         line,
-        reserved: 0,
+        letter: 0,
         length: bytes.len() as u64,
     }
 }

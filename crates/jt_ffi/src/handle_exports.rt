@@ -5,17 +5,19 @@
 //! handle is memory of the caller that is zero at first. All handles of a call differ.
 ghost use Rattle.std.specs.Prelude.{◌≡◌, ◌≢◌, ℕ, List, None};
 ghost use Rattle.jt_host.specs.declared.Options.{Options};
-ghost use Rattle.jt_ffi.specs.Answers.{Answers};
-ghost use Rattle.jt_ffi.specs.Calls.{Compiles, IsGiven, Renders, Runs};
-ghost use Rattle.jt_ffi.specs.Handles.{AreSame, CompilesHeld, CompilesInto, HoldsContext};
+ghost use Rattle.jt_ffi.specs.Answers.{Answers, AnswersExplained};
+ghost use Rattle.jt_ffi.specs.Calls.{Compiles, Explains, IsGiven, Renders, Runs};
+ghost use Rattle.jt_ffi.specs.Handles.{AreSame, CompilesHeld, CompilesInto, ExplainsHeld};
+ghost use Rattle.jt_ffi.specs.Handles.{HoldsContext};
 ghost use Rattle.jt_ffi.specs.Handles.{HoldsImage, HoldsLibrary, HoldsTemplate, LoadsContext};
 ghost use Rattle.jt_ffi.specs.Handles.{LoadsImage, LoadsLibrary, ReportsOutcome, RunsAndKeeps};
 ghost use Rattle.jt_ffi.specs.Handles.{SavesHeld};
 ghost use Rattle.jt_ffi.specs.HostTemplates.{sources_in};
 ghost use Rattle.jt_ffi.specs.Plain.{budget_of, options_of};
 
-use crate::answer::{Answer, write_result};
+use crate::answer::{Answer, write_explanation, write_result};
 use crate::error::FfiError;
+use crate::explaining::explain_held;
 use crate::held::{
     compile_held, keep_outcome, load_context, load_image, load_library, report_held, run_held,
     save_held, share_held,
@@ -71,6 +73,31 @@ pub extern "C" fn jt_library_compile(
     let outcome = compile_held(alloc, &held, entry, options.options(), image);
     library.put_back(held);
     write_result(alloc, out, &outcome)
+}
+
+/// Explains to a person why the template `entry` of a library does not compile, as `jt_explain`.
+#[unsafe(no_mangle)]
+pub extern "C" fn jt_library_explain(
+    alloc: Global,
+    library: &mut SharedHandle,
+    entry: &[u8],
+    options: FfiOptions,
+    out: &mut [u8],
+) -> Answer
+    ensures library { library.new.held ≡ library.old.held }
+    // The result is that of the held library.
+    ensures answer { AnswersExplained (ExplainsHeld library.old.held entry.now
+        (options_of options)) out.old out.new result }
+    // The answer is one that `jt_explain` may return for the templates of the library.
+    ensures explain { (lengths : List Lengths) (texts : List ℕ)
+        → HoldsLibrary lengths texts library.old.held
+        → AnswersExplained (Explains lengths texts entry.now (options_of options)) out.old out.new
+        result }
+{
+    let taken = library.take(alloc);
+    let outcome = explain_held(alloc, &taken, entry, options.options());
+    library.put_back(taken);
+    write_explanation(alloc, out, &outcome)
 }
 
 /// Reads and verifies an image into a handle, and writes nothing, or the reason why the handle

@@ -21,7 +21,7 @@ use Rattle.jt_filters.specs.internal.Operands.{measured, text_length, text_measu
 use Rattle.jt_filters.specs.internal.Operands.{has_second}
 
 -- The two crates' tests for markup are the same.
-same_markup : (d : Tree) (ts : Items) → joins.is_markup d || has_markup ts ≡ is_markup d || has_markup ts
+pub same_markup : (d : Tree) (ts : Items) → joins.is_markup d || has_markup ts ≡ is_markup d || has_markup ts
 same_markup a0 a1 = search (arith, rules)
 
 -- The piece of a value in a join.

@@ -8,8 +8,10 @@ pub mod EndItems
 pub mod Folds
 pub mod SortedInsertion
 pub mod JoinLengths
+pub mod JoinedTexts
 pub mod FoldedCodes
 pub mod SeenCodes
+pub mod SeenEntries
 pub mod SeenNumbers
 pub mod ListAppend
 pub mod ListMembers

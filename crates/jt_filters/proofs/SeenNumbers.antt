@@ -3,8 +3,6 @@ use Rattle.std.proofs.Common.{◌≡◌, ℕ, ℤ, ◌+◌, Bool, true, false, c
 use Rattle.std.proofs.Common.{subst, arith, rules}
 use Rattle.std.proofs.lemmas.Cmp.{int_eq_equiv}
 use Rattle.std.specs.BTreeMap.{BTreeMap}
-use Rattle.std.specs.BTreeSet.{BTreeSet}
-use Rattle.std.specs.List.{list_any}
 use Rattle.std.specs.Ordering.{int_eq}
 use Rattle.std.specs.Prelude.{Vec, not, Result, Ok, Err, IfOk, OnOk}
 use Rattle.std.specs.declared.alloc.Global.{Global}
@@ -14,20 +12,9 @@ use Rattle.jt_filters.specs.internal.Operands.{tree_of, front}
 use Rattle.jt_filter_semantics.specs.Ordering.{alike, has_alike}
 use Rattle.jt_filters.specs.internal.Seen.{found, has_number, number_like, KnowsNumbers, KnowsCodes}
 use Rattle.jt_filters.specs.declared.operand.Operand.{Operand}
+use Rattle.jt_filters.specs.declared.seen_numbers.SeenNumbers.{SeenNumbers}
 use Rattle.jt_filters.proofs.DistinctItems.{front_next}
 use Rattle.jt_filters.proofs.SeenCodes.{or_none, alike_more, still_alike, kept_still}
-
-not_twice : (b : Bool) → not (not b) ≡ b
-not_twice true = refl
-not_twice false = refl
-
--- An insertion that adds nothing found the number.
-pub was_there : (added had : Bool) → added ≡ not had → not added ≡ had
-was_there added had e = ap not e ∙ not_twice had
-
-pub or_is : (a b : Bool) → cond a true b ≡ (a || b)
-or_is true b = refl
-or_is false b = refl
 
 or_comm : (a b : Bool) → (a || b) ≡ (b || a)
 or_comm true true = refl
@@ -60,10 +47,10 @@ no_number a0 a1 a2 = search (arith, rules)
 no_plain : (u t : Tree) (z : ℤ) → number_like u ≡ None → Some z ≡ number_like t → alike u t ≡ false
 no_plain a0 a1 a2 a3 a4 = search (arith, rules)
 
-pub numbers_know_none : (s : BTreeSet ℤ) → s.keys ≡ [] → KnowsNumbers s no_items
-numbers_know_none s e z = ap (λ (ks : List ℤ). list_any (int_eq z) ks) e
+pub numbers_know_none : (s : SeenNumbers) → ((z : ℤ) → has_number s z ≡ false) → KnowsNumbers s no_items
+numbers_know_none s none z = none z
 
-numbers_number : (s n : BTreeSet ℤ) (ts : Items) (t : Tree) (z : ℤ) → KnowsNumbers s ts → Some z ≡ number_like t
+numbers_number : (s n : SeenNumbers) (ts : Items) (t : Tree) (z : ℤ) → KnowsNumbers s ts → Some z ≡ number_like t
     → ((y : ℤ) → has_number n y ≡ (int_eq z y || has_number s y)) → KnowsNumbers n (joined_items ts (item t no_items))
 numbers_number s n ts t z known is step y =
     step y
@@ -85,7 +72,7 @@ codes_number m ts t z known is = record {
 }
 
 -- The keys know one more item that equals a number once the number is inserted.
-know_number : (s n : BTreeSet ℤ) (m : BTreeMap (Vec ℕ Global) Operand) (all : Items) (count : ℕ) (t : Tree) (z : ℤ)
+know_number : (s n : SeenNumbers) (m : BTreeMap (Vec ℕ Global) Operand) (all : Items) (count : ℕ) (t : Tree) (z : ℤ)
     (rest : Items)
     → KnowsNumbers s (front count all) → KnowsCodes m (front count all) → Some z ≡ number_like t
     → ((y : ℤ) → has_number n y ≡ (int_eq z y || has_number s y))
@@ -98,7 +85,7 @@ know_number s n m all count t z rest numbers codes is step whole =
     )
 
 -- The numbers know one more item that equals no number.
-know_plain : (s : BTreeSet ℤ) (all : Items) (count : ℕ) (t : Tree) (rest : Items) → KnowsNumbers s (front count all)
+know_plain : (s : SeenNumbers) (all : Items) (count : ℕ) (t : Tree) (rest : Items) → KnowsNumbers s (front count all)
     → number_like t ≡ None
     → joined_items (front count all) (item t rest) ≡ all → KnowsNumbers s (front (count + 1) all)
 know_plain s all count t rest numbers plain whole =
@@ -108,14 +95,14 @@ know_plain s all count t rest numbers plain whole =
     ∙ sym (alike_more (number y) t (front count all)))
 
 -- The results of a call that looks up an item's number, or its code.
-pub like_seen : {E : Type 0} (r : Result Bool E) (s : BTreeSet ℤ) (ts : Items) (t : Tree) (z x : ℤ) → x ≡ z
+pub like_seen : {E : Type 0} (r : Result Bool E) (s : SeenNumbers) (ts : Items) (t : Tree) (z x : ℤ) → x ≡ z
     → KnowsNumbers s ts → Some z ≡ number_like t → IfOk r (λ b. b ≡ has_number s x)
     → IfOk r (λ b. b ≡ has_alike t ts)
 like_seen (Ok b) s ts t z x same known is had =
     had ∙ ap (has_number s) same ∙ known z ∙ sym (has_like_its_number t z ts is)
 like_seen (Err e) s ts t z x same known is had = tt
 
-pub known_number : {E : Type 0} (r : Result Bool E) (s n : BTreeSet ℤ) (m : BTreeMap (Vec ℕ Global) Operand)
+pub known_number : {E : Type 0} (r : Result Bool E) (s n : SeenNumbers) (m : BTreeMap (Vec ℕ Global) Operand)
     (all : Items) (count : ℕ) (t : Tree) (z x : ℤ) → x ≡ z → KnowsNumbers s (front count all)
     → KnowsCodes m (front count all) → Some z ≡ number_like t
     → OnOk r ((y : ℤ) → has_number n y ≡ (int_eq x y || has_number s y))
@@ -126,7 +113,7 @@ known_number (Ok b) s n m all count t z x same numbers codes is step = λ rest w
     (λ y. step y ∙ ap (λ (k : ℤ). int_eq k y || has_number s y) same) whole
 known_number (Err e) s n m all count t z x same numbers codes is step = tt
 
-pub known_plain : {E : Type 0} (r : Result Bool E) (s : BTreeSet ℤ) (m : BTreeMap (Vec ℕ Global) Operand)
+pub known_plain : {E : Type 0} (r : Result Bool E) (s : SeenNumbers) (m : BTreeMap (Vec ℕ Global) Operand)
     (all : Items) (count : ℕ) (t : Tree) → KnowsNumbers s (front count all) → number_like t ≡ None
     → OnOk r ((rest : Items) → joined_items (front count all) (item t rest) ≡ all
     → KnowsCodes m (front (count + 1) all))

@@ -78,6 +78,7 @@ fn push_byte(bytes: &mut Vec<u8>, byte: u8) -> Result<(), NoMemory>
 }
 
 /// Appends the code of a number.
+#[inline(never)]
 fn push_number(bytes: &mut Vec<u8>, number: i64) -> Result<(), NoMemory>
     ensures { Adds (number_code number) bytes.old bytes.new result }
 {
@@ -87,6 +88,7 @@ fn push_number(bytes: &mut Vec<u8>, number: i64) -> Result<(), NoMemory>
 }
 
 /// Appends the code of a text.
+#[inline(never)]
 fn push_text(bytes: &mut Vec<u8>, text: &str) -> Result<(), NoMemory>
     ensures { Adds (text_code text.now) bytes.old bytes.new result }
 {
@@ -125,6 +127,7 @@ fn push_list(alloc: Global, bytes: &mut Vec<u8>, list: &ValueList) -> Result<(),
 }
 
 /// Appends the code of the numbers of a range, as a list.
+#[inline(never)]
 fn push_numbers(bytes: &mut Vec<u8>, numbers: NumberRange) -> Result<(), NoMemory>
     ensures { Adds (code (tree.list (numbers_of numbers))) bytes.old bytes.new result }
 {
@@ -151,6 +154,7 @@ fn push_items(alloc: Global, bytes: &mut Vec<u8>, items: &[Value]) -> Result<(),
 
 /// Returns the keys of a map in order, each with the code of its first value.
 #[cycle(codes)]
+#[inline(never)]
 fn rows_of(alloc: Global, entries: &[(String, Value)]) -> Result<BTreeMap<&str, Vec<u8>>, NoMemory>
     ensures { IfOk result (λ m. rows_in m.entries ≡ rows (entries_view entries.now)) }
 {
@@ -167,6 +171,7 @@ fn rows_of(alloc: Global, entries: &[(String, Value)]) -> Result<BTreeMap<&str, 
 }
 
 /// Appends the code of a map's rows.
+#[inline(never)]
 fn push_rows(bytes: &mut Vec<u8>, rows: BTreeMap<&str, Vec<u8>>) -> Result<(), NoMemory>
     ensures { Adds (6 ∷ codes.rows_code (rows_in rows.entry.entries)) bytes.old bytes.new result }
 {

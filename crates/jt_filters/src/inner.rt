@@ -183,14 +183,19 @@ impl<'a> ItemAction<'a> {
         }
     }
 
-    /// Returns whether a result of the action may be much larger than its item.
+    /// Returns whether the action makes one result of each item.
+    pub(crate) fn keeps_count(self) -> bool {
+        !matches!(self, ItemAction::Keep(_))
+    }
+
+    /// Returns whether a result of the action may be larger than any multiple of its item. A join
+    /// repeats its separator, and `replace` its new text.
     pub(crate) fn may_grow(self) -> bool {
         match self {
             ItemAction::Keep(_) | ItemAction::Attribute(_) => false,
-            ItemAction::Filter(call) => !matches!(
-                call.filter,
-                FilterId::List | FilterId::Reverse | FilterId::Sort | FilterId::Unique
-            ),
+            ItemAction::Filter(call) => {
+                matches!(call.filter, FilterId::Join | FilterId::Replace)
+            },
             ItemAction::Join(_) => true,
         }
     }

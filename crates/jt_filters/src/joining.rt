@@ -1,5 +1,6 @@
 //! Implements filter `join`: the length of its text, and the text.
-ghost use Rattle.std.specs.Prelude.{◌≡◌, ◌&&◌, ◌||◌, true, Ok, IfSome};
+ghost use Rattle.std.specs.Prelude.{◌≡◌, ◌&&◌, ◌||◌, ◌++◌, true, Ok, IfSome, option_map};
+ghost use Rattle.std.specs.Prelude.{string_bytes};
 ghost use Rattle.jt_op_semantics.specs.Testing.{is_markup};
 ghost use Rattle.jt_filters.specs.internal.Operands as operands;
 ghost use Rattle.jt_escape.specs.Joining.{IsAnswer, piece, joined_text};
@@ -8,12 +9,12 @@ ghost use Rattle.jt_value.specs.View.{view, items_view};
 ghost use Rattle.jt_filter_semantics.specs.Listing.{joined_by};
 ghost use Rattle.jt_filters.specs.internal.Operands.{tree_of, items_in, joining, measured};
 ghost use Rattle.jt_filters.specs.internal.Operands.{text_length, led_length};
+ghost use Rattle.jt_filters.specs.internal.JoinedTexts.{led_text, Leaves, MakesText};
 
 use crate::item_list::{ItemList, items_of};
-use crate::listing::values;
 use crate::operand::Operand;
 use itoa::Buffer;
-use jt_escape::{join_markup, join_plain};
+use jt_escape::{escape_into, join_markup, join_plain};
 use jt_ops::Piece;
 use jt_value::{Fault, Value, ValueError};
 use std::alloc::Global;
@@ -157,12 +158,91 @@ pub(crate) fn join(
 ) -> Result<Value, ValueError>
     ensures { IsAnswer (joining autoescape separator.entry operand.entry) result }
 {
-    let items = items_of(operand)?;
-    let separator = separator.value(alloc)?;
-    match items {
-        ItemList::Values(values) => joined(alloc, values, &separator, autoescape),
-        _ => joined(alloc, &values(alloc, items)?, &separator, autoescape),
+    match items_of(operand)? {
+        ItemList::Values(values) => joined(alloc, values, &separator.value(alloc)?, autoescape),
+        items => joined_items(alloc, items, separator, autoescape),
     }
+}
+
+/// Returns the text of the items with a separator between them. None of them is made a value.
+#[tactic(auto, using(crate::proofs::JoinedTexts::joined_kinds))]
+fn joined_items(
+    alloc: Global,
+    items: ItemList<'_>,
+    separator: Operand<'_>,
+    autoescape: bool,
+) -> Result<Value, ValueError>
+    ensures { IsAnswer (joined_by autoescape (tree_of separator.entry) (items_in items.entry))
+        result }
+{
+    if escapes(items, separator, autoescape) {
+        Ok(Value::from_markup(text_of_items(alloc, items, separator, true)?)?)
+    } else {
+        Ok(Value::from_text(text_of_items(alloc, items, separator, false)?)?)
+    }
+}
+
+/// Returns the joined text of the items. A fault of the separator comes before the faults of the
+/// items.
+#[tactic(auto, using(crate::proofs::JoinedTexts::joined_texts))]
+fn text_of_items(
+    alloc: Global,
+    items: ItemList<'_>,
+    separator: Operand<'_>,
+    escaping: bool,
+) -> Result<String, ValueError>
+    ensures { MakesText (joined_text escaping (items_in items.entry) (tree_of separator.entry))
+        result }
+{
+    let mut text = String::new(alloc);
+    let mut buffer = Buffer::new();
+    separator.shown(&mut buffer)?;
+    match items.split_first() {
+        Some((first, behind)) => {
+            append_piece(first, escaping, &mut text)?;
+            append_led(behind, separator, escaping, &mut text)?;
+            Ok(text)
+        },
+        None => Ok(text),
+    }
+}
+
+/// Appends the pieces of the items, with the separator's piece before each.
+#[tactic(auto, using(crate::proofs::JoinedTexts::led_texts))]
+fn append_led(
+    items: ItemList<'_>,
+    separator: Operand<'_>,
+    escaping: bool,
+    into: &mut String,
+) -> Result<(), ValueError>
+    ensures { Leaves
+        (led_text escaping (string_bytes into.old) (tree_of separator.entry) (items_in items.entry))
+        result (string_bytes into.new) }
+{
+    let mut items = items;
+    while let Some((item, behind)) = items.split_first() {
+        append_piece(separator, escaping, into)?;
+        append_piece(item, escaping, into)?;
+        items = behind;
+    }
+    Ok(())
+}
+
+/// Appends the piece of an operand: its printed text, escaped unless it is markup.
+#[tactic(auto, using(crate::proofs::JoinLengths::piece_is, crate::proofs::JoinLengths::no_piece))]
+fn append_piece(operand: Operand<'_>, escaping: bool, into: &mut String) -> Result<(), ValueError>
+    ensures { Leaves
+        (option_map (λ p. string_bytes into.old ++ p) (piece escaping (tree_of operand.entry)))
+        result (string_bytes into.new) }
+{
+    let mut buffer = Buffer::new();
+    let text = operand.shown(&mut buffer)?;
+    if escaping && !operand.is_markup() {
+        escape_into(text, into)?;
+    } else {
+        into.push_str(text)?;
+    }
+    Ok(())
 }
 
 /// Returns the text of the values with a separator between them.

@@ -3,8 +3,9 @@
 //!
 //! `apply` (`filters`) measures the result of a filter (`measuring`) before it builds it
 //! (`building`). Both use a module per kind of filter: `texts`, `scalars`, `listing`, `sorting`,
-//! `unique`, `replacing`, `joining`, `mapping`. jt_filter_semantics defines the results. Read
-//! building.rt first, with measuring.rt beside it: both have one line per filter.
+//! `unique`, `replacing`, `joining`, `mapping`. `seen_numbers` finds repeated numbers.
+//! jt_filter_semantics defines the results. Read building.rt first, with measuring.rt beside it:
+//! both have one line per filter.
 #![tactic(auto)]
 
 mod attributes;
@@ -23,6 +24,7 @@ mod members;
 mod operand;
 mod replacing;
 mod scalars;
+mod seen_numbers;
 mod sorting;
 mod texts;
 mod unique;

@@ -302,8 +302,9 @@ fn row_values<'a>(
         (λ v. gathered (gives change.entry) (items_in items.entry) ≡ Ok (items_view v.items)) }
     ensures fault { IfErr result (RowFault (gathered (gives change.entry) (items_in items.entry))) }
 {
+    let room = if change.keeps_count() { items.len() } else { 0 };
+    let mut values = Vec::with_capacity(alloc, room)?;
     let mut items = items;
-    let mut values = Vec::new(alloc);
     while let Some((item, behind)) = items.split_first() {
         change.push(alloc, &mut values, item)?;
         items = behind;

@@ -3,7 +3,6 @@
 //! So a list of n items takes time in proportion to n log n.
 ghost use Rattle.std.specs.Prelude.{◌≡◌, ℤ, ◌+◌, ◌-◌, ◌^◌, ◌||◌, min, max, IfOk, OnOk, Ok, Err};
 ghost use Rattle.std.specs.Prelude.{None};
-ghost use Rattle.std.specs.Ordering.{int_eq};
 ghost use Rattle.jt_value.specs.Tree as tree;
 ghost use Rattle.jt_value.specs.Tree.{Items, items_size, items_nesting};
 ghost use Rattle.jt_value.specs.Payload.{joined_items};
@@ -15,17 +14,18 @@ ghost use Rattle.jt_filter_semantics.specs.Listing.{on_items};
 ghost use Rattle.jt_filters.specs.internal.Operands.{tree_of, items_in, measured, front, Lists};
 ghost use Rattle.jt_filter_semantics.specs.Ordering.{distinct, unseen};
 ghost use Rattle.jt_filter_semantics.specs.Ordering as ordering;
-ghost use Rattle.jt_filters.specs.internal.Seen.{operand_items, has_number, Knows, KnowsCodes};
+ghost use Rattle.jt_filters.specs.internal.Seen.{operand_items, Knows, KnowsCodes};
 ghost use Rattle.jt_filters.specs.internal.Seen.{CodesKnowNext, KnowsNext, Before};
 ghost use Rattle.jt_filters.specs.internal.Seen as seen;
 
 use crate::codes::code_of;
 use crate::item_list::{ItemList, items_of};
 use crate::operand::Operand;
+use crate::seen_numbers::{SeenNumbers, was_number_seen};
 use jt_ops::{Limits, OpError, allow};
 use jt_value::{Fault, NoMemory, Value, ValueError};
 use std::alloc::Global;
-use std::collections::{BTreeMap, BTreeSet};
+use std::collections::BTreeMap;
 
 /// The greatest number of items that are compared with each other. To look them up takes more time.
 const FEW: usize = 16;
@@ -237,7 +237,7 @@ fn operand_values(alloc: Global, operands: &[Operand<'_>]) -> Result<Vec<Value>,
 /// has, for each code of any other item, the last item with the code.
 #[derive(Drop)]
 struct SeenKeys<'a> {
-    numbers: BTreeSet<i64>,
+    numbers: SeenNumbers,
     codes: BTreeMap<Vec<u8>, Operand<'a>>,
 }
 
@@ -257,7 +257,7 @@ fn first_items(alloc: Global, all: ItemList<'_>) -> Result<Vec<Operand<'_>>, NoM
     let mut items = all;
     let mut met = SeenItems {
         seen: SeenKeys {
-            numbers: BTreeSet::new(alloc),
+            numbers: SeenNumbers::new(alloc, all)?,
             codes: BTreeMap::new(alloc),
         },
         firsts: Vec::new(alloc),
@@ -310,7 +310,7 @@ fn was_seen<'a>(
         (KnowsNext seen.new count (items_in all.entry) (tree_of item.entry)) }
 {
     match number_like(item) {
-        Some(number) => was_number_seen(&mut seen.numbers, number),
+        Some(number) => was_number_seen(&mut seen.numbers, number, count),
         None => was_code_seen(alloc, &mut seen.codes, item, all, count),
     }
 }
@@ -325,16 +325,6 @@ pub(crate) fn number_like(item: Operand<'_>) -> Option<i64>
         Operand::Value(Value::Bool(truth)) => Some(if *truth { 1 } else { 0 }),
         _ => None,
     }
-}
-
-/// Returns whether the numbers contain `number`. Afterwards they contain it.
-#[tactic(auto, using(crate::proofs::SeenNumbers::was_there, crate::proofs::SeenNumbers::or_is))]
-fn was_number_seen(numbers: &mut BTreeSet<i64>, number: i64) -> Result<bool, NoMemory>
-    ensures had { IfOk result (λ b. b ≡ has_number numbers.old number) }
-    ensures has { OnOk result ((z : ℤ)
-        → has_number numbers.new z ≡ (int_eq number z || has_number numbers.old z)) }
-{
-    Ok(!numbers.insert(number)?)
 }
 
 /// Returns whether an item that equals no number is like one of the first `count` items, whose

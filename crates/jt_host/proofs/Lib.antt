@@ -1,2 +1,3 @@
+pub mod HintsHold
 mod RefusedCode
 pub mod SourceInsertion

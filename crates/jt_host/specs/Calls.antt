@@ -1,5 +1,5 @@
 -- The results of the calls over bytes.
-use Rattle.std.specs.Prelude.{◌≡◌, ◌≢◌, ◌⊎◌, ℕ, List, length, Result, Ok, Err, String, string_bytes, Vec}
+use Rattle.std.specs.Prelude.{◌≡◌, ◌≢◌, ◌⊎◌, ℕ, List, length, Option, Result, Ok, Err, String, string_bytes, Vec}
 use Rattle.std.specs.declared.alloc.Global.{Global}
 use Rattle.std.specs.Str.{IsUtf8}
 use Rattle.jt_scan.specs.declared.Options.{Options}
@@ -21,8 +21,11 @@ use Rattle.jt_image.specs.Typed.{IsTyped}
 use Rattle.jt_image.specs.declared.ImageError.{ImageError}
 use Rattle.jt_image.specs.declared.ImageError.TheVariants as image_error
 use Rattle.jt_budget.specs.declared.Budget.{Budget}
+use Rattle.jt_host.specs.declared.syntax_hints.SourceHint.{SourceHint}
 use Rattle.jt_contexts.specs.Json.{IsContext, Holds}
-use Rattle.jt_host.specs.Explanations.{told}
+use Rattle.jt_host.specs.Explanations.{told, IsExplanationOf}
+use Rattle.jt_host.specs.declared.explanation.Explanation.{Explanation}
+use Rattle.jt_host.specs.SyntaxHints.{IsHintFor}
 use Rattle.jt_host.specs.Rendering.{IsRefused as IsUncompiled, IsRendered}
 use Rattle.jt_contexts.specs.declared.ContextError.TheVariants as context_error
 use Rattle.jt_verify.specs.Refusing.{RefusalHolds}
@@ -125,6 +128,11 @@ GivesContext bytes (Err e) = IsNoContext bytes e
 
 -- ---- templates
 
+-- The error is lack of memory.
+abbrev pub IsNoMemory : CallError → Type 0
+IsNoMemory error.NoMemory = Unit {0}
+IsNoMemory other = ⊥
+
 -- The bytes spell a code to which the entry compiles.
 pub record IsImage (sources : SourceTexts) (entry : Text) (options : Options) (bytes : List ℕ) :
     Type 0 where
@@ -161,10 +169,20 @@ module _ (sources : SourceTexts) (entry : Text) (options : Options) where
 
   -- The text prints what holds of the entry.
   abbrev pub IsTold : Text → Type 0
-  IsTold text = (x : Explained) × IsExplained sources entry options x × (text ≡ told sources options x)
+  IsTold text =
+      (x : Explained) × IsExplained sources entry options x
+      × ((hint : Option SourceHint) × IsHintFor sources options x hint × (text ≡ told sources options hint x))
 
   -- The result is the text of an explanation; it exists unless memory is refused.
   abbrev pub ExplainsTo : Result (String Global) CallError → Type 0
   ExplainsTo (Ok text) = IsTold (string_bytes text)
-  ExplainsTo (Err error.NoMemory) = Unit {0}
-  ExplainsTo (Err other) = ⊥
+  ExplainsTo (Err e) = IsNoMemory e
+
+  -- The text and the refusal report what holds of the entry.
+  abbrev pub IsExplanation : Explanation → Type 0
+  IsExplanation e = (x : Explained) × IsExplained sources entry options x × IsExplanationOf sources options x e
+
+  -- The result is an explanation of the entry; it exists unless memory is refused.
+  abbrev pub GivesExplanation : Result Explanation CallError → Type 0
+  GivesExplanation (Ok e) = IsExplanation e
+  GivesExplanation (Err e) = IsNoMemory e

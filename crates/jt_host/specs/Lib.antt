@@ -1,9 +1,15 @@
 pub mod CallErrors
 pub mod Calls
 pub mod Explanations
+pub mod Marks
 pub mod Reasons
 pub mod Rendering
+pub mod RunExplanations
+pub mod Sentences
 pub mod SourceLines
+pub mod Subjects
+pub mod Suggestions
+pub mod SyntaxHints
 pub mod Templates
 -- The modules that the clauses of the exported calls cite, and that an embedder's own clauses may
 -- need.

@@ -27,9 +27,17 @@ mod call_error;
 mod calls;
 mod error;
 mod explaining;
+mod explaining_runs;
+mod explanation;
+mod marks;
 mod reasons;
+mod refusal_code;
 mod rendering;
+mod sentences;
 mod source_lines;
+mod subjects;
+mod suggestions;
+mod syntax_hints;
 mod templates;
 
 pub use call_error::CallError;
@@ -38,7 +46,9 @@ pub use calls::{
     verified_image, verified_template,
 };
 pub use error::RenderError;
-pub use explaining::explained;
+pub use explaining::{explained, explanation_of};
+pub use explaining_runs::explained_run;
+pub use explanation::{Explanation, TemplateRefusal};
 pub use jt_budget::{Budget, Spent};
 pub use jt_codegen::{CompileError, Explained, Finding, Subject, TagPlace, compile, explain};
 pub use jt_contexts::{ContextError, context_from_json};
@@ -52,5 +62,6 @@ pub use jt_scan::Options;
 pub use jt_sessions::{Host, HostError};
 pub use jt_value::{Context, Fault, NoMemory, Value, ValueError, ValueList, ValueMap};
 pub use jt_verify::{Flaw, Refusal, Verified, VerifiedView, verify, verify_view};
+pub use refusal_code::RefusalCode;
 pub use rendering::render;
 pub use templates::Templates;

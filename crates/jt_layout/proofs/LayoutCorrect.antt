@@ -167,14 +167,6 @@ module _ (c : Chain) (i : ℕ) (lt : i < length c.namespaces.items) (f : FirstFr
 
 -- ---- one namespace at a time
 
--- A property of each layout stays true when one more is appended.
-pub each_more : {A : Type 0} (P : ℕ → A → Type 0) (xs : List A) (y : A)
-    → ((i : ℕ) (t : A) → i < length xs → t ≡ get_or xs i t → P i t) → P (length xs) y
-    → (i : ℕ) (t : A) → i < length (xs ++ y ∷ []) → t ≡ get_or (xs ++ y ∷ []) i t → P i t
-each_more P (x ∷ xs) y all last (suc i) t lt is =
-    each_more (λ j. P (suc j)) xs y (λ j u l q. all (suc j) u (omega arith) q) last i t (omega arith) is
-each_more a0 a1 y all last a5 t lt is = search (arith, rules)
-
 module _ (c : Chain) (i : ℕ) (lt : i < length c.namespaces.items) where
   inside : i < length (its_order c)
   inside = omega (arith, lt, length-map c.namespaces.items namespace_view)

@@ -5,7 +5,6 @@ use Rattle.std.proofs.Common.{arith, rules}
 use Rattle.std.specs.Prelude.{flat_map}
 use Rattle.std.specs.Option.{is_some, is_none}
 use Rattle.std.specs.Str.{bytes_eq}
-use Rattle.std.specs.BTreeSet.{insert_key}
 use Rattle.std.proofs.lemmas.List.{drop_more, append-nil}
 use denote.Ref.{Bor}
 use Rattle.jt_ast.specs.Expressions.{Text}
@@ -21,13 +20,7 @@ use Rattle.jt_semantics.specs.Layout.{in_globals, names_in}
 use Rattle.jt_layout.specs.internal.Indices.{all_names, texts_of}
 use Rattle.jt_layout.proofs.FirstOccurrences.{namespaces_left}
 use Rattle.jt_layout.proofs.NamespacesByName.{same}
-use Rattle.jt_names.proofs.SortedNames.{inserted_both, name_cmp, key_inserted}
-
--- One more name is inserted into a set.
-pub key_turn : (ks : List (Bor Text)) (i : ℕ) (d : Bor Text) (old new : List (Bor Text)) → i < length ks
-    → new ≡ insert_key name_cmp old (get_or ks i d)
-    → all_inserted (texts (drop (i + 1) ks)) (texts new) ≡ all_inserted (texts (drop i ks)) (texts old)
-key_turn ks i d old new lt e = search (arith, rules, key_inserted, get_or, drop_more)
+use Rattle.jt_names.proofs.SortedNames.{inserted_both}
 
 -- ---- the names of a map
 

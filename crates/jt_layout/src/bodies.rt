@@ -1,24 +1,19 @@
 //! Indexes the bodies of the blocks of a chain.
 
-ghost use Rattle.std.specs.Prelude.{◌≡◌, ◌<◌, ◌&&◌, List, length, map, IfOk};
+ghost use Rattle.std.specs.Prelude.{◌≡◌, ◌&&◌, List, map, IfOk};
 ghost use Rattle.std.specs.List.{list_any};
 ghost use Rattle.std.specs.Option.{is_some};
 ghost use Rattle.std.specs.Str.{bytes_eq};
 ghost use Rattle.jt_ast.specs.Expressions.{Text};
 ghost use Rattle.jt_chains.specs.Chain.{Template};
 ghost use Rattle.jt_chains.specs.Parts.{block_view, blocks_view};
-ghost use Rattle.jt_chains.specs.Uses as uses;
-ghost use Rattle.jt_semantics.specs.Layout.{counted_from, is_scoped};
-ghost use Rattle.jt_ast.specs.Texts.{texts};
-ghost use Rattle.jt_chains.specs.View.{namespace_in, its_sources, its_templates};
-ghost use Rattle.jt_layout.specs.internal.Namespaces.{its_cenv, its_bodies};
+ghost use Rattle.jt_semantics.specs.Layout.{counted_from};
 ghost use Rattle.jt_layout.specs.Names.{index_in};
 ghost use Rattle.jt_layout.specs.internal.Indices.{nexts, AreIndices};
 
 use crate::index::NameIndex;
-use crate::lists::{block_names, list_of};
-use jt_chains::{Block, Chain};
-use jt_names::scope_names;
+use crate::lists::{block_names, copied};
+use jt_chains::Block;
 use jt_value::NoMemory;
 use std::alloc::Global;
 
@@ -74,40 +69,29 @@ pub(crate) struct Bodies<'a> {
     pub(crate) firsts: NameIndex<'a>,
     /// For each body, the index of the next body of its block that is not required.
     pub(crate) nexts: Vec<Option<usize>>,
-    /// The names that the chain's scopes bind.
-    pub(crate) scope_names: Vec<&'a str>,
-    /// The blocks that have `scope_names` as parameters.
+    /// The blocks that have a `scoped` tag.
     pub(crate) scoped: NameIndex<'a>,
 }
 
-/// Returns the bodies of the blocks of a chain.
-pub(crate) fn bodies_of<'a>(
-    alloc: Global,
-    chain: &'a Chain,
-    namespace: usize,
-) -> Result<Bodies<'a>, NoMemory>
-    requires { namespace < length chain.now.namespaces.items }
-    ensures all { IfOk result
-        (λ b. blocks_view (its_templates chain.now) b.all.items ≡ its_bodies chain.now namespace) }
+/// Returns the bodies of the blocks of a chain, with their indices.
+pub(crate) fn bodies_of<'a>(alloc: Global, blocks: &[Block<'a>]) -> Result<Bodies<'a>, NoMemory>
+    ensures all { IfOk result (λ b. b.all.items ≡ blocks.now) }
     ensures firsts { IfOk result
-        (λ b. AreIndices 0 (map (λ k. k.name.now) b.all.items) b.firsts.indices) }
-    ensures nexts { IfOk result
-        (λ b. b.nexts.items ≡ nexts (counted_from 0 (its_bodies chain.now namespace))) }
-    ensures names { IfOk result (λ b. texts b.scope_names.items
-        ≡ uses.scope_names (its_sources chain.now) (namespace_in chain.now namespace)) }
-    ensures scoped { IfOk result (λ b. (x : Text) → is_some (index_in b.scoped.indices x)
-        ≡ is_scoped (its_cenv chain.now) (namespace_in chain.now namespace) x) }
+        (λ b. AreIndices 0 (map (λ k. k.name.now) blocks.now) b.firsts.indices) }
+    ensures nexts { IfOk result (λ b. (ts : List Template)
+        → b.nexts.items ≡ nexts (counted_from 0 (blocks_view ts blocks.now))) }
+    ensures scoped { IfOk result (λ b. (ts : List Template) (x : Text)
+        → is_some (index_in b.scoped.indices x)
+        ≡ list_any (λ k. k.scoped && bytes_eq k.name x) (blocks_view ts blocks.now)) }
 {
-    let scope_names = list_of(alloc, scope_names(alloc, chain, namespace)?)?;
-    let all = chain.blocks(alloc, namespace)?;
-    let firsts = first_bodies(alloc, &all)?;
-    let nexts = next_bodies(alloc, &all)?;
-    let scoped = scoped_blocks(alloc, &all)?;
+    let all = copied(alloc, blocks)?;
+    let firsts = first_bodies(alloc, blocks)?;
+    let nexts = next_bodies(alloc, blocks)?;
+    let scoped = scoped_blocks(alloc, blocks)?;
     Ok(Bodies {
         all,
         firsts,
         nexts,
-        scope_names,
         scoped,
     })
 }

@@ -11,11 +11,11 @@ ghost use Rattle.jt_semantics.specs.Layout.{in_globals};
 ghost use Rattle.jt_chains.specs.View.{namespace_in};
 ghost use Rattle.jt_layout.specs.internal.Namespaces.{its_cenv, its_order, AreSources, AreNames};
 ghost use Rattle.jt_layout.specs.internal.Indices.{all_names, names_at};
+ghost use Rattle.jt_names.specs.FactsOfChains.{AllKnown};
 
 use crate::index::NameIndex;
-use crate::lists::list_of;
-use jt_chains::{Chain, Namespace};
-use jt_names::own_names;
+use jt_chains::Namespace;
+use jt_names::{ChainFacts, add_names, list_of};
 use jt_value::NoMemory;
 use std::alloc::{AllocError, Global};
 use std::collections::{BTreeMap, BTreeSet};
@@ -77,35 +77,27 @@ impl<'a> CollectedNames<'a> {
     }
 }
 
-/// Adds names to a set.
-fn add_names<'a>(names: &mut BTreeSet<&'a str>, others: &[&'a str]) -> Result<(), AllocError>
-    ensures { IfOk result
-        (λ u. texts names.new.keys ≡ all_inserted (texts others.now) (texts names.old.keys)) }
-{
-    for name in others {
-        names.insert(*name)?;
-    }
-    Ok(())
-}
-
 /// Returns the names of a chain and of the chains that it includes. `behind` holds the names of the
 /// chains after it.
 fn names_of_chain<'a>(
     alloc: Global,
-    chain: &'a Chain,
+    facts: &ChainFacts<'a>,
     namespace: usize,
     sources: &NameIndex<'a>,
     behind: &CollectedNames<'a>,
 ) -> Result<Vec<&'a str>, AllocError>
-    requires stands { namespace < length chain.now.namespaces.items }
-    requires sources { AreSources chain.now sources.now.indices }
-    requires behind { AreNames chain.now (drop (namespace + 1) (its_order chain.now))
-        behind.now.names }
-    ensures { IfOk result (λ ns. texts ns.items ≡ all_names (its_cenv chain.now)
-        (drop (namespace + 1) (its_order chain.now)) (namespace_in chain.now namespace)) }
+    requires known { AllKnown facts.now }
+    requires stands { namespace < length facts.now.chain.now.namespaces.items }
+    requires sources { AreSources facts.now.chain.now sources.now.indices }
+    requires behind { AreNames facts.now.chain.now
+        (drop (namespace + 1) (its_order facts.now.chain.now)) behind.now.names }
+    ensures { IfOk result (λ ns. texts ns.items ≡ all_names (its_cenv facts.now.chain.now)
+        (drop (namespace + 1) (its_order facts.now.chain.now))
+        (namespace_in facts.now.chain.now namespace)) }
 {
-    let mut names = own_names(alloc, chain, namespace)?;
-    let included = chain.includes(alloc, namespace)?;
+    let mut names = BTreeSet::new(alloc);
+    add_names(&mut names, &facts.at(namespace).names)?;
+    let included = facts.chain.includes(alloc, namespace)?;
     for include in &included {
         if sources.index_of(include.name).is_none() {
             continue;
@@ -119,21 +111,23 @@ fn names_of_chain<'a>(
 /// loop runs from the last chain to the first.
 pub(crate) fn gather<'a>(
     alloc: Global,
-    chain: &'a Chain,
+    facts: &ChainFacts<'a>,
     sources: &NameIndex<'a>,
 ) -> Result<CollectedNames<'a>, NoMemory>
-    requires { AreSources chain.now sources.now.indices }
-    ensures { IfOk result (λ g. AreNames chain.now (its_order chain.now) g.names) }
+    requires known { AllKnown facts.now }
+    requires sources { AreSources facts.now.chain.now sources.now.indices }
+    ensures { IfOk result
+        (λ g. AreNames facts.now.chain.now (its_order facts.now.chain.now) g.names) }
 {
     let mut collected = CollectedNames::new(alloc);
-    let mut left = chain.namespaces.len();
+    let mut left = facts.chain.namespaces.len();
     while left > 0 {
         left -= 1;
-        let itself = &chain.namespaces[left];
+        let itself = &facts.chain.namespaces[left];
         if itself.is_library {
             continue;
         }
-        let names = names_of_chain(alloc, chain, left, sources, &collected)?;
+        let names = names_of_chain(alloc, facts, left, sources, &collected)?;
         collected.put(itself.name.as_str(), names)?;
     }
     Ok(collected)

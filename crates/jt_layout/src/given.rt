@@ -1,12 +1,11 @@
 //! Indexes the names of a chain that stand for macros and libraries.
 
-ghost use Rattle.std.specs.Prelude.{◌≡◌, ◌<◌, length, map, IfOk};
-ghost use Rattle.jt_layout.specs.internal.Namespaces.{its_given, given_kept};
+ghost use Rattle.std.specs.Prelude.{◌≡◌, map, IfOk};
 ghost use Rattle.jt_layout.specs.internal.Indices.{AreIndices};
 
 use crate::index::NameIndex;
-use crate::lists::given_names;
-use jt_chains::{Chain, DefinedName};
+use crate::lists::{copied, given_names};
+use jt_chains::DefinedName;
 use jt_value::NoMemory;
 use std::alloc::Global;
 
@@ -18,19 +17,16 @@ pub(crate) struct DefinedNames<'a> {
     pub(crate) indices: NameIndex<'a>,
 }
 
-/// Returns the names of a chain or a library that stand for macros and libraries.
+/// Returns names that stand for macros and libraries, with their indices.
 pub(crate) fn given_by_name<'a>(
     alloc: Global,
-    chain: &'a Chain,
-    namespace: usize,
+    given: &[DefinedName<'a>],
 ) -> Result<DefinedNames<'a>, NoMemory>
-    requires { namespace < length chain.now.namespaces.items }
-    ensures all { IfOk result
-        (λ g. given_kept chain.now namespace g.all.items ≡ its_given chain.now namespace) }
+    ensures all { IfOk result (λ g. g.all.items ≡ given.now) }
     ensures indices { IfOk result
         (λ g. AreIndices 0 (map (λ k. k.name.now) g.all.items) g.indices.indices) }
 {
-    let all = chain.given(alloc, namespace)?;
+    let all = copied(alloc, given)?;
     let names = given_names(alloc, &all)?;
     let indices = NameIndex::of(alloc, &names, 0)?;
     Ok(DefinedNames { all, indices })

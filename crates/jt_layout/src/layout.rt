@@ -8,6 +8,7 @@ ghost use Rattle.jt_ast.specs.Texts.{texts};
 ghost use Rattle.jt_layout.specs.internal.Front.{StandsAt, IsLaidAt, AreLaid};
 ghost use Rattle.jt_layout.specs.internal.Namespaces.{its_cenv, its_order, its_names, AreNames};
 ghost use Rattle.jt_layout.specs.NamespaceLayout.{IsLaidOut};
+ghost use Rattle.jt_names.specs.FactsOfChains.{AllKnown};
 
 use crate::bodies::bodies_of;
 use crate::collected::{CollectedNames, gather};
@@ -15,12 +16,13 @@ use crate::count::checked_sum;
 use crate::front::FirstFree;
 use crate::given::given_by_name;
 use crate::index::NameIndex;
-use crate::lists::template_names;
+use crate::lists::{copied, template_names};
 use crate::macros::macros_of;
 use crate::namespace_index::namespace_index;
 use crate::namespace_layout::NamespaceLayout;
 use crate::namespace_tables::NamespaceTables;
-use jt_chains::{Chain, Namespace};
+use jt_chains::Namespace;
+use jt_names::ChainFacts;
 use jt_value::NoMemory;
 use std::alloc::Global;
 
@@ -85,22 +87,27 @@ fn unit_layout(front: FirstFree, counts: Counts, end: usize) -> Result<UnitLayou
 /// Lays out one chain or library.
 fn lay_chain<'a>(
     alloc: Global,
-    chain: &'a Chain,
+    facts: &ChainFacts<'a>,
     namespace: usize,
     names: Vec<&'a str>,
     front: FirstFree,
 ) -> Result<ChainLayout<'a>, NoMemory>
-    requires stands { namespace < length chain.now.namespaces.items }
-    requires named { texts names.items ≡ its_names chain.now namespace }
-    requires front { StandsAt chain.now namespace front }
-    ensures namespace_layout { IfOk result (λ p. IsLaidAt chain.now namespace p.namespace_layout) }
-    ensures behind { IfOk result (λ p. StandsAt chain.now (namespace + 1) p.behind) }
+    requires known { AllKnown facts.now }
+    requires stands { namespace < length facts.now.chain.now.namespaces.items }
+    requires named { texts names.items ≡ its_names facts.now.chain.now namespace }
+    requires front { StandsAt facts.now.chain.now namespace front }
+    ensures namespace_layout { IfOk result
+        (λ p. IsLaidAt facts.now.chain.now namespace p.namespace_layout) }
+    ensures behind { IfOk result
+        (λ p. StandsAt facts.now.chain.now (namespace + 1) p.behind) }
 {
-    let itself = &chain.namespaces[namespace];
+    let itself = &facts.chain.namespaces[namespace];
+    let known = facts.at(namespace);
     let slots = NameIndex::of(alloc, &names, front.slot)?;
-    let macros = macros_of(alloc, chain, namespace, front.default)?;
-    let given = given_by_name(alloc, chain, namespace)?;
-    let bodies = bodies_of(alloc, chain, namespace)?;
+    let macros = macros_of(alloc, &known.macros, front.default)?;
+    let given = given_by_name(alloc, &known.given)?;
+    let bodies = bodies_of(alloc, &known.blocks)?;
+    let scope_names = copied(alloc, &known.scope_names)?;
     let counts = Counts {
         entries: entries_of(itself),
         names: names.len(),
@@ -124,7 +131,7 @@ fn lay_chain<'a>(
         blocks: bodies.all,
         first_bodies: bodies.firsts,
         next_bodies: bodies.nexts,
-        scope_names: bodies.scope_names,
+        scope_names,
         scoped: bodies.scoped,
     };
     Ok(ChainLayout {
@@ -143,15 +150,19 @@ struct Tables<'a> {
 /// Lays out the chains and libraries in order.
 fn lay_chains<'a>(
     alloc: Global,
-    chain: &'a Chain,
+    facts: &ChainFacts<'a>,
     mut collected: CollectedNames<'a>,
 ) -> Result<Tables<'a>, NoMemory>
-    requires { AreNames chain.now (its_order chain.now) collected.names }
-    ensures each { IfOk result (λ t. AreLaid chain.now t.namespaces.items) }
-    ensures all { IfOk result (λ t. length t.namespaces.items ≡ length chain.now.namespaces.items) }
-    ensures units { IfOk result
-        (λ t. t.units ≡ length (layout.keys (its_cenv chain.now) (its_order chain.now))) }
+    requires known { AllKnown facts.now }
+    requires named { AreNames facts.now.chain.now (its_order facts.now.chain.now)
+        collected.names }
+    ensures each { IfOk result (λ t. AreLaid facts.now.chain.now t.namespaces.items) }
+    ensures all { IfOk result
+        (λ t. length t.namespaces.items ≡ length facts.now.chain.now.namespaces.items) }
+    ensures units { IfOk result (λ t. t.units ≡ length
+        (layout.keys (its_cenv facts.now.chain.now) (its_order facts.now.chain.now))) }
 {
+    let chain = facts.chain;
     let mut namespaces = Vec::with_capacity(alloc, chain.namespaces.len())?;
     let mut front = FirstFree {
         slot: 0,
@@ -160,7 +171,7 @@ fn lay_chains<'a>(
     };
     for namespace in 0..chain.namespaces.len() {
         let names = collected.take(alloc, &chain.namespaces[namespace]);
-        let indexed = lay_chain(alloc, chain, namespace, names, front)?;
+        let indexed = lay_chain(alloc, facts, namespace, names, front)?;
         namespaces.push(indexed.namespace_layout)?;
         front = indexed.behind;
     }
@@ -175,18 +186,20 @@ fn lay_chains<'a>(
 /// # Errors
 ///
 /// `NoMemory` if a growth is refused or a number overflows.
-pub fn lay_out(alloc: Global, chain: &Chain) -> Result<NamespaceTables<'_>, NoMemory>
+pub fn lay_out<'a>(alloc: Global, facts: &ChainFacts<'a>) -> Result<NamespaceTables<'a>, NoMemory>
+    requires { AllKnown facts.now }
     ensures namespace_layout { IfOk result (λ tables. IsLaidOut tables) }
-    ensures chain { IfOk result (λ tables. tables.chain.now ≡ chain.now) }
+    ensures chain { IfOk result (λ tables. tables.chain.now ≡ facts.now.chain.now) }
     ensures first { IfOk result (λ tables. tables.namespace ≡ 0) }
-    ensures all { IfOk result
-        (λ tables. length tables.namespaces.items ≡ length chain.now.namespaces.items) }
+    ensures all { IfOk result (λ tables.
+        length tables.namespaces.items ≡ length facts.now.chain.now.namespaces.items) }
 {
+    let chain = facts.chain;
     let sources = NameIndex::of(alloc, &template_names(alloc, &chain.templates)?, 0)?;
     let indices = namespace_index(alloc, &chain.namespaces, false)?;
     let libraries = namespace_index(alloc, &chain.namespaces, true)?;
-    let collected = gather(alloc, chain, &sources)?;
-    let tables = lay_chains(alloc, chain, collected)?;
+    let collected = gather(alloc, facts, &sources)?;
+    let tables = lay_chains(alloc, facts, collected)?;
     Ok(NamespaceTables {
         chain,
         namespaces: tables.namespaces,

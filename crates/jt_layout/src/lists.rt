@@ -5,16 +5,12 @@ ghost use Rattle.jt_ast.specs.Texts.{texts};
 
 use jt_chains::{Block, DefinedName, TemplateFile};
 use std::alloc::{AllocError, Global};
-use std::collections::BTreeSet;
 
-/// Returns the names of a set, in ascending order.
-pub(crate) fn list_of<'a>(
-    alloc: Global,
-    names: BTreeSet<&'a str>,
-) -> Result<Vec<&'a str>, AllocError>
-    ensures { IfOk result (λ ns. ns.items ≡ names.entry.keys) }
+/// Returns a copy of a list.
+pub(crate) fn copied<T: Copy + Drop>(alloc: Global, items: &[T]) -> Result<Vec<T>, AllocError>
+    ensures { IfOk result (λ copy. copy.items ≡ items.now) }
 {
-    names.into_iter().collect(alloc)
+    items.iter().copied().collect(alloc)
 }
 
 /// Returns the names of templates.

@@ -1,16 +1,15 @@
 //! Indexes the macros of a chain, and their defaults in the pool.
 
-ghost use Rattle.std.specs.Prelude.{◌≡◌, ◌<◌, ◌+◌, List, length, map, IfOk};
+ghost use Rattle.std.specs.Prelude.{◌≡◌, ◌+◌, List, length, map, IfOk};
 ghost use Rattle.jt_chains.specs.Chain.{Template};
 ghost use Rattle.jt_chains.specs.Parts.{macro_view, macros_view};
-ghost use Rattle.jt_chains.specs.View.{its_templates};
 ghost use Rattle.jt_semantics.specs.Layout.{defaults_of};
-ghost use Rattle.jt_layout.specs.internal.Namespaces.{its_macros};
 ghost use Rattle.jt_layout.specs.internal.Indices.{AreIndices, defaults_from};
 
 use crate::count::checked_sum;
 use crate::index::NameIndex;
-use jt_chains::{Chain, Macro, macro_names};
+use crate::lists::copied;
+use jt_chains::{Macro, macro_names};
 use jt_value::NoMemory;
 use std::alloc::Global;
 
@@ -46,27 +45,24 @@ pub(crate) struct Macros<'a> {
     pub(crate) defaults: Defaults,
 }
 
-/// Returns the macros of a chain; the pool indices of their defaults begin at `first`.
+/// Returns a chain's macros with their indices. The pool indices of their defaults begin at
+/// `first`.
 pub(crate) fn macros_of<'a>(
     alloc: Global,
-    chain: &'a Chain,
-    namespace: usize,
+    macros: &[Macro<'a>],
     first: usize,
 ) -> Result<Macros<'a>, NoMemory>
-    requires { namespace < length chain.now.namespaces.items }
-    ensures all { IfOk result
-        (λ m. macros_view (its_templates chain.now) m.all.items ≡ its_macros chain.now namespace) }
+    ensures all { IfOk result (λ m. m.all.items ≡ macros.now) }
     ensures called { IfOk result
         (λ m. AreIndices 0 (map (λ k. k.name.now) m.all.items) m.called.indices) }
-    ensures defaults { IfOk result
-        (λ m. m.defaults.indices.items ≡ defaults_from first (its_macros chain.now namespace)) }
-    ensures ended { IfOk result
-        (λ m. m.defaults.end ≡ first + length (defaults_of (its_macros chain.now namespace))) }
+    ensures defaults { IfOk result (λ m. (ts : List Template)
+        → m.defaults.indices.items ≡ defaults_from first (macros_view ts macros.now)) }
+    ensures ended { IfOk result (λ m. (ts : List Template)
+        → m.defaults.end ≡ first + length (defaults_of (macros_view ts macros.now))) }
 {
-    let all = chain.macros(alloc, namespace)?;
-    let names = macro_names(alloc, &all)?;
-    let called = NameIndex::of(alloc, &names, 0)?;
-    let defaults = default_indices(alloc, &all, first)?;
+    let all = copied(alloc, macros)?;
+    let called = NameIndex::of(alloc, &macro_names(alloc, &all)?, 0)?;
+    let defaults = default_indices(alloc, macros, first)?;
     Ok(Macros {
         all,
         called,

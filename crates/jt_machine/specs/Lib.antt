@@ -9,4 +9,5 @@ pub mod Session
 pub mod SessionCode
 pub mod StageView
 pub mod Growing
+pub mod ConstantCache
 pub mod internal

@@ -1,4 +1,3 @@
-pub mod ConstantCache
 pub mod FastPath
 pub mod FilterCalls
 pub mod Iterating

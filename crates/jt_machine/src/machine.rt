@@ -11,6 +11,7 @@ ghost use Rattle.jt_machine.specs.Growing.{ComesToGrow};
 ghost use Rattle.jt_machine.specs.Session.{SessionLaws, led, stage_progress};
 ghost use Rattle.jt_machine.specs.StageView.{stage_view, IsReached, IsUnderway};
 ghost use Rattle.jt_machine.specs.View.{config_view, next_view};
+ghost use Rattle.jt_machine.specs.ConstantCache.{AreCached};
 
 use crate::constants::ConstantCache;
 use crate::fast_path::run_fast;
@@ -34,12 +35,14 @@ pub(crate) enum Stage {
     Lost,
 }
 
-/// A run of an image that stops after a given number of instructions and goes on later.
+/// A run of an image that stops after a given number of instructions and goes on later. It keeps
+/// the text constants that it has built from one slice to the next.
 #[derive(Drop)]
 pub struct Machine {
     alloc: Global,
     verified: Verified,
     stage: Stage,
+    made: ConstantCache,
 }
 
 impl Model for Machine {
@@ -51,10 +54,11 @@ impl Model for Machine {
     ghost coded = { coded_session };
 
     ghost use Rattle.jt_machine.specs.StageView.{stage_view, IsUnderway};
+    ghost use Rattle.jt_machine.specs.ConstantCache.{AreCached};
 
     ghost view = { λ m. record { code = m.verified; stage = stage_view m.stage } };
 
-    ghost invariant = { λ m. IsUnderway m.verified m.stage };
+    ghost invariant = { λ m. IsUnderway m.verified m.stage × AreCached m.verified m.made.items };
 }
 
 impl Machine {
@@ -93,6 +97,7 @@ impl Machine {
                 alloc,
                 verified,
                 stage: Stage::Done(Outcome::Spent(spent)),
+                made: ConstantCache::new(alloc),
             });
         }
         match start(alloc, verified.image(), context, budget) {
@@ -100,6 +105,7 @@ impl Machine {
                 alloc,
                 verified,
                 stage: Stage::Going(state),
+                made: ConstantCache::new(alloc),
             }),
             Err(refused) => Err((verified, refused)),
         }
@@ -123,7 +129,8 @@ impl Machine {
     {
         match mem::replace(&mut self.stage, Stage::Lost) {
             Stage::Going(state) => {
-                let (stage, progress) = go_on(self.alloc, self.verified.image(), state, k)?;
+                let image = self.verified.image();
+                let (stage, progress) = go_on(self.alloc, image, &mut self.made, state, k)?;
                 self.stage = stage;
                 Ok(progress)
             }
@@ -179,11 +186,13 @@ impl Machine {
 fn go_on<C: Code>(
     alloc: Global,
     code: &C,
+    made: &mut ConstantCache,
     mut state: State,
     k: u32,
 ) -> Result<(Stage, Progress), NoMemory>
     requires whole { IsCode (C.code code.now) }
     requires typed { IsTyped (C.code code.now) }
+    requires made { AreCached (C.code code.now) made.old.items }
     requires reached { IsReached (C.code code.now) state }
     ensures steps { IfOk result
         (λ r. stage_view r.0 ≡ led (after (C.code code.now) k (config_view state))) }
@@ -191,8 +200,9 @@ fn go_on<C: Code>(
         ((h : ComesToGrow (C.code code.now) (config_view state)) × (h.steps < k)) }
     ensures underway { IfOk result (λ r. IsUnderway (C.code code.now) r.0) }
     ensures progress { IfOk result (λ r. stage_progress (stage_view r.0) ≡ Some r.1) }
+    ensures made { AreCached (C.code code.now) made.new.items }
 {
-    match take_steps(alloc, code, &mut state, k)? {
+    match take_steps(alloc, code, made, &mut state, k)? {
         None => Ok((Stage::Going(state), Progress::Going)),
         Some(outcome) => Ok((Stage::Done(outcome), Progress::Done)),
     }
@@ -202,28 +212,30 @@ fn go_on<C: Code>(
 fn take_steps<C: Code>(
     alloc: Global,
     code: &C,
+    made: &mut ConstantCache,
     state: &mut State,
     k: u32,
 ) -> Result<Option<Outcome>, NoMemory>
     requires whole { IsCode (C.code code.now) }
     requires typed { IsTyped (C.code code.now) }
+    requires made { AreCached (C.code code.now) made.old.items }
     requires reached { IsReached (C.code code.now) state.old }
     ensures steps { IfOk result
         (λ r. after (C.code code.now) k (config_view state.old) ≡ next_view r state.new) }
     ensures memory { OnErr result
         ((h : ComesToGrow (C.code code.now) (config_view state.old)) × (h.steps < k)) }
     ensures reached { IfOk result (λ r. IfNone r (IsReached (C.code code.now) state.new)) }
+    ensures made { AreCached (C.code code.now) made.new.items }
 {
     code_laws();
     let mut left = u64::from(k);
-    let mut made = ConstantCache::new(alloc);
     let mut prefetched = None;
     'steps: loop {
         left = run_fast(code, state, left, &mut prefetched);
         if left == 0 {
             return Ok(None);
         }
-        if let Some(outcome) = step(alloc, code, &mut made, state, prefetched)? {
+        if let Some(outcome) = step(alloc, code, made, state, prefetched)? {
             return Ok(Some(outcome));
         }
         left -= 1;

@@ -129,8 +129,8 @@ fn write_code<C: Code, W: Sink>(
     let mut made = ConstantCache::new(alloc);
     let mut prefetched = None;
     'steps: loop {
-        send(&mut state, sink)?;
         run_fast(code, &mut state, u64::MAX, &mut prefetched);
+        send(&mut state, sink)?;
         if let Some(outcome) = step(alloc, code, &mut made, &mut state, prefetched)? {
             return Ok(close(outcome, sink)?);
         }

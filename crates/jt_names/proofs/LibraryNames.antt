@@ -1,13 +1,45 @@
--- The names of a library.
-use Rattle.std.proofs.Common.{◌≡◌, Option, arith, rules}
+-- The names of a library, by the index of its template.
+use Rattle.std.proofs.Common.{◌≡◌, ◌≤◌, ℕ, zero, suc, true, false, List, [], ◌∷◌, length, refl, sym, ap, ◌∙◌, Option}
+use Rattle.std.proofs.Common.{arith, rules}
 use Rattle.std.specs.Prelude.{flat_map}
 use Rattle.std.proofs.lemmas.List.{append-nil}
 use Rattle.jt_ast.specs.Expressions.{Text}
-use Rattle.jt_ast.specs.Statements.{Body}
-use Rattle.jt_chains.specs.Along.{first_body}
-use Rattle.jt_chains.specs.Chain.{library_template}
-use Rattle.jt_chains.specs.Uses.{body_names}
+use Rattle.jt_ast.specs.Statements.{Body, end}
+use Rattle.jt_ast.specs.Texts.{ascending}
+use Rattle.jt_chains.specs.Along.{body_at, first_body}
+use Rattle.jt_chains.specs.Chain.{Template, a_library, holds_macros, library_template, sources_in}
+use Rattle.jt_chains.specs.Indices.{index_of}
+use Rattle.jt_chains.specs.Uses.{body_names, own_names}
+use Rattle.jt_chains.proofs.LibraryMacros.{body_held, no_body_held}
 
-pub names_alone : (n : Text) (o : Option Body)
+names_alone : (n : Text) (o : Option Body)
     → body_names (first_body (library_template n o)) ≡ flat_map (λ t. body_names t.body) (library_template n o)
 names_alone n a1 = search (arith, rules, append-nil)
+
+-- The number of names of a library.
+abbrev pub count : List Template → Text → ℕ
+count ts n = length (ascending (own_names (sources_in ts) (a_library n)))
+
+counted : (ts : List Template) (n : Text) (b : Body)
+    → b ≡ first_body (library_template n (sources_in ts n)) → length (ascending (body_names b)) ≡ count ts n
+counted ts n b e =
+    ap (λ xs. length (ascending xs)) (ap body_names e ∙ names_alone n (sources_in ts n))
+
+pub library_counted : (ts : List Template) (n : Text) (i : ℕ) → i ≡ index_of ts n → holds_macros (body_at ts i) ≡ true
+    → length (ascending (body_names (body_at ts i))) ≡ count ts n
+library_counted ts n i e h = counted ts n (body_at ts i) (body_held ts n (body_at ts i) (ap (body_at ts) e) h)
+
+pub none_counted : (ts : List Template) (n : Text) (i : ℕ) → i ≡ index_of ts n → holds_macros (body_at ts i) ≡ false
+    → 0 ≡ count ts n
+none_counted ts n i e h = counted ts n end (no_body_held ts n (body_at ts i) (ap (body_at ts) e) h)
+
+beyond : (ts : List Template) (i : ℕ) → length ts ≤ i → body_at ts i ≡ end
+beyond [] i le = refl
+beyond (t ∷ ts) zero le = absurd (omega arith)
+beyond (t ∷ ts) (suc i) le = beyond ts i (omega arith)
+
+pub nowhere_counted : (ts : List Template) (n : Text) → length ts ≡ index_of ts n → 0 ≡ count ts n
+nowhere_counted ts n e =
+    let past = beyond ts (length ts) (omega arith) in
+    ap (λ b. length (ascending (body_names b))) (sym past)
+    ∙ library_counted ts n (length ts) e (ap holds_macros past)

@@ -12,7 +12,7 @@ use Rattle.std.proofs.lemmas.Map.Text.{is_eq-slice_cmp}
 use Rattle.std.proofs.lemmas.Slice.Eq.{bytes_eq-Decides}
 use denote.Ref.{Bor}
 use Rattle.jt_ast.specs.Expressions.{Text}
-use Rattle.jt_ast.specs.Texts.{inserted, all_inserted, texts}
+use Rattle.jt_ast.specs.Texts.{inserted, all_inserted, ascending, texts}
 
 pub symmetric : (x y : Text) → bytes_eq x y ≡ bytes_eq y x
 symmetric x y = nat_list_eq_equiv.symm x y
@@ -125,3 +125,50 @@ crossed xs (y ∷ ys) ns = ap (all_inserted ys) (past y xs ns) ∙ crossed xs ys
 -- The parts of a concatenation may be inserted in either order.
 pub either_order : (xs ys ns : List Text) → all_inserted (xs ++ ys) ns ≡ all_inserted (ys ++ xs) ns
 either_order xs ys ns = inserted_both xs ys ns ∙ crossed xs ys ns ∙ sym (inserted_both ys xs ns)
+
+-- ---- A text that is inserted again changes nothing
+
+equal_is : (o : Ordering) → is_eq o ≡ true → o ≡ Equal
+equal_is Less e = absurd (cc)
+equal_is Equal e = refl
+equal_is Greater e = absurd (cc)
+
+itself : (x : Text) → cmp x x ≡ Equal
+itself x = equal_is (cmp x x) (is_eq-slice_cmp x x ∙ nat_list_eq_equiv.refl x)
+
+again : (x : Text) (ns : List Text) → inserted x (inserted x ns) ≡ inserted x ns
+again x [] = at_head x x [] Equal (itself x)
+again x (y ∷ ys) = by (again x ys) (cmp x y) refl
+  where
+    by : inserted x (inserted x ys) ≡ inserted x ys → (o : Ordering) → cmp x y ≡ o
+        → inserted x (inserted x (y ∷ ys)) ≡ inserted x (y ∷ ys)
+    by later Less e =
+        ap (inserted x) (at_head x y ys Less e) ∙ at_head x x (y ∷ ys) Equal (itself x) ∙ sym (at_head x y ys Less e)
+    by later Equal e =
+        ap (inserted x) (at_head x y ys Equal e) ∙ at_head x y ys Equal e ∙ sym (at_head x y ys Equal e)
+    by later Greater e =
+        ap (inserted x) (at_head x y ys Greater e) ∙ at_head x y (inserted x ys) Greater e ∙ ap (λ zs. y ∷ zs) later
+        ∙ sym (at_head x y ys Greater e)
+
+-- A text that is inserted into a list, and the list into another one.
+first_inserted : (x : Text) (ns ms : List Text) → all_inserted (inserted x ns) ms ≡ all_inserted ns (inserted x ms)
+first_inserted x [] ms = refl
+first_inserted x (y ∷ ys) ms = by (first_inserted x ys (inserted y ms)) (cmp x y) refl
+  where
+    by : all_inserted (inserted x ys) (inserted y ms) ≡ all_inserted ys (inserted x (inserted y ms)) → (o : Ordering)
+        → cmp x y ≡ o → all_inserted (inserted x (y ∷ ys)) ms ≡ all_inserted (y ∷ ys) (inserted x ms)
+    by later Less e = ap (λ zs. all_inserted zs ms) (at_head x y ys Less e)
+    by later Equal e =
+        ap (λ zs. all_inserted zs ms) (at_head x y ys Equal e)
+        ∙ ap (all_inserted ys) (sym (again y ms) ∙ ap (λ z. inserted y (inserted z ms)) (sym (same x y e)))
+    by later Greater e =
+        ap (λ zs. all_inserted zs ms) (at_head x y ys Greater e) ∙ later ∙ ap (all_inserted ys) (swapped y x ms)
+
+all_again : (xs ns ms : List Text) → all_inserted (all_inserted xs ns) ms ≡ all_inserted ns (all_inserted xs ms)
+all_again [] ns ms = refl
+all_again (x ∷ xs) ns ms =
+    all_again xs (inserted x ns) ms ∙ first_inserted x ns (all_inserted xs ms) ∙ ap (all_inserted ns) (past x xs ms)
+
+-- The different texts of a list may be inserted in its place.
+pub ascending_inserted : (xs ms : List Text) → all_inserted (ascending xs) ms ≡ all_inserted xs ms
+ascending_inserted xs ms = all_again xs [] ms

@@ -1,2 +1,4 @@
 pub mod Names
+pub mod FactsOfTemplates
+pub mod FactsOfChains
 pub mod internal

@@ -1,19 +1,26 @@
-//! Collects the names that a chain's templates read, bind or set.
+//! Collects what is known of a chain, once: the facts of its templates, chains and libraries.
 //!
-//! - The names of a chain: `own` and `chains`.
-//! - The names that its scopes bind: `scopes`.
+//! - The facts, and how they are collected: `facts`, `templates` and `chains`.
+//! - The names that uses read or bind: `own`.
+//! - The names that scopes bind: `scopes`.
 //! - The names that a body sets: `sets`.
-//! - Names in lists: `lists`.
+//! - Names in lists, and in ascending order: `lists` and `ordered`.
 //!
-//! Read first: specs/Names.antt.
+//! Read first: specs/FactsOfChains.antt.
 #![tactic(auto)]
 
 mod chains;
+mod facts;
 mod lists;
+mod ordered;
 mod own;
 mod scopes;
 mod sets;
+mod templates;
 
-pub use chains::{in_order, library_names, own_names, scope_names, set_names};
+pub use chains::{facts_of, set_names};
+pub use facts::{ChainFacts, NamespaceFacts};
 pub use lists::{keyword_names, names_of, parameter_names};
+pub use ordered::{add_names, in_order, list_of};
 pub use own::is_loop_name;
+pub use templates::TemplateFacts;

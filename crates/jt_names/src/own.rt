@@ -1,18 +1,16 @@
-//! Collects the different names that a chain reads or binds, from the uses of its templates.
+//! Collects the different names that uses read or bind.
 
 ghost use Rattle.std.specs.Prelude.{◌≡◌, option_map, IfOk};
 ghost use Rattle.jt_ast.specs.ExpressionView.{expr_view};
-ghost use Rattle.jt_ast.specs.StatementView.{body_view};
-ghost use Rattle.jt_ast.specs.Texts.{inserted, texts};
 ghost use Rattle.jt_chains.specs.Chain.{is_loop};
-ghost use Rattle.jt_chains.specs.Uses.{body_names};
 ghost use Rattle.jt_uses.specs.UseView.{site_view, sites_view};
 ghost use Rattle.jt_names.specs.Names.{Puts};
 ghost use Rattle.jt_names.specs.internal.UsedNames.{name_used, names_used};
 
-use jt_ast::{Expr, Stmt};
-use jt_uses::{Use, UseSite, uses_of};
-use std::alloc::{AllocError, Global};
+use crate::ordered::add_name;
+use jt_ast::Expr;
+use jt_uses::{Use, UseSite};
+use std::alloc::AllocError;
 use std::collections::BTreeSet;
 
 /// Returns whether an expression is the bare name `loop`.
@@ -23,14 +21,6 @@ pub fn is_loop_name(expr: &Expr) -> bool
         Expr::Name(name) => name.as_str() == "loop",
         _ => false,
     }
-}
-
-/// Adds a name.
-pub(crate) fn add_name<'a>(names: &mut BTreeSet<&'a str>, name: &'a str) -> Result<(), AllocError>
-    ensures { IfOk result (λ u. texts names.new.keys ≡ inserted name.now (texts names.old.keys)) }
-{
-    names.insert(name)?;
-    Ok(())
 }
 
 /// Returns the name that a use reads or binds.
@@ -51,7 +41,10 @@ fn name_used<'a>(site: &UseSite<'a>) -> Option<&'a str>
 }
 
 /// Adds the names that uses read or bind.
-fn add_used<'a>(names: &mut BTreeSet<&'a str>, uses: &[UseSite<'a>]) -> Result<(), AllocError>
+pub(crate) fn add_used<'a>(
+    names: &mut BTreeSet<&'a str>,
+    uses: &[UseSite<'a>],
+) -> Result<(), AllocError>
     ensures { IfOk result (λ _. Puts names.old names.new (names_used (sites_view uses.now))) }
 {
     for site in uses {
@@ -60,17 +53,4 @@ fn add_used<'a>(names: &mut BTreeSet<&'a str>, uses: &[UseSite<'a>]) -> Result<(
         }
     }
     Ok(())
-}
-
-/// Adds the names that statements read or bind.
-#[tactic(auto, using(crate::proofs::NamesOfUses::names_inserted))]
-pub(crate) fn add_statements<'a>(
-    alloc: Global,
-    names: &mut BTreeSet<&'a str>,
-    body: &'a [Stmt],
-) -> Result<(), AllocError>
-    ensures { IfOk result (λ _. Puts names.old names.new (body_names (body_view body.now))) }
-{
-    let uses = uses_of(alloc, body)?;
-    add_used(names, &uses)
 }

@@ -32,6 +32,7 @@ use Rattle.jt_turns.specs.SessionStates.{Stands}
 use Rattle.jt_turns.specs.declared.Start.{Start}
 use Rattle.jt_host.specs.Calls.{ComesTo, ExplainsTo, IsCounted, IsImage, IsImageOf, IsNoContext, IsNoImage}
 use Rattle.jt_host.specs.Calls.{IsNoUpgrade, IsUpgraded, RendersTo}
+use Rattle.jt_host.specs.RunExplanations.{ExplainsRunTo}
 use Rattle.jt_host.specs.declared.CallError.{CallError}
 use Rattle.jt_host.specs.declared.CallError.TheVariants as call_error
 use Rattle.jt_program.specs.declared.messages.Failure.{Failure}
@@ -173,6 +174,21 @@ module _ (files : Known) where
     pub library : IsLibrary files dir sources
     pub explained : EndsAs (ExplainsTo sources name options) e
 
+  -- The template is explained as `Diagnoses` states, and if it compiles how its run for a context
+  -- ends.
+  pub record DiagnosesRun (dir name : Text) (options : Options) (context : Option (String Global))
+      (b : Budget) (e : Ending) : Type 0 where
+    pub sources : SourceTexts
+    pub library : IsLibrary files dir sources
+    pub pairs : Pairs
+    pub given : IsContextAt files context pairs
+    pub explained : EndsAs (ExplainsRunTo sources name options pairs b) e
+
+  -- Only with a context is there a run to explain.
+  abbrev pub DiagnosesFor : Text → Text → Options → Option (String Global) → Budget → Ending → Type 0
+  DiagnosesFor dir name options None b e = Diagnoses dir name options e
+  DiagnosesFor dir name options (Some context) b e = DiagnosesRun dir name options (Some context) b e
+
 module _ (files : Known) where
   -- The code of the image of a pair, and the context of its other file.
   pub record IsStart (p : Pair) (s : Start) : Type 0 where
@@ -256,9 +272,9 @@ module _ (files after : Known) where
   CommandEnds (command.Compile dir name out) o b e = ChangesOnly (string_bytes out)
       × (IsUnread files (IsOfDirectory files (string_bytes dir)) None e
       ⊎ Compiles (string_bytes dir) (string_bytes name) (string_bytes out) o e)
-  CommandEnds (command.Explain dir name) o b e =
-      IsUnread files (IsOfDirectory files (string_bytes dir)) None e
-      ⊎ Diagnoses files (string_bytes dir) (string_bytes name) o e
+  CommandEnds (command.Explain dir name context) o b e =
+      IsUnread files (IsOfDirectory files (string_bytes dir)) context e
+      ⊎ DiagnosesFor files (string_bytes dir) (string_bytes name) o context b e
   CommandEnds (command.Check image) o b e =
       IsUnread files (IsPath (string_bytes image)) None e ⊎ Checks files (string_bytes image) e
   CommandEnds (command.Show image) o b e =

@@ -8,7 +8,7 @@ use crate::files::FileError;
 use jt_args::JobError;
 use jt_host::{CallError, HostError};
 use jt_image::ImageError;
-use std::alloc::{AllocError, AllocFailed};
+use std::alloc::AllocError;
 
 /// The status with which the program ends.
 #[derive(Clone, Copy, Debug, PartialEq, Eq)]
@@ -93,16 +93,6 @@ impl From<AllocError> for Failure {
     ghost from_gives = { λ _ f. f ≡ no_memory };
 
     fn from(_error: AllocError) -> Failure {
-        Failure::Call(CallError::NoMemory)
-    }
-}
-
-impl<T: Drop> From<AllocFailed<T>> for Failure {
-    ghost use Rattle.jt_program.specs.Ending.{no_memory};
-
-    ghost from_gives = { λ _ f. f ≡ no_memory };
-
-    fn from(_error: AllocFailed<T>) -> Failure {
         Failure::Call(CallError::NoMemory)
     }
 }

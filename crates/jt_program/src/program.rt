@@ -8,6 +8,7 @@ ghost use Rattle.clap.specs.Words.{subcommand_of};
 ghost use Rattle.jt_value.specs.ContextView.{pairs_of};
 ghost use Rattle.jt_args.specs.Line.{Takes, Asks, program_app};
 ghost use Rattle.jt_program.specs.Commands.{Answers, ChangesOnly, Checks, Compiles, Diagnoses};
+ghost use Rattle.jt_program.specs.Commands.{DiagnosesFor, DiagnosesRun};
 ghost use Rattle.jt_program.specs.Commands.{Ending, HasImage, HasUpgrade, IsContextAt, IsOfContext};
 ghost use Rattle.jt_program.specs.Commands.{IsPath, IsUnread, IsWriting, JobEnds, LineEnds};
 ghost use Rattle.jt_program.specs.Commands.{LineWrites, Renders, Runs, Shows, Upgrades};
@@ -24,8 +25,8 @@ use crate::turns::run_turns;
 use jt_args::{Command, Job, job};
 use jt_budget::Budget;
 use jt_host::{
-    EntryTemplate, Templates, context_of, counts_of, explained, image_of, render_text, run_image,
-    upgraded,
+    EntryTemplate, Templates, context_of, counts_of, explained, explained_run, image_of,
+    render_text, run_image, upgraded,
 };
 use jt_machine::{Sink, put_all};
 use jt_scan::Options;
@@ -158,9 +159,9 @@ fn perform_job<F: Files>(alloc: Global, job: Job, files: &mut F) -> Result<Strin
             let entry = EntryFile { dir, name, options };
             compile_to(alloc, files, entry, out)
         }
-        Command::Explain { dir, name } => {
+        Command::Explain { dir, name, context } => {
             let entry = EntryFile { dir, name, options };
-            explain_in(alloc, files, entry)
+            explain_in(alloc, files, entry, context, budget)
         }
         Command::Check { image } => check_at(alloc, files, image),
         Command::Show { image } => show_at(alloc, files, image),
@@ -216,8 +217,33 @@ fn compile_to<F: Files>(
     Ok(String::new(alloc))
 }
 
+/// Returns the text that explains the entry to a person, and its run if the file of a context is
+/// named.
+fn explain_in<F: Files>(
+    alloc: Global,
+    files: &mut F,
+    entry: EntryFile,
+    context: Option<String>,
+    budget: Budget,
+) -> Result<String, Failure>
+    ensures ends { IsUnread (F.known (F.contents files.old))
+        (IsOfDirectory (F.known (F.contents files.old)) (string_bytes entry.dir)) context result
+        ⊎ DiagnosesFor (F.known (F.contents files.old)) (string_bytes entry.dir)
+        (string_bytes entry.name) entry.options context budget result }
+    ensures kept { F.contents files.new ≡ F.contents files.old }
+{
+    match context {
+        Some(context) => explain_run_in(alloc, files, entry, context, budget),
+        None => explain_entry_in(alloc, files, entry),
+    }
+}
+
 /// Returns the text that states for a person whether the entry compiles, and otherwise why not.
-fn explain_in<F: Files>(alloc: Global, files: &mut F, entry: EntryFile) -> Result<String, Failure>
+fn explain_entry_in<F: Files>(
+    alloc: Global,
+    files: &mut F,
+    entry: EntryFile,
+) -> Result<String, Failure>
     ensures ends { IsUnread (F.known (F.contents files.old))
         (IsOfDirectory (F.known (F.contents files.old)) (string_bytes entry.dir)) None result
         ⊎ Diagnoses (F.known (F.contents files.old)) (string_bytes entry.dir)
@@ -232,6 +258,32 @@ fn explain_in<F: Files>(alloc: Global, files: &mut F, entry: EntryFile) -> Resul
         options,
     };
     Ok(explained(alloc, &entry)?)
+}
+
+/// Returns the text that states for a person how the entry ends for the context of a file: with a
+/// text, or why with none.
+fn explain_run_in<F: Files>(
+    alloc: Global,
+    files: &mut F,
+    entry: EntryFile,
+    context: String,
+    budget: Budget,
+) -> Result<String, Failure>
+    ensures ends { IsUnread (F.known (F.contents files.old))
+        (IsOfDirectory (F.known (F.contents files.old)) (string_bytes entry.dir)) (Some context)
+        result
+        ⊎ DiagnosesRun (F.known (F.contents files.old)) (string_bytes entry.dir)
+        (string_bytes entry.name) entry.options (Some context) budget result }
+    ensures kept { F.contents files.new ≡ F.contents files.old }
+{
+    let EntryFile { dir, name, options } = entry;
+    let (templates, context) = inputs_in(alloc, files, dir, Some(context))?;
+    let entry = EntryTemplate {
+        name: name.as_str(),
+        templates: &templates,
+        options,
+    };
+    Ok(explained_run(alloc, &entry, &context, budget)?)
 }
 
 /// Writes the image at a path in version 2 to the file at `out`. Returns an empty text.
@@ -318,8 +370,7 @@ fn render_in<F: Files>(
     ensures kept { F.contents files.new ≡ F.contents files.old }
 {
     let EntryFile { dir, name, options } = entry;
-    let templates = templates_in(alloc, files, dir)?;
-    let context = context_at(alloc, files, context)?;
+    let (templates, context) = inputs_in(alloc, files, dir, context)?;
     let entry = EntryTemplate {
         name: name.as_str(),
         templates: &templates,
@@ -329,6 +380,26 @@ fn render_in<F: Files>(
     // The context is not dropped, as in `run_at`.
     std::mem::forget(context);
     Ok(text?)
+}
+
+/// Reads the templates directly in `dir`, and then the context in a file, as `context_at` does.
+fn inputs_in<F: Files>(
+    alloc: Global,
+    files: &mut F,
+    dir: String,
+    context: Option<String>,
+) -> Result<(Templates, Context), Failure>
+    ensures library { IfOk result
+        (λ r. IsLibrary (F.known (F.contents files.old)) (string_bytes dir) (source_of r.0)) }
+    ensures given { IfOk result
+        (λ r. IsContextAt (F.known (F.contents files.old)) context (pairs_of r.1)) }
+    ensures err { IfErr result (λ e. IsUnread (F.known (F.contents files.old))
+        (IsOfDirectory (F.known (F.contents files.old)) (string_bytes dir)) context (Err e)) }
+    ensures kept { F.contents files.new ≡ F.contents files.old }
+{
+    let templates = templates_in(alloc, files, dir)?;
+    let context = context_at(alloc, files, context)?;
+    Ok((templates, context))
 }
 
 /// Reads the context in a file, or returns the empty context if no file is named.

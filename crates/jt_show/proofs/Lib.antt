@@ -5,3 +5,5 @@ pub mod PlacesSeen
 pub mod SlotsNamed
 pub mod TargetsFound
 pub mod UnitLines
+pub mod UnitsAccepted
+pub mod TextsPut

@@ -1,9 +1,9 @@
 -- The listing of a code: its version, its globals with their names, its constants, and its units
--- with their instructions.
+-- with their instructions, the shapes that the verifier finds, and the mark where it refuses.
 use Rattle.std.specs.Prelude.{ℕ, zero, suc, ◌+◌, ◌==◌, ◌&&◌, Bool, false, List, [], ◌∷◌, ◌++◌, length, flat_map}
-use Rattle.std.specs.Prelude.{Option, Some, None, codes, if◌then◌else◌}
-use Rattle.std.specs.List.{list_any}
-use Rattle.std.specs.Option.{option_or}
+use Rattle.std.specs.Prelude.{Option, Some, None, codes, take, unwrap_or, if◌then◌else◌}
+use Rattle.std.specs.List.{list_all, list_any}
+use Rattle.std.specs.Option.{is_none, option_or}
 use Rattle.std.specs.Str.{bytes_eq}
 use Rattle.std.specs.Fmt.{decimal}
 use Rattle.jt_value.specs.Place.{Place}
@@ -17,6 +17,9 @@ use Rattle.jt_image.specs.declared.instruction.Instruction.TheVariants as op
 use Rattle.jt_show.specs.Quoted.{quoted}
 use Rattle.jt_show.specs.Words.{constant_text, kind_word}
 use Rattle.jt_show.specs.Instructions.{instruction_text, label, worded}
+use Rattle.jt_show.specs.Shapes.{line_end}
+use Rattle.jt_show.specs.Marks.{mark_line}
+use Rattle.jt_verify.specs.Search.{Found, accepted, shape_at, unit_found}
 
 -- The lines of the items of a list, each with its number, from the number of the first one.
 abbrev pub numbered : {A : Type 0} → (ℕ → A → List ℕ) → ℕ → List A → List ℕ
@@ -91,15 +94,17 @@ place_line before (Some p) = if is_same before p then [] else place_text p
 
 -- ---- units
 
-abbrev pub instruction_line : Code → ℕ → Instruction → List ℕ
-instruction_line k point i =
-    codes "  " ++ (decimal point ++ (codes "\t" ++ (instruction_text k i ++ codes "\n")))
+-- The line of an instruction, up to its shape.
+abbrev pub instruction_start : Code → ℕ → Instruction → List ℕ
+instruction_start k point i = codes "  " ++ (decimal point ++ (codes "\t" ++ instruction_text k i))
 
--- The lines of an instruction: its place if it changes, its label if a jump may lead to it, and itself.
-abbrev pub point_text : Code → ℕ → List Instruction → ℕ → Instruction → List ℕ
-point_text k unit code point i =
+-- The lines of an instruction: its place if it changes, its label if a jump may lead to it, itself with
+-- its shape, and the mark of a refusal.
+abbrev pub point_text : Code → ℕ → List Instruction → Found → ℕ → Instruction → List ℕ
+point_text k unit code found point i =
     place_line (place_before k unit point) (place_there k unit point)
-    ++ (label_line (is_target code point) point ++ instruction_line k point i)
+    ++ (label_line (is_target code point) point
+    ++ (instruction_start k point i ++ (line_end (shape_at found.shapes point) ++ mark_line found point (Some i))))
 
 -- The line of a unit: its number, and the four numbers of its header.
 abbrev pub unit_line : ℕ → UnitHeader → List ℕ
@@ -108,11 +113,36 @@ unit_line n unit =
     ++ (codes ", kind" ++ (worded unit.kind (kind_word unit.kind) ++ (codes ", locals " ++ (decimal unit.locals
     ++ (codes ", instructions " ++ (decimal unit.instructions ++ codes "\n")))))))))
 
-abbrev pub unit_text : Code → ℕ → Section → List ℕ
-unit_text k n unit = unit_line n (header_of unit) ++ numbered (point_text k n unit.code) 0 unit.code
+-- The lines of a unit. A unit without instructions is refused behind its own line.
+abbrev pub unit_text : Code → ℕ → Section → Found → List ℕ
+unit_text k n unit found =
+    unit_line n (header_of unit)
+    ++ (numbered (point_text k n unit.code found) 0 unit.code ++ mark_line found (length unit.code) None)
+
+-- ---- what the verifier finds
+
+abbrev pub is_accepted : Code → Section → Bool
+is_accepted k unit = is_none (unit_found k unit).refused
+
+-- Without shapes and without a refusal.
+abbrev pub nothing_found : Found
+nothing_found = accepted []
+
+abbrev pub found_or : Option Found → Found
+found_or found = unwrap_or found nothing_found
+
+-- The verifier stops at the first unit that it refuses, so it finds nothing in the units behind it.
+abbrev pub found_there : Code → ℕ → Section → Found
+found_there k n unit = if list_all (is_accepted k) (take n k.units) then unit_found k unit else nothing_found
+
+-- The lines of a unit with what is found there.
+abbrev pub found_text : Code → ℕ → Section → List ℕ
+found_text k n unit = unit_text k n unit (found_there k n unit)
 
 -- ---- the whole
 
 abbrev pub listing : Code → List ℕ
 listing k =
-    version_line k.version ++ (globals_text k ++ (constants_text k ++ numbered (unit_text k) 0 k.units))
+    version_line k.version
+    ++ (globals_text k
+    ++ (constants_text k ++ numbered (found_text k) 0 k.units))

@@ -1,16 +1,23 @@
 //! Appends the units of a code, with their instructions.
-ghost use Rattle.std.specs.Prelude.{◌≡◌, ◌<◌, ◌++◌, ℕ, OnOk, Some, false, length, slice_get};
-ghost use Rattle.std.specs.Prelude.{slice_index_or, string_bytes};
+ghost use Rattle.std.specs.Prelude.{◌≡◌, ◌<◌, ◌++◌, ◌&&◌, ℕ, IfOk, OnOk, Some, None, false};
+ghost use Rattle.std.specs.Prelude.{if◌then◌else◌, length, option_map, slice_get, slice_index_or};
+ghost use Rattle.std.specs.Prelude.{string_bytes};
+ghost use Rattle.std.specs.Option.{is_none};
 ghost use Rattle.jt_image.specs.Code.{Section};
-ghost use Rattle.jt_show.specs.Listing.{instruction_line, is_target, label_line, numbered};
-ghost use Rattle.jt_show.specs.Listing.{point_text, unit_line, unit_text};
+ghost use Rattle.jt_verify.specs.Search.{shape_at, unit_found};
+ghost use Rattle.jt_show.specs.Listing.{found_or, found_text, instruction_start, is_target};
+ghost use Rattle.jt_show.specs.Listing.{label_line, numbered, point_text, unit_line, unit_text};
 ghost use Rattle.jt_show.specs.internal.SlotNames.{AreNames};
 
 use crate::instructions::{put_instruction, put_worded};
+use crate::marks::put_mark;
 use crate::places::put_place_line;
+use crate::shapes::put_line_end;
 use crate::targets::jump_targets;
 use crate::words::kind_word;
 use jt_image::{Code, Instruction, PlaceRef, UnitCode, UnitHeader};
+use jt_value::NoMemory;
+use jt_verify::{ShapeRef, UnitShapes, unit_shapes};
 use std::alloc::{AllocError, Global};
 use std::fmt::Write;
 
@@ -20,15 +27,52 @@ pub(crate) fn put_units<C: Code>(
     code: &C,
     slots: &[Option<&str>],
     out: &mut String,
-) -> Result<(), AllocError>
+) -> Result<(), NoMemory>
     requires { AreNames (C.code code.now) slots.now }
     ensures { OnOk result (string_bytes out.new ≡ string_bytes out.old
-        ++ numbered (unit_text (C.code code.now)) 0 (C.code code.now).units) }
+        ++ numbered (found_text (C.code code.now)) 0 (C.code code.now).units) }
 {
+    let mut accepted = true;
     'units: for unit in 0..code.units() {
-        put_unit(alloc, code, slots, unit, out)?;
+        let found = find(alloc, code, unit, accepted)?;
+        accepted = are_accepted(accepted, &found);
+        put_unit(alloc, code, slots, &Searched { unit, found }, out)?;
     }
     Ok(())
+}
+
+/// Returns what the verifier finds in a unit, unless it refuses a unit before.
+fn find<C: Code>(
+    alloc: Global,
+    code: &C,
+    unit: usize,
+    accepted: bool,
+) -> Result<Option<UnitShapes>, NoMemory>
+    ensures { IfOk result (λ found. found ≡ (if accepted
+        then option_map (unit_found (C.code code.now)) (slice_get (C.code code.now).units unit)
+        else None)) }
+{
+    if accepted {
+        return unit_shapes(alloc, code, unit);
+    }
+    Ok(None)
+}
+
+/// Returns whether the units before a unit are accepted, and nothing is refused in it.
+fn are_accepted(before: bool, found: &Option<UnitShapes>) -> bool
+    ensures { result ≡ (before && is_none (found_or found.now).refused) }
+{
+    match found {
+        Some(found) => before && found.refusal().is_none(),
+        None => before,
+    }
+}
+
+/// The number of a unit, with what the verifier finds in it.
+#[derive(Drop)]
+struct Searched {
+    unit: usize,
+    found: Option<UnitShapes>,
 }
 
 /// Appends a unit.
@@ -36,14 +80,16 @@ fn put_unit<C: Code>(
     alloc: Global,
     code: &C,
     slots: &[Option<&str>],
-    unit: usize,
+    searched: &Searched,
     out: &mut String,
-) -> Result<(), AllocError>
+) -> Result<(), NoMemory>
     requires { AreNames (C.code code.now) slots.now }
-    ensures { (section : Section) → slice_get (C.code code.now).units unit ≡ Some section
-        → OnOk result (string_bytes out.new
-        ≡ string_bytes out.old ++ unit_text (C.code code.now) unit section) }
+    ensures { (section : Section)
+        → slice_get (C.code code.now).units searched.now.unit ≡ Some section
+        → OnOk result (string_bytes out.new ≡ string_bytes out.old
+        ++ unit_text (C.code code.now) searched.now.unit section (found_or searched.now.found)) }
 {
+    let unit = searched.unit;
     let Some(header) = code.unit(unit) else {
         return Ok(());
     };
@@ -56,8 +102,11 @@ fn put_unit<C: Code>(
         unit,
         instructions,
         targets,
+        found: &searched.found,
     };
-    put_points(code, slots, &points, out)
+    put_points(code, slots, &points, out)?;
+    put_mark(&searched.found, header.instructions, None, out)?;
+    Ok(())
 }
 
 /// Appends the line of a unit.
@@ -75,13 +124,14 @@ fn put_unit_line(unit: usize, header: UnitHeader, out: &mut String) -> Result<()
     writeln!(out, ", locals {locals}, instructions {instructions}")
 }
 
-/// The instructions of a unit, with the number of the unit.
+/// The instructions of a unit, with the number of the unit and what the verifier finds in it.
 #[derive(Drop)]
 struct Points<'a> {
     unit: usize,
     instructions: UnitCode<'a>,
     /// For each point whether some instruction may jump there.
     targets: Vec<bool>,
+    found: &'a Option<UnitShapes>,
 }
 
 /// Appends the lines of the instructions of a unit.
@@ -97,8 +147,8 @@ fn put_points<C: Code>(
         → slice_index_or points.now.targets.items point false
         ≡ is_target points.now.instructions point }
     ensures { OnOk result (string_bytes out.new ≡ string_bytes out.old
-        ++ numbered (point_text (C.code code.now) points.now.unit points.now.instructions) 0
-        points.now.instructions) }
+        ++ numbered (point_text (C.code code.now) points.now.unit points.now.instructions
+        (found_or points.now.found.now)) 0 points.now.instructions) }
 {
     let mut before: Option<PlaceRef<'_>> = None;
     'points: for point in 0..points.targets.len() {
@@ -109,7 +159,9 @@ fn put_points<C: Code>(
         put_place_line(before, place, out)?;
         before = place.or(before);
         put_label_line(points.targets[point], point, out)?;
-        put_instruction_line(code, slots, point, instruction, out)?;
+        put_instruction_start(code, slots, point, instruction, out)?;
+        put_line_end(shape_of(points.found, point), out)?;
+        put_mark(points.found, point, Some(instruction), out)?;
     }
     Ok(())
 }
@@ -124,8 +176,18 @@ fn put_label_line(target: bool, point: usize, out: &mut String) -> Result<(), Al
     Ok(())
 }
 
-/// Appends the line of an instruction.
-fn put_instruction_line<C: Code>(
+/// Returns the shape of a point, if the verifier finds one.
+fn shape_of(found: &Option<UnitShapes>, point: usize) -> Option<ShapeRef<'_>>
+    ensures { result ≡ shape_at (found_or found.now).shapes point }
+{
+    match found {
+        Some(found) => found.shape(point),
+        None => None,
+    }
+}
+
+/// Appends the line of an instruction, up to its shape.
+fn put_instruction_start<C: Code>(
     code: &C,
     slots: &[Option<&str>],
     point: usize,
@@ -134,9 +196,8 @@ fn put_instruction_line<C: Code>(
 ) -> Result<(), AllocError>
     requires { AreNames (C.code code.now) slots.now }
     ensures { OnOk result (string_bytes out.new
-        ≡ string_bytes out.old ++ instruction_line (C.code code.now) point instruction) }
+        ≡ string_bytes out.old ++ instruction_start (C.code code.now) point instruction) }
 {
     write!(out, "  {point}\t")?;
-    put_instruction(code, slots, instruction, out)?;
-    out.push_str("\n")
+    put_instruction(code, slots, instruction, out)
 }

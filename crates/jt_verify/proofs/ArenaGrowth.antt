@@ -11,9 +11,9 @@ use Rattle.jt_verify.specs.declared.nodes.ShapeId.{ShapeId}
 use Rattle.jt_verify.specs.declared.nodes.Node.{Node}
 use Rattle.jt_verify.specs.declared.nodes.SkipLink.{SkipLink}
 use Rattle.jt_verify.specs.declared.nodes.Link.TheVariants as link
-use Rattle.jt_verify.specs.internal.Arena.{Lists, shape_in, IsIn, IsKept, StandsFor, entered, lists_of, kind_of}
-use Rattle.jt_verify.specs.internal.Arena.{digit_of, IsUnder, AreJumps, IsNode, AreLinks, KeepsLinks, Finding, IsSound}
-use Rattle.jt_verify.specs.internal.Arena.{IsArena}
+use Rattle.jt_verify.specs.Arena.{Lists, shape_in, IsIn, IsKept, StandsFor, entered, lists_of, kind_of}
+use Rattle.jt_verify.specs.Arena.{digit_of, IsUnder, AreJumps, IsNode, AreLinks, KeepsLinks, Finding, IsSound}
+use Rattle.jt_verify.specs.Arena.{IsArena}
 use Rattle.jt_verify.proofs.NodeNumbers.{same_or, node_left, node_last, node_either, padded}
 use Rattle.jt_verify.proofs.ValuesOnTop.{pushes_end}
 use Rattle.jt_verify.proofs.ShapesAreUnique.{finds_more, grow_push, is_new, found_is}

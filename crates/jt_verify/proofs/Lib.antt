@@ -6,4 +6,5 @@ pub mod ArenaGrowth
 pub mod ShapeTables
 pub mod WorklistInvariant
 pub mod RefusalsSound
+pub mod PathsExplored
 pub mod DataflowInvariant

@@ -1,7 +1,8 @@
 -- A typed code has no flaw that a refusal states.
-use Rattle.std.proofs.Common.{◌≡◌, ℕ, List, [], ◌∷◌, ◌++◌, length, Option, Some, Result, Ok, Err, refl, sym, subst, ◌∙◌}
-use Rattle.std.proofs.Common.{arith, inl, inr, rules}
-use Rattle.std.specs.Prelude.{slice_get}
+use Rattle.std.proofs.Common.{◌≡◌, ℕ, List, [], ◌∷◌, ◌++◌, length, Option, Some, None, Result, Ok, Err, refl, sym}
+use Rattle.std.proofs.Common.{subst, ◌∙◌, ap, arith, inl, inr, rules}
+use Rattle.std.specs.Prelude.{slice_get, option_map}
+use Rattle.jt_verify.specs.Findings.{OutcomeHolds}
 use Rattle.std.specs.List.{AllByRecursion}
 use Rattle.jt_image.specs.declared.kind.Flaw.{Flaw}
 use Rattle.jt_image.specs.declared.kind.Flaw.TheVariants as flaw
@@ -9,12 +10,12 @@ use Rattle.jt_image.specs.declared.instruction.Instruction.{Instruction}
 use Rattle.jt_image.specs.Code.{Section, Code}
 use Rattle.jt_image.specs.Effect.{Shape, Successors, effect_of, effect_at}
 use Rattle.jt_image.specs.Typed.{Shapes, Reaches, at_start, along, IsTypedBy, IsTypedUnit, IsTyped, Equal, HasSame}
-use Rattle.jt_verify.specs.internal.Arena.{Lists}
+use Rattle.jt_image.specs.Typed.{Among}
 use Rattle.jt_verify.specs.Differing.{DifferBy}
 use Rattle.jt_verify.specs.Refusing.{HasClash, HasFlaw, HoldsAt, RefusalHolds}
-use Rattle.jt_verify.specs.internal.Typing.{IsTall}
-use Rattle.jt_verify.specs.internal.Working.{WorkItem, Table, shape_at, unit_of, ClashesAt, Clashes, StepFlaw, Steps}
-use Rattle.jt_verify.specs.internal.Working.{Comes, IsWorking, RefusesUnit}
+use Rattle.jt_verify.specs.Typing.{IsTall}
+use Rattle.jt_verify.specs.Search.{WorkItem, Table, Refused, shape_at}
+use Rattle.jt_verify.specs.Working.{unit_of, ClashesAt, Clashes, StepFlaw, Comes, IsWorking, RefusesUnit}
 use Rattle.jt_verify.specs.declared.refusal.Refusal.{Refusal}
 use Rattle.jt_verify.specs.declared.refusal.Refusal.TheVariants as refusal
 use Rattle.jt_verify.proofs.ShapeTables.{all_among, paths_last}
@@ -22,38 +23,36 @@ use Rattle.jt_verify.proofs.ShapeTables.{all_among, paths_last}
 -- ---- refusals hold
 
 module _ (k : Code) (u : Section) (q : ℕ) (s : Shape) (reached : Reaches k u q s) where
-  clash_at : (o : Option Shape) (f : Flaw) → ((r : Shape) → o ≡ Some r → Reaches k u q r) → ClashesAt o s f
-      → HasClash k u q f
-  clash_at o f known a3 = search (arith, rules)
+  clash_at : (o : Option Shape) (f : Flaw) (other : Option Shape) → ((r : Shape) → o ≡ Some r → Reaches k u q r)
+      → ClashesAt o s f other → HasClash k u q f
+  clash_at o f other known (inl deep) = inl (s, reached, deep.0)
+  clash_at o f other known (inr c) = inr (c.1.0, s, known c.1.0 c.1.1, reached, c.1.2)
 
-pub clash_refuses : (k : Code) (u : Section) (n : ℕ) (t : Table) (w : List WorkItem) (x : WorkItem) (e : Refusal)
-    → IsWorking k u t (w ++ x ∷ []) → Clashes t n x e → RefusesUnit k u n e
-clash_refuses k u n t w x e i c =
+pub clash_refuses : (k : Code) (u : Section) (t : Table) (w : List WorkItem) (x : WorkItem) (r : Refused)
+    → IsWorking k u t (w ++ x ∷ []) → Clashes t x r → HoldsAt k u r.point r.flaw
+clash_refuses k u t w x r i c =
     let comes = (paths_last (Comes k u) w x i.coming).0 in
-    let holds =
-    inr (clash_at k u x.point x.shape comes.1 (shape_at t x.point) c.0 (λ r found. i.reached x.point r found) c.2) in
-    subst (λ (r : Refusal). RefusesUnit k u n r) (sym c.1) (refl, holds)
+    rw c.0 (inr (clash_at k u x.point x.shape comes.1 (shape_at t x.point) r.flaw r.other
+    (λ s found. i.reached x.point s found) c.1))
 
 -- An effect that leads to a point with too many entries brings them to that point.
 tall_clash : (k : Code) (u : Section) (x : WorkItem) (q : ℕ) (o : Result Successors Flaw) → Reaches k u x.point x.shape
     → effect_at k u x.point x.shape ≡ o → IsTall q o → HasClash k u q flaw.TooDeep
-tall_clash k u x q (Ok l) reached e h = inl (l.shape, along x.point x.shape l q reached e h.0, (refl, h.1))
+tall_clash k u x q (Ok l) reached e h =
+    let among : Among q l.points = subst (λ (ps : List ℕ). Among q ps) (sym h.0) (inl refl) in
+    inl (l.shape, along x.point x.shape l q reached e among, (refl, h.1))
 tall_clash k u x q (Err f) reached e h = absurd h
 
 step_holds : (k : Code) (u : Section) (x : WorkItem) (f : Flaw) (q : ℕ) → Reaches k u x.point x.shape
     → StepFlaw k u x.point x.shape f q → HoldsAt k u q f
 step_holds k u x f q reached a6 = search (arith, rules, tall_clash)
 
-pub step_refuses : (r : Lists) (k : Code) (u : Section) (n : ℕ) (t : Table) (w : List WorkItem) (x : WorkItem)
-    (e : Refusal)
-    → IsWorking k u t (w ++ x ∷ []) → Steps r k u n x.point x.shape (Err e) → RefusesUnit k u n e
-step_refuses r k u n t w x (refusal.Flaw f m p) i h =
-    (h.0, step_holds k u x f p (paths_last (Comes k u) w x i.coming).0.1 h.1)
-step_refuses r k u n t w x refusal.NoMemory i h = tt
+pub step_refuses : (k : Code) (u : Section) (t : Table) (w : List WorkItem) (x : WorkItem) (f : Flaw) (q : ℕ)
+    → IsWorking k u t (w ++ x ∷ []) → StepFlaw k u x.point x.shape f q → HoldsAt k u q f
+step_refuses k u t w x f q i h = step_holds k u x f q (paths_last (Comes k u) w x i.coming).0.1 h
 
-pub empty_refuses : (k : Code) (u : Section) (n : ℕ) → length u.code ≡ 0
-    → RefusesUnit k u n (refusal.Flaw flaw.FallsOff n 0)
-empty_refuses k u n e = (refl, inl ([], at_start, falls u.code e))
+pub empty_refuses : (k : Code) (u : Section) → length u.code ≡ 0 → HoldsAt k u 0 flaw.FallsOff
+empty_refuses k u e = inl ([], at_start, falls u.code e)
   where
     falls : (c : List Instruction) → length c ≡ 0 → effect_of k u 0 (slice_get c 0) [] ≡ Err flaw.FallsOff
     falls [] e = refl
@@ -70,7 +69,7 @@ same_differ : (s t : Shape) (f : Flaw) → s ≡ t → DifferBy s t f → ⊥
 same_differ s t a2 e d = search (arith, rules)
 
 module _ (k : Code) (u : Section) (shapes : Shapes) (h : IsTypedBy Equal k u shapes) where
-  agrees : (p : ℕ) (s : Shape) → Reaches k u p s → shapes p ≡ Some s
+  pub agrees : (p : ℕ) (s : Shape) → Reaches k u p s → shapes p ≡ Some s
   agrees _ _ at_start = h.start
   agrees _ _ (along p r leads q before e a) =
       let f = h.fine p r (agrees p r before) in
@@ -95,3 +94,23 @@ untyped k u p f (inr c) (shapes, h) = clash_untyped k u shapes h p f c
 pub exact : (k : Code) (r : Refusal) → RefusalHolds k r → IsTyped k → r ≡ refusal.NoMemory
 exact k refusal.NoMemory h t = refl
 exact k (refusal.Flaw f n p) h t = absurd (untyped k h.0 p f h.2 (t n h.0 h.1))
+
+-- ---- the outcome of a unit
+
+-- The point and the flaw of a refusal.
+abbrev pub facts : Option Refused → Option (ℕ × Flaw)
+facts o = option_map (λ r. (r.point, r.flaw)) o
+
+pub unit_typed : (k : Code) (u : Section) (t : Table) (o : Option Refused) → OutcomeHolds k u t o → None ≡ facts o
+    → IsTypedUnit Equal k u
+unit_typed k u t None h e = (shape_at t, h.0)
+unit_typed k u t (Some r) h e = cc
+
+pub outcome_refuses : (k : Code) (u : Section) (t : Table) (o : Option Refused) (p : ℕ) (f : Flaw)
+    → OutcomeHolds k u t o → Some (p, f) ≡ facts o → HoldsAt k u p f
+outcome_refuses k u t None p f h e = cc
+outcome_refuses k u t (Some r) p f h e =
+    let both : ◌≡◌ {A = ℕ × Flaw} (p, f) (r.point, r.flaw) = cc in
+    let point : r.point ≡ p = sym (ap (λ (x : ℕ × Flaw). x.0) both) in
+    let flaw : r.flaw ≡ f = sym (ap (λ (x : ℕ × Flaw). x.1) both) in
+    subst (λ (x : Flaw). HoldsAt k u p x) flaw (subst (λ (n : ℕ). HoldsAt k u n r.flaw) point h)

@@ -8,7 +8,8 @@ use Rattle.jt_image.specs.Code.{Section}
 use Rattle.jt_image.specs.Readers.{header_of}
 use Rattle.jt_image.specs.Effect.{Shape}
 use Rattle.jt_image.specs.Typed.{Among}
-use Rattle.jt_verify.specs.internal.Working.{WorkItem, Table, shape_at, unknown, Waits}
+use Rattle.jt_verify.specs.Search.{WorkItem, Table, shape_at}
+use Rattle.jt_verify.specs.Working.{unknown, Waits}
 use Rattle.jt_verify.proofs.NodeNumbers.{same_or}
 
 -- ---- setting a shape in a table

@@ -13,10 +13,12 @@ use Rattle.jt_verify.specs.declared.nodes.ShapeId.{ShapeId}
 use Rattle.jt_verify.specs.declared.nodes.Node.{Node}
 use Rattle.jt_verify.specs.declared.nodes.Link.{Link}
 use Rattle.jt_verify.specs.declared.nodes.Link.TheVariants as link
-use Rattle.jt_verify.specs.internal.Arena.{Lists, shape_in, IsIn, entered, grow, lists_of, kind_of, digit_of, IsNode}
-use Rattle.jt_verify.specs.internal.Arena.{Finds, here, along, KeepsLinks, AreLinks, Finding, IsAt, IsArena}
+use Rattle.jt_verify.specs.Arena.{Lists, shape_in, IsIn, entered, grow, lists_of, kind_of, digit_of, IsNode}
+use Rattle.jt_verify.specs.Arena.{Finds, here, along, KeepsLinks, AreLinks, Finding, IsAt, IsArena}
 use Rattle.jt_verify.proofs.NodeNumbers.{some_node}
 use Rattle.jt_verify.proofs.ValuesOnTop.{HasNoValue, pushes_same, length-pushes, pops_too_many, below_values, at_end}
+use Rattle.jt_verify.proofs.ValuesOnTop.{values_counted, values_left_out}
+use Rattle.jt_verify.specs.Entries.{values_on, without_values}
 
 -- ---- lookup of an entry
 
@@ -142,6 +144,13 @@ module _ {ns : List Node} {ls : List ℕ} (a : IsArena ns ls) where
       marks s.found))
 
   -- ---- reading a shape by its id
+
+  pub values_are : (h : ShapeId) → IsIn (lists_of ns) h → h.values ≡ values_on (shape_in (lists_of ns) h)
+  values_are h l = values_counted h.values (get_or (lists_of ns) h.node []) (no_value h.node l)
+
+  pub rest_is : (h : ShapeId) → IsIn (lists_of ns) h
+      → get_or (lists_of ns) h.node [] ≡ without_values (shape_in (lists_of ns) h)
+  rest_is h l = values_left_out h.values (get_or (lists_of ns) h.node []) (no_value h.node l)
 
   at_bottom : (h : ShapeId) → h.node ≡ 0 → get_or (lists_of ns) h.node [] ≡ []
   at_bottom h z = subst (λ (k : ℕ). get_or (lists_of ns) k [] ≡ []) (sym z) (bottom ns)

@@ -4,7 +4,7 @@ use Rattle.std.proofs.Common.{arith, rules}
 use Rattle.std.specs.Prelude.{slice_get}
 use Rattle.jt_image.specs.Effect.{Shape}
 use Rattle.jt_verify.specs.declared.nodes.Node.{Node}
-use Rattle.jt_verify.specs.internal.Arena.{Lists, lists_of, IsUnder, IsAt, AreJumps}
+use Rattle.jt_verify.specs.Arena.{Lists, lists_of, IsUnder, IsAt, AreJumps}
 
 pub under_same : (t : Lists) (k : ℕ) → IsUnder t k (get_or t k [])
 under_same t k = ([], refl)

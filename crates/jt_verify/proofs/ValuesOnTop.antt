@@ -5,6 +5,7 @@ use Rattle.std.specs.Prelude.{slice_get}
 use Rattle.jt_image.specs.declared.kind.Kind.TheVariants as kind
 use Rattle.jt_image.specs.declared.kind.Flaw.{Flaw}
 use Rattle.jt_image.specs.Effect.{Shape, Successors, pops, pops_many, pushes}
+use Rattle.jt_verify.specs.Entries.{values_on, without_values}
 
 pub length-pushes : (n : ℕ) (s : Shape) → length (pushes n s) ≡ n + length s
 length-pushes zero s = omega arith
@@ -66,3 +67,17 @@ pushes_same zero (suc w) x y a b e = absurd (subst (λ (s : Shape). HasNoValue s
 pushes_same (suc v) zero x y a b e = absurd (subst (λ (s : Shape). HasNoValue s) (sym e) b)
 pushes_same (suc v) (suc w) x y a b e =
     let f : pushes v x ≡ pushes w y = cc in let r = pushes_same v w x y a b f in (ap suc r.0, r.1)
+
+pub values_counted : (v : ℕ) (s : Shape) → HasNoValue s → v ≡ values_on (pushes v s)
+values_counted (suc v) s h = omega (arith, values_counted v s h)
+values_counted zero [] h = refl
+values_counted zero (kind.Value ∷ s) h = absurd h
+values_counted zero (kind.Frame ∷ s) h = refl
+values_counted zero (kind.Capture ∷ s) h = refl
+
+pub values_left_out : (v : ℕ) (s : Shape) → HasNoValue s → s ≡ without_values (pushes v s)
+values_left_out (suc v) s h = values_left_out v s h
+values_left_out zero [] h = refl
+values_left_out zero (kind.Value ∷ s) h = absurd h
+values_left_out zero (kind.Frame ∷ s) h = refl
+values_left_out zero (kind.Capture ∷ s) h = refl

@@ -6,10 +6,11 @@ use Rattle.std.proofs.lemmas.List.{length-set, length-append, length-replicate}
 use Rattle.jt_image.proofs.ReadPrefix.{all_weaker}
 use Rattle.jt_image.specs.Code.{Section, Code}
 use Rattle.jt_image.specs.Effect.{Shape, effect_at}
-use Rattle.jt_image.specs.Typed.{Reaches, at_start, along, IsTypedUnit, Equal, HasSame, Among, max_entries}
-use Rattle.jt_verify.specs.internal.Typing.{as_list, points_of, AreWithin}
-use Rattle.jt_verify.specs.internal.Working.{WorkItem, Table, shape_at, work_left, IsDue, IsFollowed, Comes, IsWorking}
-use Rattle.jt_verify.specs.internal.Working.{sent}
+use Rattle.jt_image.specs.Typed.{Reaches, at_start, along, IsTypedBy, Equal, HasSame, Among, max_entries}
+use Rattle.jt_verify.specs.Typing.{as_list, points_of, AreWithin}
+use Rattle.jt_verify.specs.Search.{WorkItem, Table, shape_at}
+use Rattle.jt_verify.specs.Working.{work_left, IsDue, IsFollowed, Comes, IsWorking}
+use Rattle.jt_verify.specs.Working.{sent}
 use Rattle.jt_verify.specs.declared.effect.Successors.{Successors}
 use Rattle.jt_verify.proofs.NodeNumbers.{same_or}
 use Rattle.jt_verify.proofs.ShapeTables.{set_here, set_there, set_keeps, set_gives, unknown-set, none_at, among_swapped}
@@ -55,6 +56,17 @@ module _ (k : Code) (u : Section) (t : Table) (w : List WorkItem) (x : WorkItem)
       inr (waits_right w (sent l r) r q
       (waits_sent r (as_list l.target ++ as_list l.next) q (among_swapped q (as_list l.next) (as_list l.target) a)))
 
+  -- The shapes that are known come from paths, with the new shape too.
+  pub reached_set : IsWorking k u t (w ++ x ∷ []) → (p : ℕ) (s : Shape) → shape_at after_set p ≡ Some s
+      → Reaches k u p s
+  reached_set i p s e =
+      let last = paths_last (Comes k u) w x i.coming in
+      elim (same_or p x.point) [
+        | inl same ↦ subst (λ (y : Shape). Reaches k u p y) (set_gives t x.point x.shape lt p s same e)
+            (subst (λ (n : ℕ). Reaches k u n x.shape) (sym same) last.0.1)
+        | inr other ↦ i.reached p s (sym (set_there t x.point p x.shape other) ∙ e)
+      ]
+
   pub stepped : IsWorking k u t (w ++ x ∷ []) → length x.shape ≤ max_entries
       → effect_at k u x.point x.shape ≡ Ok (record { shape = r; points = points_of l }) → AreWithin (length u.code) l
       → IsWorking k u after_set (w ++ sent l r)
@@ -67,11 +79,7 @@ module _ (k : Code) (u : Section) (t : Table) (w : List WorkItem) (x : WorkItem)
           | inl same ↦ subst (λ (y : Shape). length y ≤ max_entries) (set_gives t x.point x.shape lt p s same e) small
           | inr other ↦ i.small p s (sym (set_there t x.point p x.shape other) ∙ e)
         ];
-        reached = λ p s e. elim (same_or p x.point) [
-          | inl same ↦ subst (λ (y : Shape). Reaches k u p y) (set_gives t x.point x.shape lt p s same e)
-              (subst (λ (n : ℕ). Reaches k u n x.shape) (sym same) last.0.1)
-          | inr other ↦ i.reached p s (sym (set_there t x.point p x.shape other) ∙ e)
-        ];
+        reached = reached_set i;
         coming =
             paths_append (Comes k u) w (sent l r) last.1
             (paths_sent (Comes k u) r (as_list l.target ++ as_list l.next) (λ q a.
@@ -143,23 +151,20 @@ known_if_due : (t : Table) (s : Shape) (q : ℕ) → IsDue t [] s q → shape_at
 known_if_due t s q a3 = search (arith, rules)
 
 -- If the worklist is empty, the unit is typed.
-pub is_typed : (k : Code) (u : Section) (t : Table) → IsWorking k u t [] → IsTypedUnit Equal k u
-is_typed k u t i = (
-  shape_at t,
-  record {
-    start = known_if_due t [] 0 i.start;
-    small = i.small;
-    fine = λ p s e. let f = i.fine p s e in record {
-      leads = f.leads;
-      effect = f.effect;
-      agree =
-          all_weaker (IsDue t [] f.leads.shape) (HasSame Equal (shape_at t) f.leads.shape) f.leads.points
-          (λ q d. (f.leads.shape, known_if_due t f.leads.shape q d, refl)) f.due;
-    };
-  },
-)
+pub is_typed : (k : Code) (u : Section) (t : Table) → IsWorking k u t [] → IsTypedBy Equal k u (shape_at t)
+is_typed k u t i = record {
+  start = known_if_due t [] 0 i.start;
+  small = i.small;
+  fine = λ p s e. let f = i.fine p s e in record {
+    leads = f.leads;
+    effect = f.effect;
+    agree =
+        all_weaker (IsDue t [] f.leads.shape) (HasSame Equal (shape_at t) f.leads.shape) f.leads.points
+        (λ q d. (f.leads.shape, known_if_due t f.leads.shape q d, refl)) f.due;
+  };
+}
 
 pub no_paths : (k : Code) (u : Section) (t : Table) (w : List WorkItem) → length w ≡ 0 → IsWorking k u t w
-    → IsTypedUnit Equal k u
+    → IsTypedBy Equal k u (shape_at t)
 no_paths k u t [] e i = is_typed k u t i
 no_paths k u t (x ∷ w) e i = absurd (omega arith)

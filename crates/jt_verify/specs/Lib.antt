@@ -1,4 +1,11 @@
 pub mod Tops
 pub mod Differing
 pub mod Refusing
-pub mod internal
+pub mod Search
+pub mod Findings
+pub mod Entries
+pub mod Names
+pub mod Arena
+pub mod Shapes
+pub mod Typing
+pub mod Working

@@ -3,9 +3,10 @@ ghost use Rattle.std.specs.Prelude.{◌≡◌, ℕ, List, ◌+◌, ◌-◌, ◌^
 ghost use Rattle.std.specs.Prelude.{slice_get, slice_set, IfOk, OnOk, OnErr};
 ghost use Rattle.jt_image.specs.Effect.{may_return, pushes};
 ghost use Rattle.jt_image.specs.Typed.{max_entries};
-ghost use Rattle.jt_verify.specs.internal.Arena.{TellsEqual, shape_in, IsIn, Holds, IsAdded};
-ghost use Rattle.jt_verify.specs.internal.Arena.{IsKept, StandsFor, Pops, PopsMany, kind_of};
-ghost use Rattle.jt_verify.specs.internal.Arena.{lists_of, IsArena};
+ghost use Rattle.jt_verify.specs.Entries.{values_on, without_values};
+ghost use Rattle.jt_verify.specs.Arena.{TellsEqual, shape_in, IsIn, Holds, IsAdded};
+ghost use Rattle.jt_verify.specs.Arena.{IsKept, StandsFor, Pops, PopsMany, kind_of};
+ghost use Rattle.jt_verify.specs.Arena.{lists_of, IsArena};
 
 use crate::nodes::{
     Link, Node, NonValue, NonValueEntry, ShapeId, digits, find, is_same, jump_on, node_at, node_of,
@@ -30,7 +31,7 @@ impl Model for Arena {
 
     ghost Value = { List (List Kind) };
 
-    ghost use Rattle.jt_verify.specs.internal.Arena.{lists_of, IsArena};
+    ghost use Rattle.jt_verify.specs.Arena.{lists_of, IsArena};
 
     ghost view = { λ a. lists_of a.nodes.items };
 
@@ -107,6 +108,29 @@ impl Arena {
             return Err(Flaw::MissingOperand);
         }
         Err(Flaw::WrongKind)
+    }
+
+    /// Returns the number of values above the uppermost loop or capture.
+    pub(crate) fn values(&self, shape: ShapeId) -> u32
+        requires { IsIn self.now shape }
+        ensures { result ≡ values_on (shape_in self.now shape) }
+    {
+        // The prover needs this read, which shows the arena's invariant.
+        let _nodes = &self.nodes;
+        shape.values
+    }
+
+    /// Returns the shape from the uppermost loop or capture down.
+    pub(crate) fn without_values(&self, shape: ShapeId) -> ShapeId
+        requires { IsIn self.now shape }
+        ensures { Holds self.now result (without_values (shape_in self.now shape)) }
+    {
+        // The prover needs this read, which shows the arena's invariant.
+        let _nodes = &self.nodes;
+        ShapeId {
+            values: 0,
+            node: shape.node,
+        }
     }
 
     /// Returns a shape with `count` more values on top. It has at most one entry more than a shape

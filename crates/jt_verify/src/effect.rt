@@ -6,8 +6,8 @@ ghost use Rattle.jt_image.specs.Ids.{operator_of, operands_of as operands_in, fi
 ghost use Rattle.jt_image.specs.Ids.{accepts as accepts_of, test_of, takes as takes_of};
 ghost use Rattle.jt_image.specs.Typed.{max_entries};
 ghost use Rattle.jt_ids.specs.OpTable.{op_operands};
-ghost use Rattle.jt_verify.specs.internal.Arena.{shape_in, IsIn, kind_of, Holds};
-ghost use Rattle.jt_verify.specs.internal.Shapes.{Requires, PointIn, FindsFrame};
+ghost use Rattle.jt_verify.specs.Arena.{shape_in, IsIn, kind_of, Holds};
+ghost use Rattle.jt_verify.specs.Shapes.{Requires, PointIn, FindsFrame};
 
 use crate::arena::Arena;
 use crate::nodes::{NonValue, ShapeId};
@@ -31,7 +31,7 @@ pub(crate) struct Effect {
 }
 
 impl Effect {
-    ghost use Rattle.jt_verify.specs.internal.Typing.{unmarked};
+    ghost use Rattle.jt_verify.specs.Typing.{unmarked};
 
     /// Returns an effect without a mark.
     fn new(shape: ShapeId, next: Option<usize>, target: Option<usize>) -> Effect
@@ -83,9 +83,9 @@ impl InstrContext<'_> {
     ghost use Rattle.jt_ids.specs.LoopTable.{field_of};
     ghost use Rattle.jt_image.specs.declared.kind.Kind.TheVariants as kind;
     ghost use Rattle.jt_image.specs.declared.kind.Flaw.TheVariants as flaw;
-    ghost use Rattle.jt_verify.specs.internal.Typing.{Does, DoesWith, needing, below, under};
-    ghost use Rattle.jt_verify.specs.internal.Typing.{on_loop, branching, making, spreading, Fits};
-    ghost use Rattle.jt_verify.specs.internal.Typing.{IsHere, TakesHere, points_here, shape_of};
+    ghost use Rattle.jt_verify.specs.Typing.{Does, DoesWith, needing, below, under};
+    ghost use Rattle.jt_verify.specs.Typing.{on_loop, branching, making, spreading, Fits};
+    ghost use Rattle.jt_verify.specs.Typing.{IsHere, TakesHere, points_here, shape_of};
 
     // Returns the shape below the top entry, which must have the kind `wanted`.
     fn pop(&self, wanted: Kind) -> Result<ShapeId, Flaw>

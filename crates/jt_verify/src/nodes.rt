@@ -1,8 +1,8 @@
 //! Defines the nodes of an arena, and the links that lead to a node from the node below it.
 ghost use Rattle.std.specs.Prelude.{◌≡◌, ◌≢◌, ◌+◌, ◌-◌, ◌*◌, ◌<◌, ◌≤◌, [], length, get_or};
 ghost use Rattle.std.specs.Prelude.{slice_get, Some, MatchBool};
-ghost use Rattle.jt_verify.specs.internal.Arena.{kind_of, digit_of, lists_of, IsUnder, IsAt};
-ghost use Rattle.jt_verify.specs.internal.Arena.{AreJumps, AreLinks, Finding};
+ghost use Rattle.jt_verify.specs.Arena.{kind_of, digit_of, lists_of, IsUnder, IsAt};
+ghost use Rattle.jt_verify.specs.Arena.{AreJumps, AreLinks, Finding};
 
 use jt_image::Kind;
 

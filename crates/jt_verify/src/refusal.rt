@@ -1,6 +1,6 @@
 //! Defines the reasons for which a code is refused.
 ghost use Rattle.std.specs.Prelude.{◌≡◌};
-ghost use Rattle.jt_verify.specs.internal.Names.{name_of};
+ghost use Rattle.jt_verify.specs.Names.{name_of};
 ghost use Rattle.jt_verify.specs.declared.refusal.Refusal.TheVariants as refusals;
 
 use jt_image::Flaw;
@@ -21,8 +21,8 @@ pub enum Refusal {
     NoMemory,
 }
 
-// Returns the number, K1 to K9, and the name of a flaw.
-fn flaw_name(flaw: &Flaw) -> &'static str
+/// Returns the number, K1 to K9, and the name of a flaw.
+pub fn flaw_name(flaw: &Flaw) -> &'static str
     ensures { result.now ≡ name_of flaw.now }
 {
     match flaw {

@@ -1,13 +1,13 @@
 //! Compares the shape with which a path reaches a point and the shape that is known there.
 ghost use Rattle.std.specs.Prelude.{◌<◌, length};
 ghost use Rattle.std.specs.List.{AllByRecursion};
-ghost use Rattle.jt_verify.specs.internal.Arena.{shape_in, IsIn};
+ghost use Rattle.jt_verify.specs.Arena.{shape_in, IsIn};
 ghost use Rattle.jt_verify.specs.Differing.{Meets};
-ghost use Rattle.jt_verify.specs.internal.Working.{Arriving, path_in, table_in, IsInIf};
+ghost use Rattle.jt_verify.specs.Working.{Arriving, path_in, table_in, IsInIf};
 
 use crate::arena::Arena;
+use crate::halt::Refused;
 use crate::nodes::ShapeId;
-use crate::refusal::Refusal;
 use crate::verifier::WorkItem;
 use jt_image::{Flaw, MAX_ENTRIES};
 
@@ -38,20 +38,19 @@ fn compare_shapes(arena: &Arena, known: ShapeId, shape: ShapeId) -> Result<(), F
 pub(crate) fn is_known_at(
     arena: &Arena,
     shapes: &[Option<ShapeId>],
-    unit: usize,
     path: WorkItem,
-) -> Result<bool, Refusal>
+) -> Result<bool, Refused>
     requires point { path.point < length shapes.now }
     requires shape { IsIn arena.now path.shape }
     requires shapes { AllByRecursion (IsInIf arena.now) shapes.now }
-    ensures { Arriving (table_in arena.now shapes.now) unit (path_in arena.now path) result }
+    ensures { Arriving arena.now (table_in arena.now shapes.now) (path_in arena.now path) result }
 {
     let point = path.point;
     if arena.height(path.shape) > MAX_ENTRIES {
-        return Err(Refusal::Flaw {
-            flaw: Flaw::TooDeep,
-            unit,
+        return Err(Refused {
             point,
+            flaw: Flaw::TooDeep,
+            other: None,
         });
     }
     let Some(known) = shapes[point] else {
@@ -59,6 +58,10 @@ pub(crate) fn is_known_at(
     };
     match compare_shapes(arena, known, path.shape) {
         Ok(()) => Ok(true),
-        Err(flaw) => Err(Refusal::Flaw { flaw, unit, point }),
+        Err(flaw) => Err(Refused {
+            point,
+            flaw,
+            other: Some(path.shape),
+        }),
     }
 }

@@ -63,10 +63,13 @@ module _ (cenv : CompileEnv) (namespace : Namespace) where
   uses_broken n [] = None
   uses_broken n (s ∷ ss) = option_or (site_finding n s) (uses_broken n ss)
 
-  -- The first finding in a template.
+  -- The first finding in a template, by its name and its uses.
+  abbrev pub found_in : Text → List Site → Option Finding
+  found_in n ss =
+      option_or (uses_broken n ss) (option_map (finding_over n) (slice_get (lines_bound ss) max_bindings))
+
   abbrev pub template_broken : Template → Option Finding
-  template_broken t =
-      option_or (uses_broken t.name (body_uses t.body outside)) (option_map (finding_over t.name) (line_over t.body))
+  template_broken t = found_in t.name (body_uses t.body outside)
 
   abbrev pub templates_broken : List Template → Option Finding
   templates_broken [] = None

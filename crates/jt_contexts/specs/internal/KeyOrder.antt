@@ -1,22 +1,24 @@
--- Members in the order of their keys, in whatever order they came. Only private clauses cite this.
-use Rattle.std.specs.Prelude.{◌≡◌, ◌++◌, ℕ, List, [], ◌∷◌, length, Result, Ok, Err, String, string_bytes}
+-- Members in the order of their keys. Only private clauses cite this module.
+use Rattle.std.specs.Prelude.{◌≡◌, ◌++◌, ℕ, List, ◌∷◌, length, Result, Ok, Err, String, string_bytes}
 use Rattle.std.specs.BTreeMap.{insert_entry}
+use Rattle.std.specs.List.Sorted.{IsStrictlySortedBy}
+use Rattle.std.specs.Map.{keys_of}
 use Rattle.std.specs.String.{string_cmp}
 use Rattle.std.specs.declared.alloc.Global.{Global}
 use Rattle.jt_value.specs.declared.value.Value.{Value}
+use Rattle.jt_contexts.specs.declared.ordering.Members.{Members}
+use Rattle.jt_contexts.specs.declared.ordering.Members.TheVariants as members
 
 abbrev pub Entry : Type 0
 Entry = String Global × Value
 
--- The entries `es` with others inserted in order at the indices of their keys. An existing key
--- takes the new value.
-abbrev pub put_all : List Entry → List Entry → List Entry
-put_all es [] = es
-put_all es (x ∷ xs) = put_all (insert_entry string_cmp es x.0 x.1) xs
+-- The members that were read so far, in the order of their keys.
+abbrev pub entries_of : Members → List Entry
+entries_of (members.List es) = es.items
+entries_of (members.Map es) = es.entries
 
--- The entries in the order of their keys, each key with the last of its values.
-abbrev pub in_order : List Entry → List Entry
-in_order es = put_all [] es
+abbrev pub AreInOrder : Members → Type 0
+AreInOrder ms = IsStrictlySortedBy string_cmp (keys_of (entries_of ms))
 
 -- The key is at the index, and an insertion replaces the value there.
 pub record StandsAt (key : List ℕ) (es : List Entry) (index : ℕ) : Type 0 where

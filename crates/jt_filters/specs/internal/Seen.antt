@@ -2,17 +2,18 @@
 use Rattle.std.specs.Prelude.{◌≡◌, ℕ, ℤ, ◌+◌, Bool, true, List, [], ◌∷◌, Option, Some, None, Vec}
 use Rattle.std.specs.declared.alloc.Global.{Global}
 use Rattle.std.specs.BTreeMap.{BTreeMap, get_by}
-use Rattle.std.specs.BTreeSet.{BTreeSet, contains}
 use Rattle.std.specs.Cmp.Lexicographic.{slice_cmp}
 use Rattle.std.specs.Option.{IsSome, IfSome}
-use Rattle.std.specs.Ordering.{int_cmp, nat_cmp}
+use Rattle.std.specs.Ordering.{nat_cmp}
 use Rattle.jt_value.specs.Equality.{truth_number}
 use Rattle.jt_value.specs.Payload.{joined_items}
 use Rattle.jt_value.specs.Tree.{Tree, truth_value, number, Items, no_items, item}
 use Rattle.jt_filters.specs.declared.unique.SeenKeys.{SeenKeys}
 use Rattle.jt_filters.specs.declared.operand.Operand.{Operand}
 use Rattle.jt_filters.specs.internal.Codes.{item_code}
+use Rattle.jt_filters.specs.declared.seen_numbers.SeenNumbers.{SeenNumbers}
 use Rattle.jt_filters.specs.internal.Operands.{tree_of, front}
+use Rattle.jt_filters.specs.internal.NumberEntries.{was_seen}
 use Rattle.jt_filter_semantics.specs.Ordering.{alike, has_alike, unseen}
 
 -- Operands as items.
@@ -30,12 +31,12 @@ number_like (truth_value b) = Some (truth_number b)
 number_like (number z) = Some z
 number_like t = None
 
--- True if a set has a number.
-abbrev pub has_number : BTreeSet ℤ → ℤ → Bool
-has_number s z = contains int_cmp s z
+-- True if a number was seen.
+abbrev pub has_number : SeenNumbers → ℤ → Bool
+has_number s z = was_seen s.entries.items z
 
--- A set of numbers knows some items if it has exactly the numbers that are like one of them.
-abbrev pub KnowsNumbers : BTreeSet ℤ → Items → Type 0
+-- The seen numbers know some items if they are exactly the numbers that are like one of them.
+abbrev pub KnowsNumbers : SeenNumbers → Items → Type 0
 KnowsNumbers s ts = (z : ℤ) → has_number s z ≡ has_alike (number z) ts
 
 -- A map of codes knows some items. If an item that equals no number is like one of them, the map

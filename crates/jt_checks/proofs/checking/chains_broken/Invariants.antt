@@ -6,5 +6,5 @@ use Rattle.jt_checks.proofs.checking.chains_broken.Given as goal
 
 abbrev pub invariant-loop-namespace : goal.invariant-loop-namespace
 invariant-loop-namespace l =
-    broken.chains_broken (cenv_in l.chain) (drop l.namespace (chain_view l.chain).order)
-    ≡ broken.chains_broken (cenv_in l.chain) (chain_view l.chain).order
+    broken.chains_broken (cenv_in l.facts.chain.now) (drop l.namespace (chain_view l.facts.chain.now).order)
+    ≡ broken.chains_broken (cenv_in l.facts.chain.now) (chain_view l.facts.chain.now).order

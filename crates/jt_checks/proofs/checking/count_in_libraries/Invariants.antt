@@ -7,6 +7,7 @@ use Rattle.jt_checks.proofs.checking.count_in_libraries.Given as goal
 abbrev pub invariant-loop-library : goal.invariant-loop-library
 invariant-loop-library l = record {
   within : l.count < 2 ^ 64;
-  left : min (l.count + libraries_counted (cenv_in l.chain) (texts (drop l.library-index l.libraries))) (2 ^ 64 - 1)
-      ≡ min (libraries_counted (cenv_in l.chain) (texts l.libraries)) (2 ^ 64 - 1);
+  left : min (l.count + libraries_counted (cenv_in l.facts.chain.now) (texts (drop l.library-index l.libraries)))
+      (2 ^ 64 - 1)
+      ≡ min (libraries_counted (cenv_in l.facts.chain.now) (texts l.libraries)) (2 ^ 64 - 1);
 }

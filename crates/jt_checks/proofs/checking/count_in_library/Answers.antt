@@ -1,9 +1,6 @@
-use Rattle.std.proofs.Common.{length, sym, ap, ◌∙◌}
 use Rattle.jt_checks.specs.internal.ScopeLookup.{cenv_in}
-use Rattle.jt_checks.proofs.LoopSteps.{texts_length}
 use Rattle.jt_checks.proofs.checking.count_in_library.Goals as goal
 
 pub returns : goal.returns
 unfolding cenv_in
-returns c =
-    c.len.ensures.len ∙ sym (texts_length c.in_ok-library_names.field-0.keys) ∙ ap length c.in_ok-library_names.ensures
+returns c = c.count_in_library.ensures

@@ -16,7 +16,7 @@ use Rattle.jt_checks.proofs.checking.find_broken.Goals as goal
 pub returns-in-Some-clause-found : goal.returns-in-Some-clause-found
 unfolding cenv_in
 returns-in-Some-clause-found c =
-    let seen = chain_view c.args.chain.now in
+    let seen = chain_view c.args.facts.now.chain.now in
     let f = finding_view c.in-Some.finding in
     let found : broken.chains_broken (cenv_of seen) seen.order ≡ Some f
     = sym c.in_ok-finding.ensures ∙ ap (option_map finding_view) c.in-Some.is in
@@ -26,14 +26,14 @@ returns-in-Some-clause-found c =
 pub returns-in-Some-clause-holds : goal.returns-in-Some-clause-holds
 unfolding cenv_in
 returns-in-Some-clause-holds c =
-    let seen = chain_view c.args.chain.now in
+    let seen = chain_view c.args.facts.now.chain.now in
     inl (chains_hold (cenv_of seen) seen.order (finding_view c.in-Some.finding)
     (sym c.in_ok-finding.ensures ∙ ap (option_map finding_view) c.in-Some.is))
 
 pub returns-then-branch-clause-kept : goal.returns-then-branch-clause-kept
 unfolding cenv_in
 returns-then-branch-clause-kept c =
-    let seen = chain_view c.args.chain.now in
+    let seen = chain_view c.args.facts.now.chain.now in
     none_is_broken (cenv_of seen) seen.order
     (sym c.in_ok-finding.ensures ∙ ap (option_map finding_view) c.in_default.is)
     (few_enough c.in_ok-has_few_names.field-0 (names_counted (cenv_of seen) seen.order) 65535
@@ -42,14 +42,14 @@ returns-then-branch-clause-kept c =
 pub returns-clause-found : goal.returns-clause-found
 unfolding cenv_in
 returns-clause-found c =
-    let seen = chain_view c.args.chain.now in
+    let seen = chain_view c.args.facts.now.chain.now in
     inr (over c.in_ok-has_few_names.field-0 (names_counted (cenv_of seen) seen.order) 65535
     c.in_ok-has_few_names.ensures c.if-branch.false)
 
 pub returns-clause-holds : goal.returns-clause-holds
 unfolding cenv_in
 returns-clause-holds c =
-    let seen = chain_view c.args.chain.now in
+    let seen = chain_view c.args.facts.now.chain.now in
     inr (record {
       rule = refl;
       broken =
@@ -57,7 +57,7 @@ returns-clause-holds c =
           c.in_ok-has_few_names.ensures c.if-branch.false;
       template =
           c.as_str.ensures.value
-          ∙ name_seen c.args.chain.now 0 c.index.result.now c.args.chain.now.some c.index.ensures;
+          ∙ name_seen c.args.facts.now.chain.now 0 c.index.result.now c.args.facts.now.chain.now.some c.index.ensures;
       line = refl;
       subject = refl;
     })

@@ -9,7 +9,7 @@ use Rattle.jt_checks.proofs.checking.has_few_names.Goals as goal
 pub returns-in_default : goal.returns-in_default
 unfolding namespace_in
 returns-in_default c =
-    let chain = c.args.chain.now in
+    let chain = c.args.facts.now.chain.now in
     let order = (chain_view chain).order in
     let i = c.loop-namespace.namespace in
     let count = names_of (cenv_in chain) (namespace_at order i) in
@@ -24,7 +24,7 @@ returns-in_default c =
 pub loop-namespace-preserved : goal.loop-namespace-preserved
 unfolding namespace_in
 loop-namespace-preserved c =
-    let chain = c.args.chain.now in
+    let chain = c.args.facts.now.chain.now in
     let order = (chain_view chain).order in
     let i = c.loop-namespace.namespace in
     let count = names_of (cenv_in chain) (namespace_at order i) in

@@ -7,6 +7,6 @@ use Rattle.jt_checks.proofs.checking.libraries.Goals as goal
 pub returns : goal.returns
 unfolding cenv_in namespace_in
 returns c =
-    IfOk-weaker c.list_of.result _ _ (λ v p. ap texts p ∙ c.in_ok-in_order.ensures
-    ∙ ap (λ ns. ascending (texts ns)) c.deref.ensures.value ∙ ap ascending (c.in_ok-found.ensures.there c.requires))
-    c.list_of.ensures
+    IfOk-weaker c.in_order.result _ _ (λ v p. p ∙ ap (λ ns. ascending (texts ns)) c.deref.ensures.value
+    ∙ ap ascending (c.in_ok-found.ensures.there c.requires))
+    c.in_order.ensures

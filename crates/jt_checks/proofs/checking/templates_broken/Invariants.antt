@@ -1,13 +1,13 @@
-use Rattle.std.proofs.Common.{◌≡◌, drop, map}
-use Rattle.jt_chains.specs.Layers.{layer_view}
+use Rattle.std.proofs.Common.{◌≡◌, drop}
+use Rattle.jt_chains.specs.Along.{layers_along}
 use Rattle.jt_chains.specs.View.{chain_view}
 use Rattle.jt_checks.specs.internal.UseRules as broken
 use Rattle.jt_checks.specs.internal.ScopeView.{its_cenv, its_namespace}
 use Rattle.jt_checks.proofs.checking.templates_broken.Given as goal
 
-abbrev pub invariant-loop-layer : goal.invariant-loop-layer
-invariant-loop-layer l =
+abbrev pub invariant-loop-template : goal.invariant-loop-template
+invariant-loop-template l =
     broken.templates_broken (its_cenv l.scope) (its_namespace l.scope)
-    (map (layer_view (chain_view l.scope.chain.now).templates) (drop l.layer-index l.layer-items))
+    (layers_along (chain_view l.scope.chain.now).templates (drop l.template-index l.template-items))
     ≡ broken.templates_broken (its_cenv l.scope) (its_namespace l.scope)
-    (map (layer_view (chain_view l.scope.chain.now).templates) l.layer-items)
+    (layers_along (chain_view l.scope.chain.now).templates l.template-items)

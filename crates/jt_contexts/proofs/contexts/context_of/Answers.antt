@@ -1,5 +1,5 @@
 use Rattle.std.proofs.Common.{◌≡◌, ◌∙◌, ◌++◌, [], ◌∷◌, Some, ap, append_assoc, map, string_bytes, string_cmp, subst}
-use Rattle.std.proofs.Common.{sym, refl, append-nil, arith, rules}
+use Rattle.std.proofs.Common.{sym, refl, arith, rules}
 use Rattle.std.specs.List.Sorted.{IsStrictlySortedBy}
 use Rattle.std.specs.Map.{keys_of}
 use Rattle.std.proofs.lemmas.Result.{err_from_is_err_and}

@@ -8,14 +8,14 @@ use Rattle.json.specs.Token.{Token}
 use Rattle.json.specs.Json.{parse_map, after_end_array, read_key, items, members, value}
 use Rattle.json.specs.Reads.{token_of}
 use Rattle.json.proofs.Grammar.{value_is, value-begin_array, value-begin_object, read_key-shorter}
-use Rattle.serde_json.specs.Data.{Num, Data, null, boolean, number, string, array, object, no_items, no_members, put}
+use Rattle.serde_json.specs.Data.{Num, Data, null, boolean, number, string, array, object, no_members, put}
 use Rattle.serde_json.specs.Read.{of_json, number_of, converted}
 use Rattle.jt_value.specs.Tree as tree
 use Rattle.jt_value.specs.Pairs.{pairs}
 use Rattle.jt_value.specs.View.{view}
 use Rattle.jt_contexts.specs.Json.{value_of, pairs_in}
-use Rattle.jt_contexts.specs.internal.KeyOrder.{in_order}
-use Rattle.jt_contexts.proofs.KeyOrder.{is_in_order, put_all-more}
+use Rattle.jt_contexts.specs.internal.KeyOrder.{entries_of}
+use Rattle.jt_contexts.proofs.KeyOrder.{nothing_in_order}
 use Rattle.jt_contexts.proofs.MemberValues.{one_more}
 use Rattle.jt_contexts.proofs.ParseSteps.{all_items, before, converted-array, converted-object, entries_in, item_read}
 use Rattle.jt_contexts.proofs.ParseSteps.{items_over, member_read, members_over, none_before, one_more_item, pairs-put}
@@ -143,7 +143,9 @@ read_members-members-init t c = record {
   enough = omega arith;
   read = refl;
   shorter = omega arith;
-  are = ap (λ es. Some (pairs (in_order es))) (sym c.in_ok-found.ensures.items);
+  are = ap (λ es. Some (pairs es)) (sym c.in_ok-found.ensures);
+  ordered =
+      subst (λ es. IsStrictlySortedBy string_cmp (keys_of es)) (sym c.in_ok-found.ensures) nothing_in_order;
 }
 
 pub read_members-members-preserved : goal.read_members-members-preserved
@@ -162,7 +164,6 @@ read_members-members-preserved t c =
     let lesser = done.shorter in
     let d = done.ok.spelt in
     let copied : string_bytes c.in_ok-key.key ≡ k = search rules in
-    let now = ap in_order c.in_ok-push.ensures.items ∙ put_all-more [] l.found.items (c.in_ok-key.key, v) in
     record {
       so_far = put k d old;
       turns = n - 1;
@@ -173,8 +174,9 @@ read_members-members-preserved t c =
       shorter = omega (arith, l.invariant.shorter);
       are =
           ap (λ name. pairs_in (put name d old)) (sym copied)
-          ∙ pairs-put old (in_order l.found.items) c.in_ok-key.key d v l.invariant.are done.ok.is
-          ∙ ap (λ es. Some (pairs es)) (sym now);
+          ∙ pairs-put old (entries_of l.found) c.in_ok-key.key d v l.invariant.are done.ok.is
+          ∙ ap (λ es. Some (pairs es)) (sym c.in_ok-put.ensures.put);
+      ordered = c.in_ok-put.ensures.ordered;
     }
 
 pub read_members-returns-clause-ok : goal.read_members-returns-clause-ok
@@ -183,4 +185,4 @@ read_members-returns-clause-ok t c = search (arith, rules, members_over)
 pub read_members-returns-clause-ordered : goal.read_members-returns-clause-ordered
 read_members-returns-clause-ordered t c =
     subst (λ es. IsStrictlySortedBy string_cmp (keys_of es)) (sym c.in_ok-members.ensures)
-    (is_in_order c.members.found.items)
+    c.members.invariant.ordered

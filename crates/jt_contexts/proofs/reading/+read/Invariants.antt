@@ -6,7 +6,7 @@ use Rattle.jt_value.specs.Pairs.{pairs}
 use Rattle.jt_value.specs.View.{view}
 use Rattle.jt_contexts.specs.Json.{value_of, pairs_in}
 use Rattle.jt_contexts.proofs.ParseSteps.{before}
-use Rattle.jt_contexts.specs.internal.KeyOrder.{in_order}
+use Rattle.jt_contexts.specs.internal.KeyOrder.{AreInOrder, entries_of}
 use Rattle.jt_contexts.proofs.reading.+read.Given as goal
 
 abbrev pub decreases-read : goal.decreases-read
@@ -42,7 +42,8 @@ invariant-read_members-members l = record {
   read : converted (λ ms. of_members ms no_members) (members (value l.depth) (length l.initial.reader) l.initial.reader)
       ≡ converted (λ ms. of_members ms so_far) (members (value l.depth) turns l.reader);
   shorter : length l.reader ≤ length l.initial.reader;
-  are : pairs_in so_far ≡ Some (pairs (in_order l.found.items));
+  are : pairs_in so_far ≡ Some (pairs (entries_of l.found));
+  ordered : AreInOrder l.found;
 }
 
 abbrev pub decreases-read_members-members : goal.decreases-read_members-members

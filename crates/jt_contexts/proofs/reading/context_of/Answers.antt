@@ -1,8 +1,8 @@
-use Rattle.std.proofs.Common.{◌≡◌, ◌∙◌, ◌++◌, [], ◌∷◌, ap, append_assoc, append-nil, string_bytes, string_cmp, subst}
+use Rattle.std.proofs.Common.{◌≡◌, ◌∙◌, ◌++◌, [], ◌∷◌, ap, append_assoc, string_bytes, string_cmp, subst}
 use Rattle.std.proofs.Common.{sym, arith, rules}
 use Rattle.std.specs.List.Sorted.{IsStrictlySortedBy}
 use Rattle.std.specs.Map.{keys_of}
-use Rattle.jt_value.specs.Pairs.{Pairs, pairs, put}
+use Rattle.jt_value.specs.Pairs.{Pairs, put}
 use Rattle.jt_value.specs.View.{view}
 use Rattle.jt_contexts.proofs.MemberValues.{nil_of, unless_failed}
 use Rattle.jt_contexts.proofs.ParseSteps.{Entry, put_last}

@@ -1,27 +1,30 @@
-use Rattle.std.proofs.Common.{◌≡◌, List, true, ◌+◌, drop, sym, ap, ◌∙◌, Vec, Global, not, get_or, ◌<◌, length, arith}
+use Rattle.std.proofs.Common.{◌≡◌, List, [], true, ◌+◌, drop, sym, ap}
+use Rattle.std.proofs.Common.{◌∙◌, Vec, Global, not, get_or, ◌<◌, length, arith}
 use Rattle.std.proofs.lemmas.Result.{IfOk-weaker}
 use Rattle.std.specs.Prelude.{flat_map}
 use Rattle.std.specs.Option.{is_none}
 use Rattle.std.proofs.lemmas.List.{at_drop_all, length-map}
 use denote.Ref.{Bor}
 use Rattle.jt_ast.specs.Expressions.{Text}
-use Rattle.jt_ast.specs.Texts.{all_inserted, texts}
+use Rattle.jt_ast.specs.Texts.{all_inserted, ascending, texts}
 use Rattle.jt_chains.specs.Chain.{a_chain, templates}
 use Rattle.jt_chains.specs.Includes.{with_source}
 use Rattle.jt_chains.specs.Needs.{Need, needed, needs_view}
 use Rattle.jt_chains.specs.TemplateFiles.{namespace_view}
+use Rattle.jt_chains.specs.Uses.{own_names}
 use Rattle.jt_chains.specs.View.{namespace_in, its_sources}
 use Rattle.jt_chains.specs.declared.include_tags.NeededTemplate.{NeededTemplate}
 use Rattle.jt_chains.proofs.IncludeCollection.{by_templates}
 use Rattle.jt_semantics.specs.Layout.{names_in}
 use Rattle.jt_layout.specs.internal.Namespaces.{its_cenv, its_order}
+use Rattle.jt_names.proofs.SortedNames.{ascending_inserted}
 use Rattle.jt_layout.proofs.NamesInOrder.{chain_turn, none_turn, names_here}
 use Rattle.jt_layout.proofs.collected.names_of_chain.Invariants.{names_of}
 use Rattle.jt_layout.proofs.collected.names_of_chain.Goals as goal
 
 pub loop-include-preserved-then-is_none : goal.loop-include-preserved-then-is_none
 loop-include-preserved-then-is_none c =
-    let chain = c.args.chain.now in
+    let chain = c.args.facts.now.chain.now in
     let N : Text → List Text =
     (λ x. names_in (its_cenv chain) (drop (c.args.namespace + 1) (its_order chain)) (a_chain x)) in
     let l = c.loop-include in
@@ -33,7 +36,7 @@ loop-include-preserved-then-is_none c =
 
 pub loop-include-preserved : goal.loop-include-preserved
 loop-include-preserved c =
-    let chain = c.args.chain.now in
+    let chain = c.args.facts.now.chain.now in
     let N : Text → List Text =
     (λ x. names_in (its_cenv chain) (drop (c.args.namespace + 1) (its_order chain)) (a_chain x)) in
     let l = c.loop-include in
@@ -46,14 +49,20 @@ loop-include-preserved c =
 
 pub returns : goal.returns
 returns c =
-    let chain = c.args.chain.now in
+    let chain = c.args.facts.now.chain.now in
     let N : Text → List Text =
     (λ x. names_in (its_cenv chain) (drop (c.args.namespace + 1) (its_order chain)) (a_chain x)) in
     let l = c.loop-include in
     let ks = c.deref-include-items.result.now in
-    let first = texts c.in_ok-names.names.keys in
+    let first = texts c.add_names.new.names.keys in
     let lt : c.args.namespace < length (its_order chain) =
     omega (arith, c.requires.stands, length-map chain.namespaces.items namespace_view) in
+    let names = own_names (its_sources chain) (namespace_in chain c.args.namespace) in
+    let own : first ≡ ascending names =
+    c.in_ok-add_names.ensures
+    ∙ ap (λ (ks : List (Bor Text)). all_inserted (texts c.deref.result.now) (texts ks)) c.new-names.ensures.empty
+    ∙ ap (λ (zs : List Text). all_inserted zs []) (ap texts c.deref.ensures.value ∙ c.at.ensures.names)
+    ∙ ascending_inserted names [] in
     let ended = at_drop_all
     (λ (z : List NeededTemplate). all_inserted (names_of chain c.args.namespace z) (texts l.names.keys)) ks
     l.include-index
@@ -65,7 +74,7 @@ returns c =
     ∙ ap (λ (xs : List Text). all_inserted (flat_map N (with_source (its_sources chain) xs)) first)
     (by_templates true (templates (its_sources chain) (namespace_in chain c.args.namespace)))
     ∙ ap (all_inserted (flat_map N (with_source (its_sources chain) _)))
-    (c.in_ok-names.ensures.there c.requires.stands) in
+    own in
     IfOk-weaker c.list_of.result (λ (v : Vec (Bor Text) Global). v.items ≡ l.names.keys) _
     (λ v p. names_here (its_cenv chain) (its_order chain) c.args.namespace lt (texts v.items) (ap texts p ∙ whole))
     c.list_of.ensures

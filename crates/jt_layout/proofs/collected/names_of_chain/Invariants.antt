@@ -20,5 +20,5 @@ names_of c namespace ns =
 
 abbrev pub invariant-loop-include : goal.invariant-loop-include
 invariant-loop-include l =
-    all_inserted (names_of l.chain l.namespace (drop l.include-index l.include-items)) (texts l.names.keys)
-    ≡ all_inserted (names_of l.chain l.namespace l.include-items) (texts l.initial.names.keys)
+    all_inserted (names_of l.facts.chain.now l.namespace (drop l.include-index l.include-items)) (texts l.names.keys)
+    ≡ all_inserted (names_of l.facts.chain.now l.namespace l.include-items) (texts l.initial.names.keys)

@@ -11,13 +11,14 @@ use Rattle.jt_layout.specs.NamespaceLayout.{IsLaid}
 use Rattle.jt_layout.specs.internal.Indices.{names_at}
 use Rattle.jt_layout.specs.declared.namespace_layout.NamespaceLayout.{NamespaceLayout}
 use Rattle.jt_chains.proofs.TemplatesByIndex.{name_of_namespace}
+use Rattle.jt_names.proofs.EachItem.{each_more}
 use Rattle.jt_layout.proofs.OffsetSteps.{first_front}
-use Rattle.jt_layout.proofs.LayoutCorrect.{each_more, listed_left, left_turn, names_handed}
+use Rattle.jt_layout.proofs.LayoutCorrect.{listed_left, left_turn, names_handed}
 use Rattle.jt_layout.proofs.layout.lay_chains.Goals as goal
 
 pub lay_chain-requires : goal.lay_chain-requires
 lay_chain-requires c =
-    let a = c.args.chain.now in
+    let a = c.args.facts.now.chain.now in
     let l = c.loop-namespace in
     let lt : l.namespace < length a.namespaces.items =
     omega (arith, c.loop-namespace-test.true, c.len-namespace-end.ensures, a.namespaces.ok.0) in
@@ -25,6 +26,7 @@ lay_chain-requires c =
     let is : namespace_in a l.namespace ≡ namespace_view k =
     name_of_namespace a.namespaces.items l.namespace k lt c.index.ensures in
     record {
+      known = c.requires.known;
       stands = lt;
       named = c.take-names.ensures.taken
           ∙ names_handed (its_cenv a) (its_order a) k.is_library (string_bytes k.name) (namespace_in a l.namespace)
@@ -39,7 +41,7 @@ loop-namespace-init c = search (arith, rules, first_front)
 
 pub loop-namespace-preserved : goal.loop-namespace-preserved
 loop-namespace-preserved c =
-    let a = c.args.chain.now in
+    let a = c.args.facts.now.chain.now in
     let l = c.loop-namespace in
     let W = its_cenv a in
     let O = its_order a in
@@ -70,7 +72,7 @@ loop-namespace-preserved c =
 
 pub returns-clause-units : goal.returns-clause-units
 returns-clause-units c =
-    let a = c.args.chain.now in
+    let a = c.args.facts.now.chain.now in
     let l = c.loop-namespace in
     let W = its_cenv a in
     let le : length (its_order a) ≤ l.namespace = omega (

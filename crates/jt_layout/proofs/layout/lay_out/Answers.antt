@@ -11,15 +11,15 @@ use Rattle.jt_layout.proofs.FirstOccurrences.{is_namespace}
 use Rattle.jt_layout.proofs.LayoutCorrect.{sources_laid}
 use Rattle.jt_layout.proofs.layout.lay_out.Goals as goal
 
-pub gather-requires : goal.gather-requires
-gather-requires c = search (arith, rules, string_bytes, sources_laid)
+pub gather-requires-clause-sources : goal.gather-requires-clause-sources
+gather-requires-clause-sources c = search (arith, rules, string_bytes, sources_laid)
 
-pub lay_chains-requires : goal.lay_chains-requires
-lay_chains-requires c = λ x. c.in_ok-collected.ensures x
+pub lay_chains-requires-clause-named : goal.lay_chains-requires-clause-named
+lay_chains-requires-clause-named c = λ x. c.in_ok-collected.ensures x
 
 pub returns-clause-namespace_layout : goal.returns-clause-namespace_layout
 returns-clause-namespace_layout c =
-    let a = c.args.chain.now in
+    let a = c.args.facts.now.chain.now in
     let count = c.in_ok-tables.ensures.all in
     let names = ap texts c.deref-2.ensures.value ∙ c.in_ok-template_names.ensures
     ∙ ap (map (λ (p : TemplateFile). string_bytes p.name)) c.deref.ensures.value in

@@ -1,8 +1,6 @@
-use Rattle.std.proofs.Common.{◌≡◌, ◌∙◌, ℕ, ◌-◌, ◌<◌, refl, ap, arith, List, sym, subst}
-use Rattle.jt_value.specs.declared.value.Value.{Value}
+use Rattle.std.proofs.Common.{◌≡◌, ◌∙◌, ℕ, ◌-◌, ◌<◌, refl, ap, arith}
 use Rattle.jt_image.specs.Run.{next, Goes, Ends, after}
 use Rattle.jt_machine.specs.Growing.{ComesToGrow}
-use Rattle.jt_machine.specs.internal.ConstantCache.{AreCached}
 use Rattle.jt_machine.specs.View.{config_view, outcome_view}
 use Rattle.jt_machine.proofs.FastPathCorrect.{slice_gone, slice_on, underway_gone}
 use Rattle.jt_machine.proofs.DrainedOutput.{on_err}
@@ -17,9 +15,7 @@ steps-init g c =
       within = omega arith;
       so_far = ap (λ (n : ℕ). after (g.C.Code.code c.args.code.now) n (config_view c.args.state.now)) none;
       reached = c.requires.reached;
-      made =
-          subst (λ (es : List (ℕ × Value)). AreCached (g.C.Code.code c.args.code.now) es) (sym c.new-made.ensures.items)
-          tt;
+      made = c.requires.made;
     }
 
 pub step-requires-clause-not_wrong : goal.step-requires-clause-not_wrong

@@ -1,4 +1,4 @@
-use Rattle.std.proofs.Common.{ap, rules, ◌∙◌, string_bytes}
+use Rattle.std.proofs.Common.{ap, ◌∙◌}
 use Rattle.jt_value.specs.View.{view, entries_view}
 use Rattle.jt_image.specs.Step.{put_entry}
 use Rattle.jt_machine.proofs.MapEntries.{inserted}

@@ -3,7 +3,7 @@ use Rattle.jt_value.specs.ContextView.{pairs_of}
 use Rattle.jt_value.specs.declared.value.Value.{Value}
 use Rattle.jt_image.specs.Config.{Caller}
 use Rattle.jt_image.specs.Run.{next, Goes, Ends, passed, start}
-use Rattle.jt_machine.specs.internal.ConstantCache.{AreCached}
+use Rattle.jt_machine.specs.ConstantCache.{AreCached}
 use Rattle.jt_machine.specs.View.{budget_view, config_view, outcome_view}
 use Rattle.jt_machine.specs.Growing.{ComesToGrow}
 use Rattle.jt_machine.proofs.DrainedOutput.{on_err}

@@ -5,10 +5,10 @@ use Rattle.jt_value.specs.declared.value.Value.{Value}
 use Rattle.jt_image.specs.Config.{Caller, Config}
 use Rattle.jt_image.specs.Run.{next, start, Goes, Ends, passed}
 use Rattle.jt_machine.specs.Emitting.{emitted_by}
-use Rattle.jt_machine.specs.internal.ConstantCache.{AreCached}
+use Rattle.jt_machine.specs.ConstantCache.{AreCached}
 use Rattle.jt_machine.specs.View.{budget_view, config_view, outcome_view}
-use Rattle.jt_machine.proofs.FastPathCorrect.{sent_gone}
-use Rattle.jt_machine.proofs.DrainedOutput.{nothing_yet, was_sent, went_on, whole_run, cut_short, text_is, on_err}
+use Rattle.jt_machine.proofs.FastPathCorrect.{found_same, gone_sent, so_far_gone}
+use Rattle.jt_machine.proofs.DrainedOutput.{nothing_yet, went_on, whole_run, cut_short, text_is, on_err}
 use Rattle.jt_machine.proofs.AllocationPoints.{if_err_given, so_far_grows}
 use Rattle.jt_machine.proofs.writing.write_code.Goals as goal
 
@@ -28,27 +28,28 @@ steps-init g c =
           tt;
     }
 
+pub step-requires-clause-prefetched : goal.step-requires-clause-prefetched
+step-requires-clause-prefetched g c =
+    found_same (g.C.Code.code c.args.code.now) c.run_fast.new.prefetched c.run_fast.new.state.unit
+    c.run_fast.new.state.point c.send.new.state.unit c.send.new.state.point
+    (ap (λ (y : Config). y.machine.unit) c.in_ok-send.ensures.emptied)
+    (ap (λ (y : Config). y.machine.point) c.in_ok-send.ensures.emptied) c.run_fast.ensures.prefetched
+
 pub step-requires-clause-not_wrong : goal.step-requires-clause-not_wrong
 step-requires-clause-not_wrong g c =
-    (sent_gone c.code_laws.ensures (g.C.Code.code c.args.code.now) c.requires.whole c.requires.typed
+    (gone_sent c.code_laws.ensures (g.C.Code.code c.args.code.now) c.requires.whole c.requires.typed
     (pairs_of c.args.context.now) (budget_view c.args.budget) (g.W.Sink.taken c.args.sink.now)
-    (g.W.Sink.taken c.send.new.sink) c.send.new.state c.run_fast.new.state
-    (was_sent c.code_laws.ensures (g.C.Code.code c.args.code.now) c.requires.whole c.requires.typed
-    (pairs_of c.args.context.now) (budget_view c.args.budget) (g.W.Sink.taken c.args.sink.now)
-    (g.W.Sink.taken c.steps.sink) (g.W.Sink.taken c.send.new.sink) (config_view c.steps.state)
-    (config_view c.send.new.state) tt c.steps.invariant.so_far c.in_ok-send.ensures.put c.in_ok-send.ensures.emptied)
-    c.run_fast.ensures.gone).sound.not_wrong
+    (g.W.Sink.taken c.steps.sink) (g.W.Sink.taken c.send.new.sink) c.steps.state c.run_fast.new.state
+    (config_view c.send.new.state) tt c.steps.invariant.so_far c.run_fast.ensures.gone c.in_ok-send.ensures.put
+    c.in_ok-send.ensures.emptied).sound.not_wrong
 
 pub step-requires-clause-bounded : goal.step-requires-clause-bounded
 step-requires-clause-bounded g c =
-    let s = (sent_gone c.code_laws.ensures (g.C.Code.code c.args.code.now) c.requires.whole c.requires.typed
+    let s = (gone_sent c.code_laws.ensures (g.C.Code.code c.args.code.now) c.requires.whole c.requires.typed
     (pairs_of c.args.context.now) (budget_view c.args.budget) (g.W.Sink.taken c.args.sink.now)
-    (g.W.Sink.taken c.send.new.sink) c.send.new.state c.run_fast.new.state
-    (was_sent c.code_laws.ensures (g.C.Code.code c.args.code.now) c.requires.whole c.requires.typed
-    (pairs_of c.args.context.now) (budget_view c.args.budget) (g.W.Sink.taken c.args.sink.now)
-    (g.W.Sink.taken c.steps.sink) (g.W.Sink.taken c.send.new.sink) (config_view c.steps.state)
-    (config_view c.send.new.state) tt c.steps.invariant.so_far c.in_ok-send.ensures.put c.in_ok-send.ensures.emptied)
-    c.run_fast.ensures.gone) in
+    (g.W.Sink.taken c.steps.sink) (g.W.Sink.taken c.send.new.sink) c.steps.state c.run_fast.new.state
+    (config_view c.send.new.state) tt c.steps.invariant.so_far c.run_fast.ensures.gone c.in_ok-send.ensures.put
+    c.in_ok-send.ensures.emptied) in
     record { sized = s.sound.sized; few = s.sound.few }
 
 pub step-requires-clause-depth : goal.step-requires-clause-depth
@@ -67,18 +68,16 @@ steps-preserved g c =
     let k = g.C.Code.code c.args.code.now in
     let x = pairs_of c.args.context.now in
     let b = budget_view c.args.budget in
-    let s = sent_gone c.code_laws.ensures k c.requires.whole c.requires.typed x b (g.W.Sink.taken c.args.sink.now)
-    (g.W.Sink.taken c.send.new.sink) c.send.new.state c.run_fast.new.state
-    (was_sent c.code_laws.ensures k c.requires.whole c.requires.typed x b (g.W.Sink.taken c.args.sink.now)
-    (g.W.Sink.taken c.steps.sink) (g.W.Sink.taken c.send.new.sink) (config_view c.steps.state)
-    (config_view c.send.new.state) tt c.steps.invariant.so_far c.in_ok-send.ensures.put c.in_ok-send.ensures.emptied)
-    c.run_fast.ensures.gone in
-    let e : next k (config_view c.run_fast.new.state) ≡ Goes (config_view c.step.new.state) =
+    let s = gone_sent c.code_laws.ensures k c.requires.whole c.requires.typed x b (g.W.Sink.taken c.args.sink.now)
+    (g.W.Sink.taken c.steps.sink) (g.W.Sink.taken c.send.new.sink) c.steps.state c.run_fast.new.state
+    (config_view c.send.new.state) tt c.steps.invariant.so_far c.run_fast.ensures.gone c.in_ok-send.ensures.put
+    c.in_ok-send.ensures.emptied in
+    let e : next k (config_view c.send.new.state) ≡ Goes (config_view c.step.new.state) =
     c.in_ok-outcome.ensures.next ∙ rw c.in_default-2.is refl in
     record {
       so_far =
           went_on k x b (g.W.Sink.taken c.args.sink.now) (g.W.Sink.taken c.send.new.sink)
-          (config_view c.run_fast.new.state) (config_view c.step.new.state) tt s.so_far e;
+          (config_view c.send.new.state) (config_view c.step.new.state) tt s.so_far e;
       works = c.in_ok-send.ensures.fails;
       depth =
           omega (
@@ -98,13 +97,11 @@ steps-smaller g c =
     let k = g.C.Code.code c.args.code.now in
     let x = pairs_of c.args.context.now in
     let b = budget_view c.args.budget in
-    let s = sent_gone c.code_laws.ensures k c.requires.whole c.requires.typed x b (g.W.Sink.taken c.args.sink.now)
-    (g.W.Sink.taken c.send.new.sink) c.send.new.state c.run_fast.new.state
-    (was_sent c.code_laws.ensures k c.requires.whole c.requires.typed x b (g.W.Sink.taken c.args.sink.now)
-    (g.W.Sink.taken c.steps.sink) (g.W.Sink.taken c.send.new.sink) (config_view c.steps.state)
-    (config_view c.send.new.state) tt c.steps.invariant.so_far c.in_ok-send.ensures.put c.in_ok-send.ensures.emptied)
-    c.run_fast.ensures.gone in
-    let e : next k (config_view c.run_fast.new.state) ≡ Goes (config_view c.step.new.state) =
+    let s = gone_sent c.code_laws.ensures k c.requires.whole c.requires.typed x b (g.W.Sink.taken c.args.sink.now)
+    (g.W.Sink.taken c.steps.sink) (g.W.Sink.taken c.send.new.sink) c.steps.state c.run_fast.new.state
+    (config_view c.send.new.state) tt c.steps.invariant.so_far c.run_fast.ensures.gone c.in_ok-send.ensures.put
+    c.in_ok-send.ensures.emptied in
+    let e : next k (config_view c.send.new.state) ≡ Goes (config_view c.step.new.state) =
     c.in_ok-outcome.ensures.next ∙ rw c.in_default-2.is refl in
     omega (
       arith,
@@ -134,7 +131,9 @@ returns-in_err-send-clause-begun g c =
     let t = c.in_err-send.ensures.put in
     on_err c.from_residual-in_err-send.result
     (cut_short k x b (g.W.Sink.taken c.args.sink.now) (g.W.Sink.taken c.steps.sink) (g.W.Sink.taken c.send.new.sink)
-    (config_view c.steps.state) t.1.front t.0 n safe tt c.steps.invariant.so_far t.1.parts t.1.taken)
+    (config_view c.run_fast.new.state) t.1.front t.0 n safe tt
+    (so_far_gone k x b (g.W.Sink.taken c.args.sink.now) (g.W.Sink.taken c.steps.sink) c.steps.state
+    c.run_fast.new.state c.steps.invariant.so_far c.run_fast.ensures.gone) t.1.parts t.1.taken)
 
 pub returns-in_err-outcome-clause-begun : goal.returns-in_err-outcome-clause-begun
 returns-in_err-outcome-clause-begun g c =
@@ -144,12 +143,11 @@ returns-in_err-outcome-clause-begun g c =
     let n : passed b x k.names ≡ None = sym c.in_default.ensures in
     let safe = (c.code_laws.ensures.runs k c.requires.whole c.requires.typed).safe x b in
     let mid = g.W.Sink.taken c.send.new.sink in
-    let d = config_view c.run_fast.new.state in
-    let s = sent_gone c.code_laws.ensures k c.requires.whole c.requires.typed x b (g.W.Sink.taken c.args.sink.now) mid
-    c.send.new.state c.run_fast.new.state (was_sent c.code_laws.ensures k c.requires.whole c.requires.typed x b
-    (g.W.Sink.taken c.args.sink.now) (g.W.Sink.taken c.steps.sink) mid (config_view c.steps.state)
-    (config_view c.send.new.state) tt c.steps.invariant.so_far c.in_ok-send.ensures.put c.in_ok-send.ensures.emptied)
-    c.run_fast.ensures.gone in
+    let d = config_view c.send.new.state in
+    let s = gone_sent c.code_laws.ensures k c.requires.whole c.requires.typed x b (g.W.Sink.taken c.args.sink.now)
+    (g.W.Sink.taken c.steps.sink) (g.W.Sink.taken c.send.new.sink) c.steps.state c.run_fast.new.state
+    (config_view c.send.new.state) tt c.steps.invariant.so_far c.run_fast.ensures.gone c.in_ok-send.ensures.put
+    c.in_ok-send.ensures.emptied in
     on_err c.from_residual-in_err-outcome.result
     (cut_short k x b (g.W.Sink.taken c.args.sink.now) mid mid d [] (emitted_by d) n safe tt s.so_far refl
     (Appends-nil mid))
@@ -162,13 +160,12 @@ returns-in_err-close-clause-begun g c =
     let n : passed b x k.names ≡ None = sym c.in_default.ensures in
     let safe = (c.code_laws.ensures.runs k c.requires.whole c.requires.typed).safe x b in
     let mid = g.W.Sink.taken c.send.new.sink in
-    let d = config_view c.run_fast.new.state in
+    let d = config_view c.send.new.state in
     let o = outcome_view c.in-Some-2.outcome in
-    let s = sent_gone c.code_laws.ensures k c.requires.whole c.requires.typed x b (g.W.Sink.taken c.args.sink.now) mid
-    c.send.new.state c.run_fast.new.state (was_sent c.code_laws.ensures k c.requires.whole c.requires.typed x b
-    (g.W.Sink.taken c.args.sink.now) (g.W.Sink.taken c.steps.sink) mid (config_view c.steps.state)
-    (config_view c.send.new.state) tt c.steps.invariant.so_far c.in_ok-send.ensures.put c.in_ok-send.ensures.emptied)
-    c.run_fast.ensures.gone in
+    let s = gone_sent c.code_laws.ensures k c.requires.whole c.requires.typed x b (g.W.Sink.taken c.args.sink.now)
+    (g.W.Sink.taken c.steps.sink) (g.W.Sink.taken c.send.new.sink) c.steps.state c.run_fast.new.state
+    (config_view c.send.new.state) tt c.steps.invariant.so_far c.run_fast.ensures.gone c.in_ok-send.ensures.put
+    c.in_ok-send.ensures.emptied in
     let e : next k d ≡ Ends o = c.in_ok-outcome.ensures.next ∙ rw c.in-Some-2.is refl in
     let t = c.in_err-close.ensures.put in
     on_err c.from_residual-in_err-close.result
@@ -182,13 +179,12 @@ returns-in-Some-2-clause-ended g c =
     let b = budget_view c.args.budget in
     let n : passed b x k.names ≡ None = sym c.in_default.ensures in
     let mid = g.W.Sink.taken c.send.new.sink in
-    let d = config_view c.run_fast.new.state in
+    let d = config_view c.send.new.state in
     let o = outcome_view c.in-Some-2.outcome in
-    let s = sent_gone c.code_laws.ensures k c.requires.whole c.requires.typed x b (g.W.Sink.taken c.args.sink.now) mid
-    c.send.new.state c.run_fast.new.state (was_sent c.code_laws.ensures k c.requires.whole c.requires.typed x b
-    (g.W.Sink.taken c.args.sink.now) (g.W.Sink.taken c.steps.sink) mid (config_view c.steps.state)
-    (config_view c.send.new.state) tt c.steps.invariant.so_far c.in_ok-send.ensures.put c.in_ok-send.ensures.emptied)
-    c.run_fast.ensures.gone in
+    let s = gone_sent c.code_laws.ensures k c.requires.whole c.requires.typed x b (g.W.Sink.taken c.args.sink.now)
+    (g.W.Sink.taken c.steps.sink) (g.W.Sink.taken c.send.new.sink) c.steps.state c.run_fast.new.state
+    (config_view c.send.new.state) tt c.steps.invariant.so_far c.run_fast.ensures.gone c.in_ok-send.ensures.put
+    c.in_ok-send.ensures.emptied in
     let e : next k d ≡ Ends o = c.in_ok-outcome.ensures.next ∙ rw c.in-Some-2.is refl in
     whole_run k x b (g.W.Sink.taken c.args.sink.now) mid (g.W.Sink.taken c.close.new.sink) d o c.in_ok-close.field-0 n
     tt s.so_far s.empty e c.in_ok-close.ensures.ended c.in_ok-close.ensures.put
@@ -202,14 +198,12 @@ returns-in_err-outcome-clause-wanted g c =
     let k = g.C.Code.code c.args.code.now in
     let x = pairs_of c.args.context.now in
     let b = budget_view c.args.budget in
-    let s = sent_gone c.code_laws.ensures k c.requires.whole c.requires.typed x b (g.W.Sink.taken c.args.sink.now)
-    (g.W.Sink.taken c.send.new.sink) c.send.new.state c.run_fast.new.state
-    (was_sent c.code_laws.ensures k c.requires.whole c.requires.typed x b (g.W.Sink.taken c.args.sink.now)
-    (g.W.Sink.taken c.steps.sink) (g.W.Sink.taken c.send.new.sink) (config_view c.steps.state)
-    (config_view c.send.new.state) tt c.steps.invariant.so_far c.in_ok-send.ensures.put c.in_ok-send.ensures.emptied)
-    c.run_fast.ensures.gone in
+    let s = gone_sent c.code_laws.ensures k c.requires.whole c.requires.typed x b (g.W.Sink.taken c.args.sink.now)
+    (g.W.Sink.taken c.steps.sink) (g.W.Sink.taken c.send.new.sink) c.steps.state c.run_fast.new.state
+    (config_view c.send.new.state) tt c.steps.invariant.so_far c.run_fast.ensures.gone c.in_ok-send.ensures.put
+    c.in_ok-send.ensures.emptied in
     if_err_given c.from_residual-in_err-outcome.result _ _ (
       sym c.in_default.ensures,
       inr (so_far_grows k x b (g.W.Sink.taken c.args.sink.now) (g.W.Sink.taken c.send.new.sink)
-          (config_view c.run_fast.new.state) tt s.so_far c.in_err-outcome.ensures.memory),
+          (config_view c.send.new.state) tt s.so_far c.in_err-outcome.ensures.memory),
     )

@@ -1,6 +1,6 @@
 use Rattle.std.proofs.Common.{◌≡◌, ◌∙◌, ◌<◌, arith, false, length}
 use Rattle.std.proofs.lemmas.List.{get_or_default}
-use Rattle.jt_show.specs.Listing.{is_target, point_text}
+use Rattle.jt_show.specs.Listing.{found_or, is_target, point_text}
 use Rattle.jt_show.proofs.NumberedLines.{numbered_end, numbered_next}
 use Rattle.jt_show.proofs.PlacesSeen.{place_next, point_put}
 use Rattle.jt_show.proofs.units.put_points.Goals as goal
@@ -12,6 +12,7 @@ points-preserved g c =
     let code = c.args.points.now.instructions in
     let point = c.points.point in
     let before = c.points.invariant.before in
+    let found = found_or c.args.points.now.found.now in
     let marks = c.args.points.now.targets.items in
     let inside : point < length marks = omega arith in
     let marked : c.index.result.now ≡ is_target code point =
@@ -19,9 +20,10 @@ points-preserved g c =
     record {
       before = place_next k unit point _ _ _ c.or-before.ensures c.place-place.ensures before;
       shown =
-          numbered_next (point_text k unit code) code point c.in-Some.instruction _ _ _ c.in-Some.ensures
-          (point_put k unit code point c.in-Some.instruction _ _ _ _ _ _ _ before c.place-place.ensures marked
-          c.in_ok-put_place_line.ensures c.in_ok-put_label_line.ensures c.in_ok-put_instruction_line.ensures)
+          numbered_next (point_text k unit code found) code point c.in-Some.instruction _ _ _ c.in-Some.ensures
+          (point_put k unit code found point c.in-Some.instruction _ _ _ _ _ _ _ _ _ _ before c.place-place.ensures
+          marked c.shape_of.ensures c.in_ok-put_place_line.ensures c.in_ok-put_label_line.ensures
+          c.in_ok-put_instruction_start.ensures c.in_ok-put_line_end.ensures c.in_ok-put_mark.ensures)
           c.points.invariant.shown;
     }
 
@@ -29,5 +31,6 @@ pub returns : goal.returns
 returns g c =
     let k = g.C.Code.code c.args.code.now in
     let code = c.args.points.now.instructions in
-    numbered_end (point_text k c.args.points.now.unit code) code c.points.point _ _
+    numbered_end (point_text k c.args.points.now.unit code (found_or c.args.points.now.found.now)) code
+    c.points.point _ _
     (omega (arith, c.requires.len)) c.points.invariant.shown

@@ -1,6 +1,6 @@
 use Rattle.std.proofs.Common.{◌≡◌, ◌++◌, drop, option_map, string_bytes}
 use Rattle.jt_image.specs.Readers.{place_ref_view}
-use Rattle.jt_show.specs.Listing.{numbered, place_before, point_text}
+use Rattle.jt_show.specs.Listing.{found_or, numbered, place_before, point_text}
 use Rattle.jt_show.proofs.units.put_points.Given as goal
 
 -- The output so far and the lines of the instructions that are left are the whole.
@@ -9,9 +9,8 @@ invariant-points g l = record {
   before :
       option_map place_ref_view l.before ≡ place_before (g.C.Code.code l.code) l.points.unit l.point;
   shown :
-      string_bytes l.out
-      ++ numbered (point_text (g.C.Code.code l.code) l.points.unit l.points.instructions) l.point
-      (drop l.point l.points.instructions)
-      ≡ string_bytes l.initial.out
-      ++ numbered (point_text (g.C.Code.code l.code) l.points.unit l.points.instructions) 0 l.points.instructions;
+      let text =
+      point_text (g.C.Code.code l.code) l.points.unit l.points.instructions (found_or l.points.found.now) in
+      string_bytes l.out ++ numbered text l.point (drop l.point l.points.instructions)
+      ≡ string_bytes l.initial.out ++ numbered text 0 l.points.instructions;
 }

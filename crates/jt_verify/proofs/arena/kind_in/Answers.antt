@@ -1,5 +1,5 @@
 use Rattle.std.proofs.Common.{◌-◌, ◌<◌, get_or, [], sym, ◌∙◌, arith, rules}
-use Rattle.jt_verify.specs.internal.Arena.{lists_of}
+use Rattle.jt_verify.specs.Arena.{lists_of}
 use Rattle.jt_verify.proofs.ValuesOnTop.{value_at}
 use Rattle.jt_verify.proofs.ShapesAreUnique.{node_is, kind_at_mark, kind_under_mark, kind_at_bottom, way_is}
 use Rattle.jt_verify.proofs.ShapesAreUnique.{kind_far_under}

@@ -1,6 +1,6 @@
 use Rattle.std.proofs.Common.{◌≡◌, ◌<◌, length}
 use Rattle.std.specs.Prelude.{slice_get}
-use Rattle.jt_verify.specs.internal.Arena.{shape_in, lists_of}
+use Rattle.jt_verify.specs.Arena.{shape_in, lists_of}
 use Rattle.jt_verify.proofs.arena.kind_in.Given as goal
 
 abbrev pub invariant-marks : goal.invariant-marks

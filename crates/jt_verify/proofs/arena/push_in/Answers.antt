@@ -1,5 +1,5 @@
 use Rattle.std.proofs.Common.{◌≤◌, List, [], length, get_or, ap, subst, arith}
-use Rattle.jt_verify.specs.internal.Arena.{lists_of, IsUnder}
+use Rattle.jt_verify.specs.Arena.{lists_of, IsUnder}
 use Rattle.jt_verify.specs.declared.nodes.Node.{Node}
 use Rattle.jt_verify.proofs.ArenaGrowth.{kept_same, found_pushed, vacant_pushed, pushed, kept_pushed, shape_pushed}
 use Rattle.jt_verify.proofs.arena.push_in.Goals as goal

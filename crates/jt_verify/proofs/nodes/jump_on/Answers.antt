@@ -1,5 +1,5 @@
 use Rattle.std.proofs.Common.{arith}
-use Rattle.jt_verify.specs.internal.Arena.{lists_of}
+use Rattle.jt_verify.specs.Arena.{lists_of}
 use Rattle.jt_verify.proofs.SkipLinks.{under_same, jump_is, further}
 use Rattle.jt_verify.proofs.nodes.jump_on.Goals as goal
 

@@ -12,18 +12,18 @@ use Rattle.jt_checks.proofs.scope.Scope.new.Goals as goal
 pub invariant_of-result-clause-knows_given : goal.invariant_of-result-clause-knows_given
 unfolding cenv_in namespace_in
 invariant_of-result-clause-knows_given c = λ x.
-    let seen = chain_view c.args.chain.now in
+    let seen = chain_view c.args.facts.now.chain.now in
     let h = namespace_at seen.order c.args.namespace in
     c.in_ok-names.ensures seen.templates h x
     ∙ ap (λ gs. known_of (given_to x (map (named_view seen.templates h) gs))) c.deref.ensures.value
-    ∙ ap (λ gs. known_of (given_to x gs)) (c.in_ok-parts.ensures.there c.requires)
+    ∙ ap (λ gs. known_of (given_to x gs)) c.at-parts.ensures.all_given
 
 pub invariant_of-result-clause-knows_blocks : goal.invariant_of-result-clause-knows_blocks
 unfolding cenv_in namespace_in
 invariant_of-result-clause-knows_blocks c = λ x.
-    let seen = chain_view c.args.chain.now in
+    let seen = chain_view c.args.facts.now.chain.now in
     let ts = seen.templates in
     c.in_ok-blocks.ensures ts x ∙ ap (λ bs. any_named x (map (block_view ts) bs)) c.deref-2.ensures.value
-    ∙ ap (any_named x) (c.in_ok-bodies.ensures.there c.requires)
+    ∙ ap (any_named x) c.at-parts.ensures.all_blocks
     ∙ any_filtered (λ b. bytes_eq b.name x)
     (all_bodies (sources_of seen) seen.escaping (namespace_at seen.order c.args.namespace))

@@ -8,4 +8,4 @@ pub returns-in_err-stage-in-Going-clause-memory : goal.returns-in_err-stage-in-G
 returns-in_err-stage-in-Going-clause-memory c =
     let goes : c.self.inside.stage ≡ stage.Going c.in-Going.state = cc (c.in-Going.ensures.value) in
     on_err c.from_residual.result (may_lose c.args.self.now c.self.inside.verified _ c.args.k c.self.inside.stage
-    c.in-Going.state c.self.view_is goes c.image.ensures.image c.in_err-stage-in-Going.ensures.memory)
+    c.in-Going.state c.self.view_is goes c.image-image.ensures.image c.in_err-stage-in-Going.ensures.memory)

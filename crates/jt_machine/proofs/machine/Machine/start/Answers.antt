@@ -1,4 +1,6 @@
-use Rattle.std.proofs.Common.{◌∙◌, sym, ap}
+use Rattle.std.proofs.Common.{◌≡◌, ◌∙◌, ℕ, List, [], sym, ap, subst}
+use Rattle.jt_value.specs.declared.value.Value.{Value}
+use Rattle.jt_machine.specs.ConstantCache.{AreCached}
 use Rattle.jt_value.specs.ContextView.{pairs_of}
 use Rattle.jt_image.specs.Code.{Code}
 use Rattle.jt_image.specs.Run.{Goes, start}
@@ -21,14 +23,20 @@ returns-in-Err-clause-slices c =
     λ x b. runs_in_slices c.args.verified x b
     ((c.code_laws.ensures.runs c.args.verified c.image.ensures.whole c.image.ensures.typed).safe x b)
 
+-- The cache of a new machine is empty.
+nothing_cached : (k : Code) (es : List (ℕ × Value)) → es ≡ [] → AreCached k es
+nothing_cached k es e = subst (λ (xs : List (ℕ × Value)). AreCached k xs) (sym e) tt
+
 pub invariant_of-result-in-Ok : goal.invariant_of-result-in-Ok
 invariant_of-result-in-Ok c =
     let x = pairs_of c.args.context.now in
-    let b = budget_view c.args.budget in
-    record {
-      context = x;
-      budget = b;
-      steps = 0;
-      reached = ap Goes (ap (λ (k : Code). start k x b) (sym c.image-2.ensures.image) ∙ sym c.in-Ok.ensures.state);
-      depth = c.in-Ok.ensures.depth;
-    }
+    let b = budget_view c.args.budget in (
+      record {
+        context = x;
+        budget = b;
+        steps = 0;
+        reached = ap Goes (ap (λ (k : Code). start k x b) (sym c.image-2.ensures.image) ∙ sym c.in-Ok.ensures.state);
+        depth = c.in-Ok.ensures.depth;
+      },
+      nothing_cached c.args.verified c.new-in-Ok.result.items c.new-in-Ok.ensures.items,
+    )

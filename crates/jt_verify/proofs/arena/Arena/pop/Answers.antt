@@ -1,7 +1,7 @@
 use Rattle.std.proofs.Common.{◌≡◌, ◌-◌, ◌<◌, List, [], ◌∷◌, length, Some, sym, subst, arith}
 use Rattle.std.specs.Prelude.{slice_get}
 use Rattle.jt_verify.specs.declared.nodes.Node.{Node}
-use Rattle.jt_verify.specs.internal.Arena.{Lists, shape_in, IsIn, kind_of}
+use Rattle.jt_verify.specs.Arena.{Lists, shape_in, IsIn, kind_of}
 use Rattle.jt_verify.proofs.ShapesAreUnique.{empty_is, top_is}
 use Rattle.jt_verify.proofs.arena.Arena.pop.Goals as goal
 

@@ -1,0 +1,219 @@
+-- The texts of joins, piece by piece.
+use Rattle.std.proofs.Common.{◌≡◌, ℕ, Bool, true, false, cond, ◌||◌, ◌&&◌, List, [], ◌∷◌, ◌++◌, flat_map, Option, Some}
+use Rattle.std.proofs.Common.{None, refl, sym, ap, ◌∙◌, subst, append_assoc, arith, rules}
+use Rattle.std.proofs.lemmas.List.{append-nil}
+use Rattle.std.specs.Prelude.{Ok, Err, Result, option_map, option_and_then, String}
+use Rattle.std.specs.declared.alloc.Global.{Global}
+use Rattle.std.specs.List.{join_by}
+use Rattle.jt_value.specs.declared.fault.Fault.{Fault}
+use Rattle.jt_value.specs.declared.fault.Fault.TheVariants as fault
+use Rattle.jt_value.specs.declared.fault.ValueError.{ValueError}
+use Rattle.jt_value.specs.declared.fault.ValueError.TheVariants as error
+use Rattle.jt_value.specs.Tree as tree
+use Rattle.jt_value.specs.Tree.{Tree, Items, no_items, item, printed}
+use Rattle.jt_escape.specs.Joining.{piece, pieces, joined_text, joined_markup, joined_plain, joined_as_markup}
+use Rattle.jt_escape.specs.Joining.{has_markup, or_unprintable}
+use Rattle.jt_op_semantics.specs.Testing.{is_markup}
+use Rattle.jt_filter_semantics.specs.Listing.{joined_by}
+use Rattle.jt_filters.specs.internal.JoinedTexts.{led_text, Leaves, MakesText}
+use Rattle.jt_filters.proofs.JoinLengths.{same_markup, piece_is, no_piece}
+
+-- One more item, after the separator.
+next_by : (escaping : Bool) (d : Tree) (ts : Items) (o p : Option (List ℕ)) (into one two : List ℕ)
+    → option_map (λ s. into ++ s) o ≡ Some one → option_map (λ s. one ++ s) p ≡ Some two
+    → led_text escaping two d ts
+    ≡ option_and_then (λ between. option_and_then (λ s. led_text escaping ((into ++ between) ++ s) d ts) p) o
+next_by escaping d ts None p into one two e f = cc
+next_by escaping d ts (Some b) None into one two e f = cc
+next_by escaping d ts (Some b) (Some s) into one two e f =
+    let x : into ++ b ≡ one = cc in
+    let y : one ++ s ≡ two = cc in
+    ap (λ (h : List ℕ). led_text escaping h d ts) (sym y ∙ ap (λ (h : List ℕ). h ++ s) (sym x))
+
+pub led_next : (escaping : Bool) (d t : Tree) (all ts : Items) (into one two : List ℕ) → all ≡ item t ts
+    → option_map (λ s. into ++ s) (piece escaping d) ≡ Some one
+    → option_map (λ s. one ++ s) (piece escaping t) ≡ Some two
+    → led_text escaping two d ts ≡ led_text escaping into d all
+led_next escaping d t all ts into one two is e f =
+    next_by escaping d ts (piece escaping d) (piece escaping t) into one two e f
+    ∙ ap (led_text escaping into d) (sym is)
+
+no_separator_by : (escaping : Bool) (d : Tree) (ts : Items) (o p : Option (List ℕ)) (into : List ℕ)
+    → option_map (λ s. into ++ s) o ≡ None
+    → option_and_then (λ between. option_and_then (λ s. led_text escaping ((into ++ between) ++ s) d ts) p) o ≡ None
+no_separator_by escaping d ts None p into e = refl
+no_separator_by escaping d ts (Some b) p into e = cc
+
+pub led_no_separator : (escaping : Bool) (d t : Tree) (all ts : Items) (into : List ℕ) → all ≡ item t ts
+    → option_map (λ s. into ++ s) (piece escaping d) ≡ None → led_text escaping into d all ≡ None
+led_no_separator escaping d t all ts into is e =
+    ap (led_text escaping into d) is ∙ no_separator_by escaping d ts (piece escaping d) (piece escaping t) into e
+
+no_item_by : (escaping : Bool) (d : Tree) (ts : Items) (o p : Option (List ℕ)) (into one : List ℕ)
+    → option_map (λ s. one ++ s) p ≡ None
+    → option_and_then (λ between. option_and_then (λ s. led_text escaping ((into ++ between) ++ s) d ts) p) o ≡ None
+no_item_by escaping d ts None p into one e = refl
+no_item_by escaping d ts (Some b) None into one e = refl
+no_item_by escaping d ts (Some b) (Some s) into one e = cc
+
+pub led_no_item : (escaping : Bool) (d t : Tree) (all ts : Items) (into one : List ℕ) → all ≡ item t ts
+    → option_map (λ s. one ++ s) (piece escaping t) ≡ None → led_text escaping into d all ≡ None
+led_no_item escaping d t all ts into one is e =
+    ap (led_text escaping into d) is ∙ no_item_by escaping d ts (piece escaping d) (piece escaping t) into one e
+
+pub led_end : (escaping : Bool) (d : Tree) (all : Items) (into : List ℕ) → all ≡ no_items
+    → led_text escaping into d all ≡ Some into
+led_end escaping d all into is = ap (led_text escaping into d) is
+
+pub ruleset led_texts = (led_next, led_no_separator, led_no_item, led_end)
+
+-- The pieces behind a text, if the separator has a piece.
+behind_more : (head between s : List ℕ) (r : Option (List (List ℕ)))
+    → option_map (λ (ps : List (List ℕ)). ((head ++ between) ++ s) ++ flat_map (λ q. between ++ q) ps) r
+    ≡ option_map (λ (ps : List (List ℕ)). head ++ flat_map (λ q. between ++ q) ps)
+    (option_map (λ (rest : List (List ℕ)). s ∷ rest) r)
+behind_more head between s None = refl
+behind_more head between s (Some ps) =
+    ap Some (ap (λ (h : List ℕ). h ++ flat_map (λ q. between ++ q) ps) (append_assoc head between s)
+    ∙ append_assoc head (between ++ s) (flat_map (λ q. between ++ q) ps))
+
+led_by : (escaping : Bool) (head between : List ℕ) (d : Tree) (ts : Items) (o p : Option (List ℕ)) → o ≡ Some between
+    → ((h : List ℕ) → led_text escaping h d ts
+    ≡ option_map (λ (ps : List (List ℕ)). h ++ flat_map (λ q. between ++ q) ps) (pieces escaping ts))
+    → option_and_then (λ b. option_and_then (λ s. led_text escaping ((head ++ b) ++ s) d ts) p) o
+    ≡ option_map (λ (ps : List (List ℕ)). head ++ flat_map (λ q. between ++ q) ps)
+    (option_and_then (λ (first : List ℕ). option_map (λ (rest : List (List ℕ)). first ∷ rest) (pieces escaping ts)) p)
+led_by escaping head between d ts o None is again =
+    ap (λ (x : Option (List ℕ)). option_and_then (λ b. None) x) is
+led_by escaping head between d ts o (Some s) is again =
+    ap (λ (x : Option (List ℕ)). option_and_then (λ b. led_text escaping ((head ++ b) ++ s) d ts) x) is
+    ∙ again ((head ++ between) ++ s)
+    ∙ behind_more head between s (pieces escaping ts)
+
+led_is : (escaping : Bool) (head between : List ℕ) (d : Tree) (ts : Items) → piece escaping d ≡ Some between
+    → led_text escaping head d ts
+    ≡ option_map (λ (ps : List (List ℕ)). head ++ flat_map (λ q. between ++ q) ps) (pieces escaping ts)
+led_is escaping head between d no_items is = ap Some (sym (append-nil head))
+led_is escaping head between d (item t ts) is =
+    led_by escaping head between d ts (piece escaping d) (piece escaping t) is (λ h. led_is escaping h between d ts is)
+
+joins_first : (p d : List ℕ) (r : Option (List (List ℕ)))
+    → option_map (λ (ps : List (List ℕ)). p ++ flat_map (λ q. d ++ q) ps) r
+    ≡ option_map (join_by (λ (text : List ℕ). text) d) (option_map (λ (rest : List (List ℕ)). p ∷ rest) r)
+joins_first p d None = refl
+joins_first p d (Some ps) = refl
+
+first_by : (p : Option (List ℕ)) (one : List ℕ) → option_map (λ (s : List ℕ). [] ++ s) p ≡ Some one → p ≡ Some one
+first_by None one e = cc
+first_by (Some s) one e = e
+
+none_by : (p : Option (List ℕ)) (start : List ℕ) → option_map (λ (s : List ℕ). start ++ s) p ≡ None → p ≡ None
+none_by None start e = refl
+none_by (Some s) start e = cc
+
+-- The separator has a piece if it has a printed text.
+separator_piece : (escaping : Bool) (d : Tree) (s : List ℕ) → printed d ≡ Some s
+    → (between : List ℕ) × (piece escaping d ≡ Some between)
+separator_piece escaping d s e = (_, piece_is escaping d s e)
+
+whole_by : (escaping : Bool) (d : Tree) (ts : Items) (o p : Option (List ℕ)) (between one : List ℕ) → o ≡ Some between
+    → p ≡ Some one
+    → option_map (λ (ps : List (List ℕ)). one ++ flat_map (λ q. between ++ q) ps) (pieces escaping ts)
+    ≡ option_and_then (λ (b : List ℕ). option_map (join_by (λ (text : List ℕ). text) b)
+    (option_and_then (λ (first : List ℕ). option_map (λ (rest : List (List ℕ)). first ∷ rest) (pieces escaping ts)) p))
+    o
+whole_by escaping d ts o p between one is first =
+    joins_first one between (pieces escaping ts)
+    ∙ ap (λ (x : Option (List ℕ)). option_map (join_by (λ (text : List ℕ). text) between)
+    (option_and_then (λ (f : List ℕ). option_map (λ (rest : List (List ℕ)). f ∷ rest) (pieces escaping ts)) x))
+    (sym first)
+    ∙ ap (λ (x : Option (List ℕ)). option_and_then (λ (b : List ℕ). option_map (join_by (λ (text : List ℕ). text) b)
+    (option_and_then (λ (f : List ℕ). option_map (λ (rest : List (List ℕ)). f ∷ rest) (pieces escaping ts)) p)) x)
+    (sym is)
+
+-- The text of all items, once the first one is appended.
+pub joined_all : (escaping : Bool) (d t : Tree) (all ts : Items) (s start one : List ℕ) → all ≡ item t ts
+    → printed d ≡ Some s → start ≡ []
+    → option_map (λ (p : List ℕ). start ++ p) (piece escaping t) ≡ Some one
+    → joined_text escaping all d ≡ led_text escaping one d ts
+joined_all escaping d t all ts s start one is e empty f =
+    let between = separator_piece escaping d s e in
+    sym (led_is escaping one between.0 d ts between.1
+    ∙ whole_by escaping d ts (piece escaping d) (piece escaping t) between.0 one between.1
+    (first_by (piece escaping t) one
+    (ap (λ (h : List ℕ). option_map (λ (p : List ℕ). h ++ p) (piece escaping t)) (sym empty) ∙ f))
+    ∙ ap (λ (us : Items). joined_text escaping us d) (sym is))
+
+pub joined_led : (escaping : Bool) (d t : Tree) (all ts : Items) (s start one two : List ℕ) → all ≡ item t ts
+    → printed d ≡ Some s → start ≡ []
+    → option_map (λ (p : List ℕ). start ++ p) (piece escaping t) ≡ Some one → led_text escaping one d ts ≡ Some two
+    → joined_text escaping all d ≡ Some two
+joined_led escaping d t all ts s start one two is e empty f led =
+    joined_all escaping d t all ts s start one is e empty f ∙ led
+
+-- A join that fails behind its first item fails alike.
+pub fails_as : (r : Result (String Global) ValueError) (e : ValueError) (wanted led : Option (List ℕ)) (after : List ℕ)
+    → r ≡ Err e → wanted ≡ led → Leaves led (Err e) after → MakesText wanted r
+fails_as r e wanted led after is same leaves =
+    subst (λ (x : Result (String Global) ValueError). MakesText wanted x) (sym is)
+    (subst (λ (o : Option (List ℕ)). MakesText o (Err e)) (sym same) (by e leaves))
+  where
+    by : (x : ValueError) → Leaves led (Err x) after → MakesText led (Err x)
+    by (error.Fault f) h = h
+    by error.NoMemory h = tt
+
+no_first_by : (escaping : Bool) (ts : Items) (o p : Option (List ℕ)) → p ≡ None
+    → option_and_then (λ (b : List ℕ). option_map (join_by (λ (text : List ℕ). text) b)
+    (option_and_then (λ (f : List ℕ). option_map (λ (rest : List (List ℕ)). f ∷ rest) (pieces escaping ts)) p)) o
+    ≡ None
+no_first_by escaping ts None p e = refl
+no_first_by escaping ts (Some b) None e = refl
+no_first_by escaping ts (Some b) (Some s) e = cc
+
+pub joined_no_first : (escaping : Bool) (d t : Tree) (all ts : Items) (start : List ℕ) → all ≡ item t ts
+    → option_map (λ (p : List ℕ). start ++ p) (piece escaping t) ≡ None → joined_text escaping all d ≡ None
+joined_no_first escaping d t all ts start is e =
+    ap (λ (us : Items). joined_text escaping us d) is
+    ∙ no_first_by escaping ts (piece escaping d) (piece escaping t) (none_by (piece escaping t) start e)
+
+pub joined_none : (escaping : Bool) (d : Tree) (all : Items) (s start : List ℕ) → all ≡ no_items
+    → printed d ≡ Some s → start ≡ [] → joined_text escaping all d ≡ Some start
+joined_none escaping d all s start is e empty =
+    let between = separator_piece escaping d s e in
+    ap (λ (us : Items). joined_text escaping us d) is
+    ∙ ap (λ (o : Option (List ℕ)). option_and_then (λ (b : List ℕ). Some []) o) between.1
+    ∙ ap Some (sym empty)
+
+pub joined_no_separator : (escaping : Bool) (d : Tree) (all : Items) → printed d ≡ None
+    → joined_text escaping all d ≡ None
+joined_no_separator escaping d all e =
+    ap (λ (o : Option (List ℕ)). option_and_then (λ (b : List ℕ). option_map (join_by (λ (text : List ℕ). text) b)
+    (pieces escaping all)) o)
+    (no_piece escaping d e)
+
+pub ruleset joined_texts = (joined_led, joined_no_first, joined_none, joined_no_separator)
+
+-- The join by whether it escapes.
+pub joined_is_markup : (autoescape : Bool) (ts : Items) (d : Tree)
+    → (autoescape && (is_markup d || has_markup ts)) ≡ true
+    → joined_by autoescape d ts ≡ or_unprintable tree.markup (joined_text true ts d)
+joined_is_markup false ts d e = cc
+joined_is_markup true ts d e =
+    ap (λ (b : Bool). cond b (joined_as_markup ts d) (joined_plain ts d)) (same_markup d ts ∙ e)
+
+pub joined_is_plain : (autoescape : Bool) (ts : Items) (d : Tree)
+    → (autoescape && (is_markup d || has_markup ts)) ≡ false
+    → joined_by autoescape d ts ≡ or_unprintable tree.text (joined_text false ts d)
+joined_is_plain false ts d e = refl
+joined_is_plain true ts d e =
+    ap (λ (b : Bool). cond b (joined_as_markup ts d) (joined_plain ts d)) (same_markup d ts ∙ e)
+
+pub made_of : (make : List ℕ → Tree) (o : Option (List ℕ)) (s : List ℕ) (wanted : Result Tree Fault)
+    → wanted ≡ or_unprintable make o → o ≡ Some s → wanted ≡ Ok (make s)
+made_of make o s wanted e f = e ∙ ap (or_unprintable make) f
+
+pub none_of : (make : List ℕ → Tree) (o : Option (List ℕ)) (wanted : Result Tree Fault)
+    → wanted ≡ or_unprintable make o → o ≡ None → wanted ≡ Err fault.Unprintable
+none_of make o wanted e f = e ∙ ap (or_unprintable make) f
+
+pub ruleset joined_kinds = (joined_is_markup, joined_is_plain, made_of, none_of)

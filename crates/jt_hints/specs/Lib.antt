@@ -1,0 +1,5 @@
+pub mod Edits
+pub mod Forms
+pub mod LeftOut
+pub mod Nesting
+pub mod internal

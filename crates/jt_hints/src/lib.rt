@@ -1,0 +1,33 @@
+//! Finds what the explanation of a refusal can add for a person: the name that was probably meant,
+//! what to write in place of Jinja's words that the language leaves out, and the form that a tag
+//! has and the language does not.
+//!
+//! The modules:
+//!
+//! - `nearest_name`: the candidate with the fewest edits, with `edits`, which counts them;
+//! - `known_names`: the names of all filters and tests, which are such candidates;
+//! - `left_out`: the tables of Jinja's filters, tests and functions, and of the methods of Python's
+//!   values;
+//! - `syntax`: the forms of a tag, with `statement_words`, `head_forms`, `places` and
+//!   `place_forms`;
+//! - `nesting`: the statement that is never closed, and the tag that closes none.
+//!
+//! Nothing here decides whether a template compiles. Read first: specs/Forms.antt.
+#![tactic(auto)]
+
+mod edits;
+mod head_forms;
+mod known_names;
+mod left_out;
+mod nearest_name;
+mod nesting;
+mod place_forms;
+mod places;
+mod statement_words;
+mod syntax;
+
+pub use known_names::{filter_names, test_names};
+pub use left_out::{left_out_filter, left_out_function, left_out_method, left_out_test};
+pub use nearest_name::nearest;
+pub use nesting::{NestingHint, Statement, nesting_hint};
+pub use syntax::{SyntaxHint, syntax_hint};

@@ -1,7 +1,0 @@
-use Rattle.std.proofs.Common.{ap, ◌∙◌}
-use Rattle.jt_ast.specs.Texts.{texts}
-use Rattle.jt_names.proofs.SortedNames.{key_inserted}
-use Rattle.jt_names.proofs.own.add_name.Goals as goal
-
-pub returns : goal.returns
-returns c = ap texts c.in_ok-insert.ensures.keys ∙ key_inserted c.args.names.now.keys c.args.name

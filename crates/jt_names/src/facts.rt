@@ -1,0 +1,77 @@
+//! Defines the facts of a chain: what is known of its templates and of the chains and libraries.
+//! They are collected once, and each later step borrows them.
+
+ghost use Rattle.std.specs.Prelude.{◌≡◌, ◌<◌, length};
+ghost use Rattle.jt_ast.specs.Texts.{ascending};
+ghost use Rattle.jt_chains.specs.Along.{body_at};
+ghost use Rattle.jt_chains.specs.Chain.{a_library};
+ghost use Rattle.jt_chains.specs.Uses.{own_names};
+ghost use Rattle.jt_chains.specs.View.{its_sources, its_templates};
+ghost use Rattle.jt_uses.specs.Uses.{body_uses, outside};
+ghost use Rattle.jt_uses.specs.UseView.{sites_view};
+ghost use Rattle.jt_names.specs.FactsOfChains.{AllKnown, IsKnown};
+
+use crate::templates::{TemplateFacts, count_at, is_library_at};
+use jt_chains::{Block, Chain, DefinedName, Macro};
+use jt_uses::UseSite;
+
+/// What is known of a chain or a library.
+#[derive(Drop)]
+pub struct NamespaceFacts<'a> {
+    /// The different names that its templates read or bind, in ascending order.
+    pub names: Vec<&'a str>,
+    /// The different names that its scopes bind, in ascending order.
+    pub scope_names: Vec<&'a str>,
+    pub macros: Vec<Macro<'a>>,
+    /// The names that stand for macros and libraries, with their definitions.
+    pub given: Vec<DefinedName<'a>>,
+    /// The bodies of its blocks.
+    pub blocks: Vec<Block<'a>>,
+}
+
+/// What is known of a chain and of all that it reaches.
+#[derive(Drop)]
+pub struct ChainFacts<'a> {
+    pub chain: &'a Chain,
+    /// The facts of each template, by its index.
+    pub templates: Vec<TemplateFacts<'a>>,
+    /// The facts of each chain and library, by its index.
+    pub namespaces: Vec<NamespaceFacts<'a>>,
+}
+
+impl<'a> ChainFacts<'a> {
+    /// Returns the facts of the chain or library at index `namespace`.
+    pub fn at(&self, namespace: usize) -> &NamespaceFacts<'a>
+        requires known { AllKnown self.now }
+        requires stands { namespace < length self.now.chain.now.namespaces.items }
+        ensures { IsKnown self.now.chain.now namespace result.now }
+    {
+        &self.namespaces[namespace]
+    }
+
+    /// Returns the uses of the template at `index`.
+    pub fn uses_at(&self, index: usize) -> &[UseSite<'a>]
+        requires known { AllKnown self.now }
+        requires stands { index < length self.now.chain.now.templates.items }
+        ensures { sites_view result.now
+            ≡ body_uses (body_at (its_templates self.now.chain.now) index) outside }
+    {
+        &self.templates[index].uses
+    }
+
+    /// Returns the number of different names that a library reads or binds, or 0 if there is no
+    /// library of this name.
+    pub fn count_in_library(&self, library: &str) -> usize
+        requires { AllKnown self.now }
+        ensures { result ≡ length
+            (ascending (own_names (its_sources self.now.chain.now) (a_library library.now))) }
+    {
+        let Some(index) = self.chain.indices.get(library) else {
+            return 0;
+        };
+        if !is_library_at(&self.chain.templates, *index) {
+            return 0;
+        }
+        count_at(&self.templates, *index)
+    }
+}

@@ -1,0 +1,21 @@
+use Rattle.std.proofs.Common.{◌≡◌, List, Ok, inr, rules, string_bytes, subst, ℕ}
+use Rattle.jt_program.specs.Commands.{Diagnoses}
+use Rattle.jt_host.specs.Calls.{ExplainsTo}
+use Rattle.jt_host.specs.Templates.{source_of}
+use Rattle.jt_program.proofs.program.explain_entry_in.Goals as goal
+
+pub returns-clause-ends : goal.returns-clause-ends
+returns-clause-ends g c =
+    let files = g.F.Files.known (g.F.Files.contents c.args.files.now) in
+    let options = c.args.entry.options in
+    let sources = source_of c.in_ok-templates.templates in
+    let text = c.in_ok-explained.field-0 in
+    let same : c.as_str.result.now ≡ string_bytes c.args.entry.name = search rules in
+    let diagnoses : Diagnoses files (string_bytes c.args.entry.dir) (string_bytes c.args.entry.name) options (Ok text) =
+    record {
+      sources = sources;
+      library = c.in_ok-templates.ensures.library;
+      explained =
+          subst (λ (name : List ℕ). ExplainsTo sources name options (Ok text)) same c.in_ok-explained.ensures;
+    } in
+    inr diagnoses

@@ -1,5 +1,0 @@
-pub mod Arena
-pub mod Names
-pub mod Shapes
-pub mod Typing
-pub mod Working
