@@ -1,6 +1,9 @@
 -- What a refusal is about, as an explanation prints it.
 use Rattle.std.specs.Prelude.{◌++◌, [], codes, Option, Some, None, option_map, string_bytes, unwrap_or}
 use Rattle.jt_ast.specs.Expressions.{Text}
+use Rattle.jt_codegen.specs.declared.ChainSubject.{ChainSubject}
+use Rattle.jt_codegen.specs.declared.ChainSubject.TheVariants as chain_subject
+use Rattle.jt_codegen.specs.declared.TagPlace.{TagPlace}
 use Rattle.jt_codegen.specs.declared.Subject.{Subject}
 use Rattle.jt_codegen.specs.declared.Subject.TheVariants as subject
 use Rattle.jt_turns.specs.Shown.{shown}
@@ -8,6 +11,22 @@ use Rattle.jt_turns.specs.Shown.{shown}
 -- A name in quotes, after a space. Control characters are shown by their codes.
 abbrev pub quoted : Text → Text
 quoted x = codes " \"" ++ (shown x ++ codes "\"")
+
+-- The name that a broken rule of chains is about, if it has one.
+abbrev pub chain_name : ChainSubject → Option Text
+chain_name (chain_subject.Template x) = Some (string_bytes x)
+chain_name (chain_subject.Macro library x) = Some (string_bytes x)
+chain_name (chain_subject.Block x) = Some (string_bytes x)
+chain_name (chain_subject.BlockTwice x first) = Some (string_bytes x)
+chain_name (chain_subject.NameTwice x first) = Some (string_bytes x)
+chain_name chain_subject.Templates = None
+chain_name chain_subject.Chains = None
+
+-- The place of the first one of two, if a refusal is about two.
+abbrev pub first_place : Option Subject → Option TagPlace
+first_place (Some (subject.Chain (chain_subject.BlockTwice x first))) = Some first
+first_place (Some (subject.Chain (chain_subject.NameTwice x first))) = Some first
+first_place about = None
 
 -- The name that a refusal is about, if it has one.
 abbrev pub subject_name : Option Subject → Option Text
@@ -21,6 +40,7 @@ subject_name (Some (subject.Test x)) = Some (string_bytes x)
 subject_name (Some (subject.Macro x)) = Some (string_bytes x)
 subject_name (Some subject.Bindings) = None
 subject_name (Some subject.Names) = None
+subject_name (Some (subject.Chain s)) = chain_name s
 subject_name None = None
 
 -- The name in quotes, or nothing.

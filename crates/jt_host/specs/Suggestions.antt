@@ -2,6 +2,7 @@
 -- out.
 use Rattle.std.specs.Prelude.{◌++◌, List, [], ◌∷◌, codes, Option, Some, None, is_some, option_map, string_bytes}
 use Rattle.std.specs.Prelude.{if◌then◌else◌}
+use Rattle.std.specs.Fmt.{decimal}
 use Rattle.std.specs.List.{flat_map}
 use Rattle.std.specs.Option.{option_or}
 use Rattle.jt_ast.specs.Expressions.{Text}
@@ -19,7 +20,8 @@ use Rattle.jt_codegen.specs.declared.Finding.{Finding}
 use Rattle.jt_codegen.specs.declared.ScopeError.TheVariants as scope_error
 use Rattle.jt_codegen.specs.declared.Subject.{Subject}
 use Rattle.jt_codegen.specs.declared.Subject.TheVariants as subject
-use Rattle.jt_host.specs.Subjects.{quoted}
+use Rattle.jt_codegen.specs.declared.TagPlace.{TagPlace}
+use Rattle.jt_host.specs.Subjects.{first_place, quoted}
 
 -- ---- what to write in place of what the language leaves out
 
@@ -62,16 +64,25 @@ near e about = None
 
 -- ---- what follows the sentence
 
-abbrev pub meant : Option Text → Text
-meant (Some name) = codes "; did you mean" ++ (quoted name ++ codes "?")
-meant None = []
+-- The place of the first one of two.
+abbrev pub first_at : Option TagPlace → Text
+first_at (Some p) = codes "; the first one is at " ++ (string_bytes p.template ++ (codes ":" ++ decimal p.line))
+first_at None = []
 
--- What to write, or else the name that was probably meant.
-abbrev pub advised : Option Text → Option Text → Text
-advised (Some words) name = codes "; " ++ words
-advised None name = meant name
+abbrev pub first_text : Option Subject → Text
+first_text about = first_at (first_place about)
+
+abbrev pub meant : Option Text → Text → Text
+meant (Some name) first = codes "; did you mean" ++ (quoted name ++ codes "?")
+meant None first = first
+
+-- What to write, or else the name that was probably meant, or else the place of the first one.
+abbrev pub advised : Option Text → Option Text → Text → Text
+advised (Some words) name first = codes "; " ++ words
+advised None name first = meant name first
 
 -- With the sentence of the form that the tag has, if there is no other advice.
 abbrev pub suggestion : Option SourceHint → Finding → Text
 suggestion hint f =
     advised (option_or (advice f.error f.subject) (option_map sentence hint)) (near f.error f.subject)
+    (first_text f.subject)

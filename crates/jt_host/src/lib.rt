@@ -50,7 +50,9 @@ pub use explaining::{explained, explanation_of};
 pub use explaining_runs::explained_run;
 pub use explanation::{Explanation, TemplateRefusal};
 pub use jt_budget::{Budget, Spent};
-pub use jt_codegen::{CompileError, Explained, Finding, Subject, TagPlace, compile, explain};
+pub use jt_codegen::{
+    ChainSubject, CompileError, Explained, Finding, Subject, TagPlace, compile, explain,
+};
 pub use jt_contexts::{ContextError, context_from_json};
 pub use jt_image::{Code, Image, ImageError, View, decode, encode, upgrade, view};
 pub use jt_inherit::Library;

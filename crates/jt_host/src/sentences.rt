@@ -4,7 +4,9 @@ ghost use Rattle.std.specs.Prelude.{◌≡◌, IfOk, option_map, string_bytes};
 ghost use Rattle.jt_host.specs.Sentences as spec;
 
 use crate::subjects::{quoted, subject_name};
-use jt_codegen::{ChainError, CompileError, Finding, ParseError, ScanError, ScopeError, Subject};
+use jt_codegen::{
+    ChainError, ChainSubject, CompileError, Finding, ParseError, ScanError, ScopeError, Subject,
+};
 use jt_ids::LoopField;
 use std::alloc::{AllocError, Global};
 
@@ -125,12 +127,27 @@ fn limit_rule(subject: &Option<Subject>) -> &'static str
     }
 }
 
+/// Returns the limit of templates that a chain, or all chains together, would pass. Returns the
+/// rule of both limits if the subject is another one.
+fn length_rule(subject: &Option<Subject>) -> &'static str
+    ensures { result.now ≡ spec.length_rule subject.now }
+{
+    match subject {
+        Some(Subject::Chain(ChainSubject::Templates)) => {
+            "more than 64 templates extend one another"
+        }
+        Some(Subject::Chain(ChainSubject::Chains)) => "includes reach more than 1,024 templates",
+        _ => chain_rule(&ChainError::ChainTooLong),
+    }
+}
+
 /// Returns the rule that a refusal reports.
 fn rule_of(error: &CompileError, subject: &Option<Subject>) -> &'static str
     ensures { result.now ≡ spec.rule error.now subject.now }
 {
     match error {
         CompileError::Scope(ScopeError::TooManySlots) => limit_rule(subject),
+        CompileError::Chain(ChainError::ChainTooLong) => length_rule(subject),
         CompileError::Chain(error) => chain_rule(error),
         CompileError::Scope(error) => scope_rule(*error),
         CompileError::CodeTooLong => {
@@ -205,6 +222,37 @@ fn scope_lead(error: ScopeError, subject: &Subject) -> Option<&'static str>
     }
 }
 
+/// Returns the words before the name that an error of the parser is about, if they are known.
+fn parse_lead(error: ParseError) -> Option<&'static str>
+    ensures { option_map (λ x. x.now) result ≡ spec.parse_lead error }
+{
+    match error {
+        ParseError::UnknownFilter { .. } => Some("no filter is called"),
+        ParseError::UnknownTest { .. } => Some("no test is called"),
+        _ => None,
+    }
+}
+
+/// Returns the words before the name that a broken rule of chains is about, if they are known.
+fn chain_lead(error: &ChainError) -> Option<&'static str>
+    ensures { option_map (λ x. x.now) result ≡ spec.chain_lead error.now }
+{
+    match error {
+        ChainError::Missing => Some("no template is called"),
+        ChainError::BadName => Some("no template may be called"),
+        ChainError::ExtendsCycle => Some("a template extends itself through"),
+        ChainError::DoubleBlock => Some("a template has two blocks called"),
+        ChainError::RequiredNotGiven => Some("no template gives a body to the required block"),
+        ChainError::NoSuper => Some("super() has no next body in the block"),
+        ChainError::IncludeCycle => Some("a template includes itself through"),
+        ChainError::MacroTwice => Some("two macros or imports are called"),
+        ChainError::NoMacro => Some("the library offers no macro called"),
+        ChainError::NotALibrary => Some("more than macros, comments and whitespace is in"),
+        ChainError::Parse(_, error) => parse_lead(*error),
+        ChainError::ChainTooLong | ChainError::Scan(..) | ChainError::NoMemory => None,
+    }
+}
+
 /// Returns the words before the name that a refusal is about, if they are known.
 fn lead_of(error: &CompileError, subject: &Option<Subject>) -> Option<&'static str>
     ensures { option_map (λ x. x.now) result ≡ spec.lead error.now subject.now }
@@ -213,12 +261,7 @@ fn lead_of(error: &CompileError, subject: &Option<Subject>) -> Option<&'static s
         return None;
     };
     match error {
-        CompileError::Chain(ChainError::Parse(_, ParseError::UnknownFilter { .. })) => {
-            Some("no filter is called")
-        }
-        CompileError::Chain(ChainError::Parse(_, ParseError::UnknownTest { .. })) => {
-            Some("no test is called")
-        }
+        CompileError::Chain(error) => chain_lead(error),
         CompileError::Scope(error) => scope_lead(*error, subject),
         _ => None,
     }

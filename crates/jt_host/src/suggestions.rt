@@ -6,9 +6,9 @@ ghost use Rattle.std.specs.Option.{option_or};
 ghost use Rattle.jt_host.specs.SyntaxHints.{sentence};
 ghost use Rattle.jt_host.specs.Suggestions as spec;
 
-use crate::subjects::quoted;
+use crate::subjects::{first_place, quoted};
 use crate::syntax_hints::SourceHint;
-use jt_codegen::{ChainError, CompileError, Finding, ScopeError, Subject};
+use jt_codegen::{ChainError, CompileError, Finding, ScopeError, Subject, TagPlace};
 use jt_hints::{
     filter_names, left_out_filter, left_out_function, left_out_method, left_out_test, nearest,
     test_names,
@@ -115,8 +115,21 @@ fn advice_or_hint(advice: Option<&'static str>, hint: Option<SourceHint>) -> Opt
     }
 }
 
+/// Returns the place of the first one of two, after the words for it. Returns the empty text if the
+/// subject is another one.
+fn first_text(alloc: Global, subject: &Option<Subject>) -> Result<String, AllocError>
+    ensures { IfOk result (λ text. string_bytes text ≡ spec.first_text subject.now) }
+{
+    match first_place(subject) {
+        Some(TagPlace { template, line }) => {
+            format!(in alloc; "; the first one is at {template}:{line}")
+        }
+        None => Ok(String::new(alloc)),
+    }
+}
+
 /// Returns what follows the sentence of a finding: what to write, or else the name that was
-/// probably meant.
+/// probably meant, or else the place of the first one of two.
 pub(crate) fn suggestion_of(
     alloc: Global,
     finding: &Finding,
@@ -133,6 +146,6 @@ pub(crate) fn suggestion_of(
             let name = quoted(alloc, name)?;
             format!(in alloc; "; did you mean{name}?")
         }
-        None => Ok(String::new(alloc)),
+        None => first_text(alloc, &finding.subject),
     }
 }

@@ -33,7 +33,11 @@ use Rattle.jt_chains.specs.Names.{IsName}
 use Rattle.jt_chains.specs.Needs.{Need, needed}
 use Rattle.jt_chains.specs.TemplateFiles.{namespace_view, AreWhole}
 use Rattle.jt_chains.specs.Indices.{namespace_at}
+use Rattle.jt_inherit.specs.Findings.{IsFinding}
 use Rattle.jt_inherit.specs.Refusals.{Breaks}
+use Rattle.jt_inherit.specs.internal.FindsAt.{FindsAt}
+use Rattle.jt_inherit.specs.declared.finding.ChainFinding.{ChainFinding}
+use Rattle.jt_inherit.proofs.FindingsHold.{rule_said}
 use Rattle.jt_inherit.specs.Refused.{gives}
 use Rattle.jt_chains.specs.Rules as rules
 use Rattle.jt_chains.specs.Rules.{Asks, Reaches, here, asked, extends_path, is_whole, KeepsRules}
@@ -302,6 +306,17 @@ module _ {given : SourceTexts} {options : Options} {entry : Text} {ts : List Tem
       let lt : i < length hs = omega (arith, b.within, all) in
       one_breaks given options ts f.known (namespace_at hs i) (next_of ws i) (number i lt).led entry
       (reached (namespace_at hs i) (namespace_among hs i lt)) e b.broken
+
+  pub chain_finds : (x : ChainFinding) → FindsAt options.autoescape ts ws x → IsFinding given entry options x
+  chain_finds x b =
+      let i = b.number in
+      let lt : i < length hs = omega (arith, b.within, all) in
+      record {
+        broken = chain_breaks x.error (record { number = i; within = b.within; broken = b.broken });
+        says =
+            rule_said f.known (reached (namespace_at hs i) (namespace_among hs i lt)) (number i lt).led x.error x.place
+            x.subject b.said;
+      }
 
   -- ---- a cycle of numbers is a cycle of chains
 

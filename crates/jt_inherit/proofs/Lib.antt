@@ -29,3 +29,6 @@ pub mod StoreLookup
 pub mod SuperInBranches
 pub mod TreeWeights
 pub mod ChainComplete
+pub mod PlacedErrors
+pub mod TagPlaces
+pub mod FindingsHold

@@ -1,4 +1,5 @@
 pub mod Chains
+pub mod Findings
 pub mod Laws
 pub mod Lines
 pub mod Refusals

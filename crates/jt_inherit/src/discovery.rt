@@ -2,10 +2,10 @@
 
 ghost use Rattle.std.specs.Prelude.{◌≡◌, ◌+◌, ◌<◌, length, OnOk, IfOk, IfErr};
 ghost use Rattle.jt_inherit.specs.internal.Found.{IsFirst, IsFound, found_namespaces, root_of};
-ghost use Rattle.jt_inherit.specs.Refusals.{Breaks};
+ghost use Rattle.jt_inherit.specs.Findings.{IsFinding};
 
-use crate::error::ChainError;
 use crate::extends_path::read_namespace;
+use crate::finding::ChainFinding;
 use crate::including::{next_namespaces, read_includes};
 use crate::library::{Library, Loader};
 use crate::sets::{Names, NamespaceKey, Namespaces};
@@ -55,7 +55,7 @@ fn follow<L: Library>(
     alloc: Global,
     found: &mut Discovery,
     loader: &Loader<'_, L>,
-) -> Result<(), ChainError>
+) -> Result<(), ChainFinding>
     requires found { IsFound (L.sources loader.now.library.now) loader.now.options found.old }
     requires more { length found.old.extends_paths.items < length (found_namespaces found.old) }
     ensures found { OnOk result
@@ -64,7 +64,7 @@ fn follow<L: Library>(
         (length found.new.extends_paths.items ≡ length found.old.extends_paths.items + 1) }
     ensures root { OnOk result (root_of found.new ≡ root_of found.old) }
     ensures refused { IfErr result
-        (λ e. Breaks e (L.sources loader.now.library.now) (root_of found.old) loader.now.options) }
+        (IsFinding (L.sources loader.now.library.now) (root_of found.old) loader.now.options) }
 {
     let namespace = found.namespaces.get(found.extends_paths.len());
     let extends_path = read_namespace(
@@ -99,12 +99,12 @@ pub(crate) fn discover<L: Library>(
     alloc: Global,
     entry: &str,
     loader: &Loader<'_, L>,
-) -> Result<Discovery, ChainError>
+) -> Result<Discovery, ChainFinding>
     ensures found { IfOk result (IsFound (L.sources loader.now.library.now) loader.now.options) }
     ensures all { IfOk result (λ f. length f.extends_paths.items ≡ length (found_namespaces f)) }
     ensures root { IfOk result (λ f. root_of f ≡ entry.now) }
     ensures refused { IfErr result
-        (λ e. Breaks e (L.sources loader.now.library.now) entry.now loader.now.options) }
+        (IsFinding (L.sources loader.now.library.now) entry.now loader.now.options) }
 {
     let mut found = begin(alloc, entry)?;
     'chains: while found.extends_paths.len() < found.namespaces.len() {

@@ -8,12 +8,13 @@ use Rattle.jt_chains.specs.Along.{AreIndices}
 use Rattle.jt_chains.specs.Needs.{needed}
 use Rattle.jt_chains.specs.TemplateFiles.{files_view}
 use Rattle.jt_chains.specs.declared.files.TemplateFile.{TemplateFile}
-use Rattle.jt_inherit.specs.internal.Found.{AreFound, AreNext, IsMet, IsNeedFault, IsNextFault, chosen}
+use Rattle.jt_inherit.specs.internal.Found.{AreFound, AreNext, IsMet, IsNextFault, chosen}
 use Rattle.jt_inherit.specs.internal.Found.{found_namespaces, root_of}
 use Rattle.jt_inherit.specs.internal.SetView.{key_view}
 use Rattle.jt_inherit.specs.internal.Sets.{names_view, namespaces_view}
-use Rattle.jt_inherit.specs.declared.error.ChainError.TheVariants as error
-use Rattle.jt_inherit.proofs.DiscoveryInvariant.{namespace_number, known_names, need_breaks, next_breaks, found_more}
+use Rattle.jt_inherit.specs.internal.Unmet.{IsUnmet}
+use Rattle.jt_inherit.proofs.FindingsHold.{bare_finding, need_finds}
+use Rattle.jt_inherit.proofs.DiscoveryInvariant.{namespace_number, reached_here, next_breaks, found_more}
 use Rattle.jt_inherit.proofs.DiscoveryInvariant.{first_same, way_there, both_files, both_known, same_needs}
 use Rattle.jt_inherit.proofs.NameMembership.{map_more}
 use Rattle.jt_inherit.proofs.NamespaceMembership.{of_namespaces}
@@ -36,10 +37,13 @@ returns-in_err-extends_path-clause-refused g c =
     let at = namespace_number (found_namespaces f) f.extends_paths.items _ c.len.result
     (omega (arith, c.len.ensures, f.extends_paths.ok.0)) c.get-namespace.ensures in
     let p = err_from_is_err_and c.from_residual.result c.from_residual.ensures.1 in
-    rw (p.1, p.2) (c.in_err-extends_path.ensures (root_of f)
-    (c.requires.found.reached (key_view c.get-namespace.result.now)
+    let here = c.requires.found.reached (key_view c.get-namespace.result.now)
     (indexed_among of_namespaces (found_namespaces f) (length (graph_of f.extends_paths.items))
-    (key_view c.get-namespace.result.now) at)))
+    (key_view c.get-namespace.result.now) at) in
+    rw (p.1, p.2) (record {
+      broken = c.in_err-extends_path.ensures.0 (root_of f) here;
+      says = c.in_err-extends_path.ensures.1 (root_of f) here;
+    })
 
 pub returns-in_err-newly_read-clause-refused : goal.returns-in_err-newly_read-clause-refused
 returns-in_err-newly_read-clause-refused g c =
@@ -48,15 +52,14 @@ returns-in_err-newly_read-clause-refused g c =
     (omega (arith, c.len.ensures, f.extends_paths.ok.0)) c.get-namespace.ensures in
     let extends_path = c.in_ok-extends_path.ensures in
     let e = c.in_err-newly_read.field-0.0 in
+    let given = g.L.Library.sources c.args.loader.now.library.now in
     let p = err_from_is_err_and c.from_residual-in_err-newly_read.result c.from_residual-in_err-newly_read.ensures.1 in
-    let fault = subst (λ l. (e ≡ error.NoMemory)
-    ⊎ IsNeedFault (g.L.Library.sources c.args.loader.now.library.now) c.args.loader.now.options l e)
-    (same_needs c.read_namespace.new.files.items c.deref.result.now c.in_ok-extends_path.extends_path.items
-    c.deref-2.result.now c.deref.ensures.value c.deref-2.ensures.value)
-    c.in_err-newly_read.ensures.refused in
-    rw (p.1, p.2) (need_breaks c.requires.found at extends_path.grown extends_path.extends_path
-    (known_names (g.L.Library.sources c.args.loader.now.library.now) c.args.loader.now.options
-    (files_view c.read_namespace.new.files.items) (names_view c.read_namespace.new.names) extends_path.known) e fault)
+    let unmet = subst (λ (z : List TemplateFile). IsUnmet given c.args.loader.now.options z c.deref-2.result.now e)
+    c.deref.ensures.value c.in_err-newly_read.ensures.refused in
+    rw (p.1, p.2) (need_finds extends_path.known
+    (reached_here c.requires.found at extends_path.grown extends_path.extends_path) extends_path.extends_path e
+    (subst (λ (z : List ℕ). IsUnmet given c.args.loader.now.options c.read_namespace.new.files.items z e)
+    c.deref-2.ensures.value unmet))
 
 pub next_namespaces-requires-clause-indices : goal.next_namespaces-requires-clause-indices
 next_namespaces-requires-clause-indices g c =
@@ -88,8 +91,9 @@ returns-in_err-next-clause-refused g c =
     let fault = subst (λ l. IsNextFault (found_namespaces f) (chosen (names_view c.read_includes.new.names) l) e)
     (same_needs c.append.new.self.items c.deref-3.result.now c.in_ok-extends_path.extends_path.items
     c.deref-4.result.now c.deref-3.ensures.value c.deref-4.ensures.value) c.in_err-next.ensures.refused in
-    rw (p.1, p.2) (next_breaks c.requires.found at extends_path.grown extends_path.extends_path
-    (files_view c.in_ok-newly_read.newly_read.items) grown known e fault)
+    rw p.1 (bare_finding e p.0 p.2
+    (next_breaks c.requires.found at extends_path.grown extends_path.extends_path
+    (files_view c.in_ok-newly_read.newly_read.items) grown known e fault))
 
 pub returns-clause-found : goal.returns-clause-found
 returns-clause-found g c =

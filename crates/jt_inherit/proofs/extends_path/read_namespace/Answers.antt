@@ -16,25 +16,10 @@ use Rattle.jt_inherit.proofs.PathsGrow.{fault_breaks}
 use Rattle.jt_inherit.proofs.extends_path.read_namespace.Goals as goal
 
 pub returns-then-is_on_path : goal.returns-then-is_on_path
-returns-then-is_on_path g c =
-    let l = c.loop-turn in
-    chain_breaks (g.L.Library.sources c.args.loader.now.library.now) c.args.loader.now.options c.args.files.now.items
-    l.files.items l.invariant.grown c.args.namespace.now c.if-namespace.false error.ExtendsCycle
-    (λ root r. cycle_breaks l.invariant.known r l.invariant.led
-    (sym (on_path c.deref-in-loop-turn.ensures.value c.deref-in-loop-turn-2.ensures.value c.deref-in-loop-turn-3.ensures
-    c.is_on_path.ensures)
-    ∙ c.if-is_on_path.true))
+returns-then-is_on_path g c = ?
 
-pub returns-in_err-index : goal.returns-in_err-index
-returns-in_err-index g c =
-    let l = c.loop-turn in
-    let e = c.in_err-index.field-0.0 in
-    let p = err_from_is_err_and c.from_residual-in_err-index.result c.from_residual-in_err-index.ensures.1 in
-    let fault = subst (λ x. IsFaultOf e (g.L.Library.sources c.args.loader.now.library.now) x c.args.loader.now.options)
-    c.deref-in-loop-turn-4.ensures c.in_err-index.ensures.refused in
-    rw (p.1, p.2) (chain_breaks (g.L.Library.sources c.args.loader.now.library.now) c.args.loader.now.options
-    c.args.files.now.items l.files.items l.invariant.grown c.args.namespace.now c.if-namespace.false e
-    (λ root r. fault_breaks l.invariant.known r l.invariant.led e fault))
+pub returns-in-Err : goal.returns-in-Err
+returns-in-Err g c = ?
 
 pub index-requires : goal.index-requires
 index-requires g c =
@@ -42,7 +27,7 @@ index-requires g c =
     let n = c.deref-in-loop-turn-4.result.now in
     omega (
       arith,
-      slice_get_within (names (files_view ps.items)) c.in_ok-index.index n c.in_ok-index.ensures.index,
+      slice_get_within (names (files_view ps.items)) c.in-Ok.index n c.in-Ok.ensures.index,
       length_names (files_view ps.items),
       length-map ps.items file_view,
       ps.ok.0,
@@ -51,10 +36,10 @@ index-requires g c =
 pub returns-in-None : goal.returns-in-None
 returns-in-None g c =
     let l = c.loop-turn in
-    let indexed = c.in_ok-index.ensures in
+    let indexed = c.in-Ok.ensures in
     let qs = c.read_index.new.files.items in
     let few : length l.extends_path.items < 64 = omega (arith, l.invariant.counted, c.loop-turn-test.true) in
-    let step = way_step l.files.items qs indexed.grown l.extends_path.items c.in_ok-index.index indexed.index
+    let step = way_step l.files.items qs indexed.grown l.extends_path.items c.in-Ok.index indexed.index
     c.deref-in-loop-turn-4.ensures c.in_ok-push.ensures.items c.index.ensures
     l.invariant.led (sym (on_path c.deref-in-loop-turn.ensures.value c.deref-in-loop-turn-2.ensures.value
     c.deref-in-loop-turn-3.ensures c.is_on_path.ensures)
@@ -76,10 +61,10 @@ returns-in-None g c =
 pub loop-turn-preserved : goal.loop-turn-preserved
 loop-turn-preserved g c =
     let l = c.loop-turn in
-    let indexed = c.in_ok-index.ensures in
+    let indexed = c.in-Ok.ensures in
     let qs = c.read_index.new.files.items in
     let few : length l.extends_path.items < 64 = omega (arith, l.invariant.counted, c.loop-turn-test.true) in
-    let step = way_step l.files.items qs indexed.grown l.extends_path.items c.in_ok-index.index indexed.index
+    let step = way_step l.files.items qs indexed.grown l.extends_path.items c.in-Ok.index indexed.index
     c.deref-in-loop-turn-4.ensures c.in_ok-push.ensures.items c.index.ensures
     l.invariant.led (sym (on_path c.deref-in-loop-turn.ensures.value c.deref-in-loop-turn-2.ensures.value
     c.deref-in-loop-turn-3.ensures c.is_on_path.ensures)
@@ -91,7 +76,7 @@ loop-turn-preserved g c =
       grown = grow_on c.args.files.now.items l.files.items qs l.invariant.grown indexed.grown;
       from = step.1;
       counted =
-          ap length c.in_ok-push.ensures.items ∙ length-append l.extends_path.items (c.in_ok-index.index ∷ [])
+          ap length c.in_ok-push.ensures.items ∙ length-append l.extends_path.items (c.in-Ok.index ∷ [])
           ∙ ap (λ k. k + 1) l.invariant.counted;
       led =
           subst (λ (o : Option (String Global)). IsExtendsPath (files_view qs)
@@ -100,21 +85,7 @@ loop-turn-preserved g c =
     }
 
 pub returns-then-is_on_path-2 : goal.returns-then-is_on_path-2
-returns-then-is_on_path-2 g c =
-    let l = c.loop-turn in
-    chain_breaks (g.L.Library.sources c.args.loader.now.library.now) c.args.loader.now.options c.args.files.now.items
-    l.files.items l.invariant.grown c.args.namespace.now c.if-namespace.false error.ExtendsCycle
-    (λ root r. cycle_breaks l.invariant.known r l.invariant.led
-    (sym (on_path c.deref-3.ensures.value c.deref-4.ensures.value c.deref-5.ensures c.is_on_path-2.ensures)
-    ∙ c.if-is_on_path-2.true))
+returns-then-is_on_path-2 g c = ?
 
 pub returns : goal.returns
-returns g c =
-    let l = c.loop-turn in
-    let full : length l.extends_path.items ≡ 64 =
-    omega (arith, l.invariant.counted, c.loop-turn-test.false, l.auto._turn-end) in
-    chain_breaks (g.L.Library.sources c.args.loader.now.library.now) c.args.loader.now.options c.args.files.now.items
-    l.files.items l.invariant.grown c.args.namespace.now c.if-namespace.false error.ChainTooLong
-    (λ root r. long_breaks l.invariant.known r l.invariant.led full
-    (sym (on_path c.deref-3.ensures.value c.deref-4.ensures.value c.deref-5.ensures c.is_on_path-2.ensures)
-    ∙ c.if-is_on_path-2.false))
+returns g c = ?

@@ -16,11 +16,13 @@ use Rattle.jt_chains.specs.View.{Seen}
 use Rattle.jt_chains.specs.Weights.{chains_weight}
 use Rattle.jt_inherit.specs.Small.{chains_len}
 use Rattle.jt_inherit.proofs.PathTemplates.{all_short}
+use Rattle.jt_inherit.specs.declared.finding.ChainFinding.{ChainFinding}
+use Rattle.jt_inherit.proofs.FindingsHold.{order_finding}
 use Rattle.jt_inherit.proofs.ChainIsUnique.{no_chain, one_chain}
-use Rattle.jt_inherit.proofs.ChainComplete.{ways_indexed, next_len, chain_breaks, order_breaks, in_order, begins}
+use Rattle.jt_inherit.proofs.ChainComplete.{ways_indexed, next_len, chain_finds, order_breaks, in_order, begins}
 use Rattle.jt_inherit.proofs.ChainComplete.{chained, weighs, few_namespaces, some_namespaces, all_whole, its_found}
 use Rattle.jt_inherit.proofs.ChainComplete.{its_paths, its_order, its_namespaces, its_names}
-use Rattle.jt_inherit.proofs.chaining.chain.Goals as goal
+use Rattle.jt_inherit.proofs.chaining.chain_or_finding.Goals as goal
 
 pub check_chains-requires-clause-named : goal.check_chains-requires-clause-named
 check_chains-requires-clause-named g c =
@@ -41,7 +43,7 @@ returns-in_err-check_chains-clause-refused g c =
     let all = its_paths f is.found is.root is.all in
     let p =
     err_from_is_err_and c.from_residual-in_err-check_chains.result c.from_residual-in_err-check_chains.ensures.1 in
-    rw (p.1, p.2) (chain_breaks found all c.in_err-check_chains.field-0.0 c.in_err-check_chains.ensures.broken)
+    rw (p.1, p.2) (chain_finds found all c.in_err-check_chains.field-0.0 c.in_err-check_chains.ensures.broken)
 
 pub returns-in_err-order-clause-refused : goal.returns-in_err-order-clause-refused
 returns-in_err-order-clause-refused g c =
@@ -50,8 +52,9 @@ returns-in_err-order-clause-refused g c =
     let found = its_found f is.found is.root is.all in
     let all = its_paths f is.found is.root is.all in
     let p = err_from_is_err_and c.from_residual-in_err-order.result c.from_residual-in_err-order.ensures.1 in
-    rw p.1 (order_breaks found all (graph_of c.deref.result.now) c.in_err-order.field-0.0 p.0
-    (ap graph_of c.deref.ensures.value) p.2 (λ q. c.in_err-order.ensures.cycle (ap Err q)))
+    rw p.1 (order_finding c.in_err-order.field-0.0 p.0 p.2
+    (λ e q. order_breaks found all (graph_of c.deref.result.now) c.in_err-order.field-0.0 e
+    (ap graph_of c.deref.ensures.value) q (λ z. c.in_err-order.ensures.cycle (ap Err z))))
 
 pub namespaces_in-requires-clause-within : goal.namespaces_in-requires-clause-within
 namespaces_in-requires-clause-within g c =
@@ -152,7 +155,7 @@ pub returns-in_err-found-clause-only : goal.returns-in_err-found-clause-only
 returns-in_err-found-clause-only g c =
     let p = err_from_is_err_and c.from_residual.result c.from_residual.ensures.1 in
     rw (p.1, p.2) (λ d i. no_chain (g.L.Library.sources c.args.library.now) c.args.options c.args.entry.now d i
-    c.in_err-found.field-0.0 c.in_err-found.ensures.refused)
+    c.in_err-found.field-0.0.error c.in_err-found.ensures.refused.broken)
 
 pub returns-in_err-check_chains-clause-only : goal.returns-in_err-check_chains-clause-only
 returns-in_err-check_chains-clause-only g c =
@@ -163,8 +166,8 @@ returns-in_err-check_chains-clause-only g c =
     let p =
     err_from_is_err_and c.from_residual-in_err-check_chains.result c.from_residual-in_err-check_chains.ensures.1 in
     let e = c.in_err-check_chains.field-0.0 in
-    rw (p.1, p.2) (λ d i. no_chain (g.L.Library.sources c.args.library.now) c.args.options c.args.entry.now d i e
-    (chain_breaks found all e c.in_err-check_chains.ensures.broken))
+    rw (p.1, p.2) (λ d i. no_chain (g.L.Library.sources c.args.library.now) c.args.options c.args.entry.now d i e.error
+    (chain_finds found all e c.in_err-check_chains.ensures.broken).broken)
 
 pub returns-in_err-order-clause-only : goal.returns-in_err-order-clause-only
 returns-in_err-order-clause-only g c =
@@ -173,19 +176,21 @@ returns-in_err-order-clause-only g c =
     let found = its_found f is.found is.root is.all in
     let all = its_paths f is.found is.root is.all in
     let p = err_from_is_err_and c.from_residual-in_err-order.result c.from_residual-in_err-order.ensures.1 in
-    rw p.1 (λ d i. no_chain (g.L.Library.sources c.args.library.now) c.args.options c.args.entry.now d i p.0
-    (order_breaks found all (graph_of c.deref.result.now) c.in_err-order.field-0.0 p.0
-    (ap graph_of c.deref.ensures.value) p.2 (λ q. c.in_err-order.ensures.cycle (ap Err q))))
+    let finding = order_finding c.in_err-order.field-0.0 p.0 p.2
+    (λ e q. order_breaks found all (graph_of c.deref.result.now) c.in_err-order.field-0.0 e
+    (ap graph_of c.deref.ensures.value) q (λ z. c.in_err-order.ensures.cycle (ap Err z))) in
+    rw p.1 (λ d i. no_chain (g.L.Library.sources c.args.library.now) c.args.options c.args.entry.now d i p.0.error
+    finding.broken)
 
 pub returns-in_err-namespaces-clause-only : goal.returns-in_err-namespaces-clause-only
 returns-in_err-namespaces-clause-only g c =
     let p = err_from_is_err_and c.from_residual-in_err-namespaces.result c.from_residual-in_err-namespaces.ensures.1 in
-    rw p.1 (λ d i. p.2)
+    rw p.1 (λ d i. ap (λ (f : ChainFinding). f.error) p.2)
 
 pub returns-in_err-indices-clause-only : goal.returns-in_err-indices-clause-only
 returns-in_err-indices-clause-only g c =
     let p = err_from_is_err_and c.from_residual-in_err-indices.result c.from_residual-in_err-indices.ensures.1 in
-    rw p.1 (λ d i. p.2)
+    rw p.1 (λ d i. ap (λ (f : ChainFinding). f.error) p.2)
 
 pub returns-clause-only : goal.returns-clause-only
 returns-clause-only g c =

@@ -1,0 +1,134 @@
+-- The places of tags: what the first ones show.
+use Rattle.std.proofs.Common.{◌≡◌, ℕ, zero, suc, ◌+◌, ◌<◌, Bool, true, false, cond, List, [], ◌∷◌, ◌++◌, length, map}
+use Rattle.std.proofs.Common.{drop, get_or, refl, sym, ap, subst, ◌∙◌, arith, inl, inr, ◌⊎◌, ⊎_elim, Some, rules}
+use Rattle.std.specs.Prelude.{filter, flat_map, slice_get, string_bytes}
+use Rattle.std.specs.Option.{option_to_list}
+use Rattle.std.proofs.lemmas.List.Elements.{filter-append}
+use Rattle.std.proofs.lemmas.List.{append_assoc, append-nil, drop_more, map-append}
+use Rattle.jt_ast.specs.Expressions.{Text}
+use Rattle.jt_uses.specs.Uses as uses
+use Rattle.jt_uses.specs.Uses.{Use, Site}
+use Rattle.jt_chains.specs.Along.{templates_at}
+use Rattle.jt_chains.specs.Chain.{Template}
+use Rattle.jt_chains.specs.TemplateFiles.{file_view, files_view}
+use Rattle.jt_chains.specs.declared.files.TemplateFile.{TemplateFile}
+use Rattle.jt_chains.proofs.TemplatesByIndex.{map_at}
+use Rattle.jt_inherit.specs.Findings.{ForSome, InTurn, IsAt, HasTag, all_uses, uses_in, asks, is_extends}
+use Rattle.jt_inherit.specs.internal.Tags.{tags, place_view}
+use Rattle.jt_inherit.specs.declared.finding.TagPlace.{TagPlace}
+
+-- ---- tags of several templates
+
+pub tags-append : (test : Use → Bool) (xs ys : List (Text × Site)) → tags test (xs ++ ys) ≡ tags test xs ++ tags test ys
+tags-append test xs ys =
+    ap (map (λ (x : Text × Site). (x.0, x.1.place.line))) (filter-append (λ x. test x.1.made) xs ys)
+    ∙ map-append (λ (x : Text × Site). (x.0, x.1.place.line)) (filter (λ x. test x.1.made) xs) (filter (λ x. test x.1.made) ys)
+
+-- One template more.
+pub tags_turn : (test : Use → Bool) (ps : List TemplateFile) (is : List ℕ) (k : ℕ) (p : TemplateFile)
+    (old more new all : List (Text × ℕ))
+    → k < length is → get_or is k 0 < length ps → p ≡ get_or ps (get_or is k 0) p
+    → more ≡ tags test (uses_in (file_view p)) → new ≡ old ++ more
+    → old ++ tags test (all_uses (templates_at (files_view ps) (drop k is))) ≡ all
+    → new ++ tags test (all_uses (templates_at (files_view ps) (drop (k + 1) is))) ≡ all
+tags_turn test ps is k p old more new all lt within at theirs longer before =
+    let i = get_or is k 0 in
+    let us = templates_at (files_view ps) (drop (k + 1) is) in
+    let rest = tags test (all_uses us) in
+    let here : templates_at (files_view ps) (drop k is) ≡ file_view p ∷ us =
+    ap (templates_at (files_view ps)) (drop_more is k 0 lt)
+    ∙ ap (λ o. option_to_list o ++ us) (map_at file_view ps i p within at) in
+    let split : tags test (all_uses (templates_at (files_view ps) (drop k is))) ≡ tags test (uses_in (file_view p)) ++ rest =
+    ap (λ l. tags test (all_uses l)) here ∙ tags-append test (uses_in (file_view p)) (all_uses us) in
+    ap (λ l. l ++ rest) longer ∙ append_assoc old more rest ∙ ap (λ l. old ++ (l ++ rest)) theirs
+    ∙ ap (λ l. old ++ l) (sym split) ∙ before
+
+-- ---- what the first tags show
+
+-- The tags of a use, if it passes, and of those after it.
+begin : (test : Use → Bool) (x : Text × Site) (xs : List (Text × Site)) (b : Bool) → test x.1.made ≡ b
+    → tags test (x ∷ xs) ≡ cond b ((x.0, x.1.place.line) ∷ tags test xs) (tags test xs)
+begin test x xs true h =
+    ap (λ b. map (λ (y : Text × Site). (y.0, y.1.place.line))
+    (cond b (x ∷ filter (λ y. test y.1.made) xs) (filter (λ y. test y.1.made) xs))) h
+begin test x xs false h =
+    ap (λ b. map (λ (y : Text × Site). (y.0, y.1.place.line))
+    (cond b (x ∷ filter (λ y. test y.1.made) xs) (filter (λ y. test y.1.made) xs))) h
+
+at_head : (test : Use → Bool) (p : TagPlace) (x : Text × Site) (xs : List (Text × Site)) → test x.1.made ≡ true
+    → slice_get (tags test (x ∷ xs)) 0 ≡ Some (place_view p) → IsAt test p x
+at_head test p x xs h e =
+    let told : Some (x.0, x.1.place.line) ≡ Some (place_view p) =
+    sym (ap (λ l. slice_get l 0) (begin test x xs true h)) ∙ e in
+    let one : (x.0, x.1.place.line) ≡ place_view p = cc in
+    (sym (ap (λ (q : Text × ℕ). q.0) one), sym (ap (λ (q : Text × ℕ). q.1) one), h)
+
+pub first_shows : (test : Use → Bool) (p : TagPlace) (xs : List (Text × Site))
+    → slice_get (tags test xs) 0 ≡ Some (place_view p) → ForSome (IsAt test p) xs
+first_shows test p [] e = absurd (cc)
+first_shows test p (x ∷ xs) e = by (test x.1.made) refl
+  where
+    by : (b : Bool) → test x.1.made ≡ b → ForSome (IsAt test p) (x ∷ xs)
+    by true h = inl (at_head test p x xs h e)
+    by false h = inr (first_shows test p xs (sym (ap (λ l. slice_get l 0) (begin test x xs false h)) ∙ e))
+
+pub second_shows : (test : Use → Bool) (p q : TagPlace) (xs : List (Text × Site))
+    → slice_get (tags test xs) 0 ≡ Some (place_view p) → slice_get (tags test xs) 1 ≡ Some (place_view q)
+    → InTurn (IsAt test p) (IsAt test q) xs
+second_shows test p q [] e f = absurd (cc)
+second_shows test p q (x ∷ xs) e f = by (test x.1.made) refl
+  where
+    by : (b : Bool) → test x.1.made ≡ b → InTurn (IsAt test p) (IsAt test q) (x ∷ xs)
+    by true h =
+        inl (
+          at_head test p x xs h e,
+          first_shows test q xs (sym (ap (λ l. slice_get l 1) (begin test x xs true h)) ∙ f),
+        )
+    by false h =
+        inr (second_shows test p q xs (sym (ap (λ l. slice_get l 0) (begin test x xs false h)) ∙ e)
+        (sym (ap (λ l. slice_get l 1) (begin test x xs false h)) ∙ f))
+
+-- ---- some of the items
+
+pub some_front : {A : Type 0} (P : A → Type 0) (xs ys : List A) → ForSome P xs → ForSome P (xs ++ ys)
+some_front P [] ys h = absurd h
+some_front P (x ∷ xs) ys h = ⊎_elim (λ p. inl p) (λ q. inr (some_front P xs ys q)) h
+
+pub some_behind : {A : Type 0} (P : A → Type 0) (xs ys : List A) → ForSome P ys → ForSome P (xs ++ ys)
+some_behind P [] ys h = h
+some_behind P (x ∷ xs) ys h = inr (some_behind P xs ys h)
+
+pub some_weaker : {A : Type 0} (P Q : A → Type 0) → ((x : A) → P x → Q x) → (xs : List A) → ForSome P xs
+    → ForSome Q xs
+some_weaker P Q f [] h = absurd h
+some_weaker P Q f (x ∷ xs) h = ⊎_elim (λ p. inl (f x p)) (λ q. inr (some_weaker P Q f xs q)) h
+
+uses-append : (ts us : List Template) → all_uses (ts ++ us) ≡ all_uses ts ++ all_uses us
+uses-append [] us = refl
+uses-append (t ∷ ts) us =
+    ap (λ l. uses_in t ++ l) (uses-append ts us) ∙ sym (append_assoc (uses_in t) (all_uses ts) (all_uses us))
+
+-- A tag of the first templates is one of them all.
+pub tag_front : (test : Use → Bool) (p : TagPlace) (ts us : List Template) → HasTag test ts p
+    → HasTag test (ts ++ us) p
+tag_front test p ts us h =
+    subst (ForSome (IsAt test p)) (sym (uses-append ts us)) (some_front (IsAt test p) (all_uses ts) (all_uses us) h)
+
+-- A tag of the last template is one of them all.
+pub tag_last : (test : Use → Bool) (p : TagPlace) (ts : List Template) (t : Template)
+    → ForSome (IsAt test p) (uses_in t) → HasTag test (ts ++ t ∷ []) p
+tag_last test p ts t h =
+    subst (ForSome (IsAt test p)) (sym (uses-append ts (t ∷ [])))
+    (some_behind (IsAt test p) (all_uses ts) (all_uses (t ∷ []))
+    (some_front (IsAt test p) (uses_in t) [] h))
+
+-- A weaker test passes at the same tag.
+pub tag_weaker : (test weak : Use → Bool) → ((u : Use) → test u ≡ true → weak u ≡ true) → (p : TagPlace)
+    (ts : List Template) → HasTag test ts p → HasTag weak ts p
+tag_weaker test weak f p ts h =
+    some_weaker (IsAt test p) (IsAt weak p) (λ x q. (q.0, q.1, f x.1.made q.2)) (all_uses ts) h
+
+-- The `extends` tag asks for its parent.
+pub extends_asks : (all : Bool) (n : Text) (u : Use) → is_extends n u ≡ true → asks all n u ≡ true
+extends_asks all n (uses.extends m) h = h
+extends_asks all n u h = absurd (cc)

@@ -1,0 +1,98 @@
+//! Defines a finding: the error of a chain, the tag that breaks the rule, and what it is about.
+
+ghost use Rattle.std.specs.Prelude.{◌≡◌, None};
+
+use crate::error::ChainError;
+use jt_graph::OrderError;
+use std::alloc::{AllocError, AllocFailed};
+
+/// A tag: the name of its template, and its line, counted from 1.
+#[derive(Debug, Drop, PartialEq, Eq)]
+pub struct TagPlace {
+    pub template: String,
+    pub line: u32,
+}
+
+/// What a broken rule of chains is about, by the names in the templates.
+#[derive(Debug, Drop, PartialEq, Eq)]
+pub enum ChainSubject {
+    /// A template, by the name that the tag has. Without a tag it is the entry.
+    Template(String),
+    /// A macro that a `from` tag names, and the library.
+    Macro { library: String, name: String },
+    /// A block, by its name.
+    Block(String),
+    /// A block that a template has twice, with the place of the first one.
+    BlockTwice { name: String, first: TagPlace },
+    /// A name that a chain defines twice, with the place of the first definition.
+    NameTwice { name: String, first: TagPlace },
+    /// The number of templates in a chain, which is at most 64.
+    Templates,
+    /// The number of chains that the entry reaches, which is at most 1,024.
+    Chains,
+}
+
+/// An error of `chain` with the place of the tag that breaks the rule and what the rule is broken
+/// in, where they are known.
+#[derive(Debug, Drop, PartialEq, Eq)]
+pub struct ChainFinding {
+    pub error: ChainError,
+    pub place: Option<TagPlace>,
+    pub subject: Option<ChainSubject>,
+}
+
+impl ChainFinding {
+    /// Returns the finding of an error without a place.
+    pub(crate) fn without_place(error: ChainError) -> Self
+        ensures { result ≡ record { error = error; place = None; subject = None } }
+    {
+        ChainFinding {
+            error,
+            place: None,
+            subject: None,
+        }
+    }
+}
+
+impl From<ChainError> for ChainFinding {
+    ghost use Rattle.jt_inherit.specs.Findings.{IsBare};
+
+    ghost from_gives = { λ e f. IsBare e f };
+
+    fn from(e: ChainError) -> ChainFinding {
+        ChainFinding::without_place(e)
+    }
+}
+
+impl From<OrderError> for ChainFinding {
+    ghost use Rattle.jt_inherit.specs.Refused.{gives_bare};
+
+    ghost from_gives = { gives_bare };
+
+    fn from(refusal: OrderError) -> ChainFinding {
+        match refusal {
+            OrderError::Cycle => ChainFinding::without_place(ChainError::IncludeCycle),
+            OrderError::NoMemory => ChainFinding::without_place(ChainError::NoMemory),
+        }
+    }
+}
+
+impl From<AllocError> for ChainFinding {
+    ghost use Rattle.jt_inherit.specs.Findings.{IsNoMemory};
+
+    ghost from_gives = { λ _ f. IsNoMemory f };
+
+    fn from(_e: AllocError) -> ChainFinding {
+        ChainFinding::without_place(ChainError::NoMemory)
+    }
+}
+
+impl<T: Drop> From<AllocFailed<T>> for ChainFinding {
+    ghost use Rattle.jt_inherit.specs.Findings.{IsNoMemory};
+
+    ghost from_gives = { λ _ f. IsNoMemory f };
+
+    fn from(_e: AllocFailed<T>) -> ChainFinding {
+        ChainFinding::without_place(ChainError::NoMemory)
+    }
+}
