@@ -10,10 +10,10 @@ use jt_inherit::Library;
 use jt_machine::{Outcome, run};
 use jt_scan::Options;
 use jt_value::Context;
-use jt_verify::verify;
+use jt_verify::Verified;
 use std::alloc::Global;
 
-/// Compiles, verifies and runs the template of the entry for a context under a budget, and returns
+/// Compiles and runs the template of the entry for a context under a budget, and returns
 /// the outcome.
 ///
 /// # Errors
@@ -35,9 +35,7 @@ pub fn render<L: Library>(
     ensures refused { IfErr result (IsUnrendered (L.sources library.now) entry.now options) }
 {
     let image = compile(alloc, entry, library, options)?;
-    match verify(alloc, image) {
-        Ok(verified) => Ok(run(alloc, &verified, context, budget)?),
-        // The compiler makes typed images, so the verifier refuses one only for lack of memory.
-        Err(_refused) => Err(RenderError::NoMemory),
-    }
+    // The compiler makes typed images, so this one is in order.
+    let verified = Verified::of_typed(image);
+    Ok(run(alloc, &verified, context, budget)?)
 }
