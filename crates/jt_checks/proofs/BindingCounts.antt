@@ -1,7 +1,7 @@
 -- The uses of a body bind as many names as the body is said to bind.
-use Rattle.std.proofs.Common.{◌≡◌, ℕ, suc, ◌+◌, Bool, true, false, if◌then◌else◌, List, [], ◌∷◌, ◌++◌, length, refl}
-use Rattle.std.proofs.Common.{sym, ap, ◌∙◌, length-append, Option, Some, None, arith, rules}
-use Rattle.std.specs.List.{filter_map, cons_option}
+use Rattle.std.proofs.Common.{◌≡◌, ℕ, suc, ◌+◌, if◌then◌else◌, List, [], ◌∷◌, ◌++◌, length, refl}
+use Rattle.std.proofs.Common.{ap, ◌∙◌, length-append, Option, Some, None, arith, rules}
+use Rattle.std.specs.List.{filter_map}
 use Rattle.std.proofs.lemmas.List.Elements.{filter_map-append}
 use Rattle.jt_ast.specs.Expressions.{Pairs, no_pairs, pair, Text}
 use Rattle.jt_ast.specs.Statements as trees
@@ -82,7 +82,7 @@ mutual
       counted (both (free (no_lines (expr_none line_of passed e p)) (both (bound_by xs (place_at line (inside_scope w)))
       (no_lines (condition_none line_of passed c p))))
       (both (body_by body (inside_loop w)) (body_by others w))) (omega arith)
-  stmt_by (set line xs e) w = 
+  stmt_by (set line xs e) w =
       free (no_lines (expr_none line_of passed e (place_at line w))) (bound_by xs (place_at line w))
   stmt_by (set_block line x body) w = record { is = ap suc (body_by body (inside_scope w)).is ∙ omega arith }
   stmt_by (with_values line ps body) w =

@@ -1,7 +1,7 @@
 -- A finding is true of the chains in which it is found, and chains without a finding break no rule.
 use Rattle.std.proofs.Common.{◌≡◌, ◌<◌, ◌≤◌, refl, sym, ap, ◌∙◌, subst, ℕ, List, [], ◌∷◌, ◌++◌, Option, Some, None}
 use Rattle.std.proofs.Common.{arith, rules}
-use Rattle.std.specs.Prelude.{◌⊎◌, flat_map, option_map, slice_get, unwrap_or}
+use Rattle.std.specs.Prelude.{◌⊎◌, flat_map, option_map, unwrap_or}
 use Rattle.std.specs.Option.{option_or}
 use Rattle.std.proofs.lemmas.Option.{slice_get_within, slice_get-get_or}
 use mathlib.Core.Logic.{inl, inr}
