@@ -25,7 +25,6 @@
 
 mod call_error;
 mod calls;
-mod error;
 mod explaining;
 mod explaining_runs;
 mod explanation;
@@ -45,7 +44,6 @@ pub use calls::{
     EntryTemplate, context_of, counts_of, image_of, render_text, run_image, run_verified, upgraded,
     verified_image, verified_template,
 };
-pub use error::RenderError;
 pub use explaining::{explained, explanation_of};
 pub use explaining_runs::explained_run;
 pub use explanation::{Explanation, TemplateRefusal};

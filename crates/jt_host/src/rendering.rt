@@ -3,9 +3,8 @@ ghost use Rattle.std.specs.Prelude.{IfOk, IfErr};
 ghost use Rattle.jt_value.specs.ContextView.{pairs_of};
 ghost use Rattle.jt_host.specs.Rendering.{IsRendered, IsUnrendered};
 
-use crate::error::RenderError;
 use jt_budget::Budget;
-use jt_codegen::compile;
+use jt_codegen::{CompileError, compile};
 use jt_inherit::Library;
 use jt_machine::{Outcome, run};
 use jt_scan::Options;
@@ -18,8 +17,7 @@ use std::alloc::Global;
 ///
 /// # Errors
 ///
-/// - `Compile` with the compiler's refusal.
-/// - `NoMemory` if a growth is refused.
+/// The compiler's refusal, or `NoMemory` if a growth is refused.
 pub fn render<L: Library>(
     alloc: Global,
     entry: &str,
@@ -27,7 +25,7 @@ pub fn render<L: Library>(
     options: Options,
     context: &Context,
     budget: Budget,
-) -> Result<Outcome, RenderError>
+) -> Result<Outcome, CompileError>
     // The outcome is that of a run of a code to which the entry compiles.
     ensures rendered { IfOk result
         (IsRendered (L.sources library.now) entry.now options (pairs_of context.now) budget) }
@@ -37,5 +35,5 @@ pub fn render<L: Library>(
     let image = compile(alloc, entry, library, options)?;
     // The compiler makes typed images, so this one is in order.
     let verified = Verified::of_typed(image);
-    Ok(run(alloc, &verified, context, budget)?)
+    run(alloc, &verified, context, budget).map_err(|_refused| CompileError::NoMemory)
 }
