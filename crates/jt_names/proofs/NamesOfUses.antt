@@ -98,7 +98,8 @@ both_read : {ss ts : List Site} {xs ys : List Text} (c : Bool) → Reads ss c xs
 both_read true e f = record { is = both e.is f.is }
 both_read false e f = record { is = both e.is f.is }
 
-free_read : {ss ts : List Site} {c : Bool} {xs : List Text} → Names name_used ss [] → Reads ts c xs → Reads (ss ++ ts) c xs
+free_read : {ss ts : List Site} {c : Bool} {xs : List Text} → Names name_used ss [] → Reads ts c xs
+    → Reads (ss ++ ts) c xs
 free_read e f = record { is = both e f.is }
 
 nothing_read : (c : Bool) → Reads [] c []
@@ -190,13 +191,15 @@ mutual
   stmt_are (for_each line xs e c body others) w q =
       let p = place_at line w in
       let bodies = body_names body ++ body_names others in
-      also (both (both (all_read w.in_callee q (expr_are e p)) (both (bound_are (place_at line (inside_scope w)) (λ x. refl) xs) (condition_are c line w q)))
+      also (both (both (all_read w.in_callee q (expr_are e p))
+      (both (bound_are (place_at line (inside_scope w)) (λ x. refl) xs) (condition_are c line w q)))
       (both (body_are body (inside_loop w) q) (body_are others w q)))
       (append_assoc (expr_names e) (xs ++ condition_names c) bodies
       ∙ ap (λ zs. expr_names e ++ zs) (append_assoc xs (condition_names c) bodies))
   stmt_are (set line xs e) w q =
       both (all_read w.in_callee q (expr_are e (place_at line w))) (bound_are (place_at line w) (λ x. refl) xs)
-  stmt_are (set_block line x body) w q = both (one_bound (place_at line w) (λ y. refl) x) (body_are body (inside_scope w) q)
+  stmt_are (set_block line x body) w q =
+      both (one_bound (place_at line w) (λ y. refl) x) (body_are body (inside_scope w) q)
   stmt_are (with_values line ps body) w q =
       both (all_read w.in_callee q (pairs_are ps (place_at line w)))
       (both (keys_are (place_at line (inside_scope w)) (λ x. refl) ps) (body_are body (inside_scope w) q))
@@ -220,7 +223,8 @@ mutual
   body_are end w q = nothing
   body_are (stmt s rest) w q = both (stmt_are s w q) (body_are rest w q)
 
-  branches_are : (bs : Branches) (w : Enclosing) → w.in_callee ≡ false → Names name_used (branch_uses bs w) (branch_names bs)
+  branches_are : (bs : Branches) (w : Enclosing) → w.in_callee ≡ false
+      → Names name_used (branch_uses bs w) (branch_names bs)
   branches_are no_branches w q = nothing
   branches_are (branch line c body rest) w q =
       also (both (both (all_read w.in_callee q (expr_are c (place_at line w))) (body_are body w q))

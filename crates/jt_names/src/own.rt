@@ -45,7 +45,8 @@ pub(crate) fn add_used<'a>(
     names: &mut BTreeSet<&'a str>,
     uses: &[UseSite<'a>],
 ) -> Result<(), AllocError>
-    ensures { IfOk result (λ _. Puts names.old names.new (filter_map name_used (sites_view uses.now))) }
+    ensures { IfOk result
+        (λ _. Puts names.old names.new (filter_map name_used (sites_view uses.now))) }
 {
     for site in uses {
         if let Some(name) = name_used(site) {

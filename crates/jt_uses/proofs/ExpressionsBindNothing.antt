@@ -1,13 +1,14 @@
 -- What reads, fields of loop, calls, filters and tests do not give, the uses in expressions do not give.
-use Rattle.std.proofs.Common.{◌≡◌, Bool, true, false, if◌then◌else◌, List, [], ◌∷◌, ◌++◌, refl, ap, ◌∙◌, Option, Some, None}
+use Rattle.std.proofs.Common.{◌≡◌, Bool, true, false, if◌then◌else◌, List, [], ◌∷◌, ◌++◌, refl, ap, ◌∙◌, Option}
+use Rattle.std.proofs.Common.{Some, None}
 use Rattle.std.specs.List.{filter_map, cons_option}
 use Rattle.std.proofs.lemmas.List.Elements.{filter_map-append}
 use Rattle.jt_ast.specs.Expressions.{Expr, constant, name, group, list_of, map_of, attribute, item, call, filter, test}
 use Rattle.jt_ast.specs.Expressions.{unary, binary, when, choice, Exprs, no_exprs, expr, Pairs, no_pairs, pair, Text}
 use Rattle.jt_ast.specs.Statements.{FilterCall}
-use Rattle.jt_uses.specs.Uses.{Use, reads, reads_loop_field, calls, filters, tests, Site, at, is_loop, is_called_by_name}
-use Rattle.jt_uses.specs.Uses.{place_at, inside_callee, before_loop, expr_uses, row_uses, pair_uses, condition_uses}
-use Rattle.jt_uses.specs.Uses.{filter_call_uses}
+use Rattle.jt_uses.specs.Uses.{Use, reads, reads_loop_field, calls, filters, tests, Site, at, is_loop, place_at}
+use Rattle.jt_uses.specs.Uses.{is_called_by_name, inside_callee, before_loop, expr_uses, row_uses, pair_uses}
+use Rattle.jt_uses.specs.Uses.{condition_uses, filter_call_uses}
 use Rattle.jt_uses.specs.declared.site.Place.{Place}
 
 -- The function gives nothing of the uses of expressions.
@@ -15,7 +16,8 @@ pub record Passes {A : Type 0} (h : Site → Option A) : Type 0 where
   pub name : (p : Place) (x : Text) → h (record { place = p; made = reads x }) ≡ None
   pub field : (p : Place) (k : Text) → h (record { place = p; made = reads_loop_field k }) ≡ None
   pub call : (p : Place) (f : Expr) (ts : Exprs) (ps : Pairs) → h (record { place = p; made = calls f ts ps }) ≡ None
-  pub filter : (p : Place) (x : Text) (ts : Exprs) (ps : Pairs) → h (record { place = p; made = filters x ts ps }) ≡ None
+  pub filter : (p : Place) (x : Text) (ts : Exprs) (ps : Pairs)
+      → h (record { place = p; made = filters x ts ps }) ≡ None
   pub test : (p : Place) (x : Text) (ts : Exprs) (ps : Pairs) → h (record { place = p; made = tests x ts ps }) ≡ None
 
 -- The function gives nothing of these uses.
