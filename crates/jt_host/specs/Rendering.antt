@@ -32,5 +32,4 @@ module _ (sources : SourceTexts) (entry : Text) (options : Options) where
 
   -- Why there is no outcome. Lack of memory claims nothing.
   abbrev pub IsUnrendered : CompileError → Type 0
-  IsUnrendered compile_error.NoMemory = Unit {0}
-  IsUnrendered e = IsRefused e
+  IsUnrendered e = e ≢ compile_error.NoMemory → IsRefused e

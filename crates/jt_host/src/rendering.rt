@@ -12,8 +12,8 @@ use jt_value::Context;
 use jt_verify::Verified;
 use std::alloc::Global;
 
-/// Compiles and runs the template of the entry for a context under a budget, and returns
-/// the outcome.
+/// Compiles and runs the template of the entry for a context under a budget, and returns the
+/// outcome.
 ///
 /// # Errors
 ///
