@@ -11,7 +11,7 @@ ghost use Rattle.jt_filters.specs.internal.Operands.{tree_of};
 ghost use Rattle.jt_filter_semantics.specs.Ordering.{fold};
 
 use crate::operand::Operand;
-use jt_value::{ListItems, NoMemory, NumberRange, Value, ValueList, ValueMap};
+use jt_value::{ListItems, NoMemory, NumberRange, Value, ValueList};
 use std::alloc::Global;
 use std::collections::BTreeMap;
 
@@ -111,7 +111,7 @@ fn push_value(alloc: Global, bytes: &mut Vec<u8>, value: &Value) -> Result<(), N
         Value::Text(text) => push_text(bytes, text.as_str()),
         Value::Markup(text) => push_text(bytes, text.as_str()),
         Value::List(list) => push_list(alloc, bytes, list),
-        Value::Map(map) => push_map(alloc, bytes, map),
+        Value::Map(map) => push_rows(bytes, rows_of(alloc, map.entries())?),
     }
 }
 
@@ -150,15 +150,6 @@ fn push_items(alloc: Global, bytes: &mut Vec<u8>, items: &[Value]) -> Result<(),
         push_value(alloc, bytes, item)?;
     }
     push_byte(bytes, 0)
-}
-
-/// Appends the code of a map. The rows are not in the frame of a nested list.
-#[cycle(codes)]
-#[inline(never)]
-fn push_map(alloc: Global, bytes: &mut Vec<u8>, map: &ValueMap) -> Result<(), NoMemory>
-    ensures { Adds (code (tree.map map.now)) bytes.old bytes.new result }
-{
-    push_rows(bytes, rows_of(alloc, map.entries())?)
 }
 
 /// Returns the keys of a map in order, each with the code of its first value.

@@ -2,6 +2,7 @@ use Rattle.std.proofs.Common.{ℕ, ◌-◌, List, ◌++◌, ap, ◌∙◌, arith
 use Rattle.jt_value.specs.Falls.{sizes-items, sizes-entries}
 use Rattle.jt_value.specs.Tree.{items_size, entries_size}
 use Rattle.jt_value.specs.View.{view}
+use Rattle.jt_value.specs.declared.payload.ValueList.TheDeep.{size-Value}
 use Rattle.jt_filters.specs.internal.Codes.{code}
 use Rattle.jt_filters.proofs.RowsPut.{row_put}
 use Rattle.jt_filters.proofs.codes.+codes.Goals as goal
@@ -10,9 +11,16 @@ pub push_list-push_items-requires : goal.push_list-push_items-requires
 push_list-push_items-requires t c =
     (omega (arith, sizes-items c.in-Values.values.now, ap items_size c.in-Values.ensures), tt)
 
-pub push_map-rows_of-requires : goal.push_map-rows_of-requires
-push_map-rows_of-requires t c =
-    (omega (arith, sizes-entries c.entries.result.now, ap entries_size c.entries.ensures), tt)
+pub push_value-rows_of-requires : goal.push_value-rows_of-requires
+push_value-rows_of-requires t c = (
+  omega (
+    arith,
+    sizes-entries c.entries.result.now,
+    ap entries_size (c.entries.ensures ∙ c.deref-in-Map.ensures),
+    ap size-Value c.in-Map.is,
+  ),
+  tt,
+)
 
 pub rows_of-loop-left-preserved-in_ok-insert : goal.rows_of-loop-left-preserved-in_ok-insert
 rows_of-loop-left-preserved-in_ok-insert t c =
