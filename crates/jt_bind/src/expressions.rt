@@ -1,7 +1,6 @@
 //! Resolves expressions: names to slots, and literals and keys to indices of a pool.
 
-ghost use Rattle.std.specs.Prelude.{false, length, List, [], IfOk, Some};
-ghost use Rattle.jt_value.specs.Tree.{Tree};
+ghost use Rattle.std.specs.Prelude.{false, length, IfOk, Some};
 ghost use Rattle.jt_ast.specs.Expressions as trees;
 ghost use Rattle.jt_ast.specs.ExpressionView as written;
 ghost use Rattle.jt_ids.specs.FilterTable.{filter_id};
@@ -9,14 +8,14 @@ ghost use Rattle.jt_semantics.specs.Operators as operators;
 ghost use Rattle.jt_semantics.specs.Resolve as resolve;
 ghost use Rattle.jt_ids.specs.declared.op_id.OpId.TheVariants as op;
 ghost use Rattle.jt_eval.specs.Values.{literal};
-ghost use Rattle.jt_ir.specs.Pool.{Constant, own};
+ghost use Rattle.jt_ir.specs.Pool.{own};
 ghost use Rattle.jt_ir.specs.Slots as slots;
 ghost use Rattle.jt_bind.specs.internal.Resolving.{IsResolved, RowAdds, RowPuts, by_position};
 ghost use Rattle.jt_bind.specs.internal.Resolving.{by_name, expr_of};
 ghost use Rattle.jt_bind.specs.internal.Resolving.{row_of, asides_of, given_of, called_of};
 ghost use Rattle.jt_bind.specs.internal.Resolving.{entries_of};
 ghost use Rattle.jt_bind.specs.internal.Resolving.{filter_row_of};
-ghost use Rattle.jt_bind.specs.internal.Scoped.{values, IsAdded, RowLeads, turn_in};
+ghost use Rattle.jt_bind.specs.internal.Scoped.{values, IsAdded, turn_in};
 
 use crate::callee::{Callee, Signature};
 use crate::lookup::{absent, no_value, reading, told};
@@ -470,6 +469,7 @@ impl<'t, 's, 'a> Resolver<'t, 's, 'a> {
 
     /// Resolves a list of expressions and appends them.
     #[cycle(expressions)]
+    #[inline(never)]
     pub(crate) fn resolve_row(
         &self,
         row: &[Expr],
