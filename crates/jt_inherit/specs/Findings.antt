@@ -1,6 +1,7 @@
 -- What a finding says of an entry in a library: the tag that breaks a rule, and what the rule is
 -- broken in. `Rules` of jt_chains defines the rules.
-use Rattle.std.specs.Prelude.{◌≡◌, ◌⊎◌, ◌<◌, ◌+◌, ℕ, Bool, false, true, not, ◌&&◌, ◌||◌, IsTrue, List, [], ◌∷◌, map, drop}
+use Rattle.std.specs.Prelude.{◌≡◌, ◌⊎◌, ◌<◌, ◌+◌, ℕ, Bool, false, true, not, ◌&&◌, ◌||◌, IsTrue, List, [], ◌∷◌, map}
+use Rattle.std.specs.Prelude.{drop}
 use Rattle.std.specs.Prelude.{flat_map, length, slice_get, Option, Some, None, string_bytes}
 use Rattle.std.specs.Option.{is_some, is_none}
 use Rattle.std.specs.Str.{bytes_eq}
