@@ -34,6 +34,25 @@ pub enum Subject {
     Names,
     /// What a rule of chains is about.
     Chain(ChainSubject),
+    /// A limit that the image would pass.
+    Limit(Limit),
+}
+
+/// A limit of an image.
+#[derive(Clone, Copy, Debug, PartialEq, Eq)]
+pub enum Limit {
+    /// The number of constants.
+    Constants,
+    /// The number of units: one for each chain, block body and macro.
+    Units,
+    /// The number of instructions.
+    Instructions,
+    /// The number of bytes.
+    Bytes,
+    /// The number of stack entries of a unit.
+    Entries,
+    /// Another number: that of globals, names, templates, parameters or locals.
+    Other,
 }
 
 /// An error of `compile` with the place of the tag and what the error is about, where they are

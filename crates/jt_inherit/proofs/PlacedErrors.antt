@@ -224,7 +224,7 @@ module _ {given : SourceTexts} {options : Options} {root : Text} {ts : List Temp
       → SubjectOf n e x → HasTag (need_test n e) (templates (sources_in ts) h) p
       → Says given root options (Some p) (Some x) e
   fault_subject n e f p (v.Template m) q t = asked_said n e f p m q.0 t q.1
-  fault_subject n e f p v.Templates q t = absurd (subst (λ z. IsFaultOf z given n options) q f)
+  fault_subject n e f p (v.Templates m) q t = absurd (subst (λ z. IsFaultOf z given n options) q.1 f)
   fault_subject n e f p x q t = absurd q
 
   -- A tag on the path asks for the name.
@@ -319,7 +319,7 @@ module _ {given : SourceTexts} {options : Options} {root : Text} {ts : List Temp
             parent_tag known r last.0 on.0 l.0 on.1 n p l.2.0,
             (back.0, ap (λ z. among z (names_up (sources_in ts) back.0 (Some n))) its_name ∙ back.1),
           ))
-      by (Some i) at (Some p) (Some v.Templates) l = let no = l.2.1 in absurd (cc)
+      by (Some i) at (Some p) (Some (v.Templates m)) l = let no = l.2.1.1 in absurd (cc)
       by (Some i) at (Some p) (Some x) l = absurd l.2.1
 
   pub long_placed : length is ≡ 64 → among n (names (templates_at ts is)) ≡ false
@@ -336,7 +336,7 @@ module _ {given : SourceTexts} {options : Options} {root : Text} {ts : List Temp
       by (Some i) at None None l = tt
       by (Some i) at None (Some x) l = absurd l.2
       by (Some i) at (Some p) None l = absurd l.2
-      by (Some i) at (Some p) (Some v.Templates) l =
+      by (Some i) at (Some p) (Some (v.Templates m)) l =
           let s = sources_in ts in
           let us = templates_at ts is in
           let last = last_template ts is i l.0 at l.1 in
@@ -345,13 +345,15 @@ module _ {given : SourceTexts} {options : Options} {root : Text} {ts : List Temp
           let up : extends_path s options.autoescape (a_chain h) ≡ names us ++ n ∷ [] =
           names_lead s 65 1 (Some h) us (Some n) (omega (arith, len)) w.leads in
           let count : length (names us) ≡ 64 = length-map us (λ (u : Template). u.name) ∙ len in
-          shown known r error.ChainTooLong p v.Templates (
-            n,
+          shown known r error.ChainTooLong p (v.Templates m)
+          (subst (λ z. HasTag (is_extends z) (templates s (a_chain h)) p
+          × (slice_get (extends_path s options.autoescape (a_chain h)) 64 ≡ Some z)
+          × (repeated (extends_path s options.autoescape (a_chain h)) ≡ false)) (sym l.2.1.0) (
             parent_tag known r last.0 on.0 l.0 on.1 n p l.2.0,
             ap (λ z. slice_get z 64) up
                 ∙ subst (λ k. slice_get (names us ++ n ∷ []) k ≡ Some n) count (last_at (names us) n),
             ap repeated up ∙ once_more of_texts n (names us) w.once new,
-          )
+          ))
       by (Some i) at (Some p) (Some (v.Template m)) l = absurd l.2.1.1
       by (Some i) at (Some p) (Some x) l = absurd l.2.1
 
