@@ -3,6 +3,7 @@
 ghost use Rattle.std.specs.Prelude.{◌≡◌, IfOk, Some};
 ghost use Rattle.jt_checks.specs.FindingView as view;
 ghost use Rattle.jt_codegen.specs.Explaining.{IsBroken, subject_view};
+ghost use Rattle.jt_codegen.specs.Passed.{most_of};
 
 use crate::error::CompileError;
 use jt_inherit::{ChainSubject, TagPlace};
@@ -43,16 +44,32 @@ pub enum Subject {
 pub enum Limit {
     /// The number of constants.
     Constants,
-    /// The number of units: one for each chain, block body and macro.
+    /// The number of units. Each chain, block body and macro has one.
     Units,
     /// The number of instructions.
     Instructions,
-    /// The number of bytes.
+    /// The number of templates that places refer to.
+    Templates,
+    /// The number of bytes of a name.
+    NameBytes,
+    /// The number of bytes of the image.
     Bytes,
     /// The number of stack entries of a unit.
     Entries,
-    /// Another number: that of globals, names, templates, parameters or locals.
-    Other,
+}
+
+impl Limit {
+    /// Returns the greatest number that the limit allows.
+    pub fn most(self) -> u32
+        ensures { result ≡ most_of self }
+    {
+        match self {
+            Limit::Constants | Limit::Units | Limit::Templates | Limit::NameBytes => 65_535,
+            Limit::Instructions => 262_144,
+            Limit::Bytes => 16_777_216,
+            Limit::Entries => 1_024,
+        }
+    }
 }
 
 /// An error of `compile` with the place of the tag and what the error is about, where they are
