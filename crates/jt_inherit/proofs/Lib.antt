@@ -34,3 +34,5 @@ pub mod TagPlaces
 pub mod FindingsHold
 pub mod ImportFound
 pub mod RingFound
+pub mod LastCall
+pub mod SuperTagLines

@@ -13,6 +13,5 @@ pub mod Rings
 pub mod RuleTests
 pub mod SetView
 pub mod Sets
-pub mod SuperLines
 pub mod Tags
 pub mod Unmet

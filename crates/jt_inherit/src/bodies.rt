@@ -83,6 +83,7 @@ fn last_super<'a>(
 }
 
 /// A block whose body calls `super()`, and the line of the tag that calls it.
+#[derive(Clone, Copy)]
 struct SuperCall<'a> {
     block: FoundTag<'a>,
     line: u32,

@@ -6,7 +6,6 @@ ghost use Rattle.jt_chains.specs.Supers as spec;
 ghost use Rattle.jt_ast.specs.StatementView.{stmt_view, body_view, branches_view, filter_call_view};
 ghost use Rattle.jt_ast.specs.StatementView.{filter_calls_view};
 ghost use Rattle.jt_inherit.specs.SuperTags.{stmt_super_at, super_at};
-ghost use Rattle.jt_inherit.specs.internal.SuperLines.{is_in_branch};
 
 use jt_ast::{Branch, Expr, FilterCall, Stmt};
 
@@ -192,8 +191,16 @@ fn statement_line(statement: &Stmt) -> Option<u32>
             line_if(has_super(value), *line)
         }
         Stmt::If(branches, other) => {
-            for branch in branches {
-                if let Some(line) = branch_line(branch) {
+            for Branch {
+                line,
+                condition,
+                body,
+            } in branches
+            {
+                if has_super(condition) {
+                    return Some(*line);
+                }
+                if let Some(line) = super_line(body) {
                     return Some(line);
                 }
             }
@@ -229,17 +236,6 @@ fn statement_line(statement: &Stmt) -> Option<u32>
             super_line(body)
         }
     }
-}
-
-/// Returns the line of the first tag of a branch that calls `super()`, nested blocks excluded.
-#[cycle(lines)]
-fn branch_line(branch: &Branch<Stmt>) -> Option<u32>
-    ensures { IfSome result (λ n. is_in_branch n branch.now ≡ true) }
-{
-    if has_super(&branch.condition) {
-        return Some(branch.line);
-    }
-    super_line(&branch.body)
 }
 
 /// Returns the line if the condition is true.

@@ -1,5 +1,7 @@
 -- The tags of wanted uses. Only private clauses cite this module.
-use Rattle.std.specs.Prelude.{ℕ, Bool, false, true, List, map, filter, string_bytes}
+use Rattle.std.specs.Prelude.{◌≡◌, ◌+◌, ℕ, Bool, false, true, IsTrue, List, map, filter, drop, slice_get, Some}
+use Rattle.std.specs.Prelude.{string_bytes}
+use Rattle.std.specs.List.{AllByRecursion}
 use Rattle.jt_ast.specs.Expressions.{Text}
 use Rattle.jt_uses.specs.Uses as uses
 use Rattle.jt_uses.specs.Uses.{Use, Site}
