@@ -14,7 +14,6 @@ mod error;
 mod explaining;
 mod finding;
 mod image;
-mod limits;
 mod places;
 mod tables;
 mod targets;

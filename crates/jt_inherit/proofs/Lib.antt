@@ -33,6 +33,3 @@ pub mod PlacedErrors
 pub mod TagPlaces
 pub mod FindingsHold
 pub mod ImportFound
-pub mod RingFound
-pub mod LastCall
-pub mod SuperTagLines

@@ -9,7 +9,6 @@ pub mod Given
 pub mod Imported
 pub mod Numbers
 pub mod Placing
-pub mod Rings
 pub mod RuleTests
 pub mod SetView
 pub mod Sets

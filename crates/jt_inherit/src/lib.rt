@@ -8,7 +8,6 @@
 //! entry.
 #![tactic(auto)]
 
-mod bodies;
 mod breaking;
 mod chaining;
 mod discovery;
@@ -23,7 +22,6 @@ mod library;
 mod names;
 mod placing;
 mod reading;
-mod rings;
 mod rules;
 mod sets;
 mod statements;
