@@ -1,7 +1,7 @@
 -- The tags of a block's body that call `super()`, nested blocks excluded.
 use Rattle.std.specs.Prelude.{ℕ, Bool, false, ◌==◌, ◌&&◌, ◌||◌}
-use Rattle.jt_ast.specs.Statements.{Stmt, print, choose, for_each, set, set_block, with_values, filter_block, autoescape}
-use Rattle.jt_ast.specs.Statements.{Body, end, stmt, Branches, no_branches, branch}
+use Rattle.jt_ast.specs.Statements.{Stmt, print, choose, for_each, set, set_block, with_values, filter_block}
+use Rattle.jt_ast.specs.Statements.{autoescape, Body, end, stmt, Branches, no_branches, branch}
 use Rattle.jt_chains.specs.Supers.{has_super, pairs_super, condition_super, filter_call_super}
 
 -- A tag at the line calls `super()`.

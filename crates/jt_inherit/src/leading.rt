@@ -21,7 +21,8 @@ use std::alloc::{AllocError, Global};
 /// Returns the name of the chain or library of a number.
 pub(crate) fn name_of(alloc: Global, found: &Discovery, number: usize) -> Result<String, AllocError>
     requires { number < length (found_namespaces found.now) }
-    ensures { IfOk result (λ name. string_bytes name ≡ name_at (found_namespaces found.now) number) }
+    ensures { IfOk result
+        (λ name. string_bytes name ≡ name_at (found_namespaces found.now) number) }
 {
     String::from_str(alloc, &found.namespaces.get(number).name)
 }

@@ -1,4 +1,5 @@
-use Rattle.std.proofs.Common.{◌≡◌, ◌<◌, [], List, ℕ, length, refl, sym, ap, subst, ◌∙◌, arith, Vec, Global, Option, Bool}
+use Rattle.std.proofs.Common.{◌≡◌, ◌<◌, [], List, ℕ, length, refl, sym, ap, subst, ◌∙◌, arith}
+use Rattle.std.proofs.Common.{Vec, Global, Option, Bool}
 use Rattle.std.specs.Prelude.{IfOk, IfSome, unwrap_or}
 use Rattle.std.proofs.lemmas.List.{length-map}
 use Rattle.jt_graph.specs.Graph.{next_of}
@@ -23,8 +24,8 @@ pub tags_at-requires : goal.tags_at-requires
 tags_at-requires c =
     let f = c.args.found.now in
     let is = c.deref-2.result.now in
-    let here = way_number f.extends_paths.items f.extends_paths.items c.args.from c.index-found-from.result is refl
-    c.requires.from c.index-found-from.is c.deref-2.ensures.value in
+    let here = way_number f.extends_paths.items f.extends_paths.items c.args.from c.index.result is refl
+    c.requires.from c.index.is c.deref-2.ensures.value in
     let lt : c.args.from < length (graph_of f.extends_paths.items) =
     omega (arith, c.requires.from, length-map f.extends_paths.items (λ (v : Vec ℕ Global). v.items)) in
     subst (λ (z : List TemplateFile). AreIndices (files_view z) is) (sym c.deref.ensures.value)
@@ -35,11 +36,12 @@ pub returns : goal.returns
 returns c =
     let f = c.args.found.now in
     let is = c.deref-2.result.now in
-    let here = way_number f.extends_paths.items f.extends_paths.items c.args.from c.index-found-from.result is refl
-    c.requires.from c.index-found-from.is c.deref-2.ensures.value in
-    let test = test_of c.wanted_for.result in
+    let here = way_number f.extends_paths.items f.extends_paths.items c.args.from c.index.result is refl
+    c.requires.from c.index.is c.deref-2.ensures.value in
+    let test = test_of c.wanted_for-wanted.result in
     let wanted : test ≡ leads_to (namespace_at (found_namespaces f) c.args.to) =
-    c.wanted_for.ensures ∙ ap leads_to (sym (ap (λ (o : Option Namespace). unwrap_or o (a_chain [])) c.get.ensures)) in
+    c.wanted_for-wanted.ensures
+    ∙ ap leads_to (sym (ap (λ (o : Option Namespace). unwrap_or o (a_chain [])) c.get.ensures)) in
     let theirs : templates_at (files_view c.deref.result.now) is
     ≡ templates_at (found_templates f) (next_of (graph_of f.extends_paths.items) c.args.from) =
     ap (λ (z : List TemplateFile). templates_at (files_view z) is) c.deref.ensures.value
