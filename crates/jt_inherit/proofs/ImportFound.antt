@@ -34,14 +34,14 @@ module _ {given : SourceTexts} {options : Options} {entry : Text} {ts : List Tem
   import_said n other None None q = tt
   import_said n other (Some p) (Some (v.Template x)) q =
       let k = q.1.0 in
-      let within : k < length ws = q.1.1.0 in
+      let within : k < length ws = q.1.1 in
       let lt : k < length hs = omega (arith, within, followed_len given ts hs hs ws ns f.followed) in
       let h = namespace_at hs k in
       let front = whole_path ts h (next_of ws k) (followed_number given ts hs hs ws ns k within f.followed).led in
       shown f.known (f.reached h (namespace_among hs k lt)) error.NotALibrary p (v.Template x)
       (subst (λ z. HasTag (is_import z) (templates (sources_in ts) h) p
       × ((is_some (sources_in ts z) && not (is_a_library (sources_in ts z))) ≡ true)) (sym q.0)
-      (subst (λ l. HasTag (is_import n) l p) (sym front) q.1.1.1, other))
+      (subst (λ l. HasTag (is_import n) l p) (sym front) q.1.2, other))
   import_said n other p x q = absurd q
 
   no_library : {h : Namespace} → Reaches (sources_in ts) options.autoescape (a_chain entry) h → (x : ChainFinding)

@@ -32,7 +32,7 @@ pub get-namespace-requires : goal.get-namespace-requires
 get-namespace-requires g c =
     omega (
       arith,
-      c.len.ensures,
+      c.len-number.ensures,
       c.args.found.now.extends_paths.ok.0,
       c.requires.more,
       length-map c.args.found.now.namespaces.items.items key_view,
@@ -51,23 +51,24 @@ check_library-requires-clause-indices g c =
 
 pub check_library-requires-clause-number : goal.check_library-requires-clause-number
 check_library-requires-clause-number g c =
-    omega (arith, c.len.ensures, c.args.found.now.extends_paths.ok.0, c.requires.more)
+    omega (arith, c.len-number.ensures, c.args.found.now.extends_paths.ok.0, c.requires.more)
 
 pub returns-in_err-check_library-clause-refused : goal.returns-in_err-check_library-clause-refused
 returns-in_err-check_library-clause-refused g c =
     let f = c.args.found.now in
-    let lt : c.len.result < length (found_namespaces f) =
-    omega (arith, c.len.ensures, f.extends_paths.ok.0, c.requires.more) in
+    let lt : c.len-number.result < length (found_namespaces f) =
+    omega (arith, c.len-number.ensures, f.extends_paths.ok.0, c.requires.more) in
     let p = err_from_is_err_and c.from_residual.result c.from_residual.ensures.1 in
-    let here = c.requires.found.reached (namespace_at (found_namespaces f) c.len.result)
-    (namespace_among (found_namespaces f) c.len.result lt) in
-    rw (p.1, p.2) (library_finds c.requires.found here c.in_err-check_library.field-0.0 c.in_err-check_library.ensures)
+    let here = c.requires.found.reached (namespace_at (found_namespaces f) c.len-number.result)
+    (namespace_among (found_namespaces f) c.len-number.result lt) in
+    rw (p.1, p.2)
+    (library_finds c.requires.found here c.in_err-check_library.field-0.0 c.in_err-check_library.ensures.refused)
 
 pub returns-in_err-extends_path-clause-refused : goal.returns-in_err-extends_path-clause-refused
 returns-in_err-extends_path-clause-refused g c =
     let f = c.args.found.now in
-    let at = namespace_number (found_namespaces f) f.extends_paths.items _ c.len.result
-    (omega (arith, c.len.ensures, f.extends_paths.ok.0)) c.get-namespace.ensures in
+    let at = namespace_number (found_namespaces f) f.extends_paths.items _ c.len-number.result
+    (omega (arith, c.len-number.ensures, f.extends_paths.ok.0)) c.get-namespace.ensures in
     let p =
     err_from_is_err_and c.from_residual-in_err-extends_path.result c.from_residual-in_err-extends_path.ensures.1 in
     let here = c.requires.found.reached (key_view c.get-namespace.result.now)
@@ -81,8 +82,8 @@ returns-in_err-extends_path-clause-refused g c =
 pub returns-in_err-newly_read-clause-refused : goal.returns-in_err-newly_read-clause-refused
 returns-in_err-newly_read-clause-refused g c =
     let f = c.args.found.now in
-    let at = namespace_number (found_namespaces f) f.extends_paths.items _ c.len.result
-    (omega (arith, c.len.ensures, f.extends_paths.ok.0)) c.get-namespace.ensures in
+    let at = namespace_number (found_namespaces f) f.extends_paths.items _ c.len-number.result
+    (omega (arith, c.len-number.ensures, f.extends_paths.ok.0)) c.get-namespace.ensures in
     let extends_path = c.in_ok-extends_path.ensures in
     let e = c.in_err-newly_read.field-0.0 in
     let given = g.L.Library.sources c.args.loader.now.library.now in
@@ -97,8 +98,8 @@ returns-in_err-newly_read-clause-refused g c =
 pub next_namespaces-requires-clause-indices : goal.next_namespaces-requires-clause-indices
 next_namespaces-requires-clause-indices g c =
     let f = c.args.found.now in
-    let at = namespace_number (found_namespaces f) f.extends_paths.items _ c.len.result
-    (omega (arith, c.len.ensures, f.extends_paths.ok.0)) c.get-namespace.ensures in
+    let at = namespace_number (found_namespaces f) f.extends_paths.items _ c.len-number.result
+    (omega (arith, c.len-number.ensures, f.extends_paths.ok.0)) c.get-namespace.ensures in
     let extends_path = c.in_ok-extends_path.ensures in
     let grown = both_files c.read_namespace.new.files.items c.in_ok-newly_read.newly_read.items c.deref.ensures.value
     c.in_ok-append.ensures.items c.in_ok-newly_read.ensures.known in
@@ -112,8 +113,8 @@ next_namespaces-requires-clause-indices g c =
 pub returns-in_err-next-clause-refused : goal.returns-in_err-next-clause-refused
 returns-in_err-next-clause-refused g c =
     let f = c.args.found.now in
-    let at = namespace_number (found_namespaces f) f.extends_paths.items _ c.len.result
-    (omega (arith, c.len.ensures, f.extends_paths.ok.0)) c.get-namespace.ensures in
+    let at = namespace_number (found_namespaces f) f.extends_paths.items _ c.len-number.result
+    (omega (arith, c.len-number.ensures, f.extends_paths.ok.0)) c.get-namespace.ensures in
     let extends_path = c.in_ok-extends_path.ensures in
     let grown = both_files c.read_namespace.new.files.items c.in_ok-newly_read.newly_read.items c.deref.ensures.value
     c.in_ok-append.ensures.items c.in_ok-newly_read.ensures.known in
@@ -131,8 +132,8 @@ returns-in_err-next-clause-refused g c =
 pub returns-clause-found : goal.returns-clause-found
 returns-clause-found g c =
     let f = c.args.found.now in
-    let at = namespace_number (found_namespaces f) f.extends_paths.items _ c.len.result
-    (omega (arith, c.len.ensures, f.extends_paths.ok.0)) c.get-namespace.ensures in
+    let at = namespace_number (found_namespaces f) f.extends_paths.items _ c.len-number.result
+    (omega (arith, c.len-number.ensures, f.extends_paths.ok.0)) c.get-namespace.ensures in
     let extends_path = c.in_ok-extends_path.ensures in
     let grown = both_files c.read_namespace.new.files.items c.in_ok-newly_read.newly_read.items c.deref.ensures.value
     c.in_ok-append.ensures.items c.in_ok-newly_read.ensures.known in
@@ -171,8 +172,8 @@ returns-clause-found g c =
 pub returns-clause-root : goal.returns-clause-root
 returns-clause-root g c =
     let f = c.args.found.now in
-    let at = namespace_number (found_namespaces f) f.extends_paths.items _ c.len.result
-    (omega (arith, c.len.ensures, f.extends_paths.ok.0)) c.get-namespace.ensures in
+    let at = namespace_number (found_namespaces f) f.extends_paths.items _ c.len-number.result
+    (omega (arith, c.len-number.ensures, f.extends_paths.ok.0)) c.get-namespace.ensures in
     let extends_path = c.in_ok-extends_path.ensures in
     let grown = both_files c.read_namespace.new.files.items c.in_ok-newly_read.newly_read.items c.deref.ensures.value
     c.in_ok-append.ensures.items c.in_ok-newly_read.ensures.known in

@@ -24,8 +24,8 @@ pub tags_at-requires : goal.tags_at-requires
 tags_at-requires c =
     let f = c.args.found.now in
     let is = c.deref-2.result.now in
-    let here = way_number f.extends_paths.items f.extends_paths.items c.args.from c.index.result is refl
-    c.requires.from c.index.is c.deref-2.ensures.value in
+    let here = way_number f.extends_paths.items f.extends_paths.items c.args.from c.index.result.now is refl
+    c.requires.from c.index.ensures c.deref-2.ensures.value in
     let lt : c.args.from < length (graph_of f.extends_paths.items) =
     omega (arith, c.requires.from, length-map f.extends_paths.items (λ (v : Vec ℕ Global). v.items)) in
     subst (λ (z : List TemplateFile). AreIndices (files_view z) is) (sym c.deref.ensures.value)
@@ -36,8 +36,8 @@ pub returns : goal.returns
 returns c =
     let f = c.args.found.now in
     let is = c.deref-2.result.now in
-    let here = way_number f.extends_paths.items f.extends_paths.items c.args.from c.index.result is refl
-    c.requires.from c.index.is c.deref-2.ensures.value in
+    let here = way_number f.extends_paths.items f.extends_paths.items c.args.from c.index.result.now is refl
+    c.requires.from c.index.ensures c.deref-2.ensures.value in
     let test = test_of c.wanted_for-wanted.result in
     let wanted : test ≡ leads_to (namespace_at (found_namespaces f) c.args.to) =
     c.wanted_for-wanted.ensures
