@@ -24,10 +24,11 @@ use Rattle.jt_rules.specs.declared.error.ScopeError.TheVariants as scope_error
 use Rattle.jt_uses.specs.Uses.{Site, body_uses, outside}
 use Rattle.jt_value.specs.declared.fault.NoMemory.{NoMemory}
 use Rattle.jt_codegen.specs.Compiled.{IsOnlyChain}
-use Rattle.jt_codegen.specs.Explaining.{IsBroken, IsExplained, IsFinding, IsOfChain, IsOfSource, IsPlaceOf, IsRuleOf}
-use Rattle.jt_codegen.specs.Explaining.{rule_at}
+use Rattle.jt_codegen.specs.Explaining.{IsBroken, IsExplained, IsFinding, IsOfChain, IsOfSource, IsPlaceOf}
+use Rattle.jt_codegen.specs.Explaining.{IsRuleOf, rule_at}
 use Rattle.jt_codegen.specs.Refusals.{Breaks, of_emit, of_scope}
 use Rattle.jt_codegen.specs.internal.Asked.{IsChainOf, IsOfImage}
+use Rattle.jt_codegen.specs.internal.NamedLimits.{limit_subject}
 use Rattle.jt_codegen.proofs.ChainImages.{only_chain}
 use Rattle.jt_codegen.specs.declared.emission.EmitError.{EmitError}
 use Rattle.jt_codegen.specs.declared.emission.EmitError.TheVariants as emit_error
@@ -139,19 +140,19 @@ chain_found given entry options e broken none f of = record {
 -- The finding of an image that would pass a limit.
 image_found : (given : SourceTexts) (entry : Text) (options : Options) (e : CompileError) → e ≢ error.NoMemory
     → Breaks given entry options e → IsOfImage e
-    → IsFinding given entry options (record { error = e; place = None; subject = None })
+    → IsFinding given entry options (record { error = e; place = None; subject = limit_subject e })
 image_found given entry options (error.Chain e) some broken of = absurd of
 image_found given entry options (error.Scope e) some broken of = absurd of
 image_found given entry options error.CodeTooLong some broken of =
-    record { some = some; broken = broken; placed = (refl, refl) }
+    record { some = some; broken = broken; placed = (refl, tt) }
 image_found given entry options error.NoMemory some broken of = absurd (some refl)
 image_found given entry options error.StackTooDeep some broken of =
-    record { some = some; broken = broken; placed = (refl, refl) }
+    record { some = some; broken = broken; placed = (refl, broken) }
 
 pub image_explained : (given : SourceTexts) (entry : Text) (options : Options) (e : CompileError)
     → Breaks given entry options e → IsOfImage e → (r : Result Explained NoMemory)
     → IfOk r (λ x. (e ≢ error.NoMemory)
-    × (x ≡ explained.Refused (record { error = e; place = None; subject = None })))
+    × (x ≡ explained.Refused (record { error = e; place = None; subject = limit_subject e })))
     → IfOk r (IsExplained given entry options)
 image_explained given entry options e broken of (Ok x) h =
     subst (IsExplained given entry options) (sym h.1) (image_found given entry options e h.0 broken of)

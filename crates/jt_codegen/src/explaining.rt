@@ -2,11 +2,12 @@
 
 ghost use Rattle.std.specs.Prelude.{◌≡◌, ◌≢◌, None, IfOk};
 ghost use Rattle.jt_codegen.specs.Explaining.{IsExplained, IsOfChain, IsOfSource, IsUnknown};
+ghost use Rattle.jt_codegen.specs.internal.NamedLimits.{limit_subject};
 ghost use Rattle.jt_inherit.specs.Findings.{Says};
 
 use crate::compiling::compile_chain;
 use crate::error::CompileError;
-use crate::finding::{Explained, Finding, Subject};
+use crate::finding::{Explained, Finding, Limit, Subject};
 use crate::unknown::find_unknown;
 use jt_expr::Named;
 use jt_inherit::{ChainError, ChainFinding, Library, TagPlace, chain_or_finding};
@@ -46,18 +47,33 @@ pub fn explain<L: Library>(
     }
 }
 
+/// Returns the limit that an error names, if the error names one alone.
+fn limit_subject(error: &CompileError) -> Option<Subject>
+    ensures { result ≡ limit_subject error.now }
+{
+    match error {
+        CompileError::StackTooDeep => Some(Subject::Limit(Limit::Entries)),
+        _ => None,
+    }
+}
+
 /// Returns what an error states of the image of a chain that keeps the rules.
 ///
 /// # Errors
 ///
 /// `NoMemory` if that is the error.
 fn image_finding(error: CompileError) -> Result<Explained, NoMemory>
-    ensures { IfOk result (λ x. (error ≢ CompileError.NoMemory)
-        × (x ≡ Explained.Refused (record { error = error; place = None; subject = None }))) }
+    ensures { IfOk result (λ x. (error ≢ CompileError.NoMemory) × (x ≡ Explained.Refused
+        (record { error = error; place = None; subject = limit_subject error }))) }
 {
+    let subject = limit_subject(&error);
     match error {
         CompileError::NoMemory => Err(NoMemory),
-        other => Ok(Explained::Refused(Finding::without_place(other))),
+        other => Ok(Explained::Refused(Finding {
+            error: other,
+            place: None,
+            subject,
+        })),
     }
 }
 

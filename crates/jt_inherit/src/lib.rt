@@ -17,6 +17,7 @@ mod finding;
 mod importing;
 mod including;
 mod laws;
+mod leading;
 mod library;
 mod names;
 mod placing;

@@ -1,10 +1,12 @@
-use Rattle.std.proofs.Common.{◌≡◌, true, ◌⊎◌, ◌++◌, ◌∷◌, [], List, ℕ, sym, ap, subst, ◌∙◌, arith, length, Vec, Global}
+use Rattle.std.proofs.Common.{◌≡◌, ◌<◌, true, ◌⊎◌, ◌++◌, ◌∷◌, [], List, ℕ, sym, ap, subst, ◌∙◌, arith}
+use Rattle.std.proofs.Common.{length, Vec, Global}
 use Rattle.std.proofs.lemmas.List.{length-map}
 use Rattle.std.specs.List.{AllByRecursion}
 use Rattle.std.proofs.lemmas.Result.{err_from_is_err_and}
 use Rattle.jt_graph.specs.View.{graph_of}
 use Rattle.jt_ast.specs.Texts.{among}
 use Rattle.jt_chains.specs.Along.{AreIndices}
+use Rattle.jt_chains.specs.Indices.{namespace_at}
 use Rattle.jt_chains.specs.Needs.{needed}
 use Rattle.jt_chains.specs.TemplateFiles.{files_view}
 use Rattle.jt_chains.specs.declared.files.TemplateFile.{TemplateFile}
@@ -19,24 +21,56 @@ use Rattle.jt_inherit.proofs.DiscoveryInvariant.{first_same, way_there, both_fil
 use Rattle.jt_inherit.proofs.NameMembership.{map_more}
 use Rattle.jt_inherit.proofs.NamespaceMembership.{of_namespaces}
 use Rattle.jt_inherit.proofs.Membership.{indexed_among}
+use Rattle.jt_inherit.proofs.TopologicalOrder.{namespace_among}
+use Rattle.jt_ast.specs.Texts.{repeated}
+use Rattle.jt_inherit.specs.internal.Found.{found_templates}
+use Rattle.jt_inherit.proofs.ChainComplete.{ways_indexed}
+use Rattle.jt_inherit.proofs.ImportFound.{library_finds}
 use Rattle.jt_inherit.proofs.discovery.follow.Goals as goal
 
 pub get-namespace-requires : goal.get-namespace-requires
 get-namespace-requires g c =
     omega (
       arith,
-      c.len.ensures,
+      c.len-number.ensures,
       c.args.found.now.extends_paths.ok.0,
       c.requires.more,
       length-map c.args.found.now.namespaces.items.items key_view,
     )
 
+pub check_library-requires-clause-named : goal.check_library-requires-clause-named
+check_library-requires-clause-named g c =
+    let known = c.requires.found.known in
+    (known.named, ap repeated known.named ∙ known.read.once)
+
+pub check_library-requires-clause-indices : goal.check_library-requires-clause-indices
+check_library-requires-clause-indices g c =
+    let f = c.args.found.now in
+    ways_indexed (g.L.Library.sources c.args.loader.now.library.now) (found_templates f) (found_namespaces f)
+    (found_namespaces f) (graph_of f.extends_paths.items) (graph_of f.next.items) c.requires.found.followed
+
+pub check_library-requires-clause-number : goal.check_library-requires-clause-number
+check_library-requires-clause-number g c =
+    omega (arith, c.len-number.ensures, c.args.found.now.extends_paths.ok.0, c.requires.more)
+
+pub returns-in_err-check_library-clause-refused : goal.returns-in_err-check_library-clause-refused
+returns-in_err-check_library-clause-refused g c =
+    let f = c.args.found.now in
+    let lt : c.len-number.result < length (found_namespaces f) =
+    omega (arith, c.len-number.ensures, f.extends_paths.ok.0, c.requires.more) in
+    let p = err_from_is_err_and c.from_residual.result c.from_residual.ensures.1 in
+    let here = c.requires.found.reached (namespace_at (found_namespaces f) c.len-number.result)
+    (namespace_among (found_namespaces f) c.len-number.result lt) in
+    rw (p.1, p.2)
+    (library_finds c.requires.found here c.in_err-check_library.field-0.0 c.in_err-check_library.ensures.refused)
+
 pub returns-in_err-extends_path-clause-refused : goal.returns-in_err-extends_path-clause-refused
 returns-in_err-extends_path-clause-refused g c =
     let f = c.args.found.now in
-    let at = namespace_number (found_namespaces f) f.extends_paths.items _ c.len.result
-    (omega (arith, c.len.ensures, f.extends_paths.ok.0)) c.get-namespace.ensures in
-    let p = err_from_is_err_and c.from_residual.result c.from_residual.ensures.1 in
+    let at = namespace_number (found_namespaces f) f.extends_paths.items _ c.len-number.result
+    (omega (arith, c.len-number.ensures, f.extends_paths.ok.0)) c.get-namespace.ensures in
+    let p =
+    err_from_is_err_and c.from_residual-in_err-extends_path.result c.from_residual-in_err-extends_path.ensures.1 in
     let here = c.requires.found.reached (key_view c.get-namespace.result.now)
     (indexed_among of_namespaces (found_namespaces f) (length (graph_of f.extends_paths.items))
     (key_view c.get-namespace.result.now) at) in
@@ -48,8 +82,8 @@ returns-in_err-extends_path-clause-refused g c =
 pub returns-in_err-newly_read-clause-refused : goal.returns-in_err-newly_read-clause-refused
 returns-in_err-newly_read-clause-refused g c =
     let f = c.args.found.now in
-    let at = namespace_number (found_namespaces f) f.extends_paths.items _ c.len.result
-    (omega (arith, c.len.ensures, f.extends_paths.ok.0)) c.get-namespace.ensures in
+    let at = namespace_number (found_namespaces f) f.extends_paths.items _ c.len-number.result
+    (omega (arith, c.len-number.ensures, f.extends_paths.ok.0)) c.get-namespace.ensures in
     let extends_path = c.in_ok-extends_path.ensures in
     let e = c.in_err-newly_read.field-0.0 in
     let given = g.L.Library.sources c.args.loader.now.library.now in
@@ -64,8 +98,8 @@ returns-in_err-newly_read-clause-refused g c =
 pub next_namespaces-requires-clause-indices : goal.next_namespaces-requires-clause-indices
 next_namespaces-requires-clause-indices g c =
     let f = c.args.found.now in
-    let at = namespace_number (found_namespaces f) f.extends_paths.items _ c.len.result
-    (omega (arith, c.len.ensures, f.extends_paths.ok.0)) c.get-namespace.ensures in
+    let at = namespace_number (found_namespaces f) f.extends_paths.items _ c.len-number.result
+    (omega (arith, c.len-number.ensures, f.extends_paths.ok.0)) c.get-namespace.ensures in
     let extends_path = c.in_ok-extends_path.ensures in
     let grown = both_files c.read_namespace.new.files.items c.in_ok-newly_read.newly_read.items c.deref.ensures.value
     c.in_ok-append.ensures.items c.in_ok-newly_read.ensures.known in
@@ -79,8 +113,8 @@ next_namespaces-requires-clause-indices g c =
 pub returns-in_err-next-clause-refused : goal.returns-in_err-next-clause-refused
 returns-in_err-next-clause-refused g c =
     let f = c.args.found.now in
-    let at = namespace_number (found_namespaces f) f.extends_paths.items _ c.len.result
-    (omega (arith, c.len.ensures, f.extends_paths.ok.0)) c.get-namespace.ensures in
+    let at = namespace_number (found_namespaces f) f.extends_paths.items _ c.len-number.result
+    (omega (arith, c.len-number.ensures, f.extends_paths.ok.0)) c.get-namespace.ensures in
     let extends_path = c.in_ok-extends_path.ensures in
     let grown = both_files c.read_namespace.new.files.items c.in_ok-newly_read.newly_read.items c.deref.ensures.value
     c.in_ok-append.ensures.items c.in_ok-newly_read.ensures.known in
@@ -98,8 +132,8 @@ returns-in_err-next-clause-refused g c =
 pub returns-clause-found : goal.returns-clause-found
 returns-clause-found g c =
     let f = c.args.found.now in
-    let at = namespace_number (found_namespaces f) f.extends_paths.items _ c.len.result
-    (omega (arith, c.len.ensures, f.extends_paths.ok.0)) c.get-namespace.ensures in
+    let at = namespace_number (found_namespaces f) f.extends_paths.items _ c.len-number.result
+    (omega (arith, c.len-number.ensures, f.extends_paths.ok.0)) c.get-namespace.ensures in
     let extends_path = c.in_ok-extends_path.ensures in
     let grown = both_files c.read_namespace.new.files.items c.in_ok-newly_read.newly_read.items c.deref.ensures.value
     c.in_ok-append.ensures.items c.in_ok-newly_read.ensures.known in
@@ -138,8 +172,8 @@ returns-clause-found g c =
 pub returns-clause-root : goal.returns-clause-root
 returns-clause-root g c =
     let f = c.args.found.now in
-    let at = namespace_number (found_namespaces f) f.extends_paths.items _ c.len.result
-    (omega (arith, c.len.ensures, f.extends_paths.ok.0)) c.get-namespace.ensures in
+    let at = namespace_number (found_namespaces f) f.extends_paths.items _ c.len-number.result
+    (omega (arith, c.len-number.ensures, f.extends_paths.ok.0)) c.get-namespace.ensures in
     let extends_path = c.in_ok-extends_path.ensures in
     let grown = both_files c.read_namespace.new.files.items c.in_ok-newly_read.newly_read.items c.deref.ensures.value
     c.in_ok-append.ensures.items c.in_ok-newly_read.ensures.known in
