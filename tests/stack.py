@@ -34,7 +34,7 @@ import tempfile
 import images_bytes
 
 # The stack that each case has, in KiB, and the kinds of cases that need more today, with the stack that they have.
-LIMIT = 144
+LIMIT = 160
 MORE = {
     "values": 208,
 }
