@@ -34,9 +34,9 @@ import tempfile
 import images_bytes
 
 # The stack that each case has, in KiB, and the kinds of cases that need more today, with the stack that they have.
-LIMIT = 240
+LIMIT = 160
 MORE = {
-    "values": 192,
+    "values": 208,
 }
 LEVELS, NESTING, JSON_NESTING, CHAINS, PARENTS = 100, 255, 127, 1024, 64
 SECONDS, STEP, MOST = 60, 16, 4096
