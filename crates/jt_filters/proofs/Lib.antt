@@ -29,3 +29,4 @@ pub mod StableSortUnique
 pub mod TextTransforms
 pub mod SameCodes
 pub mod PairKeys
+pub mod PlainItems
