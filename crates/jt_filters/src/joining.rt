@@ -184,7 +184,12 @@ pub(crate) fn join(
     ensures { IsAnswer (joining autoescape separator.entry operand.entry) result }
 {
     match items_of(operand)? {
-        ItemList::Values(values) => joined(maker.alloc, values, &separator.value(maker)?, autoescape),
+        ItemList::Values(values) => joined(
+            maker.alloc,
+            values,
+            &separator.value(maker)?,
+            autoescape,
+        ),
         items => joined_items(maker.alloc, items, separator, autoescape),
     }
 }

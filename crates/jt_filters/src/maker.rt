@@ -68,10 +68,7 @@ fn is_text(value: &Value, text: &str) -> bool
 
 /// Returns whether a filter makes a list of the items of a value, so of the characters of a text.
 pub(crate) fn lists_items(filter: FilterId) -> bool {
-    matches!(
-        filter,
-        FilterId::List | FilterId::Sort | FilterId::Unique
-    )
+    matches!(filter, FilterId::List | FilterId::Sort | FilterId::Unique)
 }
 
 /// Returns the letters for a number of texts. There are none if the number is small, or if memory
