@@ -5,6 +5,7 @@ pub mod BuiltPayloads
 pub mod Characters
 pub mod FilterRows
 pub mod EndItems
+pub mod EscapedTexts
 pub mod Folds
 pub mod SortedInsertion
 pub mod JoinLengths

@@ -121,6 +121,7 @@ impl<'a> Operand<'a> {
     }
 
     /// Returns the printed text as a slice. For a number it is a slice of `buffer`.
+    #[inline(always)]
     pub(crate) fn shown(self, buffer: &'a mut Buffer) -> Result<&'a str, Fault>
         ensures ok { IfOk result (λ s. printed (tree_of self.entry) ≡ Some s.now) }
         ensures fault { IfErr result
