@@ -184,7 +184,8 @@ pub(crate) fn join(
     ensures { IsAnswer (joining autoescape separator.entry operand.entry) result }
 {
     match items_of(operand)? {
-        ItemList::Values(values) => joined(
+        // For fewer values no separator is made a value, which takes longer than the rest.
+        ItemList::Values(values) if values.len() > 1 => joined(
             maker.alloc,
             values,
             &separator.value(maker)?,
