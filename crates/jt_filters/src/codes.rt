@@ -42,8 +42,17 @@ pub(crate) fn exact_code_of(alloc: Global, item: Operand<'_>) -> Result<Vec<u8>,
     ensures { IfOk result (λ v. v.items ≡ code (tree_of item.entry)) }
 {
     let mut bytes = Vec::new(alloc);
+    bytes.reserve(room_for(item))?;
     push_operand(alloc, &mut bytes, item)?;
     Ok(bytes)
+}
+
+/// Returns the number of bytes to reserve for the code of an item: all those of a text.
+fn room_for(item: Operand<'_>) -> usize {
+    match item.as_text() {
+        Some(text) => text.len().saturating_add(2),
+        None => ROOM,
+    }
 }
 
 /// Appends the code of a text's fold.
