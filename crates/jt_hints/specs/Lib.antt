@@ -1,3 +1,4 @@
+pub mod DefinedNames
 pub mod Edits
 pub mod Forms
 pub mod LeftOut

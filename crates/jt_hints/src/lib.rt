@@ -6,6 +6,7 @@
 //!
 //! - `nearest_name`: the candidate with the fewest edits, with `edits`, which counts them;
 //! - `known_names`: the names of all filters and tests, which are such candidates;
+//! - `defined_names`: the macros and blocks of a source, which are such candidates, and its imports;
 //! - `left_out`: the tables of Jinja's filters, tests and functions, and of the methods of Python's
 //!   values;
 //! - `syntax`: the forms of a tag, with `statement_words`, `head_forms`, `places` and
@@ -15,6 +16,7 @@
 //! Nothing here decides whether a template compiles. Read first: specs/Forms.antt.
 #![tactic(auto)]
 
+mod defined_names;
 mod edits;
 mod head_forms;
 mod known_names;
@@ -26,6 +28,7 @@ mod places;
 mod statement_words;
 mod syntax;
 
+pub use defined_names::{NameKind, defined_names, library_named};
 pub use known_names::{filter_names, test_names};
 pub use left_out::{left_out_filter, left_out_function, left_out_method, left_out_test};
 pub use nearest_name::nearest;

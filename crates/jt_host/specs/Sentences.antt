@@ -89,15 +89,8 @@ limit_rule (Some subject.Bindings) = codes "this template binds more than 4,096 
 limit_rule (Some subject.Names) = codes "the templates read or bind more than 65,535 names in all"
 limit_rule about = scope_rule scope_error.TooManySlots
 
--- The limit of templates that a chain, or all chains together, would pass.
-abbrev pub length_rule : Option Subject → Text
-length_rule (Some (subject.Chain chain_subject.Templates)) = codes "more than 64 templates extend one another"
-length_rule (Some (subject.Chain chain_subject.Chains)) = codes "includes reach more than 1,024 templates"
-length_rule about = chain_rule chain_error.ChainTooLong
-
 abbrev pub rule : CompileError → Option Subject → Text
 rule (compile_error.Scope scope_error.TooManySlots) about = limit_rule about
-rule (compile_error.Chain chain_error.ChainTooLong) about = length_rule about
 rule (compile_error.Chain e) about = chain_rule e
 rule (compile_error.Scope e) about = scope_rule e
 rule compile_error.CodeTooLong about =
@@ -142,22 +135,31 @@ parse_lead (parse_error.UnknownFilter n) = Some (codes "no filter is called")
 parse_lead (parse_error.UnknownTest n) = Some (codes "no test is called")
 parse_lead e = None
 
-abbrev pub chain_lead : ChainError → Option Text
-chain_lead chain_error.Missing = Some (codes "no template is called")
-chain_lead chain_error.BadName = Some (codes "no template may be called")
-chain_lead chain_error.ExtendsCycle = Some (codes "a template extends itself through")
-chain_lead chain_error.DoubleBlock = Some (codes "a template has two blocks called")
-chain_lead chain_error.RequiredNotGiven = Some (codes "no template gives a body to the required block")
-chain_lead chain_error.NoSuper = Some (codes "super() has no next body in the block")
-chain_lead chain_error.IncludeCycle = Some (codes "a template includes itself through")
-chain_lead chain_error.MacroTwice = Some (codes "two macros or imports are called")
-chain_lead chain_error.NoMacro = Some (codes "the library offers no macro called")
-chain_lead chain_error.NotALibrary = Some (codes "more than macros, comments and whitespace is in")
-chain_lead (chain_error.Parse template e) = parse_lead e
-chain_lead e = None
+-- The template that passes a limit of chains.
+abbrev pub length_lead : Subject → Option Text
+length_lead (subject.Chain (chain_subject.Templates x)) =
+    Some (codes "more than 64 templates extend one another: the 65th is")
+length_lead (subject.Chain (chain_subject.Chains x)) =
+    Some (codes "includes reach more than 1,024 templates: one more is")
+length_lead s = None
+
+abbrev pub chain_lead : ChainError → Subject → Option Text
+chain_lead chain_error.Missing s = Some (codes "no template is called")
+chain_lead chain_error.BadName s = Some (codes "no template may be called")
+chain_lead chain_error.ExtendsCycle s = Some (codes "a template extends itself through")
+chain_lead chain_error.ChainTooLong s = length_lead s
+chain_lead chain_error.DoubleBlock s = Some (codes "a template has two blocks called")
+chain_lead chain_error.RequiredNotGiven s = Some (codes "no template gives a body to the required block")
+chain_lead chain_error.NoSuper s = Some (codes "super() has no next body in the block")
+chain_lead chain_error.IncludeCycle s = Some (codes "a template includes itself through")
+chain_lead chain_error.MacroTwice s = Some (codes "two macros or imports are called")
+chain_lead chain_error.NoMacro s = Some (codes "the library offers no macro called")
+chain_lead chain_error.NotALibrary s = Some (codes "more than macros, comments and whitespace is in")
+chain_lead (chain_error.Parse template e) s = parse_lead e
+chain_lead e s = None
 
 abbrev pub lead : CompileError → Option Subject → Option Text
-lead (compile_error.Chain e) (Some s) = chain_lead e
+lead (compile_error.Chain e) (Some s) = chain_lead e s
 lead (compile_error.Scope e) (Some s) = scope_lead e s
 lead e s = None
 

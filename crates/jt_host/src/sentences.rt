@@ -127,27 +127,12 @@ fn limit_rule(subject: &Option<Subject>) -> &'static str
     }
 }
 
-/// Returns the limit of templates that a chain, or all chains together, would pass. Returns the
-/// rule of both limits if the subject is another one.
-fn length_rule(subject: &Option<Subject>) -> &'static str
-    ensures { result.now ≡ spec.length_rule subject.now }
-{
-    match subject {
-        Some(Subject::Chain(ChainSubject::Templates)) => {
-            "more than 64 templates extend one another"
-        }
-        Some(Subject::Chain(ChainSubject::Chains)) => "includes reach more than 1,024 templates",
-        _ => chain_rule(&ChainError::ChainTooLong),
-    }
-}
-
 /// Returns the rule that a refusal reports.
 fn rule_of(error: &CompileError, subject: &Option<Subject>) -> &'static str
     ensures { result.now ≡ spec.rule error.now subject.now }
 {
     match error {
         CompileError::Scope(ScopeError::TooManySlots) => limit_rule(subject),
-        CompileError::Chain(ChainError::ChainTooLong) => length_rule(subject),
         CompileError::Chain(error) => chain_rule(error),
         CompileError::Scope(error) => scope_rule(*error),
         CompileError::CodeTooLong => {
@@ -233,14 +218,31 @@ fn parse_lead(error: ParseError) -> Option<&'static str>
     }
 }
 
+/// Returns the words before the name of the template that passes a limit of chains, if they are
+/// known.
+fn length_lead(subject: &Subject) -> Option<&'static str>
+    ensures { option_map (λ x. x.now) result ≡ spec.length_lead subject.now }
+{
+    match subject {
+        Subject::Chain(ChainSubject::Templates(_)) => {
+            Some("more than 64 templates extend one another: the 65th is")
+        }
+        Subject::Chain(ChainSubject::Chains(_)) => {
+            Some("includes reach more than 1,024 templates: one more is")
+        }
+        _ => None,
+    }
+}
+
 /// Returns the words before the name that a broken rule of chains is about, if they are known.
-fn chain_lead(error: &ChainError) -> Option<&'static str>
-    ensures { option_map (λ x. x.now) result ≡ spec.chain_lead error.now }
+fn chain_lead(error: &ChainError, subject: &Subject) -> Option<&'static str>
+    ensures { option_map (λ x. x.now) result ≡ spec.chain_lead error.now subject.now }
 {
     match error {
         ChainError::Missing => Some("no template is called"),
         ChainError::BadName => Some("no template may be called"),
         ChainError::ExtendsCycle => Some("a template extends itself through"),
+        ChainError::ChainTooLong => length_lead(subject),
         ChainError::DoubleBlock => Some("a template has two blocks called"),
         ChainError::RequiredNotGiven => Some("no template gives a body to the required block"),
         ChainError::NoSuper => Some("super() has no next body in the block"),
@@ -249,7 +251,7 @@ fn chain_lead(error: &ChainError) -> Option<&'static str>
         ChainError::NoMacro => Some("the library offers no macro called"),
         ChainError::NotALibrary => Some("more than macros, comments and whitespace is in"),
         ChainError::Parse(_, error) => parse_lead(*error),
-        ChainError::ChainTooLong | ChainError::Scan(..) | ChainError::NoMemory => None,
+        ChainError::Scan(..) | ChainError::NoMemory => None,
     }
 }
 
@@ -261,7 +263,7 @@ fn lead_of(error: &CompileError, subject: &Option<Subject>) -> Option<&'static s
         return None;
     };
     match error {
-        CompileError::Chain(error) => chain_lead(error),
+        CompileError::Chain(error) => chain_lead(error, subject),
         CompileError::Scope(error) => scope_lead(*error, subject),
         _ => None,
     }
