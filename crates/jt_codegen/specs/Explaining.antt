@@ -41,6 +41,7 @@ subject_view (v.Macro x) = Some (findings.a_macro (string_bytes x))
 subject_view v.Bindings = Some findings.the_bindings
 subject_view v.Names = Some findings.the_names
 subject_view (v.Chain s) = None
+subject_view (v.Limit l) = None
 
 -- The broken rule of names and calls that a place and a subject state.
 abbrev pub rule_at : ScopeError → TagPlace → findings.Subject → findings.Finding

@@ -3,6 +3,7 @@
 ghost use Rattle.std.specs.Prelude.{◌≡◌, IfOk, Some};
 ghost use Rattle.jt_checks.specs.FindingView as view;
 ghost use Rattle.jt_codegen.specs.Explaining.{IsBroken, subject_view};
+ghost use Rattle.jt_codegen.specs.Passed.{most_of};
 
 use crate::error::CompileError;
 use jt_inherit::{ChainSubject, TagPlace};
@@ -34,6 +35,41 @@ pub enum Subject {
     Names,
     /// What a rule of chains is about.
     Chain(ChainSubject),
+    /// A limit that the image would pass.
+    Limit(Limit),
+}
+
+/// A limit of an image.
+#[derive(Clone, Copy, Debug, PartialEq, Eq)]
+pub enum Limit {
+    /// The number of constants.
+    Constants,
+    /// The number of units. Each chain, block body and macro has one.
+    Units,
+    /// The number of instructions.
+    Instructions,
+    /// The number of templates that places refer to.
+    Templates,
+    /// The number of bytes of a name.
+    NameBytes,
+    /// The number of bytes of the image.
+    Bytes,
+    /// The number of stack entries of a unit.
+    Entries,
+}
+
+impl Limit {
+    /// Returns the greatest number that the limit allows.
+    pub fn most(self) -> u32
+        ensures { result ≡ most_of self }
+    {
+        match self {
+            Limit::Constants | Limit::Units | Limit::Templates | Limit::NameBytes => 65_535,
+            Limit::Instructions => 262_144,
+            Limit::Bytes => 16_777_216,
+            Limit::Entries => 1_024,
+        }
+    }
 }
 
 /// An error of `compile` with the place of the tag and what the error is about, where they are

@@ -22,7 +22,7 @@ mod unknown;
 pub use compiling::compile;
 pub use error::CompileError;
 pub use explaining::explain;
-pub use finding::{Explained, Finding, Subject};
+pub use finding::{Explained, Finding, Limit, Subject};
 pub use jt_inherit::{ChainError, ChainSubject, Library, TagPlace};
 pub use jt_lower::low_laws;
 pub use jt_parse::ParseError;

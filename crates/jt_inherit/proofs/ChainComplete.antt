@@ -73,7 +73,7 @@ at_number P [] i lt a = absurd (omega arith)
 at_number P (w ∷ ws) zero lt a = a.0
 at_number P (w ∷ ws) (suc i) lt a = at_number P ws i (omega arith) a.1
 
-followed_number : (given : SourceTexts) (ts : List Template) (hs gs : List Namespace) (ws ns : Graph) (i : ℕ)
+pub followed_number : (given : SourceTexts) (ts : List Template) (hs gs : List Namespace) (ws ns : Graph) (i : ℕ)
     → i < length ws → AreFollowed given ts hs gs ws ns
     → IsFollowed given ts hs (namespace_at gs i) (next_of ws i) (next_of ns i)
 followed_number given ts hs gs [] ns i lt a = absurd (omega arith)

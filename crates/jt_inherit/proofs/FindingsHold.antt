@@ -1,5 +1,6 @@
 -- Findings that have no place, and those of included and imported templates.
-use Rattle.std.proofs.Common.{◌≡◌, ℕ, List, [], ◌++◌, refl, sym, ap, subst, ◌∙◌, ◌⊎◌, ⊎_elim, Option, Some, None, string_bytes, ◌∷◌}
+use Rattle.std.proofs.Common.{true, false, ℕ, List, [], refl, sym, subst, ◌∙◌, ⊎_elim, Option, Some, None, string_bytes}
+use Rattle.std.proofs.Common.{◌∷◌}
 use Rattle.std.proofs.lemmas.List.{append-nil}
 use Rattle.jt_graph.specs.declared.error.OrderError.{OrderError}
 use Rattle.jt_graph.specs.declared.error.OrderError.TheVariants as order
@@ -11,7 +12,8 @@ use Rattle.jt_chains.specs.Rules.{Reaches}
 use Rattle.jt_chains.specs.TemplateFiles.{files_view}
 use Rattle.jt_chains.specs.declared.files.TemplateFile.{TemplateFile}
 use Rattle.jt_inherit.specs.Chains.{SourceTexts}
-use Rattle.jt_inherit.specs.Findings.{IsFinding, IsBare, Says, ForSome, HasTag, HasTwoTags, binds_macro, defines, is_block}
+use Rattle.jt_inherit.specs.Findings.{IsFinding, IsBare, Says, ForSome, HasTag, HasTwoTags, binds_macro, defines}
+use Rattle.jt_inherit.specs.Findings.{is_block}
 use Rattle.jt_inherit.specs.Refusals.{Breaks}
 use Rattle.jt_inherit.specs.Refused.{gives, gives_bare}
 use Rattle.jt_inherit.specs.internal.ExtendsPaths.{AreKnown, IsExtendsPath}
@@ -68,9 +70,10 @@ module _ {given : SourceTexts} {root : Text} {options : Options} {ts : List Temp
       → BrokenIn (sources_in ts) (templates_at ts is) x e p → Says given root options (Some p) (Some x) e
   broken_said e p (v.Macro library x) q =
       subst (λ z. Says given root options (Some p) (Some (v.Macro library x)) z) (sym q.0)
-      (shown known r error.NoMacro p (v.Macro library x)
-      (subst (λ l. HasTag (binds_macro (string_bytes library) (string_bytes x)) l p) (sym (whole_path ts h is w)) q.1,
-      q.2))
+      (shown known r error.NoMacro p (v.Macro library x) (
+        subst (λ l. HasTag (binds_macro (string_bytes library) (string_bytes x)) l p) (sym (whole_path ts h is w)) q.1,
+        q.2,
+      ))
   broken_said e p (v.NameTwice x first) q =
       subst (λ z. Says given root options (Some p) (Some (v.NameTwice x first)) z) (sym q.0)
       (shown known r error.MacroTwice p (v.NameTwice x first)

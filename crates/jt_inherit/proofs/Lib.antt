@@ -32,3 +32,4 @@ pub mod ChainComplete
 pub mod PlacedErrors
 pub mod TagPlaces
 pub mod FindingsHold
+pub mod ImportFound

@@ -1,6 +1,8 @@
 -- What the place of an error at the name of a template shows in each chain that reaches the tag.
-use Rattle.std.proofs.Common.{◌≡◌, ℕ, zero, suc, ◌+◌, ◌-◌, ◌<◌, ◌≤◌, Bool, true, false, ◌||◌, List, [], ◌∷◌, ◌++◌, length}
-use Rattle.std.proofs.Common.{String, Global, get_or, Result, Ok, Err, map, refl, sym, ap, subst, ◌∙◌, arith, inl, inr, ◌⊎◌, ⊎_elim, Option, Some, None, string_bytes}
+use Rattle.std.proofs.Common.{◌≡◌, ℕ, suc, ◌+◌, ◌-◌, ◌<◌, ◌≤◌, Bool, true, false, not, ◌||◌, List, [], ◌∷◌, ◌++◌}
+use Rattle.std.proofs.Common.{length}
+use Rattle.std.proofs.Common.{String, Global, get_or, Result, Ok, Err, map, refl, sym, ap, subst, ◌∙◌, arith, inl, inr}
+use Rattle.std.proofs.Common.{◌⊎◌, ⊎_elim, Option, Some, None, string_bytes}
 use Rattle.std.specs.Prelude.{IfOk, flat_map, slice_get}
 use Rattle.std.specs.Option.{is_some, option_to_list}
 use Rattle.std.specs.Str.{bytes_eq}
@@ -23,7 +25,13 @@ use Rattle.jt_inherit.specs.Chains.{SourceTexts}
 use Rattle.jt_inherit.specs.Findings.{ForSome, IsAt, HasTag, all_uses, uses_in, asks, is_extends, IsBrokenAt, Says}
 use Rattle.jt_inherit.specs.internal.ExtendsPaths.{AreKnown, BreaksAll, Grow, IsExtendsPath, Leads, SaysAll}
 use Rattle.jt_inherit.specs.internal.Faults.{IsFaultOf}
-use Rattle.jt_inherit.specs.internal.Placing.{IsOfHead, IsOfParent, HeadSubject, HeadAt, LastAt, PlacedAt, SubjectOf, IsOfName, need_test}
+use Rattle.jt_inherit.specs.internal.Placing.{IsOfHead, IsOfNeed, IsOfParent, HeadAt, LastAt, PlacedAt, SubjectOf}
+use Rattle.jt_inherit.specs.internal.Placing.{IsOfName, need_test}
+use Rattle.jt_chains.specs.Needs.{Need, need_view, needed, needs_view}
+use Rattle.jt_chains.specs.declared.include_tags.NeededTemplate.{NeededTemplate}
+use Rattle.jt_inherit.specs.internal.Along.{needs_of}
+use Rattle.jt_inherit.specs.internal.Found.{IsFaultAt}
+use Rattle.jt_inherit.specs.internal.Unmet.{IsUnmet}
 use Rattle.jt_inherit.specs.internal.Tags.{tags, place_view}
 use Rattle.jt_inherit.specs.declared.error.ChainError.{ChainError}
 use Rattle.jt_inherit.specs.declared.error.ChainError.TheVariants as error
@@ -31,7 +39,7 @@ use Rattle.jt_inherit.specs.declared.finding.ChainSubject.{ChainSubject}
 use Rattle.jt_inherit.specs.declared.finding.ChainSubject.TheVariants as v
 use Rattle.jt_inherit.specs.declared.finding.TagPlace.{TagPlace}
 use Rattle.jt_inherit.proofs.DiscoveryInvariant.{some_source, none_read}
-use Rattle.jt_inherit.proofs.Membership.{among_front, among_next, once_more}
+use Rattle.jt_inherit.proofs.Membership.{among_next, once_more}
 use Rattle.jt_inherit.proofs.NameMembership.{map_more, of_texts, reflexive, same}
 use Rattle.jt_inherit.proofs.PathTemplates.{all_among, all_named, never}
 use Rattle.jt_inherit.proofs.PathsGrow.{names, names_lead, templates_lead, few_templates, all_templates, last_at}
@@ -39,6 +47,7 @@ use Rattle.jt_inherit.specs.Refusals.{Breaks}
 use Rattle.jt_inherit.specs.internal.SetView.{key_view}
 use Rattle.jt_inherit.specs.declared.finding.ChainFinding.{ChainFinding}
 use Rattle.jt_inherit.specs.declared.sets.NamespaceKey.{NamespaceKey}
+use Rattle.jt_inherit.proofs.FollowStep.{asked_at}
 use Rattle.jt_inherit.proofs.LibraryTemplate.{alone_breaks}
 use Rattle.jt_inherit.proofs.NamespaceSets.{is_chain}
 use Rattle.jt_inherit.proofs.SourcesGrow.{among_passes, chains_listed, chain_breaks, libraries_listed, flat-append}
@@ -58,7 +67,7 @@ listed_source s h (a_library n) a =
     (among_passes (λ m. is_some (s m)) n (libraries s h)
     (sym (libraries_listed n (with_source s xs) (with_source s (libraries s h))) ∙ a)).1
 
-reached_source : {s : Sources} {e : Bool} {h k : Namespace} → Reaches s e h k
+pub reached_source : {s : Sources} {e : Bool} {h k : Namespace} → Reaches s e h k
     → (k ≡ h) ⊎ (is_some (s (namespace_name k)) ≡ true)
 reached_source here = inl refl
 reached_source {s} {e} (through {namespace = h} {next = m} a rest) =
@@ -128,19 +137,22 @@ comes_back s (Some m) [] t n l a = by (bytes_eq t.name n) refl
         (1, ap (λ z. among t.name (z ∷ [])) (sym (same t.name n h)) ∙ ap (λ b. b || false) (reflexive t.name))
     by false h = absurd (never (bytes_eq t.name n || false) (ap (λ b. b || false) h) a)
 comes_back s None (u ∷ us) t n l a = absurd l
-comes_back s (Some m) (u ∷ us) t n l a = by (bytes_eq u.name n) refl
+comes_back s (Some m) (u ∷ us) t n l a =
+    by (bytes_eq u.name n) refl (λ k b. comes_back s (extends_of u.body) us t n k b)
   where
-    by : (b : Bool) → bytes_eq u.name n ≡ b → (count : ℕ) × (among t.name (names_up s count (Some n)) ≡ true)
-    by false h =
-        comes_back s (extends_of u.body) us t n l.2 (sym (ap (λ b. b || among n (names (us ++ t ∷ []))) h) ∙ a)
-    by true h =
+    by : (b : Bool) → bytes_eq u.name n ≡ b
+        → (Leads s (extends_of u.body) (us ++ t ∷ []) (Some n) → among n (names (us ++ t ∷ [])) ≡ true
+        → (count : ℕ) × (among t.name (names_up s count (Some n)) ≡ true))
+        → (count : ℕ) × (among t.name (names_up s count (Some n)) ≡ true)
+    by false h go = go l.2 (sym (ap (λ b. b || among n (names (us ++ t ∷ []))) h) ∙ a)
+    by true h go =
         let is_n : u.name ≡ n = same u.name n h in
         let there : s n ≡ Some u.body = ap s (sym is_n ∙ l.0) ∙ l.1 in
-        let count = length (u ∷ (us ++ t ∷ [])) + 0 in
-        let up = names_lead s count 0 (Some n) (u ∷ (us ++ t ∷ [])) (Some n) refl (is_n, there, l.2) in
+        let up = names_lead s (length (u ∷ (us ++ t ∷ [])) + 0) 0 (Some n) (u ∷ (us ++ t ∷ [])) (Some n) refl
+        (is_n, there, l.2) in
         let their_names : names (u ∷ (us ++ t ∷ [])) ≡ names (u ∷ us) ++ t.name ∷ [] =
         map_more (λ (w : Template). w.name) (u ∷ us) t in (
-          count,
+          length (u ∷ (us ++ t ∷ [])) + 0,
           ap (among t.name) (up ∙ append-nil (names (u ∷ (us ++ t ∷ []))) ∙ their_names)
               ∙ among_next of_texts t.name (names (u ∷ us)) [],
         )
@@ -212,7 +224,7 @@ module _ {given : SourceTexts} {options : Options} {root : Text} {ts : List Temp
       → SubjectOf n e x → HasTag (need_test n e) (templates (sources_in ts) h) p
       → Says given root options (Some p) (Some x) e
   fault_subject n e f p (v.Template m) q t = asked_said n e f p m q.0 t q.1
-  fault_subject n e f p v.Templates q t = absurd (subst (λ z. IsFaultOf z given n options) q f)
+  fault_subject n e f p (v.Templates m) q t = absurd (subst (λ z. IsFaultOf z given n options) q.1 f)
   fault_subject n e f p x q t = absurd q
 
   -- A tag on the path asks for the name.
@@ -298,14 +310,16 @@ module _ {given : SourceTexts} {options : Options} {root : Text} {ts : List Temp
           (subst (λ us. Leads (sources_in ts) (Some h) us (Some n)) last.1 w.leads)
           (sym (ap (λ us. among n (names us)) last.1) ∙ there) in
           let its_name : string_bytes p.template ≡ l.0.name =
-          tag_name (is_extends n) p l.0.name (body_uses l.0.body outside) (first_shows (is_extends n) p (uses_in l.0) l.2.0) in
+          tag_name (is_extends n) p l.0.name (body_uses l.0.body outside)
+          (first_shows (is_extends n) p (uses_in l.0) l.2.0) in
           shown known r error.ExtendsCycle p (v.Template m)
           (subst (λ z. HasTag (is_extends z) (templates (sources_in ts) (a_chain h)) p
           × ((count : ℕ) × (among (string_bytes p.template) (names_up (sources_in ts) count (Some z)) ≡ true)))
-          (sym l.2.1.0)
-          (parent_tag known r last.0 on.0 l.0 on.1 n p l.2.0,
-          (back.0, ap (λ z. among z (names_up (sources_in ts) back.0 (Some n))) its_name ∙ back.1)))
-      by (Some i) at (Some p) (Some v.Templates) l = let no = l.2.1 in absurd (cc)
+          (sym l.2.1.0) (
+            parent_tag known r last.0 on.0 l.0 on.1 n p l.2.0,
+            (back.0, ap (λ z. among z (names_up (sources_in ts) back.0 (Some n))) its_name ∙ back.1),
+          ))
+      by (Some i) at (Some p) (Some (v.Templates m)) l = let no = l.2.1.1 in absurd (cc)
       by (Some i) at (Some p) (Some x) l = absurd l.2.1
 
   pub long_placed : length is ≡ 64 → among n (names (templates_at ts is)) ≡ false
@@ -322,7 +336,7 @@ module _ {given : SourceTexts} {options : Options} {root : Text} {ts : List Temp
       by (Some i) at None None l = tt
       by (Some i) at None (Some x) l = absurd l.2
       by (Some i) at (Some p) None l = absurd l.2
-      by (Some i) at (Some p) (Some v.Templates) l =
+      by (Some i) at (Some p) (Some (v.Templates m)) l =
           let s = sources_in ts in
           let us = templates_at ts is in
           let last = last_template ts is i l.0 at l.1 in
@@ -331,13 +345,15 @@ module _ {given : SourceTexts} {options : Options} {root : Text} {ts : List Temp
           let up : extends_path s options.autoescape (a_chain h) ≡ names us ++ n ∷ [] =
           names_lead s 65 1 (Some h) us (Some n) (omega (arith, len)) w.leads in
           let count : length (names us) ≡ 64 = length-map us (λ (u : Template). u.name) ∙ len in
-          shown known r error.ChainTooLong p v.Templates (
-            n,
+          shown known r error.ChainTooLong p (v.Templates m)
+          (subst (λ z. HasTag (is_extends z) (templates s (a_chain h)) p
+          × (slice_get (extends_path s options.autoescape (a_chain h)) 64 ≡ Some z)
+          × (repeated (extends_path s options.autoescape (a_chain h)) ≡ false)) (sym l.2.1.0) (
             parent_tag known r last.0 on.0 l.0 on.1 n p l.2.0,
             ap (λ z. slice_get z 64) up
                 ∙ subst (λ k. slice_get (names us ++ n ∷ []) k ≡ Some n) count (last_at (names us) n),
             ap repeated up ∙ once_more of_texts n (names us) w.once new,
-          )
+          ))
       by (Some i) at (Some p) (Some (v.Template m)) l = absurd l.2.1.1
       by (Some i) at (Some p) (Some x) l = absurd l.2.1
 
@@ -376,3 +392,20 @@ same_parent {ps} {qs} {is} {js} {n} {m} e f a b d told =
     subst (λ (z : Text). IsOfParent (files_view ps) is z e f) d
     (subst (λ (z : List ℕ). IsOfParent (files_view ps) z m e f) b
     (subst (λ (z : List TemplateFile). IsOfParent (files_view z) js m e f) a told))
+
+-- The finding of an included or imported template, by its index among them.
+pub unmet_need : (given : SourceTexts) (options : Options) (ps : List TemplateFile) (is : List ℕ)
+    (ns : List NeededTemplate) (k : ℕ) (d : NeededTemplate) (e : ChainError) (f : ChainFinding)
+    → needs_view ns ≡ needs_of ps is → k < length ns → IsFaultAt given options (need_view (get_or ns k d)) e
+    → IsOfNeed (templates_at (files_view ps) is) (get_or ns k d).name.now e f → IsUnmet given options ps is f
+unmet_need given options ps is ns k d e f same_needs lt fault told =
+    let n = (get_or ns k d).name.now in
+    inr (record {
+      name = n;
+      asked = subst (λ (ms : List Need). among n (needed true ms) ≡ true) same_needs (asked_at true ns k d lt refl);
+      must =
+          λ q. subst (λ (ms : List Need). among n (needed false ms) ≡ true) same_needs
+          (asked_at false ns k d lt (ap not (fault.1 (sym told.0 ∙ q))));
+      fault = subst (λ z. IsFaultOf z given n options) (sym told.0) fault.0;
+      placed = subst (λ z. IsOfNeed (templates_at (files_view ps) is) n z f) (sym told.0) told;
+    })

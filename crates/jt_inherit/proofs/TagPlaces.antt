@@ -1,19 +1,25 @@
 -- The places of tags: what the first ones show.
-use Rattle.std.proofs.Common.{◌≡◌, ℕ, zero, suc, ◌+◌, ◌<◌, Bool, true, false, cond, List, [], ◌∷◌, ◌++◌, length, map}
-use Rattle.std.proofs.Common.{drop, get_or, refl, sym, ap, subst, ◌∙◌, arith, inl, inr, ◌⊎◌, ⊎_elim, Some, rules}
-use Rattle.std.specs.Prelude.{filter, flat_map, slice_get, string_bytes}
+use Rattle.std.proofs.Common.{◌≡◌, ℕ, ◌+◌, ◌<◌, Bool, true, false, cond, List, [], ◌∷◌, ◌++◌, length, map}
+use Rattle.std.proofs.Common.{drop, get_or, refl, sym, ap, subst, ◌∙◌, inl, inr, ⊎_elim, Some}
+use Rattle.std.specs.Prelude.{filter, slice_get}
 use Rattle.std.specs.Option.{option_to_list}
 use Rattle.std.proofs.lemmas.List.Elements.{filter-append}
-use Rattle.std.proofs.lemmas.List.{append_assoc, append-nil, drop_more, map-append}
+use Rattle.std.proofs.lemmas.List.{append_assoc, drop_more, map-append}
 use Rattle.jt_ast.specs.Expressions.{Text}
 use Rattle.jt_uses.specs.Uses as uses
 use Rattle.jt_uses.specs.Uses.{Use, Site}
 use Rattle.jt_chains.specs.Along.{templates_at}
-use Rattle.jt_chains.specs.Chain.{Template}
+use Rattle.jt_chains.specs.Chain.{Sources, Template}
 use Rattle.jt_chains.specs.TemplateFiles.{file_view, files_view}
 use Rattle.jt_chains.specs.declared.files.TemplateFile.{TemplateFile}
 use Rattle.jt_chains.proofs.TemplatesByIndex.{map_at}
-use Rattle.jt_inherit.specs.Findings.{ForSome, InTurn, IsAt, HasTag, all_uses, uses_in, asks, is_extends}
+use Rattle.jt_inherit.specs.Findings.{ForSome, InTurn, IsAt, HasTag, HasTwoTags, all_uses, uses_in, asks, binds_macro}
+use Rattle.jt_inherit.specs.Findings.{is_block, is_extends}
+use Rattle.jt_inherit.specs.internal.Breaking.{IsOfRule, IsTwiceIn, RuleAt, TwiceAt, lacks}
+use Rattle.jt_inherit.specs.declared.error.ChainError.TheVariants as error
+use Rattle.jt_inherit.specs.declared.finding.ChainFinding.{ChainFinding}
+use Rattle.jt_inherit.specs.declared.finding.ChainSubject.{ChainSubject}
+use Rattle.jt_inherit.specs.declared.finding.ChainSubject.TheVariants as v
 use Rattle.jt_inherit.specs.internal.Tags.{tags, place_view}
 use Rattle.jt_inherit.specs.declared.finding.TagPlace.{TagPlace}
 
@@ -22,7 +28,8 @@ use Rattle.jt_inherit.specs.declared.finding.TagPlace.{TagPlace}
 pub tags-append : (test : Use → Bool) (xs ys : List (Text × Site)) → tags test (xs ++ ys) ≡ tags test xs ++ tags test ys
 tags-append test xs ys =
     ap (map (λ (x : Text × Site). (x.0, x.1.place.line))) (filter-append (λ x. test x.1.made) xs ys)
-    ∙ map-append (λ (x : Text × Site). (x.0, x.1.place.line)) (filter (λ x. test x.1.made) xs) (filter (λ x. test x.1.made) ys)
+    ∙ map-append (λ (x : Text × Site). (x.0, x.1.place.line)) (filter (λ x. test x.1.made) xs)
+    (filter (λ x. test x.1.made) ys)
 
 -- One template more.
 pub tags_turn : (test : Use → Bool) (ps : List TemplateFile) (is : List ℕ) (k : ℕ) (p : TemplateFile)
@@ -38,7 +45,8 @@ tags_turn test ps is k p old more new all lt within at theirs longer before =
     let here : templates_at (files_view ps) (drop k is) ≡ file_view p ∷ us =
     ap (templates_at (files_view ps)) (drop_more is k 0 lt)
     ∙ ap (λ o. option_to_list o ++ us) (map_at file_view ps i p within at) in
-    let split : tags test (all_uses (templates_at (files_view ps) (drop k is))) ≡ tags test (uses_in (file_view p)) ++ rest =
+    let split : tags test (all_uses (templates_at (files_view ps) (drop k is)))
+    ≡ tags test (uses_in (file_view p)) ++ rest =
     ap (λ l. tags test (all_uses l)) here ∙ tags-append test (uses_in (file_view p)) (all_uses us) in
     ap (λ l. l ++ rest) longer ∙ append_assoc old more rest ∙ ap (λ l. old ++ (l ++ rest)) theirs
     ∙ ap (λ l. old ++ l) (sym split) ∙ before
@@ -66,26 +74,31 @@ at_head test p x xs h e =
 pub first_shows : (test : Use → Bool) (p : TagPlace) (xs : List (Text × Site))
     → slice_get (tags test xs) 0 ≡ Some (place_view p) → ForSome (IsAt test p) xs
 first_shows test p [] e = absurd (cc)
-first_shows test p (x ∷ xs) e = by (test x.1.made) refl
+first_shows test p (x ∷ xs) e = by (test x.1.made) refl (λ f. first_shows test p xs f)
   where
-    by : (b : Bool) → test x.1.made ≡ b → ForSome (IsAt test p) (x ∷ xs)
-    by true h = inl (at_head test p x xs h e)
-    by false h = inr (first_shows test p xs (sym (ap (λ l. slice_get l 0) (begin test x xs false h)) ∙ e))
+    by : (b : Bool) → test x.1.made ≡ b
+        → (slice_get (tags test xs) 0 ≡ Some (place_view p) → ForSome (IsAt test p) xs)
+        → ForSome (IsAt test p) (x ∷ xs)
+    by true h go = inl (at_head test p x xs h e)
+    by false h go = inr (go (sym (ap (λ l. slice_get l 0) (begin test x xs false h)) ∙ e))
 
 pub second_shows : (test : Use → Bool) (p q : TagPlace) (xs : List (Text × Site))
     → slice_get (tags test xs) 0 ≡ Some (place_view p) → slice_get (tags test xs) 1 ≡ Some (place_view q)
     → InTurn (IsAt test p) (IsAt test q) xs
 second_shows test p q [] e f = absurd (cc)
-second_shows test p q (x ∷ xs) e f = by (test x.1.made) refl
+second_shows test p q (x ∷ xs) e f = by (test x.1.made) refl (λ g h. second_shows test p q xs g h)
   where
-    by : (b : Bool) → test x.1.made ≡ b → InTurn (IsAt test p) (IsAt test q) (x ∷ xs)
-    by true h =
+    by : (b : Bool) → test x.1.made ≡ b
+        → (slice_get (tags test xs) 0 ≡ Some (place_view p) → slice_get (tags test xs) 1 ≡ Some (place_view q)
+        → InTurn (IsAt test p) (IsAt test q) xs)
+        → InTurn (IsAt test p) (IsAt test q) (x ∷ xs)
+    by true h go =
         inl (
           at_head test p x xs h e,
           first_shows test q xs (sym (ap (λ l. slice_get l 1) (begin test x xs true h)) ∙ f),
         )
-    by false h =
-        inr (second_shows test p q xs (sym (ap (λ l. slice_get l 0) (begin test x xs false h)) ∙ e)
+    by false h go =
+        inr (go (sym (ap (λ l. slice_get l 0) (begin test x xs false h)) ∙ e)
         (sym (ap (λ l. slice_get l 1) (begin test x xs false h)) ∙ f))
 
 -- ---- some of the items
@@ -132,3 +145,36 @@ tag_weaker test weak f p ts h =
 pub extends_asks : (all : Bool) (n : Text) (u : Use) → is_extends n u ≡ true → asks all n u ≡ true
 extends_asks all n (uses.extends m) h = h
 extends_asks all n u h = absurd (cc)
+
+-- A macro that a library lacks, by equal names.
+pub macro_named : (s : Sources) (ts : List Template) (p : TagPlace) (a b l x : Text) → a ≡ l → b ≡ x
+    → HasTag (binds_macro l x) ts p → lacks s l x ≡ true → HasTag (binds_macro a b) ts p × (lacks s a b ≡ true)
+macro_named s ts p a b l x e f h k =
+    subst (λ z. HasTag (binds_macro z b) ts p × (lacks s z b ≡ true)) (sym e)
+    (subst (λ z. HasTag (binds_macro l z) ts p × (lacks s l z ≡ true)) (sym f) (h, k))
+
+-- ---- a template with two blocks of one name
+
+some_template : (P : Template → Type 0) (ps : List TemplateFile) (is : List ℕ) (k : ℕ) (p : TemplateFile)
+    → k < length is → get_or is k 0 < length ps → p ≡ get_or ps (get_or is k 0) p → P (file_view p)
+    → ForSome P (templates_at (files_view ps) is)
+some_template P ps [] k p lt within at h = absurd (omega arith)
+some_template P ps (i ∷ is) zero p lt within at h =
+    subst (λ o. ForSome P (option_to_list o ++ templates_at (files_view ps) is))
+    (sym (map_at file_view ps i p within at)) (inl h)
+some_template P ps (i ∷ is) (suc k) p lt within at h =
+    some_behind P (option_to_list (slice_get (files_view ps) i)) (templates_at (files_view ps) is)
+    (some_template P ps is k p (omega arith) within at h)
+
+pub twice_rule : (s : Sources) (ps : List TemplateFile) (is : List ℕ) (k : ℕ) (p : TemplateFile) (f : ChainFinding)
+    → k < length is → get_or is k 0 < length ps → p ≡ get_or ps (get_or is k 0) p → IsTwiceIn (file_view p) f
+    → IsOfRule s (templates_at (files_view ps) is) error.DoubleBlock f
+twice_rule s ps is k p f lt within at told = (told.0, by f.place f.subject told.1)
+  where
+    by : (q : Option TagPlace) (x : Option ChainSubject) → TwiceAt (file_view p) q x
+        → RuleAt s (templates_at (files_view ps) is) q x error.DoubleBlock
+    by (Some q) (Some (v.BlockTwice x first)) h = (
+      refl,
+      some_template (λ t. HasTwoTags (is_block (string_bytes x)) (t ∷ []) first q) ps is k p lt within at h,
+    )
+    by q x h = absurd h

@@ -1,7 +1,8 @@
 -- What a finding says of an entry in a library: the tag that breaks a rule, and what the rule is
 -- broken in. `Rules` of jt_chains defines the rules.
-use Rattle.std.specs.Prelude.{◌≡◌, ◌⊎◌, ◌<◌, ◌+◌, ℕ, Bool, false, true, not, ◌&&◌, ◌||◌, IsTrue, List, [], ◌∷◌, map, drop}
-use Rattle.std.specs.Prelude.{flat_map, length, slice_get, Option, Some, None, string_bytes}
+use Rattle.std.specs.Prelude.{◌≡◌, ◌⊎◌, ◌<◌, ◌+◌, ℕ, Bool, false, true, not, ◌&&◌, ◌||◌, IsTrue, List, [], ◌∷◌, map}
+use Rattle.std.specs.Prelude.{drop, filter, flat_map, length, slice_get, Option, Some, None, string_bytes}
+use Rattle.std.specs.List.{AllByRecursion}
 use Rattle.std.specs.Option.{is_some, is_none}
 use Rattle.std.specs.Str.{bytes_eq}
 use Rattle.jt_scan.specs.declared.options.Options.{Options}
@@ -10,15 +11,14 @@ use Rattle.jt_ast.specs.Texts.{among, repeated}
 use Rattle.jt_uses.specs.Uses as uses
 use Rattle.jt_uses.specs.Uses.{Use, Site, body_uses, outside}
 use Rattle.jt_chains.specs.Chain.{Sources, Namespace, namespace_name, a_chain, a_library, listed, Template, templates}
-use Rattle.jt_chains.specs.Chain.{max_templates, names_up, is_a_library, macros, public_macro, bodies, from_given}
-use Rattle.jt_chains.specs.Chain.{BlockBody}
+use Rattle.jt_chains.specs.Chain.{max_templates, names_up, is_a_library, macros, public_macro}
 use Rattle.jt_chains.specs.Includes.{included}
 use Rattle.jt_chains.specs.Names.{IsName}
-use Rattle.jt_chains.specs.Rules.{Somewhere, Reaches, extends_path, is_whole, max_chains, is_empty}
-use Rattle.jt_chains.specs.Supers.{calls_super}
+use Rattle.jt_chains.specs.Rules.{Somewhere, Reaches, extends_path, is_whole, max_chains}
 use Rattle.jt_inherit.specs.Chains.{SourceTexts}
 use Rattle.jt_inherit.specs.Lines as lines
 use Rattle.jt_inherit.specs.Refusals.{Shows, Breaks}
+use Rattle.jt_inherit.specs.SuperTags.{super_at}
 use Rattle.jt_inherit.specs.declared.error.ChainError.{ChainError}
 use Rattle.jt_inherit.specs.declared.error.ChainError.TheVariants as error
 use Rattle.jt_inherit.specs.declared.finding.ChainFinding.{ChainFinding}
@@ -102,29 +102,64 @@ defines x (uses.binds_library m y) = bytes_eq y x
 defines x (uses.binds_macro m macro_name y) = bytes_eq y x
 defines x u = false
 
+-- The blocks of the name in the templates, with their tags.
+abbrev pub blocks_named : Text → List Template → List (Text × Site)
+blocks_named x ts = filter (λ s. is_block x s.1.made) (all_uses ts)
+
+-- The use is a required block.
+abbrev pub is_required : Use → Bool
+is_required (uses.declares_block y scoped required body) = required
+is_required u = false
+
+-- The use is a block whose body calls `super()` in a tag at the line.
+abbrev pub calls_super_at : ℕ → Use → Bool
+calls_super_at line (uses.declares_block y scoped required body) = super_at line body
+calls_super_at line u = false
+
 -- ---- what a finding says
+
+-- The last one of a name and further names.
+abbrev pub last_of : Text → List Text → Text
+last_of x [] = x
+last_of x (y ∷ ys) = last_of y ys
+
+-- Each chain or library leads to the next one, and the last one is the target.
+abbrev pub LeadsTo : Sources → Namespace → List Namespace → Namespace → Type 0
+LeadsTo sources first [] target = first ≡ target
+LeadsTo sources first (next ∷ rest) target =
+    IsTrue (listed next (included sources first)) × LeadsTo sources next rest target
 
 module _ (given : SourceTexts) (sources : Sources) (escaping : Bool) (entry namespace : Namespace) where
   -- The templates of the chain or library.
   abbrev pub its_own : List Template
   its_own = templates sources namespace
 
-  -- The nearest body of the block is a required one, and is in the template of the place.
+  -- The nearest block of the name is at the place, and is a required one.
   pub record IsNotGiven (x : Text) (p : TagPlace) : Type 0 where
-    pub body : BlockBody
-    pub nearest : slice_get (bodies sources escaping namespace x) 0 ≡ Some body
-    pub required : body.required ≡ true
-    pub template : string_bytes p.template ≡ body.template
+    pub tag : Text × Site
+    pub nearest : slice_get (blocks_named x its_own) 0 ≡ Some tag
+    pub required : IsAt is_required p tag
 
-  -- A body of the block calls `super()`, and each body after it is required. The first of these
-  -- bodies is in the template of the place.
-  pub record HasNoSuper (x : Text) (p : TagPlace) : Type 0 where
+  -- The body of a block of the name calls `super()` in a tag at the place. Each further block of the
+  -- name is required.
+  pub record HasNoSuper (x : Text) (opened p : TagPlace) : Type 0 where
     pub number : ℕ
-    pub body : BlockBody
-    pub there : slice_get (bodies sources escaping namespace x) number ≡ Some body
-    pub calls : calls_super body.body ≡ true
-    pub last : is_empty (from_given (drop (number + 1) (bodies sources escaping namespace x))) ≡ true
-    pub template : string_bytes p.template ≡ body.template
+    pub tag : Text × Site
+    pub there : slice_get (blocks_named x its_own) number ≡ Some tag
+    pub calls : IsAt (calls_super_at p.line) opened tag
+    pub template : string_bytes p.template ≡ string_bytes opened.template
+    pub last : AllByRecursion (λ s. IsTrue (is_required s.1.made)) (drop (number + 1) (blocks_named x its_own))
+
+  -- The tag leads to a chain or library, and this one to the chain or library of the tag, through
+  -- those of the names.
+  pub record IsRing (name : Text) (rest : List Text) (p : TagPlace) : Type 0 where
+    pub next : Namespace
+    pub others : List Namespace
+    pub first_name : namespace_name next ≡ name
+    pub other_names : map namespace_name others ≡ rest
+    pub tag : HasTag (leads_to next) its_own p
+    pub led : IsTrue (listed next (included sources namespace))
+    pub back : LeadsTo sources next others namespace
 
   -- More than 1,024 chains are reached, and this one is among them.
   pub record ReachesTooMany (n : Text) : Type 0 where
@@ -146,27 +181,30 @@ module _ (given : SourceTexts) (sources : Sources) (escaping : Bool) (entry name
   IsBrokenAt error.ExtendsCycle p (v.Template n) =
       HasTag (is_extends (string_bytes n)) its_own p
       × ((count : ℕ) × IsTrue (among (string_bytes p.template) (names_up sources count (Some (string_bytes n)))))
+  -- The tag extends a template. The names from it to the template of the tag are those of the path.
+  IsBrokenAt error.ExtendsCycle p (v.Ring n rest) =
+      HasTag (is_extends (string_bytes n)) its_own p
+      × (names_up sources (length rest.items + 1) (Some (string_bytes n))
+      ≡ string_bytes n ∷ map string_bytes rest.items)
+      × (string_bytes p.template ≡ last_of (string_bytes n) (map string_bytes rest.items))
   -- The tag extends the 65th template of the path. The names before it differ.
-  IsBrokenAt error.ChainTooLong p v.Templates =
-      (n : Text) × HasTag (is_extends n) its_own p
-      × (slice_get (extends_path sources escaping namespace) max_templates ≡ Some n)
+  IsBrokenAt error.ChainTooLong p (v.Templates n) =
+      HasTag (is_extends (string_bytes n)) its_own p
+      × (slice_get (extends_path sources escaping namespace) max_templates ≡ Some (string_bytes n))
       × (repeated (extends_path sources escaping namespace) ≡ false)
   -- The tag includes a template whose chain is one of more than 1,024.
-  IsBrokenAt error.ChainTooLong p v.Chains = (n : Text) × HasTag (is_include n) its_own p × ReachesTooMany n
+  IsBrokenAt error.ChainTooLong p (v.Chains n) =
+      HasTag (is_include (string_bytes n)) its_own p × ReachesTooMany (string_bytes n)
   -- The tag is the later one of two blocks of one name in a template.
   IsBrokenAt error.DoubleBlock p (v.BlockTwice x first) =
       ForSome (λ t. HasTwoTags (is_block (string_bytes x)) (t ∷ []) first p) its_own
-  -- The tag is the nearest body of a block, and is a required one.
-  IsBrokenAt error.RequiredNotGiven p (v.Block x) =
-      HasTag (is_block (string_bytes x)) its_own p × IsNotGiven (string_bytes x) p
-  -- The tag is a body of a block that calls `super()` and has no next body.
-  IsBrokenAt error.NoSuper p (v.Block x) =
-      HasTag (is_block (string_bytes x)) its_own p × IsTrue (is_whole sources escaping namespace)
-      × HasNoSuper (string_bytes x) p
-  -- The tag leads to a chain or library that reaches this one.
-  IsBrokenAt error.IncludeCycle p (v.Template n) =
-      (next : Namespace) × (namespace_name next ≡ string_bytes n) × HasTag (leads_to next) its_own p
-      × IsTrue (listed next (included sources namespace)) × Reaches sources escaping next namespace
+  -- The tag is the nearest block of the name, and is a required one.
+  IsBrokenAt error.RequiredNotGiven p (v.Block x) = IsNotGiven (string_bytes x) p
+  -- The tag calls `super()` in a block that has no next body.
+  IsBrokenAt error.NoSuper p (v.Super x opened) =
+      IsTrue (is_whole sources escaping namespace) × HasNoSuper (string_bytes x) opened p
+  -- The tag leads to a chain or library that leads back to this one.
+  IsBrokenAt error.IncludeCycle p (v.Ring n rest) = IsRing (string_bytes n) (map string_bytes rest.items) p
   -- The tag is the later one of two that define one name.
   IsBrokenAt error.MacroTwice p (v.NameTwice x first) = HasTwoTags (defines (string_bytes x)) its_own first p
   -- The tag imports a macro that the library does not offer.

@@ -5,4 +5,5 @@ pub mod Lines
 pub mod Refusals
 pub mod Refused
 pub mod Small
+pub mod SuperTags
 pub mod internal

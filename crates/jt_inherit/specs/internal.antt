@@ -6,6 +6,7 @@ pub mod Faults
 pub mod FindsAt
 pub mod Found
 pub mod Given
+pub mod Imported
 pub mod Numbers
 pub mod Placing
 pub mod RuleTests

@@ -2,16 +2,18 @@
 
 ghost use Rattle.std.specs.Prelude.{◌≡◌, true, IfOk, IfSome};
 ghost use Rattle.jt_chains.specs.Along.{AreIndices};
-ghost use Rattle.jt_chains.specs.TemplateFiles.{files_view};
-ghost use Rattle.jt_inherit.specs.internal.Breaking.{IsOfRule, lacks};
+ghost use Rattle.jt_chains.specs.TemplateFiles.{file_view, files_view};
+ghost use Rattle.jt_inherit.specs.internal.Breaking.{IsOfRule, IsTwiceIn, lacks};
 ghost use Rattle.jt_inherit.specs.internal.Given.{its_sources, its_templates};
 
 use crate::error::ChainError;
 use crate::finding::{ChainFinding, ChainSubject};
 use crate::importing::{library_file, names_at};
 use crate::store::TemplateStore;
-use crate::tags::{Wanted, first_place, second_place, tags_at};
+use crate::tags::{Wanted, first_place, second_place, tags_at, tags_of};
 use jt_ast::Stmt;
+use jt_chains::TemplateFile;
+use jt_uses::{Use, UseSite, uses_of};
 use std::alloc::{AllocError, Global};
 use std::collections::BTreeSet;
 
@@ -90,8 +92,8 @@ fn missing_finding(
     indices: &[usize],
 ) -> Result<ChainFinding, AllocError>
     requires { AreIndices (files_view store.files.now) indices.now }
-    ensures { IfOk result (IsOfRule (its_sources store.entry) (its_templates store.entry indices.now)
-        ChainError.NoMacro) }
+    ensures { IfOk result (IsOfRule (its_sources store.entry)
+        (its_templates store.entry indices.now) ChainError.NoMacro) }
 {
     let Some(missing) = missing_at(store, indices) else {
         return Ok(ChainFinding::without_place(ChainError::NoMacro));
@@ -131,8 +133,8 @@ fn name_twice(
     indices: &[usize],
 ) -> Result<ChainFinding, AllocError>
     requires { AreIndices (files_view store.files.now) indices.now }
-    ensures { IfOk result (IsOfRule (its_sources store.entry) (its_templates store.entry indices.now)
-        ChainError.MacroTwice) }
+    ensures { IfOk result (IsOfRule (its_sources store.entry)
+        (its_templates store.entry indices.now) ChainError.MacroTwice) }
 {
     let names = names_at(alloc, store, indices)?;
     let Some(name) = repeated(alloc, &names)? else {
@@ -153,6 +155,59 @@ fn name_twice(
     })
 }
 
+/// Returns the names of the blocks among the uses, in the order of the source.
+fn block_names<'a>(alloc: Global, uses: &[UseSite<'a>]) -> Result<Vec<&'a str>, AllocError> {
+    let mut names = Vec::new(alloc);
+    for site in uses {
+        if let Use::DeclaresBlock { name, .. } = site.made {
+            names.push(name)?;
+        }
+    }
+    Ok(names)
+}
+
+/// Returns the finding of a template with two blocks of one name, if it has them.
+fn block_twice_in(alloc: Global, file: &TemplateFile) -> Result<Option<ChainFinding>, AllocError>
+    ensures { IfOk result (λ o. IfSome o (IsTwiceIn (file_view file.now))) }
+{
+    let uses = uses_of(alloc, file.template.body())?;
+    let names = block_names(alloc, &uses)?;
+    let Some(name) = repeated(alloc, &names)? else {
+        return Ok(None);
+    };
+    let tags = tags_of(alloc, file, Wanted::Block(name))?;
+    let Some(first) = first_place(alloc, &tags)? else {
+        return Ok(None);
+    };
+    let Some(second) = second_place(alloc, &tags)? else {
+        return Ok(None);
+    };
+    let name = String::from_str(alloc, name)?;
+    Ok(Some(ChainFinding {
+        error: ChainError::DoubleBlock,
+        place: Some(second),
+        subject: Some(ChainSubject::BlockTwice { name, first }),
+    }))
+}
+
+/// Returns the finding of two blocks of one name in a template.
+fn block_twice(
+    alloc: Global,
+    store: TemplateStore<'_>,
+    indices: &[usize],
+) -> Result<ChainFinding, AllocError>
+    requires { AreIndices (files_view store.files.now) indices.now }
+    ensures { IfOk result (IsOfRule (its_sources store.entry)
+        (its_templates store.entry indices.now) ChainError.DoubleBlock) }
+{
+    for index in indices {
+        if let Some(finding) = block_twice_in(alloc, &store.files[*index])? {
+            return Ok(finding);
+        }
+    }
+    Ok(ChainFinding::without_place(ChainError::DoubleBlock))
+}
+
 /// Returns the finding of a broken rule of a chain or library, whose templates are at `indices`.
 pub(crate) fn rule_finding(
     alloc: Global,
@@ -161,12 +216,13 @@ pub(crate) fn rule_finding(
     error: ChainError,
 ) -> Result<ChainFinding, AllocError>
     requires { AreIndices (files_view store.files.now) indices.now }
-    ensures { IfOk result (IsOfRule (its_sources store.entry) (its_templates store.entry indices.now)
-        error) }
+    ensures { IfOk result (IsOfRule (its_sources store.entry)
+        (its_templates store.entry indices.now) error) }
 {
     match error {
         ChainError::NoMacro => missing_finding(alloc, store, indices),
         ChainError::MacroTwice => name_twice(alloc, store, indices),
+        ChainError::DoubleBlock => block_twice(alloc, store, indices),
         _ => Ok(ChainFinding::without_place(error)),
     }
 }

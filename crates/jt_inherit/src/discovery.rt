@@ -2,13 +2,24 @@
 
 ghost use Rattle.std.specs.Prelude.{◌≡◌, ◌+◌, ◌<◌, length, OnOk, IfOk, IfErr};
 ghost use Rattle.jt_inherit.specs.internal.Found.{IsFirst, IsFound, found_namespaces, root_of};
+ghost use Rattle.std.specs.List.{AllByRecursion};
+ghost use Rattle.jt_chains.specs.Along.{AreIndices};
 ghost use Rattle.jt_inherit.specs.Findings.{IsFinding};
+ghost use Rattle.jt_inherit.specs.internal.ExtendsPaths.{AreNamed};
+ghost use Rattle.jt_inherit.specs.internal.Found.{found_paths, found_templates};
+ghost use Rattle.jt_inherit.specs.internal.Imported.{IsNoLibrary, IsOfImport};
+ghost use Rattle.jt_inherit.specs.internal.SetView.{key_view};
+ghost use Rattle.jt_inherit.specs.internal.Sets.{names_view};
 
+use crate::error::ChainError;
 use crate::extends_path::read_namespace;
-use crate::finding::ChainFinding;
+use crate::finding::{ChainFinding, ChainSubject};
+use crate::importing::library_file;
 use crate::including::{next_namespaces, read_includes};
 use crate::library::{Library, Loader};
 use crate::sets::{Names, NamespaceKey, Namespaces};
+use crate::store::TemplateStore;
+use crate::tags::{Wanted, first_place, tags_at};
 use jt_chains::TemplateFile;
 use std::alloc::{AllocError, Global};
 
@@ -49,6 +60,56 @@ fn begin(alloc: Global, entry: &str) -> Result<Discovery, AllocError>
     })
 }
 
+/// Returns the finding of an imported template that holds something other than macros, with the
+/// first tag that imports it.
+fn import_finding(
+    alloc: Global,
+    found: &Discovery,
+    name: &str,
+) -> Result<ChainFinding, AllocError>
+    requires { AllByRecursion (AreIndices (found_templates found.now)) (found_paths found.now) }
+    ensures { IfOk result
+        (IsOfImport (found_templates found.now) (found_paths found.now) name.now) }
+{
+    for extends_path in &found.extends_paths {
+        let tags = tags_at(alloc, &found.files, extends_path, Wanted::Imports(name))?;
+        if let Some(place) = first_place(alloc, &tags)? {
+            let name = String::from_str(alloc, name)?;
+            return Ok(ChainFinding {
+                error: ChainError::NotALibrary,
+                place: Some(place),
+                subject: Some(ChainSubject::Template(name)),
+            });
+        }
+    }
+    Ok(ChainFinding::without_place(ChainError::NotALibrary))
+}
+
+/// Refuses a library that was read and holds something other than macros.
+fn check_library(
+    alloc: Global,
+    found: &Discovery,
+    namespace: &NamespaceKey,
+) -> Result<(), ChainFinding>
+    requires named { AreNamed (found_templates found.now) (names_view found.now.names) }
+    requires indices { AllByRecursion (AreIndices (found_templates found.now))
+        (found_paths found.now) }
+    ensures refused { IfErr result (IsNoLibrary (found_templates found.now) (found_paths found.now)
+        (key_view namespace.now)) }
+{
+    if !namespace.is_library {
+        return Ok(());
+    }
+    let store = TemplateStore {
+        names: &found.names,
+        files: &found.files,
+    };
+    match library_file(store, &namespace.name) {
+        Some(file) if !file.is_library() => Err(import_finding(alloc, found, &namespace.name)?),
+        _ => Ok(()),
+    }
+}
+
 /// Follows the next chain or library: reads its templates and the templates that they include or
 /// import.
 fn follow<L: Library>(
@@ -67,6 +128,7 @@ fn follow<L: Library>(
         (IsFinding (L.sources loader.now.library.now) (root_of found.old) loader.now.options) }
 {
     let namespace = found.namespaces.get(found.extends_paths.len());
+    check_library(alloc, found, namespace)?;
     let extends_path = read_namespace(
         alloc,
         &mut found.names,

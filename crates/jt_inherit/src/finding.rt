@@ -20,16 +20,22 @@ pub enum ChainSubject {
     Template(String),
     /// A macro that a `from` tag names, and the library.
     Macro { library: String, name: String },
-    /// A block, by its name.
+    /// A required block, by its name.
     Block(String),
     /// A block that a template has twice, with the place of the first one.
     BlockTwice { name: String, first: TagPlace },
+    /// A block whose body calls `super()`, with the place of the block's tag.
+    Super { block: String, opened: TagPlace },
+    /// A ring of templates: the name that the tag has, and then the names on the path back to the
+    /// chain or library of the tag, whose name comes last. The list is empty if that name is the
+    /// tag's.
+    Ring { name: String, rest: Vec<String> },
     /// A name that a chain defines twice, with the place of the first definition.
     NameTwice { name: String, first: TagPlace },
-    /// The number of templates in a chain, which is at most 64.
-    Templates,
-    /// The number of chains that the entry reaches, which is at most 1,024.
-    Chains,
+    /// The template that would be the 65th of a chain, by its name.
+    Templates(String),
+    /// The template whose chain would be the 1,025th that the entry reaches, by its name.
+    Chains(String),
 }
 
 /// An error of `chain` with the place of the tag that breaks the rule and what the rule is broken

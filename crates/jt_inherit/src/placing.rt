@@ -48,7 +48,9 @@ fn subject_of(
         ChainError::Missing | ChainError::BadName | ChainError::ExtendsCycle => {
             Ok(Some(ChainSubject::Template(String::from_str(alloc, name)?)))
         }
-        ChainError::ChainTooLong => Ok(Some(ChainSubject::Templates)),
+        ChainError::ChainTooLong => {
+            Ok(Some(ChainSubject::Templates(String::from_str(alloc, name)?)))
+        }
         _ => Ok(None),
     }
 }

@@ -192,8 +192,8 @@ pub(crate) fn tags_at<'a>(
     wanted: Wanted<'_>,
 ) -> Result<Vec<FoundTag<'a>>, AllocError>
     requires { AreIndices (files_view files.now) indices.now }
-    ensures { IfOk result (λ found. tags_view found.items
-        ≡ tags (test_of wanted.entry) (all_uses (templates_at (files_view files.now) indices.now))) }
+    ensures { IfOk result (λ found. tags_view found.items ≡ tags (test_of wanted.entry)
+        (all_uses (templates_at (files_view files.now) indices.now))) }
 {
     let mut found = Vec::new(alloc);
     for index in indices {

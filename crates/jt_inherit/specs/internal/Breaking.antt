@@ -35,3 +35,11 @@ module _ (s : Sources) (ts : List Template) where
 
   abbrev pub IsOfRule : ChainError → ChainFinding → Type 0
   IsOfRule e f = (f.error ≡ e) × RuleAt f.place f.subject e
+
+-- The template has two blocks of one name at the places.
+abbrev pub TwiceAt : Template → Option TagPlace → Option ChainSubject → Type 0
+TwiceAt t (Some p) (Some (v.BlockTwice x first)) = HasTwoTags (is_block (string_bytes x)) (t ∷ []) first p
+TwiceAt t p x = ⊥
+
+abbrev pub IsTwiceIn : Template → ChainFinding → Type 0
+IsTwiceIn t f = (f.error ≡ error.DoubleBlock) × TwiceAt t f.place f.subject

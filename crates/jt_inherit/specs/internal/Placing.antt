@@ -20,10 +20,10 @@ IsOfName error.BadName = Unit {0}
 IsOfName error.ExtendsCycle = Unit {0}
 IsOfName e = ⊥
 
--- The subject of an error at this name: the name, or the number of templates.
+-- The subject of an error at this name: the name, or the one that is too many.
 abbrev pub SubjectOf : Text → ChainError → ChainSubject → Type 0
 SubjectOf n e (v.Template x) = (string_bytes x ≡ n) × IsOfName e
-SubjectOf n e v.Templates = e ≡ error.ChainTooLong
+SubjectOf n e (v.Templates x) = (string_bytes x ≡ n) × (e ≡ error.ChainTooLong)
 SubjectOf n e x = ⊥
 
 abbrev pub IsSubject : Text → ChainError → Option ChainSubject → Type 0

@@ -1,5 +1,5 @@
 -- The tags of wanted uses. Only private clauses cite this module.
-use Rattle.std.specs.Prelude.{ℕ, Bool, false, true, List, [], map, filter, string_bytes}
+use Rattle.std.specs.Prelude.{ℕ, Bool, false, true, List, map, filter, string_bytes}
 use Rattle.jt_ast.specs.Expressions.{Text}
 use Rattle.jt_uses.specs.Uses.{Use, Site}
 use Rattle.jt_inherit.specs.Findings.{asks, is_extends, is_include, is_import, binds_macro, is_block, defines}

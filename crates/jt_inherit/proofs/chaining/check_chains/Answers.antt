@@ -1,4 +1,4 @@
-use Rattle.std.proofs.Common.{◌<◌, List, ℕ, length, sym, ap, subst, arith, Vec, Global}
+use Rattle.std.proofs.Common.{◌<◌, List, ℕ, length, sym, ap, subst, ◌∙◌, arith, Vec, Global}
 use Rattle.std.proofs.lemmas.List.{length-map}
 use Rattle.jt_graph.specs.View.{graph_of}
 use Rattle.jt_chains.specs.Along.{AreIndices, templates_at}
@@ -39,6 +39,26 @@ check_rules-requires c =
     (subst (AreIndices (found_templates f)) here
     (at_number (AreIndices (found_templates f)) (graph_of f.extends_paths.items) i lt c.requires.indices))
 
+pub rule_finding-requires : goal.rule_finding-requires
+rule_finding-requires c =
+    let f = c.args.found.now in
+    let i = c.loop-extends_path.extends_path-index in
+    let is = c.deref-in-loop-extends_path.result.now in
+    let here = way_number f.extends_paths.items c.deref-extends_path-items.result.now i c.extends_path-item.result is
+    c.deref-extends_path-items.ensures.value c.loop-extends_path-test.true c.extends_path-item.is
+    c.deref-in-loop-extends_path.ensures.value in
+    let lt : i < length (graph_of f.extends_paths.items) = omega (
+      arith,
+      c.loop-extends_path-test.true,
+      ap length c.deref-extends_path-items.ensures.value,
+      length-map f.extends_paths.items (λ (v : Vec ℕ Global). v.items),
+    ) in
+    subst (λ (z : List ℕ). AreIndices (files_view c.deref.result.now) z)
+    (c.deref-in-loop-extends_path.ensures.value ∙ sym c.deref-in-Err.ensures.value)
+    (subst (λ (z : List TemplateFile). AreIndices (files_view z) is) (sym c.deref.ensures.value)
+    (subst (AreIndices (found_templates f)) here
+    (at_number (AreIndices (found_templates f)) (graph_of f.extends_paths.items) i lt c.requires.indices)))
+
 pub returns-in-Err-clause-broken : goal.returns-in-Err-clause-broken
 returns-in-Err-clause-broken c =
     let f = c.args.found.now in
@@ -71,5 +91,9 @@ returns-in-Err-clause-broken c =
           (subst (λ z. RuleAt (sources_in ts) (templates_at ts is) x.place x.subject z) (sym told.0)
           (subst (λ (z : List TemplateFile).
           RuleAt (sources_in (files_view z)) (templates_at (files_view z) is) x.place x.subject e)
-          c.deref.ensures.value told.1));
+          c.deref.ensures.value
+          (subst (λ (z : List ℕ).
+          RuleAt (sources_in (files_view c.deref.result.now)) (templates_at (files_view c.deref.result.now) z) x.place
+          x.subject e)
+          (c.deref-in-Err.ensures.value ∙ sym c.deref-in-loop-extends_path.ensures.value) told.1)));
     }

@@ -19,6 +19,10 @@ use Rattle.jt_inherit.proofs.DiscoveryInvariant.{first_same, way_there, both_fil
 use Rattle.jt_inherit.proofs.NameMembership.{map_more}
 use Rattle.jt_inherit.proofs.NamespaceMembership.{of_namespaces}
 use Rattle.jt_inherit.proofs.Membership.{indexed_among}
+use Rattle.jt_ast.specs.Texts.{repeated}
+use Rattle.jt_inherit.specs.internal.Found.{found_templates}
+use Rattle.jt_inherit.proofs.ChainComplete.{ways_indexed}
+use Rattle.jt_inherit.proofs.ImportFound.{library_finds}
 use Rattle.jt_inherit.proofs.discovery.follow.Goals as goal
 
 pub get-namespace-requires : goal.get-namespace-requires
@@ -31,12 +35,35 @@ get-namespace-requires g c =
       length-map c.args.found.now.namespaces.items.items key_view,
     )
 
+pub check_library-requires-clause-named : goal.check_library-requires-clause-named
+check_library-requires-clause-named g c =
+    let known = c.requires.found.known in
+    (known.named, ap repeated known.named ∙ known.read.once)
+
+pub check_library-requires-clause-indices : goal.check_library-requires-clause-indices
+check_library-requires-clause-indices g c =
+    let f = c.args.found.now in
+    ways_indexed (g.L.Library.sources c.args.loader.now.library.now) (found_templates f) (found_namespaces f)
+    (found_namespaces f) (graph_of f.extends_paths.items) (graph_of f.next.items) c.requires.found.followed
+
+pub returns-in_err-check_library-clause-refused : goal.returns-in_err-check_library-clause-refused
+returns-in_err-check_library-clause-refused g c =
+    let f = c.args.found.now in
+    let at = namespace_number (found_namespaces f) f.extends_paths.items _ c.len.result
+    (omega (arith, c.len.ensures, f.extends_paths.ok.0)) c.get-namespace.ensures in
+    let p = err_from_is_err_and c.from_residual.result c.from_residual.ensures.1 in
+    let here = c.requires.found.reached (key_view c.get-namespace.result.now)
+    (indexed_among of_namespaces (found_namespaces f) (length (graph_of f.extends_paths.items))
+    (key_view c.get-namespace.result.now) at) in
+    rw (p.1, p.2) (library_finds c.requires.found here c.in_err-check_library.field-0.0 c.in_err-check_library.ensures)
+
 pub returns-in_err-extends_path-clause-refused : goal.returns-in_err-extends_path-clause-refused
 returns-in_err-extends_path-clause-refused g c =
     let f = c.args.found.now in
     let at = namespace_number (found_namespaces f) f.extends_paths.items _ c.len.result
     (omega (arith, c.len.ensures, f.extends_paths.ok.0)) c.get-namespace.ensures in
-    let p = err_from_is_err_and c.from_residual.result c.from_residual.ensures.1 in
+    let p =
+    err_from_is_err_and c.from_residual-in_err-extends_path.result c.from_residual-in_err-extends_path.ensures.1 in
     let here = c.requires.found.reached (key_view c.get-namespace.result.now)
     (indexed_among of_namespaces (found_namespaces f) (length (graph_of f.extends_paths.items))
     (key_view c.get-namespace.result.now) at) in

@@ -38,12 +38,13 @@ returns-then-not-holds_macros g c =
     let qs = c.read_index.new.files.items in
     let indexed = c.in-Ok.ensures in
     subst (λ (f : ChainFinding). BreaksAll given options ps (a_library c.args.name.now) f.error
-    × SaysAll given options ps (a_library c.args.name.now) f) (sym c.without_place.ensures)
-    (breaks_more given options ps qs indexed.grown (a_library c.args.name.now) error.NotALibrary
-    (not_alone qs indexed.known.read.once c.in-Ok.index indexed.index c.index.ensures
-    given options c.read_index.new.names indexed.known
-    (ap holds_macros (sym c.body.ensures) ∙ sym c.holds_macros.ensures ∙ c.if-not-holds_macros.true)),
-    λ root r. tt)
+    × SaysAll given options ps (a_library c.args.name.now) f) (sym c.without_place.ensures) (
+      breaks_more given options ps qs indexed.grown (a_library c.args.name.now) error.NotALibrary
+          (not_alone qs indexed.known.read.once c.in-Ok.index indexed.index c.index.ensures
+          given options c.read_index.new.names indexed.known
+          (ap holds_macros (sym c.body.ensures) ∙ sym c.holds_macros.ensures ∙ c.if-not-holds_macros.true)),
+      λ root r. tt,
+    )
 
 pub returns : goal.returns
 returns g c =

@@ -3,23 +3,45 @@ use Rattle.std.proofs.Common.{String, Global, length-append}
 use Rattle.std.proofs.lemmas.List.{length-map}
 use Rattle.std.specs.Prelude.{option_map}
 use Rattle.std.proofs.lemmas.Option.{slice_get_within}
-use Rattle.std.proofs.lemmas.Result.{err_from_is_err_and}
 use Rattle.jt_chains.specs.Chain.{a_chain}
 use Rattle.jt_inherit.specs.internal.Faults.{IsFaultOf}
 use Rattle.jt_chains.specs.TemplateFiles.{file_view, files_view}
 use Rattle.jt_inherit.specs.internal.ExtendsPaths.{IsExtendsPath}
 use Rattle.jt_inherit.specs.declared.error.ChainError.TheVariants as error
-use Rattle.jt_inherit.proofs.SourcesGrow.{chain_breaks}
+use Rattle.jt_inherit.proofs.PlacedErrors.{cycle_placed, fault_placed, long_placed, refused_all, same_parent}
 use Rattle.jt_inherit.proofs.NamespaceSets.{is_chain}
 use Rattle.jt_inherit.proofs.PathsGrow.{names, length_names, on_path, way_step, grow_on, cycle_breaks, long_breaks}
 use Rattle.jt_inherit.proofs.PathsGrow.{fault_breaks}
 use Rattle.jt_inherit.proofs.extends_path.read_namespace.Goals as goal
 
 pub returns-then-is_on_path : goal.returns-then-is_on_path
-returns-then-is_on_path g c = ?
+returns-then-is_on_path g c =
+    let l = c.loop-turn in
+    let f = c.in_ok-parent_finding.field-0 in
+    let there = sym (on_path c.deref-in-loop-turn.ensures.value c.deref-in-loop-turn-2.ensures.value
+    c.deref-in-loop-turn-3.ensures c.is_on_path.ensures) ∙ c.if-is_on_path.true in
+    let told = same_parent error.ExtendsCycle f c.deref-then-is_on_path.ensures.value
+    c.deref-then-is_on_path-2.ensures.value
+    c.deref-then-is_on_path-3.ensures c.in_ok-parent_finding.ensures in
+    refused_all (g.L.Library.sources c.args.loader.now.library.now) c.args.loader.now.options c.args.files.now.items
+    l.files.items l.invariant.grown c.args.namespace.now c.if-namespace.false error.ExtendsCycle f told.0
+    (λ root r. cycle_breaks l.invariant.known r l.invariant.led there)
+    (λ root r. cycle_placed l.invariant.known r l.invariant.led there f.place f.subject told.1)
 
 pub returns-in-Err : goal.returns-in-Err
-returns-in-Err g c = ?
+returns-in-Err g c =
+    let l = c.loop-turn in
+    let given = g.L.Library.sources c.args.loader.now.library.now in
+    let e = c.in-Err.error in
+    let f = c.in_ok-parent_finding-in-Err.field-0 in
+    let fault = subst (λ x. IsFaultOf e given x c.args.loader.now.options) c.deref-in-loop-turn-4.ensures
+    c.in-Err.ensures.refused in
+    let told = same_parent e f (c.deref-in-Err.ensures.value ∙ c.in-Err.ensures.kept) c.deref-in-Err-2.ensures.value
+    c.deref-in-Err-3.ensures c.in_ok-parent_finding-in-Err.ensures in
+    refused_all given c.args.loader.now.options c.args.files.now.items l.files.items l.invariant.grown
+    c.args.namespace.now c.if-namespace.false e f told.0
+    (λ root r. fault_breaks l.invariant.known r l.invariant.led e fault)
+    (λ root r. fault_placed l.invariant.known r l.invariant.led e fault f.place f.subject told.1)
 
 pub index-requires : goal.index-requires
 index-requires g c =
@@ -85,7 +107,30 @@ loop-turn-preserved g c =
     }
 
 pub returns-then-is_on_path-2 : goal.returns-then-is_on_path-2
-returns-then-is_on_path-2 g c = ?
+returns-then-is_on_path-2 g c =
+    let l = c.loop-turn in
+    let f = c.in_ok-parent_finding-2.field-0 in
+    let there = sym (on_path c.deref-3.ensures.value c.deref-4.ensures.value c.deref-5.ensures
+    c.is_on_path-2.ensures) ∙ c.if-is_on_path-2.true in
+    let told = same_parent error.ExtendsCycle f c.deref-then-is_on_path-2-2.ensures.value
+    c.deref-then-is_on_path-2-3.ensures.value
+    c.deref-then-is_on_path-2-4.ensures c.in_ok-parent_finding-2.ensures in
+    refused_all (g.L.Library.sources c.args.loader.now.library.now) c.args.loader.now.options c.args.files.now.items
+    l.files.items l.invariant.grown c.args.namespace.now c.if-namespace.false error.ExtendsCycle f told.0
+    (λ root r. cycle_breaks l.invariant.known r l.invariant.led there)
+    (λ root r. cycle_placed l.invariant.known r l.invariant.led there f.place f.subject told.1)
 
 pub returns : goal.returns
-returns g c = ?
+returns g c =
+    let l = c.loop-turn in
+    let f = c.in_ok-parent_finding-3.field-0 in
+    let full : length l.extends_path.items ≡ 64 =
+    omega (arith, l.invariant.counted, c.loop-turn-test.false, l.auto._turn-end) in
+    let new = sym (on_path c.deref-3.ensures.value c.deref-4.ensures.value c.deref-5.ensures c.is_on_path-2.ensures)
+    ∙ c.if-is_on_path-2.false in
+    let told = same_parent error.ChainTooLong f c.deref-6.ensures.value c.deref-7.ensures.value c.deref-8.ensures
+    c.in_ok-parent_finding-3.ensures in
+    refused_all (g.L.Library.sources c.args.loader.now.library.now) c.args.loader.now.options c.args.files.now.items
+    l.files.items l.invariant.grown c.args.namespace.now c.if-namespace.false error.ChainTooLong f told.0
+    (λ root r. long_breaks l.invariant.known r l.invariant.led full new)
+    (λ root r. long_placed l.invariant.known r l.invariant.led full new f.place f.subject told.1)

@@ -1,17 +1,22 @@
 use Rattle.std.proofs.Common.{◌≡◌, true, inr, ⊎_elim, take, refl, sym, ap, subst, ◌∙◌}
 use Rattle.std.specs.List.{AllByRecursion}
-use Rattle.std.proofs.lemmas.Result.{err_from_is_err_and}
 use Rattle.jt_ast.specs.Texts.{among}
 use Rattle.jt_inherit.specs.internal.Along.{needs_along}
 use Rattle.jt_inherit.specs.internal.Found.{IsMet}
 use Rattle.jt_chains.specs.Needs.{needed, needs_view}
 use Rattle.jt_chains.specs.TemplateFiles.{files_view}
 use Rattle.jt_inherit.specs.internal.Sets.{names_view}
-use Rattle.jt_inherit.proofs.FollowStep.{asked_at, need_fault, met_turn, met_grows}
+use Rattle.jt_inherit.proofs.FollowStep.{asked_at, met_turn, met_grows}
+use Rattle.jt_inherit.proofs.PlacedErrors.{unmet_need}
 use Rattle.jt_inherit.proofs.including.read_includes.Goals as goal
 
 pub returns-in-Err-clause-refused : goal.returns-in-Err-clause-refused
-returns-in-Err-clause-refused g c = ?
+returns-in-Err-clause-refused g c =
+    unmet_need (g.L.Library.sources c.args.loader.now.library.now) c.args.loader.now.options c.args.files.now
+    c.args.extends_path.now c.deref-include-items.result.now c.loop-include.include-index _ c.in-Err.error
+    c.in_ok-need_finding-in-Err.field-0
+    (ap needs_view c.deref-include-items.ensures.value ∙ c.in_ok-found.ensures) c.loop-include-test.true
+    c.in-Err.ensures.refused c.in_ok-need_finding-in-Err.ensures
 
 pub loop-include-preserved : goal.loop-include-preserved
 loop-include-preserved g c =

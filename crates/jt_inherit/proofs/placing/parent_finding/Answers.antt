@@ -1,6 +1,5 @@
-use Rattle.std.proofs.Common.{◌≡◌, ◌<◌, ◌-◌, ℕ, length, get_or, arith, subst, Option, Some, None}
-use Rattle.std.specs.Prelude.{IfOk, slice_get}
-use Rattle.std.proofs.lemmas.List.{length-map}
+use Rattle.std.proofs.Common.{◌≡◌, ◌<◌, ℕ, length, subst, Option}
+use Rattle.std.specs.Prelude.{IfOk}
 use Rattle.jt_chains.specs.TemplateFiles.{file_view, files_view}
 use Rattle.jt_chains.proofs.TemplatesByIndex.{map_at}
 use Rattle.jt_inherit.specs.internal.Placing.{LastAt}
@@ -15,7 +14,8 @@ returns-in-None c =
     c.in-None.ensures.value c.head_finding.ensures
 
 pub bounds-files-last : goal.bounds-files-last
-bounds-files-last c = index_at_end c.args.files.now c.args.extends_path.now c.in-Some.last.now c.requires c.in-Some.ensures.value
+bounds-files-last c =
+    index_at_end c.args.files.now c.args.extends_path.now c.in-Some.last.now c.requires c.in-Some.ensures.value
 
 pub returns-in-Some : goal.returns-in-Some
 returns-in-Some c =
@@ -27,5 +27,9 @@ returns-in-Some c =
     c.in-Some.ensures.value
     (ok_weaker _ _ (λ (f : ChainFinding) q. (
       q.0,
-      (file_view c.index-files-last.result, map_at file_view ps i c.index-files-last.result lt c.index-files-last.is, q.1),
+      (
+        file_view c.index-files-last.result,
+        map_at file_view ps i c.index-files-last.result lt c.index-files-last.is,
+        q.1,
+      ),
     )) c.extends_finding.result c.extends_finding.ensures)
