@@ -11,7 +11,7 @@ import re
 ERRORS = pathlib.Path(__file__).resolve().parent.parent / "docs" / "errors.md"
 FIRST = re.compile(
     r'(?P<first>(?:(?P<template>[^\n]+):(?P<line>[0-9]+): )?(?P<code>[A-Z][0-9]+) (?P<name>\w+)(?: "(?P<subject>[^"\n]*)")?)'
-    r"(?P<kind> \(\w+\))?(?P<tail>; .+)?"
+    r"(?P<kind> \(\w+\))?(?P<tail>[;,] .+)?"
 )
 ROW = re.compile(r'(?m)^\| (?P<refusal>[A-Z][0-9]+ \w+(?: "NAME")?(?: \(\w+\))?) \| (?P<sentence>[^|]+) \|$')
 # A character of a word: the name is marked where none is beside it.

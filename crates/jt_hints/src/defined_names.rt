@@ -45,10 +45,10 @@ fn add_name<'a>(name: Option<&'a str>, found: &mut Vec<&'a str>) -> Result<(), A
         ≡ map (λ x. x.now) found.old.items
         ++ spec.if_some (option_map (λ x. x.now) name.entry)) }
 {
-    match name {
-        Some(name) => found.push(name),
-        None => Ok(()),
+    if let Some(name) = name {
+        found.push(name)?;
     }
+    Ok(())
 }
 
 /// Returns whether no token or a comma follows.

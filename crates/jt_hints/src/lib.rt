@@ -6,7 +6,7 @@
 //!
 //! - `nearest_name`: the candidate with the fewest edits, with `edits`, which counts them;
 //! - `known_names`: the names of all filters and tests, which are such candidates;
-//! - `defined_names`: the macros and blocks of a source, which are such candidates, and its imports;
+//! - `defined_names`: the macros and blocks of a source, which are candidates too, and imports;
 //! - `left_out`: the tables of Jinja's filters, tests and functions, and of the methods of Python's
 //!   values;
 //! - `syntax`: the forms of a tag, with `statement_words`, `head_forms`, `places` and

@@ -1,3 +1,4 @@
 pub mod HintsHold
+pub mod MeantHolds
 mod RefusedCode
 pub mod SourceInsertion

@@ -12,6 +12,7 @@ use Rattle.jt_hints.specs.declared.defined_names.NameKind.TheVariants as kind
 use Rattle.jt_inherit.specs.Chains.{SourceTexts, scanned}
 use Rattle.jt_codegen.specs.declared.ChainError.{ChainError}
 use Rattle.jt_codegen.specs.declared.ChainError.TheVariants as chain_error
+use Rattle.jt_codegen.specs.declared.ChainSubject.{ChainSubject}
 use Rattle.jt_codegen.specs.declared.ChainSubject.TheVariants as chain_subject
 use Rattle.jt_codegen.specs.declared.CompileError.{CompileError}
 use Rattle.jt_codegen.specs.declared.CompileError.TheVariants as compile_error
@@ -25,19 +26,28 @@ use Rattle.jt_codegen.specs.declared.TagPlace.{TagPlace}
 use Rattle.jt_host.specs.declared.meant.Sought.{Sought}
 use Rattle.jt_host.specs.declared.meant.Sought.TheVariants as sought
 
--- What is sought in the segments of a source: the nearest one of the names of a kind, or the library
--- of a name.
-abbrev pub found_in : Sought → List Segment → Option Text
-found_in (sought.Near k x) segments = nearest x.now (defined_names k segments)
-found_in (sought.Library x) segments = library_named x.now segments
+-- What is sought in a source.
+pub data Wanted : Type 0 where
+  -- The nearest one of the names of a kind that the tags define.
+  near_name : NameKind → Text → Wanted
+  -- The library that an import tag binds to a name.
+  library : Text → Wanted
 
--- The source is cut into segments, which have this.
-pub record HasFound (options : Options) (source : Text) (wanted : Sought) (y : Text) : Type 0 where
+abbrev pub wanted : Sought → Wanted
+wanted (sought.Near k x) = near_name k x.now
+wanted (sought.Library x) = library x.now
+
+abbrev pub found_in : Wanted → List Segment → Option Text
+found_in (near_name k x) segments = nearest x (defined_names k segments)
+found_in (library x) segments = library_named x segments
+
+-- The source is cut into segments, in which this is found.
+pub record HasFound (options : Options) (source : Text) (w : Wanted) (y : Text) : Type 0 where
   pub segments : List Segment
   pub cut : IsCut (cut_of segments) (scanned options source)
-  pub is : found_in wanted segments ≡ Some y
+  pub is : found_in w segments ≡ Some y
 
--- The nearest one of names, among them this one, which is that of a template with a source.
+-- The name is the nearest one of some names, and has a source.
 pub record IsTemplateNear (sources : SourceTexts) (x y : Text) : Type 0 where
   pub names : List Text
   pub near : nearest x names ≡ Some y
@@ -45,14 +55,50 @@ pub record IsTemplateNear (sources : SourceTexts) (x y : Text) : Type 0 where
   pub found : sources y ≡ Some source
 
 module _ (sources : SourceTexts) (options : Options) where
-  -- The source of the template has this.
-  pub record IsFound (template : Text) (wanted : Sought) (y : Text) : Type 0 where
+  -- This is found in the source of the template.
+  pub record IsFound (template : Text) (w : Wanted) (y : Text) : Type 0 where
     pub source : Text
     pub found : sources template ≡ Some source
-    pub has : HasFound options source wanted y
+    pub has : HasFound options source w y
 
-  -- The template defines the name, which is the nearest one of its names of the kind.
-  pub record IsNear (template : Text) (k : NameKind) (x y : Text) : Type 0 where
-    pub wanted : Sought
-    pub near : (segments : List Segment) → found_in wanted segments ≡ nearest x (defined_names k segments)
-    pub is : IsFound template wanted y
+  -- The template imports a library by this name, and the nearest one of its macros is meant.
+  pub record IsMemberNear (template of x y : Text) : Type 0 where
+    pub name : Text
+    pub imported : IsFound template (library of) name
+    pub near : IsFound name (near_name kind.PublicMacro x) y
+
+  -- A field of `self` is a block of the template, and that of another name a macro of a library.
+  abbrev pub IsFieldNear : Text → Text → Text → Text → Type 0
+  IsFieldNear template of x y =
+      ((of ≡ codes "self") × IsFound template (near_name kind.Block x) y) ⊎ IsMemberNear template of x y
+
+  -- What a template calls by a name is one of its callees, and a field is that of `self` or a library.
+  abbrev pub IsCalleeNear : Text → Subject → Text → Type 0
+  IsCalleeNear template (subject.CalledName x) y = IsFound template (near_name kind.Callee (string_bytes x)) y
+  IsCalleeNear template (subject.CalledField of k) y = IsFieldNear template (string_bytes of) (string_bytes k) y
+  IsCalleeNear template s y = ⊥
+
+  -- A template of the library, or a macro of the library that a `from` tag names.
+  abbrev pub IsNearOfRule : ChainError → ChainSubject → Text → Type 0
+  IsNearOfRule chain_error.Missing (chain_subject.Template x) y = IsTemplateNear sources (string_bytes x) y
+  IsNearOfRule chain_error.NoMacro (chain_subject.Macro l x) y =
+      IsFound (string_bytes l) (near_name kind.PublicMacro (string_bytes x)) y
+  IsNearOfRule e s y = ⊥
+
+  abbrev pub IsNearOfChain : ChainError → Subject → Text → Type 0
+  IsNearOfChain e (subject.Chain s) y = IsNearOfRule e s y
+  IsNearOfChain e s y = ⊥
+
+  -- The name that the name of a refusal probably means.
+  abbrev pub IsMeantAt : CompileError → Option TagPlace → Option Subject → Text → Type 0
+  IsMeantAt (compile_error.Chain e) place (Some s) y = IsNearOfChain e s y
+  IsMeantAt (compile_error.Scope scope_error.NotCallable) (Some place) (Some s) y =
+      IsCalleeNear (string_bytes place.template) s y
+  IsMeantAt e place about y = ⊥
+
+  abbrev pub IsMeantBy : Finding → Text → Type 0
+  IsMeantBy f y = IsMeantAt f.error f.place f.subject y
+
+  abbrev pub IsMeantFor : Explained → Text → Type 0
+  IsMeantFor (explained.Refused f) y = IsMeantBy f y
+  IsMeantFor explained.Compiles y = ⊥

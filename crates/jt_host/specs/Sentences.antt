@@ -14,6 +14,8 @@ use Rattle.jt_codegen.specs.declared.ChainSubject.TheVariants as chain_subject
 use Rattle.jt_codegen.specs.declared.CompileError.{CompileError}
 use Rattle.jt_codegen.specs.declared.CompileError.TheVariants as compile_error
 use Rattle.jt_codegen.specs.declared.Finding.{Finding}
+use Rattle.jt_codegen.specs.declared.Limit.{Limit}
+use Rattle.jt_codegen.specs.declared.Limit.TheVariants as limit
 use Rattle.jt_codegen.specs.declared.Subject.{Subject}
 use Rattle.jt_codegen.specs.declared.Subject.TheVariants as subject
 use Rattle.jt_host.specs.Subjects.{quoted, subject_name}
@@ -89,15 +91,30 @@ limit_rule (Some subject.Bindings) = codes "this template binds more than 4,096 
 limit_rule (Some subject.Names) = codes "the templates read or bind more than 65,535 names in all"
 limit_rule about = scope_rule scope_error.TooManySlots
 
+-- The limit of images that would be passed.
+abbrev pub image_rule : Limit → Text
+image_rule limit.Constants = codes "the image would have more than 65,535 constants"
+image_rule limit.Units =
+    codes "the image would have more than 65,535 units: one for each chain, block and macro"
+image_rule limit.Instructions = codes "the image would have more than 262,144 instructions"
+image_rule limit.Templates = codes "the places of the image would name more than 65,535 templates"
+image_rule limit.NameBytes = codes "a name in the image would have more than 65,535 bytes"
+image_rule limit.Bytes = codes "the image would have more than 16,777,216 bytes"
+image_rule limit.Entries =
+    codes "more than 1,024 values would be needed at the same time, as by a list of 1,025 items"
+
+abbrev pub code_rule : Option Subject → Text
+code_rule (Some (subject.Limit l)) = image_rule l
+code_rule about =
+    codes "the image would pass one of its limits, as 262,144 instructions or 65,535 constants"
+
 abbrev pub rule : CompileError → Option Subject → Text
 rule (compile_error.Scope scope_error.TooManySlots) about = limit_rule about
 rule (compile_error.Chain e) about = chain_rule e
 rule (compile_error.Scope e) about = scope_rule e
-rule compile_error.CodeTooLong about =
-    codes "the image would pass one of its limits, as 262,144 instructions or 65,535 constants"
+rule compile_error.CodeTooLong about = code_rule about
 rule compile_error.NoMemory about = codes "memory is not enough"
-rule compile_error.StackTooDeep about =
-    codes "more than 1,024 values would be needed at the same time, as by a list of 1,025 items"
+rule compile_error.StackTooDeep about = image_rule limit.Entries
 
 -- ---- the words before the name that a refusal is about
 

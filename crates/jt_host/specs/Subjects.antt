@@ -35,6 +35,7 @@ subject_name (Some (subject.Test x)) = Some (string_bytes x)
 subject_name (Some (subject.Macro x)) = Some (string_bytes x)
 subject_name (Some subject.Bindings) = None
 subject_name (Some subject.Names) = None
+subject_name (Some (subject.Limit l)) = None
 subject_name (Some (subject.Chain s)) = Some (chain_name s)
 subject_name None = None
 

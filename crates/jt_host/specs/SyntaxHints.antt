@@ -1,7 +1,8 @@
 -- The reason of an error of syntax at its line: the form that a tag has and the language does not, or
 -- the statements that do not nest.
 use Rattle.std.specs.Prelude.{◌≡◌, ◌==◌, ℕ, List, [], ◌∷◌, Option, Some, None, option_map, if◌then◌else◌}
-use Rattle.std.specs.Prelude.{string_bytes}
+use Rattle.std.specs.Prelude.{◌++◌, codes, string_bytes}
+use Rattle.std.specs.Fmt.{decimal}
 use Rattle.std.specs.Option.{option_or}
 use Rattle.jt_scan.specs.Cut.{IsCut}
 use Rattle.jt_scan.specs.View.{cut_of}
@@ -13,6 +14,7 @@ use Rattle.jt_hints.specs.Forms as forms
 use Rattle.jt_hints.specs.Forms.{syntax_hint}
 use Rattle.jt_hints.specs.Nesting as nesting
 use Rattle.jt_hints.specs.Nesting.{nesting_hint}
+use Rattle.jt_hints.specs.declared.nesting.NestingHint.TheVariants as nesting_hint_of
 use Rattle.jt_hints.specs.declared.syntax.SyntaxHint.{SyntaxHint}
 use Rattle.jt_ast.specs.Expressions.{Text}
 use Rattle.jt_inherit.specs.Chains.{SourceTexts, scanned}
@@ -51,6 +53,14 @@ source_hint line segments =
 abbrev pub sentence : SourceHint → Text
 sentence (hint.Form h) = forms.sentence h
 sentence (hint.Nesting h) = nesting.sentence h
+
+-- The line at which the statement begins that is open.
+abbrev pub since : SourceHint → Text
+since (hint.Nesting (nesting_hint_of.OtherOpen s line)) = codes "; it begins at line " ++ decimal line
+since h = []
+
+abbrev pub hint_text : SourceHint → Text
+hint_text h = sentence h ++ since h
 
 -- The source is cut into segments, which have this reason at the line.
 pub record HasHint (options : Options) (source : Text) (line : ℕ) (h : SourceHint) : Type 0 where

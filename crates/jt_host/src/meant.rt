@@ -5,9 +5,7 @@ ghost use Rattle.jt_host.specs.Meant as spec;
 ghost use Rattle.jt_host.specs.Templates.{source_of};
 
 use crate::templates::Templates;
-use jt_codegen::{
-    ChainError, ChainSubject, CompileError, Explained, Finding, ScopeError, Subject,
-};
+use jt_codegen::{ChainError, ChainSubject, CompileError, Explained, Finding, ScopeError, Subject};
 use jt_hints::{NameKind, defined_names, library_named, nearest};
 use jt_inherit::Library;
 use jt_scan::{Options, ScanError, Segment, Source, scan};
@@ -47,7 +45,7 @@ fn found_in(
     sought: Sought<'_>,
 ) -> Result<Option<String>, AllocError>
     ensures { IfOk result (λ found. option_map string_bytes found
-        ≡ spec.found_in sought.entry segments.now) }
+        ≡ spec.found_in (spec.wanted sought.entry) segments.now) }
 {
     match sought {
         Sought::Near(kind, name) => {
@@ -67,7 +65,7 @@ fn found_at(
     sought: Sought<'_>,
 ) -> Result<Option<String>, AllocError>
     ensures { IfOk result (λ found. IfSome found (λ y.
-        spec.HasFound options text.now sought.entry (string_bytes y))) }
+        spec.HasFound options text.now (spec.wanted sought.entry) (string_bytes y))) }
 {
     let source = match Source::new(alloc, text, options) {
         Ok(source) => source,
@@ -90,7 +88,7 @@ fn found_by(
 ) -> Result<Option<String>, AllocError>
     ensures { IfOk result (λ found. IfSome found (λ y.
         spec.IsFound (source_of sources.entry.templates.now) sources.entry.options template.now
-        sought.entry (string_bytes y))) }
+        (spec.wanted sought.entry) (string_bytes y))) }
 {
     match sources.templates.source(template) {
         Some(source) => found_at(alloc, source, sources.options, sought),
@@ -112,15 +110,18 @@ fn near_field(
         template.now of.now field.now (string_bytes y))) }
 {
     if of == "self" {
-        return found_by(alloc, sources, template, Sought::Near(NameKind::Block, field));
-    }
-    match found_by(alloc, sources, template, Sought::Library(of))? {
-        Some(library) => found_by(
+        return found_by(
             alloc,
             sources,
-            &library,
-            Sought::Near(NameKind::PublicMacro, field),
-        ),
+            template,
+            Sought::Near(NameKind::Block, field),
+        );
+    }
+    match found_by(alloc, sources, template, Sought::Library(of))? {
+        Some(library) => {
+            let sought = Sought::Near(NameKind::PublicMacro, field);
+            found_by(alloc, sources, &library, sought)
+        }
         None => Ok(None),
     }
 }
@@ -137,18 +138,16 @@ fn near_callee(
         template.now subject.now (string_bytes y))) }
 {
     match subject {
-        Subject::CalledName(name) => found_by(
-            alloc,
-            sources,
-            template,
-            Sought::Near(NameKind::Callee, name),
-        ),
+        Subject::CalledName(name) => {
+            let sought = Sought::Near(NameKind::Callee, name);
+            found_by(alloc, sources, template, sought)
+        }
         Subject::CalledField { of, field } => near_field(alloc, sources, template, of, field),
         _ => Ok(None),
     }
 }
 
-/// Returns the template or the macro of a library that was probably meant.
+/// Returns the template, or the macro of a library, that was probably meant.
 fn near_of_chain(
     alloc: Global,
     sources: Sources<'_>,
@@ -161,14 +160,12 @@ fn near_of_chain(
 {
     match (error, subject) {
         (ChainError::Missing, Subject::Chain(ChainSubject::Template(name))) => {
-            sources.templates.nearest(alloc, name)
+            sources.templates.nearest_name(alloc, name)
         }
-        (ChainError::NoMacro, Subject::Chain(ChainSubject::Macro { library, name })) => found_by(
-            alloc,
-            sources,
-            library,
-            Sought::Near(NameKind::PublicMacro, name),
-        ),
+        (ChainError::NoMacro, Subject::Chain(ChainSubject::Macro { library, name })) => {
+            let sought = Sought::Near(NameKind::PublicMacro, name);
+            found_by(alloc, sources, library, sought)
+        }
         _ => Ok(None),
     }
 }

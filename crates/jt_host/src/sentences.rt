@@ -5,7 +5,8 @@ ghost use Rattle.jt_host.specs.Sentences as spec;
 
 use crate::subjects::{quoted, subject_name};
 use jt_codegen::{
-    ChainError, ChainSubject, CompileError, Finding, ParseError, ScanError, ScopeError, Subject,
+    ChainError, ChainSubject, CompileError, Finding, Limit, ParseError, ScanError, ScopeError,
+    Subject,
 };
 use jt_ids::LoopField;
 use std::alloc::{AllocError, Global};
@@ -127,6 +128,36 @@ fn limit_rule(subject: &Option<Subject>) -> &'static str
     }
 }
 
+/// Returns the limit of images that would be passed.
+fn image_rule(limit: Limit) -> &'static str
+    ensures { result.now ≡ spec.image_rule limit }
+{
+    match limit {
+        Limit::Constants => "the image would have more than 65,535 constants",
+        Limit::Units => {
+            "the image would have more than 65,535 units: one for each chain, block and macro"
+        }
+        Limit::Instructions => "the image would have more than 262,144 instructions",
+        Limit::Templates => "the places of the image would name more than 65,535 templates",
+        Limit::NameBytes => "a name in the image would have more than 65,535 bytes",
+        Limit::Bytes => "the image would have more than 16,777,216 bytes",
+        Limit::Entries => {
+            "more than 1,024 values would be needed at the same time, as by a list of 1,025 items"
+        }
+    }
+}
+
+/// Returns the limit of images that would be passed. Returns the rule of all limits if the subject
+/// is another one.
+fn code_rule(subject: &Option<Subject>) -> &'static str
+    ensures { result.now ≡ spec.code_rule subject.now }
+{
+    match subject {
+        Some(Subject::Limit(limit)) => image_rule(*limit),
+        _ => "the image would pass one of its limits, as 262,144 instructions or 65,535 constants",
+    }
+}
+
 /// Returns the rule that a refusal reports.
 fn rule_of(error: &CompileError, subject: &Option<Subject>) -> &'static str
     ensures { result.now ≡ spec.rule error.now subject.now }
@@ -135,13 +166,9 @@ fn rule_of(error: &CompileError, subject: &Option<Subject>) -> &'static str
         CompileError::Scope(ScopeError::TooManySlots) => limit_rule(subject),
         CompileError::Chain(error) => chain_rule(error),
         CompileError::Scope(error) => scope_rule(*error),
-        CompileError::CodeTooLong => {
-            "the image would pass one of its limits, as 262,144 instructions or 65,535 constants"
-        }
+        CompileError::CodeTooLong => code_rule(subject),
         CompileError::NoMemory => "memory is not enough",
-        CompileError::StackTooDeep => {
-            "more than 1,024 values would be needed at the same time, as by a list of 1,025 items"
-        }
+        CompileError::StackTooDeep => image_rule(Limit::Entries),
     }
 }
 

@@ -42,7 +42,8 @@ pub(crate) fn subject_name(
         ) => Ok(Some(String::from_str(alloc, name)?)),
         Some(Subject::CalledField { of, field }) => Ok(Some(format!(in alloc; "{of}.{field}")?)),
         Some(Subject::Chain(subject)) => Ok(Some(String::from_str(alloc, chain_name(subject))?)),
-        Some(Subject::CalledExpression | Subject::Bindings | Subject::Names) | None => Ok(None),
+        Some(Subject::CalledExpression | Subject::Bindings | Subject::Names | Subject::Limit(_))
+        | None => Ok(None),
     }
 }
 

@@ -1,7 +1,7 @@
 //! Finds the reason of an error of syntax: the form that a tag has and the language does not, or
 //! the statements that do not nest.
 
-ghost use Rattle.std.specs.Prelude.{◌≡◌, IfOk, IfSome};
+ghost use Rattle.std.specs.Prelude.{◌≡◌, IfOk, IfSome, string_bytes};
 ghost use Rattle.jt_host.specs.SyntaxHints as spec;
 ghost use Rattle.jt_host.specs.Templates.{source_of};
 
@@ -23,13 +23,26 @@ pub enum SourceHint {
 
 impl SourceHint {
     /// Returns what an explanation says of the reason.
-    pub(crate) fn sentence(self) -> &'static str
+    fn sentence(self) -> &'static str
         ensures { result.now ≡ spec.sentence self }
     {
         match self {
             SourceHint::Form(hint) => hint.sentence(),
             SourceHint::Nesting(hint) => hint.sentence(),
         }
+    }
+}
+
+/// Returns what an explanation says of the reason, with the line of the statement that is open.
+pub(crate) fn hint_text(alloc: Global, hint: SourceHint) -> Result<String, AllocError>
+    ensures { IfOk result (λ text. string_bytes text ≡ spec.hint_text hint) }
+{
+    let sentence = hint.sentence();
+    match hint {
+        SourceHint::Nesting(NestingHint::OtherOpen { line, .. }) => {
+            format!(in alloc; "{sentence}; it begins at line {line}")
+        }
+        _ => String::from_str(alloc, sentence),
     }
 }
 
