@@ -13,8 +13,8 @@ use Rattle.jt_scan.specs.declared.segment.TagKind.{TagKind}
 use Rattle.jt_scan.specs.declared.segment.TagKind.TheVariants as tag_kind
 use Rattle.jt_scan.specs.declared.segment.Token.{Token}
 use Rattle.jt_scan.specs.declared.segment.Token.TheVariants as t
-use Rattle.jt_hints.specs.declared.defined_names.NameKind.{NameKind}
-use Rattle.jt_hints.specs.declared.defined_names.NameKind.TheVariants as kind
+use Rattle.jt_hints.specs.declared.definitions.NameKind.{NameKind}
+use Rattle.jt_hints.specs.declared.definitions.NameKind.TheVariants as kind
 
 -- ---- the names that a tag defines
 

@@ -1,14 +1,15 @@
 -- The name in the sources that the name of a refusal probably means.
-use Rattle.std.specs.Prelude.{◌≡◌, ◌⊎◌, List, codes, Option, Some, None, string_bytes}
+use Rattle.std.specs.Prelude.{◌≡◌, ◌⊎◌, ℕ, List, codes, Option, Some, None, string_bytes}
 use Rattle.jt_scan.specs.Cut.{IsCut}
 use Rattle.jt_scan.specs.View.{cut_of}
 use Rattle.jt_scan.specs.declared.Options.{Options}
 use Rattle.jt_scan.specs.declared.segment.Segment.{Segment}
 use Rattle.jt_ast.specs.Expressions.{Text}
+use Rattle.jt_hints.specs.CalledMethods.{called_method}
 use Rattle.jt_hints.specs.DefinedNames.{defined_names, library_named}
 use Rattle.jt_hints.specs.Edits.{nearest}
-use Rattle.jt_hints.specs.declared.defined_names.NameKind.{NameKind}
-use Rattle.jt_hints.specs.declared.defined_names.NameKind.TheVariants as kind
+use Rattle.jt_hints.specs.declared.definitions.NameKind.{NameKind}
+use Rattle.jt_hints.specs.declared.definitions.NameKind.TheVariants as kind
 use Rattle.jt_inherit.specs.Chains.{SourceTexts, scanned}
 use Rattle.jt_codegen.specs.declared.ChainError.{ChainError}
 use Rattle.jt_codegen.specs.declared.ChainError.TheVariants as chain_error
@@ -32,14 +33,18 @@ pub data Wanted : Type 0 where
   near_name : NameKind → Text → Wanted
   -- The library that an import tag binds to a name.
   library : Text → Wanted
+  -- The first method of a Python value that the tags at a line call.
+  method : ℕ → Wanted
 
 abbrev pub wanted : Sought → Wanted
 wanted (sought.Near k x) = near_name k x.now
 wanted (sought.Library x) = library x.now
+wanted (sought.Method line) = method line
 
 abbrev pub found_in : Wanted → List Segment → Option Text
 found_in (near_name k x) segments = nearest x (defined_names k segments)
 found_in (library x) segments = library_named x segments
+found_in (method line) segments = called_method line segments
 
 -- The source is cut into segments, in which this is found.
 pub record HasFound (options : Options) (source : Text) (w : Wanted) (y : Text) : Type 0 where
@@ -102,3 +107,16 @@ module _ (sources : SourceTexts) (options : Options) where
   abbrev pub IsMeantFor : Explained → Text → Type 0
   IsMeantFor (explained.Refused f) y = IsMeantBy f y
   IsMeantFor explained.Compiles y = ⊥
+
+  -- The method that is called at the place, if the callee is neither a name nor a field of a name.
+  abbrev pub IsMethodAt : CompileError → Option TagPlace → Option Subject → Text → Type 0
+  IsMethodAt (compile_error.Scope scope_error.NotCallable) (Some place) (Some subject.CalledExpression) y =
+      IsFound (string_bytes place.template) (method place.line) y
+  IsMethodAt e place about y = ⊥
+
+  abbrev pub IsMethodBy : Finding → Text → Type 0
+  IsMethodBy f y = IsMethodAt f.error f.place f.subject y
+
+  abbrev pub IsMethodFor : Explained → Text → Type 0
+  IsMethodFor (explained.Refused f) y = IsMethodBy f y
+  IsMethodFor explained.Compiles y = ⊥

@@ -96,9 +96,18 @@ abbrev pub advised : Option Text → Text → Text
 advised (Some words) other = codes "; " ++ words
 advised None other = other
 
--- What to write: the advice, or else the reason of the error of syntax.
-abbrev pub advice_text : Option SourceHint → Finding → Option Text
-advice_text hint f = option_or (advice f.error f.subject) (option_map hint_text hint)
+-- What to write in place of the method that is called.
+abbrev pub method_of : Option (String Global) → Option Text
+method_of (Some x) = left_out_method (string_bytes x)
+method_of None = None
+
+abbrev pub method_advice : Clues → Option Text
+method_advice clues = method_of clues.method
+
+-- What to write: the advice on a word or on a method, or else the reason of the error of syntax.
+abbrev pub advice_text : Clues → Finding → Option Text
+advice_text clues f =
+    option_or (advice f.error f.subject) (option_or (method_advice clues) (option_map hint_text clues.hint))
 
 -- The known name that was probably meant, or else that of the sources.
 abbrev pub meant_text : Clues → Finding → Option Text
@@ -106,4 +115,4 @@ meant_text clues f = option_or (near f.error f.subject) (option_map string_bytes
 
 -- What to write, or else the name that was probably meant, or else what the refusal is also about.
 abbrev pub suggestion : Clues → Finding → Text
-suggestion clues f = advised (advice_text clues.hint f) (or_meant (meant_text clues f) (further_text f.subject))
+suggestion clues f = advised (advice_text clues f) (or_meant (meant_text clues f) (further_text f.subject))

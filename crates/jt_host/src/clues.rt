@@ -4,7 +4,7 @@ ghost use Rattle.std.specs.Prelude.{IfOk};
 ghost use Rattle.jt_host.specs.Clues as spec;
 ghost use Rattle.jt_host.specs.Templates.{source_of};
 
-use crate::meant::meant_for;
+use crate::meant::{meant_for, method_for};
 use crate::syntax_hints::{SourceHint, hint_for};
 use crate::templates::Templates;
 use jt_codegen::Explained;
@@ -18,6 +18,8 @@ pub struct Clues {
     pub hint: Option<SourceHint>,
     /// The name in the sources that was probably meant.
     pub meant: Option<String>,
+    /// The method that is called, if the callee is neither a name nor a field of a name.
+    pub method: Option<String>,
 }
 
 /// Returns what the sources show of a refusal beyond its finding.
@@ -31,5 +33,10 @@ pub(crate) fn clues_for(
 {
     let hint = hint_for(alloc, templates, options, explained)?;
     let meant = meant_for(alloc, templates, options, explained)?;
-    Ok(Clues { hint, meant })
+    let method = method_for(alloc, templates, options, explained)?;
+    Ok(Clues {
+        hint,
+        meant,
+        method,
+    })
 }

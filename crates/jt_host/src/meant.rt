@@ -1,4 +1,5 @@
-//! Finds the name in the sources that the name of a refusal probably means.
+//! Finds the name in the sources that the name of a refusal probably means, and the method that is
+//! called.
 
 ghost use Rattle.std.specs.Prelude.{◌≡◌, IfOk, IfSome, option_map, string_bytes};
 ghost use Rattle.jt_host.specs.Meant as spec;
@@ -6,7 +7,7 @@ ghost use Rattle.jt_host.specs.Templates.{source_of};
 
 use crate::templates::Templates;
 use jt_codegen::{ChainError, ChainSubject, CompileError, Explained, Finding, ScopeError, Subject};
-use jt_hints::{NameKind, defined_names, library_named, nearest};
+use jt_hints::{NameKind, called_method, defined_names, library_named, nearest};
 use jt_inherit::Library;
 use jt_scan::{Options, ScanError, Segment, Source, scan};
 use std::alloc::{AllocError, Global};
@@ -18,6 +19,8 @@ pub enum Sought<'a> {
     Near(NameKind, &'a str),
     /// The library that an import tag binds to a name.
     Library(&'a str),
+    /// The first method of a Python value that the tags at a line call.
+    Method(u32),
 }
 
 /// The templates of a library, and the options under which they are read.
@@ -53,6 +56,7 @@ fn found_in(
             copied(alloc, nearest(name, &names))
         }
         Sought::Library(name) => copied(alloc, library_named(name, segments)),
+        Sought::Method(line) => copied(alloc, called_method(line, segments)),
     }
 }
 
@@ -205,5 +209,44 @@ pub(crate) fn meant_for(
     match explained {
         Explained::Compiles => Ok(None),
         Explained::Refused(finding) => meant_by(alloc, Sources { templates, options }, finding),
+    }
+}
+
+/// Returns the method that is called at the place of a callee that is neither a name nor a field of
+/// a name.
+fn method_by(
+    alloc: Global,
+    sources: Sources<'_>,
+    finding: &Finding,
+) -> Result<Option<String>, AllocError>
+    ensures { IfOk result (λ found. IfSome found (λ y.
+        spec.IsMethodBy (source_of sources.entry.templates.now) sources.entry.options finding.now
+        (string_bytes y))) }
+{
+    let Finding {
+        error: CompileError::Scope(ScopeError::NotCallable),
+        place: Some(place),
+        subject: Some(Subject::CalledExpression),
+    } = finding
+    else {
+        return Ok(None);
+    };
+    found_by(alloc, sources, &place.template, Sought::Method(place.line))
+}
+
+/// Returns the method of a Python value for which an entry does not compile, if its callee has no
+/// name.
+pub(crate) fn method_for(
+    alloc: Global,
+    templates: &Templates,
+    options: Options,
+    explained: &Explained,
+) -> Result<Option<String>, AllocError>
+    ensures { IfOk result (λ found. IfSome found (λ y.
+        spec.IsMethodFor (source_of templates.now) options explained.now (string_bytes y))) }
+{
+    match explained {
+        Explained::Compiles => Ok(None),
+        Explained::Refused(finding) => method_by(alloc, Sources { templates, options }, finding),
     }
 }

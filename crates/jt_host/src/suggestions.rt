@@ -6,7 +6,7 @@ ghost use Rattle.jt_host.specs.Suggestions as spec;
 
 use crate::clues::Clues;
 use crate::subjects::quoted;
-use crate::syntax_hints::{SourceHint, hint_text};
+use crate::syntax_hints::hint_text;
 use jt_codegen::{ChainError, ChainSubject, CompileError, Finding, ScopeError, Subject, TagPlace};
 use jt_hints::{
     filter_names, left_out_filter, left_out_function, left_out_method, left_out_test, nearest,
@@ -102,20 +102,33 @@ fn near_name(error: &CompileError, subject: &Option<Subject>) -> Option<&'static
     }
 }
 
-/// Returns what to write: the advice, or else the reason of the error of syntax. Returns `None` if
-/// there is neither.
+/// Returns what to write in place of the method that is called.
+fn method_advice(clues: &Clues) -> Option<&'static str>
+    ensures { option_map (λ x. x.now) result ≡ spec.method_advice clues.now }
+{
+    match &clues.method {
+        Some(name) => left_out_method(name),
+        None => None,
+    }
+}
+
+/// Returns what to write: the advice on a word or on a method, or else the reason of the error of
+/// syntax. Returns `None` if there is none of them.
 fn advice_text(
     alloc: Global,
     finding: &Finding,
-    hint: Option<SourceHint>,
+    clues: &Clues,
 ) -> Result<Option<String>, AllocError>
     ensures { IfOk result (λ text. option_map string_bytes text
-        ≡ spec.advice_text hint finding.now) }
+        ≡ spec.advice_text clues.now finding.now) }
 {
     if let Some(words) = advice_of(&finding.error, &finding.subject) {
         return Ok(Some(String::from_str(alloc, words)?));
     }
-    match hint {
+    if let Some(words) = method_advice(clues) {
+        return Ok(Some(String::from_str(alloc, words)?));
+    }
+    match clues.hint {
         Some(hint) => Ok(Some(hint_text(alloc, hint)?)),
         None => Ok(None),
     }
@@ -187,7 +200,7 @@ pub(crate) fn suggestion_of(
 ) -> Result<String, AllocError>
     ensures { IfOk result (λ text. string_bytes text ≡ spec.suggestion clues.now finding.now) }
 {
-    if let Some(words) = advice_text(alloc, finding, clues.hint)? {
+    if let Some(words) = advice_text(alloc, finding, clues)? {
         return format!(in alloc; "; {words}");
     }
     match meant_text(finding, clues) {

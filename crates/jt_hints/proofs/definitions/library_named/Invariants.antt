@@ -1,6 +1,6 @@
 use Rattle.std.proofs.Common.{◌≡◌, drop}
 use Rattle.jt_hints.specs.DefinedNames as spec
-use Rattle.jt_hints.proofs.defined_names.library_named.Given as goal
+use Rattle.jt_hints.proofs.definitions.library_named.Given as goal
 
 abbrev pub invariant-loop-segment : goal.invariant-loop-segment
 invariant-loop-segment l =

@@ -1,6 +1,6 @@
 use Rattle.std.proofs.Common.{◌≡◌, ◌++◌, map, flat_map, take}
 use Rattle.jt_hints.specs.DefinedNames.{built_in, names_at}
-use Rattle.jt_hints.proofs.defined_names.defined_names.Given as goal
+use Rattle.jt_hints.proofs.definitions.defined_names.Given as goal
 
 abbrev pub invariant-loop-segment : goal.invariant-loop-segment
 invariant-loop-segment l =

@@ -1,6 +1,6 @@
 use Rattle.std.proofs.Common.{◌≡◌, ◌++◌, map, length}
 use Rattle.jt_hints.specs.DefinedNames.{bound}
-use Rattle.jt_hints.proofs.defined_names.add_bound.Given as goal
+use Rattle.jt_hints.proofs.definitions.add_bound.Given as goal
 
 abbrev pub invariant-items : goal.invariant-items
 invariant-items l =
