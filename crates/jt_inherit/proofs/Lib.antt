@@ -33,3 +33,4 @@ pub mod PlacedErrors
 pub mod TagPlaces
 pub mod FindingsHold
 pub mod ImportFound
+pub mod RingFound

@@ -116,6 +116,22 @@ abbrev pub calls_super_at : ℕ → Use → Bool
 calls_super_at line (uses.declares_block y scoped required body) = super_at line body
 calls_super_at line u = false
 
+-- The nearest block of the name is at the place, and is a required one.
+pub record IsNotGiven (ts : List Template) (x : Text) (p : TagPlace) : Type 0 where
+  pub tag : Text × Site
+  pub nearest : slice_get (blocks_named x ts) 0 ≡ Some tag
+  pub required : IsAt is_required p tag
+
+-- The body of a block of the name calls `super()` in a tag at the place. Each further block of the
+-- name is required.
+pub record HasNoSuper (ts : List Template) (x : Text) (opened p : TagPlace) : Type 0 where
+  pub number : ℕ
+  pub tag : Text × Site
+  pub there : slice_get (blocks_named x ts) number ≡ Some tag
+  pub calls : IsAt (calls_super_at p.line) opened tag
+  pub template : string_bytes p.template ≡ string_bytes opened.template
+  pub last : AllByRecursion (λ s. IsTrue (is_required s.1.made)) (drop (number + 1) (blocks_named x ts))
+
 -- ---- what a finding says
 
 -- The last one of a name and further names.
@@ -133,22 +149,6 @@ module _ (given : SourceTexts) (sources : Sources) (escaping : Bool) (entry name
   -- The templates of the chain or library.
   abbrev pub its_own : List Template
   its_own = templates sources namespace
-
-  -- The nearest block of the name is at the place, and is a required one.
-  pub record IsNotGiven (x : Text) (p : TagPlace) : Type 0 where
-    pub tag : Text × Site
-    pub nearest : slice_get (blocks_named x its_own) 0 ≡ Some tag
-    pub required : IsAt is_required p tag
-
-  -- The body of a block of the name calls `super()` in a tag at the place. Each further block of the
-  -- name is required.
-  pub record HasNoSuper (x : Text) (opened p : TagPlace) : Type 0 where
-    pub number : ℕ
-    pub tag : Text × Site
-    pub there : slice_get (blocks_named x its_own) number ≡ Some tag
-    pub calls : IsAt (calls_super_at p.line) opened tag
-    pub template : string_bytes p.template ≡ string_bytes opened.template
-    pub last : AllByRecursion (λ s. IsTrue (is_required s.1.made)) (drop (number + 1) (blocks_named x its_own))
 
   -- The tag leads to a chain or library, and this one to the chain or library of the tag, through
   -- those of the names.
@@ -199,10 +199,10 @@ module _ (given : SourceTexts) (sources : Sources) (escaping : Bool) (entry name
   IsBrokenAt error.DoubleBlock p (v.BlockTwice x first) =
       ForSome (λ t. HasTwoTags (is_block (string_bytes x)) (t ∷ []) first p) its_own
   -- The tag is the nearest block of the name, and is a required one.
-  IsBrokenAt error.RequiredNotGiven p (v.Block x) = IsNotGiven (string_bytes x) p
+  IsBrokenAt error.RequiredNotGiven p (v.Block x) = IsNotGiven its_own (string_bytes x) p
   -- The tag calls `super()` in a block that has no next body.
   IsBrokenAt error.NoSuper p (v.Super x opened) =
-      IsTrue (is_whole sources escaping namespace) × HasNoSuper (string_bytes x) opened p
+      IsTrue (is_whole sources escaping namespace) × HasNoSuper its_own (string_bytes x) opened p
   -- The tag leads to a chain or library that leads back to this one.
   IsBrokenAt error.IncludeCycle p (v.Ring n rest) = IsRing (string_bytes n) (map string_bytes rest.items) p
   -- The tag is the later one of two that define one name.

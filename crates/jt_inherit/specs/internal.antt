@@ -9,8 +9,10 @@ pub mod Given
 pub mod Imported
 pub mod Numbers
 pub mod Placing
+pub mod Rings
 pub mod RuleTests
 pub mod SetView
 pub mod Sets
+pub mod SuperLines
 pub mod Tags
 pub mod Unmet

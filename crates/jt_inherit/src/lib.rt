@@ -8,6 +8,7 @@
 //! entry.
 #![tactic(auto)]
 
+mod bodies;
 mod breaking;
 mod chaining;
 mod discovery;
@@ -17,10 +18,12 @@ mod finding;
 mod importing;
 mod including;
 mod laws;
+mod leading;
 mod library;
 mod names;
 mod placing;
 mod reading;
+mod rings;
 mod rules;
 mod sets;
 mod statements;

@@ -1,10 +1,11 @@
-use Rattle.std.proofs.Common.{◌≡◌, true, ◌⊎◌, ◌++◌, ◌∷◌, [], List, ℕ, sym, ap, subst, ◌∙◌, arith, length, Vec, Global}
+use Rattle.std.proofs.Common.{◌≡◌, ◌<◌, true, ◌⊎◌, ◌++◌, ◌∷◌, [], List, ℕ, sym, ap, subst, ◌∙◌, arith, length, Vec, Global}
 use Rattle.std.proofs.lemmas.List.{length-map}
 use Rattle.std.specs.List.{AllByRecursion}
 use Rattle.std.proofs.lemmas.Result.{err_from_is_err_and}
 use Rattle.jt_graph.specs.View.{graph_of}
 use Rattle.jt_ast.specs.Texts.{among}
 use Rattle.jt_chains.specs.Along.{AreIndices}
+use Rattle.jt_chains.specs.Indices.{namespace_at}
 use Rattle.jt_chains.specs.Needs.{needed}
 use Rattle.jt_chains.specs.TemplateFiles.{files_view}
 use Rattle.jt_chains.specs.declared.files.TemplateFile.{TemplateFile}
@@ -19,6 +20,7 @@ use Rattle.jt_inherit.proofs.DiscoveryInvariant.{first_same, way_there, both_fil
 use Rattle.jt_inherit.proofs.NameMembership.{map_more}
 use Rattle.jt_inherit.proofs.NamespaceMembership.{of_namespaces}
 use Rattle.jt_inherit.proofs.Membership.{indexed_among}
+use Rattle.jt_inherit.proofs.TopologicalOrder.{namespace_among}
 use Rattle.jt_ast.specs.Texts.{repeated}
 use Rattle.jt_inherit.specs.internal.Found.{found_templates}
 use Rattle.jt_inherit.proofs.ChainComplete.{ways_indexed}
@@ -46,15 +48,18 @@ check_library-requires-clause-indices g c =
     ways_indexed (g.L.Library.sources c.args.loader.now.library.now) (found_templates f) (found_namespaces f)
     (found_namespaces f) (graph_of f.extends_paths.items) (graph_of f.next.items) c.requires.found.followed
 
+pub check_library-requires-clause-number : goal.check_library-requires-clause-number
+check_library-requires-clause-number g c =
+    omega (arith, c.len.ensures, c.args.found.now.extends_paths.ok.0, c.requires.more)
+
 pub returns-in_err-check_library-clause-refused : goal.returns-in_err-check_library-clause-refused
 returns-in_err-check_library-clause-refused g c =
     let f = c.args.found.now in
-    let at = namespace_number (found_namespaces f) f.extends_paths.items _ c.len.result
-    (omega (arith, c.len.ensures, f.extends_paths.ok.0)) c.get-namespace.ensures in
+    let lt : c.len.result < length (found_namespaces f) =
+    omega (arith, c.len.ensures, f.extends_paths.ok.0, c.requires.more) in
     let p = err_from_is_err_and c.from_residual.result c.from_residual.ensures.1 in
-    let here = c.requires.found.reached (key_view c.get-namespace.result.now)
-    (indexed_among of_namespaces (found_namespaces f) (length (graph_of f.extends_paths.items))
-    (key_view c.get-namespace.result.now) at) in
+    let here = c.requires.found.reached (namespace_at (found_namespaces f) c.len.result)
+    (namespace_among (found_namespaces f) c.len.result lt) in
     rw (p.1, p.2) (library_finds c.requires.found here c.in_err-check_library.field-0.0 c.in_err-check_library.ensures)
 
 pub returns-in_err-extends_path-clause-refused : goal.returns-in_err-extends_path-clause-refused
