@@ -69,6 +69,7 @@ def answers(folder, wanted):
     if found["template"]:
         place = f" in {found['template']} line {found['line']}" if found["code"][0] in "SP" else ""
         line = line_of(folder, found["template"], int(found["line"]))
-        lines += [f"  {line}", *(marked(line, found["subject"]) if found["subject"] else [])]
+        name = "super" if found["code"] == "C7" else found["subject"]
+        lines += [f"  {line}", *(marked(line, name) if name else [])]
     lines.append(f"  {sentence(refusal, found['subject'], found['kind'] or '')}{found['tail'] or ''}")
     return "0 [" + "".join(f"{line}\n" for line in lines) + "][]", f"3 [][jt: refused {refusal}{place}\n]"

@@ -1,5 +1,6 @@
 -- The name in the sources that the name of a refusal probably means.
-use Rattle.std.specs.Prelude.{◌≡◌, ◌⊎◌, ℕ, List, codes, Option, Some, None, string_bytes}
+use Rattle.std.specs.Str.{bytes_eq}
+use Rattle.std.specs.Prelude.{◌≡◌, ◌⊎◌, ℕ, true, List, codes, Option, Some, None, string_bytes}
 use Rattle.jt_scan.specs.Cut.{IsCut}
 use Rattle.jt_scan.specs.View.{cut_of}
 use Rattle.jt_scan.specs.declared.Options.{Options}
@@ -75,7 +76,7 @@ module _ (sources : SourceTexts) (options : Options) where
   -- A field of `self` is a block of the template, and that of another name a macro of a library.
   abbrev pub IsFieldNear : Text → Text → Text → Text → Type 0
   IsFieldNear template of x y =
-      ((of ≡ codes "self") × IsFound template (near_name kind.Block x) y) ⊎ IsMemberNear template of x y
+      ((bytes_eq of (codes "self") ≡ true) × IsFound template (near_name kind.Block x) y) ⊎ IsMemberNear template of x y
 
   -- What a template calls by a name is one of its callees, and a field is that of `self` or a library.
   abbrev pub IsCalleeNear : Text → Subject → Text → Type 0

@@ -59,13 +59,11 @@ sentence (hint.Form h) = forms.sentence h
 sentence (hint.Nesting h) = nesting.sentence h
 sentence (hint.Position h) = positions.sentence h
 
--- The line at which the statement begins that is open.
-abbrev pub since : SourceHint → Text
-since (hint.Nesting (nesting_hint_of.OtherOpen s line)) = codes "; it begins at line " ++ decimal line
-since h = []
-
+-- With the line at which the statement begins that is open.
 abbrev pub hint_text : SourceHint → Text
-hint_text h = sentence h ++ since h
+hint_text (hint.Nesting (nesting_hint_of.OtherOpen s line)) =
+    nesting.sentence (nesting_hint_of.OtherOpen s line) ++ (codes "; it begins at line " ++ decimal line)
+hint_text h = sentence h
 
 -- The source is cut into segments, which have this reason at the line.
 pub record HasHint (options : Options) (source : Text) (line : ℕ) (h : SourceHint) : Type 0 where

@@ -158,9 +158,9 @@ fn ring_text(alloc: Global, names: &[String]) -> Result<String, AllocError>
 {
     let mut text = String::new(alloc);
     for name in names {
-        text.push_str(",")?;
         let name = quoted(alloc, name)?;
-        text.push_str(&name)?;
+        let piece = format!(in alloc; ",{name}")?;
+        text.push_str(&piece)?;
     }
     Ok(text)
 }
