@@ -143,7 +143,7 @@ fn near_callee(
 {
     match subject {
         Subject::CalledName(name) => {
-            let sought = Sought::Near(NameKind::Callee, name);
+            let sought = Sought::Near(NameKind::Callee, name.as_str());
             found_by(alloc, sources, template, sought)
         }
         Subject::CalledField { of, field } => near_field(alloc, sources, template, of, field),
@@ -167,7 +167,7 @@ fn near_of_chain(
             sources.templates.nearest_name(alloc, name)
         }
         (ChainError::NoMacro, Subject::Chain(ChainSubject::Macro { library, name })) => {
-            let sought = Sought::Near(NameKind::PublicMacro, name);
+            let sought = Sought::Near(NameKind::PublicMacro, name.as_str());
             found_by(alloc, sources, library, sought)
         }
         _ => Ok(None),

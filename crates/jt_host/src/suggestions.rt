@@ -138,9 +138,10 @@ fn advice_text(
 fn meant_text<'a>(finding: &Finding, clues: &'a Clues) -> Option<&'a str>
     ensures { option_map (λ x. x.now) result ≡ spec.meant_text clues.now finding.now }
 {
-    match near_name(&finding.error, &finding.subject) {
-        Some(name) => Some(name),
-        None => clues.meant.as_deref(),
+    match (near_name(&finding.error, &finding.subject), &clues.meant) {
+        (Some(name), _) => Some(name),
+        (None, Some(name)) => Some(name.as_str()),
+        (None, None) => None,
     }
 }
 
