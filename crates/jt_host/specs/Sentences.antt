@@ -128,6 +128,7 @@ abbrev pub not_callable_lead : Subject → Option Text
 not_callable_lead (subject.Name x) = Some (codes "only a call may name")
 not_callable_lead (subject.CalledName x) = Some (codes "no macro, block or function here is called")
 not_callable_lead (subject.CalledField of k) = Some (codes "no macro, block or function here is called")
+not_callable_lead (subject.Macro x) = Some (codes "no macro may be called")
 not_callable_lead s = None
 
 abbrev pub bad_arguments_lead : Subject → Option Text

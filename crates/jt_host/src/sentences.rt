@@ -191,6 +191,7 @@ fn not_callable_lead(subject: &Subject) -> Option<&'static str>
         Subject::CalledName(_) | Subject::CalledField { .. } => {
             Some("no macro, block or function here is called")
         }
+        Subject::Macro(_) => Some("no macro may be called"),
         _ => None,
     }
 }
