@@ -1,6 +1,6 @@
--- The names that the tags of a source define, by their tokens, and the library that an import tag
--- binds to a name.
-use Rattle.std.specs.Prelude.{ℕ, ◌==◌, ◌&&◌, not, Bool, true, false, List, [], ◌∷◌, ◌++◌, Option, Some, None}
+-- The names that the tags of a source define, by their tokens, the library that an import tag binds to
+-- a name, and the layout that it extends.
+use Rattle.std.specs.Prelude.{ℕ, ◌==◌, ◌&&◌, Bool, true, false, List, [], ◌∷◌, ◌++◌, Option, Some, None}
 use Rattle.std.specs.Prelude.{codes, if◌then◌else◌, flat_map}
 use Rattle.std.specs.List.{starts_with}
 use Rattle.std.specs.Option.{option_or}
@@ -103,3 +103,27 @@ library_at name segment = library_in_part name segment.part
 abbrev pub library_named : List ℕ → List Segment → Option (List ℕ)
 library_named name [] = None
 library_named name (s ∷ ss) = option_or (library_at name s) (library_named name ss)
+
+-- ---- the layout
+
+-- The text that names the layout in an `extends` tag.
+abbrev pub layout_of : List Token → Option (List ℕ)
+layout_of (t.Name word ∷ t.Text layout ∷ rest) =
+    if bytes_eq word.now (codes "extends") then Some layout.now else None
+layout_of tokens = None
+
+abbrev pub layout_in_tag : TagKind → List Token → Option (List ℕ)
+layout_in_tag tag_kind.Block tokens = layout_of tokens
+layout_in_tag tag_kind.Variable tokens = None
+
+abbrev pub layout_in_part : SegmentKind → Option (List ℕ)
+layout_in_part (part.Tag tag) = layout_in_tag tag.kind tag.tokens.items
+layout_in_part p = None
+
+abbrev pub layout_at : Segment → Option (List ℕ)
+layout_at segment = layout_in_part segment.part
+
+-- That of the first such tag.
+abbrev pub layout_named : List Segment → Option (List ℕ)
+layout_named [] = None
+layout_named (s ∷ ss) = option_or (layout_at s) (layout_named ss)

@@ -13,7 +13,7 @@ use Rattle.jt_scan.specs.declared.segment.TagKind.TheVariants as kind
 use Rattle.jt_scan.specs.declared.segment.Token.{Token}
 use Rattle.jt_scan.specs.declared.segment.Token.TheVariants as t
 use Rattle.jt_hints.specs.Forms.{is_one_of}
-use Rattle.jt_hints.specs.Nesting.{first_of, opened_after, position, role_in}
+use Rattle.jt_hints.specs.Nesting.{opened_after, position, role_in}
 use Rattle.jt_hints.specs.declared.nesting.Opened.{Opened}
 use Rattle.jt_hints.specs.declared.nesting.Statement.TheVariants as statement
 use Rattle.jt_hints.specs.declared.positions.Part.{Part}

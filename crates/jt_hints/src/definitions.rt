@@ -199,3 +199,38 @@ pub fn library_named<'a>(name: &str, segments: &[Segment<'a>]) -> Option<&'a str
     }
     None
 }
+
+/// Returns the text that names the layout, if the tokens are of an `extends` tag.
+fn layout_of<'a>(tokens: &[Token<'a>]) -> Option<&'a str>
+    ensures { option_map (λ x. x.now) result ≡ spec.layout_of tokens.now }
+{
+    match tokens {
+        [Token::Name("extends"), Token::Text(layout), ..] => Some(*layout),
+        _ => None,
+    }
+}
+
+/// Returns the text that names the layout, if the segment is an `extends` tag.
+fn layout_at<'a>(segment: &Segment<'a>) -> Option<&'a str>
+    ensures { option_map (λ x. x.now) result ≡ spec.layout_at segment.now }
+{
+    let SegmentKind::Tag(tag) = &segment.part else {
+        return None;
+    };
+    match tag.kind {
+        TagKind::Block => layout_of(&tag.tokens),
+        TagKind::Variable => None,
+    }
+}
+
+/// Returns the text, between its quotes, that names the template that the source extends.
+pub fn layout_named<'a>(segments: &[Segment<'a>]) -> Option<&'a str>
+    ensures { option_map (λ x. x.now) result ≡ spec.layout_named segments.now }
+{
+    for segment in segments {
+        if let Some(layout) = layout_at(segment) {
+            return Some(layout);
+        }
+    }
+    None
+}

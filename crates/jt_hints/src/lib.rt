@@ -32,7 +32,7 @@ mod statement_words;
 mod syntax;
 
 pub use called_methods::called_method;
-pub use definitions::{NameKind, defined_names, library_named};
+pub use definitions::{NameKind, defined_names, layout_named, library_named};
 pub use known_names::{filter_names, test_names};
 pub use left_out::{left_out_filter, left_out_function, left_out_method, left_out_test};
 pub use nearest_name::nearest;

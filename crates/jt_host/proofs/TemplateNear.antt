@@ -1,5 +1,5 @@
 -- A template whose name is near to another one.
-use Rattle.std.proofs.Common.{◌≡◌, List, Option, Some, subst, sym}
+use Rattle.std.proofs.Common.{◌≡◌, List, Some, subst, sym}
 use Rattle.jt_ast.specs.Expressions.{Text}
 use Rattle.jt_hints.specs.Edits.{nearest}
 use Rattle.jt_inherit.specs.Chains.{SourceTexts}

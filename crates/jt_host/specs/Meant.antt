@@ -7,7 +7,7 @@ use Rattle.jt_scan.specs.declared.Options.{Options}
 use Rattle.jt_scan.specs.declared.segment.Segment.{Segment}
 use Rattle.jt_ast.specs.Expressions.{Text}
 use Rattle.jt_hints.specs.CalledMethods.{called_method}
-use Rattle.jt_hints.specs.DefinedNames.{defined_names, library_named}
+use Rattle.jt_hints.specs.DefinedNames.{defined_names, layout_named, library_named}
 use Rattle.jt_hints.specs.Edits.{nearest}
 use Rattle.jt_hints.specs.declared.definitions.NameKind.{NameKind}
 use Rattle.jt_hints.specs.declared.definitions.NameKind.TheVariants as kind
@@ -34,17 +34,21 @@ pub data Wanted : Type 0 where
   near_name : NameKind → Text → Wanted
   -- The library that an import tag binds to a name.
   library : Text → Wanted
+  -- The template that the source extends.
+  layout : Wanted
   -- The first method of a Python value that the tags at a line call.
   method : ℕ → Wanted
 
 abbrev pub wanted : Sought → Wanted
 wanted (sought.Near k x) = near_name k x.now
 wanted (sought.Library x) = library x.now
+wanted sought.Layout = layout
 wanted (sought.Method line) = method line
 
 abbrev pub found_in : Wanted → List Segment → Option Text
 found_in (near_name k x) segments = nearest x (defined_names k segments)
 found_in (library x) segments = library_named x segments
+found_in layout segments = layout_named segments
 found_in (method line) segments = called_method line segments
 
 -- The source is cut into segments, in which this is found.
@@ -78,9 +82,19 @@ module _ (sources : SourceTexts) (options : Options) where
   IsFieldNear template of x y =
       ((bytes_eq of (codes "self") ≡ true) × IsFound template (near_name kind.Block x) y) ⊎ IsMemberNear template of x y
 
+  -- The template extends another one, and the nearest one of the callees of that is meant.
+  pub record IsOfLayout (template x y : Text) : Type 0 where
+    pub name : Text
+    pub extended : IsFound template layout name
+    pub near : IsFound name (near_name kind.Callee x) y
+
+  -- A callee of the template, or of the template that it extends.
+  abbrev pub IsNameNear : Text → Text → Text → Type 0
+  IsNameNear template x y = IsFound template (near_name kind.Callee x) y ⊎ IsOfLayout template x y
+
   -- What a template calls by a name is one of its callees, and a field is that of `self` or a library.
   abbrev pub IsCalleeNear : Text → Subject → Text → Type 0
-  IsCalleeNear template (subject.CalledName x) y = IsFound template (near_name kind.Callee (string_bytes x)) y
+  IsCalleeNear template (subject.CalledName x) y = IsNameNear template (string_bytes x) y
   IsCalleeNear template (subject.CalledField of k) y = IsFieldNear template (string_bytes of) (string_bytes k) y
   IsCalleeNear template s y = ⊥
 

@@ -12,7 +12,6 @@ use Rattle.jt_ids.specs.LoopTable.{field_named}
 use Rattle.jt_ids.specs.TestTable.{tests, test_names}
 use Rattle.jt_hints.specs.Edits.{nearest}
 use Rattle.jt_host.specs.SyntaxHints.{hint_text}
-use Rattle.jt_host.specs.declared.syntax_hints.SourceHint.{SourceHint}
 use Rattle.jt_hints.specs.LeftOut.{left_out_filter, left_out_function, left_out_method, left_out_test}
 use Rattle.jt_codegen.specs.declared.ChainError.TheVariants as chain_error
 use Rattle.jt_codegen.specs.declared.ChainSubject.{ChainSubject}

@@ -7,7 +7,7 @@ ghost use Rattle.jt_host.specs.Templates.{source_of};
 
 use crate::templates::Templates;
 use jt_codegen::{ChainError, ChainSubject, CompileError, Explained, Finding, ScopeError, Subject};
-use jt_hints::{NameKind, called_method, defined_names, library_named, nearest};
+use jt_hints::{NameKind, called_method, defined_names, layout_named, library_named, nearest};
 use jt_inherit::Library;
 use jt_scan::{Options, ScanError, Segment, Source, scan};
 use std::alloc::{AllocError, Global};
@@ -19,6 +19,8 @@ pub enum Sought<'a> {
     Near(NameKind, &'a str),
     /// The library that an import tag binds to a name.
     Library(&'a str),
+    /// The template that the source extends.
+    Layout,
     /// The first method of a Python value that the tags at a line call.
     Method(u32),
 }
@@ -56,6 +58,7 @@ fn found_in(
             copied(alloc, nearest(name, &names))
         }
         Sought::Library(name) => copied(alloc, library_named(name, segments)),
+        Sought::Layout => copied(alloc, layout_named(segments)),
         Sought::Method(line) => copied(alloc, called_method(line, segments)),
     }
 }
@@ -130,6 +133,28 @@ fn near_field(
     }
 }
 
+/// Returns the name of a callee that was probably meant: one of the template, or of the template
+/// that it extends.
+fn near_name(
+    alloc: Global,
+    sources: Sources<'_>,
+    template: &str,
+    name: &str,
+) -> Result<Option<String>, AllocError>
+    ensures { IfOk result (λ found. IfSome found (λ y.
+        spec.IsNameNear (source_of sources.entry.templates.now) sources.entry.options
+        template.now name.now (string_bytes y))) }
+{
+    let sought = Sought::Near(NameKind::Callee, name);
+    if let Some(near) = found_by(alloc, sources, template, sought)? {
+        return Ok(Some(near));
+    }
+    match found_by(alloc, sources, template, Sought::Layout)? {
+        Some(layout) => found_by(alloc, sources, &layout, sought),
+        None => Ok(None),
+    }
+}
+
 /// Returns the callee that was probably meant in a template.
 fn near_callee(
     alloc: Global,
@@ -142,10 +167,7 @@ fn near_callee(
         template.now subject.now (string_bytes y))) }
 {
     match subject {
-        Subject::CalledName(name) => {
-            let sought = Sought::Near(NameKind::Callee, name.as_str());
-            found_by(alloc, sources, template, sought)
-        }
+        Subject::CalledName(name) => near_name(alloc, sources, template, name),
         Subject::CalledField { of, field } => near_field(alloc, sources, template, of, field),
         _ => Ok(None),
     }
