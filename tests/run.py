@@ -23,7 +23,7 @@ import explanations
 import run_explanations
 
 HERE = pathlib.Path(__file__).resolve().parent
-FILES = ["templates.txt", "imports.txt", "values.txt", "refusals.txt", "explain.txt", "faults.txt", "documents.txt", "hostile.txt", "commands.txt"]
+FILES = ["templates.txt", "imports.txt", "values.txt", "refusals.txt", "explain.txt", "explained.txt", "faults.txt", "documents.txt", "hostile.txt", "commands.txt"]
 SECONDS = 60
 SIGNS = str.maketrans({**dict(zip("␇␈␉␤␋␌␍␠⍽␀", "\a\b\t\n\v\f\r \u00a0\0")), "⌧": "\udcff", "∅": ""})
 NAMES = dict(

@@ -3,7 +3,6 @@ use Rattle.std.specs.Prelude.{◌++◌, [], codes, Option, Some, None, option_ma
 use Rattle.jt_ast.specs.Expressions.{Text}
 use Rattle.jt_codegen.specs.declared.ChainSubject.{ChainSubject}
 use Rattle.jt_codegen.specs.declared.ChainSubject.TheVariants as chain_subject
-use Rattle.jt_codegen.specs.declared.TagPlace.{TagPlace}
 use Rattle.jt_codegen.specs.declared.Subject.{Subject}
 use Rattle.jt_codegen.specs.declared.Subject.TheVariants as subject
 use Rattle.jt_turns.specs.Shown.{shown}
@@ -12,21 +11,17 @@ use Rattle.jt_turns.specs.Shown.{shown}
 abbrev pub quoted : Text → Text
 quoted x = codes " \"" ++ (shown x ++ codes "\"")
 
--- The name that a broken rule of chains is about, if it has one.
-abbrev pub chain_name : ChainSubject → Option Text
-chain_name (chain_subject.Template x) = Some (string_bytes x)
-chain_name (chain_subject.Macro library x) = Some (string_bytes x)
-chain_name (chain_subject.Block x) = Some (string_bytes x)
-chain_name (chain_subject.BlockTwice x first) = Some (string_bytes x)
-chain_name (chain_subject.NameTwice x first) = Some (string_bytes x)
-chain_name chain_subject.Templates = None
-chain_name chain_subject.Chains = None
-
--- The place of the first one of two, if a refusal is about two.
-abbrev pub first_place : Option Subject → Option TagPlace
-first_place (Some (subject.Chain (chain_subject.BlockTwice x first))) = Some first
-first_place (Some (subject.Chain (chain_subject.NameTwice x first))) = Some first
-first_place about = None
+-- The name that a broken rule of chains is about.
+abbrev pub chain_name : ChainSubject → Text
+chain_name (chain_subject.Template x) = string_bytes x
+chain_name (chain_subject.Macro library x) = string_bytes x
+chain_name (chain_subject.Block x) = string_bytes x
+chain_name (chain_subject.BlockTwice x first) = string_bytes x
+chain_name (chain_subject.Super x opened) = string_bytes x
+chain_name (chain_subject.Ring x rest) = string_bytes x
+chain_name (chain_subject.NameTwice x first) = string_bytes x
+chain_name (chain_subject.Templates x) = string_bytes x
+chain_name (chain_subject.Chains x) = string_bytes x
 
 -- The name that a refusal is about, if it has one.
 abbrev pub subject_name : Option Subject → Option Text
@@ -40,8 +35,14 @@ subject_name (Some (subject.Test x)) = Some (string_bytes x)
 subject_name (Some (subject.Macro x)) = Some (string_bytes x)
 subject_name (Some subject.Bindings) = None
 subject_name (Some subject.Names) = None
-subject_name (Some (subject.Chain s)) = chain_name s
+subject_name (Some (subject.Limit l)) = None
+subject_name (Some (subject.Chain s)) = Some (chain_name s)
 subject_name None = None
+
+-- The words that are marked in the line: the name, or the call of `super()`.
+abbrev pub marked_name : Option Subject → Option Text
+marked_name (Some (subject.Chain (chain_subject.Super x opened))) = Some (codes "super")
+marked_name about = subject_name about
 
 -- The name in quotes, or nothing.
 abbrev pub subject_text : Option Subject → Text

@@ -25,10 +25,12 @@
 
 mod call_error;
 mod calls;
+mod clues;
 mod explaining;
 mod explaining_runs;
 mod explanation;
 mod marks;
+mod meant;
 mod reasons;
 mod refusal_code;
 mod rendering;
@@ -49,7 +51,7 @@ pub use explaining_runs::explained_run;
 pub use explanation::{Explanation, TemplateRefusal};
 pub use jt_budget::{Budget, Spent};
 pub use jt_codegen::{
-    ChainSubject, CompileError, Explained, Finding, Subject, TagPlace, compile, explain,
+    ChainSubject, CompileError, Explained, Finding, Limit, Subject, TagPlace, compile, explain,
 };
 pub use jt_contexts::{ContextError, context_from_json};
 pub use jt_image::{Code, Image, ImageError, View, decode, encode, upgrade, view};

@@ -5,7 +5,8 @@ ghost use Rattle.jt_host.specs.Sentences as spec;
 
 use crate::subjects::{quoted, subject_name};
 use jt_codegen::{
-    ChainError, ChainSubject, CompileError, Finding, ParseError, ScanError, ScopeError, Subject,
+    ChainError, ChainSubject, CompileError, Finding, Limit, ParseError, ScanError, ScopeError,
+    Subject,
 };
 use jt_ids::LoopField;
 use std::alloc::{AllocError, Global};
@@ -127,17 +128,33 @@ fn limit_rule(subject: &Option<Subject>) -> &'static str
     }
 }
 
-/// Returns the limit of templates that a chain, or all chains together, would pass. Returns the
-/// rule of both limits if the subject is another one.
-fn length_rule(subject: &Option<Subject>) -> &'static str
-    ensures { result.now ≡ spec.length_rule subject.now }
+/// Returns the limit of images that would be passed.
+fn image_rule(limit: Limit) -> &'static str
+    ensures { result.now ≡ spec.image_rule limit }
+{
+    match limit {
+        Limit::Constants => "the image would have more than 65,535 constants",
+        Limit::Units => {
+            "the image would have more than 65,535 units: one for each chain, block and macro"
+        }
+        Limit::Instructions => "the image would have more than 262,144 instructions",
+        Limit::Templates => "the places of the image would name more than 65,535 templates",
+        Limit::NameBytes => "a name in the image would have more than 65,535 bytes",
+        Limit::Bytes => "the image would have more than 16,777,216 bytes",
+        Limit::Entries => {
+            "more than 1,024 values would be needed at the same time, as by a list of 1,025 items"
+        }
+    }
+}
+
+/// Returns the limit of images that would be passed. Returns the rule of all limits if the subject
+/// is another one.
+fn code_rule(subject: &Option<Subject>) -> &'static str
+    ensures { result.now ≡ spec.code_rule subject.now }
 {
     match subject {
-        Some(Subject::Chain(ChainSubject::Templates)) => {
-            "more than 64 templates extend one another"
-        }
-        Some(Subject::Chain(ChainSubject::Chains)) => "includes reach more than 1,024 templates",
-        _ => chain_rule(&ChainError::ChainTooLong),
+        Some(Subject::Limit(limit)) => image_rule(*limit),
+        _ => "the image would pass one of its limits, as 262,144 instructions or 65,535 constants",
     }
 }
 
@@ -147,16 +164,11 @@ fn rule_of(error: &CompileError, subject: &Option<Subject>) -> &'static str
 {
     match error {
         CompileError::Scope(ScopeError::TooManySlots) => limit_rule(subject),
-        CompileError::Chain(ChainError::ChainTooLong) => length_rule(subject),
         CompileError::Chain(error) => chain_rule(error),
         CompileError::Scope(error) => scope_rule(*error),
-        CompileError::CodeTooLong => {
-            "the image would pass one of its limits, as 262,144 instructions or 65,535 constants"
-        }
+        CompileError::CodeTooLong => code_rule(subject),
         CompileError::NoMemory => "memory is not enough",
-        CompileError::StackTooDeep => {
-            "more than 1,024 values would be needed at the same time, as by a list of 1,025 items"
-        }
+        CompileError::StackTooDeep => image_rule(Limit::Entries),
     }
 }
 
@@ -179,6 +191,7 @@ fn not_callable_lead(subject: &Subject) -> Option<&'static str>
         Subject::CalledName(_) | Subject::CalledField { .. } => {
             Some("no macro, block or function here is called")
         }
+        Subject::Macro(_) => Some("no macro may be called"),
         _ => None,
     }
 }
@@ -233,14 +246,31 @@ fn parse_lead(error: ParseError) -> Option<&'static str>
     }
 }
 
+/// Returns the words before the name of the template that passes a limit of chains, if they are
+/// known.
+fn length_lead(subject: &Subject) -> Option<&'static str>
+    ensures { option_map (λ x. x.now) result ≡ spec.length_lead subject.now }
+{
+    match subject {
+        Subject::Chain(ChainSubject::Templates(_)) => {
+            Some("more than 64 templates extend one another: the 65th is")
+        }
+        Subject::Chain(ChainSubject::Chains(_)) => {
+            Some("includes reach more than 1,024 templates: one more is")
+        }
+        _ => None,
+    }
+}
+
 /// Returns the words before the name that a broken rule of chains is about, if they are known.
-fn chain_lead(error: &ChainError) -> Option<&'static str>
-    ensures { option_map (λ x. x.now) result ≡ spec.chain_lead error.now }
+fn chain_lead(error: &ChainError, subject: &Subject) -> Option<&'static str>
+    ensures { option_map (λ x. x.now) result ≡ spec.chain_lead error.now subject.now }
 {
     match error {
         ChainError::Missing => Some("no template is called"),
         ChainError::BadName => Some("no template may be called"),
         ChainError::ExtendsCycle => Some("a template extends itself through"),
+        ChainError::ChainTooLong => length_lead(subject),
         ChainError::DoubleBlock => Some("a template has two blocks called"),
         ChainError::RequiredNotGiven => Some("no template gives a body to the required block"),
         ChainError::NoSuper => Some("super() has no next body in the block"),
@@ -249,7 +279,7 @@ fn chain_lead(error: &ChainError) -> Option<&'static str>
         ChainError::NoMacro => Some("the library offers no macro called"),
         ChainError::NotALibrary => Some("more than macros, comments and whitespace is in"),
         ChainError::Parse(_, error) => parse_lead(*error),
-        ChainError::ChainTooLong | ChainError::Scan(..) | ChainError::NoMemory => None,
+        ChainError::Scan(..) | ChainError::NoMemory => None,
     }
 }
 
@@ -261,7 +291,7 @@ fn lead_of(error: &CompileError, subject: &Option<Subject>) -> Option<&'static s
         return None;
     };
     match error {
-        CompileError::Chain(error) => chain_lead(error),
+        CompileError::Chain(error) => chain_lead(error, subject),
         CompileError::Scope(error) => scope_lead(*error, subject),
         _ => None,
     }

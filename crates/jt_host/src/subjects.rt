@@ -3,35 +3,24 @@
 ghost use Rattle.std.specs.Prelude.{◌≡◌, IfOk, option_map, string_bytes};
 ghost use Rattle.jt_host.specs.Subjects as spec;
 
-use jt_codegen::{ChainSubject, Subject, TagPlace};
+use jt_codegen::{ChainSubject, Subject};
 use jt_turns::shown_text;
 use std::alloc::{AllocError, Global};
 
-/// Returns the name that a broken rule of chains is about, if it has one.
-fn chain_name(alloc: Global, subject: &ChainSubject) -> Result<Option<String>, AllocError>
-    ensures { IfOk result (λ name. option_map string_bytes name ≡ spec.chain_name subject.now) }
+/// Returns the name that a broken rule of chains is about.
+fn chain_name(subject: &ChainSubject) -> &str
+    ensures { result.now ≡ spec.chain_name subject.now }
 {
     match subject {
         ChainSubject::Template(name)
         | ChainSubject::Macro { name, .. }
         | ChainSubject::Block(name)
         | ChainSubject::BlockTwice { name, .. }
-        | ChainSubject::NameTwice { name, .. } => Ok(Some(String::from_str(alloc, name)?)),
-        ChainSubject::Templates | ChainSubject::Chains => Ok(None),
-    }
-}
-
-/// Returns the place of the first one of two, if a refusal is about two.
-pub(crate) fn first_place(subject: &Option<Subject>) -> Option<&TagPlace>
-    ensures { option_map (λ x. x.now) result ≡ spec.first_place subject.now }
-{
-    match subject {
-        Some(
-            Subject::Chain(
-                ChainSubject::BlockTwice { first, .. } | ChainSubject::NameTwice { first, .. },
-            ),
-        ) => Some(first),
-        _ => None,
+        | ChainSubject::Super { block: name, .. }
+        | ChainSubject::Ring { name, .. }
+        | ChainSubject::NameTwice { name, .. }
+        | ChainSubject::Templates(name)
+        | ChainSubject::Chains(name) => name.as_str(),
     }
 }
 
@@ -52,8 +41,25 @@ pub(crate) fn subject_name(
             | Subject::Macro(name),
         ) => Ok(Some(String::from_str(alloc, name)?)),
         Some(Subject::CalledField { of, field }) => Ok(Some(format!(in alloc; "{of}.{field}")?)),
-        Some(Subject::Chain(subject)) => chain_name(alloc, subject),
-        Some(Subject::CalledExpression | Subject::Bindings | Subject::Names) | None => Ok(None),
+        Some(Subject::Chain(subject)) => Ok(Some(String::from_str(alloc, chain_name(subject))?)),
+        Some(Subject::CalledExpression | Subject::Bindings | Subject::Names | Subject::Limit(_))
+        | None => Ok(None),
+    }
+}
+
+/// Returns the words under which an explanation puts its marks, if there are any: the name that a
+/// refusal is about, or `super`.
+pub(crate) fn marked_name(
+    alloc: Global,
+    subject: &Option<Subject>,
+) -> Result<Option<String>, AllocError>
+    ensures { IfOk result (λ name. option_map string_bytes name ≡ spec.marked_name subject.now) }
+{
+    match subject {
+        Some(Subject::Chain(ChainSubject::Super { .. })) => {
+            Ok(Some(String::from_str(alloc, "super")?))
+        }
+        _ => subject_name(alloc, subject),
     }
 }
 
