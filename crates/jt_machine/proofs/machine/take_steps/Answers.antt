@@ -44,19 +44,24 @@ steps-preserved g c =
     let e : next k (config_view c.run_fast-stopped.new.state) ≡ Goes (config_view c.step.new.state) =
     c.in_ok-outcome.ensures.next ∙ rw c.in_default.is refl in
     let r =
-    underway_gone k c.steps.state c.run_fast-stopped.new.state c.steps.invariant.reached c.run_fast-stopped.ensures.gone in
-    let far = slice_gone k c.args.k c.steps.left c.run_fast-stopped.result.left (config_view c.args.state.now) c.steps.state
+    underway_gone k c.steps.state c.run_fast-stopped.new.state c.steps.invariant.reached
+    c.run_fast-stopped.ensures.gone in
+    let far = slice_gone k c.args.k c.steps.left c.run_fast-stopped.result.left (config_view c.args.state.now)
+    c.steps.state
     c.run_fast-stopped.new.state c.steps.invariant.within c.steps.invariant.so_far c.run_fast-stopped.ensures.gone
     c.run_fast-stopped.ensures.left in
     record {
-      within = omega (arith, c.steps.invariant.within, c.run_fast-stopped.ensures.left, c.run_fast-stopped.ensures.gone.fuel);
+      within = omega (arith, c.steps.invariant.within, c.run_fast-stopped.ensures.left,
+          c.run_fast-stopped.ensures.gone.fuel);
       so_far =
           slice_on k c.args.k c.run_fast-stopped.result.left (config_view c.args.state.now)
           (config_view c.run_fast-stopped.new.state) (config_view c.step.new.state) (omega arith)
-          (omega (arith, c.steps.invariant.within, c.run_fast-stopped.ensures.left, c.run_fast-stopped.ensures.gone.fuel)) far
+          (omega (arith, c.steps.invariant.within, c.run_fast-stopped.ensures.left,
+              c.run_fast-stopped.ensures.gone.fuel)) far
           e;
       reached =
-          reached_on c.code_laws.ensures k c.requires.whole c.requires.typed c.run_fast-stopped.new.state c.step.new.state
+          reached_on c.code_laws.ensures k c.requires.whole c.requires.typed c.run_fast-stopped.new.state
+          c.step.new.state
           r e;
       made = c.in_ok-outcome.ensures.made;
     }
@@ -70,7 +75,8 @@ returns-in-Some-clause-steps g c =
     let o = outcome_view c.in-Some.outcome in
     let e : next k (config_view c.run_fast-stopped.new.state) ≡ Ends o =
     c.in_ok-outcome.ensures.next ∙ rw c.in-Some.is refl in
-    let far = slice_gone k c.args.k c.steps.left c.run_fast-stopped.result.left (config_view c.args.state.now) c.steps.state
+    let far = slice_gone k c.args.k c.steps.left c.run_fast-stopped.result.left (config_view c.args.state.now)
+    c.steps.state
     c.run_fast-stopped.new.state c.steps.invariant.within c.steps.invariant.so_far c.run_fast-stopped.ensures.gone
     c.run_fast-stopped.ensures.left in
     ended_within k (c.args.k - c.run_fast-stopped.result.left) c.args.k (config_view c.args.state.now)
@@ -80,7 +86,8 @@ returns-in-Some-clause-steps g c =
 pub returns-then-stopped-eq0-clause-steps : goal.returns-then-stopped-eq0-clause-steps
 returns-then-stopped-eq0-clause-steps g c =
     let k = g.C.Code.code c.args.code.now in
-    let far = slice_gone k c.args.k c.steps.left c.run_fast-stopped.result.left (config_view c.args.state.now) c.steps.state
+    let far = slice_gone k c.args.k c.steps.left c.run_fast-stopped.result.left (config_view c.args.state.now)
+    c.steps.state
     c.run_fast-stopped.new.state c.steps.invariant.within c.steps.invariant.so_far c.run_fast-stopped.ensures.gone
     c.run_fast-stopped.ensures.left in
     all_made k (c.args.k - c.run_fast-stopped.result.left) c.args.k (config_view c.args.state.now)
@@ -94,7 +101,8 @@ returns-then-stopped-eq0-clause-reached g c =
 pub returns-in_err-outcome-clause-memory : goal.returns-in_err-outcome-clause-memory
 returns-in_err-outcome-clause-memory g c =
     let k = g.C.Code.code c.args.code.now in
-    let far = slice_gone k c.args.k c.steps.left c.run_fast-stopped.result.left (config_view c.args.state.now) c.steps.state
+    let far = slice_gone k c.args.k c.steps.left c.run_fast-stopped.result.left (config_view c.args.state.now)
+    c.steps.state
     c.run_fast-stopped.new.state c.steps.invariant.within c.steps.invariant.so_far c.run_fast-stopped.ensures.gone
     c.run_fast-stopped.ensures.left in
     let comes : ComesToGrow k (config_view c.args.state.now) = record {
