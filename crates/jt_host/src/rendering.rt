@@ -35,5 +35,8 @@ pub fn render<L: Library>(
     let image = compile(alloc, entry, library, options)?;
     // The compiler makes typed images, so this one is in order.
     let verified = Verified::of_typed(image);
-    run(alloc, &verified, context, budget).map_err(|_refused| CompileError::NoMemory)
+    match run(alloc, &verified, context, budget) {
+        Ok(outcome) => Ok(outcome),
+        Err(_refused) => Err(CompileError::NoMemory),
+    }
 }
