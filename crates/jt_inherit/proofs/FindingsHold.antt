@@ -13,7 +13,7 @@ use Rattle.jt_chains.specs.TemplateFiles.{files_view}
 use Rattle.jt_chains.specs.declared.files.TemplateFile.{TemplateFile}
 use Rattle.jt_inherit.specs.Chains.{SourceTexts}
 use Rattle.jt_inherit.specs.Findings.{IsFinding, IsBare, Says, ForSome, HasTag, HasTwoTags, binds_macro, defines}
-use Rattle.jt_inherit.specs.Findings.{is_block}
+use Rattle.jt_inherit.specs.Findings.{IsNotGiven, is_block}
 use Rattle.jt_inherit.specs.Refusals.{Breaks}
 use Rattle.jt_inherit.specs.Refused.{gives, gives_bare}
 use Rattle.jt_inherit.specs.internal.ExtendsPaths.{AreKnown, IsExtendsPath}
@@ -82,6 +82,10 @@ module _ {given : SourceTexts} {root : Text} {options : Options} {ts : List Temp
       subst (λ z. Says given root options (Some p) (Some (v.BlockTwice x first)) z) (sym q.0)
       (shown known r error.DoubleBlock p (v.BlockTwice x first)
       (subst (ForSome (λ t. HasTwoTags (is_block (string_bytes x)) (t ∷ []) first p)) (sym (whole_path ts h is w)) q.1))
+  broken_said e p (v.Block x) q =
+      subst (λ z. Says given root options (Some p) (Some (v.Block x)) z) (sym q.0)
+      (shown known r error.RequiredNotGiven p (v.Block x)
+      (subst (λ l. IsNotGiven l (string_bytes x) p) (sym (whole_path ts h is w)) q.1))
   broken_said e p x q = absurd q
 
   pub rule_said : (e : ChainError) (p : Option TagPlace) (x : Option ChainSubject)

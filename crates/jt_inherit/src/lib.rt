@@ -8,6 +8,7 @@
 //! entry.
 #![tactic(auto)]
 
+mod bodies;
 mod breaking;
 mod chaining;
 mod discovery;
