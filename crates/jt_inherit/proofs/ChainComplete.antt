@@ -314,7 +314,8 @@ module _ {given : SourceTexts} {options : Options} {entry : Text} {ts : List Tem
       record {
         broken = chain_breaks x.error (record { number = i; within = b.within; broken = b.broken });
         says =
-            rule_said f.known (reached (namespace_at hs i) (namespace_among hs i lt)) (number i lt).led x.error x.place
+            rule_said f.known (reached (namespace_at hs i) (namespace_among hs i lt)) (number i lt).led
+            (is_one given options ts f.known (namespace_at hs i) (next_of ws i) (number i lt).led) x.error x.place
             x.subject b.said;
       }
 

@@ -33,3 +33,5 @@ pub mod PlacedErrors
 pub mod TagPlaces
 pub mod FindingsHold
 pub mod ImportFound
+pub mod LastCall
+pub mod SuperTagLines

@@ -1,7 +1,7 @@
 -- The places of tags: what the first ones show.
 use Rattle.std.proofs.Common.{◌≡◌, ℕ, zero, suc, ◌+◌, ◌<◌, Bool, true, false, cond, List, [], ◌∷◌, ◌++◌, length}
 use Rattle.std.proofs.Common.{drop, get_or, refl, sym, ap, subst, ◌∙◌, arith, inl, inr, ⊎_elim, Option, Some}
-use Rattle.std.specs.Prelude.{filter, option_map, slice_get, string_bytes, None, Result, Ok, Err, IfOk, IfSome}
+use Rattle.std.specs.Prelude.{option_map, slice_get, string_bytes, None, Result, Ok, Err, IfOk, IfSome}
 use Rattle.std.specs.Option.{option_to_list}
 use Rattle.std.proofs.lemmas.List.Elements.{filter-append}
 use Rattle.std.proofs.lemmas.List.{append_assoc, drop_more}

@@ -1,6 +1,6 @@
 //! Finds the tags that a finding names.
 
-ghost use Rattle.std.specs.Prelude.{◌≡◌, ◌++◌, option_map, slice_get, IfOk};
+ghost use Rattle.std.specs.Prelude.{◌≡◌, ◌++◌, true, option_map, slice_get, IfOk, IfSome};
 ghost use Rattle.jt_chains.specs.Along.{AreIndices, templates_at};
 ghost use Rattle.jt_chains.specs.TemplateFiles.{file_view, files_view};
 ghost use Rattle.jt_inherit.specs.Findings as findings;
@@ -11,6 +11,7 @@ ghost use Rattle.jt_inherit.specs.internal.Tags.{with_name, place_of};
 ghost use Rattle.jt_uses.specs.UseView.{use_view, sites_view};
 
 use crate::finding::TagPlace;
+use crate::supers::super_line;
 use jt_chains::TemplateFile;
 use jt_uses::{Use, UseSite, uses_of};
 use std::alloc::{AllocError, Global};
@@ -50,9 +51,16 @@ impl<'a> FoundTag<'a> {
     pub(crate) fn place(self, alloc: Global) -> Result<TagPlace, AllocError>
         ensures { IfOk result (λ p. place_view p ≡ place_of (tag_view self.entry)) }
     {
+        self.place_on(alloc, self.site.place.line)
+    }
+
+    /// Returns the place of a line of the tag's template.
+    pub(crate) fn place_on(self, alloc: Global, line: u32) -> Result<TagPlace, AllocError>
+        ensures { IfOk result (λ p. place_view p ≡ (self.entry.template.now, line)) }
+    {
         Ok(TagPlace {
             template: String::from_str(alloc, self.template)?,
-            line: self.site.place.line,
+            line,
         })
     }
 
@@ -63,6 +71,18 @@ impl<'a> FoundTag<'a> {
         match self.site.made {
             Use::DeclaresBlock { required, .. } => required,
             _ => false,
+        }
+    }
+
+    /// Returns the line of the first tag that calls `super()`, if this is a block with such a tag.
+    /// Nested blocks do not count.
+    pub(crate) fn super_line(self) -> Option<u32>
+        ensures { IfSome result
+            (λ n. findings.calls_super_at n (tag_view self.entry).1.made ≡ true) }
+    {
+        match self.site.made {
+            Use::DeclaresBlock { body, .. } => super_line(body),
+            _ => None,
         }
     }
 

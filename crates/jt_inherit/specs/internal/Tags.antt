@@ -1,10 +1,13 @@
 -- The tags of wanted uses. Only private clauses cite this module.
-use Rattle.std.specs.Prelude.{ℕ, Bool, false, true, List, map, filter, string_bytes}
+use Rattle.std.specs.Prelude.{◌≡◌, ◌+◌, ℕ, Bool, false, true, IsTrue, List, map, filter, drop, slice_get, Some}
+use Rattle.std.specs.Prelude.{string_bytes}
+use Rattle.std.specs.List.{AllByRecursion}
 use Rattle.jt_ast.specs.Expressions.{Text}
 use Rattle.jt_uses.specs.Uses as uses
 use Rattle.jt_uses.specs.Uses.{Use, Site}
 use Rattle.jt_uses.specs.UseView.{site_view}
 use Rattle.jt_inherit.specs.Findings.{asks, is_extends, is_include, is_import, binds_macro, is_block, defines}
+use Rattle.jt_inherit.specs.Findings.{calls_super_at, is_required}
 use Rattle.jt_inherit.specs.declared.finding.TagPlace.{TagPlace}
 use Rattle.jt_inherit.specs.declared.tags.FoundTag.{FoundTag}
 use Rattle.jt_inherit.specs.declared.tags.Wanted.{Wanted}
@@ -47,3 +50,10 @@ with_name n ss = map (λ s. (n, s)) ss
 -- The uses that pass the test.
 abbrev pub tags : (Use → Bool) → List (Text × Site) → List (Text × Site)
 tags test xs = filter (λ x. test x.1.made) xs
+
+-- Among the blocks, one calls `super()` in a tag at the line, and each further one is required.
+pub record IsLastCall (blocks : List (Text × Site)) (tag : Text × Site) (line : ℕ) : Type 0 where
+  pub number : ℕ
+  pub there : slice_get blocks number ≡ Some tag
+  pub calls : calls_super_at line tag.1.made ≡ true
+  pub last : AllByRecursion (λ s. IsTrue (is_required s.1.made)) (drop (number + 1) blocks)
