@@ -1,9 +1,7 @@
 -- Findings that have no place, and those of included and imported templates.
-use Rattle.std.proofs.Common.{◌≡◌, true, false, ℕ, List, [], refl, sym, subst, ◌∙◌, ⊎_elim, Option, Some, None, string_bytes}
-use Rattle.std.proofs.Common.{◌∷◌}
+use Rattle.std.proofs.Common.{◌≡◌, true, false, ℕ, List, [], sym, subst, ◌∙◌, ⊎_elim, Option, Some, None}
+use Rattle.std.proofs.Common.{◌∷◌, string_bytes}
 use Rattle.std.proofs.lemmas.List.{append-nil}
-use Rattle.jt_graph.specs.declared.error.OrderError.{OrderError}
-use Rattle.jt_graph.specs.declared.error.OrderError.TheVariants as order
 use Rattle.jt_scan.specs.declared.options.Options.{Options}
 use Rattle.jt_ast.specs.Expressions.{Text}
 use Rattle.jt_chains.specs.Along.{templates_at}
@@ -15,7 +13,6 @@ use Rattle.jt_inherit.specs.Chains.{SourceTexts}
 use Rattle.jt_inherit.specs.Findings.{IsFinding, IsBare, Says, ForSome, HasTag, HasTwoTags, binds_macro, defines}
 use Rattle.jt_inherit.specs.Findings.{IsNotGiven, HasNoSuper, is_block}
 use Rattle.jt_inherit.specs.Refusals.{Breaks}
-use Rattle.jt_inherit.specs.Refused.{gives, gives_bare}
 use Rattle.jt_inherit.specs.internal.ExtendsPaths.{AreKnown, IsExtendsPath}
 use Rattle.jt_inherit.specs.internal.Breaking.{BrokenIn, RuleAt}
 use Rattle.jt_inherit.specs.internal.Unmet.{IsUnmet}
@@ -34,12 +31,6 @@ module _ {given : SourceTexts} {root : Text} {options : Options} where
   pub bare_finding : (e : ChainError) (f : ChainFinding) → IsBare e f → Breaks e given root options
       → IsFinding given root options f
   bare_finding e f is b = subst (IsFinding given root options) (sym is) (record { broken = b; says = tt })
-
-  -- An error of an order.
-  pub order_finding : (r : OrderError) (f : ChainFinding) → gives_bare r f
-      → ((e : ChainError) → gives r e → Breaks e given root options) → IsFinding given root options f
-  order_finding order.Cycle f is b = bare_finding error.IncludeCycle f is (b error.IncludeCycle refl)
-  order_finding order.NoMemory f is b = bare_finding error.NoMemory f is tt
 
   -- An error of an included or imported template.
   pub need_finds : {ps : List TemplateFile} {ks : List Text} {h : Namespace} {is : List ℕ}

@@ -75,8 +75,8 @@ in_if s bs other is n = ap (stmt_super_at n) (ap stmt_view is ∙ view_If bs oth
 
 -- ---- a tag in a part of a statement
 
-pub in_branches : (s : Stmt) (bs : Vec Branch Global) (other : Vec Stmt Global) → s ≡ If bs other → (items : List Branch)
-    → items ≡ bs.items → (n : ℕ) → branches_super_at n (branches_view items) ≡ true
+pub in_branches : (s : Stmt) (bs : Vec Branch Global) (other : Vec Stmt Global) → s ≡ If bs other
+    → (items : List Branch) → items ≡ bs.items → (n : ℕ) → branches_super_at n (branches_view items) ≡ true
     → stmt_super_at n (stmt_view s) ≡ true
 in_branches s bs other is items e n h =
     in_if s bs other is n ∙ ap (λ b. b || super_at n (body_view other.items))

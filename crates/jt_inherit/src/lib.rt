@@ -23,6 +23,7 @@ mod library;
 mod names;
 mod placing;
 mod reading;
+mod rings;
 mod rules;
 mod sets;
 mod statements;

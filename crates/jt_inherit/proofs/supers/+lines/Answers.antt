@@ -29,8 +29,8 @@ statement_line-returns-then-has_super t c =
     let l = c.loop-line in
     let bs = c.deref-line-items.result.now in
     let b = c.loop-line-item.result in
-    in_branches c.args.statement.now c.in-If.branches c.in-If.other c.in-If.is bs c.deref-line-items.ensures.value b.line
-    (l.invariant b.line (in_condition bs l.line-index b c.loop-line-test.true c.loop-line-item.is
+    in_branches c.args.statement.now c.in-If.branches c.in-If.other c.in-If.is bs c.deref-line-items.ensures.value
+    b.line (l.invariant b.line (in_condition bs l.line-index b c.loop-line-test.true c.loop-line-item.is
     (sym c.has_super-in-loop-line.ensures ∙ c.if-has_super.true)))
 
 pub statement_line-returns-in-Some : goal.statement_line-returns-in-Some
