@@ -1,21 +1,18 @@
 -- Findings that have no place, and those of included and imported templates.
-use Rattle.std.proofs.Common.{true, false, ℕ, List, [], refl, sym, subst, ◌∙◌, ⊎_elim, Option, Some, None, string_bytes}
-use Rattle.std.proofs.Common.{◌∷◌}
+use Rattle.std.proofs.Common.{◌≡◌, true, false, ℕ, List, [], sym, subst, ◌∙◌, ⊎_elim, Option, Some, None}
+use Rattle.std.proofs.Common.{◌∷◌, string_bytes}
 use Rattle.std.proofs.lemmas.List.{append-nil}
-use Rattle.jt_graph.specs.declared.error.OrderError.{OrderError}
-use Rattle.jt_graph.specs.declared.error.OrderError.TheVariants as order
 use Rattle.jt_scan.specs.declared.options.Options.{Options}
 use Rattle.jt_ast.specs.Expressions.{Text}
 use Rattle.jt_chains.specs.Along.{templates_at}
 use Rattle.jt_chains.specs.Chain.{Namespace, a_chain, Template, sources_in}
-use Rattle.jt_chains.specs.Rules.{Reaches}
+use Rattle.jt_chains.specs.Rules.{Reaches, is_whole}
 use Rattle.jt_chains.specs.TemplateFiles.{files_view}
 use Rattle.jt_chains.specs.declared.files.TemplateFile.{TemplateFile}
 use Rattle.jt_inherit.specs.Chains.{SourceTexts}
 use Rattle.jt_inherit.specs.Findings.{IsFinding, IsBare, Says, ForSome, HasTag, HasTwoTags, binds_macro, defines}
-use Rattle.jt_inherit.specs.Findings.{is_block}
+use Rattle.jt_inherit.specs.Findings.{IsNotGiven, HasNoSuper, is_block}
 use Rattle.jt_inherit.specs.Refusals.{Breaks}
-use Rattle.jt_inherit.specs.Refused.{gives, gives_bare}
 use Rattle.jt_inherit.specs.internal.ExtendsPaths.{AreKnown, IsExtendsPath}
 use Rattle.jt_inherit.specs.internal.Breaking.{BrokenIn, RuleAt}
 use Rattle.jt_inherit.specs.internal.Unmet.{IsUnmet}
@@ -34,12 +31,6 @@ module _ {given : SourceTexts} {root : Text} {options : Options} where
   pub bare_finding : (e : ChainError) (f : ChainFinding) → IsBare e f → Breaks e given root options
       → IsFinding given root options f
   bare_finding e f is b = subst (IsFinding given root options) (sym is) (record { broken = b; says = tt })
-
-  -- An error of an order.
-  pub order_finding : (r : OrderError) (f : ChainFinding) → gives_bare r f
-      → ((e : ChainError) → gives r e → Breaks e given root options) → IsFinding given root options f
-  order_finding order.Cycle f is b = bare_finding error.IncludeCycle f is (b error.IncludeCycle refl)
-  order_finding order.NoMemory f is b = bare_finding error.NoMemory f is tt
 
   -- An error of an included or imported template.
   pub need_finds : {ps : List TemplateFile} {ks : List Text} {h : Namespace} {is : List ℕ}
@@ -65,7 +56,7 @@ module _ {given : SourceTexts} {root : Text} {options : Options} where
 module _ {given : SourceTexts} {root : Text} {options : Options} {ts : List Template} {ks : List Text}
     (known : AreKnown given options ts ks) {h : Namespace}
     (r : Reaches (sources_in ts) options.autoescape (a_chain root) h) {is : List ℕ}
-    (w : IsExtendsPath ts h is None) where
+    (w : IsExtendsPath ts h is None) (whole : is_whole (sources_in ts) options.autoescape h ≡ true) where
   broken_said : (e : ChainError) (p : TagPlace) (x : ChainSubject)
       → BrokenIn (sources_in ts) (templates_at ts is) x e p → Says given root options (Some p) (Some x) e
   broken_said e p (v.Macro library x) q =
@@ -82,6 +73,14 @@ module _ {given : SourceTexts} {root : Text} {options : Options} {ts : List Temp
       subst (λ z. Says given root options (Some p) (Some (v.BlockTwice x first)) z) (sym q.0)
       (shown known r error.DoubleBlock p (v.BlockTwice x first)
       (subst (ForSome (λ t. HasTwoTags (is_block (string_bytes x)) (t ∷ []) first p)) (sym (whole_path ts h is w)) q.1))
+  broken_said e p (v.Block x) q =
+      subst (λ z. Says given root options (Some p) (Some (v.Block x)) z) (sym q.0)
+      (shown known r error.RequiredNotGiven p (v.Block x)
+      (subst (λ l. IsNotGiven l (string_bytes x) p) (sym (whole_path ts h is w)) q.1))
+  broken_said e p (v.Super x opened) q =
+      subst (λ z. Says given root options (Some p) (Some (v.Super x opened)) z) (sym q.0)
+      (shown known r error.NoSuper p (v.Super x opened)
+      (whole, subst (λ l. HasNoSuper l (string_bytes x) opened p) (sym (whole_path ts h is w)) q.1))
   broken_said e p x q = absurd q
 
   pub rule_said : (e : ChainError) (p : Option TagPlace) (x : Option ChainSubject)

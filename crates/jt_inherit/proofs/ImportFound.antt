@@ -1,6 +1,6 @@
 -- The finding of an imported template that holds something other than macros.
-use Rattle.std.proofs.Common.{◌≡◌, ◌<◌, ◌≤◌, ℕ, true, not, List, length, refl, sym, ap, subst, arith, ⊎_elim, Option}
-use Rattle.std.proofs.Common.{Some, None, string_bytes}
+use Rattle.std.proofs.Common.{◌≡◌, ◌<◌, true, not, List, length, refl, sym, ap, subst, arith, ⊎_elim, Option}
+use Rattle.std.proofs.Common.{Some, None}
 use Rattle.std.specs.Option.{is_some}
 use Rattle.jt_graph.specs.Graph.{Graph, next_of}
 use Rattle.jt_scan.specs.declared.options.Options.{Options}

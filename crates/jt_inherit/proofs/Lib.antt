@@ -33,3 +33,6 @@ pub mod PlacedErrors
 pub mod TagPlaces
 pub mod FindingsHold
 pub mod ImportFound
+pub mod RingFound
+pub mod LastCall
+pub mod SuperTagLines

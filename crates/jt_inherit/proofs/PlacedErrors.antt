@@ -52,7 +52,7 @@ use Rattle.jt_inherit.proofs.LibraryTemplate.{alone_breaks}
 use Rattle.jt_inherit.proofs.NamespaceSets.{is_chain}
 use Rattle.jt_inherit.proofs.SourcesGrow.{among_passes, chains_listed, chain_breaks, libraries_listed, flat-append}
 use Rattle.jt_inherit.proofs.SourcesGrow.{reach_more}
-use Rattle.jt_inherit.proofs.TagPlaces.{first_shows, tag_front, tag_last, tag_weaker, extends_asks}
+use Rattle.jt_inherit.proofs.TagPlaces.{first_shows, place_in, tag_front, tag_last, tag_weaker, extends_asks}
 
 -- ---- a chain or library that is reached has a template, or is the entry's
 
@@ -240,7 +240,7 @@ module _ {given : SourceTexts} {options : Options} {root : Text} {ts : List Temp
 
   -- The last template on the path extends the name.
   parent_tag : (us rest : List Template) (t : Template) → templates (sources_in ts) h ≡ (us ++ t ∷ []) ++ rest
-      → (n : Text) (p : TagPlace) → slice_get (tags (is_extends n) (uses_in t)) 0 ≡ Some (place_view p)
+      → (n : Text) (p : TagPlace) → place_in 0 (tags (is_extends n) (uses_in t)) ≡ Some (place_view p)
       → HasTag (is_extends n) (templates (sources_in ts) h) p
   parent_tag us rest t front n p q =
       subst (λ l. HasTag (is_extends n) l p) (sym front)

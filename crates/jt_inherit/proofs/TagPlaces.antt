@@ -1,10 +1,10 @@
 -- The places of tags: what the first ones show.
-use Rattle.std.proofs.Common.{◌≡◌, ℕ, zero, suc, ◌+◌, ◌<◌, Bool, true, false, cond, List, [], ◌∷◌, ◌++◌, length, map}
+use Rattle.std.proofs.Common.{◌≡◌, ℕ, zero, suc, ◌+◌, ◌<◌, Bool, true, false, cond, List, [], ◌∷◌, ◌++◌, length}
 use Rattle.std.proofs.Common.{drop, get_or, refl, sym, ap, subst, ◌∙◌, arith, inl, inr, ⊎_elim, Option, Some}
-use Rattle.std.specs.Prelude.{filter, option_map, slice_get, string_bytes, None, Result, Ok, Err, IfOk, IfSome}
+use Rattle.std.specs.Prelude.{option_map, slice_get, string_bytes, None, Result, Ok, Err, IfOk, IfSome}
 use Rattle.std.specs.Option.{option_to_list}
 use Rattle.std.proofs.lemmas.List.Elements.{filter-append}
-use Rattle.std.proofs.lemmas.List.{append_assoc, drop_more, map-append}
+use Rattle.std.proofs.lemmas.List.{append_assoc, drop_more}
 use Rattle.jt_ast.specs.Expressions.{Text}
 use Rattle.jt_uses.specs.Uses as uses
 use Rattle.jt_uses.specs.Uses.{Use, Site}
@@ -20,20 +20,18 @@ use Rattle.jt_inherit.specs.declared.error.ChainError.TheVariants as error
 use Rattle.jt_inherit.specs.declared.finding.ChainFinding.{ChainFinding}
 use Rattle.jt_inherit.specs.declared.finding.ChainSubject.{ChainSubject}
 use Rattle.jt_inherit.specs.declared.finding.ChainSubject.TheVariants as v
-use Rattle.jt_inherit.specs.internal.Tags.{tags, place_view}
+use Rattle.jt_inherit.specs.internal.Tags.{tags, place_of, place_view, tag_view, tags_view}
+use Rattle.jt_inherit.specs.declared.tags.FoundTag.{FoundTag}
 use Rattle.jt_inherit.specs.declared.finding.TagPlace.{TagPlace}
 
 -- ---- tags of several templates
 
 pub tags-append : (test : Use → Bool) (xs ys : List (Text × Site)) → tags test (xs ++ ys) ≡ tags test xs ++ tags test ys
-tags-append test xs ys =
-    ap (map (λ (x : Text × Site). (x.0, x.1.place.line))) (filter-append (λ x. test x.1.made) xs ys)
-    ∙ map-append (λ (x : Text × Site). (x.0, x.1.place.line)) (filter (λ x. test x.1.made) xs)
-    (filter (λ x. test x.1.made) ys)
+tags-append test xs ys = filter-append (λ x. test x.1.made) xs ys
 
 -- One template more.
 pub tags_turn : (test : Use → Bool) (ps : List TemplateFile) (is : List ℕ) (k : ℕ) (p : TemplateFile)
-    (old more new all : List (Text × ℕ))
+    (old more new all : List (Text × Site))
     → k < length is → get_or is k 0 < length ps → p ≡ get_or ps (get_or is k 0) p
     → more ≡ tags test (uses_in (file_view p)) → new ≡ old ++ more
     → old ++ tags test (all_uses (templates_at (files_view ps) (drop k is))) ≡ all
@@ -53,60 +51,67 @@ tags_turn test ps is k p old more new all lt within at theirs longer before =
 
 -- ---- what the first tags show
 
+-- The place of the tag at a number.
+abbrev pub place_in : ℕ → List (Text × Site) → Option (Text × ℕ)
+place_in k xs = option_map place_of (slice_get xs k)
+
 -- The tags of a use, if it passes, and of those after it.
 begin : (test : Use → Bool) (x : Text × Site) (xs : List (Text × Site)) (b : Bool) → test x.1.made ≡ b
-    → tags test (x ∷ xs) ≡ cond b ((x.0, x.1.place.line) ∷ tags test xs) (tags test xs)
-begin test x xs true h =
-    ap (λ b. map (λ (y : Text × Site). (y.0, y.1.place.line))
-    (cond b (x ∷ filter (λ y. test y.1.made) xs) (filter (λ y. test y.1.made) xs))) h
-begin test x xs false h =
-    ap (λ b. map (λ (y : Text × Site). (y.0, y.1.place.line))
-    (cond b (x ∷ filter (λ y. test y.1.made) xs) (filter (λ y. test y.1.made) xs))) h
+    → tags test (x ∷ xs) ≡ cond b (x ∷ tags test xs) (tags test xs)
+begin test x xs b h = ap (λ b. cond b (x ∷ tags test xs) (tags test xs)) h
 
-at_head : (test : Use → Bool) (p : TagPlace) (x : Text × Site) (xs : List (Text × Site)) → test x.1.made ≡ true
-    → slice_get (tags test (x ∷ xs)) 0 ≡ Some (place_view p) → IsAt test p x
-at_head test p x xs h e =
-    let told : Some (x.0, x.1.place.line) ≡ Some (place_view p) =
-    sym (ap (λ l. slice_get l 0) (begin test x xs true h)) ∙ e in
-    let one : (x.0, x.1.place.line) ≡ place_view p = cc in
+at_place : (test : Use → Bool) (p : TagPlace) (x : Text × Site) → test x.1.made ≡ true
+    → Some (place_of x) ≡ Some (place_view p) → IsAt test p x
+at_place test p x h e =
+    let one : place_of x ≡ place_view p = cc in
     (sym (ap (λ (q : Text × ℕ). q.0) one), sym (ap (λ (q : Text × ℕ). q.1) one), h)
 
+at_head : (test : Use → Bool) (p : TagPlace) (x : Text × Site) (xs : List (Text × Site)) → test x.1.made ≡ true
+    → place_in 0 (tags test (x ∷ xs)) ≡ Some (place_view p) → IsAt test p x
+at_head test p x xs h e = at_place test p x h (sym (ap (place_in 0) (begin test x xs true h)) ∙ e)
+
 pub first_shows : (test : Use → Bool) (p : TagPlace) (xs : List (Text × Site))
-    → slice_get (tags test xs) 0 ≡ Some (place_view p) → ForSome (IsAt test p) xs
+    → place_in 0 (tags test xs) ≡ Some (place_view p) → ForSome (IsAt test p) xs
 first_shows test p [] e = absurd (cc)
 first_shows test p (x ∷ xs) e = by (test x.1.made) refl (λ f. first_shows test p xs f)
   where
     by : (b : Bool) → test x.1.made ≡ b
-        → (slice_get (tags test xs) 0 ≡ Some (place_view p) → ForSome (IsAt test p) xs)
+        → (place_in 0 (tags test xs) ≡ Some (place_view p) → ForSome (IsAt test p) xs)
         → ForSome (IsAt test p) (x ∷ xs)
     by true h go = inl (at_head test p x xs h e)
-    by false h go = inr (go (sym (ap (λ l. slice_get l 0) (begin test x xs false h)) ∙ e))
+    by false h go = inr (go (sym (ap (place_in 0) (begin test x xs false h)) ∙ e))
 
 pub second_shows : (test : Use → Bool) (p q : TagPlace) (xs : List (Text × Site))
-    → slice_get (tags test xs) 0 ≡ Some (place_view p) → slice_get (tags test xs) 1 ≡ Some (place_view q)
+    → place_in 0 (tags test xs) ≡ Some (place_view p) → place_in 1 (tags test xs) ≡ Some (place_view q)
     → InTurn (IsAt test p) (IsAt test q) xs
 second_shows test p q [] e f = absurd (cc)
 second_shows test p q (x ∷ xs) e f = by (test x.1.made) refl (λ g h. second_shows test p q xs g h)
   where
     by : (b : Bool) → test x.1.made ≡ b
-        → (slice_get (tags test xs) 0 ≡ Some (place_view p) → slice_get (tags test xs) 1 ≡ Some (place_view q)
+        → (place_in 0 (tags test xs) ≡ Some (place_view p) → place_in 1 (tags test xs) ≡ Some (place_view q)
         → InTurn (IsAt test p) (IsAt test q) xs)
         → InTurn (IsAt test p) (IsAt test q) (x ∷ xs)
     by true h go =
         inl (
           at_head test p x xs h e,
-          first_shows test q xs (sym (ap (λ l. slice_get l 1) (begin test x xs true h)) ∙ f),
+          first_shows test q xs (sym (ap (place_in 1) (begin test x xs true h)) ∙ f),
         )
     by false h go =
-        inr (go (sym (ap (λ l. slice_get l 0) (begin test x xs false h)) ∙ e)
-        (sym (ap (λ l. slice_get l 1) (begin test x xs false h)) ∙ f))
+        inr (go (sym (ap (place_in 0) (begin test x xs false h)) ∙ e)
+        (sym (ap (place_in 1) (begin test x xs false h)) ∙ f))
+
+-- The first one of some tags, by its view.
+pub first_view : (l : List FoundTag) (t : FoundTag) → slice_get l 0 ≡ Some t
+    → slice_get (tags_view l) 0 ≡ Some (tag_view t)
+first_view [] t e = ap (option_map tag_view) e
+first_view (x ∷ xs) t e = ap (option_map tag_view) e
 
 -- The first tag, if there is one, shows that the templates have it.
-pub first_of : {E : Type 0} (r : Result (Option TagPlace) E) (test : Use → Bool) (xs : List (Text × Site))
-    (l : List (Text × ℕ)) → l ≡ tags test xs → IfOk r (λ p. option_map place_view p ≡ slice_get l 0)
+pub first_of : {E : Type 0} (r : Result (Option TagPlace) E) (test : Use → Bool) (xs l : List (Text × Site))
+    → l ≡ tags test xs → IfOk r (λ p. option_map place_view p ≡ place_in 0 l)
     → IfOk r (λ o. IfSome o (λ p. ForSome (IsAt test p) xs))
 first_of (Ok None) test xs l e h = tt
-first_of (Ok (Some p)) test xs l e h = first_shows test p xs (sym (ap (λ z. slice_get z 0) e) ∙ sym h)
+first_of (Ok (Some p)) test xs l e h = first_shows test p xs (sym (ap (place_in 0) e) ∙ sym h)
 first_of (Err x) test xs l e h = tt
 
 -- ---- some of the items

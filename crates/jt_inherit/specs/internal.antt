@@ -9,6 +9,7 @@ pub mod Given
 pub mod Imported
 pub mod Numbers
 pub mod Placing
+pub mod Rings
 pub mod RuleTests
 pub mod SetView
 pub mod Sets

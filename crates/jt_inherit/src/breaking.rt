@@ -6,6 +6,7 @@ ghost use Rattle.jt_chains.specs.TemplateFiles.{file_view, files_view};
 ghost use Rattle.jt_inherit.specs.internal.Breaking.{IsOfRule, IsTwiceIn, lacks};
 ghost use Rattle.jt_inherit.specs.internal.Given.{its_sources, its_templates};
 
+use crate::bodies::{no_super, not_given};
 use crate::error::ChainError;
 use crate::finding::{ChainFinding, ChainSubject};
 use crate::importing::{library_file, names_at};
@@ -223,6 +224,8 @@ pub(crate) fn rule_finding(
         ChainError::NoMacro => missing_finding(alloc, store, indices),
         ChainError::MacroTwice => name_twice(alloc, store, indices),
         ChainError::DoubleBlock => block_twice(alloc, store, indices),
+        ChainError::RequiredNotGiven => not_given(alloc, store, indices),
+        ChainError::NoSuper => no_super(alloc, store, indices),
         _ => Ok(ChainFinding::without_place(error)),
     }
 }

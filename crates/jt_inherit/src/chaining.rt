@@ -27,10 +27,10 @@ use crate::discovery::{Discovery, discover};
 use crate::error::ChainError;
 use crate::finding::ChainFinding;
 use crate::library::{Library, Loader};
+use crate::rings::order_of;
 use crate::rules::check_rules;
 use crate::store::TemplateStore;
 use jt_chains::{Chain, Namespace, indices_by_name};
-use jt_graph::order;
 use jt_scan::Options;
 use std::alloc::{AllocError, Global};
 
@@ -124,7 +124,7 @@ pub fn chain_or_finding<L: Library>(
 {
     let found = discover(alloc, entry, &Loader { library, options })?;
     check_chains(alloc, &found, options.autoescape)?;
-    let order = order(alloc, &found.next)?;
+    let order = order_of(alloc, &found)?;
     let namespaces = namespaces_in(alloc, &found, &order)?;
     let indices = indices_by_name(alloc, &found.files)?;
     Ok(Chain {

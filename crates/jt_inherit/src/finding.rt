@@ -3,7 +3,6 @@
 ghost use Rattle.std.specs.Prelude.{◌≡◌, None};
 
 use crate::error::ChainError;
-use jt_graph::OrderError;
 use std::alloc::{AllocError, AllocFailed};
 
 /// A tag: the name of its template, and its line, counted from 1.
@@ -67,19 +66,6 @@ impl From<ChainError> for ChainFinding {
 
     fn from(e: ChainError) -> ChainFinding {
         ChainFinding::without_place(e)
-    }
-}
-
-impl From<OrderError> for ChainFinding {
-    ghost use Rattle.jt_inherit.specs.Refused.{gives_bare};
-
-    ghost from_gives = { gives_bare };
-
-    fn from(refusal: OrderError) -> ChainFinding {
-        match refusal {
-            OrderError::Cycle => ChainFinding::without_place(ChainError::IncludeCycle),
-            OrderError::NoMemory => ChainFinding::without_place(ChainError::NoMemory),
-        }
     }
 }
 

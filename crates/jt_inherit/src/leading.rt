@@ -8,7 +8,7 @@ ghost use Rattle.jt_chains.specs.Indices.{namespace_at};
 ghost use Rattle.jt_inherit.specs.Findings as findings;
 ghost use Rattle.jt_inherit.specs.Findings.{HasTag};
 ghost use Rattle.jt_inherit.specs.internal.Found.{found_namespaces, found_paths, found_templates};
-ghost use Rattle.jt_inherit.specs.internal.Imported.{name_at};
+ghost use Rattle.jt_inherit.specs.internal.Rings.{name_at};
 ghost use Rattle.jt_inherit.specs.internal.SetView.{key_view};
 ghost use Rattle.jt_inherit.specs.internal.Tags.{test_of};
 

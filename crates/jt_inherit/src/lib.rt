@@ -8,6 +8,7 @@
 //! entry.
 #![tactic(auto)]
 
+mod bodies;
 mod breaking;
 mod chaining;
 mod discovery;
@@ -22,6 +23,7 @@ mod library;
 mod names;
 mod placing;
 mod reading;
+mod rings;
 mod rules;
 mod sets;
 mod statements;

@@ -1,15 +1,17 @@
 //! Finds the tags that a finding names.
 
-ghost use Rattle.std.specs.Prelude.{◌≡◌, ◌++◌, [], map, option_map, slice_get, IfOk};
+ghost use Rattle.std.specs.Prelude.{◌≡◌, ◌++◌, true, option_map, slice_get, IfOk, IfSome};
 ghost use Rattle.jt_chains.specs.Along.{AreIndices, templates_at};
 ghost use Rattle.jt_chains.specs.TemplateFiles.{file_view, files_view};
 ghost use Rattle.jt_inherit.specs.Findings as findings;
 ghost use Rattle.jt_inherit.specs.Findings.{all_uses, uses_in};
+ghost use Rattle.jt_inherit.specs.internal.Tags as spec;
 ghost use Rattle.jt_inherit.specs.internal.Tags.{test_of, tags, tags_view, tag_view, place_view};
-ghost use Rattle.jt_inherit.specs.internal.Tags.{with_name};
+ghost use Rattle.jt_inherit.specs.internal.Tags.{with_name, place_of};
 ghost use Rattle.jt_uses.specs.UseView.{use_view, sites_view};
 
 use crate::finding::TagPlace;
+use crate::supers::super_line;
 use jt_chains::TemplateFile;
 use jt_uses::{Use, UseSite, uses_of};
 use std::alloc::{AllocError, Global};
@@ -31,26 +33,65 @@ pub(crate) enum Wanted<'a> {
     BindsMacro { library: &'a str, name: &'a str },
     /// It is a block of the name.
     Block(&'a str),
+    /// It is a block.
+    Blocks,
     /// It defines the name as a macro or by an import.
     Defines(&'a str),
 }
 
-/// A tag, by the name of its template and its line.
+/// A use and the name of its template.
 #[derive(Clone, Copy)]
 pub(crate) struct FoundTag<'a> {
     pub(crate) template: &'a str,
-    pub(crate) line: u32,
+    pub(crate) site: UseSite<'a>,
 }
 
-impl FoundTag<'_> {
+impl<'a> FoundTag<'a> {
     /// Returns the place of the tag.
     pub(crate) fn place(self, alloc: Global) -> Result<TagPlace, AllocError>
-        ensures { IfOk result (λ p. place_view p ≡ tag_view self.entry) }
+        ensures { IfOk result (λ p. place_view p ≡ place_of (tag_view self.entry)) }
+    {
+        self.place_on(alloc, self.site.place.line)
+    }
+
+    /// Returns the place of a line of the tag's template.
+    pub(crate) fn place_on(self, alloc: Global, line: u32) -> Result<TagPlace, AllocError>
+        ensures { IfOk result (λ p. place_view p ≡ (self.entry.template.now, line)) }
     {
         Ok(TagPlace {
             template: String::from_str(alloc, self.template)?,
-            line: self.line,
+            line,
         })
+    }
+
+    /// Returns whether the tag is a required block.
+    pub(crate) fn is_required(self) -> bool
+        ensures { result ≡ findings.is_required (tag_view self.entry).1.made }
+    {
+        match self.site.made {
+            Use::DeclaresBlock { required, .. } => required,
+            _ => false,
+        }
+    }
+
+    /// Returns the line of the first tag that calls `super()`, if this is a block with such a tag.
+    /// Nested blocks do not count.
+    pub(crate) fn super_line(self) -> Option<u32>
+        ensures { IfSome result
+            (λ n. findings.calls_super_at n (tag_view self.entry).1.made ≡ true) }
+    {
+        match self.site.made {
+            Use::DeclaresBlock { body, .. } => super_line(body),
+            _ => None,
+        }
+    }
+
+    /// Returns the name of a block.
+    pub(crate) fn block_name(self) -> Option<&'a str> {
+        match self.site.made {
+            Use::DeclaresBlock { name, .. } => Some(name),
+            _ => None,
+        }
     }
 }
 
@@ -120,6 +161,13 @@ fn is_block(wanted: &str, made: Use<'_>) -> bool
     }
 }
 
+/// Returns whether a use is a block.
+fn is_any_block(made: Use<'_>) -> bool
+    ensures { result ≡ spec.is_any_block (use_view made.entry) }
+{
+    matches!(made, Use::DeclaresBlock { .. })
+}
+
 /// Returns whether a use defines the name as a macro or by an import.
 fn defines(wanted: &str, made: Use<'_>) -> bool
     ensures { result ≡ findings.defines wanted.now (use_view made.entry) }
@@ -144,6 +192,7 @@ fn is_wanted(wanted: Wanted<'_>, made: Use<'_>) -> bool
         Wanted::Imports(name) => is_import(name, made),
         Wanted::BindsMacro { library, name } => binds_macro(library, name, made),
         Wanted::Block(name) => is_block(name, made),
+        Wanted::Blocks => is_any_block(made),
         Wanted::Defines(name) => defines(name, made),
     }
 }
@@ -152,7 +201,7 @@ fn is_wanted(wanted: Wanted<'_>, made: Use<'_>) -> bool
 fn add_tags<'a>(
     found: &mut Vec<FoundTag<'a>>,
     template: &'a str,
-    uses: &[UseSite<'_>],
+    uses: &[UseSite<'a>],
     wanted: Wanted<'_>,
 ) -> Result<(), AllocError>
     ensures { IfOk result (λ _. tags_view found.new.items ≡ tags_view found.old.items
@@ -162,7 +211,7 @@ fn add_tags<'a>(
         if is_wanted(wanted, site.made) {
             found.push(FoundTag {
                 template,
-                line: site.place.line,
+                site: *site,
             })?;
         }
     }
@@ -208,7 +257,8 @@ pub(crate) fn first_place(
     alloc: Global,
     found: &[FoundTag<'_>],
 ) -> Result<Option<TagPlace>, AllocError>
-    ensures { IfOk result (λ p. option_map place_view p ≡ slice_get (tags_view found.now) 0) }
+    ensures { IfOk result (λ p. option_map place_view p
+        ≡ option_map place_of (slice_get (tags_view found.now) 0)) }
 {
     match found.first() {
         Some(tag) => Ok(Some(tag.place(alloc)?)),
@@ -221,7 +271,8 @@ pub(crate) fn second_place(
     alloc: Global,
     found: &[FoundTag<'_>],
 ) -> Result<Option<TagPlace>, AllocError>
-    ensures { IfOk result (λ p. option_map place_view p ≡ slice_get (tags_view found.now) 1) }
+    ensures { IfOk result (λ p. option_map place_view p
+        ≡ option_map place_of (slice_get (tags_view found.now) 1)) }
 {
     match found.get(1) {
         Some(tag) => Ok(Some(tag.place(alloc)?)),

@@ -4,7 +4,8 @@ use Rattle.std.specs.Prelude.{◌≡◌, ◌&&◌, Bool, true, List, [], ◌∷�
 use Rattle.std.specs.Option.{is_none}
 use Rattle.jt_ast.specs.Expressions.{Text}
 use Rattle.jt_chains.specs.Chain.{Sources, a_library, Template, is_a_library, macros, public_macro}
-use Rattle.jt_inherit.specs.Findings.{ForSome, HasTag, HasTwoTags, binds_macro, is_block, defines}
+use Rattle.jt_inherit.specs.Findings.{ForSome, HasTag, HasTwoTags, IsNotGiven, HasNoSuper, binds_macro, is_block}
+use Rattle.jt_inherit.specs.Findings.{defines}
 use Rattle.jt_inherit.specs.declared.error.ChainError.{ChainError}
 use Rattle.jt_inherit.specs.declared.error.ChainError.TheVariants as error
 use Rattle.jt_inherit.specs.declared.finding.ChainFinding.{ChainFinding}
@@ -26,6 +27,8 @@ module _ (s : Sources) (ts : List Template) where
       (e ≡ error.DoubleBlock) × ForSome (λ t. HasTwoTags (is_block (string_bytes x)) (t ∷ []) first p) ts
   BrokenIn (v.NameTwice x first) e p =
       (e ≡ error.MacroTwice) × HasTwoTags (defines (string_bytes x)) ts first p
+  BrokenIn (v.Block x) e p = (e ≡ error.RequiredNotGiven) × IsNotGiven ts (string_bytes x) p
+  BrokenIn (v.Super x opened) e p = (e ≡ error.NoSuper) × HasNoSuper ts (string_bytes x) opened p
   BrokenIn x e p = ⊥
 
   abbrev pub RuleAt : Option TagPlace → Option ChainSubject → ChainError → Type 0

@@ -5,16 +5,12 @@ use Rattle.jt_graph.specs.Graph.{next_of}
 use Rattle.jt_ast.specs.Expressions.{Text}
 use Rattle.jt_chains.specs.Along.{templates_at}
 use Rattle.jt_chains.specs.Chain.{Namespace, namespace_name, a_library, Template, is_a_library, sources_in}
-use Rattle.jt_chains.specs.Indices.{namespace_at}
 use Rattle.jt_inherit.specs.Findings.{HasTag, IsNoMemory, leads_to}
 use Rattle.jt_inherit.specs.declared.error.ChainError.TheVariants as error
 use Rattle.jt_inherit.specs.declared.finding.ChainFinding.{ChainFinding}
 use Rattle.jt_inherit.specs.declared.finding.ChainSubject.{ChainSubject}
 use Rattle.jt_inherit.specs.declared.finding.ChainSubject.TheVariants as v
 use Rattle.jt_inherit.specs.declared.finding.TagPlace.{TagPlace}
-
-abbrev pub name_at : List Namespace → ℕ → Text
-name_at hs i = namespace_name (namespace_at hs i)
 
 -- The library holds something other than macros.
 pub record IsNotLibrary (ts : List Template) (h : Namespace) : Type 0 where

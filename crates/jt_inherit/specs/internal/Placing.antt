@@ -1,11 +1,12 @@
 -- The place and the subject of an error at the name of a template. Only private clauses cite this
 -- module.
-use Rattle.std.specs.Prelude.{◌≡◌, ◌-◌, ℕ, Bool, true, false, List, length, slice_get, Option, Some, None, string_bytes}
+use Rattle.std.specs.Prelude.{◌≡◌, ◌-◌, ℕ, Bool, true, false, List, length, slice_get, Option, Some, None, option_map}
+use Rattle.std.specs.Prelude.{string_bytes}
 use Rattle.jt_ast.specs.Expressions.{Text}
-use Rattle.jt_uses.specs.Uses.{Use}
+use Rattle.jt_uses.specs.Uses.{Site, Use}
 use Rattle.jt_chains.specs.Chain.{Template}
 use Rattle.jt_inherit.specs.Findings.{asks, is_extends, all_uses, uses_in}
-use Rattle.jt_inherit.specs.internal.Tags.{tags, place_view}
+use Rattle.jt_inherit.specs.internal.Tags.{tags, place_of, place_view}
 use Rattle.jt_inherit.specs.declared.error.ChainError.{ChainError}
 use Rattle.jt_inherit.specs.declared.error.ChainError.TheVariants as error
 use Rattle.jt_inherit.specs.declared.finding.ChainFinding.{ChainFinding}
@@ -31,12 +32,12 @@ IsSubject n e None = Unit {0}
 IsSubject n e (Some x) = SubjectOf n e x
 
 -- The place is the first of these, or nothing is known.
-abbrev pub PlacedAt : List (Text × ℕ) → Text → ChainError → Option TagPlace → Option ChainSubject → Type 0
+abbrev pub PlacedAt : List (Text × Site) → Text → ChainError → Option TagPlace → Option ChainSubject → Type 0
 PlacedAt ts n e None None = Unit {0}
-PlacedAt ts n e (Some p) (Some x) = (slice_get ts 0 ≡ Some (place_view p)) × SubjectOf n e x
+PlacedAt ts n e (Some p) (Some x) = (option_map place_of (slice_get ts 0) ≡ Some (place_view p)) × SubjectOf n e x
 PlacedAt ts n e p x = ⊥
 
-abbrev pub IsPlaced : List (Text × ℕ) → Text → ChainError → ChainFinding → Type 0
+abbrev pub IsPlaced : List (Text × Site) → Text → ChainError → ChainFinding → Type 0
 IsPlaced ts n e f = (f.error ≡ e) × PlacedAt ts n e f.place f.subject
 
 -- The error has no place. A name without a source, or one that is not valid, is its subject.

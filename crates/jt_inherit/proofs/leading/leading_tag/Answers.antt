@@ -12,7 +12,6 @@ use Rattle.jt_chains.specs.declared.files.TemplateFile.{TemplateFile}
 use Rattle.jt_uses.specs.Uses.{Use}
 use Rattle.jt_inherit.specs.Findings.{HasTag, all_uses, leads_to}
 use Rattle.jt_inherit.specs.internal.Found.{found_namespaces, found_templates}
-use Rattle.jt_inherit.specs.internal.SetView.{key_view}
 use Rattle.jt_inherit.specs.internal.Tags.{tags_view, test_of}
 use Rattle.jt_inherit.specs.declared.tags.FoundTag.{FoundTag}
 use Rattle.jt_inherit.proofs.ChainComplete.{at_number}
