@@ -169,6 +169,10 @@ def chains(count):
         yield "|".join([chosen.choice(ALL), *chosen.choices(filters, k=chosen.randint(2, 3))])
 
 
+# Loops around a form, which the least budget has the size for.
+LOOPS = "{% for i in range(1000) %}{% for j in range(1000) %}", "{% endfor %}{% endfor %}"
+
+
 def names_of(form):
     """The operands that a form names."""
     words = "".join(c if c.isalnum() else " " for c in form).split()
@@ -211,7 +215,7 @@ class Bench:
     def unit(self, operands, source):
         """The microseconds for a unit of fuel, and how the run ended."""
         base = self.base(operands)
-        took, ran = self.run(operands, FRAME + "{% for i in range(20000) %}" + source + "{% endfor %}", self.fuel)
+        took, ran = self.run(operands, FRAME + LOOPS[0] + source + LOOPS[1], self.fuel)
         told = (ran.stderr or ran.stdout).decode(errors="replace").strip().split("\n")[0]
         if ran.returncode < 0:
             told = "still going"
