@@ -51,13 +51,21 @@ steps-preserved g c =
     c.run_fast-stopped.new.state c.steps.invariant.within c.steps.invariant.so_far c.run_fast-stopped.ensures.gone
     c.run_fast-stopped.ensures.left in
     record {
-      within = omega (arith, c.steps.invariant.within, c.run_fast-stopped.ensures.left,
-          c.run_fast-stopped.ensures.gone.fuel);
+      within = omega (
+        arith,
+        c.steps.invariant.within,
+        c.run_fast-stopped.ensures.left,
+        c.run_fast-stopped.ensures.gone.fuel,
+      );
       so_far =
           slice_on k c.args.k c.run_fast-stopped.result.left (config_view c.args.state.now)
           (config_view c.run_fast-stopped.new.state) (config_view c.step.new.state) (omega arith)
-          (omega (arith, c.steps.invariant.within, c.run_fast-stopped.ensures.left,
-              c.run_fast-stopped.ensures.gone.fuel)) far
+          (omega (
+            arith,
+            c.steps.invariant.within,
+            c.run_fast-stopped.ensures.left,
+            c.run_fast-stopped.ensures.gone.fuel,
+          )) far
           e;
       reached =
           reached_on c.code_laws.ensures k c.requires.whole c.requires.typed c.run_fast-stopped.new.state

@@ -61,11 +61,11 @@ steps-preserved g c =
     record {
       reached =
           reached_next k (pairs_of c.args.context.now) (budget_view c.args.budget)
-              (config_view c.run_fast-stopped.new.state)
+          (config_view c.run_fast-stopped.new.state)
           (config_view c.step.new.state) r e;
       same =
           λ o r. c.steps.invariant.same o (ending_gone k c.steps.state c.run_fast-stopped.new.state o
-              c.run_fast-stopped.ensures.gone
+          c.run_fast-stopped.ensures.gone
           (ending_back k (config_view c.run_fast-stopped.new.state) (config_view c.step.new.state) o e r));
       depth =
           omega (
