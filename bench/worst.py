@@ -1,14 +1,14 @@
 #!/usr/bin/env python3
 """Prints how long a unit of fuel can last: each operator, filter, test and statement over the operands that are worst for it.
 
-    bench/worst.py [--jt PATH] [--fuel N] [--size N] [--rows N] [--most SECONDS] [WORD ..]
+    bench/worst.py [--jt PATH] [--fuel N] [--size N] [--rows N] [--chains N] [--most SECONDS] [WORD ..]
 
 Without --jt it takes the program that `rt run` keeps, crates/jt_cli/out/jt_cli. Each form stands in a loop that --fuel (100,000) ends.
 A row has the microseconds of processor time for a unit, the seconds that the default budget of 1,000,000 units lasts at that rate, and
 the form with the names of its operands (OPERANDS below). Reading the context is measured apart and taken off. A run is ended after --cap
 (5) seconds; its row then has a `>`. The --rows (40) slowest forms are printed, the slowest first; with words, all forms that have one of
-them. With --size N the run has that limit of sizes, and lists have a quarter of it as items. The status is 1 if a form is slower than --most (15
-seconds for the default budget).
+them. With --size N the run has that limit of sizes, and lists have a quarter of it as items. --chains N adds N chains of two or three filters,
+chosen at random. The status is 1 if a form is slower than --most (15 seconds for the default budget).
 """
 import json, os, pathlib, random, resource, subprocess, sys, tempfile
 from timing import flags, timed
@@ -49,6 +49,7 @@ def operands(items, length):
         "shuffled": random.sample(range(items), items),
         "equal": [7] * items,
         "great": random.sample(range(2**62, 2**62 + 2**40), items),
+        "wide": [random.randrange(-(2**63), 2**63) for _ in range(items)],
         "truths": [random.random() < 0.5 for _ in range(items)],
         "mixed": list(range(items - 1)) + ["a"],
         "nones": [None] * items,
@@ -57,6 +58,7 @@ def operands(items, length):
         "pairs": [[i, i] for i in range(items // 3)],
         "short": [f"{random.randrange(10**4):04}" for _ in range(items // 5)],
         "words": [f"{random.randrange(10**9):09}" for _ in range(items // 10)],
+        "distinct": random.sample([f"{i:05}" for i in range(10**5)], min(items // 6, 10**5)),
         "alike": ["a" * 990 + f"{i:09}" for i in range(items // 1000)],
         "keys": {f"{i:06}": i for i in range(items // 8)},
         "turned": {f"{i:06}": i for i in reversed(range(items // 8))},
@@ -76,12 +78,14 @@ def operands(items, length):
 
 OPERANDS = operands(ITEMS, MILLION)
 TEXTS = ["letter", "word", "text", "blank", "letters", "marks", "greek", "han"]
-LISTS = ["numbers", "shuffled", "equal", "great", "truths", "mixed", "nones", "empties", "lists", "voids", "pairs", "short", "words", "alike", "maps", "falling", "seventeen"]
+LISTS = ["numbers", "shuffled", "equal", "great", "wide", "truths", "mixed", "nones", "empties", "lists", "voids", "pairs", "short", "words", "distinct", "alike", "maps", "falling", "seventeen"]
 MAPS = ["keys", "turned", "scattered", "alone"]
 ALL = ["zero", *TEXTS, *LISTS, *MAPS, "deep"]
 
 ONE = ["abs", "capitalize", "default", "dictsort", "escape", "first", "forceescape", "int", "items", "join", "last", "length", "list", "lower", "map('abs')", "map('string')", "map('upper')", "map('length')", "map('list')", "map('default', 1)", "map('escape')", "map('unique')", "map('sort')", "max", "min", "reject", "reverse", "safe", "select", "sort", "sort(true)", "string", "sum", "trim", "unique", "upper"]
 JUDGED = ["select('in', letters)", "select('lt', text)", "select('eq', text)", "map('default', text)", "map('replace', text, 'b')", "map('replace', 'b', text)", "select('odd')", "reject('odd')", "select('defined')", "select('eq', word)", "select('in', letters)", "select('in', short)", "select('eq', keys)", "map('join', text)", "select('divisibleby', 3)", "select('gt', 3)", "selectattr('a')", "rejectattr('a', 'eq', 2)", "map(attribute='a')", "map('replace', 'a', 'b')"]
+INNER = ["abs", "capitalize", "dictsort", "first", "forceescape", "int", "items", "join", "join', ',", "last", "lower", "max", "min", "reverse", "safe", "sum", "trim", "attr', 'a", "replace', '0', '<<<"]
+SOUGHT = ["keys", "scattered", "words", "distinct", "shuffled", "wide", "maps", "binary", "fibonacci"]
 TESTS = ["defined", "undefined", "none", "boolean", "integer", "string", "mapping", "escaped", "true", "false"]
 
 
@@ -95,11 +99,16 @@ def expressions():
         yield from [f"{x} is {test}" for test in TESTS]
     for x in LISTS:
         yield from [f"{x}|{name}" for name in JUDGED]
+        yield from [f"{x}|map('{name}')" for name in INNER]
+        yield from [f"{x}|select('in', {sought})" for sought in SOUGHT]
         yield from [f"{x} + [1]", f"[1] + {x}", f"{x} + {x}", f"'zzz' in {x}", f"-1 in {x}", f"{x}|join(text)", f"{x}|join(',')", f"{x}[999999]"]
     for x in TEXTS:
         yield from [f"{x}|replace('a', 'b')", f"{x}|replace('a', 'bb')", f"{x}|replace('aa', '')", f"{x}|replace('b', 'c')", f"letter|replace(letter, {x})", f"{x}|replace({x}, letter)", f"{x}|replace(half, letter)", f"half in {x}", f"'b' in {x}", f"'ab' in {x}", f"{x} in {x}", f"{x}[999999]", f"{x} < {x}", f"{x}|join(',')", f"{x}|safe|upper", f"{x}|safe ~ {x}"]
+        yield from [f"{x}|map('{name}')" for name in INNER]
+        yield from [f"{x}|select('in', {sought})" for sought in SOUGHT]
+        yield from [f"{x}|list|join", f"{x}|list|sort|join(',')", f"{x}|join(','|safe)", f"{x}|join('<')", f"{x}|reverse|list"]
     for x in MAPS:
-        yield from [f"'zzz' in {x}", f"{x}['000001']", f"{x}.zzz", f"keys == {x}", f"{x} == scattered", f"{x} is eq turned"]
+        yield from [f"'zzz' in {x}", f"{x} in maps", f"{x} in voids", f"{x} in pairs", f"[{x}]|unique", f"[{x}, keys, scattered]|unique", f"{x}['000001']", f"{x}.zzz", f"keys == {x}", f"{x} == scattered", f"{x} is eq turned"]
     yield from ["text == text2", "text < text2", "text is eq text2", "text is lt text2", "numbers == numbers2", "numbers < numbers2", "-1 in numbers", "999999 in numbers", "word in words", "deep == deep", "keys in voids", "alike|unique", "letters|unique", "greek|unique|sort", "shuffled|sort|unique", "(great + ['a'])|unique", "(shuffled + [true])|unique", "[text, text, text, text]|join", "[keys, turned]|unique", "[numbers, numbers2]|unique", "[scattered, turned]|unique", "[text, text2]|sort", "[text, text2]|unique"]
     for x in ["short", "words", "slices", "few", "keys", "letter"]:
         yield from [f"{x}|select('in', {whole})" for whole in ["text", "letters", "binary", "fibonacci", "greek", "half"]]
@@ -152,15 +161,27 @@ FRAME = (
 )
 
 
+def chains(count):
+    """A number of chains of two or three filters over an operand, chosen at random."""
+    filters = ONE + JUDGED + [f"map('{name}')" for name in INNER] + [f"select('in', {sought})" for sought in SOUGHT]
+    chosen = random.Random(2)
+    for _ in range(count):
+        yield "|".join([chosen.choice(ALL), *chosen.choices(filters, k=chosen.randint(2, 3))])
+
+
+# Loops around a form, which the least budget has the size for.
+LOOPS = "{% for i in range(1000) %}{% for j in range(1000) %}", "{% endfor %}{% endfor %}"
+
+
 def names_of(form):
     """The operands that a form names."""
     words = "".join(c if c.isalnum() else " " for c in form).split()
     return sorted({word for word in words if word in OPERANDS})
 
 
-def forms():
-    """The name of each form, its operands and its source."""
-    for text in dict.fromkeys(expressions()):
+def forms(count=0):
+    """The name of each form, its operands and its source. A number of chains of filters is among them."""
+    for text in dict.fromkeys([*expressions(), *chains(count)]):
         yield text, names_of(text), "{% if " + text + " %}{% endif %}"
     for name, (operands, source) in STATEMENTS.items():
         yield name, operands.split(), source
@@ -194,16 +215,17 @@ class Bench:
     def unit(self, operands, source):
         """The microseconds for a unit of fuel, and how the run ended."""
         base = self.base(operands)
-        took, ran = self.run(operands, FRAME + "{% for i in range(20000) %}" + source + "{% endfor %}", self.fuel)
+        took, ran = self.run(operands, FRAME + LOOPS[0] + source + LOOPS[1], self.fuel)
         told = (ran.stderr or ran.stdout).decode(errors="replace").strip().split("\n")[0]
         if ran.returncode < 0:
             told = "still going"
         return max(took - base, 0) / self.fuel * MILLION, told
 
 
-def measure(bench, words, found, others):
+def measure(bench, asked, found, others):
     """Adds the forms that have one of the words, if there are words, to those that were spent or to the others."""
-    for name, operands, source in forms():
+    words = asked.words
+    for name, operands, source in forms(asked.chains):
         if words and not any(word in name for word in words):
             continue
         micros, told = bench.unit(operands, source)
@@ -219,6 +241,7 @@ def main():
     parser.add_argument("--size", type=int, default=0)
     parser.add_argument("--cap", type=int, default=5)
     parser.add_argument("--rows", type=int, default=40)
+    parser.add_argument("--chains", type=int, default=0)
     parser.add_argument("--most", type=float, default=15.0)
     parser.add_argument("words", nargs="*")
     asked = parser.parse_args()
@@ -228,7 +251,7 @@ def main():
     with tempfile.TemporaryDirectory() as folder:
         bench = Bench(asked.jt, asked, folder)
         try:
-            measure(bench, asked.words, found, others)
+            measure(bench, asked, found, others)
         except KeyboardInterrupt:
             print("(interrupted: these forms were measured)")
     found.sort(reverse=True)

@@ -11,7 +11,7 @@ import re
 ERRORS = pathlib.Path(__file__).resolve().parent.parent / "docs" / "errors.md"
 FIRST = re.compile(
     r'(?P<first>(?:(?P<template>[^\n]+):(?P<line>[0-9]+): )?(?P<code>[A-Z][0-9]+) (?P<name>\w+)(?: "(?P<subject>[^"\n]*)")?)'
-    r"(?P<kind> \(\w+\))?(?P<tail>; .+)?"
+    r"(?P<kind> \(\w+\))?(?P<tail>[;,] .+)?"
 )
 ROW = re.compile(r'(?m)^\| (?P<refusal>[A-Z][0-9]+ \w+(?: "NAME")?(?: \(\w+\))?) \| (?P<sentence>[^|]+) \|$')
 # A character of a word: the name is marked where none is beside it.
@@ -51,7 +51,7 @@ def marked(line, name):
 
 def sentence(refusal, name, kind):
     """The sentence of docs/errors.md for a refusal, with the name that it is about."""
-    key = refusal + (' "NAME"' if name else "") + kind
+    key = refusal + (' "NAME"' if name is not None else "") + kind
     found = sentences().get(key) or (sentences().get(refusal) if not kind else None)
     if not found:
         raise ValueError(f"docs/errors.md has no sentence for {key}")
@@ -69,6 +69,9 @@ def answers(folder, wanted):
     if found["template"]:
         place = f" in {found['template']} line {found['line']}" if found["code"][0] in "SP" else ""
         line = line_of(folder, found["template"], int(found["line"]))
-        lines += [f"  {line}", *(marked(line, found["subject"]) if found["subject"] else [])]
+        # (a control character is shown by its code, and stands in the line as it is)
+        name = re.sub(r"\\x([0-9a-f]{2})", lambda code: chr(int(code[1], 16)), found["subject"] or "")
+        name = "super" if found["code"] == "C7" else name
+        lines += [f"  {line}", *(marked(line, name) if name else [])]
     lines.append(f"  {sentence(refusal, found['subject'], found['kind'] or '')}{found['tail'] or ''}")
     return "0 [" + "".join(f"{line}\n" for line in lines) + "][]", f"3 [][jt: refused {refusal}{place}\n]"

@@ -23,7 +23,7 @@ import explanations
 import run_explanations
 
 HERE = pathlib.Path(__file__).resolve().parent
-FILES = ["templates.txt", "imports.txt", "values.txt", "refusals.txt", "explain.txt", "faults.txt", "documents.txt", "hostile.txt", "commands.txt"]
+FILES = ["templates.txt", "imports.txt", "values.txt", "refusals.txt", "explain.txt", "explained.txt", "faults.txt", "documents.txt", "hostile.txt", "commands.txt"]
 SECONDS = 60
 SIGNS = str.maketrans({**dict(zip("␇␈␉␤␋␌␍␠⍽␀", "\a\b\t\n\v\f\r \u00a0\0")), "⌧": "\udcff", "∅": ""})
 NAMES = dict(
@@ -322,6 +322,14 @@ def failures(program, files):
     return len(rows) - len(failed), wrong + failed
 
 
+def end(passed, wrong):
+    """Prints what failed and the numbers, and ends the script; the status is 1 if something failed or nothing passed."""
+    for it in wrong:
+        print(it)
+    print(f"{passed} passed, {len(wrong)} failed")
+    sys.exit(1 if wrong or not passed else 0)
+
+
 def main():
     if sys.argv[1:2] == ["--within"]:
         count = int(sys.argv[2])
@@ -329,10 +337,7 @@ def main():
     if len(sys.argv) < 2:
         sys.exit("usage: tests/run.py PROGRAM [FILE ..]")
     passed, wrong = failures(os.path.realpath(sys.argv[1]), sys.argv[2:] or [HERE / "rows" / name for name in FILES])
-    for it in wrong:
-        print(it)
-    print(f"{passed} passed, {len(wrong)} failed")
-    sys.exit(1 if wrong or not passed else 0)
+    end(passed, wrong)
 
 
 if __name__ == "__main__":

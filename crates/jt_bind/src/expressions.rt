@@ -1,7 +1,6 @@
 //! Resolves expressions: names to slots, and literals and keys to indices of a pool.
 
-ghost use Rattle.std.specs.Prelude.{false, length, List, [], IfOk, Some};
-ghost use Rattle.jt_value.specs.Tree.{Tree};
+ghost use Rattle.std.specs.Prelude.{false, length, IfOk, Some};
 ghost use Rattle.jt_ast.specs.Expressions as trees;
 ghost use Rattle.jt_ast.specs.ExpressionView as written;
 ghost use Rattle.jt_ids.specs.FilterTable.{filter_id};
@@ -9,24 +8,25 @@ ghost use Rattle.jt_semantics.specs.Operators as operators;
 ghost use Rattle.jt_semantics.specs.Resolve as resolve;
 ghost use Rattle.jt_ids.specs.declared.op_id.OpId.TheVariants as op;
 ghost use Rattle.jt_eval.specs.Values.{literal};
-ghost use Rattle.jt_ir.specs.Pool.{Constant, own};
+ghost use Rattle.jt_ir.specs.Pool.{own};
 ghost use Rattle.jt_ir.specs.Slots as slots;
 ghost use Rattle.jt_bind.specs.internal.Resolving.{IsResolved, RowAdds, RowPuts, by_position};
 ghost use Rattle.jt_bind.specs.internal.Resolving.{by_name, expr_of};
 ghost use Rattle.jt_bind.specs.internal.Resolving.{row_of, asides_of, given_of, called_of};
 ghost use Rattle.jt_bind.specs.internal.Resolving.{entries_of};
 ghost use Rattle.jt_bind.specs.internal.Resolving.{filter_row_of};
-ghost use Rattle.jt_bind.specs.internal.Scoped.{values, IsAdded, RowLeads, turn_in};
+ghost use Rattle.jt_bind.specs.internal.Scoped.{values, IsAdded, turn_in};
 
 use crate::callee::{Callee, Signature};
 use crate::lookup::{absent, no_value, reading, told};
+use crate::operand::{Operand, Row, boxed};
 use crate::operator_forms::{
-    chosen, form_of, formed, item_in_turn, literal_value, on_one, on_two, range_of, turned,
-    unary_operation,
+    OperatorForm, chosen, conjunction, disjunction, form_of, item_in_turn, literal_value, on_one,
+    range_of, turned, unary_operation,
 };
 use crate::pool::{add_text, add_value};
 use crate::resolver::{Arguments, Resolver};
-use crate::rows::{put_argument, row_of};
+use crate::rows::put_argument;
 use jt_ast::{BinaryOperator, Expr, Literal, Polarity, UnaryOperator};
 use jt_eval::{filter_of, test_of};
 use jt_ids::{FilterId, LoopField, OpId};
@@ -109,9 +109,9 @@ impl<'t, 's, 'a> Resolver<'t, 's, 'a> {
         ensures { IfOk result (λ e. IsResolved self.now
             (trees.list_of (written.exprs_view row.now)) e pool.old pool.new) }
     {
-        let mut items = Vec::new(self.alloc);
-        self.resolve_row(row, &mut items, pool)?;
-        Ok(SlotExpr::Made(NaryOp::List, items))
+        let mut items = Row(Vec::new(self.alloc));
+        self.resolve_row(row, &mut items.0, pool)?;
+        Ok(SlotExpr::Made(NaryOp::List, items.into_inner()))
     }
 
     /// Resolves a map.
@@ -125,9 +125,9 @@ impl<'t, 's, 'a> Resolver<'t, 's, 'a> {
         ensures { IfOk result (λ e. IsResolved self.now
             (trees.map_of (written.pairs_view pairs.now)) e pool.old pool.new) }
     {
-        let mut entries = Vec::new(self.alloc);
-        self.resolve_entries(pairs, &mut entries, pool)?;
-        Ok(SlotExpr::Made(NaryOp::Map, entries))
+        let mut entries = Row(Vec::new(self.alloc));
+        self.resolve_entries(pairs, &mut entries.0, pool)?;
+        Ok(SlotExpr::Made(NaryOp::Map, entries.into_inner()))
     }
 
     /// Resolves an attribute, or a field of `loop`.
@@ -145,14 +145,15 @@ impl<'t, 's, 'a> Resolver<'t, 's, 'a> {
         if is_loop_name(value) {
             return Ok(told(LoopField::by_name(key)));
         }
-        let whole = self.resolve_expression(value, pool)?;
+        let mut operands = Row(Vec::with_capacity(self.alloc, 2)?);
+        self.resolve_operand(value, &mut operands.0, pool)?;
         let item_key = add_text(self.alloc, key, pool)?;
-        on_two(self.alloc, OpId::Item, whole, item_key)
+        put_argument(&mut operands.0, None, item_key)?;
+        Ok(SlotExpr::Made(NaryOp::Operator(OpId::Item), operands.into_inner()))
     }
 
     /// Resolves an item.
     #[cycle(expressions)]
-    #[inline(never)]
     fn resolve_item(
         &self,
         value: &Expr,
@@ -163,9 +164,27 @@ impl<'t, 's, 'a> Resolver<'t, 's, 'a> {
             (trees.item (written.expr_view value.now) (written.expr_view index.now)) e pool.old
             pool.new) }
     {
-        let whole = self.resolve_expression(value, pool)?;
-        let item_key = self.resolve_expression(index, pool)?;
-        on_two(self.alloc, OpId::Item, whole, item_key)
+        self.resolve_operation(OpId::Item, value, index, pool)
+    }
+
+    /// Resolves the operands of an operation and applies it to them.
+    #[cycle(expressions)]
+    #[inline(never)]
+    fn resolve_operation(
+        &self,
+        op: OpId,
+        left: &Expr,
+        right: &Expr,
+        pool: &mut Vec<Value>,
+    ) -> Result<SlotExpr, NoMemory>
+        ensures { IfOk result (λ e. IsAdded (resolve.operation_of op
+            (expr_of self.now (written.expr_view left.now))
+            (expr_of self.now (written.expr_view right.now))) e pool.old pool.new) }
+    {
+        let mut operands = Row(Vec::with_capacity(self.alloc, 2)?);
+        self.resolve_operand(left, &mut operands.0, pool)?;
+        self.resolve_operand(right, &mut operands.0, pool)?;
+        Ok(SlotExpr::Made(NaryOp::Operator(op), operands.into_inner()))
     }
 
     /// Resolves a unary operator.
@@ -198,14 +217,23 @@ impl<'t, 's, 'a> Resolver<'t, 's, 'a> {
             (trees.binary operator (written.expr_view left.now) (written.expr_view right.now)) e
             pool.old pool.new) }
     {
-        let first = self.resolve_expression(left, pool)?;
-        let second = self.resolve_expression(right, pool)?;
-        formed(
-            self.alloc,
-            form_of(self.senv.escaping, operator),
-            first,
-            second,
-        )
+        match form_of(self.senv.escaping, operator) {
+            OperatorForm::Operation(op) => self.resolve_operation(op, left, right, pool),
+            OperatorForm::Negation(op) => {
+                let inside = self.resolve_operation(op, left, right, pool)?;
+                on_one(self.alloc, OpId::Not, inside)
+            }
+            OperatorForm::Conjunction => {
+                let first = self.resolve_boxed(left, pool)?;
+                let second = self.resolve_boxed(right, pool)?;
+                Ok(conjunction(first, second))
+            }
+            OperatorForm::Disjunction => {
+                let first = self.resolve_boxed(left, pool)?;
+                let second = self.resolve_boxed(right, pool)?;
+                Ok(disjunction(first, second))
+            }
+        }
     }
 
     /// Resolves a conditional expression without an `else` part.
@@ -221,9 +249,10 @@ impl<'t, 's, 'a> Resolver<'t, 's, 'a> {
             (trees.when (written.expr_view condition.now) (written.expr_view value.now)) e pool.old
             pool.new) }
     {
-        let asked = self.resolve_expression(condition, pool)?;
-        let first = self.resolve_expression(value, pool)?;
-        chosen(self.alloc, asked, first, no_value())
+        let asked = self.resolve_boxed(condition, pool)?;
+        let first = self.resolve_boxed(value, pool)?;
+        let second = boxed(self.alloc, no_value())?;
+        Ok(chosen(asked, first, second))
     }
 
     /// Resolves a conditional expression.
@@ -240,10 +269,20 @@ impl<'t, 's, 'a> Resolver<'t, 's, 'a> {
             (trees.choice (written.expr_view condition.now) (written.expr_view value.now)
             (written.expr_view other.now)) e pool.old pool.new) }
     {
-        let asked = self.resolve_expression(condition, pool)?;
-        let first = self.resolve_expression(value, pool)?;
-        let second = self.resolve_expression(other, pool)?;
-        chosen(self.alloc, asked, first, second)
+        let asked = self.resolve_boxed(condition, pool)?;
+        let first = self.resolve_boxed(value, pool)?;
+        let second = self.resolve_boxed(other, pool)?;
+        Ok(chosen(asked, first, second))
+    }
+
+    /// Resolves an expression and returns it on the heap.
+    #[cycle(expressions)]
+    #[inline(never)]
+    fn resolve_boxed(&self, expr: &Expr, pool: &mut Vec<Value>) -> Result<Operand, NoMemory>
+        ensures { IfOk result (λ o. IsResolved self.now (written.expr_view expr.now) o.0.value
+            pool.old pool.new) }
+    {
+        boxed(self.alloc, self.resolve_expression(expr, pool)?)
     }
 
     /// Resolves a test, which is negated after `is not`.
@@ -283,27 +322,29 @@ impl<'t, 's, 'a> Resolver<'t, 's, 'a> {
         match test_of(name) {
             None => Ok(absent()),
             Some(test) => {
-                let mut operands = self.resolve_first(value, pool)?;
-                self.resolve_row(row, &mut operands, pool)?;
-                Ok(SlotExpr::Made(NaryOp::Test(test), operands))
+                let mut operands = Row(Vec::new(self.alloc));
+                self.resolve_operand(value, &mut operands.0, pool)?;
+                self.resolve_row(row, &mut operands.0, pool)?;
+                Ok(SlotExpr::Made(NaryOp::Test(test), operands.into_inner()))
             }
         }
     }
 
-    /// Resolves the value of a filter or a test. Returns it as the first argument.
+    /// Resolves an expression and appends it as an argument.
     #[cycle(expressions)]
     #[inline(never)]
-    fn resolve_first(
+    fn resolve_operand(
         &self,
         value: &Expr,
+        done: &mut Vec<(Option<usize>, SlotExpr)>,
         pool: &mut Vec<Value>,
-    ) -> Result<Vec<(Option<usize>, SlotExpr)>, NoMemory>
-        ensures { IfOk result (λ row. (left : slots.SRow Constant)
-            → RowLeads (slots.item (expr_of self.now (written.expr_view value.now)) left) left []
-            row.items (values pool.old) (values pool.new)) }
+    ) -> Result<(), NoMemory>
+        ensures { IfOk result (λ u. RowPuts
+            (slots.item (expr_of self.now (written.expr_view value.now))) done.old done.new
+            pool.old pool.new) }
     {
-        let first = self.resolve_expression(value, pool)?;
-        row_of(self.alloc, first)
+        let next = self.resolve_expression(value, pool)?;
+        put_argument(done, None, next)
     }
 
     /// Resolves a filter.
@@ -323,14 +364,15 @@ impl<'t, 's, 'a> Resolver<'t, 's, 'a> {
         match filter_of(name, arguments.row, arguments.pairs) {
             None => Ok(absent()),
             Some(filter) => {
-                let mut given = self.resolve_first(value, pool)?;
-                self.resolve_filter_row(filter, arguments, &mut given, pool)?;
+                let mut given = Row(Vec::new(self.alloc));
+                self.resolve_operand(value, &mut given.0, pool)?;
+                self.resolve_filter_row(filter, arguments, &mut given.0, pool)?;
                 Ok(SlotExpr::Made(
                     NaryOp::Filter {
                         filter,
                         escaping: self.senv.escaping,
                     },
-                    given,
+                    given.into_inner(),
                 ))
             }
         }
@@ -389,14 +431,14 @@ impl<'t, 's, 'a> Resolver<'t, 's, 'a> {
             self.now.senv.escaping (called_of self.now signature.entry arguments.entry)) e pool.old
             pool.new) }
     {
-        let mut given = Vec::new(self.alloc);
-        self.resolve_given(arguments, &mut given, pool)?;
-        self.fill(signature, arguments, &mut given)?;
+        let mut given = Row(Vec::new(self.alloc));
+        self.resolve_given(arguments, &mut given.0, pool)?;
+        self.fill(signature, arguments, &mut given.0)?;
         let escaping = self.senv.escaping;
         Ok(SlotExpr::Invoke {
             routine: signature.unit,
             escaping,
-            row: given,
+            row: given.into_inner(),
         })
     }
 
@@ -408,9 +450,9 @@ impl<'t, 's, 'a> Resolver<'t, 's, 'a> {
             (slots.operator (operators.range_of (length row.now)))
             (row_of self.now (written.exprs_view row.now) slots.none)) e pool.old pool.new) }
     {
-        let mut operands = Vec::new(self.alloc);
-        self.resolve_row(row, &mut operands, pool)?;
-        Ok(SlotExpr::Made(NaryOp::Operator(range_of(row.len())), operands))
+        let mut operands = Row(Vec::new(self.alloc));
+        self.resolve_row(row, &mut operands.0, pool)?;
+        Ok(SlotExpr::Made(NaryOp::Operator(range_of(row.len())), operands.into_inner()))
     }
 
     /// Resolves `loop.cycle`: the item of a list at the index of the turn, modulo its length.
@@ -427,6 +469,7 @@ impl<'t, 's, 'a> Resolver<'t, 's, 'a> {
 
     /// Resolves a list of expressions and appends them.
     #[cycle(expressions)]
+    #[inline(never)]
     pub(crate) fn resolve_row(
         &self,
         row: &[Expr],

@@ -19,6 +19,7 @@ mod local_counts;
 mod lookup;
 mod name_scope;
 mod namespaces;
+mod operand;
 mod operator_forms;
 mod pool;
 mod program_names;

@@ -16,6 +16,7 @@ ghost use Rattle.jt_bind.specs.internal.Scoped.{values, IsShown, IsAdded, MadeOf
 ghost use Rattle.jt_bind.specs.internal.Scoped.{turn_in};
 ghost use Rattle.jt_ids.specs.declared.op_id.OpId.TheVariants as op;
 
+use crate::operand::Operand;
 use crate::pool::add_value;
 use jt_ast::{BinaryOperator, Literal, Parameter, UnaryOperator};
 use jt_ids::{LoopField, OpId};
@@ -157,54 +158,33 @@ pub(crate) fn turned(alloc: Global, negated: bool, inside: SlotExpr) -> Result<S
     }
 }
 
-/// Returns the expression of a binary operator on two operands.
-#[inline(never)]
-pub(crate) fn formed(
-    alloc: Global,
-    form: OperatorForm,
-    left: SlotExpr,
-    right: SlotExpr,
-) -> Result<SlotExpr, NoMemory>
-    ensures { IfOk result (MadeOfTwo (resolve.in_form (form_view form)) left right) }
+/// Returns the expression for the left operand if it is false, else for the right one.
+pub(crate) fn conjunction(left: Operand, right: Operand) -> SlotExpr
+    ensures { MadeOfTwo slots.conjunction left.0.value right.0.value result }
 {
-    match form {
-        OperatorForm::Operation(op) => on_two(alloc, op, left, right),
-        OperatorForm::Negation(op) => {
-            let inside = on_two(alloc, op, left, right)?;
-            on_one(alloc, OpId::Not, inside)
-        }
-        OperatorForm::Conjunction => {
-            let first = Box::new(alloc, left)?;
-            Ok(SlotExpr::Conjunction(first, Box::new(alloc, right)?))
-        }
-        OperatorForm::Disjunction => {
-            let first = Box::new(alloc, left)?;
-            Ok(SlotExpr::Disjunction(first, Box::new(alloc, right)?))
-        }
-    }
+    SlotExpr::Conjunction(left.into_inner(), right.into_inner())
+}
+
+/// Returns the expression for the left operand if it is true, else for the right one.
+pub(crate) fn disjunction(left: Operand, right: Operand) -> SlotExpr
+    ensures { MadeOfTwo slots.disjunction left.0.value right.0.value result }
+{
+    SlotExpr::Disjunction(left.into_inner(), right.into_inner())
 }
 
 /// Returns the conditional expression that chooses between two values.
-#[inline(never)]
-pub(crate) fn chosen(
-    alloc: Global,
-    condition: SlotExpr,
-    value: SlotExpr,
-    other: SlotExpr,
-) -> Result<SlotExpr, NoMemory>
-    ensures { IfOk result (λ e. (c a b : slots.SlotExpr Constant) (p q r s : List Tree)
-        → IsShown c condition p q
-        → IsShown a value q r
-        → IsShown b other r s
-        → IsShown (slots.choice c a b) e p s) }
+pub(crate) fn chosen(condition: Operand, value: Operand, other: Operand) -> SlotExpr
+    ensures { (c a b : slots.SlotExpr Constant) (p q r s : List Tree)
+        → IsShown c condition.0.value p q
+        → IsShown a value.0.value q r
+        → IsShown b other.0.value r s
+        → IsShown (slots.choice c a b) result p s }
 {
-    let asked = Box::new(alloc, condition)?;
-    let first = Box::new(alloc, value)?;
-    Ok(SlotExpr::Choice {
-        condition: asked,
-        value: first,
-        other: Box::new(alloc, other)?,
-    })
+    SlotExpr::Choice {
+        condition: condition.into_inner(),
+        value: value.into_inner(),
+        other: other.into_inner(),
+    }
 }
 
 /// Returns the expression for the index of a loop's turn modulo `count`.

@@ -1,6 +1,6 @@
 //! Builds lists of resolved expressions.
 
-ghost use Rattle.std.specs.Prelude.{◌≡◌, List, [], ◌∷◌, ◌++◌, length, None, IfOk};
+ghost use Rattle.std.specs.Prelude.{◌≡◌, List, [], ◌∷◌, ◌++◌, length, IfOk};
 ghost use Rattle.jt_ast.specs.Expressions.{Text};
 ghost use Rattle.jt_ast.specs.Texts.{texts};
 ghost use Rattle.jt_semantics.specs.Resolve as resolve;
@@ -53,15 +53,4 @@ pub(crate) fn put_argument(
 {
     done.push((aside, value))?;
     Ok(())
-}
-
-/// Returns a list of one expression.
-#[inline(never)]
-pub(crate) fn row_of(
-    alloc: Global,
-    first: SlotExpr,
-) -> Result<Vec<(Option<usize>, SlotExpr)>, NoMemory>
-    ensures { IfOk result (λ row. row.items ≡ (None, first) ∷ []) }
-{
-    Ok(vec![in alloc; (None, first)]?)
 }

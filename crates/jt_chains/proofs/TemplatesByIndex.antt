@@ -11,10 +11,12 @@ use Rattle.std.specs.Str.{bytes_eq}
 use Rattle.jt_ast.specs.Expressions.{Text}
 use Rattle.jt_ast.specs.Statements.{Body, end}
 use Rattle.jt_ast.specs.StatementView.{body_of}
-use Rattle.jt_chains.specs.Along.{AreIndices, body_at, along}
+use Rattle.jt_chains.specs.Along.{AreIndices, body_at, along, macros_along, blocks_along, layers_along}
 use Rattle.jt_chains.specs.Chain as chain
 use Rattle.jt_chains.specs.Chain.{Sources, Template, template, holds_macros, library_template, templates, max_templates}
-use Rattle.jt_chains.specs.Chain.{names_up, sources_in}
+use Rattle.jt_chains.specs.Chain.{names_up, sources_in, macros_in, blocks_in}
+use Rattle.jt_chains.specs.Includes.{includes_in}
+use Rattle.jt_chains.specs.Needs.{include_need, includes_along}
 use Rattle.jt_ast.specs.Texts.{among, repeated}
 use Rattle.jt_chains.specs.TemplateFiles.{file_view, files_view, namespace_view, names_at, AreWhole}
 use Rattle.jt_chains.specs.Parts.{name_at}
@@ -216,6 +218,10 @@ namespace_templates ts hs i h lt is once w =
     indexed_by_names ts h.templates.items (templates (sources_in ts) (namespace_view h)) once
     (given_templates (sources_in ts) (namespace_view h)) (whole_at ts hs i h lt is w)
 
+each_alone : (ts : List Template) → flat_map (λ t. record { name = t.name; body = t.body } ∷ []) ts ≡ ts
+each_alone [] = refl
+each_alone (t ∷ ts) = ap (λ l. t ∷ l) (each_alone ts)
+
 -- `along` over the indices of a chain is `flat_map` over its templates.
 module _ (ps qs : List TemplateFile) (hs : List Namespace) (i : ℕ) (h : Namespace) (is : List ℕ) (same_files : qs ≡ ps)
     (same_indices : is ≡ h.templates.items) (lt : i < length hs) (at : h ≡ get_or hs i h)
@@ -239,3 +245,22 @@ module _ (ps qs : List TemplateFile) (hs : List Namespace) (i : ℕ) (h : Namesp
       there
       ∙ ap (λ n. flat_map (λ t. g t.name t.body) (templates (sources_in (files_view ps)) n))
       (sym (name_of_namespace hs i h lt at))
+
+  -- The macros, the bodies of blocks, the includes and the templates of a chain.
+  pub namespace_macros : macros_along (files_view qs) is
+      ≡ chain.macros (sources_in (files_view ps)) (namespace_at (map namespace_view hs) i)
+  namespace_macros = namespace_along macros_in
+
+  pub namespace_blocks : (escaping : Bool) → blocks_along (files_view qs) escaping is
+      ≡ chain.all_bodies (sources_in (files_view ps)) escaping (namespace_at (map namespace_view hs) i)
+  namespace_blocks escaping = namespace_along (λ n b. blocks_in n b escaping)
+
+  pub namespace_includes : includes_along (files_view qs) is ≡ flat_map (λ t. includes_in include_need t.body)
+      (templates (sources_in (files_view ps)) (namespace_at (map namespace_view hs) i))
+  namespace_includes = namespace_along (λ n b. includes_in include_need b)
+
+  pub namespace_layers : layers_along (files_view qs) is
+      ≡ templates (sources_in (files_view ps)) (namespace_at (map namespace_view hs) i)
+  namespace_layers =
+      namespace_along (λ n b. record { name = n; body = b } ∷ [])
+      ∙ each_alone (templates (sources_in (files_view ps)) (namespace_at (map namespace_view hs) i))

@@ -6,7 +6,6 @@ pub mod ArgumentsFit
 pub mod AttributeForms
 pub mod RuleTestsCorrect
 pub mod UsesAreSites
-pub mod UsesCorrect
 pub mod FindingsHold
 pub mod NestedCallNames
 pub mod ScopeLookup

@@ -12,11 +12,9 @@ use Rattle.jt_chains.specs.Chain.{Namespace, namespace_name, a_chain, a_library,
 use Rattle.jt_chains.specs.Along.{body_at, layers_along}
 use Rattle.jt_chains.specs.Indices.{namespace_at}
 use Rattle.jt_chains.specs.Parts.{name_at}
-use Rattle.jt_ast.specs.Statements.{Body}
-use Rattle.std.specs.Prelude.{flat_map}
 use Rattle.jt_chains.specs.Uses.{own_names}
 use Rattle.jt_chains.specs.TemplateFiles.{namespace_view}
-use Rattle.jt_chains.proofs.TemplatesByIndex.{name_of_namespace, namespace_along}
+use Rattle.jt_chains.proofs.TemplatesByIndex.{name_of_namespace, namespace_layers}
 use Rattle.jt_chains.proofs.TemplatesByIndex.{namespace_indices, index_within}
 use Rattle.jt_rules.specs.Rules.{libraries_counted, names_counted}
 use Rattle.jt_chains.specs.declared.chain.Namespace as written
@@ -24,7 +22,7 @@ use Rattle.std.proofs.lemmas.Bool.Decides.{nat_tests}
 use Rattle.jt_uses.specs.UseView.{site_view, sites_view}
 use Rattle.jt_uses.specs.declared.site.UseSite.{UseSite}
 use Rattle.jt_checks.specs.internal.UseRules as broken
-use Rattle.jt_chains.specs.View.{chain_view, sources_of}
+use Rattle.jt_chains.specs.View.{chain_view}
 use Rattle.jt_chains.specs.declared.chain.Chain.{Chain}
 use Rattle.jt_checks.specs.internal.ScopeLookup.{cenv_in, namespace_in, names_of}
 use Rattle.jt_rules.specs.CompileEnv.{CompileEnv}
@@ -71,22 +69,14 @@ pub its_place : (c : Chain) (i : ℕ) → namespace_in c i ≡ namespace_at (cha
 unfolding namespace_in
 its_place c i = refl
 
-abbrev alone : Text → Body → List Template
-alone n b = record { name = n; body = b } ∷ []
-
-each_alone : (ts : List Template) → flat_map (λ t. alone t.name t.body) ts ≡ ts
-each_alone [] = refl
-each_alone (t ∷ ts) = ap (λ us. t ∷ us) (each_alone ts)
-
 -- The templates of a chain, by their indices.
 pub its_templates : (c : Chain) (i : ℕ) (h : written.Namespace) → i < length c.namespaces.items
     → h ≡ get_or c.namespaces.items i h
     → layers_along (chain_view c).templates h.templates.items ≡ templates (cenv_in c).sources (namespace_in c i)
 unfolding cenv_in namespace_in
 its_templates c i h lt at =
-    namespace_along c.templates.items c.templates.items c.namespaces.items i h h.templates.items refl refl lt at c.once
-    c.whole alone
-    ∙ each_alone (templates (sources_of (chain_view c)) (namespace_at (chain_view c).order i))
+    namespace_layers c.templates.items c.templates.items c.namespaces.items i h h.templates.items refl refl lt at c.once
+    c.whole
 
 -- The indices of a chain are those of templates.
 pub template_within : (c : Chain) (i : ℕ) (h : written.Namespace) → i < length c.namespaces.items

@@ -1,7 +1,7 @@
 -- A test of the rules finds a broken rule exactly if one is broken at the use.
-use Rattle.std.proofs.Common.{◌≡◌, refl, sym, ap, ◌∙◌, arith, ℕ, ◌<◌, ◌≤◌, Bool, true, false, not, ◌&&◌}
-use Rattle.std.proofs.Common.{List, [], ◌∷◌, ◌++◌, length, nat_lt, Option, Some, None, rules}
-use Rattle.std.specs.Prelude.{◌⊎◌, codes, flat_map}
+use Rattle.std.proofs.Common.{◌≡◌, refl, sym, ap, ◌∙◌, arith, ℕ, ◌<◌, Bool, true, false, not, ◌&&◌}
+use Rattle.std.proofs.Common.{List, [], ◌∷◌, length, nat_lt, Option, Some, None, rules}
+use Rattle.std.specs.Prelude.{◌⊎◌, codes}
 use Rattle.std.specs.Option.{option_or, is_some}
 use Rattle.std.specs.Str.{bytes_eq}
 use Rattle.std.proofs.lemmas.Bool.Decides.{nat_tests}
@@ -9,48 +9,28 @@ use Rattle.std.proofs.lemmas.Slice.Eq.{bytes_eq-Decides}
 use mathlib.Core.Logic.{inl, inr}
 use Rattle.jt_ast.specs.Expressions as trees
 use Rattle.jt_ast.specs.Expressions.{Expr, name, attribute, Exprs, Text}
-use Rattle.jt_ast.specs.Statements.{Parameter, body_bound}
+use Rattle.jt_ast.specs.Statements.{Parameter}
 use Rattle.jt_ast.specs.Texts.{repeated}
 use Rattle.jt_chains.specs.Uses.{count, keywords}
-use Rattle.jt_chains.specs.Chain.{Namespace, Template, MacroBody, templates, bodies, Definition, given, Callee, a_macro}
+use Rattle.jt_chains.specs.Chain.{Namespace, MacroBody, bodies, Definition, given, Callee, a_macro}
 use Rattle.jt_chains.specs.Chain.{a_range, a_super, a_block, a_cycle, no_callee, named_alone, of_library, in_library}
 use Rattle.jt_chains.specs.Chain.{callee}
 use Rattle.jt_ids.specs.declared.loop_field.LoopField.{LoopField}
 use Rattle.jt_ids.specs.LoopTable.{field_named}
 use Rattle.jt_eval.specs.Tests.{test_named}
 use Rattle.jt_rules.specs.Arguments.{callee_takes, test_takes, filter_takes, names_rightly}
-use Rattle.jt_rules.specs.Rules.{ForSome, IsOnlyCalled, MisusesLoop, LoopOutside, MacroAsValue, CannotBeCalled}
-use Rattle.jt_rules.specs.Rules.{NotCallable, BadArguments, TooManyParameters, BrokenIn, Broken, Breaks}
-use Rattle.jt_rules.specs.Rules.{names_counted}
+use Rattle.jt_rules.specs.Rules.{IsOnlyCalled, MisusesLoop, CannotBeCalled}
 use Rattle.jt_rules.specs.UseSites.{Enclosing, Use, reads, binds, reads_loop_field, calls, filters, tests, declares}
-use Rattle.jt_rules.specs.UseSites.{names_import, UseSite, at, parameter_names, outside, body_use_sites}
+use Rattle.jt_rules.specs.UseSites.{names_import, parameter_names}
+use Rattle.jt_uses.specs.Uses as uses
+use Rattle.jt_uses.specs.declared.site.Enclosing as around
 use Rattle.jt_rules.specs.CompileEnv.{CompileEnv}
 use Rattle.jt_rules.specs.declared.error.ScopeError.{ScopeError}
 use Rattle.jt_rules.specs.declared.error.ScopeError.TheVariants as error
-use Rattle.jt_checks.specs.Findings.{BreaksAt}
+use Rattle.jt_checks.specs.Findings.{BreaksAt, UseBreaks, rules_use, within_view}
 use Rattle.jt_checks.specs.internal.RuleTests.{read_alone, unless, test_broken, filter_broken, refused, is_macro, used}
-use Rattle.jt_checks.specs.internal.RuleTests.{call_broken, callee_broken}
-
--- ---- Some item of a list has a property
-
-some_left : {A : Type 0} (P : A → Type 0) (xs ys : List A) → ForSome P xs → ForSome P (xs ++ ys)
-some_left P [] ys h = absurd h
-some_left P (x ∷ xs) ys (inl p) = inl p
-some_left P (x ∷ xs) ys (inr h) = inr (some_left P xs ys h)
-
-some_right : {A : Type 0} (P : A → Type 0) (xs ys : List A) → ForSome P ys → ForSome P (xs ++ ys)
-some_right P [] ys h = h
-some_right P (x ∷ xs) ys h = inr (some_right P xs ys h)
-
-apart : {A : Type 0} (P : A → Type 0) (xs ys : List A) → ForSome P (xs ++ ys) → ForSome P xs ⊎ ForSome P ys
-apart P [] ys h = inr h
-apart P (x ∷ xs) ys (inl p) = inl (inl p)
-apart P (x ∷ xs) ys (inr h) = search (arith, rules, apart P xs ys h)
-
-pub some_as : {A : Type 0} (P Q : A → Type 0) → ((x : A) → P x → Q x) → (xs : List A) → ForSome P xs → ForSome Q xs
-some_as P Q f [] h = h
-some_as P Q f (x ∷ xs) (inl p) = inl (f x p)
-some_as P Q f (x ∷ xs) (inr h) = inr (some_as P Q f xs h)
+use Rattle.jt_checks.specs.internal.RuleTests.{call_broken, callee_broken, macro_broken}
+use Rattle.jt_checks.specs.internal.UseRules.{use_broken, field_broken}
 
 -- ---- The meaning of a result: its rule is broken, or no rule is broken
 
@@ -242,196 +222,74 @@ module _ (cenv : CompileEnv) (namespace : Namespace) where
   At (declares x ps) w rule = OfMacro x ps rule
   At (names_import x) w rule = OfName false x rule
 
-  abbrev pub Of : ScopeError → UseSite → Type 0
-  Of rule s = At s.use_made s.around rule
+  breaks_there : (rule : ScopeError) (u : Use) (w : Enclosing) → At u w rule → BreaksAt cenv namespace rule u w
+  breaks_there error.LoopOutside u w h = search (arith, rules)
+  breaks_there error.MacroAsValue u w h = search (arith, rules, differs)
+  breaks_there error.NotCallable u w h = search (arith, rules)
+  breaks_there error.BadArguments u w h = search (arith, rules, one_false)
+  breaks_there error.TooManySlots u w h = search (arith, rules)
+  breaks_there error.NoMemory u w h = search (arith, rules)
 
-  -- Holds if the result is a rule that is broken at a use site, or no rule is broken at any.
-  abbrev pub Tells : Option ScopeError → List UseSite → Type 0
-  Tells o ss = Judged o (λ rule. ForSome (Of rule) ss)
+  broken_there : (rule : ScopeError) (u : Use) (w : Enclosing) → BreaksAt cenv namespace rule u w → At u w rule
+  broken_there error.LoopOutside u w h = search (arith, rules)
+  broken_there error.MacroAsValue u w h = search (arith, rules)
+  broken_there error.NotCallable u w h = search (arith, rules)
+  broken_there error.BadArguments u w h = search (arith, rules, not_both_true)
+  broken_there error.TooManySlots u w h = search (arith, rules)
+  broken_there error.NoMemory u w h = absurd h
 
-  pub nothing : Tells None []
-  nothing rule h = h
+  -- The result is a rule that is broken at the use, or no rule is broken there.
+  abbrev pub JudgedAt : Option ScopeError → Use → Enclosing → Type 0
+  JudgedAt o u w = Judged o (λ rule. BreaksAt cenv namespace rule u w)
 
-  pub one : (o : Option ScopeError) (u : Use) (w : Enclosing) → Judged o (At u w) → Tells o (at w u)
-  one None u w h = λ rule some. elim some [ inl a ↦ h rule a | inr b ↦ b ]
-  one (Some r) u w h = inl h
+  as_defined : (o : Option ScopeError) (u : Use) (w : Enclosing) → Judged o (At u w) → JudgedAt o u w
+  as_defined None u w h = λ rule broken. h rule (broken_there rule u w broken)
+  as_defined (Some r) u w h = breaks_there r u w h
 
-  pub in_turn : (a b : Option ScopeError) (xs ys : List UseSite) → Tells a xs → Tells b ys
-      → Tells (option_or a b) (xs ++ ys)
-  in_turn None None xs ys h k = λ rule both. elim (apart (Of rule) xs ys both) [ inl p ↦ h rule p | inr q ↦ k rule q ]
-  in_turn None (Some r) xs ys h k = some_right (Of r) xs ys k
-  in_turn (Some r) b xs ys h k = some_left (Of r) xs ys h
+  filter_judged : (x : Text) (ts : Exprs) (ps : trees.Pairs) (w : Enclosing)
+      → Judged (filter_broken cenv.filters (cenv.filters.named x ts ps) ts ps) (At (filters x ts ps) w)
+  filter_judged x ts ps w = search (arith, rules, differs, only_arguments, judged_unless)
 
-  pub read_told : (x : Text) (w : Enclosing) → Tells (used cenv namespace x) (at w (reads x))
-  read_told x w = one (used cenv namespace x) (reads x) w (name_judged x (is_macro cenv namespace x))
+  test_judged : (x : Text) (ts : Exprs) (ps : trees.Pairs) (w : Enclosing)
+      → Judged (test_broken (test_named x) ts ps) (At (tests x ts ps) w)
+  test_judged x ts ps w = search (arith, rules, differs, only_arguments, judged_unless)
 
-  pub bound_told : (x : Text) (w : Enclosing) → Tells (used cenv namespace x) (at w (binds x))
-  bound_told x w = one (used cenv namespace x) (binds x) w (name_judged x (is_macro cenv namespace x))
+  callee_judged : (f : Expr) (w : Enclosing) (ts : Exprs) (ps : trees.Pairs) → Named f w ts ps
+  callee_judged (name x) w ts ps = name_called x w ts ps
+  callee_judged (attribute (name of) k) w ts ps = field_called of k w ts ps
+  callee_judged f w ts ps = tt
 
-  pub filter_told : (x : Text) (ts : Exprs) (ps : trees.Pairs) (w : Enclosing)
-      → Tells (filter_broken cenv.filters (cenv.filters.named x ts ps) ts ps) (at w (filters x ts ps))
-  filter_told x ts ps w = search (arith, rules, one, differs, only_arguments, judged_unless)
-
-  pub test_told : (x : Text) (ts : Exprs) (ps : trees.Pairs) (w : Enclosing)
-      → Tells (test_broken (test_named x) ts ps) (at w (tests x ts ps))
-  test_told x ts ps w = search (arith, rules, one, differs, only_arguments, judged_unless)
-
-  pub call_told : (f : Expr) (ts : Exprs) (ps : trees.Pairs) (w : Enclosing)
-      → Tells (option_or (callee_broken f)
-      (call_broken cenv namespace (callee cenv.sources (given cenv.sources namespace) f) w ts ps))
-      (at w (calls f ts ps))
-  call_told (name x) ts ps w =
-      one (option_or (callee_broken (name x))
-      (call_broken cenv namespace (callee cenv.sources (given cenv.sources namespace) (name x)) w ts ps))
-      (calls (name x) ts ps) w (name_called x w ts ps)
-  call_told (attribute (name of) k) ts ps w =
-      one (option_or (callee_broken (attribute (name of) k))
-      (call_broken cenv namespace (callee cenv.sources (given cenv.sources namespace) (attribute (name of) k)) w ts ps))
-      (calls (attribute (name of) k) ts ps) w (field_called of k w ts ps)
-  call_told f ts ps w = inl tt
-
-  pub import_judged : (x : Text) → Judged (read_alone x) (OfName false x)
+  import_judged : (x : Text) → Judged (read_alone x) (OfName false x)
   import_judged x = search (arith, rules, name_judged)
 
-  -- ---- Templates
+  read_judged : (x : Text) (w : Enclosing) → JudgedAt (used cenv namespace x) (reads x) w
+  read_judged x w = as_defined (used cenv namespace x) (reads x) w (name_judged x (is_macro cenv namespace x))
 
-  -- Holds if templates break the rule by the number of names that they bind.
-  abbrev pub OfNumber : List Template → ScopeError → Type 0
-  OfNumber ts error.TooManySlots = ForSome (λ t. 4096 < body_bound t.body) ts
-  OfNumber ts rule = ⊥
+  imported : (x : Text) (w : Enclosing) → JudgedAt (read_alone x) (names_import x) w
+  imported x w = as_defined (read_alone x) (names_import x) w (import_judged x)
 
-  abbrev pub InTemplates : List Template → ScopeError → Type 0
-  InTemplates ts rule = ForSome (Of rule) (flat_map (λ t. body_use_sites t.body outside) ts) ⊎ OfNumber ts rule
-
-  later : (t : Template) (ts : List Template) (rule : ScopeError) → OfNumber ts rule → OfNumber (t ∷ ts) rule
-  later t ts a2 h = search (arith, rules)
-
-  -- The limit holds of all templates if it holds of the first one and of the later ones.
-  few : (t : Template) (ts : List Template) → nat_lt 4096 (body_bound t.body) ≡ false
-      → ((rule : ScopeError) → OfNumber ts rule → ⊥) → (rule : ScopeError) → OfNumber (t ∷ ts) rule → ⊥
-  few t ts e n error.LoopOutside h = h
-  few t ts e n error.MacroAsValue h = h
-  few t ts e n error.NotCallable h = h
-  few t ts e n error.BadArguments h = h
-  few t ts e n error.TooManySlots (inl h) = absurd (grind (arith, nat_tests))
-  few t ts e n error.TooManySlots (inr h) = n error.TooManySlots h
-  few t ts e n error.NoMemory h = h
-
-  pub template_told : (t : Template) (ts : List Template) (a c : Option ScopeError) (ss : List UseSite) (b : Bool)
-      → nat_lt 4096 (body_bound t.body) ≡ b → Tells a ss → Judged c (InTemplates ts)
-      → Judged (option_or (option_or a (refused b error.TooManySlots)) c)
-      (λ rule. ForSome (Of rule) (ss ++ flat_map (λ u. body_use_sites u.body outside) ts) ⊎ OfNumber (t ∷ ts) rule)
-  template_told t ts (Some r) c ss b e h k =
-      inl (some_left (Of r) ss (flat_map (λ u. body_use_sites u.body outside) ts) h)
-  template_told t ts None c ss true e h k = let lt : 4096 < body_bound t.body = grind (arith, nat_tests) in inr (inl lt)
-  template_told t ts None (Some r) ss false e h k =
-      elim k [
-        | inl p ↦ inl (some_right (Of r) ss (flat_map (λ u. body_use_sites u.body outside) ts) p)
-        | inr q ↦ inr (later t ts r q)
-      ]
-  template_told t ts None None ss false e h k = λ rule all. neither rule all
-    where
-      neither : (rule : ScopeError)
-          → ForSome (Of rule) (ss ++ flat_map (λ u. body_use_sites u.body outside) ts) ⊎ OfNumber (t ∷ ts) rule → ⊥
-      neither rule (inl p) =
-          elim (apart (Of rule) ss (flat_map (λ u. body_use_sites u.body outside) ts) p)
-          [ inl x ↦ h rule x | inr y ↦ k rule (inl y) ]
-      neither rule (inr q) = few t ts e (λ r n. k r (inr n)) rule q
-
-  -- ---- The rules as they are defined
-
-  loop_to : (u : Use) (w : Enclosing) → At u w error.LoopOutside → LoopOutside cenv namespace u w
-  loop_to (reads x) w h = h
-  loop_to u w h = h
-
-  loop_back : (u : Use) (w : Enclosing) → LoopOutside cenv namespace u w → At u w error.LoopOutside
-  loop_back (reads x) w h = h
-  loop_back u w h = h
-
-  macro_to : (u : Use) (w : Enclosing) → At u w error.MacroAsValue → MacroAsValue cenv namespace u w
-  macro_to a0 w h = search (arith, rules, differs)
-
-  macro_back : (u : Use) (w : Enclosing) → MacroAsValue cenv namespace u w → At u w error.MacroAsValue
-  macro_back a0 w h = search (arith, rules)
-
-  called_to : (u : Use) (w : Enclosing) → At u w error.NotCallable → NotCallable cenv namespace u w
-  called_to (reads x) w h = h
-  called_to u w h = h
-
-  called_back : (u : Use) (w : Enclosing) → NotCallable cenv namespace u w → At u w error.NotCallable
-  called_back (reads x) w h = h
-  called_back u w h = h
-
-  arguments_to : (u : Use) (w : Enclosing) → At u w error.BadArguments → BadArguments cenv namespace u w
-  arguments_to (filters x ts ps) w h =
-      one_false (filter_takes cenv.filters (cenv.filters.named x ts ps) (count ts) (keywords ps))
-      (names_rightly cenv.filters (cenv.filters.named x ts ps) ts ps) h
-  arguments_to u w h = h
-
-  arguments_back : (u : Use) (w : Enclosing) → BadArguments cenv namespace u w → At u w error.BadArguments
-  arguments_back (filters x ts ps) w h =
-      not_both_true (filter_takes cenv.filters (cenv.filters.named x ts ps) (count ts) (keywords ps))
-      (names_rightly cenv.filters (cenv.filters.named x ts ps) ts ps) h
-  arguments_back u w h = h
-
-  slots_to : (u : Use) (w : Enclosing) → At u w error.TooManySlots → TooManyParameters cenv namespace u w
-  slots_to (reads x) w h = h
-  slots_to u w h = h
-
-  slots_back : (u : Use) (w : Enclosing) → TooManyParameters cenv namespace u w → At u w error.TooManySlots
-  slots_back (reads x) w h = h
-  slots_back u w h = h
-
-  memory_to : (u : Use) (w : Enclosing) → At u w error.NoMemory → ⊥
-  memory_to (reads x) w h = h
-  memory_to u w h = h
-
-  no_memory : (ss : List UseSite) → ForSome (Of error.NoMemory) ss → ⊥
-  no_memory [] h = h
-  no_memory (s ∷ ss) (inl h) = memory_to s.use_made s.around h
-  no_memory (s ∷ ss) (inr h) = no_memory ss h
-
-  -- The rule is broken there as it is defined.
-  pub at_breaks : (u : Use) (w : Enclosing) (rule : ScopeError) → At u w rule → BreaksAt cenv namespace rule u w
-  at_breaks u w error.LoopOutside h = loop_to u w h
-  at_breaks u w error.MacroAsValue h = macro_to u w h
-  at_breaks u w error.NotCallable h = called_to u w h
-  at_breaks u w error.BadArguments h = arguments_to u w h
-  at_breaks u w error.TooManySlots h = slots_to u w h
-  at_breaks u w error.NoMemory h = memory_to u w h
-
-  abbrev By : (Use → Enclosing → Type 0) → UseSite → Type 0
-  By P s = P s.use_made s.around
-
-  pub broken_in : (rule : ScopeError) → InTemplates (templates cenv.sources namespace) rule → BrokenIn cenv namespace
-      rule
-  broken_in a0 a1 = search (arith, rules, some_as, loop_to, macro_to, called_to, arguments_to, slots_to, no_memory)
-
-  pub in_templates : (rule : ScopeError) → BrokenIn cenv namespace rule
-      → InTemplates (templates cenv.sources namespace) rule
-  in_templates a0 a1 = search (arith, rules, some_as, loop_back, macro_back, called_back, arguments_back, slots_back)
-
--- ---- Chains
-
-pub judged_or : (P Q : ScopeError → Type 0) (a b : Option ScopeError) → Judged a P → Judged b Q
-    → Judged (option_or a b) (λ rule. P rule ⊎ Q rule)
-judged_or a0 a1 a2 a3 h k = search (arith, rules)
-
-abbrev pub InChain : CompileEnv → ScopeError → Namespace → Type 0
-InChain cenv rule h = InTemplates cenv h (templates cenv.sources h) rule
-
-abbrev pub BrokenThere : CompileEnv → ScopeError → Namespace → Type 0
-BrokenThere cenv rule h = BrokenIn cenv h rule
-
-pub broken_of : (cenv : CompileEnv) (order : List Namespace) (rule : ScopeError) → ForSome (BrokenThere cenv rule) order
-    → Broken rule cenv order
-broken_of cenv order error.LoopOutside h = h
-broken_of cenv order a2 h = search (arith, rules)
-
-pub found_of : (cenv : CompileEnv) (order : List Namespace) → names_counted cenv order ≤ 65535 → (rule : ScopeError)
-    → Broken rule cenv order → ForSome (BrokenThere cenv rule) order
-found_of cenv order few a3 a4 = search (arith, rules, few)
-
-pub broken_breaks : (cenv : CompileEnv) (order : List Namespace) (rule : ScopeError) → Broken rule cenv order
-    → Breaks rule cenv order
-broken_breaks cenv order a2 h = search (arith, rules)
+  -- The result for a use is a rule that the use breaks, or the use breaks no rule.
+  pub use_judged : (u : uses.Use) (w : around.Enclosing)
+      → Judged (use_broken cenv namespace u w) (λ rule. UseBreaks cenv namespace rule (rules_use u) (within_view w))
+  use_judged (uses.reads x) w = read_judged x (within_view w)
+  use_judged (uses.binds x) w =
+      as_defined (used cenv namespace x) (binds x) (within_view w) (name_judged x (is_macro cenv namespace x))
+  use_judged (uses.reads_loop_field k) w =
+      as_defined (field_broken k w) (reads_loop_field k) (within_view w) (field_judged k (within_view w))
+  use_judged (uses.calls f ts ps) w =
+      as_defined (use_broken cenv namespace (uses.calls f ts ps) w) (calls f ts ps) (within_view w)
+      (callee_judged f (within_view w) ts ps)
+  use_judged (uses.filters x ts ps) w =
+      as_defined (use_broken cenv namespace (uses.filters x ts ps) w) (filters x ts ps) (within_view w)
+      (filter_judged x ts ps (within_view w))
+  use_judged (uses.tests x ts ps) w =
+      as_defined (test_broken (test_named x) ts ps) (tests x ts ps) (within_view w)
+      (test_judged x ts ps (within_view w))
+  use_judged (uses.declares_macro x ps body) w =
+      as_defined (macro_broken x ps) (declares x ps) (within_view w) (macro_judged x ps)
+  use_judged (uses.binds_library n x) w = imported x (within_view w)
+  use_judged (uses.binds_macro n m x) w = imported x (within_view w)
+  use_judged (uses.declares_block x scoped required body) w = λ rule h. h
+  use_judged (uses.includes n ignore_missing with_context) w = λ rule h. h
+  use_judged (uses.imports n) w = λ rule h. h
+  use_judged (uses.extends n) w = λ rule h. h

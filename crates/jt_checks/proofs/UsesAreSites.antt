@@ -18,7 +18,7 @@ use Rattle.jt_rules.specs.UseSites.{parameter_names}
 use Rattle.jt_uses.specs.Uses as uses
 use Rattle.jt_uses.specs.Uses.{Use, Site, place_at, expr_uses, row_uses, pair_uses, stmt_uses, body_uses, branch_uses}
 use Rattle.jt_uses.specs.Uses.{filter_call_uses, bound, keys_bound, parameters_bound, macros_bound, condition_uses}
-use Rattle.jt_uses.specs.Uses.{inside_loop, inside_block, inside_macro, inside_callee, escaped}
+use Rattle.jt_uses.specs.Uses.{inside_scope, inside_loop, inside_block, inside_macro, inside_callee}
 use Rattle.jt_uses.specs.declared.site.Place.{Place}
 use Rattle.jt_uses.specs.declared.site.Enclosing.{Enclosing}
 use Rattle.jt_checks.specs.Findings.{rules_use, within_view}
@@ -68,24 +68,8 @@ loop_same : (a : Expr) → uses.is_loop a ≡ chain.is_loop a
 loop_same a = search rules
 
 called_same : (a : Expr) → uses.is_called_by_name a ≡ sites.is_called_by_name a
-called_same (attribute a k) = field_called a k
-  where
-    field_called : (a : Expr) (k : Text) → uses.is_called_by_name (attribute a k) ≡ sites.is_called_by_name
-        (attribute a k)
-    field_called a k = search rules
-called_same (name x) = refl
-called_same (constant l) = refl
-called_same (group a) = refl
-called_same (list_of ts) = refl
-called_same (map_of ps) = refl
-called_same (item a b) = refl
-called_same (call f ts ps) = refl
-called_same (filter a x ts ps) = refl
-called_same (test a n x ts ps) = refl
-called_same (unary o a) = refl
-called_same (binary o a b) = refl
-called_same (when c a) = refl
-called_same (choice c a b) = refl
+called_same (attribute a k) = search rules
+called_same a0 = search rules
 
 bound_same : (xs : List Text) (p : Place) → Same (bound xs p) (sites.bound xs (within_view p.around))
 bound_same [] p = none
@@ -166,7 +150,7 @@ mutual
   stmt_same (for_each line xs e c body other) w =
       let p = place_at line w in
       let turns = body_use_sites body (within_view (inside_loop w)) ++ body_use_sites other (within_view w) in
-      also (both (both (expr_same e p) (both (bound_same xs p) (condition_same c p)))
+      also (both (both (expr_same e p) (both (bound_same xs (place_at line (inside_scope w))) (condition_same c p)))
       (both (body_same body (inside_loop w)) (body_same other w)))
       (append_assoc (expr_use_sites e (within_view w)) (sites.bound xs (within_view w) ++ sites.condition_use_sites c
       (within_view w)) turns
@@ -174,15 +158,16 @@ mutual
       (sites.condition_use_sites c (within_view w)) turns))
   stmt_same (set line xs e) w = both (expr_same e (place_at line w)) (bound_same xs (place_at line w))
   stmt_same (set_block line x body) w = both (one (place_at line w) (uses.binds x) (sites.binds x) refl)
-      (body_same body w)
+      (body_same body (inside_scope w))
   stmt_same (with_values line ps body) w = both (pair_same ps (place_at line w))
-      (both (keys_same ps (place_at line w)) (body_same body w))
-  stmt_same (filter_block line fs body) w = both (filter_calls_same fs (place_at line w)) (body_same body w)
-  stmt_same (autoescape line on body) w = body_same body (escaped on w)
+      (both (keys_same ps (place_at line (inside_scope w))) (body_same body (inside_scope w)))
+  stmt_same (filter_block line fs body) w =
+      both (filter_calls_same fs (place_at line w)) (body_same body (inside_scope w))
+  stmt_same (autoescape line on body) w = record { is = (body_same body (inside_scope w)).is }
   stmt_same (macro line x ps body) w =
       let p = place_at line w in
       also (both (one p (uses.declares_macro x ps body) (sites.declares x ps) refl)
-      (both (parameters_same ps p) (body_same body (inside_macro w))))
+      (both (parameters_same ps (place_at line (inside_scope w))) (body_same body (inside_macro w))))
       (sym (append_assoc (sites.at (within_view w) (sites.declares x ps))
       (sites.bound (parameter_names ps) (within_view w)) (body_use_sites body sites.outside)))
   stmt_same (include line n ignore_missing with_context) w = record { is = refl }

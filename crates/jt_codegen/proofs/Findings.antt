@@ -24,9 +24,11 @@ use Rattle.jt_rules.specs.declared.error.ScopeError.TheVariants as scope_error
 use Rattle.jt_uses.specs.Uses.{Site, body_uses, outside}
 use Rattle.jt_value.specs.declared.fault.NoMemory.{NoMemory}
 use Rattle.jt_codegen.specs.Compiled.{IsOnlyChain}
-use Rattle.jt_codegen.specs.Explaining.{IsBroken, IsExplained, IsFinding, IsOfChain, IsPlaceOf, rule_at}
+use Rattle.jt_codegen.specs.Explaining.{IsBroken, IsExplained, IsFinding, IsOfChain, IsOfSource, IsPlaceOf}
+use Rattle.jt_codegen.specs.Explaining.{IsRuleOf}
 use Rattle.jt_codegen.specs.Refusals.{Breaks, of_emit, of_scope}
 use Rattle.jt_codegen.specs.internal.Asked.{IsChainOf, IsOfImage}
+use Rattle.jt_codegen.specs.internal.NamedLimits.{limit_subject}
 use Rattle.jt_codegen.proofs.ChainImages.{only_chain}
 use Rattle.jt_codegen.specs.declared.emission.EmitError.{EmitError}
 use Rattle.jt_codegen.specs.declared.emission.EmitError.TheVariants as emit_error
@@ -35,8 +37,6 @@ use Rattle.jt_codegen.specs.declared.error.CompileError.TheVariants as error
 use Rattle.jt_codegen.specs.declared.finding.Explained.{Explained}
 use Rattle.jt_codegen.specs.declared.finding.Explained.TheVariants as explained
 use Rattle.jt_codegen.specs.declared.finding.Finding.{Finding}
-use Rattle.jt_codegen.specs.declared.finding.TagPlace.{TagPlace}
-use Rattle.jt_codegen.specs.declared.finding.Subject.{Subject}
 
 -- The chain that is read is that of the entry.
 pub chain_asked : (given : SourceTexts) (entry : Text) (options : Options) (c : Seen) → IsChain given entry options c
@@ -105,22 +105,30 @@ same_finding rule t u line a b e f =
 pub rule_found : (given : SourceTexts) (entry : Text) (options : Options) (c : Seen)
     → IsOnlyChain given entry options c → (found : findings.Finding) → rules.Breaks found.rule (cenv_of c) c.order
     → findings.Holds found (cenv_of c) c.order → (f : Finding) → IsBroken found f → IsFinding given entry options f
-rule_found given entry options c is found broken holds f (place, subject, e, same) =
-    subst (IsFinding given entry options) (sym e) (record {
+rule_found given entry options c is found broken holds f b =
+    subst (IsFinding given entry options) (sym b.states) (record {
       some = λ q. cc;
       broken =
           record { chain = c; is = is; fault = memory_not (cenv_of c) c.order found holds; broken = broken };
-      placed = record {
+      placed = subst (IsRuleOf given entry options found.rule b.place) (sym b.subject_is) (record {
         chain = c;
         is = is;
-        holds = subst (λ z. findings.Holds z (cenv_of c) c.order) (sym same) holds;
-      };
+        holds = subst (λ z. findings.Holds z (cenv_of c) c.order) (sym b.is) holds;
+      });
     })
+
+-- The finding of a source is one of a chain.
+pub source_of_chain : {E : Type 0} (given : SourceTexts) (entry : Text) (options : Options) (e : ChainError)
+    → e ≢ chain_error.NoMemory → (r : Result Finding E) → IfOk r (IsOfSource given options e)
+    → IfOk r (IsOfChain given entry options e)
+source_of_chain given entry options e some (Ok f) h =
+    record { some = some; states = h.states; placed = inl h.placed }
+source_of_chain given entry options e some (Err x) h = tt
 
 -- The finding of an error of a chain.
 pub chain_found : (given : SourceTexts) (entry : Text) (options : Options) (e : ChainError)
     → inherit.Breaks e given entry options → ((c : Seen) → IsChain given entry options c → e ≡ chain_error.NoMemory)
-    → (f : Finding) → IsOfChain given options e f → IsFinding given entry options f
+    → (f : Finding) → IsOfChain given entry options e f → IsFinding given entry options f
 chain_found given entry options e broken none f of = record {
   some = λ q. let is = of.states in cc;
   broken =
@@ -131,19 +139,19 @@ chain_found given entry options e broken none f of = record {
 -- The finding of an image that would pass a limit.
 image_found : (given : SourceTexts) (entry : Text) (options : Options) (e : CompileError) → e ≢ error.NoMemory
     → Breaks given entry options e → IsOfImage e
-    → IsFinding given entry options (record { error = e; place = None; subject = None })
+    → IsFinding given entry options (record { error = e; place = None; subject = limit_subject e })
 image_found given entry options (error.Chain e) some broken of = absurd of
 image_found given entry options (error.Scope e) some broken of = absurd of
 image_found given entry options error.CodeTooLong some broken of =
-    record { some = some; broken = broken; placed = (refl, refl) }
+    record { some = some; broken = broken; placed = (refl, tt) }
 image_found given entry options error.NoMemory some broken of = absurd (some refl)
 image_found given entry options error.StackTooDeep some broken of =
-    record { some = some; broken = broken; placed = (refl, refl) }
+    record { some = some; broken = broken; placed = (refl, broken) }
 
 pub image_explained : (given : SourceTexts) (entry : Text) (options : Options) (e : CompileError)
     → Breaks given entry options e → IsOfImage e → (r : Result Explained NoMemory)
     → IfOk r (λ x. (e ≢ error.NoMemory)
-    × (x ≡ explained.Refused (record { error = e; place = None; subject = None })))
+    × (x ≡ explained.Refused (record { error = e; place = None; subject = limit_subject e })))
     → IfOk r (IsExplained given entry options)
 image_explained given entry options e broken of (Ok x) h =
     subst (IsExplained given entry options) (sym h.1) (image_found given entry options e h.0 broken of)

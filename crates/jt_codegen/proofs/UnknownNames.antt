@@ -1,22 +1,21 @@
 -- The unknown name that is found stands in a use at the line.
-use Rattle.std.proofs.Common.{◌≡◌, ℕ, suc, Bool, true, false, List, [], ◌∷◌, Option, Some, None, refl, sym, ap, ◌∙◌}
-use Rattle.std.proofs.Common.{◌<◌, ◌≤◌, length, ⊎_elim, subst, inl, inr}
-use Rattle.std.proofs.lemmas.Bool.{cases_lt}
+use Rattle.std.proofs.Common.{◌≡◌, ℕ, suc, Bool, true, false, List, [], ◌∷◌, Option, Some, None, refl, sym, ap}
+use Rattle.std.proofs.Common.{subst, inl, inr}
 use Rattle.std.specs.Prelude.{◌==◌, ◌⊎◌, if◌then◌else◌}
 use Rattle.std.specs.Option.{option_or}
 use Rattle.std.proofs.lemmas.Bool.{eqb-true}
-use Rattle.std.specs.Prelude.{map, chars}
+use Rattle.std.specs.Prelude.{chars}
 use Rattle.jt_scan.specs.Cut.{IsCut}
 use Rattle.jt_scan.specs.LineEnds.{normalized}
-use Rattle.jt_scan.specs.SourceView.{Held, max_source_len}
-use Rattle.jt_scan.specs.View.{cut_of, segment_view, HaveOptions}
+use Rattle.jt_scan.specs.SourceView.{Held}
+use Rattle.jt_scan.specs.View.{cut_of, HaveOptions}
 use Rattle.jt_scan.specs.declared.options.Options.{Options}
 use Rattle.jt_scan.specs.declared.segment.Segment.{Segment}
 use Rattle.jt_ast.specs.Statements.{Body}
 use Rattle.jt_ast.specs.StatementView.{body_of}
 use Rattle.jt_ast.specs.declared.statement.Template.{Template}
 use Rattle.jt_parse.specs.Grammar.{Spelled}
-use Rattle.jt_parse.specs.Kept.{Read, pieces}
+use Rattle.jt_parse.specs.Kept.{pieces}
 use Rattle.jt_parse.specs.View.{reads_of}
 use Rattle.jt_ids.specs.FilterTable.{named_at}
 use Rattle.jt_ids.specs.declared.filter_id.FilterId.{FilterId}
@@ -26,11 +25,10 @@ use Rattle.jt_ast.specs.Written.{literal_text, filter_written}
 use Rattle.jt_expr.specs.Named.{unknown_filter, unknown_test, argument_unknown}
 use Rattle.jt_expr.specs.declared.named.Named.{Named}
 use Rattle.jt_inherit.proofs.SourceErrors.{read_cut}
-use Rattle.jt_rules.specs.Rules.{ForSome}
 use Rattle.jt_uses.specs.Uses as uses
 use Rattle.jt_uses.specs.Uses.{Site, body_uses, outside}
 use Rattle.jt_codegen.specs.Unknown.{HasUses, NamedIn, NamesUnknown, StandsAt}
-use Rattle.jt_codegen.specs.internal.UnknownNames.{argument_name, unknown_argument, unknown_among, unknown_in_filter}
+use Rattle.jt_codegen.specs.internal.UnknownNames.{argument_name, unknown_argument, unknown_among}
 use Rattle.jt_codegen.specs.internal.UnknownNames.{unknown_in, unknown_here, unknown_at}
 
 -- A first result, or one among the others.

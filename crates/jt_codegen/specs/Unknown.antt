@@ -1,5 +1,5 @@
 -- The names of unknown filters and tests in the source of a template.
-use Rattle.std.specs.Prelude.{◌≡◌, ◌⊎◌, ℕ, suc, true, List, map, Option, Some}
+use Rattle.std.specs.Prelude.{◌≡◌, ◌⊎◌, ℕ, suc, true, List, map, Some}
 use Rattle.jt_scan.specs.Cut.{Segment, IsCut}
 use Rattle.jt_scan.specs.declared.options.Options.{Options}
 use Rattle.jt_ids.specs.FilterTable.{named_at}

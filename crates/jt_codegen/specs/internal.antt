@@ -1,4 +1,5 @@
 pub mod Asked
+pub mod NamedLimits
 pub mod Naming
 pub mod Statements
 pub mod UnknownNames

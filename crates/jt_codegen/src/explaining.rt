@@ -1,14 +1,16 @@
 //! Explains why an entry does not compile.
 
 ghost use Rattle.std.specs.Prelude.{◌≡◌, ◌≢◌, None, IfOk};
-ghost use Rattle.jt_codegen.specs.Explaining.{IsExplained, IsOfChain, IsUnknown};
+ghost use Rattle.jt_codegen.specs.Explaining.{IsExplained, IsOfChain, IsOfSource, IsUnknown};
+ghost use Rattle.jt_codegen.specs.internal.NamedLimits.{limit_subject};
+ghost use Rattle.jt_inherit.specs.Findings.{Says};
 
 use crate::compiling::compile_chain;
 use crate::error::CompileError;
-use crate::finding::{Explained, Finding, Subject, TagPlace};
+use crate::finding::{Explained, Finding, Limit, Subject};
 use crate::unknown::find_unknown;
 use jt_expr::Named;
-use jt_inherit::{ChainError, Library, chain};
+use jt_inherit::{ChainError, ChainFinding, Library, TagPlace, chain_or_finding};
 use jt_parse::ParseError;
 use jt_scan::Options;
 use jt_scopes::find_broken;
@@ -29,10 +31,10 @@ pub fn explain<L: Library>(
 ) -> Result<Explained, NoMemory>
     ensures { IfOk result (IsExplained (L.sources library.now) entry.now options) }
 {
-    let chain = match chain(alloc, entry, library, options) {
+    let chain = match chain_or_finding(alloc, entry, library, options) {
         Ok(chain) => chain,
-        Err(error) => {
-            let found = chain_finding(alloc, library, options, error)?;
+        Err(found) => {
+            let found = chain_finding(alloc, entry, library, options, found)?;
             return Ok(Explained::Refused(found));
         }
     };
@@ -45,37 +47,84 @@ pub fn explain<L: Library>(
     }
 }
 
+/// Returns the limit that an error names, if the error names one alone.
+fn limit_subject(error: &CompileError) -> Option<Subject>
+    ensures { result ≡ limit_subject error.now }
+{
+    match error {
+        CompileError::StackTooDeep => Some(Subject::Limit(Limit::Entries)),
+        _ => None,
+    }
+}
+
 /// Returns what an error states of the image of a chain that keeps the rules.
 ///
 /// # Errors
 ///
 /// `NoMemory` if that is the error.
 fn image_finding(error: CompileError) -> Result<Explained, NoMemory>
-    ensures { IfOk result (λ x. (error ≢ CompileError.NoMemory)
-        × (x ≡ Explained.Refused (record { error = error; place = None; subject = None }))) }
+    ensures { IfOk result (λ x. (error ≢ CompileError.NoMemory) × (x ≡ Explained.Refused
+        (record { error = error; place = None; subject = limit_subject error }))) }
 {
+    let subject = limit_subject(&error);
     match error {
         CompileError::NoMemory => Err(NoMemory),
-        other => Ok(Explained::Refused(Finding::without_place(other))),
+        other => Ok(Explained::Refused(Finding {
+            error: other,
+            place: None,
+            subject,
+        })),
     }
 }
 
-/// Returns the finding of an error of the entry's chain.
+/// Returns the finding of a rule of chains that is broken.
 ///
 /// # Errors
 ///
 /// `NoMemory` if that is the error, or if a growth is refused.
 fn chain_finding<L: Library>(
     alloc: Global,
+    entry: &str,
+    library: &L,
+    options: Options,
+    found: ChainFinding,
+) -> Result<Finding, NoMemory>
+    requires { Says (L.sources library.now) entry.now options found.place found.subject
+        found.error }
+    ensures { IfOk result (IsOfChain (L.sources library.now) entry.now options found.error) }
+{
+    let ChainFinding {
+        error,
+        place,
+        subject,
+    } = found;
+    if error == ChainError::NoMemory {
+        return Err(NoMemory);
+    }
+    match subject {
+        Some(subject) => Ok(Finding {
+            error: CompileError::Chain(error),
+            place,
+            subject: Some(Subject::Chain(subject)),
+        }),
+        None => source_finding(alloc, library, options, error),
+    }
+}
+
+/// Returns the finding of an error of a chain that has no subject of its own: that of a source that
+/// spells no tree has its place.
+///
+/// # Errors
+///
+/// `NoMemory` if a growth is refused.
+fn source_finding<L: Library>(
+    alloc: Global,
     library: &L,
     options: Options,
     error: ChainError,
 ) -> Result<Finding, NoMemory>
-    ensures { IfOk result (IsOfChain (L.sources library.now) options error) }
+    ensures { IfOk result (IsOfSource (L.sources library.now) options error) }
 {
-    if error == ChainError::NoMemory {
-        return Err(NoMemory);
-    }
     let subject = unknown_name(alloc, library, options, &error)?;
     let place = match error.place() {
         Some((template, line)) => Some(TagPlace {

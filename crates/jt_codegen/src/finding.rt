@@ -1,10 +1,12 @@
 //! Defines what an explanation says: the error, and where and in what the templates break a rule.
 
-ghost use Rattle.std.specs.Prelude.{◌≡◌, IfOk};
+ghost use Rattle.std.specs.Prelude.{◌≡◌, IfOk, Some};
 ghost use Rattle.jt_checks.specs.FindingView as view;
 ghost use Rattle.jt_codegen.specs.Explaining.{IsBroken, subject_view};
+ghost use Rattle.jt_codegen.specs.Passed.{most_of};
 
 use crate::error::CompileError;
+use jt_inherit::{ChainSubject, TagPlace};
 use jt_scopes as scopes;
 use std::alloc::{AllocError, Global};
 
@@ -31,18 +33,49 @@ pub enum Subject {
     Bindings,
     /// The number of names that the chains read or bind.
     Names,
+    /// What a rule of chains is about.
+    Chain(ChainSubject),
+    /// A limit that the image would pass.
+    Limit(Limit),
 }
 
-/// A tag: the name of its template, and its line, counted from 1.
-#[derive(Debug, Drop, PartialEq, Eq)]
-pub struct TagPlace {
-    pub template: String,
-    pub line: u32,
+/// A limit of an image.
+#[derive(Clone, Copy, Debug, PartialEq, Eq)]
+pub enum Limit {
+    /// The number of constants.
+    Constants,
+    /// The number of units. Each chain, block body and macro has one.
+    Units,
+    /// The number of instructions.
+    Instructions,
+    /// The number of templates that places refer to.
+    Templates,
+    /// The number of bytes of a name.
+    NameBytes,
+    /// The number of bytes of the image.
+    Bytes,
+    /// The number of stack entries of a unit.
+    Entries,
+}
+
+impl Limit {
+    /// Returns the greatest number that the limit allows.
+    pub fn most(self) -> u32
+        ensures { result ≡ most_of self }
+    {
+        match self {
+            Limit::Constants | Limit::Units | Limit::Templates | Limit::NameBytes => 65_535,
+            Limit::Instructions => 262_144,
+            Limit::Bytes => 16_777_216,
+            Limit::Entries => 1_024,
+        }
+    }
 }
 
 /// An error of `compile` with the place of the tag and what the error is about, where they are
 /// known. They are known for each rule of names and calls, and for unknown filters and tests. The
-/// place alone is known for a source that cannot be read.
+/// place alone is known for a source that cannot be read. For a rule of chains they are what
+/// `chain_or_finding` returns.
 #[derive(Debug, Drop, PartialEq, Eq)]
 pub struct Finding {
     pub error: CompileError,
@@ -90,7 +123,7 @@ impl Finding {
 
 /// Returns a copy of a subject that owns its names.
 fn owned(alloc: Global, subject: scopes::Subject<'_>) -> Result<Subject, AllocError>
-    ensures { IfOk result (λ s. subject_view s ≡ view.subject_view subject.entry) }
+    ensures { IfOk result (λ s. subject_view s ≡ Some (view.subject_view subject.entry)) }
 {
     match subject {
         scopes::Subject::Name(name) => Ok(Subject::Name(String::from_str(alloc, name)?)),

@@ -16,56 +16,39 @@ use Rattle.jt_escape.specs.Joining.{has_markup, or_unprintable}
 use Rattle.jt_op_semantics.specs.Testing.{is_markup}
 use Rattle.jt_filter_semantics.specs.Listing.{joined_by}
 use Rattle.jt_filters.specs.internal.JoinedTexts.{led_text, Leaves, MakesText}
-use Rattle.jt_filters.proofs.JoinLengths.{same_markup, piece_is, no_piece}
+use Rattle.jt_filters.proofs.JoinLengths.{same_markup, no_piece}
 
 -- One more item, after the separator.
-next_by : (escaping : Bool) (d : Tree) (ts : Items) (o p : Option (List ℕ)) (into one two : List ℕ)
-    → option_map (λ s. into ++ s) o ≡ Some one → option_map (λ s. one ++ s) p ≡ Some two
-    → led_text escaping two d ts
-    ≡ option_and_then (λ between. option_and_then (λ s. led_text escaping ((into ++ between) ++ s) d ts) p) o
-next_by escaping d ts None p into one two e f = cc
-next_by escaping d ts (Some b) None into one two e f = cc
-next_by escaping d ts (Some b) (Some s) into one two e f =
-    let x : into ++ b ≡ one = cc in
+next_by : (escaping : Bool) (ts : Items) (p : Option (List ℕ)) (into d one two : List ℕ) → one ≡ into ++ d
+    → option_map (λ s. one ++ s) p ≡ Some two
+    → led_text escaping two d ts ≡ option_and_then (λ s. led_text escaping ((into ++ d) ++ s) d ts) p
+next_by escaping ts None into d one two e f = cc
+next_by escaping ts (Some s) into d one two e f =
     let y : one ++ s ≡ two = cc in
-    ap (λ (h : List ℕ). led_text escaping h d ts) (sym y ∙ ap (λ (h : List ℕ). h ++ s) (sym x))
+    ap (λ (h : List ℕ). led_text escaping h d ts) (sym y ∙ ap (λ (h : List ℕ). h ++ s) e)
 
-pub led_next : (escaping : Bool) (d t : Tree) (all ts : Items) (into one two : List ℕ) → all ≡ item t ts
-    → option_map (λ s. into ++ s) (piece escaping d) ≡ Some one
-    → option_map (λ s. one ++ s) (piece escaping t) ≡ Some two
+pub led_next : (escaping : Bool) (t : Tree) (all ts : Items) (into d one two : List ℕ) → all ≡ item t ts
+    → one ≡ into ++ d → option_map (λ s. one ++ s) (piece escaping t) ≡ Some two
     → led_text escaping two d ts ≡ led_text escaping into d all
-led_next escaping d t all ts into one two is e f =
-    next_by escaping d ts (piece escaping d) (piece escaping t) into one two e f
-    ∙ ap (led_text escaping into d) (sym is)
+led_next escaping t all ts into d one two is e f =
+    next_by escaping ts (piece escaping t) into d one two e f ∙ ap (led_text escaping into d) (sym is)
 
-no_separator_by : (escaping : Bool) (d : Tree) (ts : Items) (o p : Option (List ℕ)) (into : List ℕ)
-    → option_map (λ s. into ++ s) o ≡ None
-    → option_and_then (λ between. option_and_then (λ s. led_text escaping ((into ++ between) ++ s) d ts) p) o ≡ None
-no_separator_by escaping d ts None p into e = refl
-no_separator_by escaping d ts (Some b) p into e = cc
-
-pub led_no_separator : (escaping : Bool) (d t : Tree) (all ts : Items) (into : List ℕ) → all ≡ item t ts
-    → option_map (λ s. into ++ s) (piece escaping d) ≡ None → led_text escaping into d all ≡ None
-led_no_separator escaping d t all ts into is e =
-    ap (led_text escaping into d) is ∙ no_separator_by escaping d ts (piece escaping d) (piece escaping t) into e
-
-no_item_by : (escaping : Bool) (d : Tree) (ts : Items) (o p : Option (List ℕ)) (into one : List ℕ)
+no_item_by : (escaping : Bool) (ts : Items) (p : Option (List ℕ)) (into d one : List ℕ)
     → option_map (λ s. one ++ s) p ≡ None
-    → option_and_then (λ between. option_and_then (λ s. led_text escaping ((into ++ between) ++ s) d ts) p) o ≡ None
-no_item_by escaping d ts None p into one e = refl
-no_item_by escaping d ts (Some b) None into one e = refl
-no_item_by escaping d ts (Some b) (Some s) into one e = cc
+    → option_and_then (λ s. led_text escaping ((into ++ d) ++ s) d ts) p ≡ None
+no_item_by escaping ts None into d one e = refl
+no_item_by escaping ts (Some s) into d one e = cc
 
-pub led_no_item : (escaping : Bool) (d t : Tree) (all ts : Items) (into one : List ℕ) → all ≡ item t ts
+pub led_no_item : (escaping : Bool) (t : Tree) (all ts : Items) (into d one : List ℕ) → all ≡ item t ts
     → option_map (λ s. one ++ s) (piece escaping t) ≡ None → led_text escaping into d all ≡ None
-led_no_item escaping d t all ts into one is e =
-    ap (led_text escaping into d) is ∙ no_item_by escaping d ts (piece escaping d) (piece escaping t) into one e
+led_no_item escaping t all ts into d one is e =
+    ap (led_text escaping into d) is ∙ no_item_by escaping ts (piece escaping t) into d one e
 
-pub led_end : (escaping : Bool) (d : Tree) (all : Items) (into : List ℕ) → all ≡ no_items
+pub led_end : (escaping : Bool) (all : Items) (into d : List ℕ) → all ≡ no_items
     → led_text escaping into d all ≡ Some into
-led_end escaping d all into is = ap (led_text escaping into d) is
+led_end escaping all into d is = ap (led_text escaping into d) is
 
-pub ruleset led_texts = (led_next, led_no_separator, led_no_item, led_end)
+pub ruleset led_texts = (led_next, led_no_item, led_end)
 
 -- The pieces behind a text, if the separator has a piece.
 behind_more : (head between s : List ℕ) (r : Option (List (List ℕ)))
@@ -77,25 +60,22 @@ behind_more head between s (Some ps) =
     ap Some (ap (λ (h : List ℕ). h ++ flat_map (λ q. between ++ q) ps) (append_assoc head between s)
     ∙ append_assoc head (between ++ s) (flat_map (λ q. between ++ q) ps))
 
-led_by : (escaping : Bool) (head between : List ℕ) (d : Tree) (ts : Items) (o p : Option (List ℕ)) → o ≡ Some between
-    → ((h : List ℕ) → led_text escaping h d ts
+led_by : (escaping : Bool) (head between : List ℕ) (ts : Items) (p : Option (List ℕ))
+    → ((h : List ℕ) → led_text escaping h between ts
     ≡ option_map (λ (ps : List (List ℕ)). h ++ flat_map (λ q. between ++ q) ps) (pieces escaping ts))
-    → option_and_then (λ b. option_and_then (λ s. led_text escaping ((head ++ b) ++ s) d ts) p) o
+    → option_and_then (λ s. led_text escaping ((head ++ between) ++ s) between ts) p
     ≡ option_map (λ (ps : List (List ℕ)). head ++ flat_map (λ q. between ++ q) ps)
     (option_and_then (λ (first : List ℕ). option_map (λ (rest : List (List ℕ)). first ∷ rest) (pieces escaping ts)) p)
-led_by escaping head between d ts o None is again =
-    ap (λ (x : Option (List ℕ)). option_and_then (λ b. None) x) is
-led_by escaping head between d ts o (Some s) is again =
-    ap (λ (x : Option (List ℕ)). option_and_then (λ b. led_text escaping ((head ++ b) ++ s) d ts) x) is
-    ∙ again ((head ++ between) ++ s)
-    ∙ behind_more head between s (pieces escaping ts)
+led_by escaping head between ts None again = refl
+led_by escaping head between ts (Some s) again =
+    again ((head ++ between) ++ s) ∙ behind_more head between s (pieces escaping ts)
 
-led_is : (escaping : Bool) (head between : List ℕ) (d : Tree) (ts : Items) → piece escaping d ≡ Some between
-    → led_text escaping head d ts
+led_is : (escaping : Bool) (head between : List ℕ) (ts : Items)
+    → led_text escaping head between ts
     ≡ option_map (λ (ps : List (List ℕ)). head ++ flat_map (λ q. between ++ q) ps) (pieces escaping ts)
-led_is escaping head between d no_items is = ap Some (sym (append-nil head))
-led_is escaping head between d (item t ts) is =
-    led_by escaping head between d ts (piece escaping d) (piece escaping t) is (λ h. led_is escaping h between d ts is)
+led_is escaping head between no_items = ap Some (sym (append-nil head))
+led_is escaping head between (item t ts) =
+    led_by escaping head between ts (piece escaping t) (λ h. led_is escaping h between ts)
 
 joins_first : (p d : List ℕ) (r : Option (List (List ℕ)))
     → option_map (λ (ps : List (List ℕ)). p ++ flat_map (λ q. d ++ q) ps) r
@@ -110,11 +90,6 @@ first_by (Some s) one e = e
 none_by : (p : Option (List ℕ)) (start : List ℕ) → option_map (λ (s : List ℕ). start ++ s) p ≡ None → p ≡ None
 none_by None start e = refl
 none_by (Some s) start e = cc
-
--- The separator has a piece if it has a printed text.
-separator_piece : (escaping : Bool) (d : Tree) (s : List ℕ) → printed d ≡ Some s
-    → (between : List ℕ) × (piece escaping d ≡ Some between)
-separator_piece escaping d s e = (_, piece_is escaping d s e)
 
 whole_by : (escaping : Bool) (d : Tree) (ts : Items) (o p : Option (List ℕ)) (between one : List ℕ) → o ≡ Some between
     → p ≡ Some one
@@ -132,24 +107,23 @@ whole_by escaping d ts o p between one is first =
     (sym is)
 
 -- The text of all items, once the first one is appended.
-pub joined_all : (escaping : Bool) (d t : Tree) (all ts : Items) (s start one : List ℕ) → all ≡ item t ts
-    → printed d ≡ Some s → start ≡ []
+pub joined_all : (escaping : Bool) (d t : Tree) (all ts : Items) (between start one : List ℕ) → all ≡ item t ts
+    → piece escaping d ≡ Some between → start ≡ []
     → option_map (λ (p : List ℕ). start ++ p) (piece escaping t) ≡ Some one
-    → joined_text escaping all d ≡ led_text escaping one d ts
-joined_all escaping d t all ts s start one is e empty f =
-    let between = separator_piece escaping d s e in
-    sym (led_is escaping one between.0 d ts between.1
-    ∙ whole_by escaping d ts (piece escaping d) (piece escaping t) between.0 one between.1
+    → joined_text escaping all d ≡ led_text escaping one between ts
+joined_all escaping d t all ts between start one is e empty f =
+    sym (led_is escaping one between ts
+    ∙ whole_by escaping d ts (piece escaping d) (piece escaping t) between one e
     (first_by (piece escaping t) one
     (ap (λ (h : List ℕ). option_map (λ (p : List ℕ). h ++ p) (piece escaping t)) (sym empty) ∙ f))
     ∙ ap (λ (us : Items). joined_text escaping us d) (sym is))
 
-pub joined_led : (escaping : Bool) (d t : Tree) (all ts : Items) (s start one two : List ℕ) → all ≡ item t ts
-    → printed d ≡ Some s → start ≡ []
-    → option_map (λ (p : List ℕ). start ++ p) (piece escaping t) ≡ Some one → led_text escaping one d ts ≡ Some two
-    → joined_text escaping all d ≡ Some two
-joined_led escaping d t all ts s start one two is e empty f led =
-    joined_all escaping d t all ts s start one is e empty f ∙ led
+pub joined_led : (escaping : Bool) (d t : Tree) (all ts : Items) (between start one two : List ℕ) → all ≡ item t ts
+    → piece escaping d ≡ Some between → start ≡ []
+    → option_map (λ (p : List ℕ). start ++ p) (piece escaping t) ≡ Some one
+    → led_text escaping one between ts ≡ Some two → joined_text escaping all d ≡ Some two
+joined_led escaping d t all ts between start one two is e empty f led =
+    joined_all escaping d t all ts between start one is e empty f ∙ led
 
 -- A join that fails behind its first item fails alike.
 pub fails_as : (r : Result (String Global) ValueError) (e : ValueError) (wanted led : Option (List ℕ)) (after : List ℕ)
@@ -176,12 +150,11 @@ joined_no_first escaping d t all ts start is e =
     ap (λ (us : Items). joined_text escaping us d) is
     ∙ no_first_by escaping ts (piece escaping d) (piece escaping t) (none_by (piece escaping t) start e)
 
-pub joined_none : (escaping : Bool) (d : Tree) (all : Items) (s start : List ℕ) → all ≡ no_items
-    → printed d ≡ Some s → start ≡ [] → joined_text escaping all d ≡ Some start
-joined_none escaping d all s start is e empty =
-    let between = separator_piece escaping d s e in
+pub joined_none : (escaping : Bool) (d : Tree) (all : Items) (between start : List ℕ) → all ≡ no_items
+    → piece escaping d ≡ Some between → start ≡ [] → joined_text escaping all d ≡ Some start
+joined_none escaping d all between start is e empty =
     ap (λ (us : Items). joined_text escaping us d) is
-    ∙ ap (λ (o : Option (List ℕ)). option_and_then (λ (b : List ℕ). Some []) o) between.1
+    ∙ ap (λ (o : Option (List ℕ)). option_and_then (λ (b : List ℕ). Some []) o) e
     ∙ ap Some (sym empty)
 
 pub joined_no_separator : (escaping : Bool) (d : Tree) (all : Items) → printed d ≡ None

@@ -5,6 +5,7 @@ pub mod BuiltPayloads
 pub mod Characters
 pub mod FilterRows
 pub mod EndItems
+pub mod EscapedTexts
 pub mod Folds
 pub mod SortedInsertion
 pub mod JoinLengths
@@ -29,3 +30,4 @@ pub mod StableSortUnique
 pub mod TextTransforms
 pub mod SameCodes
 pub mod PairKeys
+pub mod PlainItems

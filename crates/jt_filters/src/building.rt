@@ -8,6 +8,7 @@ ghost use Rattle.jt_filters.specs.internal.Operands as operands;
 use crate::attributes::attribute;
 use crate::joining::join;
 use crate::listing::{dictsort, items, list, reverse};
+use crate::maker::Maker;
 use crate::operand::Operand;
 use crate::replacing::replace;
 use crate::scalars::{abs, best_item, first, int, last, length, or_default, sum};
@@ -16,12 +17,11 @@ use crate::texts::{capitalize, escape, force_escape, lower, safe, string, trim, 
 use crate::unique::unique;
 use jt_ids::FilterId;
 use jt_value::{Fault, Value, ValueError};
-use std::alloc::Global;
 
 /// Returns a filter's result, or its fault. Fails for lack of memory only if the result has a
 /// payload.
 pub(crate) fn build(
-    alloc: Global,
+    maker: Maker<'_>,
     filter: FilterId,
     operand: Operand<'_>,
     arguments: &[Value],
@@ -30,23 +30,23 @@ pub(crate) fn build(
     ensures { Builds (single filter autoescape (inputs operand.entry arguments.now)) result }
 {
     match arguments {
-        [] => build_one(alloc, filter, operand, autoescape),
-        [argument] => build_two(alloc, filter, operand, argument, autoescape),
-        [first, second] => build_three(alloc, filter, operand, first, second),
+        [] => build_one(maker, filter, operand, autoescape),
+        [argument] => build_two(maker, filter, operand, argument, autoescape),
+        [first, second] => build_three(maker, filter, operand, first, second),
         _ => Err(Fault::BadType.into()),
     }
 }
 
 /// Returns the value of an operand, or its fault.
-fn scalar(alloc: Global, given: Result<Operand<'_>, Fault>) -> Result<Value, ValueError>
+fn scalar(maker: Maker<'_>, given: Result<Operand<'_>, Fault>) -> Result<Value, ValueError>
     ensures { Builds (operands.chosen given.entry) result }
 {
-    Ok(given?.value(alloc)?)
+    Ok(given?.value(maker)?)
 }
 
 /// Returns a filter's result on its input alone.
 fn build_one(
-    alloc: Global,
+    maker: Maker<'_>,
     filter: FilterId,
     operand: Operand<'_>,
     autoescape: bool,
@@ -54,37 +54,37 @@ fn build_one(
     ensures { Builds (single filter autoescape (tree_of operand.entry ∷ [])) result }
 {
     match filter {
-        FilterId::Abs => scalar(alloc, abs(operand)),
-        FilterId::Capitalize => capitalize(alloc, operand),
-        FilterId::Default => scalar(alloc, Ok(or_default(operand, Operand::Text(""), false))),
-        FilterId::DictSort => dictsort(alloc, operand),
-        FilterId::Escape => escape(alloc, operand),
-        FilterId::First => scalar(alloc, first(operand)),
-        FilterId::ForceEscape => force_escape(alloc, operand),
-        FilterId::Int => scalar(alloc, int(operand, Operand::Number(0))),
-        FilterId::Items => items(alloc, operand),
-        FilterId::Join => join(alloc, operand, Operand::Text(""), autoescape),
-        FilterId::Last => scalar(alloc, last(operand)),
-        FilterId::Length => scalar(alloc, length(operand)),
-        FilterId::List => list(alloc, operand),
-        FilterId::Lower => lower(alloc, operand),
-        FilterId::Max => scalar(alloc, best_item(operand, true)),
-        FilterId::Min => scalar(alloc, best_item(operand, false)),
-        FilterId::Reverse => reverse(alloc, operand),
-        FilterId::Safe => safe(alloc, operand),
-        FilterId::Sort => sort(alloc, operand, false),
-        FilterId::String => string(alloc, operand),
-        FilterId::Sum => scalar(alloc, sum(operand)),
-        FilterId::Trim => trim(alloc, operand),
-        FilterId::Unique => unique(alloc, operand),
-        FilterId::Upper => upper(alloc, operand),
+        FilterId::Abs => scalar(maker, abs(operand)),
+        FilterId::Capitalize => capitalize(maker.alloc, operand),
+        FilterId::Default => scalar(maker, Ok(or_default(operand, Operand::Text(""), false))),
+        FilterId::DictSort => dictsort(maker.alloc, operand),
+        FilterId::Escape => escape(maker.alloc, operand),
+        FilterId::First => scalar(maker, first(operand)),
+        FilterId::ForceEscape => force_escape(maker.alloc, operand),
+        FilterId::Int => scalar(maker, int(operand, Operand::Number(0))),
+        FilterId::Items => items(maker.alloc, operand),
+        FilterId::Join => join(maker, operand, Operand::Text(""), autoescape),
+        FilterId::Last => scalar(maker, last(operand)),
+        FilterId::Length => scalar(maker, length(operand)),
+        FilterId::List => list(maker, operand),
+        FilterId::Lower => lower(maker.alloc, operand),
+        FilterId::Max => scalar(maker, best_item(operand, true)),
+        FilterId::Min => scalar(maker, best_item(operand, false)),
+        FilterId::Reverse => reverse(maker, operand),
+        FilterId::Safe => safe(maker.alloc, operand),
+        FilterId::Sort => sort(maker, operand, false),
+        FilterId::String => string(maker.alloc, operand),
+        FilterId::Sum => scalar(maker, sum(operand)),
+        FilterId::Trim => trim(maker.alloc, operand),
+        FilterId::Unique => unique(maker, operand),
+        FilterId::Upper => upper(maker.alloc, operand),
         _ => Err(Fault::BadType.into()),
     }
 }
 
 /// Returns a filter's result on its input and one argument.
 fn build_two(
-    alloc: Global,
+    maker: Maker<'_>,
     filter: FilterId,
     operand: Operand<'_>,
     argument: &Value,
@@ -94,21 +94,21 @@ fn build_two(
         result }
 {
     match filter {
-        FilterId::Attr => scalar(alloc, attribute(operand, argument)),
+        FilterId::Attr => scalar(maker, attribute(operand, argument)),
         FilterId::Default => scalar(
-            alloc,
+            maker,
             Ok(or_default(operand, Operand::Value(argument), false)),
         ),
-        FilterId::Int => scalar(alloc, int(operand, Operand::Value(argument))),
-        FilterId::Join => join(alloc, operand, Operand::Value(argument), autoescape),
-        FilterId::Sort => sort(alloc, operand, argument.truth()),
+        FilterId::Int => scalar(maker, int(operand, Operand::Value(argument))),
+        FilterId::Join => join(maker, operand, Operand::Value(argument), autoescape),
+        FilterId::Sort => sort(maker, operand, argument.truth()),
         _ => Err(Fault::BadType.into()),
     }
 }
 
 /// Returns a filter's result on its input and two arguments.
 fn build_three(
-    alloc: Global,
+    maker: Maker<'_>,
     filter: FilterId,
     operand: Operand<'_>,
     first: &Value,
@@ -120,10 +120,10 @@ fn build_three(
 {
     match filter {
         FilterId::Default => scalar(
-            alloc,
+            maker,
             Ok(or_default(operand, Operand::Value(first), second.truth())),
         ),
-        FilterId::Replace => replace(alloc, operand, first, second),
+        FilterId::Replace => replace(maker.alloc, operand, first, second),
         _ => Err(Fault::BadType.into()),
     }
 }

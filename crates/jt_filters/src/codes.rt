@@ -1,6 +1,9 @@
 //! Computes codes of items: bytes that distinguish items. Two items have the same code exactly if
 //! they are alike.
-ghost use Rattle.std.specs.Prelude.{◌≡◌, ◌∷◌, [], IfOk};
+ghost use Rattle.std.specs.Prelude.{◌≡◌, ◌∷◌, [], IfOk, OnOk};
+ghost use Rattle.std.specs.BTreeMap.{insert_entry};
+ghost use Rattle.std.specs.Cmp.Lexicographic.{slice_cmp};
+ghost use Rattle.std.specs.Ordering.{nat_cmp};
 ghost use Rattle.jt_value.specs.ListItems.{numbers_of};
 ghost use Rattle.jt_value.specs.Tree as tree;
 ghost use Rattle.jt_value.specs.View.{view, items_view, entries_view};
@@ -39,8 +42,17 @@ pub(crate) fn exact_code_of(alloc: Global, item: Operand<'_>) -> Result<Vec<u8>,
     ensures { IfOk result (λ v. v.items ≡ code (tree_of item.entry)) }
 {
     let mut bytes = Vec::new(alloc);
+    bytes.reserve(room_for(item))?;
     push_operand(alloc, &mut bytes, item)?;
     Ok(bytes)
+}
+
+/// Returns the number of bytes to reserve for the code of an item: all those of a text.
+fn room_for(item: Operand<'_>) -> usize {
+    match item.as_text() {
+        Some(text) => text.len().saturating_add(2),
+        None => ROOM,
+    }
 }
 
 /// Appends the code of a text's fold.
@@ -165,9 +177,23 @@ fn rows_of(alloc: Global, entries: &[(String, Value)]) -> Result<BTreeMap<&str, 
         let entry = &entries[left];
         let mut bytes = Vec::new(alloc);
         push_value(alloc, &mut bytes, &entry.1)?;
-        rows.insert(entry.0.as_str(), bytes)?;
+        put_row(&mut rows, entry.0.as_str(), bytes)?;
     }
     Ok(rows)
+}
+
+/// Sets the row of a key. The insertion is not in the frame of a nested map.
+#[inline(never)]
+fn put_row<'a>(
+    rows: &mut BTreeMap<&'a str, Vec<u8>>,
+    key: &'a str,
+    row: Vec<u8>,
+) -> Result<(), NoMemory>
+    ensures { OnOk result (rows_in rows.new.entries
+        ≡ insert_entry (slice_cmp nat_cmp) (rows_in rows.old.entries) key.now row.items) }
+{
+    rows.insert(key, row)?;
+    Ok(())
 }
 
 /// Appends the code of a map's rows.

@@ -11,6 +11,7 @@ ghost use Rattle.jt_filters.specs.internal.Rows.{gives, Gives};
 use crate::building::build;
 use crate::inner::ItemAction;
 use crate::item_list::{ItemList, items_of};
+use crate::maker::{Maker, letters_for, lists_items};
 use crate::mapping::{change_of, row_list_under};
 use crate::measuring::measure;
 use crate::operand::Operand;
@@ -73,9 +74,11 @@ fn applied(alloc: Global, application: Application<'_>, limits: Limits) -> Resul
     if !application.filter.may_be_inner() {
         return mapped_under(alloc, application, limits);
     }
+    let letters = letters_for(alloc, application.letter_count());
+    let maker = Maker::new(alloc, &letters);
     match (application.filter, application.arguments) {
-        (FilterId::Unique, []) => unique_under(alloc, application.operand, limits),
-        _ => measured_and_built(alloc, application, limits),
+        (FilterId::Unique, []) => unique_under(maker, application.operand, limits),
+        _ => measured_and_built(maker, application, limits),
     }
 }
 
@@ -98,21 +101,21 @@ fn mapped_under(
 /// Returns the result of an application, under limits. The result is measured before it is built.
 #[tactic(auto, using(crate::proofs::ApplyCorrect::refusals))]
 fn measured_and_built(
-    alloc: Global,
+    maker: Maker<'_>,
     application: Application<'_>,
     limits: Limits,
 ) -> Result<Value, OpError>
     requires { may_be_inner application.filter ≡ true }
     ensures { Answers result (limited_by limits (given application.entry)) }
 {
-    let (size, nesting) = match application.measure(alloc) {
+    let (size, nesting) = match application.measure(maker.alloc) {
         Ok(measure) => measure,
         Err(fault) => return Err(OpError::Fault(fault)),
     };
     if let Err(error) = allow(size, nesting, limits) {
         return Err(error);
     }
-    match application.value(alloc) {
+    match application.value(maker) {
         Ok(value) => Ok(value),
         Err(ValueError::Fault(fault)) => Err(OpError::Fault(fault)),
         Err(ValueError::NoMemory) => Err(OpError::NoMemory),
@@ -134,6 +137,14 @@ impl<'a> Application<'a> {
         Ok((items, change))
     }
 
+    /// Returns the number of characters that become items of the result.
+    fn letter_count(self) -> usize {
+        match self.operand.as_text() {
+            Some(text) if lists_items(self.filter) => text.len(),
+            _ => 0,
+        }
+    }
+
     /// Returns the measure of the result of a filter that works on its input as a whole.
     fn measure(self, alloc: Global) -> Result<(u64, u32), Fault>
         requires { may_be_inner self.filter ≡ true }
@@ -149,12 +160,12 @@ impl<'a> Application<'a> {
     }
 
     /// Returns the result of a filter that works on its input as a whole.
-    fn value(self, alloc: Global) -> Result<Value, ValueError>
+    fn value(self, maker: Maker<'_>) -> Result<Value, ValueError>
         requires { may_be_inner self.filter ≡ true }
         ensures { Builds (given self.entry) result }
     {
         build(
-            alloc,
+            maker,
             self.filter,
             self.operand,
             self.arguments,

@@ -15,6 +15,7 @@ ghost use Rattle.jt_filters.specs.internal.Rows.{RowFault, IsSought, IsJudged};
 use crate::attributes::item_of;
 use crate::building::build;
 use crate::joining::{Separator, join, join_measure};
+use crate::maker::{Maker, lists_items};
 use crate::measuring::measure;
 use crate::members::Members;
 use crate::operand::Operand;
@@ -131,6 +132,17 @@ impl<'a> Selection<'a> {
     }
 }
 
+impl InnerCall<'_> {
+    /// Returns whether the filter makes texts of one character if the item is a text.
+    pub(crate) fn makes_letters(self) -> bool {
+        lists_items(self.filter)
+            || matches!(
+                self.filter,
+                FilterId::First | FilterId::Last | FilterId::Max | FilterId::Min
+            )
+    }
+}
+
 impl<'a> ItemAction<'a> {
     /// Returns the container in which the action looks up each item by test `in`, if it does.
     pub(crate) fn container(self) -> Option<&'a Value>
@@ -224,7 +236,7 @@ impl<'a> ItemAction<'a> {
     #[tactic(auto, using(crate::proofs::ItemResults::action_values))]
     pub(crate) fn push(
         self,
-        alloc: Global,
+        maker: Maker<'_>,
         values: &mut Vec<Value>,
         item: Operand<'a>,
     ) -> Result<(), ValueError>
@@ -236,16 +248,16 @@ impl<'a> ItemAction<'a> {
     {
         let value = match self {
             ItemAction::Keep(selection) => {
-                if !selection.keeps(alloc, item)? {
+                if !selection.keeps(maker.alloc, item)? {
                     return Ok(());
                 }
-                item.value(alloc)?
+                item.value(maker)?
             },
-            ItemAction::Attribute(key) => item_of(item, key)?.value(alloc)?,
+            ItemAction::Attribute(key) => item_of(item, key)?.value(maker)?,
             ItemAction::Filter(call) => {
-                build(alloc, call.filter, item, call.arguments, call.autoescape)?
+                build(maker, call.filter, item, call.arguments, call.autoescape)?
             },
-            ItemAction::Join(separator) => join(alloc, item, separator.operand, true)?,
+            ItemAction::Join(separator) => join(maker, item, separator.operand, true)?,
         };
         Ok(put(values, value)?)
     }

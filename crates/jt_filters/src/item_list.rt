@@ -45,6 +45,7 @@ impl<'a> ItemList<'a> {
     }
 
     /// Returns the first item and the items after it.
+    #[inline(always)]
     pub(crate) fn split_first(self) -> Option<(Operand<'a>, ItemList<'a>)>
         ensures some { IfSome result
             (λ p. items_in self.entry ≡ tree.item (tree_of p.0) (items_in p.1)) }

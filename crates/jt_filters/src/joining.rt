@@ -1,10 +1,12 @@
 //! Implements filter `join`: the length of its text, and the text.
-ghost use Rattle.std.specs.Prelude.{◌≡◌, ◌&&◌, ◌||◌, ◌++◌, true, Ok, IfSome, option_map};
+ghost use Rattle.std.specs.Prelude.{◌≡◌, ◌&&◌, ◌||◌, ◌++◌, true, Ok, Some, IfSome, option_map};
 ghost use Rattle.std.specs.Prelude.{string_bytes};
 ghost use Rattle.jt_op_semantics.specs.Testing.{is_markup};
 ghost use Rattle.jt_filters.specs.internal.Operands as operands;
 ghost use Rattle.jt_escape.specs.Joining.{IsAnswer, piece, joined_text};
 ghost use Rattle.jt_escape.specs.Joining as joins;
+ghost use Rattle.jt_ops.specs.Pieces.{written};
+ghost use Rattle.jt_value.specs.Tree.{printed};
 ghost use Rattle.jt_value.specs.View.{view, items_view};
 ghost use Rattle.jt_filter_semantics.specs.Listing.{joined_by};
 ghost use Rattle.jt_filters.specs.internal.Operands.{tree_of, items_in, joining, measured};
@@ -12,9 +14,10 @@ ghost use Rattle.jt_filters.specs.internal.Operands.{text_length, led_length};
 ghost use Rattle.jt_filters.specs.internal.JoinedTexts.{led_text, Leaves, MakesText};
 
 use crate::item_list::{ItemList, items_of};
+use crate::maker::Maker;
 use crate::operand::Operand;
 use itoa::Buffer;
-use jt_escape::{escape_into, join_markup, join_plain};
+use jt_escape::{join_markup, join_plain};
 use jt_ops::Piece;
 use jt_value::{Fault, Value, ValueError};
 use std::alloc::Global;
@@ -91,18 +94,31 @@ fn escapes(items: ItemList<'_>, separator: Operand<'_>, autoescape: bool) -> boo
     autoescape && (separator.is_markup() || has_markup(items))
 }
 
-/// Returns whether one of the items is markup.
+/// Returns whether one of the items is markup. No number, character or key is.
+#[tactic(auto, using(crate::proofs::PlainItems::no_markup))]
 fn has_markup(items: ItemList<'_>) -> bool
     ensures { result ≡ joins.has_markup (items_in items.entry) }
 {
-    let mut items = items;
-    while let Some((item, behind)) = items.split_first() {
-        if item.is_markup() {
-            return true;
-        }
-        items = behind;
+    match items {
+        ItemList::Values(values) => has_markup_value(values),
+        ItemList::Numbers(_) => false,
+        ItemList::Characters(_) => false,
+        ItemList::Keys(_) => false,
     }
-    false
+}
+
+/// Returns whether one of the values is markup.
+fn has_markup_value(values: &[Value]) -> bool
+    ensures { result ≡ joins.has_markup (items_view values.now) }
+{
+    values.iter().any(|value| is_markup(value))
+}
+
+/// Returns whether a value is markup.
+fn is_markup(value: &Value) -> bool
+    ensures { result ≡ joins.is_markup (view value.now) }
+{
+    matches!(value, Value::Markup(_))
 }
 
 /// Returns the length in bytes of the joined text, at most 2^64 - 1. A fault of the separator comes
@@ -136,22 +152,31 @@ fn led_len(first: u64, between: u64, behind: ItemList<'_>, escaping: bool) -> Re
 }
 
 /// Returns the number of bytes that an operand adds to a join, at most 2^64 - 1.
-#[tactic(auto, using(crate::proofs::JoinLengths::piece_is, crate::proofs::JoinLengths::no_piece))]
+#[tactic(auto, using(crate::proofs::JoinLengths::no_piece))]
 fn piece_len(operand: Operand<'_>, escaping: bool) -> Result<u64, Fault>
     ensures { result ≡ text_length (piece escaping (tree_of operand.entry)) }
 {
     let mut buffer = Buffer::new();
     let text = operand.shown(&mut buffer)?;
+    Ok(piece_of(operand, text, escaping).len())
+}
+
+/// Returns the piece of an operand with this printed text: it is escaped unless it is markup.
+#[tactic(auto, using(crate::proofs::JoinLengths::piece_is))]
+fn piece_of<'a>(operand: Operand<'_>, text: &'a str, escaping: bool) -> Piece<'a>
+    requires { printed (tree_of operand) ≡ Some text.now }
+    ensures { piece escaping (tree_of operand.entry) ≡ Some (written result) }
+{
     if escaping && !operand.is_markup() {
-        Ok(Piece::Escaped(text).len())
+        Piece::Escaped(text)
     } else {
-        Ok(text.len() as u64)
+        Piece::Raw(text)
     }
 }
 
 /// Applies filter `join`.
 pub(crate) fn join(
-    alloc: Global,
+    maker: Maker<'_>,
     operand: Operand<'_>,
     separator: Operand<'_>,
     autoescape: bool,
@@ -159,8 +184,14 @@ pub(crate) fn join(
     ensures { IsAnswer (joining autoescape separator.entry operand.entry) result }
 {
     match items_of(operand)? {
-        ItemList::Values(values) => joined(alloc, values, &separator.value(alloc)?, autoescape),
-        items => joined_items(alloc, items, separator, autoescape),
+        // For fewer values no separator is made a value, which takes longer than the rest.
+        ItemList::Values(values) if values.len() > 1 => joined(
+            maker.alloc,
+            values,
+            &separator.value(maker)?,
+            autoescape,
+        ),
+        items => joined_items(maker.alloc, items, separator, autoescape),
     }
 }
 
@@ -196,11 +227,12 @@ fn text_of_items(
 {
     let mut text = String::new(alloc);
     let mut buffer = Buffer::new();
-    separator.shown(&mut buffer)?;
+    let between = separator.shown(&mut buffer)?;
+    let between = piece_of(separator, between, escaping);
     match items.split_first() {
         Some((first, behind)) => {
             append_piece(first, escaping, &mut text)?;
-            append_led(behind, separator, escaping, &mut text)?;
+            append_led(behind, &between, escaping, &mut text)?;
             Ok(text)
         },
         None => Ok(text),
@@ -211,17 +243,17 @@ fn text_of_items(
 #[tactic(auto, using(crate::proofs::JoinedTexts::led_texts))]
 fn append_led(
     items: ItemList<'_>,
-    separator: Operand<'_>,
+    between: &Piece<'_>,
     escaping: bool,
     into: &mut String,
 ) -> Result<(), ValueError>
     ensures { Leaves
-        (led_text escaping (string_bytes into.old) (tree_of separator.entry) (items_in items.entry))
+        (led_text escaping (string_bytes into.old) (written between.now) (items_in items.entry))
         result (string_bytes into.new) }
 {
     let mut items = items;
     while let Some((item, behind)) = items.split_first() {
-        append_piece(separator, escaping, into)?;
+        between.write(into)?;
         append_piece(item, escaping, into)?;
         items = behind;
     }
@@ -229,7 +261,7 @@ fn append_led(
 }
 
 /// Appends the piece of an operand: its printed text, escaped unless it is markup.
-#[tactic(auto, using(crate::proofs::JoinLengths::piece_is, crate::proofs::JoinLengths::no_piece))]
+#[tactic(auto, using(crate::proofs::JoinLengths::no_piece))]
 fn append_piece(operand: Operand<'_>, escaping: bool, into: &mut String) -> Result<(), ValueError>
     ensures { Leaves
         (option_map (λ p. string_bytes into.old ++ p) (piece escaping (tree_of operand.entry)))
@@ -237,11 +269,7 @@ fn append_piece(operand: Operand<'_>, escaping: bool, into: &mut String) -> Resu
 {
     let mut buffer = Buffer::new();
     let text = operand.shown(&mut buffer)?;
-    if escaping && !operand.is_markup() {
-        escape_into(text, into)?;
-    } else {
-        into.push_str(text)?;
-    }
+    piece_of(operand, text, escaping).write(into)?;
     Ok(())
 }
 

@@ -3,7 +3,8 @@
 //!
 //! `apply` (`filters`) measures the result of a filter (`measuring`) before it builds it
 //! (`building`). Both use a module per kind of filter: `texts`, `scalars`, `listing`, `sorting`,
-//! `unique`, `replacing`, `joining`, `mapping`. `seen_numbers` finds repeated numbers.
+//! `unique`, `replacing`, `joining`, `mapping`. `maker` makes the items of lists, and
+//! `seen_numbers` finds repeated numbers.
 //! jt_filter_semantics defines the results. Read building.rt first, with measuring.rt beside it:
 //! both have one line per filter.
 #![tactic(auto)]
@@ -11,6 +12,7 @@
 mod attributes;
 mod building;
 mod codes;
+mod digit_sort;
 mod filters;
 mod folding;
 mod inner;
@@ -18,6 +20,7 @@ mod item_list;
 mod joining;
 mod kinds;
 mod listing;
+mod maker;
 mod mapping;
 mod measuring;
 mod members;

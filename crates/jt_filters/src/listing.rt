@@ -13,6 +13,7 @@ ghost use Rattle.jt_filter_semantics.specs.Ordering.{sorted_pairs};
 ghost use Rattle.jt_filter_semantics.specs.Ordering as ordering;
 
 use crate::item_list::{ItemList, items_of};
+use crate::maker::Maker;
 use crate::operand::Operand;
 use crate::sorting::sorted_entries;
 use crate::texts::{backwards, backwards_measure};
@@ -50,13 +51,13 @@ pub(crate) fn list_measure(items: ItemList<'_>) -> (u64, u32)
 
 /// Returns the values of the items.
 #[tactic(auto, using(crate::proofs::ListAppend::pushed, crate::proofs::ListAppend::joined_none))]
-pub(crate) fn values(alloc: Global, items: ItemList<'_>) -> Result<Vec<Value>, NoMemory>
+pub(crate) fn values(maker: Maker<'_>, items: ItemList<'_>) -> Result<Vec<Value>, NoMemory>
     ensures { IfOk result (λ v. items_view v.items ≡ items_in items.entry) }
 {
     let mut items = items;
-    let mut values = Vec::with_capacity(alloc, items.len())?;
+    let mut values = Vec::with_capacity(maker.alloc, items.len())?;
     while let Some((item, behind)) = items.split_first() {
-        values.push(item.value(alloc)?)?;
+        values.push(item.value(maker)?)?;
         items = behind;
     }
     Ok(values)
@@ -70,11 +71,11 @@ pub(crate) fn listed_measure(operand: Operand<'_>) -> Result<(u64, u32), Fault>
 }
 
 /// Applies filter `list`.
-pub(crate) fn list(alloc: Global, operand: Operand<'_>) -> Result<Value, ValueError>
+pub(crate) fn list(maker: Maker<'_>, operand: Operand<'_>) -> Result<Value, ValueError>
     ensures { IsAnswer (on_items listed (tree_of operand.entry)) result }
 {
-    let items = values(alloc, items_of(operand)?)?;
-    Ok(Value::list(alloc, items)?)
+    let items = values(maker, items_of(operand)?)?;
+    Ok(Value::list(maker.alloc, items)?)
 }
 
 /// Returns the measure of filter `reverse`.
@@ -93,14 +94,14 @@ pub(crate) fn reversed_measure(operand: Operand<'_>) -> Result<(u64, u32), Fault
 
 /// Applies filter `reverse`.
 #[tactic(auto, using(crate::proofs::OperandKinds::reversals))]
-pub(crate) fn reverse(alloc: Global, operand: Operand<'_>) -> Result<Value, ValueError>
+pub(crate) fn reverse(maker: Maker<'_>, operand: Operand<'_>) -> Result<Value, ValueError>
     ensures { IsAnswer (reversed (tree_of operand.entry)) result }
 {
     if let Some(text) = operand.as_text() {
-        return Ok(backwards(alloc, text)?);
+        return Ok(backwards(maker.alloc, text)?);
     }
     match items_of(operand) {
-        Ok(items) => Ok(Value::list(alloc, turned(values(alloc, items)?))?),
+        Ok(items) => Ok(Value::list(maker.alloc, turned(values(maker, items)?))?),
         Err(_) => Err(operand.operand_fault().into()),
     }
 }

@@ -17,6 +17,7 @@ ghost use Rattle.jt_filters.specs.internal.Rows.{MakesPredicate, RowFault, IsSou
 use crate::inner::{InnerCall, ItemAction, Predicate, Selection};
 use crate::item_list::ItemList;
 use crate::joining::Separator;
+use crate::maker::{Maker, letters_for};
 use crate::members::Members;
 use crate::operand::Operand;
 use jt_ids::{FilterId, TestId};
@@ -302,14 +303,26 @@ fn row_values<'a>(
         (λ v. gathered (gives change.entry) (items_in items.entry) ≡ Ok (items_view v.items)) }
     ensures fault { IfErr result (RowFault (gathered (gives change.entry) (items_in items.entry))) }
 {
+    let letters = letters_for(alloc, letter_count(items, change));
+    let maker = Maker::new(alloc, &letters);
     let room = if change.keeps_count() { items.len() } else { 0 };
     let mut values = Vec::with_capacity(alloc, room)?;
     let mut items = items;
     while let Some((item, behind)) = items.split_first() {
-        change.push(alloc, &mut values, item)?;
+        change.push(maker, &mut values, item)?;
         items = behind;
     }
     Ok(values)
+}
+
+/// Returns the least number of texts of one character that the action makes if all items are texts.
+fn letter_count(items: ItemList<'_>, change: ItemAction<'_>) -> usize {
+    let makes_letters = match change {
+        ItemAction::Filter(call) => call.makes_letters(),
+        ItemAction::Keep(_) => matches!(items, ItemList::Characters(_)),
+        ItemAction::Attribute(_) | ItemAction::Join(_) => false,
+    };
+    if makes_letters { items.len() } else { 0 }
 }
 
 /// Returns the action of a filter with its arguments on each item.

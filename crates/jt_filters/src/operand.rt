@@ -8,9 +8,9 @@ ghost use Rattle.jt_op_semantics.specs.Testing as testing;
 ghost use Rattle.jt_filter_semantics.specs.Kinds.{is_plain};
 ghost use Rattle.jt_filters.specs.internal.Operands.{tree_of, number_of, plain_of, Copies};
 
+use crate::maker::Maker;
 use itoa::Buffer;
 use jt_value::{Fault, ListItems, NoMemory, Value, ValueMap};
-use std::alloc::Global;
 
 /// A borrowed value, or undefined, a number or a plain text in place of a value. The text is, for
 /// example, a character or a key.
@@ -121,6 +121,7 @@ impl<'a> Operand<'a> {
     }
 
     /// Returns the printed text as a slice. For a number it is a slice of `buffer`.
+    #[inline(always)]
     pub(crate) fn shown(self, buffer: &'a mut Buffer) -> Result<&'a str, Fault>
         ensures ok { IfOk result (λ s. printed (tree_of self.entry) ≡ Some s.now) }
         ensures fault { IfErr result
@@ -167,14 +168,14 @@ impl<'a> Operand<'a> {
     }
 
     /// Returns the value: a copy, or a new one.
-    pub(crate) fn value(self, alloc: Global) -> Result<Value, NoMemory>
+    pub(crate) fn value(self, maker: Maker<'_>) -> Result<Value, NoMemory>
         ensures { Copies (tree_of self.entry) result }
     {
         match self {
             Operand::Undefined => Ok(Value::Undefined),
             Operand::Number(number) => Ok(Value::Int(number)),
-            Operand::Text(text) => Value::text(alloc, text),
-            Operand::Value(value) => value.try_clone(alloc),
+            Operand::Text(text) => maker.text(text),
+            Operand::Value(value) => value.try_clone(maker.alloc),
         }
     }
 }

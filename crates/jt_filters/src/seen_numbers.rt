@@ -5,6 +5,7 @@ ghost use Rattle.std.specs.Ordering.{int_eq};
 ghost use Rattle.jt_filters.specs.internal.NumberEntries.{AreDistinct, AreRising, AreUnseen, IsAt};
 ghost use Rattle.jt_filters.specs.internal.NumberEntries.{occurs, was_seen};
 
+use crate::digit_sort::sorted;
 use crate::item_list::ItemList;
 use crate::unique::number_like;
 use jt_value::NoMemory;
@@ -19,9 +20,9 @@ struct Entry {
 
 /// A number with the index of an item that equals it.
 #[derive(Clone, Copy)]
-struct Occurrence {
-    number: i64,
-    item: usize,
+pub(crate) struct Occurrence {
+    pub(crate) number: i64,
+    pub(crate) item: usize,
 }
 
 /// The numbers that the items of a list equal, and whether each was seen.
@@ -39,8 +40,7 @@ impl SeenNumbers {
     pub(crate) fn new(alloc: Global, items: ItemList<'_>) -> Result<SeenNumbers, NoMemory>
         ensures { IfOk result (λ s. AreUnseen s.entries.items) }
     {
-        let mut occurrences = occurrences_in(alloc, items)?;
-        occurrences.sort_unstable_by_key(|occurrence| occurrence.number);
+        let occurrences = sorted(alloc, occurrences_in(alloc, items)?)?;
         let entries = entries_of(alloc, &occurrences)?;
         let indices = indices_of(alloc, &occurrences, items.len())?;
         Ok(SeenNumbers { entries, indices })

@@ -4,7 +4,10 @@ ghost use Rattle.std.specs.Prelude.{◌≡◌, ℕ, List, reverse, IfOk, Ok, str
 ghost use Rattle.jt_value.specs.Tree as tree;
 ghost use Rattle.std.specs.Str.{chars, str_to_ascii_lowercase as lowercase};
 ghost use Rattle.std.specs.Str.{str_to_ascii_uppercase as uppercase};
+ghost use Rattle.std.specs.List.{list_any};
+ghost use Rattle.std.specs.Option.{is_some};
 ghost use Rattle.jt_value.specs.View.{view};
+ghost use Rattle.jt_escape.specs.Escaping.{escaped, entity};
 ghost use Rattle.jt_escape.specs.Joining.{IsAnswer};
 ghost use Rattle.jt_ops.specs.Pieces.{of_kind, written};
 ghost use Rattle.jt_filters.specs.internal.Operands.{tree_of, measured};
@@ -76,13 +79,54 @@ fn kind_of(operand: Operand<'_>) -> TextKind
     }
 }
 
-/// Returns the text of one piece.
-fn piece_value(alloc: Global, piece: &Piece<'_>, kind: TextKind) -> Result<Value, NoMemory>
-    ensures { IfOk result (λ v. view v ≡ of_kind kind (written piece.now)) }
+/// Returns the value of this kind with a copy of the text.
+fn copied(alloc: Global, text: &str, kind: TextKind) -> Result<Value, NoMemory>
+    ensures { IfOk result (λ v. view v ≡ of_kind kind text.now) }
+{
+    match kind {
+        TextKind::Plain => Value::text(alloc, text),
+        TextKind::Markup => Value::markup(alloc, text),
+    }
+}
+
+/// Returns markup of the escaped text. A text without special characters is copied as it is.
+#[tactic(auto, using(crate::proofs::EscapedTexts::unescaped))]
+fn escaped_markup(alloc: Global, text: &str) -> Result<Value, NoMemory>
+    ensures { IfOk result (λ v. view v ≡ tree.markup (escaped text.now)) }
+{
+    if has_special(text.as_bytes()) {
+        escaped_piece(alloc, &Piece::Escaped(text))
+    } else {
+        Value::markup(alloc, text)
+    }
+}
+
+/// Returns markup of what a piece writes.
+fn escaped_piece(alloc: Global, piece: &Piece<'_>) -> Result<Value, NoMemory>
+    ensures { IfOk result (λ v. view v ≡ tree.markup (written piece.now)) }
 {
     let mut text = String::with_capacity(alloc, piece.len() as usize)?;
     piece.write(&mut text)?;
-    kind.value(text)
+    Value::from_markup(text)
+}
+
+/// Returns whether one of the bytes of a text is escaped.
+fn has_special(bytes: &[u8]) -> bool
+    ensures { result ≡ list_any (λ b. is_some (entity b)) bytes.now }
+{
+    for byte in bytes {
+        if is_special(*byte) {
+            return true;
+        }
+    }
+    false
+}
+
+/// Returns whether a byte is escaped.
+fn is_special(byte: u8) -> bool
+    ensures { result ≡ is_some (entity byte) }
+{
+    matches!(byte, b'&' | b'<' | b'>' | b'\'' | b'"')
 }
 
 /// Applies filter `string`.
@@ -91,7 +135,7 @@ pub(crate) fn string(alloc: Global, operand: Operand<'_>) -> Result<Value, Value
 {
     let mut buffer = Buffer::new();
     let text = operand.shown(&mut buffer)?;
-    Ok(piece_value(alloc, &Piece::Raw(text), kind_of(operand))?)
+    Ok(copied(alloc, text, kind_of(operand))?)
 }
 
 /// Applies filter `safe`.
@@ -100,7 +144,7 @@ pub(crate) fn safe(alloc: Global, operand: Operand<'_>) -> Result<Value, ValueEr
 {
     let mut buffer = Buffer::new();
     let text = operand.shown(&mut buffer)?;
-    Ok(piece_value(alloc, &Piece::Raw(text), TextKind::Markup)?)
+    Ok(Value::markup(alloc, text)?)
 }
 
 /// Applies filter `escape`.
@@ -121,7 +165,7 @@ pub(crate) fn force_escape(alloc: Global, operand: Operand<'_>) -> Result<Value,
 {
     let mut buffer = Buffer::new();
     let text = operand.shown(&mut buffer)?;
-    Ok(piece_value(alloc, &Piece::Escaped(text), TextKind::Markup)?)
+    Ok(escaped_markup(alloc, text)?)
 }
 
 /// Applies filter `lower`.
@@ -177,7 +221,7 @@ pub(crate) fn trim(alloc: Global, operand: Operand<'_>) -> Result<Value, ValueEr
 {
     let mut buffer = Buffer::new();
     let text = trimmed_back(trimmed_front(operand.shown(&mut buffer)?));
-    Ok(piece_value(alloc, &Piece::Raw(text), kind_of(operand))?)
+    Ok(copied(alloc, text, kind_of(operand))?)
 }
 
 /// Returns whether a byte is whitespace.

@@ -20,6 +20,7 @@ ghost use Rattle.jt_filters.specs.internal.Seen as seen;
 
 use crate::codes::code_of;
 use crate::item_list::{ItemList, items_of};
+use crate::maker::Maker;
 use crate::operand::Operand;
 use crate::seen_numbers::{SeenNumbers, was_number_seen};
 use jt_ops::{Limits, OpError, allow};
@@ -33,7 +34,7 @@ const FEW: usize = 16;
 /// Applies filter `unique`, under limits. The first items are found once, then measured, and then
 /// the list of them is built.
 pub(crate) fn unique_under(
-    alloc: Global,
+    maker: Maker<'_>,
     operand: Operand<'_>,
     limits: Limits,
 ) -> Result<Value, OpError>
@@ -43,21 +44,21 @@ pub(crate) fn unique_under(
         Ok(items) => items,
         Err(fault) => return Err(OpError::Fault(fault)),
     };
-    match first_items(alloc, items) {
-        Ok(firsts) => list_under(alloc, &firsts, limits),
+    match first_items(maker.alloc, items) {
+        Ok(firsts) => list_under(maker, &firsts, limits),
         Err(_) => Err(refused(items, limits)),
     }
 }
 
 /// Returns the list of the operands, under limits.
-fn list_under(alloc: Global, operands: &[Operand<'_>], limits: Limits) -> Result<Value, OpError>
+fn list_under(maker: Maker<'_>, operands: &[Operand<'_>], limits: Limits) -> Result<Value, OpError>
     ensures { Answers result (limited_by limits (Ok (tree.list (operand_items operands.now)))) }
 {
     let (size, nesting) = list_measure(operands);
     if let Err(error) = allow(size, nesting, limits) {
         return Err(error);
     }
-    match operand_list(alloc, operands) {
+    match operand_list(maker, operands) {
         Ok(list) => Ok(list),
         Err(_) => Err(OpError::NoMemory),
     }
@@ -162,34 +163,34 @@ fn item_measure(item: Operand<'_>, all: ItemList<'_>, count: usize) -> (u64, u32
 }
 
 /// Applies filter `unique`.
-pub(crate) fn unique(alloc: Global, operand: Operand<'_>) -> Result<Value, ValueError>
+pub(crate) fn unique(maker: Maker<'_>, operand: Operand<'_>) -> Result<Value, ValueError>
     ensures { IsAnswer (on_items distinct (tree_of operand.entry)) result }
 {
     let items = items_of(operand)?;
-    Ok(distinct_list(alloc, items)?)
+    Ok(distinct_list(maker, items)?)
 }
 
 /// Returns the list of the items that are like no earlier one.
-fn distinct_list(alloc: Global, items: ItemList<'_>) -> Result<Value, NoMemory>
+fn distinct_list(maker: Maker<'_>, items: ItemList<'_>) -> Result<Value, NoMemory>
     ensures { Lists (unseen tree.no_items (items_in items.entry)) result }
 {
     if items.len() <= FEW {
-        return Value::list(alloc, unseen_values(alloc, items)?);
+        return Value::list(maker.alloc, unseen_values(maker, items)?);
     }
-    let firsts = first_items(alloc, items)?;
-    operand_list(alloc, &firsts)
+    let firsts = first_items(maker.alloc, items)?;
+    operand_list(maker, &firsts)
 }
 
 /// Returns the values of the items that are like no earlier one. Allocates nothing else.
-fn unseen_values(alloc: Global, all: ItemList<'_>) -> Result<Vec<Value>, NoMemory>
+fn unseen_values(maker: Maker<'_>, all: ItemList<'_>) -> Result<Vec<Value>, NoMemory>
     ensures { IfOk result (λ v. items_view v.items ≡ unseen tree.no_items (items_in all.entry)) }
 {
     let total = all.len();
     let mut left = total;
     let mut items = all;
-    let mut values = Vec::with_capacity(alloc, total)?;
+    let mut values = Vec::with_capacity(maker.alloc, total)?;
     while let Some((item, behind)) = items.split_first() {
-        push_unseen(alloc, &mut values, item, all, total - left)?;
+        push_unseen(maker, &mut values, item, all, total - left)?;
         left -= 1;
         items = behind;
     }
@@ -199,7 +200,7 @@ fn unseen_values(alloc: Global, all: ItemList<'_>) -> Result<Vec<Value>, NoMemor
 /// Appends the value of an item unless the item is like one of the first `count` items.
 #[tactic(auto, using(crate::proofs::DistinctItems::unseen_values))]
 fn push_unseen(
-    alloc: Global,
+    maker: Maker<'_>,
     values: &mut Vec<Value>,
     item: Operand<'_>,
     all: ItemList<'_>,
@@ -210,25 +211,25 @@ fn push_unseen(
         ≡ joined_items (items_view values.old.items) left)) }
 {
     if !has_alike(item, all, count) {
-        values.push(item.value(alloc)?)?;
+        values.push(item.value(maker)?)?;
     }
     Ok(())
 }
 
 /// Returns the list of the operands.
-fn operand_list(alloc: Global, operands: &[Operand<'_>]) -> Result<Value, NoMemory>
+fn operand_list(maker: Maker<'_>, operands: &[Operand<'_>]) -> Result<Value, NoMemory>
     ensures { IfOk result (λ v. view v ≡ tree.list (operand_items operands.now)) }
 {
-    Value::list(alloc, operand_values(alloc, operands)?)
+    Value::list(maker.alloc, operand_values(maker, operands)?)
 }
 
 /// Returns the values of the operands.
-fn operand_values(alloc: Global, operands: &[Operand<'_>]) -> Result<Vec<Value>, NoMemory>
+fn operand_values(maker: Maker<'_>, operands: &[Operand<'_>]) -> Result<Vec<Value>, NoMemory>
     ensures { IfOk result (λ v. items_view v.items ≡ operand_items operands.now) }
 {
-    let mut values = Vec::with_capacity(alloc, operands.len())?;
+    let mut values = Vec::with_capacity(maker.alloc, operands.len())?;
     for operand in operands {
-        values.push(operand.value(alloc)?)?;
+        values.push(operand.value(maker)?)?;
     }
     Ok(values)
 }

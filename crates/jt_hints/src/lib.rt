@@ -6,15 +6,19 @@
 //!
 //! - `nearest_name`: the candidate with the fewest edits, with `edits`, which counts them;
 //! - `known_names`: the names of all filters and tests, which are such candidates;
+//! - `definitions`: the macros and blocks of a source, which are candidates too, and imports;
 //! - `left_out`: the tables of Jinja's filters, tests and functions, and of the methods of Python's
-//!   values;
+//!   values, with `called_methods`, which finds these in a tag;
 //! - `syntax`: the forms of a tag, with `statement_words`, `head_forms`, `places` and
 //!   `place_forms`;
-//! - `nesting`: the statement that is never closed, and the tag that closes none.
+//! - `nesting`: the statement that is never closed, and the tag that closes none;
+//! - `positions`: the tag that stands where its statement is not allowed.
 //!
 //! Nothing here decides whether a template compiles. Read first: specs/Forms.antt.
 #![tactic(auto)]
 
+mod called_methods;
+mod definitions;
 mod edits;
 mod head_forms;
 mod known_names;
@@ -23,11 +27,15 @@ mod nearest_name;
 mod nesting;
 mod place_forms;
 mod places;
+mod positions;
 mod statement_words;
 mod syntax;
 
+pub use called_methods::called_method;
+pub use definitions::{NameKind, defined_names, layout_named, library_named};
 pub use known_names::{filter_names, test_names};
 pub use left_out::{left_out_filter, left_out_function, left_out_method, left_out_test};
 pub use nearest_name::nearest;
 pub use nesting::{NestingHint, Statement, nesting_hint};
+pub use positions::{PositionHint, position_hint};
 pub use syntax::{SyntaxHint, syntax_hint};

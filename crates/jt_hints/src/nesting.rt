@@ -21,7 +21,7 @@ pub enum Statement {
 
 impl Statement {
     /// Returns whether both are one kind of statement.
-    fn is(self, other: Statement) -> bool
+    pub(crate) fn is(self, other: Statement) -> bool
         ensures { result ≡ (spec.position self == spec.position other) }
     {
         self as u8 == other as u8
@@ -165,7 +165,7 @@ fn closing_role(word: &str) -> Role
 }
 
 /// Returns what a segment does, and its line if it is a tag.
-fn role_in(segment: &Segment<'_>) -> (Role, u32)
+pub(crate) fn role_in(segment: &Segment<'_>) -> (Role, u32)
     ensures { result ≡ spec.role_in segment.now }
 {
     let SegmentKind::Tag(tag) = &segment.part else {
@@ -214,7 +214,7 @@ fn clash(innermost: Option<Opened>, role: Role) -> Option<NestingHint>
 }
 
 /// Opens or closes a statement, as a tag at the line does.
-fn pass(opened: &mut Vec<Opened>, role: Role, line: u32) -> Result<(), AllocError>
+pub(crate) fn pass(opened: &mut Vec<Opened>, role: Role, line: u32) -> Result<(), AllocError>
     ensures { OnOk result (opened.new.items ≡ spec.opened_after opened.old.items role line) }
 {
     match role {

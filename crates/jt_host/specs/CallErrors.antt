@@ -11,8 +11,6 @@ use Rattle.jt_verify.specs.declared.Refusal.{Refusal}
 use Rattle.jt_verify.specs.declared.Refusal.TheVariants as refusal
 use Rattle.jt_machine.specs.declared.Outcome.{Outcome}
 use Rattle.jt_machine.specs.declared.Outcome.TheVariants as outcome
-use Rattle.jt_host.specs.declared.error.RenderError.{RenderError}
-use Rattle.jt_host.specs.declared.error.RenderError.TheVariants as render_error
 use Rattle.jt_host.specs.declared.call_error.CallError.{CallError}
 use Rattle.jt_host.specs.declared.call_error.CallError.TheVariants as error
 
@@ -35,11 +33,6 @@ of_compile e = error.Template e
 abbrev pub of_context : ContextError → CallError
 of_context context_error.NoMemory = error.NoMemory
 of_context e = error.Context e
-
--- The error for a refusal to render: why the templates do not compile, or lack of memory.
-abbrev pub of_render : RenderError → CallError
-of_render (render_error.Compile e) = of_compile e
-of_render render_error.NoMemory = error.NoMemory
 
 -- The result of a run: its text, or an error.
 abbrev pub of_outcome : Outcome → Result (String Global) CallError

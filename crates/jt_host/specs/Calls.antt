@@ -21,11 +21,11 @@ use Rattle.jt_image.specs.Typed.{IsTyped}
 use Rattle.jt_image.specs.declared.ImageError.{ImageError}
 use Rattle.jt_image.specs.declared.ImageError.TheVariants as image_error
 use Rattle.jt_budget.specs.declared.Budget.{Budget}
-use Rattle.jt_host.specs.declared.syntax_hints.SourceHint.{SourceHint}
+use Rattle.jt_host.specs.declared.clues.Clues.{Clues}
 use Rattle.jt_contexts.specs.Json.{IsContext, Holds}
 use Rattle.jt_host.specs.Explanations.{told, IsExplanationOf}
 use Rattle.jt_host.specs.declared.explanation.Explanation.{Explanation}
-use Rattle.jt_host.specs.SyntaxHints.{IsHintFor}
+use Rattle.jt_host.specs.Clues.{AreCluesFor}
 use Rattle.jt_host.specs.Rendering.{IsRefused as IsUncompiled, IsRendered}
 use Rattle.jt_contexts.specs.declared.ContextError.TheVariants as context_error
 use Rattle.jt_verify.specs.Refusing.{RefusalHolds}
@@ -171,7 +171,7 @@ module _ (sources : SourceTexts) (entry : Text) (options : Options) where
   abbrev pub IsTold : Text → Type 0
   IsTold text =
       (x : Explained) × IsExplained sources entry options x
-      × ((hint : Option SourceHint) × IsHintFor sources options x hint × (text ≡ told sources options hint x))
+      × ((clues : Clues) × AreCluesFor sources options x clues × (text ≡ told sources options clues x))
 
   -- The result is the text of an explanation; it exists unless memory is refused.
   abbrev pub ExplainsTo : Result (String Global) CallError → Type 0

@@ -5,7 +5,6 @@ use Rattle.std.specs.Prelude.{◌++◌, [], ◌∷◌, codes, Option, Some, None
 use Rattle.std.specs.Fmt.{decimal}
 use Rattle.jt_scan.specs.declared.Options.{Options}
 use Rattle.jt_ast.specs.Expressions.{Text}
-use Rattle.jt_host.specs.declared.syntax_hints.SourceHint.{SourceHint}
 use Rattle.jt_inherit.specs.Chains.{SourceTexts}
 use Rattle.jt_codegen.specs.declared.CompileError.{CompileError}
 use Rattle.jt_codegen.specs.declared.CompileError.TheVariants as compile_error
@@ -20,9 +19,10 @@ use Rattle.jt_host.specs.Reasons.{chain_name, scope_text}
 use Rattle.jt_host.specs.Marks.{mark}
 use Rattle.jt_host.specs.Sentences.{sentence}
 use Rattle.jt_host.specs.SourceLines.{source_line}
-use Rattle.jt_host.specs.Subjects.{subject_name, subject_text}
+use Rattle.jt_host.specs.Subjects.{marked_name, subject_name, subject_text}
 use Rattle.jt_host.specs.Suggestions.{suggestion}
-use Rattle.jt_host.specs.SyntaxHints.{IsHintFor}
+use Rattle.jt_host.specs.Clues.{AreCluesFor}
+use Rattle.jt_host.specs.declared.clues.Clues.{Clues}
 
 -- ---- what is printed
 
@@ -55,24 +55,24 @@ marks_at sources options (Some place) (Some name) = mark (line_at sources option
 marks_at sources options place name = []
 
 abbrev pub marks_text : SourceTexts → Options → Finding → Text
-marks_text sources options f = marks_at sources options f.place (subject_name f.subject)
+marks_text sources options f = marks_at sources options f.place (marked_name f.subject)
 
 -- The place, the name of the refusal and what it is about.
 abbrev pub heading : Finding → Text
 heading f = place_text f.place ++ (error_name f.error ++ subject_text f.subject)
 
 -- The line of a finding, the line of the source, the marks, the rule, and a suggestion.
-abbrev pub finding_lines : SourceTexts → Options → Option SourceHint → Finding → Text
-finding_lines sources options hint f =
+abbrev pub finding_lines : SourceTexts → Options → Clues → Finding → Text
+finding_lines sources options clues f =
     heading f
     ++ (codes "\n"
     ++ (source_text sources options f.place
-    ++ (marks_text sources options f ++ (codes "  " ++ (sentence f ++ (suggestion hint f ++ codes "\n"))))))
+    ++ (marks_text sources options f ++ (codes "  " ++ (sentence f ++ (suggestion clues f ++ codes "\n"))))))
 
--- The lines of what is explained, with the form that a tag has and the language does not.
-abbrev pub told : SourceTexts → Options → Option SourceHint → Explained → Text
-told sources options hint explained.Compiles = codes "ok\n"
-told sources options hint (explained.Refused f) = finding_lines sources options hint f
+-- The lines of what is explained, with what the sources show of it.
+abbrev pub told : SourceTexts → Options → Clues → Explained → Text
+told sources options clues explained.Compiles = codes "ok\n"
+told sources options clues (explained.Refused f) = finding_lines sources options clues f
 
 -- ---- what a host reads
 
@@ -99,7 +99,7 @@ IsRefusalOf x r = ⊥
 -- The lines and the refusal of what is explained.
 pub record IsExplanationOf (sources : SourceTexts) (options : Options) (x : Explained) (e : Explanation) :
     Type 0 where
-  pub hint : Option SourceHint
-  pub hinted : IsHintFor sources options x hint
-  pub text : string_bytes e.text ≡ told sources options hint x
+  pub clues : Clues
+  pub shown : AreCluesFor sources options x clues
+  pub text : string_bytes e.text ≡ told sources options clues x
   pub refusal : IsRefusalOf x e.refusal

@@ -1,7 +1,9 @@
 pub mod CallErrors
 pub mod Calls
+pub mod Clues
 pub mod Explanations
 pub mod Marks
+pub mod Meant
 pub mod Reasons
 pub mod Rendering
 pub mod RunExplanations

@@ -14,8 +14,6 @@ use Rattle.jt_codegen.specs.declared.error.CompileError.{CompileError}
 use Rattle.jt_codegen.specs.declared.error.CompileError.TheVariants as compile_error
 use Rattle.jt_machine.specs.View.{budget_view, outcome_view}
 use Rattle.jt_machine.specs.declared.Outcome.{Outcome}
-use Rattle.jt_host.specs.declared.error.RenderError.{RenderError}
-use Rattle.jt_host.specs.declared.error.RenderError.TheVariants as error
 
 module _ (sources : SourceTexts) (entry : Text) (options : Options) where
   -- The run of some code to which the entry compiles ends so. The text or fault of such a code is
@@ -33,11 +31,5 @@ module _ (sources : SourceTexts) (entry : Text) (options : Options) where
     pub limit : NamesLimit e → IsSmall sources entry options → ⊥
 
   -- Why there is no outcome. Lack of memory claims nothing.
-  abbrev pub IsUnrendered : RenderError → Type 0
-  IsUnrendered (error.Compile e) = IsRefused e
-  IsUnrendered error.NoMemory = Unit {0}
-
--- The error of rendering for an error of the compiler. Lack of memory is an error of its own.
-abbrev pub of_compile : CompileError → RenderError
-of_compile compile_error.NoMemory = error.NoMemory
-of_compile e = error.Compile e
+  abbrev pub IsUnrendered : CompileError → Type 0
+  IsUnrendered e = e ≢ compile_error.NoMemory → IsRefused e

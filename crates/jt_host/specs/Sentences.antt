@@ -10,9 +10,12 @@ use Rattle.jt_codegen.specs.declared.ScopeError.{ScopeError}
 use Rattle.jt_codegen.specs.declared.ScopeError.TheVariants as scope_error
 use Rattle.jt_codegen.specs.declared.ChainError.{ChainError}
 use Rattle.jt_codegen.specs.declared.ChainError.TheVariants as chain_error
+use Rattle.jt_codegen.specs.declared.ChainSubject.TheVariants as chain_subject
 use Rattle.jt_codegen.specs.declared.CompileError.{CompileError}
 use Rattle.jt_codegen.specs.declared.CompileError.TheVariants as compile_error
 use Rattle.jt_codegen.specs.declared.Finding.{Finding}
+use Rattle.jt_codegen.specs.declared.Limit.{Limit}
+use Rattle.jt_codegen.specs.declared.Limit.TheVariants as limit
 use Rattle.jt_codegen.specs.declared.Subject.{Subject}
 use Rattle.jt_codegen.specs.declared.Subject.TheVariants as subject
 use Rattle.jt_host.specs.Subjects.{quoted, subject_name}
@@ -88,15 +91,30 @@ limit_rule (Some subject.Bindings) = codes "this template binds more than 4,096 
 limit_rule (Some subject.Names) = codes "the templates read or bind more than 65,535 names in all"
 limit_rule about = scope_rule scope_error.TooManySlots
 
+-- The limit of images that would be passed.
+abbrev pub image_rule : Limit → Text
+image_rule limit.Constants = codes "the image would have more than 65,535 constants"
+image_rule limit.Units =
+    codes "the image would have more than 65,535 units: one for each chain, block and macro"
+image_rule limit.Instructions = codes "the image would have more than 262,144 instructions"
+image_rule limit.Templates = codes "the places of the image would name more than 65,535 templates"
+image_rule limit.NameBytes = codes "a name in the image would have more than 65,535 bytes"
+image_rule limit.Bytes = codes "the image would have more than 16,777,216 bytes"
+image_rule limit.Entries =
+    codes "more than 1,024 values would be needed at the same time, as by a list of 1,025 items"
+
+abbrev pub code_rule : Option Subject → Text
+code_rule (Some (subject.Limit l)) = image_rule l
+code_rule about =
+    codes "the image would pass one of its limits, as 262,144 instructions or 65,535 constants"
+
 abbrev pub rule : CompileError → Option Subject → Text
 rule (compile_error.Scope scope_error.TooManySlots) about = limit_rule about
 rule (compile_error.Chain e) about = chain_rule e
 rule (compile_error.Scope e) about = scope_rule e
-rule compile_error.CodeTooLong about =
-    codes "the image would pass one of its limits, as 262,144 instructions or 65,535 constants"
+rule compile_error.CodeTooLong about = code_rule about
 rule compile_error.NoMemory about = codes "memory is not enough"
-rule compile_error.StackTooDeep about =
-    codes "more than 1,024 values would be needed at the same time, as by a list of 1,025 items"
+rule compile_error.StackTooDeep about = image_rule limit.Entries
 
 -- ---- the words before the name that a refusal is about
 
@@ -110,6 +128,7 @@ abbrev pub not_callable_lead : Subject → Option Text
 not_callable_lead (subject.Name x) = Some (codes "only a call may name")
 not_callable_lead (subject.CalledName x) = Some (codes "no macro, block or function here is called")
 not_callable_lead (subject.CalledField of k) = Some (codes "no macro, block or function here is called")
+not_callable_lead (subject.Macro x) = Some (codes "no macro may be called")
 not_callable_lead s = None
 
 abbrev pub bad_arguments_lead : Subject → Option Text
@@ -134,12 +153,31 @@ parse_lead (parse_error.UnknownFilter n) = Some (codes "no filter is called")
 parse_lead (parse_error.UnknownTest n) = Some (codes "no test is called")
 parse_lead e = None
 
-abbrev pub chain_lead : ChainError → Option Text
-chain_lead (chain_error.Parse template e) = parse_lead e
-chain_lead e = None
+-- The template that passes a limit of chains.
+abbrev pub length_lead : Subject → Option Text
+length_lead (subject.Chain (chain_subject.Templates x)) =
+    Some (codes "more than 64 templates extend one another: the 65th is")
+length_lead (subject.Chain (chain_subject.Chains x)) =
+    Some (codes "includes reach more than 1,024 templates: one more is")
+length_lead s = None
+
+abbrev pub chain_lead : ChainError → Subject → Option Text
+chain_lead chain_error.Missing s = Some (codes "no template is called")
+chain_lead chain_error.BadName s = Some (codes "no template may be called")
+chain_lead chain_error.ExtendsCycle s = Some (codes "a template extends itself through")
+chain_lead chain_error.ChainTooLong s = length_lead s
+chain_lead chain_error.DoubleBlock s = Some (codes "a template has two blocks called")
+chain_lead chain_error.RequiredNotGiven s = Some (codes "no template gives a body to the required block")
+chain_lead chain_error.NoSuper s = Some (codes "super() has no next body in the block")
+chain_lead chain_error.IncludeCycle s = Some (codes "a template includes itself through")
+chain_lead chain_error.MacroTwice s = Some (codes "two macros or imports are called")
+chain_lead chain_error.NoMacro s = Some (codes "the library offers no macro called")
+chain_lead chain_error.NotALibrary s = Some (codes "more than macros, comments and whitespace is in")
+chain_lead (chain_error.Parse template e) s = parse_lead e
+chain_lead e s = None
 
 abbrev pub lead : CompileError → Option Subject → Option Text
-lead (compile_error.Chain e) (Some s) = chain_lead e
+lead (compile_error.Chain e) (Some s) = chain_lead e s
 lead (compile_error.Scope e) (Some s) = scope_lead e s
 lead e s = None
 

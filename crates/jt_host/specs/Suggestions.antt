@@ -1,7 +1,9 @@
 -- What a writer of templates probably meant, and what to write in place of what the language leaves
 -- out.
 use Rattle.std.specs.Prelude.{◌++◌, List, [], ◌∷◌, codes, Option, Some, None, is_some, option_map, string_bytes}
-use Rattle.std.specs.Prelude.{if◌then◌else◌}
+use Rattle.std.specs.Prelude.{if◌then◌else◌, String}
+use Rattle.std.specs.declared.alloc.Global.{Global}
+use Rattle.std.specs.Fmt.{decimal}
 use Rattle.std.specs.List.{flat_map}
 use Rattle.std.specs.Option.{option_or}
 use Rattle.jt_ast.specs.Expressions.{Text}
@@ -9,17 +11,20 @@ use Rattle.jt_ids.specs.FilterTable.{filters, filter_names}
 use Rattle.jt_ids.specs.LoopTable.{field_named}
 use Rattle.jt_ids.specs.TestTable.{tests, test_names}
 use Rattle.jt_hints.specs.Edits.{nearest}
-use Rattle.jt_host.specs.SyntaxHints.{sentence}
-use Rattle.jt_host.specs.declared.syntax_hints.SourceHint.{SourceHint}
+use Rattle.jt_host.specs.SyntaxHints.{hint_text}
 use Rattle.jt_hints.specs.LeftOut.{left_out_filter, left_out_function, left_out_method, left_out_test}
 use Rattle.jt_codegen.specs.declared.ChainError.TheVariants as chain_error
+use Rattle.jt_codegen.specs.declared.ChainSubject.{ChainSubject}
+use Rattle.jt_codegen.specs.declared.ChainSubject.TheVariants as chain_subject
 use Rattle.jt_codegen.specs.declared.CompileError.{CompileError}
 use Rattle.jt_codegen.specs.declared.CompileError.TheVariants as compile_error
 use Rattle.jt_codegen.specs.declared.Finding.{Finding}
 use Rattle.jt_codegen.specs.declared.ScopeError.TheVariants as scope_error
 use Rattle.jt_codegen.specs.declared.Subject.{Subject}
 use Rattle.jt_codegen.specs.declared.Subject.TheVariants as subject
+use Rattle.jt_codegen.specs.declared.TagPlace.{TagPlace}
 use Rattle.jt_host.specs.Subjects.{quoted}
+use Rattle.jt_host.specs.declared.clues.Clues.{Clues}
 
 -- ---- what to write in place of what the language leaves out
 
@@ -62,16 +67,51 @@ near e about = None
 
 -- ---- what follows the sentence
 
-abbrev pub meant : Option Text → Text
-meant (Some name) = codes "; did you mean" ++ (quoted name ++ codes "?")
-meant None = []
+-- A place, after the words for it.
+abbrev pub place_after : Text → TagPlace → Text
+place_after words p = words ++ (string_bytes p.template ++ (codes ":" ++ decimal p.line))
 
--- What to write, or else the name that was probably meant.
-abbrev pub advised : Option Text → Option Text → Text
-advised (Some words) name = codes "; " ++ words
-advised None name = meant name
+-- The names of a ring of templates, each after a comma.
+abbrev pub ring_text : List (String Global) → Text
+ring_text names = flat_map (λ x. codes "," ++ quoted (string_bytes x)) names
 
--- With the sentence of the form that the tag has, if there is no other advice.
-abbrev pub suggestion : Option SourceHint → Finding → Text
-suggestion hint f =
-    advised (option_or (advice f.error f.subject) (option_map sentence hint)) (near f.error f.subject)
+-- The second place, or the further names, that a refusal is about.
+abbrev pub chain_text : ChainSubject → Text
+chain_text (chain_subject.BlockTwice x first) = place_after (codes "; the first one is at ") first
+chain_text (chain_subject.NameTwice x first) = place_after (codes "; the first one is at ") first
+chain_text (chain_subject.Super x opened) = place_after (codes "; it begins at ") opened
+chain_text (chain_subject.Ring x rest) = ring_text rest.items
+chain_text s = []
+
+abbrev pub further_text : Option Subject → Text
+further_text (Some (subject.Chain s)) = chain_text s
+further_text about = []
+
+abbrev pub or_meant : Option Text → Text → Text
+or_meant (Some name) further = codes "; did you mean" ++ (quoted name ++ codes "?")
+or_meant None further = further
+
+abbrev pub advised : Option Text → Text → Text
+advised (Some words) other = codes "; " ++ words
+advised None other = other
+
+-- What to write in place of the method that is called.
+abbrev pub method_of : Option (String Global) → Option Text
+method_of (Some x) = left_out_method (string_bytes x)
+method_of None = None
+
+abbrev pub method_advice : Clues → Option Text
+method_advice clues = method_of clues.method
+
+-- What to write: the advice on a word or on a method, or else the reason of the error of syntax.
+abbrev pub advice_text : Clues → Finding → Option Text
+advice_text clues f =
+    option_or (advice f.error f.subject) (option_or (method_advice clues) (option_map hint_text clues.hint))
+
+-- The known name that was probably meant, or else that of the sources.
+abbrev pub meant_text : Clues → Finding → Option Text
+meant_text clues f = option_or (near f.error f.subject) (option_map string_bytes clues.meant)
+
+-- What to write, or else the name that was probably meant, or else what the refusal is also about.
+abbrev pub suggestion : Clues → Finding → Text
+suggestion clues f = advised (advice_text clues f) (or_meant (meant_text clues f) (further_text f.subject))

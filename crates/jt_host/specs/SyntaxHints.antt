@@ -1,7 +1,8 @@
--- The reason of an error of syntax at its line: the form that a tag has and the language does not, or
--- the statements that do not nest.
+-- The reason of an error of syntax at its line: the form that a tag has and the language does not, the
+-- statements that do not nest, or the tag that stands where it may not.
 use Rattle.std.specs.Prelude.{◌≡◌, ◌==◌, ℕ, List, [], ◌∷◌, Option, Some, None, option_map, if◌then◌else◌}
-use Rattle.std.specs.Prelude.{string_bytes}
+use Rattle.std.specs.Prelude.{◌++◌, codes, string_bytes}
+use Rattle.std.specs.Fmt.{decimal}
 use Rattle.std.specs.Option.{option_or}
 use Rattle.jt_scan.specs.Cut.{IsCut}
 use Rattle.jt_scan.specs.View.{cut_of}
@@ -13,6 +14,9 @@ use Rattle.jt_hints.specs.Forms as forms
 use Rattle.jt_hints.specs.Forms.{syntax_hint}
 use Rattle.jt_hints.specs.Nesting as nesting
 use Rattle.jt_hints.specs.Nesting.{nesting_hint}
+use Rattle.jt_hints.specs.Positions as positions
+use Rattle.jt_hints.specs.Positions.{position_hint}
+use Rattle.jt_hints.specs.declared.nesting.NestingHint.TheVariants as nesting_hint_of
 use Rattle.jt_hints.specs.declared.syntax.SyntaxHint.{SyntaxHint}
 use Rattle.jt_ast.specs.Expressions.{Text}
 use Rattle.jt_inherit.specs.Chains.{SourceTexts, scanned}
@@ -41,16 +45,25 @@ abbrev pub first_hint : ℕ → List Segment → Option SyntaxHint
 first_hint line [] = None
 first_hint line (s ∷ ss) = option_or (hint_in line s) (first_hint line ss)
 
--- The first form of a tag at the line, or else that the statements do not nest there.
+-- The first form of a tag at the line, or else that the statements do not nest there, or else that a
+-- tag may not stand there.
 abbrev pub source_hint : ℕ → List Segment → Option SourceHint
 source_hint line segments =
     option_or (option_map hint.Form (first_hint line segments))
-    (option_map hint.Nesting (nesting_hint segments line))
+    (option_or (option_map hint.Nesting (nesting_hint segments line))
+    (option_map hint.Position (position_hint segments line)))
 
 -- What an explanation says of the reason.
 abbrev pub sentence : SourceHint → Text
 sentence (hint.Form h) = forms.sentence h
 sentence (hint.Nesting h) = nesting.sentence h
+sentence (hint.Position h) = positions.sentence h
+
+-- With the line at which the statement begins that is open.
+abbrev pub hint_text : SourceHint → Text
+hint_text (hint.Nesting (nesting_hint_of.OtherOpen s line)) =
+    nesting.sentence (nesting_hint_of.OtherOpen s line) ++ (codes "; it begins at line " ++ decimal line)
+hint_text h = sentence h
 
 -- The source is cut into segments, which have this reason at the line.
 pub record HasHint (options : Options) (source : Text) (line : ℕ) (h : SourceHint) : Type 0 where

@@ -1,10 +1,8 @@
 //! Defines the errors of the calls over bytes.
 
 ghost use Rattle.std.specs.Prelude.{◌≡◌};
-ghost use Rattle.jt_host.specs.CallErrors.{of_image, of_code, of_compile, of_context, of_render};
-ghost use Rattle.jt_host.specs.CallErrors.{of_outcome};
+ghost use Rattle.jt_host.specs.CallErrors.{of_image, of_code, of_compile, of_context, of_outcome};
 
-use crate::error::RenderError;
 use jt_budget::Spent;
 use jt_codegen::CompileError;
 use jt_contexts::ContextError;
@@ -82,17 +80,6 @@ impl From<ContextError> for CallError {
         match flaw {
             ContextError::NoMemory => CallError::NoMemory,
             other => CallError::Context(other),
-        }
-    }
-}
-
-impl From<RenderError> for CallError {
-    ghost from_gives = { λ refusal e. e ≡ of_render refusal };
-
-    fn from(refusal: RenderError) -> CallError {
-        match refusal {
-            RenderError::Compile(refusal) => refusal.into(),
-            RenderError::NoMemory => CallError::NoMemory,
         }
     }
 }

@@ -54,7 +54,7 @@ pub fn image_of(alloc: Global, entry: &EntryTemplate<'_>) -> Result<Vec<u8>, Cal
     Ok(encode(alloc, &image)?)
 }
 
-/// Compiles the entry and returns its image, verified.
+/// Compiles the entry and returns its image, which is in order.
 ///
 /// # Errors
 ///
@@ -70,11 +70,8 @@ pub fn verified_template(alloc: Global, entry: &EntryTemplate<'_>) -> Result<Ver
         options,
     } = *entry;
     let image = compile(alloc, name, templates, options)?;
-    match verify(alloc, image) {
-        Ok(verified) => Ok(verified),
-        // The compiler makes typed images, so the verifier refuses one only for lack of memory.
-        Err(_refused) => Err(CallError::NoMemory),
-    }
+    // The compiler makes typed images, so this one is in order.
+    Ok(Verified::of_typed(image))
 }
 
 /// Returns, in version 2, the bytes of the image that `bytes` spell. The image is not verified.

@@ -7,15 +7,15 @@ ghost use Rattle.jt_host.specs.Templates.{source_of};
 
 use crate::call_error::CallError;
 use crate::calls::EntryTemplate;
+use crate::clues::{Clues, clues_for};
 use crate::explanation::{Explanation, TemplateRefusal};
 use crate::marks::mark;
 use crate::reasons::{name_of_chain, text_of_scope};
 use crate::refusal_code::code_of;
 use crate::sentences::sentence_of;
 use crate::source_lines::source_line;
-use crate::subjects::{quoted_subject, subject_name};
+use crate::subjects::{marked_name, quoted_subject, subject_name};
 use crate::suggestions::suggestion_of;
-use crate::syntax_hints::{SourceHint, hint_for};
 use crate::templates::Templates;
 use jt_codegen::{CompileError, Explained, Finding, TagPlace, explain};
 use jt_inherit::Library;
@@ -68,8 +68,8 @@ fn explanation_for(
 ) -> Result<Explanation, AllocError>
     ensures { IfOk result (spec.IsExplanationOf (source_of templates.now) options explained) }
 {
-    let hint = hint_for(alloc, templates, options, &explained)?;
-    let text = text_of(alloc, templates, options, &explained, hint)?;
+    let clues = clues_for(alloc, templates, options, &explained)?;
+    let text = text_of(alloc, templates, options, &explained, &clues)?;
     let refusal = match explained {
         Explained::Compiles => None,
         Explained::Refused(finding) => Some(refusal_of(alloc, finding)?),
@@ -95,14 +95,14 @@ fn text_of(
     templates: &Templates,
     options: Options,
     explained: &Explained,
-    hint: Option<SourceHint>,
+    clues: &Clues,
 ) -> Result<String, AllocError>
     ensures { IfOk result (λ text. string_bytes text
-        ≡ spec.told (source_of templates.now) options hint explained.now) }
+        ≡ spec.told (source_of templates.now) options clues.now explained.now) }
 {
     match explained {
         Explained::Compiles => String::from_str(alloc, "ok\n"),
-        Explained::Refused(finding) => lines_of(alloc, templates, options, finding, hint),
+        Explained::Refused(finding) => lines_of(alloc, templates, options, finding, clues),
     }
 }
 
@@ -112,16 +112,16 @@ fn lines_of(
     templates: &Templates,
     options: Options,
     finding: &Finding,
-    hint: Option<SourceHint>,
+    clues: &Clues,
 ) -> Result<String, AllocError>
     ensures { IfOk result (λ text. string_bytes text
-        ≡ spec.finding_lines (source_of templates.now) options hint finding.now) }
+        ≡ spec.finding_lines (source_of templates.now) options clues.now finding.now) }
 {
     let heading = heading_of(alloc, finding)?;
     let source = source_text(alloc, templates, options, &finding.place)?;
     let marks = marks_text(alloc, templates, options, finding)?;
     let sentence = sentence_of(alloc, finding)?;
-    let suggestion = suggestion_of(alloc, finding, hint)?;
+    let suggestion = suggestion_of(alloc, finding, clues)?;
     format!(in alloc; "{heading}\n{source}{marks}  {sentence}{suggestion}\n")
 }
 
@@ -193,7 +193,7 @@ fn marks_text(
     let Some(place) = &finding.place else {
         return Ok(String::new(alloc));
     };
-    match subject_name(alloc, &finding.subject)? {
+    match marked_name(alloc, &finding.subject)? {
         Some(name) => {
             let line = line_at(alloc, templates, options, place)?;
             mark(alloc, &line, &name)

@@ -25,11 +25,12 @@
 
 mod call_error;
 mod calls;
-mod error;
+mod clues;
 mod explaining;
 mod explaining_runs;
 mod explanation;
 mod marks;
+mod meant;
 mod reasons;
 mod refusal_code;
 mod rendering;
@@ -45,12 +46,13 @@ pub use calls::{
     EntryTemplate, context_of, counts_of, image_of, render_text, run_image, run_verified, upgraded,
     verified_image, verified_template,
 };
-pub use error::RenderError;
 pub use explaining::{explained, explanation_of};
 pub use explaining_runs::explained_run;
 pub use explanation::{Explanation, TemplateRefusal};
 pub use jt_budget::{Budget, Spent};
-pub use jt_codegen::{CompileError, Explained, Finding, Subject, TagPlace, compile, explain};
+pub use jt_codegen::{
+    ChainSubject, CompileError, Explained, Finding, Limit, Subject, TagPlace, compile, explain,
+};
 pub use jt_contexts::{ContextError, context_from_json};
 pub use jt_image::{Code, Image, ImageError, View, decode, encode, upgrade, view};
 pub use jt_inherit::Library;

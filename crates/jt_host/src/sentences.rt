@@ -4,7 +4,10 @@ ghost use Rattle.std.specs.Prelude.{◌≡◌, IfOk, option_map, string_bytes};
 ghost use Rattle.jt_host.specs.Sentences as spec;
 
 use crate::subjects::{quoted, subject_name};
-use jt_codegen::{ChainError, CompileError, Finding, ParseError, ScanError, ScopeError, Subject};
+use jt_codegen::{
+    ChainError, ChainSubject, CompileError, Finding, Limit, ParseError, ScanError, ScopeError,
+    Subject,
+};
 use jt_ids::LoopField;
 use std::alloc::{AllocError, Global};
 
@@ -125,6 +128,36 @@ fn limit_rule(subject: &Option<Subject>) -> &'static str
     }
 }
 
+/// Returns the limit of images that would be passed.
+fn image_rule(limit: Limit) -> &'static str
+    ensures { result.now ≡ spec.image_rule limit }
+{
+    match limit {
+        Limit::Constants => "the image would have more than 65,535 constants",
+        Limit::Units => {
+            "the image would have more than 65,535 units: one for each chain, block and macro"
+        }
+        Limit::Instructions => "the image would have more than 262,144 instructions",
+        Limit::Templates => "the places of the image would name more than 65,535 templates",
+        Limit::NameBytes => "a name in the image would have more than 65,535 bytes",
+        Limit::Bytes => "the image would have more than 16,777,216 bytes",
+        Limit::Entries => {
+            "more than 1,024 values would be needed at the same time, as by a list of 1,025 items"
+        }
+    }
+}
+
+/// Returns the limit of images that would be passed. Returns the rule of all limits if the subject
+/// is another one.
+fn code_rule(subject: &Option<Subject>) -> &'static str
+    ensures { result.now ≡ spec.code_rule subject.now }
+{
+    match subject {
+        Some(Subject::Limit(limit)) => image_rule(*limit),
+        _ => "the image would pass one of its limits, as 262,144 instructions or 65,535 constants",
+    }
+}
+
 /// Returns the rule that a refusal reports.
 fn rule_of(error: &CompileError, subject: &Option<Subject>) -> &'static str
     ensures { result.now ≡ spec.rule error.now subject.now }
@@ -133,13 +166,9 @@ fn rule_of(error: &CompileError, subject: &Option<Subject>) -> &'static str
         CompileError::Scope(ScopeError::TooManySlots) => limit_rule(subject),
         CompileError::Chain(error) => chain_rule(error),
         CompileError::Scope(error) => scope_rule(*error),
-        CompileError::CodeTooLong => {
-            "the image would pass one of its limits, as 262,144 instructions or 65,535 constants"
-        }
+        CompileError::CodeTooLong => code_rule(subject),
         CompileError::NoMemory => "memory is not enough",
-        CompileError::StackTooDeep => {
-            "more than 1,024 values would be needed at the same time, as by a list of 1,025 items"
-        }
+        CompileError::StackTooDeep => image_rule(Limit::Entries),
     }
 }
 
@@ -162,6 +191,7 @@ fn not_callable_lead(subject: &Subject) -> Option<&'static str>
         Subject::CalledName(_) | Subject::CalledField { .. } => {
             Some("no macro, block or function here is called")
         }
+        Subject::Macro(_) => Some("no macro may be called"),
         _ => None,
     }
 }
@@ -205,6 +235,54 @@ fn scope_lead(error: ScopeError, subject: &Subject) -> Option<&'static str>
     }
 }
 
+/// Returns the words before the name that an error of the parser is about, if they are known.
+fn parse_lead(error: ParseError) -> Option<&'static str>
+    ensures { option_map (λ x. x.now) result ≡ spec.parse_lead error }
+{
+    match error {
+        ParseError::UnknownFilter { .. } => Some("no filter is called"),
+        ParseError::UnknownTest { .. } => Some("no test is called"),
+        _ => None,
+    }
+}
+
+/// Returns the words before the name of the template that passes a limit of chains, if they are
+/// known.
+fn length_lead(subject: &Subject) -> Option<&'static str>
+    ensures { option_map (λ x. x.now) result ≡ spec.length_lead subject.now }
+{
+    match subject {
+        Subject::Chain(ChainSubject::Templates(_)) => {
+            Some("more than 64 templates extend one another: the 65th is")
+        }
+        Subject::Chain(ChainSubject::Chains(_)) => {
+            Some("includes reach more than 1,024 templates: one more is")
+        }
+        _ => None,
+    }
+}
+
+/// Returns the words before the name that a broken rule of chains is about, if they are known.
+fn chain_lead(error: &ChainError, subject: &Subject) -> Option<&'static str>
+    ensures { option_map (λ x. x.now) result ≡ spec.chain_lead error.now subject.now }
+{
+    match error {
+        ChainError::Missing => Some("no template is called"),
+        ChainError::BadName => Some("no template may be called"),
+        ChainError::ExtendsCycle => Some("a template extends itself through"),
+        ChainError::ChainTooLong => length_lead(subject),
+        ChainError::DoubleBlock => Some("a template has two blocks called"),
+        ChainError::RequiredNotGiven => Some("no template gives a body to the required block"),
+        ChainError::NoSuper => Some("super() has no next body in the block"),
+        ChainError::IncludeCycle => Some("a template includes itself through"),
+        ChainError::MacroTwice => Some("two macros or imports are called"),
+        ChainError::NoMacro => Some("the library offers no macro called"),
+        ChainError::NotALibrary => Some("more than macros, comments and whitespace is in"),
+        ChainError::Parse(_, error) => parse_lead(*error),
+        ChainError::Scan(..) | ChainError::NoMemory => None,
+    }
+}
+
 /// Returns the words before the name that a refusal is about, if they are known.
 fn lead_of(error: &CompileError, subject: &Option<Subject>) -> Option<&'static str>
     ensures { option_map (λ x. x.now) result ≡ spec.lead error.now subject.now }
@@ -213,12 +291,7 @@ fn lead_of(error: &CompileError, subject: &Option<Subject>) -> Option<&'static s
         return None;
     };
     match error {
-        CompileError::Chain(ChainError::Parse(_, ParseError::UnknownFilter { .. })) => {
-            Some("no filter is called")
-        }
-        CompileError::Chain(ChainError::Parse(_, ParseError::UnknownTest { .. })) => {
-            Some("no test is called")
-        }
+        CompileError::Chain(error) => chain_lead(error, subject),
         CompileError::Scope(error) => scope_lead(*error, subject),
         _ => None,
     }

@@ -3,9 +3,26 @@
 ghost use Rattle.std.specs.Prelude.{◌≡◌, IfOk, option_map, string_bytes};
 ghost use Rattle.jt_host.specs.Subjects as spec;
 
-use jt_codegen::Subject;
+use jt_codegen::{ChainSubject, Subject};
 use jt_turns::shown_text;
 use std::alloc::{AllocError, Global};
+
+/// Returns the name that a broken rule of chains is about.
+fn chain_name(subject: &ChainSubject) -> &str
+    ensures { result.now ≡ spec.chain_name subject.now }
+{
+    match subject {
+        ChainSubject::Template(name)
+        | ChainSubject::Macro { name, .. }
+        | ChainSubject::Block(name)
+        | ChainSubject::BlockTwice { name, .. }
+        | ChainSubject::Super { block: name, .. }
+        | ChainSubject::Ring { name, .. }
+        | ChainSubject::NameTwice { name, .. }
+        | ChainSubject::Templates(name)
+        | ChainSubject::Chains(name) => name.as_str(),
+    }
+}
 
 /// Returns the name that a refusal is about, if it has one.
 pub(crate) fn subject_name(
@@ -24,7 +41,25 @@ pub(crate) fn subject_name(
             | Subject::Macro(name),
         ) => Ok(Some(String::from_str(alloc, name)?)),
         Some(Subject::CalledField { of, field }) => Ok(Some(format!(in alloc; "{of}.{field}")?)),
-        Some(Subject::CalledExpression | Subject::Bindings | Subject::Names) | None => Ok(None),
+        Some(Subject::Chain(subject)) => Ok(Some(String::from_str(alloc, chain_name(subject))?)),
+        Some(Subject::CalledExpression | Subject::Bindings | Subject::Names | Subject::Limit(_))
+        | None => Ok(None),
+    }
+}
+
+/// Returns the words under which an explanation puts its marks, if there are any: the name that a
+/// refusal is about, or `super`.
+pub(crate) fn marked_name(
+    alloc: Global,
+    subject: &Option<Subject>,
+) -> Result<Option<String>, AllocError>
+    ensures { IfOk result (λ name. option_map string_bytes name ≡ spec.marked_name subject.now) }
+{
+    match subject {
+        Some(Subject::Chain(ChainSubject::Super { .. })) => {
+            Ok(Some(String::from_str(alloc, "super")?))
+        }
+        _ => subject_name(alloc, subject),
     }
 }
 

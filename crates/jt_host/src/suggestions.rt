@@ -2,13 +2,12 @@
 //! leaves out.
 
 ghost use Rattle.std.specs.Prelude.{◌≡◌, IfOk, map, option_map, string_bytes};
-ghost use Rattle.std.specs.Option.{option_or};
-ghost use Rattle.jt_host.specs.SyntaxHints.{sentence};
 ghost use Rattle.jt_host.specs.Suggestions as spec;
 
+use crate::clues::Clues;
 use crate::subjects::quoted;
-use crate::syntax_hints::SourceHint;
-use jt_codegen::{ChainError, CompileError, Finding, ScopeError, Subject};
+use crate::syntax_hints::hint_text;
+use jt_codegen::{ChainError, ChainSubject, CompileError, Finding, ScopeError, Subject, TagPlace};
 use jt_hints::{
     filter_names, left_out_filter, left_out_function, left_out_method, left_out_test, nearest,
     test_names,
@@ -103,36 +102,113 @@ fn near_name(error: &CompileError, subject: &Option<Subject>) -> Option<&'static
     }
 }
 
-/// Returns what to write: the advice, or else the sentence of the hint.
-fn advice_or_hint(advice: Option<&'static str>, hint: Option<SourceHint>) -> Option<&'static str>
-    ensures { option_map (λ x. x.now) result
-        ≡ option_or (option_map (λ x. x.now) advice.entry) (option_map sentence hint) }
+/// Returns what to write in place of the method that is called.
+fn method_advice(clues: &Clues) -> Option<&'static str>
+    ensures { option_map (λ x. x.now) result ≡ spec.method_advice clues.now }
 {
-    match (advice, hint) {
-        (Some(words), _) => Some(words),
-        (None, Some(hint)) => Some(hint.sentence()),
+    match &clues.method {
+        Some(name) => left_out_method(name),
+        None => None,
+    }
+}
+
+/// Returns what to write: the advice on a word or on a method, or else the reason of the error of
+/// syntax. Returns `None` if there is none of them.
+fn advice_text(
+    alloc: Global,
+    finding: &Finding,
+    clues: &Clues,
+) -> Result<Option<String>, AllocError>
+    ensures { IfOk result (λ text. option_map string_bytes text
+        ≡ spec.advice_text clues.now finding.now) }
+{
+    if let Some(words) = advice_of(&finding.error, &finding.subject) {
+        return Ok(Some(String::from_str(alloc, words)?));
+    }
+    if let Some(words) = method_advice(clues) {
+        return Ok(Some(String::from_str(alloc, words)?));
+    }
+    match clues.hint {
+        Some(hint) => Ok(Some(hint_text(alloc, hint)?)),
+        None => Ok(None),
+    }
+}
+
+/// Returns the known name that was probably meant, or else that of the sources.
+fn meant_text<'a>(finding: &Finding, clues: &'a Clues) -> Option<&'a str>
+    ensures { option_map (λ x. x.now) result ≡ spec.meant_text clues.now finding.now }
+{
+    match (near_name(&finding.error, &finding.subject), &clues.meant) {
+        (Some(name), _) => Some(name),
+        (None, Some(name)) => Some(name.as_str()),
         (None, None) => None,
     }
 }
 
+/// Returns the place of the first one of two, after the words for it.
+fn place_after(alloc: Global, words: &str, place: &TagPlace) -> Result<String, AllocError>
+    ensures { IfOk result (λ text. string_bytes text ≡ spec.place_after words.now place.now) }
+{
+    let TagPlace { template, line } = place;
+    format!(in alloc; "{words}{template}:{line}")
+}
+
+/// Returns the names of a ring of templates, each after a comma.
+fn ring_text(alloc: Global, names: &[String]) -> Result<String, AllocError>
+    ensures { IfOk result (λ text. string_bytes text ≡ spec.ring_text names.now) }
+{
+    let mut text = String::new(alloc);
+    for name in names {
+        let name = quoted(alloc, name)?;
+        let piece = format!(in alloc; ",{name}")?;
+        text.push_str(&piece)?;
+    }
+    Ok(text)
+}
+
+/// Returns the second place or the further names that a broken rule of chains is about, or the
+/// empty text if there are none.
+fn chain_text(alloc: Global, subject: &ChainSubject) -> Result<String, AllocError>
+    ensures { IfOk result (λ text. string_bytes text ≡ spec.chain_text subject.now) }
+{
+    match subject {
+        ChainSubject::BlockTwice { first, .. } | ChainSubject::NameTwice { first, .. } => {
+            place_after(alloc, "; the first one is at ", first)
+        }
+        ChainSubject::Super { opened, .. } => place_after(alloc, "; it begins at ", opened),
+        ChainSubject::Ring { rest, .. } => ring_text(alloc, rest),
+        _ => Ok(String::new(alloc)),
+    }
+}
+
+/// Returns the second place or the further names that a refusal is about, or the empty text if
+/// there are none.
+fn further_text(alloc: Global, subject: &Option<Subject>) -> Result<String, AllocError>
+    ensures { IfOk result (λ text. string_bytes text ≡ spec.further_text subject.now) }
+{
+    match subject {
+        Some(Subject::Chain(subject)) => chain_text(alloc, subject),
+        _ => Ok(String::new(alloc)),
+    }
+}
+
 /// Returns what follows the sentence of a finding: what to write, or else the name that was
-/// probably meant.
+/// probably meant, or else the second place or the further names that it is about.
 pub(crate) fn suggestion_of(
     alloc: Global,
     finding: &Finding,
-    hint: Option<SourceHint>,
+    clues: &Clues,
 ) -> Result<String, AllocError>
-    ensures { IfOk result (λ text. string_bytes text ≡ spec.suggestion hint finding.now) }
+    ensures { IfOk result (λ text. string_bytes text ≡ spec.suggestion clues.now finding.now) }
 {
-    let advice = advice_of(&finding.error, &finding.subject);
-    if let Some(advice) = advice_or_hint(advice, hint) {
-        return format!(in alloc; "; {advice}");
+    if let Some(words) = advice_text(alloc, finding, clues)? {
+        return format!(in alloc; "; {words}");
     }
-    match near_name(&finding.error, &finding.subject) {
+    match meant_text(finding, clues) {
         Some(name) => {
             let name = quoted(alloc, name)?;
             format!(in alloc; "; did you mean{name}?")
         }
-        None => Ok(String::new(alloc)),
+        None => further_text(alloc, &finding.subject),
     }
 }

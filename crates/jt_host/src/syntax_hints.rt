@@ -1,13 +1,13 @@
-//! Finds the reason of an error of syntax: the form that a tag has and the language does not, or
-//! the statements that do not nest.
+//! Finds the reason of an error of syntax: the form that a tag has and the language does not, the
+//! statements that do not nest, or the tag that stands where it may not.
 
-ghost use Rattle.std.specs.Prelude.{◌≡◌, IfOk, IfSome};
+ghost use Rattle.std.specs.Prelude.{◌≡◌, IfOk, IfSome, string_bytes};
 ghost use Rattle.jt_host.specs.SyntaxHints as spec;
 ghost use Rattle.jt_host.specs.Templates.{source_of};
 
 use crate::templates::Templates;
 use jt_codegen::{ChainError, CompileError, Explained, ParseError};
-use jt_hints::{NestingHint, SyntaxHint, nesting_hint, syntax_hint};
+use jt_hints::{NestingHint, PositionHint, SyntaxHint, nesting_hint, position_hint, syntax_hint};
 use jt_inherit::Library;
 use jt_scan::{Options, ScanError, Segment, SegmentKind, Source, scan};
 use std::alloc::{AllocError, Global};
@@ -19,17 +19,33 @@ pub enum SourceHint {
     Form(SyntaxHint),
     /// Statements that do not nest.
     Nesting(NestingHint),
+    /// A tag that stands where its statement is not allowed.
+    Position(PositionHint),
 }
 
 impl SourceHint {
     /// Returns what an explanation says of the reason.
-    pub(crate) fn sentence(self) -> &'static str
+    fn sentence(self) -> &'static str
         ensures { result.now ≡ spec.sentence self }
     {
         match self {
             SourceHint::Form(hint) => hint.sentence(),
             SourceHint::Nesting(hint) => hint.sentence(),
+            SourceHint::Position(hint) => hint.sentence(),
         }
+    }
+}
+
+/// Returns what an explanation says of the reason, with the line of the statement that is open.
+pub(crate) fn hint_text(alloc: Global, hint: SourceHint) -> Result<String, AllocError>
+    ensures { IfOk result (λ text. string_bytes text ≡ spec.hint_text hint) }
+{
+    let sentence = hint.sentence();
+    match hint {
+        SourceHint::Nesting(NestingHint::OtherOpen { line, .. }) => {
+            format!(in alloc; "{sentence}; it begins at line {line}")
+        }
+        _ => String::from_str(alloc, sentence),
     }
 }
 
@@ -70,7 +86,7 @@ fn first_hint(
 }
 
 /// Returns the reason that the segments have at the line: the first form of a tag, or else that the
-/// statements do not nest.
+/// statements do not nest, or else that a tag may not stand there.
 fn source_hint(
     alloc: Global,
     segments: &[Segment<'_>],
@@ -81,8 +97,11 @@ fn source_hint(
     if let Some(hint) = first_hint(alloc, segments, line)? {
         return Ok(Some(SourceHint::Form(hint)));
     }
-    match nesting_hint(alloc, segments, line)? {
-        Some(hint) => Ok(Some(SourceHint::Nesting(hint))),
+    if let Some(hint) = nesting_hint(alloc, segments, line)? {
+        return Ok(Some(SourceHint::Nesting(hint)));
+    }
+    match position_hint(alloc, segments, line)? {
+        Some(hint) => Ok(Some(SourceHint::Position(hint))),
         None => Ok(None),
     }
 }

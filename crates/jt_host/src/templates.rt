@@ -1,8 +1,10 @@
 //! Holds sources of templates by their names.
 
-ghost use Rattle.std.specs.Prelude.{◌≡◌, ◌≢◌, ℕ, List, OnOk, string_bytes};
+ghost use Rattle.std.specs.Prelude.{◌≡◌, ◌≢◌, ℕ, List, IfOk, IfSome, OnOk, string_bytes};
+ghost use Rattle.jt_host.specs.Meant.{IsTemplateNear};
 ghost use Rattle.jt_host.specs.Templates.{source_of};
 
+use jt_hints::nearest;
 use jt_inherit::Library;
 use std::alloc::{AllocError, Global};
 use std::collections::BTreeMap;
@@ -37,6 +39,34 @@ impl Templates {
     {
         self.sources.insert(name, source)?;
         Ok(())
+    }
+
+    /// Returns the names of the templates, in order.
+    fn names(&self, alloc: Global) -> Result<Vec<&str>, AllocError> {
+        let mut names = Vec::with_capacity(alloc, self.sources.len())?;
+        for name in self.sources.keys() {
+            names.push(name.as_str())?;
+        }
+        Ok(names)
+    }
+
+    /// Returns the template that a name probably means, if there is one.
+    pub(crate) fn nearest_name(
+        &self,
+        alloc: Global,
+        name: &str,
+    ) -> Result<Option<String>, AllocError>
+        ensures { IfOk result (λ found. IfSome found (λ y.
+            IsTemplateNear (source_of self.now) name.now (string_bytes y))) }
+    {
+        let names = self.names(alloc)?;
+        let Some(near) = nearest(name, &names) else {
+            return Ok(None);
+        };
+        match self.source(near) {
+            Some(_) => Ok(Some(String::from_str(alloc, near)?)),
+            None => Ok(None),
+        }
     }
 }
 

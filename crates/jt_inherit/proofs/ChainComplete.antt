@@ -13,8 +13,6 @@ use Rattle.std.proofs.lemmas.Bool.Decides.{nat_tests}
 use Rattle.jt_graph.specs.Graph as graph
 use Rattle.jt_graph.specs.Graph.{Graph, next_of, IsClosed, HasCycle, IsOrder}
 use Rattle.jt_graph.specs.View.{graph_of}
-use Rattle.jt_graph.specs.declared.error.OrderError.{OrderError}
-use Rattle.jt_graph.specs.declared.error.OrderError.TheVariants as order
 use Rattle.jt_scan.specs.declared.options.Options.{Options}
 use Rattle.jt_ast.specs.Texts.{among, repeated}
 use Rattle.jt_ast.specs.Expressions.{Text}
@@ -33,8 +31,11 @@ use Rattle.jt_chains.specs.Names.{IsName}
 use Rattle.jt_chains.specs.Needs.{Need, needed}
 use Rattle.jt_chains.specs.TemplateFiles.{namespace_view, AreWhole}
 use Rattle.jt_chains.specs.Indices.{namespace_at}
+use Rattle.jt_inherit.specs.Findings.{IsFinding}
 use Rattle.jt_inherit.specs.Refusals.{Breaks}
-use Rattle.jt_inherit.specs.Refused.{gives}
+use Rattle.jt_inherit.specs.internal.FindsAt.{FindsAt}
+use Rattle.jt_inherit.specs.declared.finding.ChainFinding.{ChainFinding}
+use Rattle.jt_inherit.proofs.FindingsHold.{rule_said}
 use Rattle.jt_chains.specs.Rules as rules
 use Rattle.jt_chains.specs.Rules.{Asks, Reaches, here, asked, extends_path, is_whole, KeepsRules}
 use Rattle.jt_chains.specs.Weights.{templates_weight, chains_weight}
@@ -69,7 +70,7 @@ at_number P [] i lt a = absurd (omega arith)
 at_number P (w ∷ ws) zero lt a = a.0
 at_number P (w ∷ ws) (suc i) lt a = at_number P ws i (omega arith) a.1
 
-followed_number : (given : SourceTexts) (ts : List Template) (hs gs : List Namespace) (ws ns : Graph) (i : ℕ)
+pub followed_number : (given : SourceTexts) (ts : List Template) (hs gs : List Namespace) (ws ns : Graph) (i : ℕ)
     → i < length ws → AreFollowed given ts hs gs ws ns
     → IsFollowed given ts hs (namespace_at gs i) (next_of ws i) (next_of ns i)
 followed_number given ts hs gs [] ns i lt a = absurd (omega arith)
@@ -123,7 +124,7 @@ numbered_among hs j (k ∷ js) [] e a = absurd (cc)
 numbered_among hs j (k ∷ js) (n ∷ ns) e a =
     search (arith, rules, numbered_among hs j js ns, nat_tests, indexed_among of_namespaces, or_true)
 
-none_next : (ns : Graph) (i j : ℕ) → length ns ≤ i → graph.among j (next_of ns i) ≡ true → ⊥
+pub none_next : (ns : Graph) (i j : ℕ) → length ns ≤ i → graph.among j (next_of ns i) ≡ true → ⊥
 none_next [] i j le a = cc
 none_next (n ∷ ns) zero j le a = omega arith
 none_next (n ∷ ns) (suc i) j le a = none_next ns i j (omega arith) a
@@ -271,10 +272,10 @@ module _ (given : SourceTexts) (options : Options) (ts : List Template) {ks : Li
 module _ {given : SourceTexts} {options : Options} {entry : Text} {ts : List Template} {ks : List Text}
     {hs : List Namespace} {ws ns : Graph} (f : AreFound given options entry ts ks hs ws ns)
     (all : length ws ≡ length hs) where
-  number : (i : ℕ) → i < length hs → IsFollowed given ts hs (namespace_at hs i) (next_of ws i) (next_of ns i)
+  pub number : (i : ℕ) → i < length hs → IsFollowed given ts hs (namespace_at hs i) (next_of ws i) (next_of ns i)
   number i lt = followed_number given ts hs hs ws ns i (omega (arith, all)) f.followed
 
-  lens : length ns ≡ length hs
+  pub lens : length ns ≡ length hs
   lens = next_len given ts hs hs ws ns f.followed ∙ all
 
   pub closed : IsClosed ns
@@ -282,7 +283,7 @@ module _ {given : SourceTexts} {options : Options} {entry : Text} {ts : List Tem
       subst (λ n. AllByRecursion (λ js. AllByRecursion (λ j. j < n) js) ns) (sym lens)
       (next_within given ts hs hs ws ns f.followed)
 
-  reached : (h : Namespace) → listed h hs ≡ true → Reaches (sources_in ts) options.autoescape (a_chain entry) h
+  pub reached : (h : Namespace) → listed h hs ≡ true → Reaches (sources_in ts) options.autoescape (a_chain entry) h
   reached = f.reached
 
   some : 0 < length hs
@@ -303,9 +304,21 @@ module _ {given : SourceTexts} {options : Options} {entry : Text} {ts : List Tem
       one_breaks given options ts f.known (namespace_at hs i) (next_of ws i) (number i lt).led entry
       (reached (namespace_at hs i) (namespace_among hs i lt)) e b.broken
 
+  pub chain_finds : (x : ChainFinding) → FindsAt options.autoescape ts ws x → IsFinding given entry options x
+  chain_finds x b =
+      let i = b.number in
+      let lt : i < length hs = omega (arith, b.within, all) in
+      record {
+        broken = chain_breaks x.error (record { number = i; within = b.within; broken = b.broken });
+        says =
+            rule_said f.known (reached (namespace_at hs i) (namespace_among hs i lt)) (number i lt).led
+            (is_one given options ts f.known (namespace_at hs i) (next_of ws i) (number i lt).led) x.error x.place
+            x.subject b.said;
+      }
+
   -- ---- a cycle of numbers is a cycle of chains
 
-  edge : (i j : ℕ) → graph.among j (next_of ns i) ≡ true
+  pub edge : (i j : ℕ) → graph.among j (next_of ns i) ≡ true
       → (i < length hs) × (listed (namespace_at hs j) (included (sources_in ts) (namespace_at hs i)) ≡ true)
   edge i j a =
       ⊎_elim (λ (lt : i < length hs).
@@ -326,12 +339,6 @@ module _ {given : SourceTexts} {options : Options} {entry : Text} {ts : List Tem
 
   pub cycle_breaks : HasCycle ns → Breaks error.IncludeCycle given entry options
   cycle_breaks c = search (arith, rules, reached, namespace_among, begins_at, along)
-
-  pub order_breaks : (g : Graph) (r : OrderError) (e : ChainError) → g ≡ ns → gives r e → (r ≡ order.Cycle → HasCycle g)
-      → Breaks e given entry options
-  order_breaks g order.Cycle e q is c =
-      subst (λ z. Breaks z given entry options) (sym is) (cycle_breaks (subst HasCycle q (c refl)))
-  order_breaks g order.NoMemory e q is c = subst (λ z. Breaks z given entry options) (sym is) tt
 
   -- ---- the order of namespaces
 
@@ -580,11 +587,16 @@ module _ {given : SourceTexts} {options : Options} {entry : Text} (f : Discovery
   pub its_paths : length (graph_of f.extends_paths.items) ≡ length (found_namespaces f)
   its_paths = length-map f.extends_paths.items (λ (v : Vec ℕ Global). v.items) ∙ lens
 
-  pub its_order : (next : List (Vec ℕ Global)) (order : List ℕ) → next ≡ f.next.items
-      → (IsClosed (graph_of next) → IsOrder (graph_of next) order) → IsOrder (graph_of f.next.items) order
-  its_order next order e h =
-      subst (λ (z : List (Vec ℕ Global)). IsOrder (graph_of z) order) e
-      (h (subst (λ (z : List (Vec ℕ Global)). IsClosed (graph_of z)) (sym e) (closed its_found its_paths)))
+  pub its_next : length f.next.items ≡ length (found_namespaces f)
+  its_next =
+      sym (length-map f.next.items (λ (v : Vec ℕ Global). v.items))
+      ∙ next_len given (found_templates f) (found_namespaces f) (found_namespaces f) (graph_of f.extends_paths.items)
+      (graph_of f.next.items) its_found.followed
+      ∙ its_paths
+
+  pub its_order : (order : List ℕ) → (IsClosed (graph_of f.next.items) → IsOrder (graph_of f.next.items) order)
+      → IsOrder (graph_of f.next.items) order
+  its_order order h = h (closed its_found its_paths)
 
 pub its_namespaces : (f : Discovery) (is js : List ℕ) (namespaces : List linked.Namespace) → js ≡ is
     → HasNamespaces (found_namespaces f) (graph_of f.extends_paths.items) js namespaces

@@ -29,3 +29,10 @@ pub mod StoreLookup
 pub mod SuperInBranches
 pub mod TreeWeights
 pub mod ChainComplete
+pub mod PlacedErrors
+pub mod TagPlaces
+pub mod FindingsHold
+pub mod ImportFound
+pub mod RingFound
+pub mod LastCall
+pub mod SuperTagLines

@@ -47,7 +47,7 @@ pub repeated_front : (xs ys : List Text) → repeated xs ≡ true → repeated (
 repeated_front [] ys h = absurd (cc)
 repeated_front (x ∷ xs) ys h = search (arith, rules, repeated_front xs ys, among_front of_texts, or_true)
 
-both_true : (a b : Bool) → (a && b) ≡ true → (a ≡ true) × (b ≡ true)
+pub both_true : (a b : Bool) → (a && b) ≡ true → (a ≡ true) × (b ≡ true)
 both_true true b h = (refl, h)
 both_true false b h = absurd (cc)
 

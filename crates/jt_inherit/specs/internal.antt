@@ -1,10 +1,17 @@
 pub mod Along
+pub mod Breaking
 pub mod Checks
 pub mod ExtendsPaths
 pub mod Faults
+pub mod FindsAt
 pub mod Found
 pub mod Given
+pub mod Imported
 pub mod Numbers
+pub mod Placing
+pub mod Rings
 pub mod RuleTests
 pub mod SetView
 pub mod Sets
+pub mod Tags
+pub mod Unmet

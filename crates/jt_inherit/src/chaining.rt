@@ -8,11 +8,13 @@ ghost use Rattle.jt_ast.specs.Sizes.{body_bytes};
 ghost use Rattle.jt_ast.specs.Expressions.{Text};
 ghost use Rattle.jt_chains.specs.Along.{AreIndices};
 ghost use Rattle.jt_inherit.specs.Chains.{IsChain};
-ghost use Rattle.jt_inherit.specs.internal.Found.{AllKeep, BreaksAt, HasNamespaces};
+ghost use Rattle.jt_inherit.specs.internal.Found.{AllKeep, HasNamespaces};
+ghost use Rattle.jt_inherit.specs.internal.FindsAt.{FindsAt};
 ghost use Rattle.jt_inherit.specs.internal.Found.{found_namespaces};
 ghost use Rattle.jt_inherit.specs.internal.Found.{found_templates, found_paths};
 ghost use Rattle.jt_chains.specs.TemplateFiles.{namespace_view};
 ghost use Rattle.jt_chains.specs.Indices.{namespace_at};
+ghost use Rattle.jt_inherit.specs.Findings.{IsFinding};
 ghost use Rattle.jt_inherit.specs.Refusals.{Breaks};
 ghost use Rattle.jt_chains.specs.Weights.{chains_weight};
 ghost use Rattle.jt_inherit.specs.internal.Sets.{names_view};
@@ -20,13 +22,15 @@ ghost use Rattle.jt_inherit.specs.internal.ExtendsPaths.{AreNamed};
 ghost use Rattle.jt_inherit.specs.Small.{chains_len, source_len};
 ghost use Rattle.jt_chains.specs.View.{Seen, chain_view, sources_of};
 
+use crate::breaking::rule_finding;
 use crate::discovery::{Discovery, discover};
 use crate::error::ChainError;
+use crate::finding::ChainFinding;
 use crate::library::{Library, Loader};
+use crate::rings::order_of;
 use crate::rules::check_rules;
 use crate::store::TemplateStore;
 use jt_chains::{Chain, Namespace, indices_by_name};
-use jt_graph::order;
 use jt_scan::Options;
 use std::alloc::{AllocError, Global};
 
@@ -72,9 +76,55 @@ pub fn chain<L: Library>(
     ensures few { IfOk result (λ found. 7 * length (chain_view found).order
         ≤ chains_weight (sources_of (chain_view found)) (chain_view found).order + 7) }
 {
+    match chain_or_finding(alloc, entry, library, options) {
+        Ok(chain) => Ok(chain),
+        Err(finding) => Err(finding.error),
+    }
+}
+
+/// Returns what `chain` returns. An error comes with the tag that breaks the rule and what it is
+/// broken in, where they are known.
+///
+/// # Errors
+///
+/// The finding of an error of `chain`.
+pub fn chain_or_finding<L: Library>(
+    alloc: Global,
+    entry: &str,
+    library: &L,
+    options: Options,
+) -> Result<Chain, ChainFinding>
+    // Every source is read, and no rule of chains is broken.
+    ensures chained { IfOk result
+        (λ found. IsChain (L.sources library.now) entry.now options (chain_view found)) }
+    // The entry has no other chain, up to the order of templates and chains. If it has one, the
+    // only possible error is lack of memory.
+    ensures only { (other : Seen)
+        → IsChain (L.sources library.now) entry.now options other
+        → MatchResult result
+        (λ found. (name : Text)
+        → sources_of (chain_view found) name ≡ sources_of other name)
+        (λ f. f.error ≡ ChainError.NoMemory) }
+    // The reported rule is broken, at the place and in the subject.
+    ensures refused { IfErr result (IsFinding (L.sources library.now) entry.now options) }
+    // The trees weigh at most as much as their sources have bytes. A template counts once for each
+    // chain, and a library once for each chain that imports it.
+    ensures weighs { IfOk result (λ found. chains_weight (sources_of (chain_view found))
+        (chain_view found).order
+        ≤ chains_len (L.sources library.now) (sources_of (chain_view found))
+        (chain_view found).order) }
+    // The names and texts of a tree are no longer than its source.
+    ensures short { IfOk result (λ found. AllByRecursion
+        (λ template. body_bytes template.body ≤ source_len (L.sources library.now template.name))
+        (chain_view found).templates) }
+    // The weight of the trees bounds the number of chains and libraries: each of them but the
+    // entry's chain has its own tag.
+    ensures few { IfOk result (λ found. 7 * length (chain_view found).order
+        ≤ chains_weight (sources_of (chain_view found)) (chain_view found).order + 7) }
+{
     let found = discover(alloc, entry, &Loader { library, options })?;
     check_chains(alloc, &found, options.autoescape)?;
-    let order = order(alloc, &found.next)?;
+    let order = order_of(alloc, &found)?;
     let namespaces = namespaces_in(alloc, &found, &order)?;
     let indices = indices_by_name(alloc, &found.files)?;
     Ok(Chain {
@@ -86,20 +136,23 @@ pub fn chain<L: Library>(
 }
 
 /// Refuses chains and libraries whose blocks, macros or imports break a rule.
-fn check_chains(alloc: Global, found: &Discovery, escaping: bool) -> Result<(), ChainError>
+fn check_chains(alloc: Global, found: &Discovery, escaping: bool) -> Result<(), ChainFinding>
     requires named { AreNamed (found_templates found.now) (names_view found.now.names) }
     requires indices { AllByRecursion (AreIndices (found_templates found.now))
         (found_paths found.now) }
     ensures kept { OnOk result (AllKeep escaping found.now) }
     ensures broken { IfErr result
-        (BreaksAt escaping (found_templates found.now) (found_paths found.now)) }
+        (FindsAt escaping (found_templates found.now) (found_paths found.now)) }
 {
     for extends_path in &found.extends_paths {
         let store = TemplateStore {
             names: &found.names,
             files: &found.files,
         };
-        check_rules(alloc, store, extends_path, escaping)?;
+        match check_rules(alloc, store, extends_path, escaping) {
+            Ok(()) => {}
+            Err(error) => return Err(rule_finding(alloc, store, extends_path, error)?),
+        }
     }
     Ok(())
 }

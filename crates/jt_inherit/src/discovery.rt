@@ -1,14 +1,26 @@
 //! Finds the chains and libraries that an entry reaches.
 
-ghost use Rattle.std.specs.Prelude.{◌≡◌, ◌+◌, ◌<◌, length, OnOk, IfOk, IfErr};
+ghost use Rattle.std.specs.Prelude.{◌≡◌, ◌+◌, ◌<◌, true, length, OnOk, IfOk, IfErr};
+ghost use Rattle.std.specs.List.{AllByRecursion};
+ghost use Rattle.jt_chains.specs.Along.{AreIndices};
+ghost use Rattle.jt_chains.specs.Indices.{namespace_at};
 ghost use Rattle.jt_inherit.specs.internal.Found.{IsFirst, IsFound, found_namespaces, root_of};
-ghost use Rattle.jt_inherit.specs.Refusals.{Breaks};
+ghost use Rattle.jt_inherit.specs.Findings.{IsFinding};
+ghost use Rattle.jt_inherit.specs.internal.ExtendsPaths.{AreNamed};
+ghost use Rattle.jt_inherit.specs.internal.Found.{found_paths, found_templates};
+ghost use Rattle.jt_inherit.specs.internal.Imported.{IsNoLibrary, IsNotLibrary, IsOfImport};
+ghost use Rattle.jt_inherit.specs.internal.SetView.{key_view};
+ghost use Rattle.jt_inherit.specs.internal.Sets.{names_view};
 
 use crate::error::ChainError;
 use crate::extends_path::read_namespace;
+use crate::finding::{ChainFinding, ChainSubject};
+use crate::importing::library_file;
 use crate::including::{next_namespaces, read_includes};
+use crate::leading::{leading_tag, name_of};
 use crate::library::{Library, Loader};
 use crate::sets::{Names, NamespaceKey, Namespaces};
+use crate::store::TemplateStore;
 use jt_chains::TemplateFile;
 use std::alloc::{AllocError, Global};
 
@@ -49,13 +61,72 @@ fn begin(alloc: Global, entry: &str) -> Result<Discovery, AllocError>
     })
 }
 
+/// Returns the finding of the library of a number, which holds something other than macros, with
+/// the first tag that imports it.
+fn import_finding(
+    alloc: Global,
+    found: &Discovery,
+    number: usize,
+) -> Result<ChainFinding, AllocError>
+    requires number { number < length (found_namespaces found.now) }
+    requires indices { AllByRecursion (AreIndices (found_templates found.now))
+        (found_paths found.now) }
+    ensures { IfOk result (IsOfImport (found_templates found.now) (found_paths found.now)
+        (namespace_at (found_namespaces found.now) number)) }
+{
+    for from in 0..found.extends_paths.len() {
+        if let Some(place) = leading_tag(alloc, found, from, number)? {
+            let name = name_of(alloc, found, number)?;
+            return Ok(ChainFinding {
+                error: ChainError::NotALibrary,
+                place: Some(place),
+                subject: Some(ChainSubject::Template(name)),
+            });
+        }
+    }
+    Ok(ChainFinding::without_place(ChainError::NotALibrary))
+}
+
+/// Returns whether a namespace is a library that was read and holds something other than macros.
+fn is_no_library(found: &Discovery, namespace: &NamespaceKey) -> bool
+    requires { AreNamed (found_templates found.now) (names_view found.now.names) }
+    ensures { result ≡ true → IsNotLibrary (found_templates found.now) (key_view namespace.now) }
+{
+    if !namespace.is_library {
+        return false;
+    }
+    let store = TemplateStore {
+        names: &found.names,
+        files: &found.files,
+    };
+    match library_file(store, &namespace.name) {
+        Some(file) => !file.is_library(),
+        None => false,
+    }
+}
+
+/// Refuses the library of a number if it was read and holds something other than macros.
+fn check_library(alloc: Global, found: &Discovery, number: usize) -> Result<(), ChainFinding>
+    requires number { number < length (found_namespaces found.now) }
+    requires named { AreNamed (found_templates found.now) (names_view found.now.names) }
+    requires indices { AllByRecursion (AreIndices (found_templates found.now))
+        (found_paths found.now) }
+    ensures refused { IfErr result (IsNoLibrary (found_templates found.now) (found_paths found.now)
+        (namespace_at (found_namespaces found.now) number)) }
+{
+    if is_no_library(found, found.namespaces.get(number)) {
+        return Err(import_finding(alloc, found, number)?);
+    }
+    Ok(())
+}
+
 /// Follows the next chain or library: reads its templates and the templates that they include or
 /// import.
 fn follow<L: Library>(
     alloc: Global,
     found: &mut Discovery,
     loader: &Loader<'_, L>,
-) -> Result<(), ChainError>
+) -> Result<(), ChainFinding>
     requires found { IsFound (L.sources loader.now.library.now) loader.now.options found.old }
     requires more { length found.old.extends_paths.items < length (found_namespaces found.old) }
     ensures found { OnOk result
@@ -64,9 +135,11 @@ fn follow<L: Library>(
         (length found.new.extends_paths.items ≡ length found.old.extends_paths.items + 1) }
     ensures root { OnOk result (root_of found.new ≡ root_of found.old) }
     ensures refused { IfErr result
-        (λ e. Breaks e (L.sources loader.now.library.now) (root_of found.old) loader.now.options) }
+        (IsFinding (L.sources loader.now.library.now) (root_of found.old) loader.now.options) }
 {
-    let namespace = found.namespaces.get(found.extends_paths.len());
+    let number = found.extends_paths.len();
+    check_library(alloc, found, number)?;
+    let namespace = found.namespaces.get(number);
     let extends_path = read_namespace(
         alloc,
         &mut found.names,
@@ -99,12 +172,12 @@ pub(crate) fn discover<L: Library>(
     alloc: Global,
     entry: &str,
     loader: &Loader<'_, L>,
-) -> Result<Discovery, ChainError>
+) -> Result<Discovery, ChainFinding>
     ensures found { IfOk result (IsFound (L.sources loader.now.library.now) loader.now.options) }
     ensures all { IfOk result (λ f. length f.extends_paths.items ≡ length (found_namespaces f)) }
     ensures root { IfOk result (λ f. root_of f ≡ entry.now) }
     ensures refused { IfErr result
-        (λ e. Breaks e (L.sources loader.now.library.now) entry.now loader.now.options) }
+        (IsFinding (L.sources loader.now.library.now) entry.now loader.now.options) }
 {
     let mut found = begin(alloc, entry)?;
     'chains: while found.extends_paths.len() < found.namespaces.len() {

@@ -10,7 +10,9 @@ ghost use Rattle.jt_inherit.specs.internal.ExtendsPaths.{KnowTemplateFiles, Read
 ghost use Rattle.jt_inherit.specs.internal.SetView.{key_view};
 
 use crate::error::ChainError;
+use crate::finding::ChainFinding;
 use crate::library::{Library, Loader};
+use crate::placing::{head_finding, parent_finding};
 use crate::sets::{Names, NamespaceKey};
 use crate::statements::parent_of;
 use crate::store::read_index;
@@ -50,15 +52,18 @@ fn read_library<L: Library>(
     files: &mut Vec<TemplateFile>,
     name: &str,
     loader: &Loader<'_, L>,
-) -> Result<Vec<usize>, ChainError>
+) -> Result<Vec<usize>, ChainFinding>
     requires { KnowTemplateFiles (L.sources loader.now.library.now) loader.now.options
         files.old.items names.old }
     ensures { Reads (L.sources loader.now.library.now) loader.now.options files.old.items
         files.new.items names.old names.new (a_library name.now) result }
 {
-    let index = read_index(alloc, names, files, name, loader)?;
+    let index = match read_index(alloc, names, files, name, loader) {
+        Ok(index) => index,
+        Err(error) => return Err(head_finding(alloc, name, error)?),
+    };
     if !holds_macros(files[index].template.body()) {
-        return Err(ChainError::NotALibrary);
+        return Err(ChainFinding::without_place(ChainError::NotALibrary));
     }
     let mut extends_path = Vec::new(alloc);
     extends_path.push(index)?;
@@ -73,7 +78,7 @@ pub(crate) fn read_namespace<L: Library>(
     files: &mut Vec<TemplateFile>,
     namespace: &NamespaceKey,
     loader: &Loader<'_, L>,
-) -> Result<Vec<usize>, ChainError>
+) -> Result<Vec<usize>, ChainFinding>
     requires { KnowTemplateFiles (L.sources loader.now.library.now) loader.now.options
         files.old.items names.old }
     ensures { Reads (L.sources loader.now.library.now) loader.now.options files.old.items
@@ -86,9 +91,13 @@ pub(crate) fn read_namespace<L: Library>(
     let mut name = String::from_str(alloc, &namespace.name)?;
     for _turn in 0..MAX_TEMPLATES {
         if is_on_path(files, &extends_path, &name) {
-            return Err(ChainError::ExtendsCycle);
+            let error = ChainError::ExtendsCycle;
+            return Err(parent_finding(alloc, files, &extends_path, &name, error)?);
         }
-        let index = read_index(alloc, names, files, &name, loader)?;
+        let index = match read_index(alloc, names, files, &name, loader) {
+            Ok(index) => index,
+            Err(error) => return Err(parent_finding(alloc, files, &extends_path, &name, error)?),
+        };
         extends_path.push(index)?;
         match parent_name(alloc, &files[index])? {
             Some(parent) => name = parent,
@@ -96,7 +105,7 @@ pub(crate) fn read_namespace<L: Library>(
         }
     }
     if is_on_path(files, &extends_path, &name) {
-        return Err(ChainError::ExtendsCycle);
+        return Err(parent_finding(alloc, files, &extends_path, &name, ChainError::ExtendsCycle)?);
     }
-    Err(ChainError::ChainTooLong)
+    Err(parent_finding(alloc, files, &extends_path, &name, ChainError::ChainTooLong)?)
 }

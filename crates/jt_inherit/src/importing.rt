@@ -18,7 +18,7 @@ use jt_chains::{TemplateFile, macro_names, macros_at};
 use std::alloc::{AllocError, Global};
 
 /// Returns the template of a library, if it was read.
-fn library_file<'a>(store: TemplateStore<'a>, library: &str) -> Option<&'a TemplateFile>
+pub(crate) fn library_file<'a>(store: TemplateStore<'a>, library: &str) -> Option<&'a TemplateFile>
     ensures { IsGiven (files_view store.entry.files.now) library.now result }
 {
     let index = store.names.find(library)?;

@@ -7,10 +7,11 @@ ghost use Rattle.std.specs.List.{AllByRecursion};
 ghost use Rattle.jt_chains.specs.Along.{AreIndices};
 ghost use Rattle.jt_inherit.specs.internal.Along.{imports_along, needs_of};
 ghost use Rattle.jt_chains.specs.Chain.{listed};
-ghost use Rattle.jt_inherit.specs.internal.Found.{IsMet, IsFaultAt, IsNeedRefusal, IsPutFault};
+ghost use Rattle.jt_inherit.specs.internal.Found.{IsMet, IsFaultAt, IsPutFault};
 ghost use Rattle.jt_inherit.specs.internal.Found.{AreNamespaces, AreNext, AddsNext, IsNextFault};
 ghost use Rattle.jt_inherit.specs.internal.Found.{chains_of};
 ghost use Rattle.jt_inherit.specs.internal.Found.{lead_to, leads_to};
+ghost use Rattle.jt_inherit.specs.internal.Unmet.{IsUnmet};
 ghost use Rattle.jt_chains.specs.Needs.{AddsNeeds, need_namespace, need_view, needed, needs_view};
 ghost use Rattle.jt_chains.specs.TemplateFiles.{files_view};
 ghost use Rattle.jt_inherit.specs.internal.SetView.{key_view};
@@ -20,7 +21,9 @@ ghost use Rattle.jt_inherit.specs.internal.ExtendsPaths.{KnowTemplateFiles};
 ghost use Rattle.jt_inherit.specs.internal.ExtendsPaths.{AddsNames, StayKnown};
 
 use crate::error::ChainError;
+use crate::finding::ChainFinding;
 use crate::library::{Library, Loader};
+use crate::placing::need_finding;
 use crate::reading::read_file;
 use crate::sets::{Names, NamespaceKey, Namespaces};
 use crate::statements::add_imports;
@@ -100,7 +103,7 @@ pub(crate) fn read_includes<L: Library>(
     files: &[TemplateFile],
     extends_path: &[usize],
     loader: &Loader<'_, L>,
-) -> Result<Vec<TemplateFile>, ChainError>
+) -> Result<Vec<TemplateFile>, ChainFinding>
     requires known { KnowTemplateFiles (L.sources loader.now.library.now) loader.now.options
         files.now names.old }
     requires indices { AreIndices (files_view files.now) extends_path.now }
@@ -114,13 +117,18 @@ pub(crate) fn read_includes<L: Library>(
         (IsMet (L.sources loader.now.library.now) (names_view names.new))
         (needs_of files.now extends_path.now)) }
     ensures refused { IfErr result
-        (IsNeedRefusal (L.sources loader.now.library.now) loader.now.options
-        (needs_of files.now extends_path.now)) }
+        (IsUnmet (L.sources loader.now.library.now) loader.now.options
+        files.now extends_path.now) }
 {
     let found = needs_at(alloc, files, extends_path)?;
     let mut newly_read = Vec::new(alloc);
     for include in &found {
-        read_include(alloc, names, &mut newly_read, *include, loader)?;
+        match read_include(alloc, names, &mut newly_read, *include, loader) {
+            Ok(()) => {}
+            Err(error) => {
+                return Err(need_finding(alloc, files, extends_path, include.name, error)?);
+            }
+        }
     }
     Ok(newly_read)
 }

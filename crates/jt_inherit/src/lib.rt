@@ -8,24 +8,32 @@
 //! entry.
 #![tactic(auto)]
 
+mod bodies;
+mod breaking;
 mod chaining;
 mod discovery;
 mod error;
 mod extends_path;
+mod finding;
 mod importing;
 mod including;
 mod laws;
+mod leading;
 mod library;
 mod names;
+mod placing;
 mod reading;
+mod rings;
 mod rules;
 mod sets;
 mod statements;
 mod store;
 mod supers;
+mod tags;
 
-pub use chaining::chain;
+pub use chaining::{chain, chain_or_finding};
 pub use error::ChainError;
+pub use finding::{ChainFinding, ChainSubject, TagPlace};
 pub use jt_chains::{Block, Chain, Layer, Macro, Namespace, TemplateFile};
 pub use laws::refusal_laws;
 pub use library::Library;

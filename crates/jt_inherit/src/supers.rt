@@ -1,10 +1,11 @@
 //! Finds calls of `super()` in the body of a block, nested blocks excluded.
 
-ghost use Rattle.std.specs.Prelude.{◌≡◌, option_map};
+ghost use Rattle.std.specs.Prelude.{◌≡◌, ◌||◌, true, option_map, IfSome};
 ghost use Rattle.jt_ast.specs.ExpressionView.{expr_view, exprs_view, pairs_view};
 ghost use Rattle.jt_chains.specs.Supers as spec;
 ghost use Rattle.jt_ast.specs.StatementView.{stmt_view, body_view, branches_view, filter_call_view};
 ghost use Rattle.jt_ast.specs.StatementView.{filter_calls_view};
+ghost use Rattle.jt_inherit.specs.SuperTags.{stmt_super_at, super_at};
 
 use jt_ast::{Branch, Expr, FilterCall, Stmt};
 
@@ -158,4 +159,98 @@ fn statement_super(statement: &Stmt) -> bool
         Stmt::With { values, body, .. } => any_super_pair(values) || calls_super(body),
         Stmt::FilterBlock { filters, body, .. } => calls_super(body) || filters_super(filters),
     }
+}
+
+/// Returns the line of the first tag that calls `super()`, nested blocks excluded.
+#[cycle(lines)]
+pub(crate) fn super_line(body: &[Stmt]) -> Option<u32>
+    ensures { IfSome result (λ n. super_at n (body_view body.now) ≡ true) }
+{
+    for statement in body {
+        if let Some(line) = statement_line(statement) {
+            return Some(line);
+        }
+    }
+    None
+}
+
+/// Returns the line of the first tag of a statement that calls `super()`, nested blocks excluded.
+#[cycle(lines)]
+fn statement_line(statement: &Stmt) -> Option<u32>
+    ensures { IfSome result (λ n. stmt_super_at n (stmt_view statement.now) ≡ true) }
+{
+    match statement {
+        Stmt::Data(_)
+        | Stmt::Macro { .. }
+        | Stmt::Include { .. }
+        | Stmt::Import { .. }
+        | Stmt::From { .. }
+        | Stmt::Extends(_, _)
+        | Stmt::Block { .. } => None,
+        Stmt::Print(line, value) => line_if(has_super(value), *line),
+        Stmt::Set { line, value, .. } => line_if(has_super(value), *line),
+        Stmt::If(branches, other) => {
+            for Branch {
+                line,
+                condition,
+                body,
+            } in branches {
+                if has_super(condition) {
+                    return Some(*line);
+                }
+                if let Some(line) = super_line(body) {
+                    return Some(line);
+                }
+            }
+            super_line(other)
+        }
+        Stmt::For {
+            line,
+            over,
+            condition,
+            body,
+            other,
+            ..
+        } => {
+            if head_super(over, condition) {
+                return Some(*line);
+            }
+            match super_line(body) {
+                Some(line) => Some(line),
+                None => super_line(other),
+            }
+        }
+        Stmt::SetBlock { body, .. } | Stmt::Autoescape { body, .. } => super_line(body),
+        Stmt::With { line, values, body } => {
+            if any_super_pair(values) {
+                return Some(*line);
+            }
+            super_line(body)
+        }
+        Stmt::FilterBlock {
+            line,
+            filters,
+            body,
+        } => {
+            if filters_super(filters) {
+                return Some(*line);
+            }
+            super_line(body)
+        }
+    }
+}
+
+/// Returns the line if the condition is true.
+fn line_if(condition: bool, line: u32) -> Option<u32>
+    ensures { IfSome result (λ n. (n ≡ line) × (condition ≡ true)) }
+{
+    if condition { Some(line) } else { None }
+}
+
+/// Returns whether the head of a `for` calls `super()`.
+fn head_super(over: &Expr, condition: &Option<Expr>) -> bool
+    ensures { result ≡ (spec.has_super (expr_view over.now)
+        || spec.condition_super (option_map expr_view condition.now)) }
+{
+    has_super(over) || condition_super(condition)
 }

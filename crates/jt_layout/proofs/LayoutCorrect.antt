@@ -1,6 +1,6 @@
 -- The layout of a chain or a library is correct.
 use Rattle.std.proofs.Common.{◌≡◌, ℕ, zero, suc, ◌+◌, ◌<◌, Bool, true, false, not, ◌||◌, List, [], ◌∷◌, ◌++◌, length}
-use Rattle.std.proofs.Common.{map, drop, get_or, refl, sym, ap, subst, ◌∙◌, Option, Some, None, if◌then◌else◌, arith}
+use Rattle.std.proofs.Common.{map, drop, refl, sym, ap, subst, ◌∙◌, Option, Some, None, if◌then◌else◌, arith}
 use Rattle.std.proofs.Common.{add-one, string_bytes, rules}
 use Rattle.std.proofs.lemmas.List.{length-map}
 use Rattle.std.specs.Prelude.{slice_get, option_map}

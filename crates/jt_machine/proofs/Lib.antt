@@ -18,3 +18,5 @@ pub mod TopValues
 pub mod MapSize
 pub mod AllocationPoints
 mod CacheCorrect
+mod MemberCorrect
+mod MemberFound

@@ -1,5 +1,5 @@
 //! Checks values against the limits of a budget.
-ghost use Rattle.std.specs.Prelude.{◌≡◌, ◌-◌, ◌^◌, min, option_map};
+ghost use Rattle.std.specs.Prelude.{◌≡◌, ◌-◌, ◌^◌, None, IfSome, min, option_map};
 ghost use Rattle.jt_value.specs.Tree as tree;
 ghost use Rattle.jt_value.specs.Tree.{Tree, no_entries};
 ghost use Rattle.jt_value.specs.View.{view, items_of};
@@ -24,6 +24,18 @@ pub(crate) fn exceeded_limit(value: &Value, budget: &Budget) -> Option<Spent>
         Ok(()) => None,
         Err(spent) => Some(spent),
     }
+}
+
+/// Returns a copy of a value, if it is within the limits and can be copied.
+#[inline(always)]
+pub(crate) fn copy_fitting(value: &Value, left: &Budget) -> Option<Value>
+    ensures same { IfSome result (λ v. view v ≡ view value.now) }
+    ensures fits { IfSome result (λ v. limit_of (budget_view left.now) (view value.now) ≡ None) }
+{
+    if exceeded_limit(value, left).is_some() {
+        return None;
+    }
+    value.clone().ok()
 }
 
 /// Returns the limit that a value of this size exceeds, if it is neither a list nor a map.

@@ -229,16 +229,15 @@ fn take_steps<C: Code>(
 {
     code_laws();
     let mut left = u64::from(k);
-    let mut prefetched = None;
     'steps: loop {
-        left = run_fast(code, state, left, &mut prefetched);
-        if left == 0 {
+        let stopped = run_fast(code, made, state, left);
+        if stopped.left == 0 {
             return Ok(None);
         }
-        if let Some(outcome) = step(alloc, code, made, state, prefetched)? {
+        if let Some(outcome) = step(alloc, code, made, state, stopped.prefetched)? {
             return Ok(Some(outcome));
         }
-        left -= 1;
+        left = stopped.left - 1;
     }
 }
 

@@ -92,10 +92,9 @@ fn run_code<C: Code>(
     }
     let mut state = start(alloc, code, context, budget)?;
     let mut made = ConstantCache::new(alloc);
-    let mut prefetched = None;
     'steps: loop {
-        run_fast(code, &mut state, u64::MAX, &mut prefetched);
-        if let Some(outcome) = step(alloc, code, &mut made, &mut state, prefetched)? {
+        let stopped = run_fast(code, &made, &mut state, u64::MAX);
+        if let Some(outcome) = step(alloc, code, &mut made, &mut state, stopped.prefetched)? {
             return Ok(outcome);
         }
     }

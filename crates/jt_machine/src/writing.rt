@@ -127,11 +127,10 @@ fn write_code<C: Code, W: Sink>(
     }
     let mut state = start(alloc, code, context, budget)?;
     let mut made = ConstantCache::new(alloc);
-    let mut prefetched = None;
     'steps: loop {
-        run_fast(code, &mut state, u64::MAX, &mut prefetched);
+        let stopped = run_fast(code, &made, &mut state, u64::MAX);
         send(&mut state, sink)?;
-        if let Some(outcome) = step(alloc, code, &mut made, &mut state, prefetched)? {
+        if let Some(outcome) = step(alloc, code, &mut made, &mut state, stopped.prefetched)? {
             return Ok(close(outcome, sink)?);
         }
     }

@@ -1,8 +1,7 @@
 //! Collects what is known of a chain, once: the facts of its templates, chains and libraries.
 //!
 //! - The facts, and how they are collected: `facts`, `templates` and `chains`.
-//! - The names that uses read or bind: `own`.
-//! - The names that scopes bind: `scopes`.
+//! - The names that uses read or bind, also in scopes: `own`.
 //! - The names that a body sets: `sets`.
 //! - Names in lists, and in ascending order: `lists` and `ordered`.
 //!
@@ -14,13 +13,13 @@ mod facts;
 mod lists;
 mod ordered;
 mod own;
-mod scopes;
 mod sets;
 mod templates;
 
-pub use chains::{facts_of, set_names};
+pub use chains::facts_of;
 pub use facts::{ChainFacts, NamespaceFacts};
 pub use lists::{keyword_names, names_of, parameter_names};
 pub use ordered::{add_names, in_order, list_of};
 pub use own::is_loop_name;
+pub use sets::set_names;
 pub use templates::TemplateFacts;

@@ -1,18 +1,16 @@
 //! Collects the names that a body sets in its own scope.
 
-ghost use Rattle.std.specs.Prelude.{IfOk};
+ghost use Rattle.std.specs.Prelude.{◌≡◌, IfOk};
 ghost use Rattle.jt_chains.specs.Uses.{set_by, set_in};
 ghost use Rattle.jt_ast.specs.StatementView.{stmt_view, body_view, names_view};
+ghost use Rattle.jt_ast.specs.Texts.{texts};
 ghost use Rattle.jt_names.specs.Names.{Adds};
 
 use jt_ast::{Branch, Stmt};
-use std::alloc::AllocError;
+use std::alloc::{AllocError, Global};
 
 /// Adds the names of targets.
-pub(crate) fn add_targets<'a>(
-    found: &mut Vec<&'a str>,
-    targets: &'a [String],
-) -> Result<(), AllocError>
+fn add_targets<'a>(found: &mut Vec<&'a str>, targets: &'a [String]) -> Result<(), AllocError>
     ensures { IfOk result (λ _. Adds found.old found.new (names_view targets.now)) }
 {
     for target in targets {
@@ -23,7 +21,7 @@ pub(crate) fn add_targets<'a>(
 
 /// Adds the names that statements set in their scope.
 #[cycle(sets)]
-pub(crate) fn add_sets<'a>(found: &mut Vec<&'a str>, body: &'a [Stmt]) -> Result<(), AllocError>
+fn add_sets<'a>(found: &mut Vec<&'a str>, body: &'a [Stmt]) -> Result<(), AllocError>
     ensures { IfOk result (λ _. Adds found.old found.new (set_in (body_view body.now))) }
 {
     for statement in body {
@@ -63,4 +61,14 @@ fn add_set<'a>(found: &mut Vec<&'a str>, statement: &'a Stmt) -> Result<(), Allo
         | Stmt::Extends(_, _)
         | Stmt::Block { .. } => Ok(()),
     }
+}
+
+/// Returns the names that a body sets in its own scope, once for each occurrence, in the order of
+/// the source.
+pub fn set_names(alloc: Global, body: &[Stmt]) -> Result<Vec<&str>, AllocError>
+    ensures { IfOk result (λ names. texts names.items ≡ set_in (body_view body.now)) }
+{
+    let mut found = Vec::new(alloc);
+    add_sets(&mut found, body)?;
+    Ok(found)
 }

@@ -6,11 +6,11 @@ ghost use Rattle.jt_ast.specs.StatementView.{body_view};
 ghost use Rattle.jt_chains.specs.Along.{along, body_at};
 ghost use Rattle.jt_chains.specs.Chain.{Template, holds_macros};
 ghost use Rattle.jt_chains.specs.TemplateFiles.{files_view};
-ghost use Rattle.jt_chains.specs.Uses.{body_names};
+ghost use Rattle.jt_chains.specs.Uses.{body_names, scope_names_in};
 ghost use Rattle.jt_names.specs.FactsOfTemplates.{known_of, facts_in, AreKnown};
 
 use crate::ordered::{add_names, list_of};
-use crate::own::add_used;
+use crate::own::{add_scoped, add_used};
 use jt_ast::Stmt;
 use jt_chains::TemplateFile;
 use jt_uses::{UseSite, uses_of};
@@ -89,6 +89,25 @@ pub(crate) fn names_along<'a>(
     for index in indices {
         if let Some(known) = templates.get(*index) {
             add_names(&mut names, &known.names)?;
+        }
+    }
+    list_of(alloc, names)
+}
+
+/// Returns the different names that the scopes of the templates at `indices` bind, in ascending
+/// order. An index out of range adds none.
+pub(crate) fn scope_names_along<'a>(
+    alloc: Global,
+    templates: &[TemplateFacts<'a>],
+    indices: &[usize],
+) -> Result<Vec<&'a str>, AllocError>
+    ensures { IfOk result (λ ns. (ts : List Template) → AreKnown ts templates.now
+        → texts ns.items ≡ ascending (along ts (λ n b. scope_names_in b) indices.now)) }
+{
+    let mut names = BTreeSet::new(alloc);
+    for index in indices {
+        if let Some(known) = templates.get(*index) {
+            add_scoped(&mut names, &known.uses)?;
         }
     }
     list_of(alloc, names)

@@ -184,6 +184,7 @@ struct EntryFile {
 }
 
 /// Compiles the entry and writes its image to the file at `out`. Returns an empty text.
+#[inline(never)]
 fn compile_to<F: Files>(
     alloc: Global,
     files: &mut F,
@@ -239,6 +240,7 @@ fn explain_in<F: Files>(
 }
 
 /// Returns the text that states for a person whether the entry compiles, and otherwise why not.
+#[inline(never)]
 fn explain_entry_in<F: Files>(
     alloc: Global,
     files: &mut F,
@@ -262,6 +264,7 @@ fn explain_entry_in<F: Files>(
 
 /// Returns the text that states for a person how the entry ends for the context of a file: with a
 /// text, or why with none.
+#[inline(never)]
 fn explain_run_in<F: Files>(
     alloc: Global,
     files: &mut F,
@@ -287,6 +290,7 @@ fn explain_run_in<F: Files>(
 }
 
 /// Writes the image at a path in version 2 to the file at `out`. Returns an empty text.
+#[inline(never)]
 fn upgrade_to<F: Files>(
     alloc: Global,
     files: &mut F,
@@ -314,6 +318,7 @@ fn upgrade_to<F: Files>(
 }
 
 /// Verifies the image at a path, and returns the line with its size.
+#[inline(never)]
 fn check_at<F: Files>(alloc: Global, files: &mut F, image: String) -> Result<String, Failure>
     ensures ends { IsUnread (F.known (F.contents files.old)) (IsPath (string_bytes image)) None
         result ⊎ Checks (F.known (F.contents files.old)) (string_bytes image) result }
@@ -325,6 +330,7 @@ fn check_at<F: Files>(alloc: Global, files: &mut F, image: String) -> Result<Str
 }
 
 /// Returns the listing of the image at a path. The image is not verified.
+#[inline(never)]
 fn show_at<F: Files>(alloc: Global, files: &mut F, image: String) -> Result<String, Failure>
     ensures ends { IsUnread (F.known (F.contents files.old)) (IsPath (string_bytes image)) None
         result ⊎ Shows (F.known (F.contents files.old)) (string_bytes image) result }
@@ -335,6 +341,7 @@ fn show_at<F: Files>(alloc: Global, files: &mut F, image: String) -> Result<Stri
 }
 
 /// Runs the image at a path for the context of a file, and returns its text.
+#[inline(never)]
 fn run_at<F: Files>(
     alloc: Global,
     files: &mut F,
@@ -356,6 +363,7 @@ fn run_at<F: Files>(
 }
 
 /// Renders the entry for the context of a file, and returns its text.
+#[inline(never)]
 fn render_in<F: Files>(
     alloc: Global,
     files: &mut F,

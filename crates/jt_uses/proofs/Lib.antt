@@ -1,1 +1,2 @@
 pub mod AppendUses
+pub mod ExpressionsBindNothing

@@ -10,7 +10,6 @@ use Rattle.jt_ast.specs.Statements.{with_values, filter_block, autoescape, macro
 use Rattle.jt_ast.specs.Statements.{block, Body, end, stmt, Branches, no_branches, branch}
 use Rattle.jt_uses.specs.declared.site.Place.{Place}
 use Rattle.jt_uses.specs.declared.site.Enclosing.{Enclosing}
-use Rattle.jt_uses.specs.declared.site.Escaping.TheVariants as state
 
 -- A use.
 pub data Use : Type 0 where
@@ -140,21 +139,22 @@ abbrev pub filter_call_uses : List FilterCall → Place → List Site
 filter_call_uses [] p = []
 filter_call_uses (f ∷ fs) p = filter_call_use f p ++ filter_call_uses fs p
 
--- The context of a use that is outside loops, blocks, callees and `autoescape` tags.
+-- The context of a use that is outside loops, blocks, callees and scopes of its template.
 abbrev pub outside : Enclosing
-outside = record { in_loop = false; in_block = false; in_callee = false; escaping = state.Inherited }
+outside = record { in_loop = false; in_block = false; in_callee = false; in_scope = false }
+
+-- A scope begins with the targets of a loop, the keys of `with`, or parameters.
+abbrev pub inside_scope : Enclosing → Enclosing
+inside_scope w = record w { in_scope = true }
 
 abbrev pub inside_loop : Enclosing → Enclosing
-inside_loop w = record w { in_loop = true }
+inside_loop w = record w { in_loop = true; in_scope = true }
 
 abbrev pub inside_block : Enclosing → Enclosing
-inside_block w = record w { in_loop = false; in_block = true }
+inside_block w = record w { in_loop = false; in_block = true; in_scope = true }
 
 abbrev pub inside_macro : Enclosing → Enclosing
-inside_macro w = record w { in_loop = false; in_block = false }
-
-abbrev pub escaped : Bool → Enclosing → Enclosing
-escaped on w = record w { escaping = if on then state.On else state.Off }
+inside_macro w = record w { in_loop = false; in_block = false; in_scope = true }
 
 abbrev mutual
   pub stmt_uses : Stmt → Enclosing → List Site
@@ -163,18 +163,19 @@ abbrev mutual
   stmt_uses (choose bs other) w = branch_uses bs w ++ body_uses other w
   stmt_uses (for_each line xs e c body other) w =
       (expr_uses e (place_at line w)
-      ++ (bound xs (place_at line w) ++ condition_uses c (place_at line w)))
+      ++ (bound xs (place_at line (inside_scope w)) ++ condition_uses c (place_at line w)))
       ++ (body_uses body (inside_loop w) ++ body_uses other w)
   stmt_uses (set line xs e) w = expr_uses e (place_at line w) ++ bound xs (place_at line w)
-  stmt_uses (set_block line x body) w = at (place_at line w) (binds x) ++ body_uses body w
+  stmt_uses (set_block line x body) w = at (place_at line w) (binds x) ++ body_uses body (inside_scope w)
   stmt_uses (with_values line ps body) w =
-      pair_uses ps (place_at line w) ++ (keys_bound ps (place_at line w) ++ body_uses body w)
+      pair_uses ps (place_at line w)
+      ++ (keys_bound ps (place_at line (inside_scope w)) ++ body_uses body (inside_scope w))
   stmt_uses (filter_block line fs body) w =
-      filter_call_uses fs (place_at line w) ++ body_uses body w
-  stmt_uses (autoescape line on body) w = body_uses body (escaped on w)
+      filter_call_uses fs (place_at line w) ++ body_uses body (inside_scope w)
+  stmt_uses (autoescape line on body) w = body_uses body (inside_scope w)
   stmt_uses (macro line x ps body) w =
       at (place_at line w) (declares_macro x ps body)
-      ++ (parameters_bound ps (place_at line w) ++ body_uses body (inside_macro w))
+      ++ (parameters_bound ps (place_at line (inside_scope w)) ++ body_uses body (inside_macro w))
   stmt_uses (include line n ignore_missing with_context) w =
       at (place_at line w) (includes n ignore_missing with_context)
   stmt_uses (import_as line n x) w =

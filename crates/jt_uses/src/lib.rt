@@ -8,5 +8,5 @@ mod expressions;
 mod site;
 mod statements;
 
-pub use site::{Enclosing, Escaping, Place, Use, UseSite};
+pub use site::{Enclosing, Place, Use, UseSite};
 pub use statements::uses_of;

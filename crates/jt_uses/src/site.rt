@@ -1,40 +1,42 @@
 //! Defines a use: what a template does at one of its places.
 
 ghost use Rattle.std.specs.Prelude.{◌≡◌, IfOk};
-ghost use Rattle.jt_uses.specs.Uses.{at, inside_loop, inside_block, inside_macro, inside_callee};
-ghost use Rattle.jt_uses.specs.Uses.{escaped};
+ghost use Rattle.jt_uses.specs.Uses.{at, inside_scope, inside_loop, inside_block, inside_macro};
+ghost use Rattle.jt_uses.specs.Uses.{inside_callee};
 ghost use Rattle.jt_uses.specs.UseView.{Adds, use_view};
 
 use jt_ast::{Expr, IncludeContext, Missing, Parameter, Stmt};
 use std::alloc::AllocError;
 use std::mem::size_of;
 
-/// The option of the nearest `autoescape` tag, if there is one.
-#[derive(Clone, Copy)]
-pub enum Escaping {
-    Inherited,
-    On,
-    Off,
-}
-
-/// The context of a use: whether it is inside a loop of the same block or macro body, whether it is
-/// inside a block, whether it is inside a callee that is no name, and the option of the nearest
-/// `autoescape` tag around it.
+/// The context of a use: whether it is inside a loop of the same block or macro body, inside a
+/// block, inside a callee that is no name, and inside a scope within its template.
 #[derive(Clone, Copy)]
 pub struct Enclosing {
     pub in_loop: bool,
     pub in_block: bool,
     pub in_callee: bool,
-    pub escaping: Escaping,
+    pub in_scope: bool,
 }
 
 impl Enclosing {
+    /// Returns the context of the body of a scope, and of the names that a scope begins with.
+    pub(crate) fn in_a_scope(self) -> Self
+        ensures { result ≡ inside_scope self }
+    {
+        Enclosing {
+            in_scope: true,
+            ..self
+        }
+    }
+
     /// Returns the context of the body of a loop.
     pub(crate) fn in_a_loop(self) -> Self
         ensures { result ≡ inside_loop self }
     {
         Enclosing {
             in_loop: true,
+            in_scope: true,
             ..self
         }
     }
@@ -46,6 +48,7 @@ impl Enclosing {
         Enclosing {
             in_loop: false,
             in_block: false,
+            in_scope: true,
             ..self
         }
     }
@@ -57,6 +60,7 @@ impl Enclosing {
         Enclosing {
             in_loop: false,
             in_block: true,
+            in_scope: true,
             ..self
         }
     }
@@ -69,18 +73,6 @@ impl Enclosing {
             in_callee: true,
             ..self
         }
-    }
-
-    /// Returns the context of the body of an `autoescape` tag.
-    pub(crate) fn escaped(self, escaping: bool) -> Self
-        ensures { result ≡ escaped escaping self }
-    {
-        let escaping = if escaping {
-            Escaping::On
-        } else {
-            Escaping::Off
-        };
-        Enclosing { escaping, ..self }
     }
 }
 

@@ -9,12 +9,13 @@ ghost use Rattle.jt_uses.specs.Uses as uses;
 ghost use Rattle.jt_uses.specs.Uses.{at, place_at, bound, keys_bound, parameters_bound};
 ghost use Rattle.jt_uses.specs.Uses.{macros_bound, condition_uses, expr_uses, pair_uses};
 ghost use Rattle.jt_uses.specs.Uses.{filter_call_use, filter_call_uses, stmt_uses, body_uses};
-ghost use Rattle.jt_uses.specs.Uses.{branch_uses, inside_loop, inside_block, inside_macro, escaped};
+ghost use Rattle.jt_uses.specs.Uses.{branch_uses, inside_loop, inside_block, inside_macro};
+ghost use Rattle.jt_uses.specs.Uses.{inside_scope};
 ghost use Rattle.jt_uses.specs.Uses.{outside};
 ghost use Rattle.jt_uses.specs.UseView.{Adds, sites_view};
 
 use crate::expressions::{add_arguments, add_expression, add_pairs};
-use crate::site::{Enclosing, Escaping, Place, Use, UseSite, add_use};
+use crate::site::{Enclosing, Place, Use, UseSite, add_use};
 use jt_ast::{Branch, Expr, FilterCall, Parameter, Stmt};
 use std::alloc::{AllocError, Global};
 
@@ -206,7 +207,7 @@ fn add_statement<'a>(
         } => {
             let place = place_of(*line, around);
             add_expression(found, place, over)?;
-            add_targets(found, place, targets)?;
+            add_targets(found, place_of(*line, around.in_a_scope()), targets)?;
             add_condition(found, place, condition)?;
             add_statements(found, around.in_a_loop(), body)?;
             add_statements(found, around, other)?;
@@ -221,12 +222,12 @@ fn add_statement<'a>(
         }
         Stmt::SetBlock { line, name, body } => {
             add_use(found, place_of(*line, around), Use::Binds(name.as_str()))?;
-            add_statements(found, around, body)?;
+            add_statements(found, around.in_a_scope(), body)?;
         }
         Stmt::With { line, values, body } => {
             add_pairs(found, place_of(*line, around), values)?;
-            add_keys(found, place_of(*line, around), values)?;
-            add_statements(found, around, body)?;
+            add_keys(found, place_of(*line, around.in_a_scope()), values)?;
+            add_statements(found, around.in_a_scope(), body)?;
         }
         Stmt::FilterBlock {
             line,
@@ -234,11 +235,9 @@ fn add_statement<'a>(
             body,
         } => {
             add_filter_calls(found, place_of(*line, around), filters)?;
-            add_statements(found, around, body)?;
+            add_statements(found, around.in_a_scope(), body)?;
         }
-        Stmt::Autoescape { escaping, body, .. } => {
-            add_statements(found, around.escaped(*escaping), body)?;
-        }
+        Stmt::Autoescape { body, .. } => add_statements(found, around.in_a_scope(), body)?,
         Stmt::Macro {
             line,
             name,
@@ -251,7 +250,7 @@ fn add_statement<'a>(
                 body,
             };
             add_use(found, place_of(*line, around), made)?;
-            add_parameters(found, place_of(*line, around), parameters)?;
+            add_parameters(found, place_of(*line, around.in_a_scope()), parameters)?;
             add_statements(found, around.in_a_macro(), body)?;
         }
         Stmt::Include {
@@ -349,7 +348,7 @@ pub fn uses_of(alloc: Global, body: &[Stmt]) -> Result<Vec<UseSite<'_>>, AllocEr
         in_loop: false,
         in_block: false,
         in_callee: false,
-        escaping: Escaping::Inherited,
+        in_scope: false,
     };
     add_statements(&mut found, around, body)?;
     Ok(found)

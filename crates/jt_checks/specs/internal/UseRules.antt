@@ -35,6 +35,11 @@ line_over b = slice_get (lines_bound (body_uses b outside)) max_bindings
 abbrev pub finding_over : Text → ℕ → Finding
 finding_over n l = record { rule = error.TooManySlots; template = n; line = l; subject = the_bindings }
 
+-- The first finding that the function gives of items.
+abbrev pub first : {A : Type 0} → (A → Option Finding) → List A → Option Finding
+first g [] = None
+first g (x ∷ xs) = option_or (g x) (first g xs)
+
 module _ (cenv : CompileEnv) (namespace : Namespace) where
   -- The rule that a use breaks.
   abbrev pub use_broken : Use → Enclosing → Option ScopeError
@@ -60,8 +65,7 @@ module _ (cenv : CompileEnv) (namespace : Namespace) where
 
   -- The first finding at uses.
   abbrev pub uses_broken : Text → List Site → Option Finding
-  uses_broken n [] = None
-  uses_broken n (s ∷ ss) = option_or (site_finding n s) (uses_broken n ss)
+  uses_broken n = first (site_finding n)
 
   -- The first finding in a template, by its name and its uses.
   abbrev pub found_in : Text → List Site → Option Finding
@@ -72,10 +76,8 @@ module _ (cenv : CompileEnv) (namespace : Namespace) where
   template_broken t = found_in t.name (body_uses t.body outside)
 
   abbrev pub templates_broken : List Template → Option Finding
-  templates_broken [] = None
-  templates_broken (t ∷ ts) = option_or (template_broken t) (templates_broken ts)
+  templates_broken = first template_broken
 
 -- The first finding in chains.
 abbrev pub chains_broken : CompileEnv → List Namespace → Option Finding
-chains_broken cenv [] = None
-chains_broken cenv (h ∷ hs) = option_or (templates_broken cenv h (templates cenv.sources h)) (chains_broken cenv hs)
+chains_broken cenv = first (λ h. templates_broken cenv h (templates cenv.sources h))

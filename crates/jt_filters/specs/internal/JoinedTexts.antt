@@ -2,19 +2,17 @@
 use Rattle.std.specs.Prelude.{◌≡◌, ℕ, Bool, List, ◌++◌, Option, Some, None, option_and_then, Result, Ok, Err}
 use Rattle.std.specs.Prelude.{String, string_bytes}
 use Rattle.std.specs.declared.alloc.Global.{Global}
-use Rattle.jt_value.specs.Tree.{Tree, Items, no_items, item}
+use Rattle.jt_value.specs.Tree.{Items, no_items, item}
 use Rattle.jt_value.specs.declared.fault.Fault.TheVariants as fault
 use Rattle.jt_value.specs.declared.fault.ValueError.{ValueError}
 use Rattle.jt_value.specs.declared.fault.ValueError.TheVariants as error
 use Rattle.jt_escape.specs.Joining.{piece}
 
--- The text `into`, followed by the items' pieces with the separator's piece before each.
-abbrev pub led_text : Bool → List ℕ → Tree → Items → Option (List ℕ)
-led_text escaping into separator no_items = Some into
-led_text escaping into separator (item t ts) =
-    option_and_then (λ between.
-    option_and_then (λ p. led_text escaping ((into ++ between) ++ p) separator ts) (piece escaping t))
-    (piece escaping separator)
+-- The text `into`, followed by the items' pieces with the text `between` before each.
+abbrev pub led_text : Bool → List ℕ → List ℕ → Items → Option (List ℕ)
+led_text escaping into between no_items = Some into
+led_text escaping into between (item t ts) =
+    option_and_then (λ p. led_text escaping ((into ++ between) ++ p) between ts) (piece escaping t)
 
 -- Holds if success leaves this text, and a fault is `Unprintable` and means that there is no text.
 abbrev pub Leaves : Option (List ℕ) → Result (Unit {0}) ValueError → List ℕ → Type 0

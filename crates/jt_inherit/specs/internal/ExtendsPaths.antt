@@ -17,10 +17,12 @@ use Rattle.jt_chains.specs.TemplateFiles.{files_view}
 use Rattle.jt_chains.specs.Rules.{Reaches}
 use Rattle.jt_chains.specs.declared.files.TemplateFile.{TemplateFile}
 use Rattle.jt_inherit.specs.Chains.{SourceTexts, AreRead, IsOnly}
+use Rattle.jt_inherit.specs.Findings.{Says}
 use Rattle.jt_inherit.specs.Refusals.{Breaks}
 use Rattle.jt_inherit.specs.internal.Sets.{names_view}
 use Rattle.jt_inherit.specs.Small.{source_len}
 use Rattle.jt_inherit.specs.declared.error.ChainError.{ChainError}
+use Rattle.jt_inherit.specs.declared.finding.ChainFinding.{ChainFinding}
 use Rattle.jt_inherit.specs.declared.sets.Names.{Names}
 
 -- The templates are the next ones on the path from a name; the last name, if any, comes after them.
@@ -111,12 +113,21 @@ BreaksAll given options ps h e =
     → Reaches (sources_in (files_view ps)) options.autoescape (a_chain root) h
     → Breaks e given root options
 
--- The templates of a chain or a library are read, or the error breaks each chain that reaches it.
+-- What is said of the place and the subject of an error is true for each such chain.
+abbrev pub SaysAll : SourceTexts → Options → List TemplateFile → Namespace → ChainFinding → Type 0
+SaysAll given options ps h f =
+    (root : Text)
+    → Reaches (sources_in (files_view ps)) options.autoescape (a_chain root) h
+    → Says given root options f.place f.subject f.error
+
+-- The templates of a chain or a library are read, or the finding is true for each chain that reaches
+-- it.
 abbrev pub Reads : SourceTexts → Options → List TemplateFile → List TemplateFile → Names → Names → Namespace
-    → Result (Vec ℕ Global) ChainError → Type 0
+    → Result (Vec ℕ Global) ChainFinding → Type 0
 Reads given options before after old new h (Ok is) =
     HasRead given options before after old new h is.items
-Reads given options before after old new h (Err e) = BreaksAll given options before h e
+Reads given options before after old new h (Err f) =
+    BreaksAll given options before h f.error × SaysAll given options before h f
 
 -- Each list of templates that is known with the old ones appended is known with the new ones
 -- appended.

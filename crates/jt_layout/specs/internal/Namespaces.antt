@@ -1,15 +1,13 @@
--- The environment of a chain, and the parts of its chains and libraries. Only private clauses cite
--- this module.
+-- The environment of a chain, the names of its chains and libraries, and lookups by name. Only private
+-- clauses cite this module.
 use Rattle.std.specs.Prelude.{◌≡◌, ℕ, List, Vec}
 use Rattle.std.specs.declared.alloc.Global.{Global}
 use Rattle.std.specs.BTreeMap.{BTreeMap}
 use Rattle.std.specs.Option.{is_none}
 use denote.Ref.{Bor}
 use Rattle.jt_ast.specs.Expressions.{Text}
-use Rattle.jt_chains.specs.Chain.{Namespace, a_chain, BlockBody, MacroBody, Definition, macros, given, all_bodies}
-use Rattle.jt_chains.specs.Named.{names_view}
-use Rattle.jt_chains.specs.View.{chain_view, namespace_in, its_sources, its_templates}
-use Rattle.jt_chains.specs.declared.definitions.DefinedName.{DefinedName}
+use Rattle.jt_chains.specs.Chain.{Namespace, a_chain}
+use Rattle.jt_chains.specs.View.{chain_view, namespace_in, its_sources}
 use Rattle.jt_chains.specs.declared.chain.Chain.{Chain}
 use Rattle.jt_rules.specs.CompileEnv.{CompileEnv, cenv_of}
 use Rattle.jt_semantics.specs.Layout.{names, names_in}
@@ -24,22 +22,9 @@ module _ (c : Chain) where
   abbrev pub its_order : List Namespace
   its_order = (chain_view c).order
 
-  -- ---- the parts of the chain or library at an index, and their representation in the code
-
+  -- The names of the chain or library at an index.
   abbrev pub its_names : ℕ → List Text
   its_names i = names its_cenv its_order (namespace_in c i)
-
-  abbrev pub its_macros : ℕ → List MacroBody
-  its_macros i = macros (its_sources c) (namespace_in c i)
-
-  abbrev pub its_given : ℕ → List (Text × Definition)
-  its_given i = given (its_sources c) (namespace_in c i)
-
-  abbrev pub given_kept : ℕ → List DefinedName → List (Text × Definition)
-  given_kept i gs = names_view (its_templates c) (namespace_in c i) gs
-
-  abbrev pub its_bodies : ℕ → List BlockBody
-  its_bodies i = all_bodies (its_sources c) c.autoescape (namespace_in c i)
 
   -- ---- lookup by name
 

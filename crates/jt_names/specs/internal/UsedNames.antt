@@ -1,5 +1,5 @@
--- The names that uses read or bind, once for each occurrence. Only private clauses cite this module.
-use Rattle.std.specs.Prelude.{Bool, true, false, List, [], ◌∷◌, Option, Some, None}
+-- The name that a use reads or binds, and the name that it binds in a scope. Only private clauses cite this module.
+use Rattle.std.specs.Prelude.{Bool, true, false, Option, Some, None}
 use Rattle.jt_ast.specs.Expressions.{Text}
 use Rattle.jt_uses.specs.Uses.{Use, reads, binds, Site}
 
@@ -14,10 +14,10 @@ used u in_callee = None
 abbrev pub name_used : Site → Option Text
 name_used s = used s.made s.place.around.in_callee
 
-abbrev pub in_front : Option Text → List Text → List Text
-in_front None xs = xs
-in_front (Some x) xs = x ∷ xs
+-- The name that a use binds in a scope within its template. The flag is true in such a scope.
+abbrev pub scoped : Use → Bool → Option Text
+scoped (binds x) true = Some x
+scoped u in_scope = None
 
-abbrev pub names_used : List Site → List Text
-names_used [] = []
-names_used (s ∷ ss) = in_front (name_used s) (names_used ss)
+abbrev pub name_scoped : Site → Option Text
+name_scoped s = scoped s.made s.place.around.in_scope

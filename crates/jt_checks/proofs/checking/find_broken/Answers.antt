@@ -1,4 +1,4 @@
-use Rattle.std.proofs.Common.{◌≡◌, Some, refl, sym, ap, ◌∙◌}
+use Rattle.std.proofs.Common.{refl, sym, ap, ◌∙◌}
 use Rattle.std.specs.Prelude.{option_map}
 use mathlib.Core.Logic.{inl, inr}
 use Rattle.jt_chains.specs.View.{chain_view}
@@ -6,11 +6,8 @@ use Rattle.jt_rules.specs.Rules.{names_counted}
 use Rattle.jt_rules.specs.CompileEnv.{cenv_of}
 use Rattle.jt_checks.specs.FindingView.{finding_view}
 use Rattle.jt_checks.specs.internal.ScopeLookup.{cenv_in}
-use Rattle.jt_checks.specs.internal.UseRules as broken
-use Rattle.jt_checks.proofs.FindingsHold.{chains_hold}
+use Rattle.jt_checks.proofs.FindingsHold.{chains_hold, found_is_broken, none_is_broken}
 use Rattle.jt_checks.proofs.LoopSteps.{few_enough, over, name_seen}
-use Rattle.jt_checks.proofs.RuleTestsCorrect.{broken_breaks}
-use Rattle.jt_checks.proofs.UsesCorrect.{rule_of, found_is_broken, none_is_broken}
 use Rattle.jt_checks.proofs.checking.find_broken.Goals as goal
 
 pub returns-in-Some-clause-found : goal.returns-in-Some-clause-found
@@ -18,10 +15,8 @@ unfolding cenv_in
 returns-in-Some-clause-found c =
     let seen = chain_view c.args.facts.now.chain.now in
     let f = finding_view c.in-Some.finding in
-    let found : broken.chains_broken (cenv_of seen) seen.order ≡ Some f
-    = sym c.in_ok-finding.ensures ∙ ap (option_map finding_view) c.in-Some.is in
-    broken_breaks (cenv_of seen) seen.order f.rule
-    (found_is_broken (cenv_of seen) seen.order f.rule (ap rule_of found))
+    found_is_broken (cenv_of seen) seen.order f (chains_hold (cenv_of seen) seen.order f
+    (sym c.in_ok-finding.ensures ∙ ap (option_map finding_view) c.in-Some.is))
 
 pub returns-in-Some-clause-holds : goal.returns-in-Some-clause-holds
 unfolding cenv_in

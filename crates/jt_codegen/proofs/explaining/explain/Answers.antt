@@ -1,18 +1,13 @@
-use Rattle.std.proofs.Common.{subst, sym}
-use Rattle.std.specs.Prelude.{IfNone, IfSome}
 use Rattle.jt_chains.specs.View.{chain_view}
-use Rattle.jt_checks.specs.Findings.{Holds}
 use Rattle.jt_checks.specs.FindingView.{finding_view}
-use Rattle.jt_rules.specs.CompileEnv.{cenv_of}
-use Rattle.jt_rules.specs.Rules.{Breaks, KeepsRules}
 use Rattle.jt_codegen.proofs.ChainImages.{only_chain}
 use Rattle.jt_codegen.proofs.Findings.{chain_asked, chain_found, image_explained, rule_found}
 use Rattle.jt_codegen.proofs.explaining.explain.Goals as goal
 
 pub returns-in-Err : goal.returns-in-Err
 returns-in-Err g c =
-    chain_found (g.L.Library.sources c.args.library.now) c.args.entry.now c.args.options c.in-Err.error
-    c.in-Err.ensures.refused c.in-Err.ensures.only c.in_ok-found-in-Err.found c.in_ok-found-in-Err.ensures
+    chain_found (g.L.Library.sources c.args.library.now) c.args.entry.now c.args.options c.in-Err.found.error
+    c.in-Err.ensures.refused.broken c.in-Err.ensures.only c.in_ok-found-in-Err.found c.in_ok-found-in-Err.ensures
 
 pub returns-in-Some : goal.returns-in-Some
 returns-in-Some g c =
@@ -52,3 +47,6 @@ returns g c =
     c.in-Err-compile_chain.error (c.in-Err-compile_chain.ensures.refused _ asked)
     (c.in-Err-compile_chain.ensures.lawful (rw c.in-None.is at c.in_ok-found.ensures.kept)) c.image_finding.result
     c.image_finding.ensures
+
+pub chain_finding-requires : goal.chain_finding-requires
+chain_finding-requires g c = c.in-Err.ensures.refused.says

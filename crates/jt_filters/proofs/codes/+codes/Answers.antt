@@ -22,21 +22,6 @@ push_value-rows_of-requires t c = (
   tt,
 )
 
-pub rows_of-loop-left-preserved-in_ok-insert : goal.rows_of-loop-left-preserved-in_ok-insert
-rows_of-loop-left-preserved-in_ok-insert t c =
-    let e = c.index-entries-left.result in
-    record {
-      inside = omega (arith, c.loop-left.invariant.inside);
-      same =
-          row_put c.args.entries.now c.loop-left.left (c.loop-left.left - 1) e c.loop-left.rows.entries
-          c.insert.new.self.entries c.as_str.result c.push_value.new.bytes
-          (omega (arith, c.loop-left-test.true)) (omega (arith, c.loop-left-test.true, c.loop-left.invariant.inside))
-          c.index-entries-left.is
-          c.in_ok-insert.ensures.entries c.as_str.ensures.value
-          (c.in_ok-push_value.ensures ∙ ap (λ (s : List ℕ). s ++ code (view e.1)) c.new-bytes.ensures.items)
-          c.loop-left.invariant.same;
-    }
-
 pub rows_of-loop-left-preserved : goal.rows_of-loop-left-preserved
 rows_of-loop-left-preserved t c =
     let e = c.index-entries-left.result in
@@ -44,10 +29,10 @@ rows_of-loop-left-preserved t c =
       inside = omega (arith, c.loop-left.invariant.inside);
       same =
           row_put c.args.entries.now c.loop-left.left (c.loop-left.left - 1) e c.loop-left.rows.entries
-          c.insert.new.self.entries c.as_str.result c.push_value.new.bytes
+          c.put_row.new.rows.entries c.as_str.result c.push_value.new.bytes
           (omega (arith, c.loop-left-test.true)) (omega (arith, c.loop-left-test.true, c.loop-left.invariant.inside))
           c.index-entries-left.is
-          c.in_ok-insert.ensures.entries c.as_str.ensures.value
+          c.in_ok-put_row.ensures c.as_str.ensures.value
           (c.in_ok-push_value.ensures ∙ ap (λ (s : List ℕ). s ++ code (view e.1)) c.new-bytes.ensures.items)
           c.loop-left.invariant.same;
     }

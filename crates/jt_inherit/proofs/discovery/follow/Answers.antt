@@ -1,68 +1,105 @@
-use Rattle.std.proofs.Common.{◌≡◌, true, ◌⊎◌, ◌++◌, ◌∷◌, [], List, ℕ, sym, ap, subst, ◌∙◌, arith, length, Vec, Global}
+use Rattle.std.proofs.Common.{◌≡◌, ◌<◌, true, ◌⊎◌, ◌++◌, ◌∷◌, [], List, ℕ, sym, ap, subst, ◌∙◌, arith}
+use Rattle.std.proofs.Common.{length, Vec, Global}
 use Rattle.std.proofs.lemmas.List.{length-map}
 use Rattle.std.specs.List.{AllByRecursion}
 use Rattle.std.proofs.lemmas.Result.{err_from_is_err_and}
 use Rattle.jt_graph.specs.View.{graph_of}
 use Rattle.jt_ast.specs.Texts.{among}
 use Rattle.jt_chains.specs.Along.{AreIndices}
+use Rattle.jt_chains.specs.Indices.{namespace_at}
 use Rattle.jt_chains.specs.Needs.{needed}
 use Rattle.jt_chains.specs.TemplateFiles.{files_view}
 use Rattle.jt_chains.specs.declared.files.TemplateFile.{TemplateFile}
-use Rattle.jt_inherit.specs.internal.Found.{AreFound, AreNext, IsMet, IsNeedFault, IsNextFault, chosen}
+use Rattle.jt_inherit.specs.internal.Found.{AreFound, AreNext, IsMet, IsNextFault, chosen}
 use Rattle.jt_inherit.specs.internal.Found.{found_namespaces, root_of}
 use Rattle.jt_inherit.specs.internal.SetView.{key_view}
 use Rattle.jt_inherit.specs.internal.Sets.{names_view, namespaces_view}
-use Rattle.jt_inherit.specs.declared.error.ChainError.TheVariants as error
-use Rattle.jt_inherit.proofs.DiscoveryInvariant.{namespace_number, known_names, need_breaks, next_breaks, found_more}
+use Rattle.jt_inherit.specs.internal.Unmet.{IsUnmet}
+use Rattle.jt_inherit.proofs.FindingsHold.{bare_finding, need_finds}
+use Rattle.jt_inherit.proofs.DiscoveryInvariant.{namespace_number, reached_here, next_breaks, found_more}
 use Rattle.jt_inherit.proofs.DiscoveryInvariant.{first_same, way_there, both_files, both_known, same_needs}
 use Rattle.jt_inherit.proofs.NameMembership.{map_more}
 use Rattle.jt_inherit.proofs.NamespaceMembership.{of_namespaces}
 use Rattle.jt_inherit.proofs.Membership.{indexed_among}
+use Rattle.jt_inherit.proofs.TopologicalOrder.{namespace_among}
+use Rattle.jt_ast.specs.Texts.{repeated}
+use Rattle.jt_inherit.specs.internal.Found.{found_templates}
+use Rattle.jt_inherit.proofs.ChainComplete.{ways_indexed}
+use Rattle.jt_inherit.proofs.ImportFound.{library_finds}
 use Rattle.jt_inherit.proofs.discovery.follow.Goals as goal
 
 pub get-namespace-requires : goal.get-namespace-requires
 get-namespace-requires g c =
     omega (
       arith,
-      c.len.ensures,
+      c.len-number.ensures,
       c.args.found.now.extends_paths.ok.0,
       c.requires.more,
       length-map c.args.found.now.namespaces.items.items key_view,
     )
 
+pub check_library-requires-clause-named : goal.check_library-requires-clause-named
+check_library-requires-clause-named g c =
+    let known = c.requires.found.known in
+    (known.named, ap repeated known.named ∙ known.read.once)
+
+pub check_library-requires-clause-indices : goal.check_library-requires-clause-indices
+check_library-requires-clause-indices g c =
+    let f = c.args.found.now in
+    ways_indexed (g.L.Library.sources c.args.loader.now.library.now) (found_templates f) (found_namespaces f)
+    (found_namespaces f) (graph_of f.extends_paths.items) (graph_of f.next.items) c.requires.found.followed
+
+pub check_library-requires-clause-number : goal.check_library-requires-clause-number
+check_library-requires-clause-number g c =
+    omega (arith, c.len-number.ensures, c.args.found.now.extends_paths.ok.0, c.requires.more)
+
+pub returns-in_err-check_library-clause-refused : goal.returns-in_err-check_library-clause-refused
+returns-in_err-check_library-clause-refused g c =
+    let f = c.args.found.now in
+    let lt : c.len-number.result < length (found_namespaces f) =
+    omega (arith, c.len-number.ensures, f.extends_paths.ok.0, c.requires.more) in
+    let p = err_from_is_err_and c.from_residual.result c.from_residual.ensures.1 in
+    let here = c.requires.found.reached (namespace_at (found_namespaces f) c.len-number.result)
+    (namespace_among (found_namespaces f) c.len-number.result lt) in
+    rw (p.1, p.2)
+    (library_finds c.requires.found here c.in_err-check_library.field-0.0 c.in_err-check_library.ensures.refused)
+
 pub returns-in_err-extends_path-clause-refused : goal.returns-in_err-extends_path-clause-refused
 returns-in_err-extends_path-clause-refused g c =
     let f = c.args.found.now in
-    let at = namespace_number (found_namespaces f) f.extends_paths.items _ c.len.result
-    (omega (arith, c.len.ensures, f.extends_paths.ok.0)) c.get-namespace.ensures in
-    let p = err_from_is_err_and c.from_residual.result c.from_residual.ensures.1 in
-    rw (p.1, p.2) (c.in_err-extends_path.ensures (root_of f)
-    (c.requires.found.reached (key_view c.get-namespace.result.now)
+    let at = namespace_number (found_namespaces f) f.extends_paths.items _ c.len-number.result
+    (omega (arith, c.len-number.ensures, f.extends_paths.ok.0)) c.get-namespace.ensures in
+    let p =
+    err_from_is_err_and c.from_residual-in_err-extends_path.result c.from_residual-in_err-extends_path.ensures.1 in
+    let here = c.requires.found.reached (key_view c.get-namespace.result.now)
     (indexed_among of_namespaces (found_namespaces f) (length (graph_of f.extends_paths.items))
-    (key_view c.get-namespace.result.now) at)))
+    (key_view c.get-namespace.result.now) at) in
+    rw (p.1, p.2) (record {
+      broken = c.in_err-extends_path.ensures.0 (root_of f) here;
+      says = c.in_err-extends_path.ensures.1 (root_of f) here;
+    })
 
 pub returns-in_err-newly_read-clause-refused : goal.returns-in_err-newly_read-clause-refused
 returns-in_err-newly_read-clause-refused g c =
     let f = c.args.found.now in
-    let at = namespace_number (found_namespaces f) f.extends_paths.items _ c.len.result
-    (omega (arith, c.len.ensures, f.extends_paths.ok.0)) c.get-namespace.ensures in
+    let at = namespace_number (found_namespaces f) f.extends_paths.items _ c.len-number.result
+    (omega (arith, c.len-number.ensures, f.extends_paths.ok.0)) c.get-namespace.ensures in
     let extends_path = c.in_ok-extends_path.ensures in
     let e = c.in_err-newly_read.field-0.0 in
+    let given = g.L.Library.sources c.args.loader.now.library.now in
     let p = err_from_is_err_and c.from_residual-in_err-newly_read.result c.from_residual-in_err-newly_read.ensures.1 in
-    let fault = subst (λ l. (e ≡ error.NoMemory)
-    ⊎ IsNeedFault (g.L.Library.sources c.args.loader.now.library.now) c.args.loader.now.options l e)
-    (same_needs c.read_namespace.new.files.items c.deref.result.now c.in_ok-extends_path.extends_path.items
-    c.deref-2.result.now c.deref.ensures.value c.deref-2.ensures.value)
-    c.in_err-newly_read.ensures.refused in
-    rw (p.1, p.2) (need_breaks c.requires.found at extends_path.grown extends_path.extends_path
-    (known_names (g.L.Library.sources c.args.loader.now.library.now) c.args.loader.now.options
-    (files_view c.read_namespace.new.files.items) (names_view c.read_namespace.new.names) extends_path.known) e fault)
+    let unmet = subst (λ (z : List TemplateFile). IsUnmet given c.args.loader.now.options z c.deref-2.result.now e)
+    c.deref.ensures.value c.in_err-newly_read.ensures.refused in
+    rw (p.1, p.2) (need_finds extends_path.known
+    (reached_here c.requires.found at extends_path.grown extends_path.extends_path) extends_path.extends_path e
+    (subst (λ (z : List ℕ). IsUnmet given c.args.loader.now.options c.read_namespace.new.files.items z e)
+    c.deref-2.ensures.value unmet))
 
 pub next_namespaces-requires-clause-indices : goal.next_namespaces-requires-clause-indices
 next_namespaces-requires-clause-indices g c =
     let f = c.args.found.now in
-    let at = namespace_number (found_namespaces f) f.extends_paths.items _ c.len.result
-    (omega (arith, c.len.ensures, f.extends_paths.ok.0)) c.get-namespace.ensures in
+    let at = namespace_number (found_namespaces f) f.extends_paths.items _ c.len-number.result
+    (omega (arith, c.len-number.ensures, f.extends_paths.ok.0)) c.get-namespace.ensures in
     let extends_path = c.in_ok-extends_path.ensures in
     let grown = both_files c.read_namespace.new.files.items c.in_ok-newly_read.newly_read.items c.deref.ensures.value
     c.in_ok-append.ensures.items c.in_ok-newly_read.ensures.known in
@@ -76,8 +113,8 @@ next_namespaces-requires-clause-indices g c =
 pub returns-in_err-next-clause-refused : goal.returns-in_err-next-clause-refused
 returns-in_err-next-clause-refused g c =
     let f = c.args.found.now in
-    let at = namespace_number (found_namespaces f) f.extends_paths.items _ c.len.result
-    (omega (arith, c.len.ensures, f.extends_paths.ok.0)) c.get-namespace.ensures in
+    let at = namespace_number (found_namespaces f) f.extends_paths.items _ c.len-number.result
+    (omega (arith, c.len-number.ensures, f.extends_paths.ok.0)) c.get-namespace.ensures in
     let extends_path = c.in_ok-extends_path.ensures in
     let grown = both_files c.read_namespace.new.files.items c.in_ok-newly_read.newly_read.items c.deref.ensures.value
     c.in_ok-append.ensures.items c.in_ok-newly_read.ensures.known in
@@ -88,14 +125,15 @@ returns-in_err-next-clause-refused g c =
     let fault = subst (λ l. IsNextFault (found_namespaces f) (chosen (names_view c.read_includes.new.names) l) e)
     (same_needs c.append.new.self.items c.deref-3.result.now c.in_ok-extends_path.extends_path.items
     c.deref-4.result.now c.deref-3.ensures.value c.deref-4.ensures.value) c.in_err-next.ensures.refused in
-    rw (p.1, p.2) (next_breaks c.requires.found at extends_path.grown extends_path.extends_path
-    (files_view c.in_ok-newly_read.newly_read.items) grown known e fault)
+    rw p.1 (bare_finding e p.0 p.2
+    (next_breaks c.requires.found at extends_path.grown extends_path.extends_path
+    (files_view c.in_ok-newly_read.newly_read.items) grown known e fault))
 
 pub returns-clause-found : goal.returns-clause-found
 returns-clause-found g c =
     let f = c.args.found.now in
-    let at = namespace_number (found_namespaces f) f.extends_paths.items _ c.len.result
-    (omega (arith, c.len.ensures, f.extends_paths.ok.0)) c.get-namespace.ensures in
+    let at = namespace_number (found_namespaces f) f.extends_paths.items _ c.len-number.result
+    (omega (arith, c.len-number.ensures, f.extends_paths.ok.0)) c.get-namespace.ensures in
     let extends_path = c.in_ok-extends_path.ensures in
     let grown = both_files c.read_namespace.new.files.items c.in_ok-newly_read.newly_read.items c.deref.ensures.value
     c.in_ok-append.ensures.items c.in_ok-newly_read.ensures.known in
@@ -134,8 +172,8 @@ returns-clause-found g c =
 pub returns-clause-root : goal.returns-clause-root
 returns-clause-root g c =
     let f = c.args.found.now in
-    let at = namespace_number (found_namespaces f) f.extends_paths.items _ c.len.result
-    (omega (arith, c.len.ensures, f.extends_paths.ok.0)) c.get-namespace.ensures in
+    let at = namespace_number (found_namespaces f) f.extends_paths.items _ c.len-number.result
+    (omega (arith, c.len-number.ensures, f.extends_paths.ok.0)) c.get-namespace.ensures in
     let extends_path = c.in_ok-extends_path.ensures in
     let grown = both_files c.read_namespace.new.files.items c.in_ok-newly_read.newly_read.items c.deref.ensures.value
     c.in_ok-append.ensures.items c.in_ok-newly_read.ensures.known in

@@ -1,34 +1,29 @@
 use Rattle.std.proofs.Common.{◌≡◌, true, inr, ⊎_elim, take, refl, sym, ap, subst, ◌∙◌}
 use Rattle.std.specs.List.{AllByRecursion}
-use Rattle.std.proofs.lemmas.Result.{err_from_is_err_and}
 use Rattle.jt_ast.specs.Texts.{among}
 use Rattle.jt_inherit.specs.internal.Along.{needs_along}
 use Rattle.jt_inherit.specs.internal.Found.{IsMet}
 use Rattle.jt_chains.specs.Needs.{needed, needs_view}
 use Rattle.jt_chains.specs.TemplateFiles.{files_view}
 use Rattle.jt_inherit.specs.internal.Sets.{names_view}
-use Rattle.jt_inherit.proofs.FollowStep.{asked_at, need_fault, met_turn, met_grows}
+use Rattle.jt_inherit.proofs.FollowStep.{asked_at, met_turn, met_grows}
+use Rattle.jt_inherit.proofs.PlacedErrors.{unmet_need}
 use Rattle.jt_inherit.proofs.including.read_includes.Goals as goal
 
-pub returns-in_err-read_include-clause-refused : goal.returns-in_err-read_include-clause-refused
-returns-in_err-read_include-clause-refused g c =
-    let l = c.loop-include in
-    let e = c.in_err-read_include.field-0.0 in
-    let p =
-    err_from_is_err_and c.from_residual-in_err-read_include.result c.from_residual-in_err-read_include.ensures.1 in
-    rw (p.1, p.2)
-    (inr (need_fault (g.L.Library.sources c.args.loader.now.library.now) c.args.loader.now.options
-    c.deref-include-items.result.now (needs_along (files_view c.args.files.now) c.args.extends_path.now) l.include-index
-    _ e
+pub returns-in-Err-clause-refused : goal.returns-in-Err-clause-refused
+returns-in-Err-clause-refused g c =
+    unmet_need (g.L.Library.sources c.args.loader.now.library.now) c.args.loader.now.options c.args.files.now
+    c.args.extends_path.now c.deref-include-items.result.now c.loop-include.include-index _ c.in-Err.error
+    c.in_ok-need_finding-in-Err.field-0
     (ap needs_view c.deref-include-items.ensures.value ∙ c.in_ok-found.ensures) c.loop-include-test.true
-    c.in_err-read_include.ensures.refused))
+    c.in-Err.ensures.refused c.in_ok-need_finding-in-Err.ensures
 
 pub loop-include-preserved : goal.loop-include-preserved
 loop-include-preserved g c =
     let l = c.loop-include in
     let given = g.L.Library.sources c.args.loader.now.library.now in
     let ks = names_view l.names in
-    let more = c.in_ok-read_include.ensures.grown in
+    let more = c.in-Ok.ensures.grown in
     let same_needs : needs_view c.deref-include-items.result.now
     ≡ needs_along (files_view c.args.files.now) c.args.extends_path.now =
     ap needs_view c.deref-include-items.ensures.value ∙ c.in_ok-found.ensures in
@@ -37,14 +32,14 @@ loop-include-preserved g c =
     (sym more.1)
     (met_grows given ks more.0 (needs_view (take l.include-index c.deref-include-items.result.now)) l.invariant.met) in
     record {
-      known = c.in_ok-read_include.ensures.known (files_view c.args.files.now) l.invariant.known;
+      known = c.in-Ok.ensures.known (files_view c.args.files.now) l.invariant.known;
       from = λ n a. ⊎_elim
           (λ p. l.invariant.from n p)
           (λ p. inr (ap (among n) (ap (needed true) (sym same_needs))
           ∙ ap (λ x. among x (needed true (needs_view c.deref-include-items.result.now))) p
           ∙ asked_at true c.deref-include-items.result.now l.include-index _ c.loop-include-test.true refl))
-          (c.in_ok-read_include.ensures.from n a);
+          (c.in-Ok.ensures.from n a);
       met =
           met_turn (IsMet given (names_view c.read_include.new.names)) c.deref-include-items.result.now l.include-index
-          _ c.loop-include-test.true met c.in_ok-read_include.ensures.met;
+          _ c.loop-include-test.true met c.in-Ok.ensures.met;
     }

@@ -20,89 +20,105 @@ steps-init g c =
 
 pub step-requires-clause-not_wrong : goal.step-requires-clause-not_wrong
 step-requires-clause-not_wrong g c =
-    let r = underway_gone (g.C.Code.code c.args.code.now) c.steps.state c.run_fast-left.new.state
-    c.steps.invariant.reached c.run_fast-left.ensures.gone in
+    let r = underway_gone (g.C.Code.code c.args.code.now) c.steps.state c.run_fast-stopped.new.state
+    c.steps.invariant.reached c.run_fast-stopped.ensures.gone in
     (reached_sound c.code_laws.ensures (g.C.Code.code c.args.code.now) c.requires.whole c.requires.typed r.context
-    r.budget (config_view c.run_fast-left.new.state) (r.steps, r.reached)).not_wrong
+    r.budget (config_view c.run_fast-stopped.new.state) (r.steps, r.reached)).not_wrong
 
 pub step-requires-clause-bounded : goal.step-requires-clause-bounded
 step-requires-clause-bounded g c =
-    let r = underway_gone (g.C.Code.code c.args.code.now) c.steps.state c.run_fast-left.new.state
-    c.steps.invariant.reached c.run_fast-left.ensures.gone in
+    let r = underway_gone (g.C.Code.code c.args.code.now) c.steps.state c.run_fast-stopped.new.state
+    c.steps.invariant.reached c.run_fast-stopped.ensures.gone in
     let s = (reached_sound c.code_laws.ensures (g.C.Code.code c.args.code.now) c.requires.whole c.requires.typed
-    r.context r.budget (config_view c.run_fast-left.new.state) (r.steps, r.reached)) in
+    r.context r.budget (config_view c.run_fast-stopped.new.state) (r.steps, r.reached)) in
     record { sized = s.sized; few = s.few }
 
 pub step-requires-clause-depth : goal.step-requires-clause-depth
 step-requires-clause-depth g c =
-    (underway_gone (g.C.Code.code c.args.code.now) c.steps.state c.run_fast-left.new.state c.steps.invariant.reached
-    c.run_fast-left.ensures.gone).depth
+    (underway_gone (g.C.Code.code c.args.code.now) c.steps.state c.run_fast-stopped.new.state c.steps.invariant.reached
+    c.run_fast-stopped.ensures.gone).depth
 
 pub steps-preserved : goal.steps-preserved
 steps-preserved g c =
     let k = g.C.Code.code c.args.code.now in
-    let e : next k (config_view c.run_fast-left.new.state) ≡ Goes (config_view c.step.new.state) =
+    let e : next k (config_view c.run_fast-stopped.new.state) ≡ Goes (config_view c.step.new.state) =
     c.in_ok-outcome.ensures.next ∙ rw c.in_default.is refl in
     let r =
-    underway_gone k c.steps.state c.run_fast-left.new.state c.steps.invariant.reached c.run_fast-left.ensures.gone in
-    let far = slice_gone k c.args.k c.steps.left c.run_fast-left.result (config_view c.args.state.now) c.steps.state
-    c.run_fast-left.new.state c.steps.invariant.within c.steps.invariant.so_far c.run_fast-left.ensures.gone
-    c.run_fast-left.ensures.left in
+    underway_gone k c.steps.state c.run_fast-stopped.new.state c.steps.invariant.reached
+    c.run_fast-stopped.ensures.gone in
+    let far = slice_gone k c.args.k c.steps.left c.run_fast-stopped.result.left (config_view c.args.state.now)
+    c.steps.state
+    c.run_fast-stopped.new.state c.steps.invariant.within c.steps.invariant.so_far c.run_fast-stopped.ensures.gone
+    c.run_fast-stopped.ensures.left in
     record {
-      within = omega (arith, c.steps.invariant.within, c.run_fast-left.ensures.left, c.run_fast-left.ensures.gone.fuel);
+      within = omega (
+        arith,
+        c.steps.invariant.within,
+        c.run_fast-stopped.ensures.left,
+        c.run_fast-stopped.ensures.gone.fuel,
+      );
       so_far =
-          slice_on k c.args.k c.run_fast-left.result (config_view c.args.state.now)
-          (config_view c.run_fast-left.new.state) (config_view c.step.new.state) (omega arith)
-          (omega (arith, c.steps.invariant.within, c.run_fast-left.ensures.left, c.run_fast-left.ensures.gone.fuel)) far
+          slice_on k c.args.k c.run_fast-stopped.result.left (config_view c.args.state.now)
+          (config_view c.run_fast-stopped.new.state) (config_view c.step.new.state) (omega arith)
+          (omega (
+            arith,
+            c.steps.invariant.within,
+            c.run_fast-stopped.ensures.left,
+            c.run_fast-stopped.ensures.gone.fuel,
+          )) far
           e;
       reached =
-          reached_on c.code_laws.ensures k c.requires.whole c.requires.typed c.run_fast-left.new.state c.step.new.state
+          reached_on c.code_laws.ensures k c.requires.whole c.requires.typed c.run_fast-stopped.new.state
+          c.step.new.state
           r e;
       made = c.in_ok-outcome.ensures.made;
     }
 
 pub steps-smaller : goal.steps-smaller
-steps-smaller g c = omega (arith, c.run_fast-left.ensures.left, c.run_fast-left.ensures.gone.fuel)
+steps-smaller g c = omega (arith, c.run_fast-stopped.ensures.left, c.run_fast-stopped.ensures.gone.fuel)
 
 pub returns-in-Some-clause-steps : goal.returns-in-Some-clause-steps
 returns-in-Some-clause-steps g c =
     let k = g.C.Code.code c.args.code.now in
     let o = outcome_view c.in-Some.outcome in
-    let e : next k (config_view c.run_fast-left.new.state) ≡ Ends o =
+    let e : next k (config_view c.run_fast-stopped.new.state) ≡ Ends o =
     c.in_ok-outcome.ensures.next ∙ rw c.in-Some.is refl in
-    let far = slice_gone k c.args.k c.steps.left c.run_fast-left.result (config_view c.args.state.now) c.steps.state
-    c.run_fast-left.new.state c.steps.invariant.within c.steps.invariant.so_far c.run_fast-left.ensures.gone
-    c.run_fast-left.ensures.left in
-    ended_within k (c.args.k - c.run_fast-left.result) c.args.k (config_view c.args.state.now)
-    (config_view c.run_fast-left.new.state) o far e
-    (omega (arith, c.steps.invariant.within, c.run_fast-left.ensures.left, c.run_fast-left.ensures.gone.fuel))
+    let far = slice_gone k c.args.k c.steps.left c.run_fast-stopped.result.left (config_view c.args.state.now)
+    c.steps.state
+    c.run_fast-stopped.new.state c.steps.invariant.within c.steps.invariant.so_far c.run_fast-stopped.ensures.gone
+    c.run_fast-stopped.ensures.left in
+    ended_within k (c.args.k - c.run_fast-stopped.result.left) c.args.k (config_view c.args.state.now)
+    (config_view c.run_fast-stopped.new.state) o far e
+    (omega (arith, c.steps.invariant.within, c.run_fast-stopped.ensures.left, c.run_fast-stopped.ensures.gone.fuel))
 
-pub returns-then-left-eq0-clause-steps : goal.returns-then-left-eq0-clause-steps
-returns-then-left-eq0-clause-steps g c =
+pub returns-then-stopped-eq0-clause-steps : goal.returns-then-stopped-eq0-clause-steps
+returns-then-stopped-eq0-clause-steps g c =
     let k = g.C.Code.code c.args.code.now in
-    let far = slice_gone k c.args.k c.steps.left c.run_fast-left.result (config_view c.args.state.now) c.steps.state
-    c.run_fast-left.new.state c.steps.invariant.within c.steps.invariant.so_far c.run_fast-left.ensures.gone
-    c.run_fast-left.ensures.left in
-    all_made k (c.args.k - c.run_fast-left.result) c.args.k (config_view c.args.state.now)
-    (config_view c.run_fast-left.new.state) far (omega arith) (omega arith)
+    let far = slice_gone k c.args.k c.steps.left c.run_fast-stopped.result.left (config_view c.args.state.now)
+    c.steps.state
+    c.run_fast-stopped.new.state c.steps.invariant.within c.steps.invariant.so_far c.run_fast-stopped.ensures.gone
+    c.run_fast-stopped.ensures.left in
+    all_made k (c.args.k - c.run_fast-stopped.result.left) c.args.k (config_view c.args.state.now)
+    (config_view c.run_fast-stopped.new.state) far (omega arith) (omega arith)
 
-pub returns-then-left-eq0-clause-reached : goal.returns-then-left-eq0-clause-reached
-returns-then-left-eq0-clause-reached g c =
-    underway_gone (g.C.Code.code c.args.code.now) c.steps.state c.run_fast-left.new.state c.steps.invariant.reached
-    c.run_fast-left.ensures.gone
+pub returns-then-stopped-eq0-clause-reached : goal.returns-then-stopped-eq0-clause-reached
+returns-then-stopped-eq0-clause-reached g c =
+    underway_gone (g.C.Code.code c.args.code.now) c.steps.state c.run_fast-stopped.new.state c.steps.invariant.reached
+    c.run_fast-stopped.ensures.gone
 
 pub returns-in_err-outcome-clause-memory : goal.returns-in_err-outcome-clause-memory
 returns-in_err-outcome-clause-memory g c =
     let k = g.C.Code.code c.args.code.now in
-    let far = slice_gone k c.args.k c.steps.left c.run_fast-left.result (config_view c.args.state.now) c.steps.state
-    c.run_fast-left.new.state c.steps.invariant.within c.steps.invariant.so_far c.run_fast-left.ensures.gone
-    c.run_fast-left.ensures.left in
+    let far = slice_gone k c.args.k c.steps.left c.run_fast-stopped.result.left (config_view c.args.state.now)
+    c.steps.state
+    c.run_fast-stopped.new.state c.steps.invariant.within c.steps.invariant.so_far c.run_fast-stopped.ensures.gone
+    c.run_fast-stopped.ensures.left in
     let comes : ComesToGrow k (config_view c.args.state.now) = record {
-      steps = c.args.k - c.run_fast-left.result;
-      last = config_view c.run_fast-left.new.state;
+      steps = c.args.k - c.run_fast-stopped.result.left;
+      last = config_view c.run_fast-stopped.new.state;
       reached = far;
       grows = c.in_err-outcome.ensures.memory;
     } in
-    let less : c.args.k - c.run_fast-left.result < c.args.k =
-    omega (arith, c.steps.invariant.within, c.run_fast-left.ensures.left, c.run_fast-left.ensures.gone.fuel) in
+    let less : c.args.k - c.run_fast-stopped.result.left < c.args.k =
+    omega (arith, c.steps.invariant.within, c.run_fast-stopped.ensures.left, c.run_fast-stopped.ensures.gone.fuel) in
     on_err c.from_residual.result (comes, less)

@@ -25,18 +25,20 @@ steps-init g c =
 pub step-requires-clause-not_wrong : goal.step-requires-clause-not_wrong
 step-requires-clause-not_wrong g c =
     let k = g.C.Code.code c.args.code.now in
-    let r = reached_gone k (pairs_of c.args.context.now) (budget_view c.args.budget) c.steps.state c.run_fast.new.state
-    c.steps.invariant.reached c.run_fast.ensures.gone in
+    let r = reached_gone k (pairs_of c.args.context.now) (budget_view c.args.budget) c.steps.state
+    c.run_fast-stopped.new.state
+    c.steps.invariant.reached c.run_fast-stopped.ensures.gone in
     (reached_sound c.code_laws.ensures k c.requires.whole c.requires.typed (pairs_of c.args.context.now)
-    (budget_view c.args.budget) (config_view c.run_fast.new.state) r).not_wrong
+    (budget_view c.args.budget) (config_view c.run_fast-stopped.new.state) r).not_wrong
 
 pub step-requires-clause-bounded : goal.step-requires-clause-bounded
 step-requires-clause-bounded g c =
     let k = g.C.Code.code c.args.code.now in
-    let r = reached_gone k (pairs_of c.args.context.now) (budget_view c.args.budget) c.steps.state c.run_fast.new.state
-    c.steps.invariant.reached c.run_fast.ensures.gone in
+    let r = reached_gone k (pairs_of c.args.context.now) (budget_view c.args.budget) c.steps.state
+    c.run_fast-stopped.new.state
+    c.steps.invariant.reached c.run_fast-stopped.ensures.gone in
     let s = (reached_sound c.code_laws.ensures k c.requires.whole c.requires.typed (pairs_of c.args.context.now)
-    (budget_view c.args.budget) (config_view c.run_fast.new.state) r) in
+    (budget_view c.args.budget) (config_view c.run_fast-stopped.new.state) r) in
     record { sized = s.sized; few = s.few }
 
 pub step-requires-clause-depth : goal.step-requires-clause-depth
@@ -44,32 +46,35 @@ step-requires-clause-depth g c =
     omega (
       arith,
       c.steps.invariant.depth,
-      c.run_fast.ensures.gone.depth,
-      ap (λ (waiting : List Caller). length waiting) c.run_fast.ensures.gone.callers,
+      c.run_fast-stopped.ensures.gone.depth,
+      ap (λ (waiting : List Caller). length waiting) c.run_fast-stopped.ensures.gone.callers,
     )
 
 pub steps-preserved : goal.steps-preserved
 steps-preserved g c =
     let k = g.C.Code.code c.args.code.now in
-    let e : next k (config_view c.run_fast.new.state) ≡ Goes (config_view c.step.new.state) =
+    let e : next k (config_view c.run_fast-stopped.new.state) ≡ Goes (config_view c.step.new.state) =
     c.in_ok-outcome.ensures.next ∙ rw c.in_default-2.is refl in
-    let r = reached_gone k (pairs_of c.args.context.now) (budget_view c.args.budget) c.steps.state c.run_fast.new.state
-    c.steps.invariant.reached c.run_fast.ensures.gone in
+    let r = reached_gone k (pairs_of c.args.context.now) (budget_view c.args.budget) c.steps.state
+    c.run_fast-stopped.new.state
+    c.steps.invariant.reached c.run_fast-stopped.ensures.gone in
     record {
       reached =
-          reached_next k (pairs_of c.args.context.now) (budget_view c.args.budget) (config_view c.run_fast.new.state)
+          reached_next k (pairs_of c.args.context.now) (budget_view c.args.budget)
+          (config_view c.run_fast-stopped.new.state)
           (config_view c.step.new.state) r e;
       same =
-          λ o r. c.steps.invariant.same o (ending_gone k c.steps.state c.run_fast.new.state o c.run_fast.ensures.gone
-          (ending_back k (config_view c.run_fast.new.state) (config_view c.step.new.state) o e r));
+          λ o r. c.steps.invariant.same o (ending_gone k c.steps.state c.run_fast-stopped.new.state o
+          c.run_fast-stopped.ensures.gone
+          (ending_back k (config_view c.run_fast-stopped.new.state) (config_view c.step.new.state) o e r));
       depth =
           omega (
             arith,
             c.steps.invariant.depth,
-            c.run_fast.ensures.gone.depth,
-            ap (λ (waiting : List Caller). length waiting) c.run_fast.ensures.gone.callers,
+            c.run_fast-stopped.ensures.gone.depth,
+            ap (λ (waiting : List Caller). length waiting) c.run_fast-stopped.ensures.gone.callers,
             (reached_sound c.code_laws.ensures k c.requires.whole c.requires.typed (pairs_of c.args.context.now)
-                (budget_view c.args.budget) (config_view c.run_fast.new.state) r).depth
+                (budget_view c.args.budget) (config_view c.run_fast-stopped.new.state) r).depth
                 (config_view c.step.new.state) e,
           );
       made = c.in_ok-outcome.ensures.made;
@@ -78,14 +83,15 @@ steps-preserved g c =
 pub steps-smaller : goal.steps-smaller
 steps-smaller g c =
     let k = g.C.Code.code c.args.code.now in
-    let e : next k (config_view c.run_fast.new.state) ≡ Goes (config_view c.step.new.state) =
+    let e : next k (config_view c.run_fast-stopped.new.state) ≡ Goes (config_view c.step.new.state) =
     c.in_ok-outcome.ensures.next ∙ rw c.in_default-2.is refl in
-    let r = reached_gone k (pairs_of c.args.context.now) (budget_view c.args.budget) c.steps.state c.run_fast.new.state
-    c.steps.invariant.reached c.run_fast.ensures.gone in
+    let r = reached_gone k (pairs_of c.args.context.now) (budget_view c.args.budget) c.steps.state
+    c.run_fast-stopped.new.state
+    c.steps.invariant.reached c.run_fast-stopped.ensures.gone in
     let less = (reached_sound c.code_laws.ensures k c.requires.whole c.requires.typed (pairs_of c.args.context.now)
-    (budget_view c.args.budget) (config_view c.run_fast.new.state) r).takes
+    (budget_view c.args.budget) (config_view c.run_fast-stopped.new.state) r).takes
     (config_view c.step.new.state) e in
-    omega (arith, less, c.run_fast.ensures.gone.fuel)
+    omega (arith, less, c.run_fast-stopped.ensures.gone.fuel)
 
 pub returns-in-Some-2-clause-outcome : goal.returns-in-Some-2-clause-outcome
 returns-in-Some-2-clause-outcome g c =
@@ -93,10 +99,11 @@ returns-in-Some-2-clause-outcome g c =
     let o = outcome_view c.in-Some-2.outcome in
     let x = pairs_of c.args.context.now in
     let b = budget_view c.args.budget in
-    let e : next k (config_view c.run_fast.new.state) ≡ Ends o =
+    let e : next k (config_view c.run_fast-stopped.new.state) ≡ Ends o =
     c.in_ok-outcome.ensures.next ∙ rw c.in-Some-2.is refl in
-    let r = c.steps.invariant.same o (ending_gone k c.steps.state c.run_fast.new.state o c.run_fast.ensures.gone
-    (ending_now k (config_view c.run_fast.new.state) o e)) in
+    let r = c.steps.invariant.same o (ending_gone k c.steps.state c.run_fast-stopped.new.state o
+    c.run_fast-stopped.ensures.gone
+    (ending_now k (config_view c.run_fast-stopped.new.state) o e)) in
     let n : passed b x k.names ≡ None = sym c.in_default.ensures in
     rw n r
 
@@ -109,10 +116,11 @@ returns-in_err-outcome-clause-memory g c =
     let k = g.C.Code.code c.args.code.now in
     let x = pairs_of c.args.context.now in
     let b = budget_view c.args.budget in
-    let r = reached_gone k x b c.steps.state c.run_fast.new.state c.steps.invariant.reached c.run_fast.ensures.gone in
+    let r = reached_gone k x b c.steps.state c.run_fast-stopped.new.state c.steps.invariant.reached
+    c.run_fast-stopped.ensures.gone in
     let comes : ComesToGrow k (start k x b) = record {
       steps = r.0;
-      last = config_view c.run_fast.new.state;
+      last = config_view c.run_fast-stopped.new.state;
       reached = r.1;
       grows = c.in_err-outcome.ensures.memory;
     } in

@@ -30,25 +30,25 @@ steps-init g c =
 
 pub step-requires-clause-prefetched : goal.step-requires-clause-prefetched
 step-requires-clause-prefetched g c =
-    found_same (g.C.Code.code c.args.code.now) c.run_fast.new.prefetched c.run_fast.new.state.unit
-    c.run_fast.new.state.point c.send.new.state.unit c.send.new.state.point
+    found_same (g.C.Code.code c.args.code.now) c.run_fast-stopped.result.prefetched c.run_fast-stopped.new.state.unit
+    c.run_fast-stopped.new.state.point c.send.new.state.unit c.send.new.state.point
     (ap (λ (y : Config). y.machine.unit) c.in_ok-send.ensures.emptied)
-    (ap (λ (y : Config). y.machine.point) c.in_ok-send.ensures.emptied) c.run_fast.ensures.prefetched
+    (ap (λ (y : Config). y.machine.point) c.in_ok-send.ensures.emptied) c.run_fast-stopped.ensures.prefetched
 
 pub step-requires-clause-not_wrong : goal.step-requires-clause-not_wrong
 step-requires-clause-not_wrong g c =
     (gone_sent c.code_laws.ensures (g.C.Code.code c.args.code.now) c.requires.whole c.requires.typed
     (pairs_of c.args.context.now) (budget_view c.args.budget) (g.W.Sink.taken c.args.sink.now)
-    (g.W.Sink.taken c.steps.sink) (g.W.Sink.taken c.send.new.sink) c.steps.state c.run_fast.new.state
-    (config_view c.send.new.state) tt c.steps.invariant.so_far c.run_fast.ensures.gone c.in_ok-send.ensures.put
+    (g.W.Sink.taken c.steps.sink) (g.W.Sink.taken c.send.new.sink) c.steps.state c.run_fast-stopped.new.state
+    (config_view c.send.new.state) tt c.steps.invariant.so_far c.run_fast-stopped.ensures.gone c.in_ok-send.ensures.put
     c.in_ok-send.ensures.emptied).sound.not_wrong
 
 pub step-requires-clause-bounded : goal.step-requires-clause-bounded
 step-requires-clause-bounded g c =
     let s = (gone_sent c.code_laws.ensures (g.C.Code.code c.args.code.now) c.requires.whole c.requires.typed
     (pairs_of c.args.context.now) (budget_view c.args.budget) (g.W.Sink.taken c.args.sink.now)
-    (g.W.Sink.taken c.steps.sink) (g.W.Sink.taken c.send.new.sink) c.steps.state c.run_fast.new.state
-    (config_view c.send.new.state) tt c.steps.invariant.so_far c.run_fast.ensures.gone c.in_ok-send.ensures.put
+    (g.W.Sink.taken c.steps.sink) (g.W.Sink.taken c.send.new.sink) c.steps.state c.run_fast-stopped.new.state
+    (config_view c.send.new.state) tt c.steps.invariant.so_far c.run_fast-stopped.ensures.gone c.in_ok-send.ensures.put
     c.in_ok-send.ensures.emptied) in
     record { sized = s.sound.sized; few = s.sound.few }
 
@@ -59,8 +59,8 @@ step-requires-clause-depth g c =
       c.steps.invariant.depth,
       ap (λ (y : Config). y.left.depth) c.in_ok-send.ensures.emptied,
       ap (λ (y : Config). length y.machine.callers) c.in_ok-send.ensures.emptied,
-      c.run_fast.ensures.gone.depth,
-      ap (λ (waiting : List Caller). length waiting) c.run_fast.ensures.gone.callers,
+      c.run_fast-stopped.ensures.gone.depth,
+      ap (λ (waiting : List Caller). length waiting) c.run_fast-stopped.ensures.gone.callers,
     )
 
 pub steps-preserved : goal.steps-preserved
@@ -69,8 +69,8 @@ steps-preserved g c =
     let x = pairs_of c.args.context.now in
     let b = budget_view c.args.budget in
     let s = gone_sent c.code_laws.ensures k c.requires.whole c.requires.typed x b (g.W.Sink.taken c.args.sink.now)
-    (g.W.Sink.taken c.steps.sink) (g.W.Sink.taken c.send.new.sink) c.steps.state c.run_fast.new.state
-    (config_view c.send.new.state) tt c.steps.invariant.so_far c.run_fast.ensures.gone c.in_ok-send.ensures.put
+    (g.W.Sink.taken c.steps.sink) (g.W.Sink.taken c.send.new.sink) c.steps.state c.run_fast-stopped.new.state
+    (config_view c.send.new.state) tt c.steps.invariant.so_far c.run_fast-stopped.ensures.gone c.in_ok-send.ensures.put
     c.in_ok-send.ensures.emptied in
     let e : next k (config_view c.send.new.state) ≡ Goes (config_view c.step.new.state) =
     c.in_ok-outcome.ensures.next ∙ rw c.in_default-2.is refl in
@@ -85,8 +85,8 @@ steps-preserved g c =
             c.steps.invariant.depth,
             ap (λ (y : Config). y.left.depth) c.in_ok-send.ensures.emptied,
             ap (λ (y : Config). length y.machine.callers) c.in_ok-send.ensures.emptied,
-            c.run_fast.ensures.gone.depth,
-            ap (λ (waiting : List Caller). length waiting) c.run_fast.ensures.gone.callers,
+            c.run_fast-stopped.ensures.gone.depth,
+            ap (λ (waiting : List Caller). length waiting) c.run_fast-stopped.ensures.gone.callers,
             s.sound.depth (config_view c.step.new.state) e,
           );
       made = c.in_ok-outcome.ensures.made;
@@ -98,8 +98,8 @@ steps-smaller g c =
     let x = pairs_of c.args.context.now in
     let b = budget_view c.args.budget in
     let s = gone_sent c.code_laws.ensures k c.requires.whole c.requires.typed x b (g.W.Sink.taken c.args.sink.now)
-    (g.W.Sink.taken c.steps.sink) (g.W.Sink.taken c.send.new.sink) c.steps.state c.run_fast.new.state
-    (config_view c.send.new.state) tt c.steps.invariant.so_far c.run_fast.ensures.gone c.in_ok-send.ensures.put
+    (g.W.Sink.taken c.steps.sink) (g.W.Sink.taken c.send.new.sink) c.steps.state c.run_fast-stopped.new.state
+    (config_view c.send.new.state) tt c.steps.invariant.so_far c.run_fast-stopped.ensures.gone c.in_ok-send.ensures.put
     c.in_ok-send.ensures.emptied in
     let e : next k (config_view c.send.new.state) ≡ Goes (config_view c.step.new.state) =
     c.in_ok-outcome.ensures.next ∙ rw c.in_default-2.is refl in
@@ -107,7 +107,7 @@ steps-smaller g c =
       arith,
       s.sound.takes (config_view c.step.new.state) e,
       ap (λ (y : Config). y.left.fuel) c.in_ok-send.ensures.emptied,
-      c.run_fast.ensures.gone.fuel,
+      c.run_fast-stopped.ensures.gone.fuel,
     )
 
 pub returns-in_err-state-clause-begun : goal.returns-in_err-state-clause-begun
@@ -131,9 +131,9 @@ returns-in_err-send-clause-begun g c =
     let t = c.in_err-send.ensures.put in
     on_err c.from_residual-in_err-send.result
     (cut_short k x b (g.W.Sink.taken c.args.sink.now) (g.W.Sink.taken c.steps.sink) (g.W.Sink.taken c.send.new.sink)
-    (config_view c.run_fast.new.state) t.1.front t.0 n safe tt
+    (config_view c.run_fast-stopped.new.state) t.1.front t.0 n safe tt
     (so_far_gone k x b (g.W.Sink.taken c.args.sink.now) (g.W.Sink.taken c.steps.sink) c.steps.state
-    c.run_fast.new.state c.steps.invariant.so_far c.run_fast.ensures.gone) t.1.parts t.1.taken)
+    c.run_fast-stopped.new.state c.steps.invariant.so_far c.run_fast-stopped.ensures.gone) t.1.parts t.1.taken)
 
 pub returns-in_err-outcome-clause-begun : goal.returns-in_err-outcome-clause-begun
 returns-in_err-outcome-clause-begun g c =
@@ -145,8 +145,8 @@ returns-in_err-outcome-clause-begun g c =
     let mid = g.W.Sink.taken c.send.new.sink in
     let d = config_view c.send.new.state in
     let s = gone_sent c.code_laws.ensures k c.requires.whole c.requires.typed x b (g.W.Sink.taken c.args.sink.now)
-    (g.W.Sink.taken c.steps.sink) (g.W.Sink.taken c.send.new.sink) c.steps.state c.run_fast.new.state
-    (config_view c.send.new.state) tt c.steps.invariant.so_far c.run_fast.ensures.gone c.in_ok-send.ensures.put
+    (g.W.Sink.taken c.steps.sink) (g.W.Sink.taken c.send.new.sink) c.steps.state c.run_fast-stopped.new.state
+    (config_view c.send.new.state) tt c.steps.invariant.so_far c.run_fast-stopped.ensures.gone c.in_ok-send.ensures.put
     c.in_ok-send.ensures.emptied in
     on_err c.from_residual-in_err-outcome.result
     (cut_short k x b (g.W.Sink.taken c.args.sink.now) mid mid d [] (emitted_by d) n safe tt s.so_far refl
@@ -163,8 +163,8 @@ returns-in_err-close-clause-begun g c =
     let d = config_view c.send.new.state in
     let o = outcome_view c.in-Some-2.outcome in
     let s = gone_sent c.code_laws.ensures k c.requires.whole c.requires.typed x b (g.W.Sink.taken c.args.sink.now)
-    (g.W.Sink.taken c.steps.sink) (g.W.Sink.taken c.send.new.sink) c.steps.state c.run_fast.new.state
-    (config_view c.send.new.state) tt c.steps.invariant.so_far c.run_fast.ensures.gone c.in_ok-send.ensures.put
+    (g.W.Sink.taken c.steps.sink) (g.W.Sink.taken c.send.new.sink) c.steps.state c.run_fast-stopped.new.state
+    (config_view c.send.new.state) tt c.steps.invariant.so_far c.run_fast-stopped.ensures.gone c.in_ok-send.ensures.put
     c.in_ok-send.ensures.emptied in
     let e : next k d ≡ Ends o = c.in_ok-outcome.ensures.next ∙ rw c.in-Some-2.is refl in
     let t = c.in_err-close.ensures.put in
@@ -182,8 +182,8 @@ returns-in-Some-2-clause-ended g c =
     let d = config_view c.send.new.state in
     let o = outcome_view c.in-Some-2.outcome in
     let s = gone_sent c.code_laws.ensures k c.requires.whole c.requires.typed x b (g.W.Sink.taken c.args.sink.now)
-    (g.W.Sink.taken c.steps.sink) (g.W.Sink.taken c.send.new.sink) c.steps.state c.run_fast.new.state
-    (config_view c.send.new.state) tt c.steps.invariant.so_far c.run_fast.ensures.gone c.in_ok-send.ensures.put
+    (g.W.Sink.taken c.steps.sink) (g.W.Sink.taken c.send.new.sink) c.steps.state c.run_fast-stopped.new.state
+    (config_view c.send.new.state) tt c.steps.invariant.so_far c.run_fast-stopped.ensures.gone c.in_ok-send.ensures.put
     c.in_ok-send.ensures.emptied in
     let e : next k d ≡ Ends o = c.in_ok-outcome.ensures.next ∙ rw c.in-Some-2.is refl in
     whole_run k x b (g.W.Sink.taken c.args.sink.now) mid (g.W.Sink.taken c.close.new.sink) d o c.in_ok-close.field-0 n
@@ -199,8 +199,8 @@ returns-in_err-outcome-clause-wanted g c =
     let x = pairs_of c.args.context.now in
     let b = budget_view c.args.budget in
     let s = gone_sent c.code_laws.ensures k c.requires.whole c.requires.typed x b (g.W.Sink.taken c.args.sink.now)
-    (g.W.Sink.taken c.steps.sink) (g.W.Sink.taken c.send.new.sink) c.steps.state c.run_fast.new.state
-    (config_view c.send.new.state) tt c.steps.invariant.so_far c.run_fast.ensures.gone c.in_ok-send.ensures.put
+    (g.W.Sink.taken c.steps.sink) (g.W.Sink.taken c.send.new.sink) c.steps.state c.run_fast-stopped.new.state
+    (config_view c.send.new.state) tt c.steps.invariant.so_far c.run_fast-stopped.ensures.gone c.in_ok-send.ensures.put
     c.in_ok-send.ensures.emptied in
     if_err_given c.from_residual-in_err-outcome.result _ _ (
       sym c.in_default.ensures,

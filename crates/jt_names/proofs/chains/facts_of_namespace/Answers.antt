@@ -1,7 +1,12 @@
-use Rattle.std.proofs.Common.{refl, ap, ◌∙◌}
+use Rattle.std.proofs.Common.{◌≡◌, List, ℕ, refl, ap, ◌∙◌}
+use Rattle.std.specs.Prelude.{flat_map}
+use Rattle.jt_ast.specs.Expressions.{Text}
+use Rattle.jt_ast.specs.Statements.{Body}
 use Rattle.jt_ast.specs.Texts.{ascending}
-use Rattle.jt_chains.specs.Uses.{body_names}
-use Rattle.jt_chains.specs.View.{its_templates}
+use Rattle.jt_chains.specs.Along.{along}
+use Rattle.jt_chains.specs.Chain.{templates}
+use Rattle.jt_chains.specs.Uses.{body_names, scope_names_in}
+use Rattle.jt_chains.specs.View.{its_sources, its_templates, namespace_in}
 use Rattle.jt_chains.proofs.TemplatesByIndex.{namespace_along}
 use Rattle.jt_names.proofs.chains.facts_of_namespace.Goals as goal
 
@@ -9,14 +14,18 @@ pub returns : goal.returns
 returns c =
     let chain = c.args.chain.now in
     let there = c.requires.stands in
+    let all : (g : Body → List Text) (is : List ℕ) → is ≡ c.index.result.now.templates.items
+    → ascending (along (its_templates chain) (λ n b. g b) is)
+    ≡ ascending (flat_map (λ t. g t.body) (templates (its_sources chain) (namespace_in chain c.args.namespace)))
+    = λ g is e. ap ascending (namespace_along chain.templates.items chain.templates.items chain.namespaces.items
+    c.args.namespace c.index.result.now is refl e there c.index.ensures chain.once chain.whole (λ n b. g b)) in
     record {
       names =
           c.in_ok-names.ensures (its_templates chain) c.requires.known
-          ∙ ap ascending
-          (namespace_along chain.templates.items chain.templates.items chain.namespaces.items c.args.namespace
-          c.index.result.now c.deref.result.now refl c.deref.ensures.value there c.index.ensures chain.once chain.whole
-          (λ n b. body_names b));
-      scope_names = c.in_ok-scope_names.ensures.there there;
+          ∙ all body_names c.deref.result.now c.deref.ensures.value;
+      scope_names =
+          c.in_ok-scope_names.ensures (its_templates chain) c.requires.known
+          ∙ all scope_names_in c.deref-2.result.now c.deref-2.ensures.value;
       all_macros = c.in_ok-macros.ensures.there there;
       all_given = c.in_ok-given.ensures.there there;
       all_blocks = c.in_ok-blocks.ensures.there there;

@@ -1,4 +1,4 @@
-use Rattle.std.proofs.Common.{◌≡◌, subst, map, List, ℕ, IfOk, string_bytes, rules, tests}
+use Rattle.std.proofs.Common.{◌≡◌, subst, IfOk, string_bytes, rules, tests}
 use Rattle.std.proofs.lemmas.Iterator.{YieldsList-from_slice, YieldsList-from_map_by}
 use Rattle.std.proofs.lemmas.Iterator.Consumers.{map_from_collect}
 use Rattle.jt_ast.specs.Texts.{texts}

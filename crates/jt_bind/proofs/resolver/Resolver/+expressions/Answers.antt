@@ -17,7 +17,7 @@ use Rattle.jt_chains.specs.Chain.{a_macro, a_range, a_super, a_block, a_cycle, n
 use Rattle.jt_chains.specs.Uses.{count, keywords}
 use Rattle.jt_semantics.specs.Operators.{OperatorForm, range_of}
 use Rattle.jt_semantics.specs.Resolve.{operation_of, turned_round, in_form, field_from, filled, filled_some, tested_by}
-use Rattle.jt_semantics.specs.Resolve.{locals_from, invoked}
+use Rattle.jt_semantics.specs.Resolve.{locals_from, invoked, no_value}
 use Rattle.jt_semantics.specs.Expressions.{filter_parameters}
 use Rattle.jt_ids.specs.LoopTable.{field_named}
 use Rattle.jt_ir.specs.Pool.{Constant, own}
@@ -26,9 +26,11 @@ use Rattle.jt_ir.specs.Slots.{invoke}
 use Rattle.jt_eval.specs.TheFilters.{the_filters}
 use Rattle.jt_eval.specs.TheFilters.{filter_parameters as written_parameters}
 use Rattle.jt_ir.specs.View.{expr_view as coded, row_view}
+use Rattle.jt_ir.specs.declared.program.SlotExpr as code
 use Rattle.jt_ir.specs.declared.program.SlotExpr.TheVariants as e
 use Rattle.jt_ir.specs.declared.program.NaryOp.TheVariants as m
 use Rattle.jt_bind.specs.internal.Callees.{IsCallee}
+use Rattle.jt_bind.specs.internal.Formed.{form_view}
 use Rattle.jt_bind.specs.declared.callee.Callee.{Callee}
 use Rattle.jt_bind.specs.internal.Scoped.{values, IsPlaced, cenv_in, order_in, callee_in, senv_in, expr_in, row_in}
 use Rattle.jt_bind.specs.internal.Scoped.{asides_in, entries_in, filter_row_in, filtered_in}
@@ -84,28 +86,34 @@ resolve_entries-loop-key-preserved t c =
 
 pub resolve_list-returns : goal.resolve_list-returns
 resolve_list-returns t c =
-    made_placed slots.a_list _ c.resolve_row.new.done.items _ _ _
-    (begun _ _ _ _ _ _ _ c.new-items.ensures.items (c.in_ok-resolve_row.ensures slots.none))
-    (view_Made m.List c.resolve_row.new.done)
+    rw c.into_inner.ensures (made_placed slots.a_list _ c.resolve_row.new.done.items _ _ _
+    (begun _ _ _ _ _ _ _ c.new.ensures.items (c.in_ok-resolve_row.ensures slots.none))
+    (view_Made m.List c.resolve_row.new.done))
 
 pub resolve_map-returns : goal.resolve_map-returns
 resolve_map-returns t c =
-    made_placed slots.a_map _ c.resolve_entries.new.done.items _ _ _
-    (begun _ _ _ _ _ _ _ c.new-entries.ensures.items c.in_ok-resolve_entries.ensures)
-    (view_Made m.Map c.resolve_entries.new.done)
+    rw c.into_inner.ensures (made_placed slots.a_map _ c.resolve_entries.new.done.items _ _ _
+    (begun _ _ _ _ _ _ _ c.new.ensures.items c.in_ok-resolve_entries.ensures)
+    (view_Made m.Map c.resolve_entries.new.done))
 
 pub resolve_attribute-returns : goal.resolve_attribute-returns
 resolve_attribute-returns t c =
     let a = expr_in c.args.self.now.tables.now (expr_view c.args.value.now) c.args.self.now.senv in
     let key = c.args.key.now in
+    let k = slots.pooled (own (tree.text key)) in
+    let done = c.put_argument.new.done in
     let p = values c.args.pool.now in
     let r = values c.add_text.new.pool in
-    IfOk-weaker c.on_two.result _ _ (λ e h.
-    let P : Bool → Type 0 = λ b. IsPlaced
-    (if b then field_from (field_named key) else operation_of op.Item a (slots.pooled (own (tree.text key)))) (coded e)
-    p r in
-    subst P (sym c.if-is_loop_name.false ∙ c.is_loop_name.ensures)
-    (h _ _ _ _ _ c.in_ok-whole.ensures c.in_ok-item_key.ensures)) c.on_two.ensures
+    let P : Bool → Type 0 = λ b. IsPlaced (if b then field_from (field_named key) else operation_of op.Item a k)
+    (coded (e.Made (m.Operator op.Item) done)) p r in
+    rw c.into_inner.ensures (subst P (sym c.if-is_loop_name.false ∙ c.is_loop_name.ensures)
+    (made_placed (slots.operator op.Item) _ done.items _ p r
+    (row_both _ (slots.item k slots.none) slots.none [] _ done.items p _ r
+    (begun _ _ _ _ _ _ _ c.in_ok-with_capacity.ensures.items
+    (c.in_ok-resolve_operand.ensures (slots.item k slots.none)))
+    (row_item k slots.none c.in_ok-item_key.item_key _ done.items _ r c.in_ok-item_key.ensures
+    c.in_ok-put_argument.ensures))
+    (view_Made (m.Operator op.Item) done)))
 
 pub resolve_asides-returns : goal.resolve_asides-returns
 resolve_asides-returns t c = λ left.
@@ -133,8 +141,18 @@ resolve_asides-loop-value-preserved t c = λ left.
     c.in_ok-next.next l.done.items _ (values l.pool) _ c.in_ok-next.ensures c.in_ok-put_argument.ensures))
 
 pub resolve_item-returns : goal.resolve_item-returns
-resolve_item-returns t c =
-    IfOk-weaker c.on_two.result _ _ (λ e h. h _ _ _ _ _ c.in_ok-whole.ensures c.in_ok-item_key.ensures) c.on_two.ensures
+resolve_item-returns t c = c.resolve_operation.ensures
+
+pub resolve_operation-returns : goal.resolve_operation-returns
+resolve_operation-returns t c =
+    let b = expr_in c.args.self.now.tables.now (expr_view c.args.right.now) c.args.self.now.senv in
+    let done = c.resolve_operand-2.new.done in
+    rw c.into_inner.ensures (made_placed (slots.operator c.args.op) _ done.items _ _ _
+    (row_both _ (slots.item b slots.none) slots.none [] _ done.items _ _ _
+    (begun _ _ _ _ _ _ _ c.in_ok-with_capacity.ensures.items
+    (c.in_ok-resolve_operand.ensures (slots.item b slots.none)))
+    (c.in_ok-resolve_operand-2.ensures slots.none))
+    (view_Made (m.Operator c.args.op) done))
 
 pub resolve_unary-returns : goal.resolve_unary-returns
 resolve_unary-returns t c =
@@ -144,25 +162,62 @@ resolve_unary-returns t c =
     (values c.args.pool.now) (values c.resolve_expression.new.pool) in
     subst P c.unary_operation.ensures (h _ _ _ c.in_ok-value.ensures)) c.on_one.ensures
 
-pub resolve_binary-returns : goal.resolve_binary-returns
-resolve_binary-returns t c =
+pub resolve_binary-returns-in-Operation : goal.resolve_binary-returns-in-Operation
+resolve_binary-returns-in-Operation t c =
     let a = expr_in c.args.self.now.tables.now (expr_view c.args.left.now) c.args.self.now.senv in
     let b = expr_in c.args.self.now.tables.now (expr_view c.args.right.now) c.args.self.now.senv in
-    IfOk-weaker c.formed.result _ _ (λ e h.
+    IfOk-weaker c.resolve_operation.result _ _ (λ e h.
     let P : OperatorForm → Type 0 =
-    λ f. IsPlaced (in_form f a b) (coded e) (values c.args.pool.now) (values c.resolve_expression-2.new.pool) in
-    subst P c.form_of.ensures (h _ _ _ _ _ c.in_ok-first.ensures c.in_ok-second.ensures)) c.formed.ensures
+    λ f. IsPlaced (in_form f a b) (coded e) (values c.args.pool.now) (values c.resolve_operation.new.pool) in
+    subst P (ap form_view (sym c.in-Operation.is) ∙ c.form_of.ensures) h) c.resolve_operation.ensures
+
+pub resolve_binary-returns-in_ok-inside-in-Negation : goal.resolve_binary-returns-in_ok-inside-in-Negation
+resolve_binary-returns-in_ok-inside-in-Negation t c =
+    let a = expr_in c.args.self.now.tables.now (expr_view c.args.left.now) c.args.self.now.senv in
+    let b = expr_in c.args.self.now.tables.now (expr_view c.args.right.now) c.args.self.now.senv in
+    IfOk-weaker c.on_one.result _ _ (λ e h.
+    let P : OperatorForm → Type 0 = λ f. IsPlaced (in_form f a b) (coded e) (values c.args.pool.now)
+    (values c.resolve_operation-in-Negation.new.pool) in
+    subst P (ap form_view (sym c.in-Negation.is) ∙ c.form_of.ensures)
+    (h _ _ _ c.in_ok-inside-in-Negation.ensures)) c.on_one.ensures
+
+pub resolve_binary-returns-in_ok-second-in-Conjunction : goal.resolve_binary-returns-in_ok-second-in-Conjunction
+resolve_binary-returns-in_ok-second-in-Conjunction t c =
+    let a = expr_in c.args.self.now.tables.now (expr_view c.args.left.now) c.args.self.now.senv in
+    let b = expr_in c.args.self.now.tables.now (expr_view c.args.right.now) c.args.self.now.senv in
+    let P : OperatorForm → Type 0 = λ f. IsPlaced (in_form f a b) (coded c.conjunction.result)
+    (values c.args.pool.now) (values c.resolve_boxed-in-Conjunction.new.pool) in
+    subst P (ap form_view (sym c.in-Conjunction.is) ∙ c.form_of.ensures)
+    (c.conjunction.ensures _ _ _ _ _ c.in_ok-first-in-Conjunction.ensures
+    c.in_ok-second-in-Conjunction.ensures)
+
+pub resolve_binary-returns-in_ok-second-in-Disjunction : goal.resolve_binary-returns-in_ok-second-in-Disjunction
+resolve_binary-returns-in_ok-second-in-Disjunction t c =
+    let a = expr_in c.args.self.now.tables.now (expr_view c.args.left.now) c.args.self.now.senv in
+    let b = expr_in c.args.self.now.tables.now (expr_view c.args.right.now) c.args.self.now.senv in
+    let P : OperatorForm → Type 0 = λ f. IsPlaced (in_form f a b) (coded c.disjunction.result)
+    (values c.args.pool.now) (values c.resolve_boxed-in-Disjunction-2.new.pool) in
+    subst P (ap form_view (sym c.in-Disjunction.is) ∙ c.form_of.ensures)
+    (c.disjunction.ensures _ _ _ _ _ c.in_ok-first-in-Disjunction.ensures
+    c.in_ok-second-in-Disjunction.ensures)
 
 pub resolve_when-returns : goal.resolve_when-returns
 resolve_when-returns t c =
-    IfOk-weaker c.chosen.result _ _ (λ e h.
-    h _ _ _ _ _ _ _ c.in_ok-asked.ensures c.in_ok-first.ensures
-    (c.no_value.ensures (values c.resolve_expression-2.new.pool))) c.chosen.ensures
+    let q = values c.resolve_boxed-2.new.pool in
+    let P : code.SlotExpr → Type 0 = λ x. IsPlaced no_value (coded x) q q in
+    c.chosen.ensures _ _ _ _ _ _ _ c.in_ok-asked.ensures c.in_ok-first.ensures
+    (subst P (sym c.in_ok-second.ensures) (c.no_value.ensures q))
 
 pub resolve_choice-returns : goal.resolve_choice-returns
 resolve_choice-returns t c =
-    IfOk-weaker c.chosen.result _ _ (λ e h.
-    h _ _ _ _ _ _ _ c.in_ok-asked.ensures c.in_ok-first.ensures c.in_ok-second.ensures) c.chosen.ensures
+    c.chosen.ensures _ _ _ _ _ _ _ c.in_ok-asked.ensures c.in_ok-first.ensures c.in_ok-second.ensures
+
+pub resolve_boxed-returns : goal.resolve_boxed-returns
+resolve_boxed-returns t c =
+    let a = expr_in c.args.self.now.tables.now (expr_view c.args.expr.now) c.args.self.now.senv in
+    let P : code.SlotExpr → Type 0 =
+    λ x. IsPlaced a (coded x) (values c.args.pool.now) (values c.resolve_expression.new.pool) in
+    IfOk-weaker c.boxed.result _ _ (λ o h. subst P (sym h) c.in_ok-resolve_expression.ensures) c.boxed.ensures
 
 pub resolve_expression-returns-in-Item : goal.resolve_expression-returns-in-Item
 resolve_expression-returns-in-Item t c =
@@ -261,10 +316,11 @@ resolve_test-returns t c =
     λ n. IsPlaced (turned_round n a) (coded e) (values c.args.pool.now) (values c.resolve_plain_test.new.pool) in
     subst P c.is_negated.ensures (h a _ _ (c.in_ok-test.ensures ps))) c.turned.ensures
 
-pub resolve_first-returns : goal.resolve_first-returns
-resolve_first-returns t c =
-    IfOk-weaker c.row_of.result _ _
-    (λ row h. λ left. row_item _ left c.in_ok-first.first [] row.items _ _ c.in_ok-first.ensures h) c.row_of.ensures
+pub resolve_operand-returns : goal.resolve_operand-returns
+resolve_operand-returns t c =
+    IfOk-weaker c.put_argument.result _ _
+    (λ u h. λ left. row_item _ left c.in_ok-next.next c.args.done.now.items _ _ _ c.in_ok-next.ensures h)
+    c.put_argument.ensures
 
 pub resolve_plain_test-returns-in_ok-resolve_row-in-Some : goal.resolve_plain_test-returns-in_ok-resolve_row-in-Some
 resolve_plain_test-returns-in_ok-resolve_row-in-Some t c = λ ps.
@@ -273,19 +329,19 @@ resolve_plain_test-returns-in_ok-resolve_row-in-Some t c = λ ps.
     let a = expr_in s (expr_view c.args.value.now) senv in
     let es = row_in s (exprs_view c.args.row.now) senv slots.none in
     let whole = slots.item a es in
-    let given = c.in_ok-operands-in-Some.operands in
+    let given = c.resolve_operand.new.done in
     let done = c.resolve_row.new.done in
     let p = values c.args.pool.now in
-    let q = values c.resolve_first.new.pool in
+    let q = values c.resolve_operand.new.pool in
     let r = values c.resolve_row.new.pool in
     let P : Option TestId → Type 0 =
     λ o. IsPlaced (tested_by o whole) (coded (e.Made (m.Test c.in-Some.test) done)) p r in
-    subst P (sym c.in-Some.is ∙ c.test_of.ensures)
+    rw c.into_inner.ensures (subst P (sym c.in-Some.is ∙ c.test_of.ensures)
     (made_placed (slots.test c.in-Some.test) whole done.items _ p r
     (row_both whole es slots.none [] given.items done.items p q r
-    (c.in_ok-operands-in-Some.ensures es)
+    (begun _ _ _ _ _ _ _ c.new.ensures.items (c.in_ok-resolve_operand-in-Some.ensures es))
     (c.in_ok-resolve_row-in-Some.ensures slots.none))
-    (view_Made (m.Test c.in-Some.test) done))
+    (view_Made (m.Test c.in-Some.test) done)))
 
 pub resolve_plain_test-returns-in-None : goal.resolve_plain_test-returns-in-None
 resolve_plain_test-returns-in-None t c = λ ps.
@@ -321,21 +377,21 @@ resolve_filter-returns-in_ok-resolve_filter_row-in-Some t c =
     let ps = pairs_view c.args.arguments.pairs.now in
     let es = filter_row_in s (Some (filter_id f)) ts ps senv in
     let whole = slots.item a es in
-    let given = c.in_ok-given-in-Some.given in
+    let given = c.resolve_operand.new.done in
     let done = c.resolve_filter_row.new.done in
     let p = values c.args.pool.now in
-    let q = values c.resolve_first.new.pool in
+    let q = values c.resolve_operand.new.pool in
     let r = values c.resolve_filter_row.new.pool in
     let named : (cenv_in s).filters.named c.args.name.now ts ps ≡ Some (filter_id f) =
     named_is c.args.name.now ts ps ∙ ap (option_map filter_id) (sym c.filter_of.ensures ∙ c.in-Some.is) in
     let P : Option ℕ → Type 0 =
     λ o. IsPlaced (filtered_in s o a ts ps senv) (coded (e.Made (m.Filter f senv.escaping) done)) p r in
-    subst P (sym named)
+    rw c.into_inner.ensures (subst P (sym named)
     (made_placed (slots.filter (filter_id f) senv.escaping) whole done.items _ p r
     (row_both whole es slots.none [] given.items done.items p q r
-    (c.in_ok-given-in-Some.ensures es)
+    (begun _ _ _ _ _ _ _ c.new.ensures.items (c.in_ok-resolve_operand-in-Some.ensures es))
     c.in_ok-resolve_filter_row-in-Some.ensures)
-    (view_Made (m.Filter f senv.escaping) done))
+    (view_Made (m.Filter f senv.escaping) done)))
 
 pub resolve_filter_row-returns : goal.resolve_filter_row-returns
 resolve_filter_row-returns t c =
@@ -369,18 +425,18 @@ resolve_macro-returns t c =
     let full = c.fill.new.done in
     let p = values c.args.pool.now in
     let q = values c.resolve_given.new.pool in
-    invoked_placed signature.unit senv.escaping es full.items _ p q
+    rw c.into_inner.ensures (invoked_placed signature.unit senv.escaping es full.items _ p q
     (row_both es left slots.none [] done.items full.items p q q
-    (begun _ _ _ _ _ _ _ c.new-given.ensures.items (c.in_ok-resolve_given.ensures left)) (c.in_ok-fill.ensures q))
-    (view_Invoke signature.unit senv.escaping full)
+    (begun _ _ _ _ _ _ _ c.new.ensures.items (c.in_ok-resolve_given.ensures left)) (c.in_ok-fill.ensures q))
+    (view_Invoke signature.unit senv.escaping full))
 
 pub resolve_range-returns : goal.resolve_range-returns
 resolve_range-returns t c =
     let done = c.resolve_row.new.done in
-    made_placed (slots.operator (range_of (length c.args.row.now))) _ done.items _ _ _
-    (begun _ _ _ _ _ _ _ c.new-operands.ensures.items (c.in_ok-resolve_row.ensures slots.none))
+    rw c.into_inner.ensures (made_placed (slots.operator (range_of (length c.args.row.now))) _ done.items _ _ _
+    (begun _ _ _ _ _ _ _ c.new.ensures.items (c.in_ok-resolve_row.ensures slots.none))
     (view_Made (m.Operator c.range_of.result) done
-    ∙ ap (λ o. slots.made (slots.operator o) (row_view done.items slots.none)) c.range_of.ensures)
+    ∙ ap (λ o. slots.made (slots.operator o) (row_view done.items slots.none)) c.range_of.ensures))
 
 pub resolve_cycle-returns : goal.resolve_cycle-returns
 resolve_cycle-returns t c =

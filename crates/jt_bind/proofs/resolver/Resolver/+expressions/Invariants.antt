@@ -33,20 +33,26 @@ abbrev pub decreases-resolve_map : goal.decreases-resolve_map
 decreases-resolve_map l = 6 * most (λ x. size-Expr x.1) l.pairs.now + 2
 
 abbrev pub decreases-resolve_attribute : goal.decreases-resolve_attribute
-decreases-resolve_attribute l = 6 * size-Expr l.value.now + 1
+decreases-resolve_attribute l = 6 * size-Expr l.value.now + 2
 
 abbrev pub decreases-resolve_item : goal.decreases-resolve_item
-decreases-resolve_item l = 6 * max (size-Expr l.value.now) (size-Expr l.index.now) + 1
+decreases-resolve_item l = 6 * max (size-Expr l.value.now) (size-Expr l.index.now) + 3
+
+abbrev pub decreases-resolve_operation : goal.decreases-resolve_operation
+decreases-resolve_operation l = 6 * max (size-Expr l.left.now) (size-Expr l.right.now) + 2
 
 abbrev pub decreases-resolve_binary : goal.decreases-resolve_binary
-decreases-resolve_binary l = 6 * max (size-Expr l.left.now) (size-Expr l.right.now) + 1
+decreases-resolve_binary l = 6 * max (size-Expr l.left.now) (size-Expr l.right.now) + 3
 
 abbrev pub decreases-resolve_when : goal.decreases-resolve_when
-decreases-resolve_when l = 6 * max (size-Expr l.condition.now) (size-Expr l.value.now) + 1
+decreases-resolve_when l = 6 * max (size-Expr l.condition.now) (size-Expr l.value.now) + 2
 
 abbrev pub decreases-resolve_choice : goal.decreases-resolve_choice
 decreases-resolve_choice l =
-    6 * max (size-Expr l.condition.now) (max (size-Expr l.value.now) (size-Expr l.other.now)) + 1
+    6 * max (size-Expr l.condition.now) (max (size-Expr l.value.now) (size-Expr l.other.now)) + 2
+
+abbrev pub decreases-resolve_boxed : goal.decreases-resolve_boxed
+decreases-resolve_boxed l = 6 * size-Expr l.expr.now + 1
 
 abbrev pub decreases-resolve_unary : goal.decreases-resolve_unary
 decreases-resolve_unary l = 6 * size-Expr l.operand.now + 1
@@ -57,8 +63,8 @@ decreases-resolve_test l = 6 * max (size-Expr l.value.now) (most (λ x. size-Exp
 abbrev pub decreases-resolve_plain_test : goal.decreases-resolve_plain_test
 decreases-resolve_plain_test l = 6 * max (size-Expr l.value.now) (most (λ x. size-Expr x) l.row.now) + 2
 
-abbrev pub decreases-resolve_first : goal.decreases-resolve_first
-decreases-resolve_first l = 6 * size-Expr l.value.now + 1
+abbrev pub decreases-resolve_operand : goal.decreases-resolve_operand
+decreases-resolve_operand l = 6 * size-Expr l.value.now + 1
 
 abbrev pub decreases-resolve_filter : goal.decreases-resolve_filter
 decreases-resolve_filter l =

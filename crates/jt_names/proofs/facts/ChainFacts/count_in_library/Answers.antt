@@ -1,5 +1,4 @@
 use Rattle.std.proofs.Common.{◌≡◌, List, length, sym, ap, subst, ◌∙◌, arith, rules}
-use Rattle.std.proofs.lemmas.List.{length-map}
 use Rattle.jt_chains.specs.Along.{body_at}
 use Rattle.jt_chains.specs.Chain.{holds_macros}
 use Rattle.jt_chains.specs.Indices.{index_of}

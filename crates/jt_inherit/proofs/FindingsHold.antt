@@ -1,0 +1,91 @@
+-- Findings that have no place, and those of included and imported templates.
+use Rattle.std.proofs.Common.{◌≡◌, true, false, ℕ, List, [], sym, subst, ◌∙◌, ⊎_elim, Option, Some, None}
+use Rattle.std.proofs.Common.{◌∷◌, string_bytes}
+use Rattle.std.proofs.lemmas.List.{append-nil}
+use Rattle.jt_scan.specs.declared.options.Options.{Options}
+use Rattle.jt_ast.specs.Expressions.{Text}
+use Rattle.jt_chains.specs.Along.{templates_at}
+use Rattle.jt_chains.specs.Chain.{Namespace, a_chain, Template, sources_in}
+use Rattle.jt_chains.specs.Rules.{Reaches, is_whole}
+use Rattle.jt_chains.specs.TemplateFiles.{files_view}
+use Rattle.jt_chains.specs.declared.files.TemplateFile.{TemplateFile}
+use Rattle.jt_inherit.specs.Chains.{SourceTexts}
+use Rattle.jt_inherit.specs.Findings.{IsFinding, IsBare, Says, ForSome, HasTag, HasTwoTags, binds_macro, defines}
+use Rattle.jt_inherit.specs.Findings.{IsNotGiven, HasNoSuper, is_block}
+use Rattle.jt_inherit.specs.Refusals.{Breaks}
+use Rattle.jt_inherit.specs.internal.ExtendsPaths.{AreKnown, IsExtendsPath}
+use Rattle.jt_inherit.specs.internal.Breaking.{BrokenIn, RuleAt}
+use Rattle.jt_inherit.specs.internal.Unmet.{IsUnmet}
+use Rattle.jt_inherit.specs.declared.error.ChainError.{ChainError}
+use Rattle.jt_inherit.specs.declared.error.ChainError.TheVariants as error
+use Rattle.jt_inherit.specs.declared.finding.ChainFinding.{ChainFinding}
+use Rattle.jt_inherit.specs.declared.finding.ChainSubject.{ChainSubject}
+use Rattle.jt_inherit.specs.declared.finding.ChainSubject.TheVariants as v
+use Rattle.jt_inherit.specs.declared.finding.TagPlace.{TagPlace}
+use Rattle.jt_inherit.proofs.DiscoveryInvariant.{asks_needed, whole_path}
+use Rattle.jt_inherit.proofs.PathsGrow.{asked_breaks}
+use Rattle.jt_inherit.proofs.PlacedErrors.{need_said, shown}
+
+module _ {given : SourceTexts} {root : Text} {options : Options} where
+  -- An error alone, which is justified.
+  pub bare_finding : (e : ChainError) (f : ChainFinding) → IsBare e f → Breaks e given root options
+      → IsFinding given root options f
+  bare_finding e f is b = subst (IsFinding given root options) (sym is) (record { broken = b; says = tt })
+
+  -- An error of an included or imported template.
+  pub need_finds : {ps : List TemplateFile} {ks : List Text} {h : Namespace} {is : List ℕ}
+      → AreKnown given options (files_view ps) ks
+      → Reaches (sources_in (files_view ps)) options.autoescape (a_chain root) h
+      → IsExtendsPath (files_view ps) h is None → (f : ChainFinding) → IsUnmet given options ps is f
+      → IsFinding given root options f
+  need_finds {ps} {ks} {h} {is} known r w f unmet = ⊎_elim
+      (λ m. bare_finding error.NoMemory f m tt)
+      (λ n. record {
+        broken =
+            asked_breaks known r n.name f.error
+            (asks_needed (files_view ps) options.autoescape h is w true n.name n.asked)
+            (λ q. asks_needed (files_view ps) options.autoescape h is w false n.name (n.must q)) n.fault;
+        says =
+            need_said known r (templates_at (files_view ps) is) []
+            (whole_path (files_view ps) h is w ∙ sym (append-nil (templates_at (files_view ps) is))) n.name f.error
+            n.fault f.place f.subject n.placed.1;
+      })
+      unmet
+
+-- A broken rule on the blocks, macros and imports of a chain or library.
+module _ {given : SourceTexts} {root : Text} {options : Options} {ts : List Template} {ks : List Text}
+    (known : AreKnown given options ts ks) {h : Namespace}
+    (r : Reaches (sources_in ts) options.autoescape (a_chain root) h) {is : List ℕ}
+    (w : IsExtendsPath ts h is None) (whole : is_whole (sources_in ts) options.autoescape h ≡ true) where
+  broken_said : (e : ChainError) (p : TagPlace) (x : ChainSubject)
+      → BrokenIn (sources_in ts) (templates_at ts is) x e p → Says given root options (Some p) (Some x) e
+  broken_said e p (v.Macro library x) q =
+      subst (λ z. Says given root options (Some p) (Some (v.Macro library x)) z) (sym q.0)
+      (shown known r error.NoMacro p (v.Macro library x) (
+        subst (λ l. HasTag (binds_macro (string_bytes library) (string_bytes x)) l p) (sym (whole_path ts h is w)) q.1,
+        q.2,
+      ))
+  broken_said e p (v.NameTwice x first) q =
+      subst (λ z. Says given root options (Some p) (Some (v.NameTwice x first)) z) (sym q.0)
+      (shown known r error.MacroTwice p (v.NameTwice x first)
+      (subst (λ l. HasTwoTags (defines (string_bytes x)) l first p) (sym (whole_path ts h is w)) q.1))
+  broken_said e p (v.BlockTwice x first) q =
+      subst (λ z. Says given root options (Some p) (Some (v.BlockTwice x first)) z) (sym q.0)
+      (shown known r error.DoubleBlock p (v.BlockTwice x first)
+      (subst (ForSome (λ t. HasTwoTags (is_block (string_bytes x)) (t ∷ []) first p)) (sym (whole_path ts h is w)) q.1))
+  broken_said e p (v.Block x) q =
+      subst (λ z. Says given root options (Some p) (Some (v.Block x)) z) (sym q.0)
+      (shown known r error.RequiredNotGiven p (v.Block x)
+      (subst (λ l. IsNotGiven l (string_bytes x) p) (sym (whole_path ts h is w)) q.1))
+  broken_said e p (v.Super x opened) q =
+      subst (λ z. Says given root options (Some p) (Some (v.Super x opened)) z) (sym q.0)
+      (shown known r error.NoSuper p (v.Super x opened)
+      (whole, subst (λ l. HasNoSuper l (string_bytes x) opened p) (sym (whole_path ts h is w)) q.1))
+  broken_said e p x q = absurd q
+
+  pub rule_said : (e : ChainError) (p : Option TagPlace) (x : Option ChainSubject)
+      → RuleAt (sources_in ts) (templates_at ts is) p x e → Says given root options p x e
+  rule_said e None None q = tt
+  rule_said e None (Some x) q = absurd q
+  rule_said e (Some p) None q = absurd q
+  rule_said e (Some p) (Some x) q = broken_said e p x q

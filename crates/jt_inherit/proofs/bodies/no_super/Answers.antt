@@ -1,0 +1,34 @@
+use Rattle.std.proofs.Common.{◌≡◌, ℕ, List, true, refl, sym, ap, subst, ◌∙◌}
+use Rattle.jt_ast.specs.Expressions.{Text}
+use Rattle.jt_uses.specs.Uses.{Site}
+use Rattle.jt_inherit.specs.Findings.{HasNoSuper, calls_super_at}
+use Rattle.jt_inherit.specs.internal.Given.{its_templates}
+use Rattle.jt_inherit.specs.internal.Tags.{IsLastCall, tag_view}
+use Rattle.jt_inherit.proofs.bodies.no_super.Goals as goal
+
+pub returns : goal.returns
+returns c =
+    let ts = its_templates c.args.store c.args.indices.now in
+    let call = c.in-Some-last_call.call in
+    let tag = tag_view call.block in
+    let found = subst (λ (l : List (Text × Site)). IsLastCall l tag call.line) c.in_ok-named.ensures
+    c.in-Some-last_call.ensures in
+    let at = c.in_ok-place.ensures in
+    let begun = c.in_ok-opened.ensures in (
+      refl,
+      (
+        refl,
+        subst (λ z. HasNoSuper ts z c.in_ok-opened.opened c.in_ok-place.place) (sym c.in_ok-block.ensures.ok) (record {
+          number = found.number;
+          tag = tag;
+          there = found.there;
+          calls = (
+            ap (λ (q : Text × ℕ). q.0) begun,
+            ap (λ (q : Text × ℕ). q.1) begun,
+            subst (λ n. calls_super_at n tag.1.made ≡ true) (sym (ap (λ (q : Text × ℕ). q.1) at)) found.calls,
+          );
+          template = ap (λ (q : Text × ℕ). q.0) at ∙ sym (ap (λ (q : Text × ℕ). q.0) begun);
+          last = found.last;
+        }),
+      ),
+    )

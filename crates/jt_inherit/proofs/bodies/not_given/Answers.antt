@@ -1,0 +1,37 @@
+use Rattle.std.proofs.Common.{◌≡◌, ℕ, List, refl, sym, ap, subst, ◌∙◌, Some}
+use Rattle.std.specs.Prelude.{option_copied, slice_get}
+use Rattle.jt_ast.specs.Expressions.{Text}
+use Rattle.jt_uses.specs.Uses.{Site}
+use Rattle.jt_inherit.specs.Findings.{IsNotGiven, blocks_named}
+use Rattle.jt_inherit.specs.internal.Given.{its_templates}
+use Rattle.jt_inherit.specs.internal.Tags.{tag_view}
+use Rattle.jt_inherit.specs.declared.tags.FoundTag.{FoundTag}
+use Rattle.jt_inherit.proofs.TagPlaces.{first_view}
+use Rattle.jt_inherit.proofs.bodies.not_given.Goals as goal
+
+pub returns : goal.returns
+returns c =
+    let ts = its_templates c.args.store c.args.indices.now in
+    let x = c.in-Some.name.now in
+    let nearest = c.in-Some-first.nearest.now in
+    let found : slice_get c.in_ok-named.named.items 0 ≡ Some nearest =
+    sym (ap (λ (l : List FoundTag). slice_get l 0) c.deref-2.ensures.value) ∙ sym c.first.ensures.value
+    ∙ ap option_copied c.in-Some-first.is in
+    let there : slice_get (blocks_named x ts) 0 ≡ Some (tag_view nearest) =
+    sym (ap (λ (l : List (Text × Site)). slice_get l 0) c.in_ok-named.ensures)
+    ∙ first_view c.in_ok-named.named.items nearest found in
+    let at = c.in_ok-place.ensures in (
+      refl,
+      (
+        refl,
+        subst (λ z. IsNotGiven ts z c.in_ok-place.place) (sym c.in_ok-name-2.ensures.ok) (record {
+          tag = tag_view nearest;
+          nearest = there;
+          required = (
+            ap (λ (q : Text × ℕ). q.0) at,
+            ap (λ (q : Text × ℕ). q.1) at,
+            sym c.is_required.ensures ∙ c.if-not-is_required.false,
+          );
+        }),
+      ),
+    )

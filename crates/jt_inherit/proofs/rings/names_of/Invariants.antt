@@ -1,0 +1,9 @@
+use Rattle.std.proofs.Common.{◌≡◌, ◌++◌, drop, map, string_bytes}
+use Rattle.jt_inherit.specs.internal.Found.{found_namespaces}
+use Rattle.jt_inherit.specs.internal.Rings.{name_at}
+use Rattle.jt_inherit.proofs.rings.names_of.Given as goal
+
+abbrev pub invariant-loop-number : goal.invariant-loop-number
+invariant-loop-number l =
+    map string_bytes l.names.items ++ map (name_at (found_namespaces l.found)) (drop l.number-index l.numbers)
+    ≡ map (name_at (found_namespaces l.found)) l.numbers

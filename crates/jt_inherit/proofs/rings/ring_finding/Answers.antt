@@ -1,0 +1,83 @@
+use Rattle.std.proofs.Common.{◌≡◌, ◌<◌, ◌∙◌, ℕ, true, List, length, map, refl, sym, ap, subst, Vec, Global}
+use Rattle.std.specs.Prelude.{IfSome}
+use Rattle.std.specs.List.{AllByRecursion}
+use Rattle.std.proofs.lemmas.List.{length-map}
+use Rattle.jt_graph.specs.Graph.{next_of}
+use Rattle.jt_graph.specs.View.{graph_of}
+use Rattle.jt_chains.specs.Along.{templates_at}
+use Rattle.jt_chains.specs.Indices.{namespace_at}
+use Rattle.jt_inherit.specs.Findings.{HasTag, leads_to}
+use Rattle.jt_inherit.specs.internal.Found.{found_namespaces, found_paths, found_templates}
+use Rattle.jt_inherit.specs.internal.Rings.{leads_round, name_at}
+use Rattle.jt_inherit.specs.declared.discovery.Discovery.{Discovery}
+use Rattle.jt_inherit.proofs.RingFound.{last_within, ring_within}
+use Rattle.jt_inherit.proofs.rings.ring_finding.Goals as goal
+
+round_of : (f : Discovery) (i : ℕ) (is : List ℕ) (vs : List (Vec ℕ Global)) → vs ≡ f.next.items
+    → leads_round (graph_of vs) i is i ≡ true → leads_round (graph_of f.next.items) i is i ≡ true
+round_of f i is vs e r = subst (λ (z : List (Vec ℕ Global)). leads_round (graph_of z) i is i ≡ true) e r
+
+nodes : (f : Discovery) → length f.next.items ≡ length (found_namespaces f)
+    → length (graph_of f.next.items) ≡ length (found_namespaces f)
+nodes f e = length-map f.next.items (λ (v : Vec ℕ Global). v.items) ∙ e
+
+pub leading_tag-requires-clause-from : goal.leading_tag-requires-clause-from
+leading_tag-requires-clause-from c =
+    let f = c.args.found.now in
+    let i = c.in-Some.ring.first in
+    let is = c.in-Some.ring.others.items in
+    let r = round_of f i is c.deref-2.result.now c.deref-2.ensures.value c.in-Some-closing.ensures.round in
+    subst (λ n. c.in-Some-closing.last < n) (nodes f c.requires.next ∙ sym c.requires.paths)
+    (subst (λ n. n < length (graph_of f.next.items)) (sym c.in-Some-closing.ensures.last)
+    (last_within (graph_of f.next.items) i is i r))
+
+pub leading_tag-requires-clause-to : goal.leading_tag-requires-clause-to
+leading_tag-requires-clause-to c =
+    let f = c.args.found.now in
+    let i = c.in-Some.ring.first in
+    let is = c.in-Some.ring.others.items in
+    let r = round_of f i is c.deref-2.result.now c.deref-2.ensures.value c.in-Some-closing.ensures.round in
+    subst (λ n. i < n) (nodes f c.requires.next) (ring_within (graph_of f.next.items) i is i r).0
+
+pub name_of-requires : goal.name_of-requires
+name_of-requires c =
+    let f = c.args.found.now in
+    let i = c.in-Some.ring.first in
+    let is = c.in-Some.ring.others.items in
+    let r = round_of f i is c.deref-2.result.now c.deref-2.ensures.value c.in-Some-closing.ensures.round in
+    subst (λ n. i < n) (nodes f c.requires.next) (ring_within (graph_of f.next.items) i is i r).0
+
+pub names_of-requires : goal.names_of-requires
+names_of-requires c =
+    let f = c.args.found.now in
+    let i = c.in-Some.ring.first in
+    let is = c.in-Some.ring.others.items in
+    let r = round_of f i is c.deref-2.result.now c.deref-2.ensures.value c.in-Some-closing.ensures.round in
+    subst (λ l. AllByRecursion (λ k. k < length (found_namespaces f)) l) (sym c.deref-3.ensures.value)
+    (subst (λ n. AllByRecursion (λ k. k < n) is) (nodes f c.requires.next)
+    (ring_within (graph_of f.next.items) i is i r).1)
+
+pub returns : goal.returns
+returns c =
+    let f = c.args.found.now in
+    let hs = found_namespaces f in
+    let i = c.in-Some.ring.first in
+    let is = c.in-Some.ring.others.items in
+    let p = c.in-Some-2.place in
+    let r = round_of f i is c.deref-2.result.now c.deref-2.ensures.value c.in-Some-closing.ensures.round in
+    let tests = leads_to (namespace_at hs i) in (
+      refl,
+      record {
+        first = i;
+        others = is;
+        round = r;
+        first_name = c.in_ok-name.ensures;
+        other_names = c.in_ok-rest.ensures ∙ ap (map (name_at hs)) c.deref-3.ensures.value;
+        tag =
+            subst (λ k. HasTag tests (templates_at (found_templates f) (next_of (found_paths f) k)) p)
+            c.in-Some-closing.ensures.last
+            (subst (λ o. IfSome o (HasTag tests
+            (templates_at (found_templates f) (next_of (found_paths f) c.in-Some-closing.last))))
+            c.in-Some-2.is c.in_ok-place.ensures);
+      },
+    )

@@ -1,0 +1,281 @@
+//! Finds the tags that a finding names.
+
+ghost use Rattle.std.specs.Prelude.{◌≡◌, ◌++◌, true, option_map, slice_get, IfOk, IfSome};
+ghost use Rattle.jt_chains.specs.Along.{AreIndices, templates_at};
+ghost use Rattle.jt_chains.specs.TemplateFiles.{file_view, files_view};
+ghost use Rattle.jt_inherit.specs.Findings as findings;
+ghost use Rattle.jt_inherit.specs.Findings.{all_uses, uses_in};
+ghost use Rattle.jt_inherit.specs.internal.Tags as spec;
+ghost use Rattle.jt_inherit.specs.internal.Tags.{test_of, tags, tags_view, tag_view, place_view};
+ghost use Rattle.jt_inherit.specs.internal.Tags.{with_name, place_of};
+ghost use Rattle.jt_uses.specs.UseView.{use_view, sites_view};
+
+use crate::finding::TagPlace;
+use crate::supers::super_line;
+use jt_chains::TemplateFile;
+use jt_uses::{Use, UseSite, uses_of};
+use std::alloc::{AllocError, Global};
+
+/// What a tag does that a finding looks for.
+#[derive(Clone, Copy)]
+pub(crate) enum Wanted<'a> {
+    /// It extends, includes or imports the template.
+    Asks(&'a str),
+    /// It does so, and the template may not be missing.
+    Needs(&'a str),
+    /// It extends the template.
+    Extends(&'a str),
+    /// It includes the template.
+    Includes(&'a str),
+    /// It imports the library.
+    Imports(&'a str),
+    /// It binds a name to the macro of the library.
+    BindsMacro { library: &'a str, name: &'a str },
+    /// It is a block of the name.
+    Block(&'a str),
+    /// It is a block.
+    Blocks,
+    /// It defines the name as a macro or by an import.
+    Defines(&'a str),
+}
+
+/// A use and the name of its template.
+#[derive(Clone, Copy)]
+pub(crate) struct FoundTag<'a> {
+    pub(crate) template: &'a str,
+    pub(crate) site: UseSite<'a>,
+}
+
+impl<'a> FoundTag<'a> {
+    /// Returns the place of the tag.
+    pub(crate) fn place(self, alloc: Global) -> Result<TagPlace, AllocError>
+        ensures { IfOk result (λ p. place_view p ≡ place_of (tag_view self.entry)) }
+    {
+        self.place_on(alloc, self.site.place.line)
+    }
+
+    /// Returns the place of a line of the tag's template.
+    pub(crate) fn place_on(self, alloc: Global, line: u32) -> Result<TagPlace, AllocError>
+        ensures { IfOk result (λ p. place_view p ≡ (self.entry.template.now, line)) }
+    {
+        Ok(TagPlace {
+            template: String::from_str(alloc, self.template)?,
+            line,
+        })
+    }
+
+    /// Returns whether the tag is a required block.
+    pub(crate) fn is_required(self) -> bool
+        ensures { result ≡ findings.is_required (tag_view self.entry).1.made }
+    {
+        match self.site.made {
+            Use::DeclaresBlock { required, .. } => required,
+            _ => false,
+        }
+    }
+
+    /// Returns the line of the first tag that calls `super()`, if this is a block with such a tag.
+    /// Nested blocks do not count.
+    pub(crate) fn super_line(self) -> Option<u32>
+        ensures { IfSome result
+            (λ n. findings.calls_super_at n (tag_view self.entry).1.made ≡ true) }
+    {
+        match self.site.made {
+            Use::DeclaresBlock { body, .. } => super_line(body),
+            _ => None,
+        }
+    }
+
+    /// Returns the name of a block.
+    pub(crate) fn block_name(self) -> Option<&'a str> {
+        match self.site.made {
+            Use::DeclaresBlock { name, .. } => Some(name),
+            _ => None,
+        }
+    }
+}
+
+/// Returns whether a use asks for the template. An include that ignores a missing template counts
+/// only if `all` is true.
+fn asks(all: bool, wanted: &str, made: Use<'_>) -> bool
+    ensures { result ≡ findings.asks all wanted.now (use_view made.entry) }
+{
+    match made {
+        Use::Extends(name) | Use::Imports(name) => name == wanted,
+        Use::Includes { name, missing, .. } => (all || !missing.is_ignored()) && name == wanted,
+        _ => false,
+    }
+}
+
+/// Returns whether a use extends the template.
+fn is_extends(wanted: &str, made: Use<'_>) -> bool
+    ensures { result ≡ findings.is_extends wanted.now (use_view made.entry) }
+{
+    match made {
+        Use::Extends(name) => name == wanted,
+        _ => false,
+    }
+}
+
+/// Returns whether a use includes the template.
+fn is_include(wanted: &str, made: Use<'_>) -> bool
+    ensures { result ≡ findings.is_include wanted.now (use_view made.entry) }
+{
+    match made {
+        Use::Includes { name, .. } => name == wanted,
+        _ => false,
+    }
+}
+
+/// Returns whether a use imports the library.
+fn is_import(wanted: &str, made: Use<'_>) -> bool
+    ensures { result ≡ findings.is_import wanted.now (use_view made.entry) }
+{
+    match made {
+        Use::Imports(name) => name == wanted,
+        _ => false,
+    }
+}
+
+/// Returns whether a use binds a name to the macro of the library.
+fn binds_macro(wanted: &str, one: &str, made: Use<'_>) -> bool
+    ensures { result ≡ findings.binds_macro wanted.now one.now (use_view made.entry) }
+{
+    match made {
+        Use::BindsMacro {
+            library,
+            called,
+            ..
+        } => library == wanted && called == one,
+        _ => false,
+    }
+}
+
+/// Returns whether a use is a block of the name.
+fn is_block(wanted: &str, made: Use<'_>) -> bool
+    ensures { result ≡ findings.is_block wanted.now (use_view made.entry) }
+{
+    match made {
+        Use::DeclaresBlock { name, .. } => name == wanted,
+        _ => false,
+    }
+}
+
+/// Returns whether a use is a block.
+fn is_any_block(made: Use<'_>) -> bool
+    ensures { result ≡ spec.is_any_block (use_view made.entry) }
+{
+    matches!(made, Use::DeclaresBlock { .. })
+}
+
+/// Returns whether a use defines the name as a macro or by an import.
+fn defines(wanted: &str, made: Use<'_>) -> bool
+    ensures { result ≡ findings.defines wanted.now (use_view made.entry) }
+{
+    match made {
+        Use::DeclaresMacro { name, .. }
+        | Use::BindsLibrary { name, .. }
+        | Use::BindsMacro { name, .. } => name == wanted,
+        _ => false,
+    }
+}
+
+/// Returns whether a use is a wanted one.
+fn is_wanted(wanted: Wanted<'_>, made: Use<'_>) -> bool
+    ensures { result ≡ test_of wanted.entry (use_view made.entry) }
+{
+    match wanted {
+        Wanted::Asks(name) => asks(true, name, made),
+        Wanted::Needs(name) => asks(false, name, made),
+        Wanted::Extends(name) => is_extends(name, made),
+        Wanted::Includes(name) => is_include(name, made),
+        Wanted::Imports(name) => is_import(name, made),
+        Wanted::BindsMacro { library, name } => binds_macro(library, name, made),
+        Wanted::Block(name) => is_block(name, made),
+        Wanted::Blocks => is_any_block(made),
+        Wanted::Defines(name) => defines(name, made),
+    }
+}
+
+/// Adds the tags of the wanted uses among the uses of a template.
+fn add_tags<'a>(
+    found: &mut Vec<FoundTag<'a>>,
+    template: &'a str,
+    uses: &[UseSite<'a>],
+    wanted: Wanted<'_>,
+) -> Result<(), AllocError>
+    ensures { IfOk result (λ _. tags_view found.new.items ≡ tags_view found.old.items
+        ++ tags (test_of wanted.entry) (with_name template.now (sites_view uses.now))) }
+{
+    for site in uses {
+        if is_wanted(wanted, site.made) {
+            found.push(FoundTag {
+                template,
+                site: *site,
+            })?;
+        }
+    }
+    Ok(())
+}
+
+/// Returns the tags of the wanted uses of a template, in the order of the source.
+pub(crate) fn tags_of<'a>(
+    alloc: Global,
+    file: &'a TemplateFile,
+    wanted: Wanted<'_>,
+) -> Result<Vec<FoundTag<'a>>, AllocError>
+    ensures { IfOk result (λ found. tags_view found.items
+        ≡ tags (test_of wanted.entry) (uses_in (file_view file.now))) }
+{
+    let mut found = Vec::new(alloc);
+    let uses = uses_of(alloc, file.template.body())?;
+    add_tags(&mut found, &file.name, &uses, wanted)?;
+    Ok(found)
+}
+
+/// Returns the tags of the wanted uses of the templates at `indices`, in their order.
+pub(crate) fn tags_at<'a>(
+    alloc: Global,
+    files: &'a [TemplateFile],
+    indices: &[usize],
+    wanted: Wanted<'_>,
+) -> Result<Vec<FoundTag<'a>>, AllocError>
+    requires { AreIndices (files_view files.now) indices.now }
+    ensures { IfOk result (λ found. tags_view found.items ≡ tags (test_of wanted.entry)
+        (all_uses (templates_at (files_view files.now) indices.now))) }
+{
+    let mut found = Vec::new(alloc);
+    for index in indices {
+        let mut more = tags_of(alloc, &files[*index], wanted)?;
+        found.append(&mut more)?;
+    }
+    Ok(found)
+}
+
+/// Returns the place of the first of some tags.
+pub(crate) fn first_place(
+    alloc: Global,
+    found: &[FoundTag<'_>],
+) -> Result<Option<TagPlace>, AllocError>
+    ensures { IfOk result (λ p. option_map place_view p
+        ≡ option_map place_of (slice_get (tags_view found.now) 0)) }
+{
+    match found.first() {
+        Some(tag) => Ok(Some(tag.place(alloc)?)),
+        None => Ok(None),
+    }
+}
+
+/// Returns the place of the second of some tags.
+pub(crate) fn second_place(
+    alloc: Global,
+    found: &[FoundTag<'_>],
+) -> Result<Option<TagPlace>, AllocError>
+    ensures { IfOk result (λ p. option_map place_view p
+        ≡ option_map place_of (slice_get (tags_view found.now) 1)) }
+{
+    match found.get(1) {
+        Some(tag) => Ok(Some(tag.place(alloc)?)),
+        None => Ok(None),
+    }
+}

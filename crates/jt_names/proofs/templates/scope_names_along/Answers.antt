@@ -1,0 +1,43 @@
+use borrow.Author.Tests.{ltb-true}
+use Rattle.std.proofs.Common.{List, get_or, sym, ap, ◌∙◌}
+use Rattle.std.specs.BTreeSet.{BTreeSet}
+use Rattle.std.specs.List.{filter_map}
+use denote.Ref.{Bor}
+use Rattle.jt_ast.specs.Expressions.{Text}
+use Rattle.jt_ast.specs.Texts.{all_inserted, texts}
+use Rattle.jt_chains.specs.Along.{body_at}
+use Rattle.jt_chains.specs.Uses.{scope_names_in}
+use Rattle.jt_uses.specs.Uses.{Site}
+use Rattle.jt_uses.specs.UseView.{sites_view}
+use Rattle.jt_uses.specs.declared.site.UseSite.{UseSite}
+use Rattle.jt_names.proofs.FactsOfTemplatesCorrect.{facts_at, nothing_at, turn}
+use Rattle.jt_names.specs.internal.UsedNames.{name_scoped}
+use Rattle.jt_names.proofs.NamesOfUses.{scoped_inserted}
+use Rattle.jt_names.proofs.templates.scope_names_along.Goals.{in-Some+in_ok-add_scoped, in_default}
+use Rattle.jt_names.proofs.templates.scope_names_along.Goals as goal
+
+pub loop-index-preserved : goal.loop-index-preserved
+loop-index-preserved c = λ ts e.
+    let l = c.loop-index in
+    let fs = c.args.templates.now in
+    let is = c.args.indices.now in
+    let k = l.index-index in
+    let i = get_or is k 0 in
+    elim c.match-get.branch [
+      | in-Some+in_ok-add_scoped w ↦
+          let known = facts_at ts fs i w.in-Some.known.now (ltb-true _ _ (sym w.in-Some.ensures.lookup.0))
+          w.in-Some.ensures.lookup.1 e in
+          let old = texts l.names.keys in
+          turn scope_names_in ts is k old (texts c.match-get.names.keys) c.loop-index-test.true
+          (ap (λ (s : BTreeSet (Bor Text)). texts s.keys) w.names-is ∙ w.in_ok-add_scoped.ensures
+          ∙ ap (λ (ss : List UseSite). all_inserted (filter_map name_scoped (sites_view ss)) old) w.deref.ensures.value
+          ∙ ap (λ (p : List Site × List Text). all_inserted (filter_map name_scoped p.0) old) known
+          ∙ scoped_inserted (body_at ts i) old)
+          ∙ l.invariant ts e
+      | in_default w ↦
+          turn scope_names_in ts is k (texts l.names.keys) (texts c.match-get.names.keys) c.loop-index-test.true
+          (ap (λ (s : BTreeSet (Bor Text)). texts s.keys) w.names-is
+          ∙ ap (λ b. all_inserted (scope_names_in b) (texts l.names.keys))
+          (sym (nothing_at ts fs i w.in_default.ensures.lookup.3 e)))
+          ∙ l.invariant ts e
+    ]
