@@ -1,11 +1,12 @@
 -- What an explanation states is true of the entry.
 use Rattle.std.proofs.Common.{◌≡◌, ℕ, List, [], ◌∷◌, Option, Some, None, refl, sym, ap, ◌∙◌, subst, inl, inr}
-use Rattle.std.specs.Prelude.{◌≢◌, ◌⊎◌, ◌≤◌, ◌+◌, ◌*◌, length, Result, Ok, Err, IfOk}
+use Rattle.std.specs.Prelude.{◌≢◌, ◌⊎◌, ◌≤◌, ◌+◌, ◌*◌, length, Result, Ok, Err, IfOk, IfSome, option_map}
 use Rattle.std.specs.List.{AllByRecursion}
 use Rattle.jt_scan.specs.declared.options.Options.{Options}
 use Rattle.jt_ast.specs.Expressions.{Text}
 use Rattle.jt_ast.specs.Sizes.{body_bytes}
 use Rattle.jt_chains.specs.Chain.{Namespace, Template}
+use Rattle.jt_chains.specs.Indices.{namespace_at}
 use Rattle.jt_chains.specs.View.{Seen, sources_of}
 use Rattle.jt_chains.specs.Weights.{chains_weight}
 use Rattle.jt_checks.specs.Findings as findings
@@ -23,12 +24,14 @@ use Rattle.jt_rules.specs.declared.error.ScopeError.{ScopeError}
 use Rattle.jt_rules.specs.declared.error.ScopeError.TheVariants as scope_error
 use Rattle.jt_uses.specs.Uses.{Site, body_uses, outside}
 use Rattle.jt_value.specs.declared.fault.NoMemory.{NoMemory}
+use Rattle.jt_ir.specs.Slots.{Program}
+use Rattle.jt_semantics.specs.Programs.{program}
 use Rattle.jt_codegen.specs.Compiled.{IsOnlyChain}
-use Rattle.jt_codegen.specs.Explaining.{IsBroken, IsExplained, IsFinding, IsOfChain, IsOfSource, IsPlaceOf}
+use Rattle.jt_codegen.specs.Explaining.{IsBroken, IsExplained, IsFinding, IsLimit, IsOfChain, IsOfSource, IsPlaceOf}
 use Rattle.jt_codegen.specs.Explaining.{IsRuleOf}
-use Rattle.jt_codegen.specs.Refusals.{Breaks, of_emit, of_scope}
+use Rattle.jt_codegen.specs.Passed.{Passes}
+use Rattle.jt_codegen.specs.Refusals.{Breaks, HasProgram, of_emit, of_scope}
 use Rattle.jt_codegen.specs.internal.Asked.{IsChainOf, IsOfImage}
-use Rattle.jt_codegen.specs.internal.NamedLimits.{limit_subject}
 use Rattle.jt_codegen.proofs.ChainImages.{only_chain}
 use Rattle.jt_codegen.specs.declared.emission.EmitError.{EmitError}
 use Rattle.jt_codegen.specs.declared.emission.EmitError.TheVariants as emit_error
@@ -37,6 +40,8 @@ use Rattle.jt_codegen.specs.declared.error.CompileError.TheVariants as error
 use Rattle.jt_codegen.specs.declared.finding.Explained.{Explained}
 use Rattle.jt_codegen.specs.declared.finding.Explained.TheVariants as explained
 use Rattle.jt_codegen.specs.declared.finding.Finding.{Finding}
+use Rattle.jt_codegen.specs.declared.finding.Limit.{Limit}
+use Rattle.jt_codegen.specs.declared.finding.Subject.TheVariants as v
 
 -- The chain that is read is that of the entry.
 pub chain_asked : (given : SourceTexts) (entry : Text) (options : Options) (c : Seen) → IsChain given entry options c
@@ -136,23 +141,54 @@ chain_found given entry options e broken none f of = record {
   placed = subst (λ x. IsPlaceOf given entry options x f.place f.subject) (sym of.states) of.placed;
 }
 
+-- The limit of a refusal is the subject of its finding.
+limit_named : (given : SourceTexts) (entry : Text) (options : Options) (o : Option Limit)
+    → IfSome o (λ l. HasProgram given entry options (Passes l)) → IsLimit given entry options (option_map v.Limit o)
+limit_named given entry options None h = tt
+limit_named given entry options (Some l) h = h
+
 -- The finding of an image that would pass a limit.
 image_found : (given : SourceTexts) (entry : Text) (options : Options) (e : CompileError) → e ≢ error.NoMemory
-    → Breaks given entry options e → IsOfImage e
-    → IsFinding given entry options (record { error = e; place = None; subject = limit_subject e })
-image_found given entry options (error.Chain e) some broken of = absurd of
-image_found given entry options (error.Scope e) some broken of = absurd of
-image_found given entry options error.CodeTooLong some broken of =
-    record { some = some; broken = broken; placed = (refl, tt) }
-image_found given entry options error.NoMemory some broken of = absurd (some refl)
-image_found given entry options error.StackTooDeep some broken of =
-    record { some = some; broken = broken; placed = (refl, broken) }
+    → Breaks given entry options e → IsOfImage e → (o : Option Limit)
+    → IfSome o (λ l. HasProgram given entry options (Passes l))
+    → IsFinding given entry options (record { error = e; place = None; subject = option_map v.Limit o })
+image_found given entry options (error.Chain e) some broken of o h = absurd of
+image_found given entry options (error.Scope e) some broken of o h = absurd of
+image_found given entry options error.CodeTooLong some broken of o h =
+    record { some = some; broken = broken; placed = (refl, limit_named given entry options o h) }
+image_found given entry options error.NoMemory some broken of o h = absurd (some refl)
+image_found given entry options error.StackTooDeep some broken of o h =
+    record { some = some; broken = broken; placed = (refl, limit_named given entry options o h) }
 
 pub image_explained : (given : SourceTexts) (entry : Text) (options : Options) (e : CompileError)
-    → Breaks given entry options e → IsOfImage e → (r : Result Explained NoMemory)
+    → Breaks given entry options e → IsOfImage e → (o : Option Limit)
+    → IfSome o (λ l. HasProgram given entry options (Passes l)) → (r : Result Explained NoMemory)
     → IfOk r (λ x. (e ≢ error.NoMemory)
-    × (x ≡ explained.Refused (record { error = e; place = None; subject = limit_subject e })))
+    × (x ≡ explained.Refused (record { error = e; place = None; subject = option_map v.Limit o })))
     → IfOk r (IsExplained given entry options)
-image_explained given entry options e broken of (Ok x) h =
-    subst (IsExplained given entry options) (sym h.1) (image_found given entry options e h.0 broken of)
-image_explained given entry options e broken of (Err n) h = tt
+image_explained given entry options e broken of o limit (Ok x) h =
+    subst (IsExplained given entry options) (sym h.1) (image_found given entry options e h.0 broken of o limit)
+image_explained given entry options e broken of o limit (Err n) h = tt
+
+-- A fact of the resolved program is one of the entry's program.
+pub of_entry : (given : SourceTexts) (entry : Text) (options : Options) (c : Seen) → IsOnlyChain given entry options c
+    → KeepsRules (cenv_of c) c.order → (Fact : Program → Type 0) (q : Program)
+    → q ≡ program (cenv_of c) c.order (namespace_at c.order 0) → Fact q → HasProgram given entry options Fact
+of_entry given entry options c the kept Fact q same fact = record {
+  chain = c;
+  is = the;
+  lawful = kept;
+  fact =
+      subst Fact (same ∙ ap (λ (o : List Namespace). program (cenv_of c) c.order (namespace_at o 0)) the.is.begins)
+      fact;
+}
+
+-- A limit that the resolved program passes is one that the entry's program passes.
+pub limit_of_entry : (given : SourceTexts) (entry : Text) (options : Options) (c : Seen)
+    → IsOnlyChain given entry options c → KeepsRules (cenv_of c) c.order → (q : Program)
+    → q ≡ program (cenv_of c) c.order (namespace_at c.order 0) → (r : Result (Option Limit) NoMemory)
+    → IfOk r (λ o. IfSome o (λ l. Passes l q)) → IfOk r (λ o. IfSome o (λ l. HasProgram given entry options (Passes l)))
+limit_of_entry given entry options c the kept q same (Ok None) h = tt
+limit_of_entry given entry options c the kept q same (Ok (Some l)) h =
+    of_entry given entry options c the kept (Passes l) q same h
+limit_of_entry given entry options c the kept q same (Err n) h = tt

@@ -13,6 +13,7 @@ pub mod SmallChainsFit
 pub mod LibrariesAreImported
 pub mod NamesAreNotEmpty
 pub mod ChainImages
+pub mod PassedLimits
 pub mod PlaceTables
 pub mod BinarySearch
 pub mod PlacesAreTags

@@ -1,19 +1,26 @@
 //! Explains why an entry does not compile.
 
-ghost use Rattle.std.specs.Prelude.{◌≡◌, ◌≢◌, None, IfOk};
+ghost use Rattle.std.specs.Prelude.{◌≡◌, ◌≢◌, None, IfOk, IfSome, option_map};
+ghost use Rattle.jt_chains.specs.View.{chain_view};
+ghost use Rattle.jt_rules.specs.CompileEnv.{cenv_of};
+ghost use Rattle.jt_rules.specs.Rules.{KeepsRules};
 ghost use Rattle.jt_codegen.specs.Explaining.{IsExplained, IsOfChain, IsOfSource, IsUnknown};
-ghost use Rattle.jt_codegen.specs.internal.NamedLimits.{limit_subject};
+ghost use Rattle.jt_codegen.specs.Passed.{Passes};
+ghost use Rattle.jt_codegen.specs.Refusals.{Breaks, HasProgram};
+ghost use Rattle.jt_codegen.specs.internal.Asked.{Asked, IsChainOf};
 ghost use Rattle.jt_inherit.specs.Findings.{Says};
 
 use crate::compiling::compile_chain;
 use crate::error::CompileError;
 use crate::finding::{Explained, Finding, Limit, Subject};
+use crate::limits::limit_of;
 use crate::unknown::find_unknown;
+use jt_chains::Chain;
 use jt_expr::Named;
 use jt_inherit::{ChainError, ChainFinding, Library, TagPlace, chain_or_finding};
 use jt_parse::ParseError;
 use jt_scan::Options;
-use jt_scopes::find_broken;
+use jt_scopes::{find_broken, resolve};
 use jt_value::NoMemory;
 use std::alloc::{AllocError, Global};
 
@@ -42,18 +49,39 @@ pub fn explain<L: Library>(
         Some(found) => Ok(Explained::Refused(Finding::of_rule(alloc, &found)?)),
         None => match compile_chain(alloc, &chain) {
             Ok(_image) => Ok(Explained::Compiles),
-            Err(error) => image_finding(error),
+            Err(error) => {
+                let limit = passed_limit(alloc, &chain, &error)?;
+                image_finding(error, limit)
+            }
         },
     }
 }
 
-/// Returns the limit that an error names, if the error names one alone.
-fn limit_subject(error: &CompileError) -> Option<Subject>
-    ensures { result ≡ limit_subject error.now }
+/// Returns the limit that the image of a chain would pass, if that is the error and the limit is
+/// found.
+///
+/// # Errors
+///
+/// `NoMemory` if a growth is refused.
+fn passed_limit(
+    alloc: Global,
+    chain: &Chain,
+    error: &CompileError,
+) -> Result<Option<Limit>, NoMemory>
+    ensures { (asked : Asked)
+        → IsChainOf asked (chain_view chain.now)
+        → KeepsRules (cenv_of (chain_view chain.now)) (chain_view chain.now).order
+        → Breaks asked.given asked.entry asked.options error.now
+        → IfOk result (λ o. IfSome o
+        (λ l. HasProgram asked.given asked.entry asked.options (Passes l))) }
 {
     match error {
-        CompileError::StackTooDeep => Some(Subject::Limit(Limit::Entries)),
-        _ => None,
+        CompileError::StackTooDeep => Ok(Some(Limit::Entries)),
+        CompileError::CodeTooLong => match resolve(alloc, chain) {
+            Ok(program) => limit_of(alloc, &program),
+            Err(_) => Ok(None),
+        },
+        _ => Ok(None),
     }
 }
 
@@ -62,17 +90,16 @@ fn limit_subject(error: &CompileError) -> Option<Subject>
 /// # Errors
 ///
 /// `NoMemory` if that is the error.
-fn image_finding(error: CompileError) -> Result<Explained, NoMemory>
+fn image_finding(error: CompileError, limit: Option<Limit>) -> Result<Explained, NoMemory>
     ensures { IfOk result (λ x. (error ≢ CompileError.NoMemory) × (x ≡ Explained.Refused
-        (record { error = error; place = None; subject = limit_subject error }))) }
+        (record { error = error; place = None; subject = option_map Subject.Limit limit }))) }
 {
-    let subject = limit_subject(&error);
     match error {
         CompileError::NoMemory => Err(NoMemory),
         other => Ok(Explained::Refused(Finding {
             error: other,
             place: None,
-            subject,
+            subject: limit.map(Subject::Limit),
         })),
     }
 }

@@ -14,6 +14,7 @@ mod error;
 mod explaining;
 mod finding;
 mod image;
+mod limits;
 mod places;
 mod tables;
 mod targets;

@@ -43,10 +43,12 @@ returns g c =
     let asked = chain_asked (g.L.Library.sources c.args.library.now) c.args.entry.now c.args.options
     (chain_view c.in-Ok.chain) c.in-Ok.ensures.chained c.in-Ok.ensures.only c.in-Ok.ensures.weighs c.in-Ok.ensures.short
     c.in-Ok.ensures.few in
+    let broken = c.in-Err-compile_chain.ensures.refused _ asked in
+    let kept = rw c.in-None.is at c.in_ok-found.ensures.kept in
     image_explained (g.L.Library.sources c.args.library.now) c.args.entry.now c.args.options
-    c.in-Err-compile_chain.error (c.in-Err-compile_chain.ensures.refused _ asked)
-    (c.in-Err-compile_chain.ensures.lawful (rw c.in-None.is at c.in_ok-found.ensures.kept)) c.image_finding.result
-    c.image_finding.ensures
+    c.in-Err-compile_chain.error broken (c.in-Err-compile_chain.ensures.lawful kept)
+    c.in_ok-limit-in-Err-compile_chain.limit
+    (c.in_ok-limit-in-Err-compile_chain.ensures _ asked kept broken) c.image_finding.result c.image_finding.ensures
 
 pub chain_finding-requires : goal.chain_finding-requires
 chain_finding-requires g c = c.in-Err.ensures.refused.says
