@@ -17,9 +17,6 @@ whole_end x = ([], refl)
 pub empty_end : (x : Text) → EndsWith x []
 empty_end x = (x, sym (append-nil x))
 
-pub no_chars_end : (x : Text) → EndsWith x (chars [])
-no_chars_end x = subst (EndsWith x) (sym chars-nil) (empty_end x)
-
 pub space_end : (x : Text) → EndsWith x (after_space x)
 unfolding after_space
 space_end [] = ([], refl)
@@ -153,10 +150,6 @@ end_of_end (c ∷ y) a (d ∷ z) b e le = let t : y ++ a ≡ z ++ b = cc in end_
 
 longer : (a b : Text) → EndsWith a b → length b ≤ length a
 longer a b e = omega (arith, ap length e.1, length-append e.0 b)
-
-bytes_longer : (a b : Text) → EndsWith a b → length (encodes b) ≤ length (encodes a)
-bytes_longer a b e =
-    omega (arith, ap length (ap encodes e.1 ∙ encodes-append e.0 b), length-append (encodes e.0) (encodes b))
 
 strictly : (a b : Text) → EndsWith a b → length b < length a → length (encodes b) < length (encodes a)
 strictly a b e lt =

@@ -21,12 +21,6 @@ pub bind_ok : {A B : Type 0} (o : ParseResult A) (f : A → Text → ParseResult
 bind_ok (Ok p) f b rest e = (p.0, p.1, refl, e)
 bind_ok (Err x) f b rest e = cc
 
--- If the second step never refuses, the refusal is that of the first one.
-pub bind_err : {A B : Type 0} (o : ParseResult A) (f : A → Text → ParseResult B) (e : ScanError) → (o >>= f) ≡ Err e
-    → (o ≡ Err e → Unit {0}) → ((a : A) (u : Text) → o ≡ Ok (a, u) → f a u ≡ Err e → ⊥) → o ≡ Err e
-bind_err (Ok p) f e h w never = absurd (never p.0 p.1 refl h)
-bind_err (Err x) f e h w never = let same : x ≡ e = cc in ap (λ k. Err k) same
-
 pub both : (a b : Bool) → (a && b) ≡ true → (a ≡ true) × (b ≡ true)
 both true b h = (refl, h)
 both false b h = cc

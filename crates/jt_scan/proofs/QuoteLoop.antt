@@ -98,9 +98,6 @@ IsPart base most start x missing m z =
     (s : Text) × IsCapped m (number_from base start s) × (length s + missing ≡ most)
     × (some_digits base most x ≡ joined s (some_digits base missing z))
 
-pub part_starts : (base most start : ℕ) (x : Text) → start ≤ 2 ^ 64 - 1 → IsPart base most start x most start x
-part_starts base most start x le = ([], omega arith, omega arith, refl)
-
 plain_says : (base d : ℕ) (z more : Text) → plain_digit base z ≡ Some (d, more)
     → (c : ℕ) × (z ≡ c ∷ more) × (is_digit base c ≡ true) × (digit_value c ≡ d)
 plain_says base d [] more h = cc
@@ -113,9 +110,6 @@ plain_says base d (c ∷ cs) more h = by (is_digit base c) refl
         let p : (digit_value c, cs) ≡ (d, more) = cc in
         (c, ap (λ (q : ℕ × Text). c ∷ q.1) p, e, ap (λ (q : ℕ × Text). q.0) p)
     by false e = let g = rw e at h in cc
-
-pub plain_shrinks : (base d : ℕ) (z more : Text) → plain_digit base z ≡ Some (d, more) → length more < length z
-plain_shrinks base d z more h = omega (arith, ap length (plain_says base d z more h).1)
 
 plain_none : (base missing : ℕ) (z : Text) → plain_digit base z ≡ None → some_digits base missing z ≡ ([], z)
 unfolding some_digits

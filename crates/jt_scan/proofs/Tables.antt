@@ -32,10 +32,6 @@ pub no_closer : (k : TagKind) (c : ℕ) (x : Text) → starts_name c ≡ true �
 no_closer k c [] h = refl
 no_closer k c (d ∷ x) h = rw (no_end k c h)
 
-pub closer_begins : (k : TagKind) (rest : Text) → begins (closer k) 125 (closer k ∷ 125 ∷ rest) ≡ true
-closer_begins Variable rest = refl
-closer_begins Block rest = refl
-
 -- ---- closers with marks
 
 -- A closer begins with no whitespace.

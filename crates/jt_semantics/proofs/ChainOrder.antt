@@ -380,9 +380,6 @@ module _ (cenv : CompileEnv) where
 
       -- ---- The contents of a body of the chain
 
-      abbrev IsScopedHere : Text → Type 0
-      IsScopedHere x = is_scoped cenv h x ≡ true
-
       pub record Belongs (c : Body) : Type 0 where
         pub names : AllAmong (body_names c) (read_names cenv order h)
         pub included : Each (Included cenv order h) (needs_in true c)
