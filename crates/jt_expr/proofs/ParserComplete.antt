@@ -2,6 +2,7 @@
 use Rattle.std.proofs.Common.{◌≡◌, ℕ, ℤ, zero, suc, ◌+◌, ◌<◌, ◌≤◌, max, if◌then◌else◌, Bool, true, false, [], ◌∷◌, ◌++◌}
 use Rattle.std.proofs.Common.{length, drop, codes, encode_utf8_all, bytes_eq, refl, sym, ap, subst, ◌∙◌, append_assoc}
 use Rattle.std.proofs.Common.{arith, Option, Some, None, Ok, Err, length-append, rules}
+use Rattle.std.proofs.lemmas.Bool.{not-true}
 use Rattle.jt_scan.specs.declared.segment.Sign.TheVariants as s
 use Rattle.jt_scan.specs.Cut as cut
 use Rattle.jt_scan.specs.Cut.{Token}
@@ -31,7 +32,7 @@ use Rattle.jt_expr.specs.internal.Reading.{read_postscript, read_signed, read_po
 use Rattle.jt_expr.specs.internal.Reading.{if_part, else_part, read_chain}
 use Rattle.jt_expr.specs.Promises.{parts_levels}
 use Rattle.jt_expr.proofs.LevelCap.{bound, cap_within, cap_beyond}
-use Rattle.jt_expr.proofs.FirstTokenTests.{no_literal, not_false, sees_self}
+use Rattle.jt_expr.proofs.FirstTokenTests.{no_literal, sees_self}
 use Rattle.jt_expr.proofs.FirstTokens.{begins, begins_primary, begins_signed, begins_operand, primary-append}
 use Rattle.jt_expr.proofs.FirstTokens.{signed-append, argument-append, no_minus-primary, no_plus-primary, no_not-signed}
 use Rattle.jt_expr.proofs.FirstTokens.{part_open, second, second-append}
@@ -366,7 +367,7 @@ test_turn inner n turns a true x v h =
     (again (on inner n postscript turns) a)
 test_turn inner n turns a false x v h =
     ap (λ b. test_step inner n b a (cut.name x ∷ v) >>= again (on inner n postscript turns) a)
-    (not_false (bytes_eq x (codes "not")) h)
+    (not-true (bytes_eq x (codes "not")) h)
     ∙ bind_bind (r.test_arguments inner n v) (λ p w.
     cap (levels (test a false (encode_utf8_all x) p.0 p.1)) n (Some (test a false (encode_utf8_all x) p.0 p.1)) w)
     (again (on inner n postscript turns) a)

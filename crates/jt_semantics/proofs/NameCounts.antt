@@ -10,6 +10,7 @@ use Rattle.std.specs.Cmp.Lexicographic.{slice_cmp}
 use Rattle.std.specs.Str.{bytes_eq}
 use Rattle.std.proofs.lemmas.Cmp.{nat_list_cmp_total}
 use Rattle.std.proofs.lemmas.Map.Text.{is_eq-slice_cmp}
+use Rattle.std.proofs.lemmas.Bool.{false_from_ne_true}
 use Rattle.jt_ast.specs.Texts.{among, repeated, inserted, all_inserted, ascending}
 use Rattle.jt_ast.specs.Expressions.{Text}
 use Rattle.jt_ast.specs.Statements.{Parameter, data_of, print, choose, for_each, set, set_block, with_values}
@@ -172,10 +173,6 @@ repeated_differs (x ∷ xs) e =
     is_among (y ∷ ys) (inl p) = ap (λ b. b || among x ys) (is_same y x p)
     is_among (y ∷ ys) (inr i) = search (arith, rules, is_among ys i)
 
-is_false : (b : Bool) → (b ≡ true → ⊥) → b ≡ false
-is_false true n = absurd (n refl)
-is_false false n = refl
-
 module _ (cenv : CompileEnv) (h : Namespace) where
   abbrev OneEach : MacroBody → Type 0
   OneEach m = repeated (parameter_names m.parameters) ≡ false
@@ -188,7 +185,7 @@ module _ (cenv : CompileEnv) (h : Namespace) where
       let here = declared ++ body_use_sites body outside in
       let first = front cenv h declared (body_use_sites body outside)
       (front cenv h here (body_use_sites rest outside) k) in (
-        is_false (repeated (parameter_names ps)) first.0.fitting,
+        false_from_ne_true (repeated (parameter_names ps)) first.0.fitting,
         macros_named t rest (back cenv h here (body_use_sites rest outside) k),
       )
   macros_named t (stmt (data_of d) rest) k =
