@@ -167,7 +167,6 @@ pub no_token : (ts w : Tokens) → ts ≡ [] → ReadsFlat literal_view IsLitera
 no_token ts w is = λ b v d any. let p = leads_literal b ts v d in no_tokens p.0 v (sym is ∙ p.1)
 
 module _ (ts : Tokens) where
-
   module _ (q : Tokens) (sign : ts ≡ cut.sign s.Assign ∷ q) where
     behind_sign : (b : Option Literal) (v : Tokens) → Leads IsDefault b ts v → NoSign s.Assign v
         → (l : Literal) × Leads IsLiteral l q v × (b ≡ Some l)
@@ -304,12 +303,6 @@ no_text ts w none = λ b v l any. let p = leads_text b ts v l in none p.0 v p.1
 
 abbrev pub IsMissing : Bool → Tokens → Type 0
 IsMissing b x = x ≡ missing_words b
-
-module _ (ts : Tokens) where
-
-  module _ (q : Tokens) (said : ts ≡ word (codes "ignore") ∷ q) where
-
-    )
 
 -- ---- with context
 
@@ -464,11 +457,3 @@ module _ (ts : Tokens) where
     imported_done d w g (Err e.Syntax) is = absurd is
     imported_done d w g (Err e.TooDeep) is = absurd is
     imported_done d w g (Err e.NoMemory) is = tt
-
--- ---- without context
-
-module _ (ts : Tokens) where
-
-  module _ (q : Tokens) (said : ts ≡ word (codes "without") ∷ q) where
-
-    )
