@@ -23,24 +23,18 @@ use Rattle.jt_rules.specs.UseSites as sites
 use Rattle.jt_rules.specs.declared.error.ScopeError.{ScopeError}
 use Rattle.jt_rules.specs.declared.error.ScopeError.TheVariants as scope_error
 use Rattle.jt_uses.specs.Uses.{Site, body_uses, outside}
-use Rattle.jt_value.specs.declared.fault.NoMemory.{NoMemory}
 use Rattle.jt_ir.specs.Slots.{Program}
 use Rattle.jt_semantics.specs.Programs.{program}
 use Rattle.jt_codegen.specs.Compiled.{IsOnlyChain}
-use Rattle.jt_codegen.specs.Explaining.{IsBroken, IsExplained, IsFinding, IsLimit, IsOfChain, IsOfSource, IsPlaceOf}
-use Rattle.jt_codegen.specs.Explaining.{IsRuleOf}
-use Rattle.jt_codegen.specs.Passed.{Passes}
-use Rattle.jt_codegen.specs.Refusals.{Breaks, HasProgram, of_emit, of_scope}
-use Rattle.jt_codegen.specs.internal.Asked.{IsChainOf, IsOfImage}
-use Rattle.jt_codegen.proofs.ChainImages.{only_chain}
-use Rattle.jt_codegen.specs.declared.emission.EmitError.{EmitError}
+use Rattle.jt_codegen.specs.Explaining.{IsBroken, IsFinding, IsOfChain, IsOfSource, IsPlaceOf, IsRuleOf}
+use Rattle.jt_codegen.specs.Passed.{error_of}
+use Rattle.jt_codegen.specs.Refusals.{Breaks}
+use Rattle.jt_codegen.specs.internal.Asked.{Asked, IsChainOf, IsProgramOf, PassesOf}
+use Rattle.jt_codegen.proofs.ChainImages.{limit_breaks, only_chain}
 use Rattle.jt_codegen.specs.declared.emission.EmitError.TheVariants as emit_error
-use Rattle.jt_codegen.specs.declared.error.CompileError.{CompileError}
-use Rattle.jt_codegen.specs.declared.error.CompileError.TheVariants as error
-use Rattle.jt_codegen.specs.declared.finding.Explained.{Explained}
-use Rattle.jt_codegen.specs.declared.finding.Explained.TheVariants as explained
 use Rattle.jt_codegen.specs.declared.finding.Finding.{Finding}
 use Rattle.jt_codegen.specs.declared.finding.Limit.{Limit}
+use Rattle.jt_codegen.specs.declared.finding.Limit.TheVariants as limit
 use Rattle.jt_codegen.specs.declared.finding.Subject.TheVariants as v
 
 -- The chain that is read is that of the entry.
@@ -52,20 +46,6 @@ pub chain_asked : (given : SourceTexts) (entry : Text) (options : Options) (c : 
     → IsChainOf (record { given = given; entry = entry; options = options }) c
 chain_asked given entry options c is one weighs short few =
     record { only = only_chain given entry options c is one; weighs = weighs; short = short; few = few }
-
--- A chain that keeps the rules of names and calls breaks none.
-pub rule_not_broken : (c : Seen) (e : ScopeError) → rules.Breaks e (cenv_of c) c.order → KeepsRules (cenv_of c) c.order
-    → IsOfImage (of_scope e)
-rule_not_broken c scope_error.NoMemory b kept = tt
-rule_not_broken c scope_error.LoopOutside b kept = absurd (kept.none scope_error.LoopOutside b)
-rule_not_broken c scope_error.MacroAsValue b kept = absurd (kept.none scope_error.MacroAsValue b)
-rule_not_broken c scope_error.NotCallable b kept = absurd (kept.none scope_error.NotCallable b)
-rule_not_broken c scope_error.BadArguments b kept = absurd (kept.none scope_error.BadArguments b)
-rule_not_broken c scope_error.TooManySlots b kept = absurd (kept.none scope_error.TooManySlots b)
-
-pub emit_of_image : (e : EmitError) → IsOfImage (of_emit e)
-emit_of_image emit_error.CodeTooLong = tt
-emit_of_image emit_error.NoMemory = tt
 
 -- What no item has, none of the items of a list has.
 some_not : {A : Type 0} (P : A → Type 0) (xs : List A) → ((x : A) → P x → ⊥) → ForSome P xs → ⊥
@@ -141,54 +121,17 @@ chain_found given entry options e broken none f of = record {
   placed = subst (λ x. IsPlaceOf given entry options x f.place f.subject) (sym of.states) of.placed;
 }
 
--- The limit of a refusal is the subject of its finding.
-limit_named : (given : SourceTexts) (entry : Text) (options : Options) (o : Option Limit)
-    → IfSome o (λ l. HasProgram given entry options (Passes l)) → IsLimit given entry options (option_map v.Limit o)
-limit_named given entry options None h = tt
-limit_named given entry options (Some l) h = h
+-- The program of the entry.
+pub program_asked : (asked : Asked) (c : Seen) → IsChainOf asked c → KeepsRules (cenv_of c) c.order → (q : Program)
+    → q ≡ program (cenv_of c) c.order (namespace_at c.order 0) → IsProgramOf asked q
+program_asked asked c of kept q is = record { chain = c; of = of; kept = kept; is = is }
 
 -- The finding of an image that would pass a limit.
-image_found : (given : SourceTexts) (entry : Text) (options : Options) (e : CompileError) → e ≢ error.NoMemory
-    → Breaks given entry options e → IsOfImage e → (o : Option Limit)
-    → IfSome o (λ l. HasProgram given entry options (Passes l))
-    → IsFinding given entry options (record { error = e; place = None; subject = option_map v.Limit o })
-image_found given entry options (error.Chain e) some broken of o h = absurd of
-image_found given entry options (error.Scope e) some broken of o h = absurd of
-image_found given entry options error.CodeTooLong some broken of o h =
-    record { some = some; broken = broken; placed = (refl, limit_named given entry options o h) }
-image_found given entry options error.NoMemory some broken of o h = absurd (some refl)
-image_found given entry options error.StackTooDeep some broken of o h =
-    record { some = some; broken = broken; placed = (refl, limit_named given entry options o h) }
-
-pub image_explained : (given : SourceTexts) (entry : Text) (options : Options) (e : CompileError)
-    → Breaks given entry options e → IsOfImage e → (o : Option Limit)
-    → IfSome o (λ l. HasProgram given entry options (Passes l)) → (r : Result Explained NoMemory)
-    → IfOk r (λ x. (e ≢ error.NoMemory)
-    × (x ≡ explained.Refused (record { error = e; place = None; subject = option_map v.Limit o })))
-    → IfOk r (IsExplained given entry options)
-image_explained given entry options e broken of o limit (Ok x) h =
-    subst (IsExplained given entry options) (sym h.1) (image_found given entry options e h.0 broken of o limit)
-image_explained given entry options e broken of o limit (Err n) h = tt
-
--- A fact of the resolved program is one of the entry's program.
-pub of_entry : (given : SourceTexts) (entry : Text) (options : Options) (c : Seen) → IsOnlyChain given entry options c
-    → KeepsRules (cenv_of c) c.order → (Fact : Program → Type 0) (q : Program)
-    → q ≡ program (cenv_of c) c.order (namespace_at c.order 0) → Fact q → HasProgram given entry options Fact
-of_entry given entry options c the kept Fact q same fact = record {
-  chain = c;
-  is = the;
-  lawful = kept;
-  fact =
-      subst Fact (same ∙ ap (λ (o : List Namespace). program (cenv_of c) c.order (namespace_at o 0)) the.is.begins)
-      fact;
-}
-
--- A limit that the resolved program passes is one that the entry's program passes.
-pub limit_of_entry : (given : SourceTexts) (entry : Text) (options : Options) (c : Seen)
-    → IsOnlyChain given entry options c → KeepsRules (cenv_of c) c.order → (q : Program)
-    → q ≡ program (cenv_of c) c.order (namespace_at c.order 0) → (r : Result (Option Limit) NoMemory)
-    → IfOk r (λ o. IfSome o (λ l. Passes l q)) → IfOk r (λ o. IfSome o (λ l. HasProgram given entry options (Passes l)))
-limit_of_entry given entry options c the kept q same (Ok None) h = tt
-limit_of_entry given entry options c the kept q same (Ok (Some l)) h =
-    of_entry given entry options c the kept (Passes l) q same h
-limit_of_entry given entry options c the kept q same (Err n) h = tt
+pub limit_found : (asked : Asked) (l : Limit) → PassesOf asked (emit_error.Limit l)
+    → IsFinding asked.given asked.entry asked.options
+    (record { error = error_of l; place = None; subject = Some (v.Limit l) })
+limit_found asked limit.Entries h =
+    let broken = limit_breaks asked (emit_error.Limit limit.Entries) h in
+    record { some = λ q. cc; broken = broken; placed = (refl, (refl, h)) }
+limit_found asked l h =
+    record { some = λ q. cc; broken = limit_breaks asked (emit_error.Limit l) h; placed = (refl, (refl, h)) }

@@ -20,6 +20,7 @@ pub mod PlacesAreTags
 pub mod AscendingSubsets
 pub mod TemplateNamesInOrder
 pub mod MergedUnitsFit
+pub mod OperandsFit
 pub mod PoolSize
 pub mod UnknownNames
 pub mod Findings

@@ -1,19 +1,17 @@
 //! Explains why an entry does not compile.
 
-ghost use Rattle.std.specs.Prelude.{◌≡◌, ◌≢◌, None, IfOk, IfSome, option_map};
+ghost use Rattle.std.specs.Prelude.{IfOk};
 ghost use Rattle.jt_chains.specs.View.{chain_view};
 ghost use Rattle.jt_rules.specs.CompileEnv.{cenv_of};
 ghost use Rattle.jt_rules.specs.Rules.{KeepsRules};
 ghost use Rattle.jt_codegen.specs.Explaining.{IsExplained, IsOfChain, IsOfSource, IsUnknown};
-ghost use Rattle.jt_codegen.specs.Passed.{Passes};
-ghost use Rattle.jt_codegen.specs.Refusals.{Breaks, HasProgram};
 ghost use Rattle.jt_codegen.specs.internal.Asked.{Asked, IsChainOf};
 ghost use Rattle.jt_inherit.specs.Findings.{Says};
 
-use crate::compiling::compile_chain;
+use crate::compiling::compile_program;
+use crate::emission::EmitError;
 use crate::error::CompileError;
-use crate::finding::{Explained, Finding, Limit, Subject};
-use crate::limits::limit_of;
+use crate::finding::{Explained, Finding, Subject};
 use crate::unknown::find_unknown;
 use jt_chains::Chain;
 use jt_expr::Named;
@@ -47,60 +45,28 @@ pub fn explain<L: Library>(
     };
     match find_broken(alloc, &chain)? {
         Some(found) => Ok(Explained::Refused(Finding::of_rule(alloc, &found)?)),
-        None => match compile_chain(alloc, &chain) {
-            Ok(_image) => Ok(Explained::Compiles),
-            Err(error) => {
-                let limit = passed_limit(alloc, &chain, &error)?;
-                image_finding(error, limit)
-            }
-        },
+        None => explain_image(alloc, &chain),
     }
 }
 
-/// Returns the limit that the image of a chain would pass, if that is the error and the limit is
-/// found.
+/// Explains whether the image of a chain that keeps the rules is within its limits.
 ///
 /// # Errors
 ///
 /// `NoMemory` if a growth is refused.
-fn passed_limit(
-    alloc: Global,
-    chain: &Chain,
-    error: &CompileError,
-) -> Result<Option<Limit>, NoMemory>
-    ensures { (asked : Asked)
-        → IsChainOf asked (chain_view chain.now)
-        → KeepsRules (cenv_of (chain_view chain.now)) (chain_view chain.now).order
-        → Breaks asked.given asked.entry asked.options error.now
-        → IfOk result (λ o. IfSome o
-        (λ l. HasProgram asked.given asked.entry asked.options (Passes l))) }
+fn explain_image(alloc: Global, chain: &Chain) -> Result<Explained, NoMemory>
+    requires of { (asked : Asked) × IsChainOf asked (chain_view chain.now) }
+    requires kept { KeepsRules (cenv_of (chain_view chain.now)) (chain_view chain.now).order }
+    ensures { (asked : Asked) → IsChainOf asked (chain_view chain.now) → IfOk result
+        (λ explained. IsExplained asked.given asked.entry asked.options explained) }
 {
-    match error {
-        CompileError::StackTooDeep => Ok(Some(Limit::Entries)),
-        CompileError::CodeTooLong => match resolve(alloc, chain) {
-            Ok(program) => limit_of(alloc, &program),
-            Err(_) => Ok(None),
-        },
-        _ => Ok(None),
-    }
-}
-
-/// Returns what an error states of the image of a chain that keeps the rules.
-///
-/// # Errors
-///
-/// `NoMemory` if that is the error.
-fn image_finding(error: CompileError, limit: Option<Limit>) -> Result<Explained, NoMemory>
-    ensures { IfOk result (λ x. (error ≢ CompileError.NoMemory) × (x ≡ Explained.Refused
-        (record { error = error; place = None; subject = option_map Subject.Limit limit }))) }
-{
-    match error {
-        CompileError::NoMemory => Err(NoMemory),
-        other => Ok(Explained::Refused(Finding {
-            error: other,
-            place: None,
-            subject: limit.map(Subject::Limit),
-        })),
+    let Ok(program) = resolve(alloc, chain) else {
+        return Err(NoMemory);
+    };
+    match compile_program(alloc, &program) {
+        Ok(_image) => Ok(Explained::Compiles),
+        Err(EmitError::Limit(limit)) => Ok(Explained::Refused(Finding::of_limit(limit))),
+        Err(EmitError::NoMemory) => Err(NoMemory),
     }
 }
 

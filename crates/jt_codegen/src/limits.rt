@@ -1,69 +1,72 @@
-//! Finds a limit of images that a program passes.
+//! Checks the limits of an image that a program shows before its code is emitted.
 
-ghost use Rattle.std.specs.Prelude.{◌≡◌, ◌<◌, ℕ, true, length, map, slice_get, Some, IfOk, IfSome};
-ghost use Rattle.std.specs.Prelude.{string_bytes};
-ghost use Rattle.jt_value.specs.View.{view};
-ghost use Rattle.jt_image.specs.Code.{Name};
-ghost use Rattle.jt_image.specs.IsCode.{max_count};
-ghost use Rattle.jt_constants.specs.Merged.{constant_of, each_once};
+ghost use Rattle.std.specs.Prelude.{◌≤◌, ◌↔◌, IfErr, IsTrue, OnOk};
+ghost use Rattle.std.specs.List.{AllByRecursion};
+ghost use Rattle.jt_image.specs.IsCode.{max_locals};
+ghost use Rattle.jt_image.specs.Parts.{FitTexts};
+ghost use Rattle.jt_image.specs.View.{texts_view};
 ghost use Rattle.jt_ir.specs.View.{program_of};
-ghost use Rattle.jt_lower.specs.Lower.{numbered};
-ghost use Rattle.jt_codegen.specs.Passed.{Passes};
+ghost use Rattle.jt_codegen.specs.Passed.{RefusesImage};
+ghost use Rattle.jt_codegen.specs.Units.{max_parameters, FitsTables};
 
+use crate::emission::EmitError;
 use crate::finding::Limit;
-use jt_constants::{TableError, constant_table};
 use jt_image::MAX_COUNT;
-use jt_ir::Program;
-use jt_value::{NoMemory, Value};
-use std::alloc::Global;
+use jt_ir::{Program, Routine};
 
-/// Returns whether a name has more bytes than an image allows.
-fn has_long_name(names: &[String]) -> bool
-    ensures { result ≡ true → (n : ℕ) × (name : Name)
-        × (slice_get (numbered 0 (map string_bytes names.now)) n ≡ Some name)
-        × (max_count < length name.text) }
+/// The greatest number of parameters of a unit.
+const MAX_PARAMETERS: usize = 255;
+
+/// The greatest number of locals of a unit.
+const MAX_LOCALS: usize = 4_096;
+
+/// Returns whether no name has more bytes than an image allows.
+fn names_fit(names: &[String]) -> bool
+    ensures { IsTrue result ↔ FitTexts (texts_view names.now) }
 {
-    for name in names {
-        if name.len() > MAX_COUNT {
-            return true;
-        }
-    }
-    false
+    names.iter().all(|name| name.len() <= MAX_COUNT)
 }
 
-/// Returns whether a pool has more different constants than an image allows.
+/// Returns whether no routine has more parameters than a unit may have.
+fn parameters_fit(routines: &[Routine]) -> bool
+    ensures { IsTrue result ↔ AllByRecursion (λ r. r.parameters ≤ max_parameters) routines.now }
+{
+    routines
+        .iter()
+        .all(|routine| routine.parameters <= MAX_PARAMETERS)
+}
+
+/// Returns whether no routine has more locals than a unit may have.
+fn locals_fit(routines: &[Routine]) -> bool
+    ensures { IsTrue result ↔ AllByRecursion (λ r. r.locals ≤ max_locals) routines.now }
+{
+    routines.iter().all(|routine| routine.locals <= MAX_LOCALS)
+}
+
+/// Checks the limits of the tables of a program's image, and of the numbers of its units.
 ///
 /// # Errors
 ///
-/// `NoMemory` if a growth is refused.
-fn has_many_constants(alloc: Global, pool: &[Value]) -> Result<bool, NoMemory>
-    ensures { IfOk result (λ many. many ≡ true
-        → max_count < length (each_once (map constant_of (map view pool.now)))) }
+/// `Limit` if there are too many globals or units, bytes of a name, or parameters or locals of a
+/// unit.
+pub(crate) fn check_tables(program: &Program) -> Result<(), EmitError>
+    ensures kept { OnOk result (FitsTables (program_of program.now)) }
+    ensures refused { IfErr result (λ e. RefusesImage e (program_of program.now)) }
 {
-    match constant_table(alloc, pool) {
-        Ok(table) => Ok(table.constants.len() > MAX_COUNT),
-        Err(TableError::TooManyConstants) => Ok(true),
-        Err(TableError::NoMemory) => Err(NoMemory),
+    if program.globals > MAX_COUNT {
+        return Err(EmitError::Limit(Limit::Globals));
     }
-}
-
-/// Returns a limit that the image of a program would pass. Finds those of the tables: units, names
-/// and constants.
-///
-/// # Errors
-///
-/// `NoMemory` if a growth is refused.
-pub(crate) fn limit_of(alloc: Global, program: &Program) -> Result<Option<Limit>, NoMemory>
-    ensures { IfOk result (λ o. IfSome o (λ l. Passes l (program_of program.now))) }
-{
     if program.routines.len() > MAX_COUNT {
-        return Ok(Some(Limit::Units));
+        return Err(EmitError::Limit(Limit::Units));
     }
-    if has_long_name(&program.names) {
-        return Ok(Some(Limit::NameBytes));
+    if !names_fit(&program.names) {
+        return Err(EmitError::Limit(Limit::NameBytes));
     }
-    if has_many_constants(alloc, &program.pool)? {
-        return Ok(Some(Limit::Constants));
+    if !parameters_fit(&program.routines) {
+        return Err(EmitError::Limit(Limit::Parameters));
     }
-    Ok(None)
+    if !locals_fit(&program.routines) {
+        return Err(EmitError::Limit(Limit::Locals));
+    }
+    Ok(())
 }
