@@ -1,4 +1,4 @@
-use Rattle.std.proofs.Common.{◌≡◌, ◌∙◌, ◌<◌, ◌≤◌, List, ℕ, length, ap, arith}
+use Rattle.std.proofs.Common.{◌∙◌, ◌<◌, ◌≤◌, List, ℕ, length, ap, arith}
 use Rattle.std.proofs.lemmas.List.{take_all}
 use Rattle.jt_escape.specs.Escaping.{escaped}
 use Rattle.jt_machine.proofs.EscapedLength.{taken_more}
