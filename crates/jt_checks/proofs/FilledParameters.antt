@@ -25,7 +25,8 @@ module _ (ks : List Text) where
       ap (λ (z : Parameter). among (string_bytes z.name) ks || some_given (parameters_view ps) ks) (sym is)
       ∙ ap (λ b. b || some_given (parameters_view ps) ks) e
   given_at (q ∷ ps) (suc i) p lt is e =
-      or_right (among (string_bytes q.name) ks) (some_given (parameters_view ps) ks) (given_at ps i p (omega arith) is e)
+      or_right (among (string_bytes q.name) ks) (some_given (parameters_view ps) ks)
+      (given_at ps i p (omega arith) is e)
 
   -- If no parameter is named, none is reached.
   pub none_reached : (ps : List trees.Parameter) → some_given ps ks ≡ false → rules.reached ps ks ≡ 0

@@ -1026,7 +1026,6 @@ module _ (line m : ℕ) (ts : Tokens) where
 -- ---- the whole tag
 
 module _ (line m : ℕ) (w : List ℕ) (ts : Tokens) where
-
   pub tokens_left : (h : Read) (u z : Tokens) → ReadsHead line m w ts (Ok h) u → 0 < length u
       → ReadsHead line m w ts (Err e.Syntax) z
   tokens_left h u z g some =

@@ -210,7 +210,8 @@ else_sound line [] a (in_loop before k l ∷ fs) next ps w e r = loop_else_in (s
 -- A tag that consists of the word v alone.
 alone : (x v : Text) (line : ℕ) (ts : List Token) → (bytes_eq x v && none_left ts) ≡ true
     → block line (word v ∷ []) ≡ block line (word x ∷ ts)
-alone x v line [] h = ap (λ y. block line (word y ∷ [])) (sym ((bytes_eq-Decides x v).0 (and_parts (bytes_eq x v) true h).0))
+alone x v line [] h =
+    ap (λ y. block line (word y ∷ [])) (sym ((bytes_eq-Decides x v).0 (and_parts (bytes_eq x v) true h).0))
 alone x v line (t ∷ ts) h = let p = (and_parts (bytes_eq x v) false h).1 in cc
 
 opening_ends : (o : BlockStart) (x : Text) (ts : List Token) → bytes_eq x (end_word o) ≡ true → names_end o ts ≡ true

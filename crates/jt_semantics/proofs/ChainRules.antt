@@ -61,7 +61,8 @@ module _ (sources : Sources) (escaping : Bool) (entry h : Namespace) (reached : 
   asked_behind = needed ++ libraries sources h
 
   none_missing : list_any is_missing (asked sources escaping false h) ≡ false
-  none_missing = false_from_ne_true (list_any is_missing (asked sources escaping false h)) (λ e. kept.missing (h, reached, e))
+  none_missing =
+      false_from_ne_true (list_any is_missing (asked sources escaping false h)) (λ e. kept.missing (h, reached, e))
 
   on_way : list_any is_missing (extends_path sources escaping h) ≡ false
   on_way =

@@ -30,10 +30,10 @@ compile_program-requires g c = (
     options = c.args.options;
   },
   program_asked (record {
-        given = g.L.Library.sources c.args.library.now;
-        entry = c.args.entry.now;
-        options = c.args.options;
-      }) (chain_view c.in_ok-chain.chain)
+    given = g.L.Library.sources c.args.library.now;
+    entry = c.args.entry.now;
+    options = c.args.options;
+  }) (chain_view c.in_ok-chain.chain)
       (chain_asked (g.L.Library.sources c.args.library.now) c.args.entry.now c.args.options
       (chain_view c.in_ok-chain.chain) c.in_ok-chain.ensures.chained c.in_ok-chain.ensures.only
       c.in_ok-chain.ensures.weighs c.in_ok-chain.ensures.short c.in_ok-chain.ensures.few)
