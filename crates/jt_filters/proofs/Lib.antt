@@ -11,6 +11,7 @@ pub mod SortedInsertion
 pub mod JoinLengths
 pub mod JoinedTexts
 pub mod FoldedCodes
+pub mod Halving
 pub mod SeenCodes
 pub mod SeenEntries
 pub mod SeenNumbers

@@ -1,14 +1,14 @@
 -- The items of a list, found by their indices.
-use Rattle.std.proofs.Common.{◌≡◌, ℕ, zero, suc, ℤ, ◌+◌, ◌<◌, Bool, true, false, cond, ◌||◌, List, [], ◌∷◌, length}
+use Rattle.std.proofs.Common.{◌≡◌, ℕ, zero, suc, ℤ, ◌+◌, ◌<◌, Bool, true, cond, List, [], ◌∷◌, length}
 use Rattle.std.proofs.Common.{drop, get_or, Some, None, refl, sym, ap, ◌∙◌, subst, true≢false, arith}
-use Rattle.std.proofs.lemmas.Cmp.{int_eq_equiv, nat_list_cmp_total}
+use Rattle.std.proofs.lemmas.Cmp.{nat_list_cmp_total}
 use Rattle.std.proofs.lemmas.List.{at_drop_more}
 use Rattle.std.specs.BTreeMap.{BTreeMap, insert_entry, is_at}
 use Rattle.std.specs.Map.{lookup}
 use Rattle.std.specs.Cmp.{tied_itself, signed_Decides}
 use Rattle.std.specs.Cmp.Lexicographic.{slice_cmp}
 use Rattle.std.specs.Option.{IsSome, is_some}
-use Rattle.std.specs.Ordering.{int_eq, is_eq, nat_cmp}
+use Rattle.std.specs.Ordering.{is_eq, nat_cmp}
 use Rattle.std.specs.Prelude.{Option, Vec, Result, Ok, Err, OnOk}
 use Rattle.std.specs.declared.alloc.Global.{Global}
 use Rattle.jt_ids.specs.declared.test_id.TestId.TheVariants as test
@@ -21,7 +21,8 @@ use Rattle.jt_value.specs.View.{view, items_view}
 use Rattle.jt_value.specs.declared.value.Value.{Value}
 use Rattle.jt_filters.specs.declared.members.Indices.{Indices}
 use Rattle.jt_filters.specs.internal.Codes.{code}
-use Rattle.jt_filters.specs.internal.IndicesOf.{at_number, at_code, index_by, index, Covers}
+use Rattle.jt_filters.specs.internal.Halving.{at_number}
+use Rattle.jt_filters.specs.internal.IndicesOf.{at_code, index_by, index, Covers}
 use Rattle.jt_filters.specs.internal.Seen.{number_like}
 use Rattle.jt_filters.proofs.SameCodes.{same_code}
 use Rattle.jt_filters.proofs.SeenCodes.{either, or_left, or_right}
@@ -83,6 +84,13 @@ pub number_found : (p : Indices) (t : Tree) (z x : ℤ) → x ≡ z → Some z �
     → at_number p.numbers x ≡ index p t
 number_found p t z x same is =
     ap (λ (y : ℤ). at_number p.numbers y) same ∙ ap (λ (o : Option ℤ). index_by p o (code t)) is
+
+-- A number that was checked has an index.
+pub number_checked : {A E : Type 0} (r : Result A E) (p : Indices) (t : Tree) (z x : ℤ) → x ≡ z → Some z ≡ number_like t
+    → OnOk r (IsSome (at_number p.numbers x)) → OnOk r (IsSome (index p t))
+number_checked (Ok a) p t z x same is there =
+    subst (λ (o : Option ℕ). IsSome o) (number_found p t z x same is) there
+number_checked (Err e) p t z x same is there = tt
 
 -- The index at each code, after a code is stored.
 pub code_put : (m n : BTreeMap (Vec ℕ Global) ℕ) (k : Vec ℕ Global) (v : ℕ) (c : List ℕ)

@@ -13,7 +13,7 @@ use Rattle.std.specs.Int.Signed.{◌<ℤ◌, ◌≤ℤ◌, ≤ℤ_refl, clash_�
 use Rattle.std.specs.List.{list_any}
 use Rattle.std.specs.Ordering.{int_eq}
 use Rattle.jt_filters.specs.declared.seen_numbers.Entry.{Entry}
-use Rattle.jt_filters.specs.internal.NumberEntries.{was_seen, occurs, AreUnseen, AreDistinct, IsAt, AreRising}
+use Rattle.jt_filters.specs.internal.NumberEntries.{was_seen, occurs, AreDistinct, IsAt, AreRising}
 
 absorb : (a b c : Bool) → (b ≡ true → a ≡ true) → (a || c) ≡ (a || (b || c))
 absorb true b c h = refl

@@ -6,3 +6,4 @@ pub mod Ranks
 pub mod Rows
 pub mod Seen
 pub mod NumberEntries
+pub mod Halving

@@ -3,8 +3,8 @@
 //!
 //! `apply` (`filters`) measures the result of a filter (`measuring`) before it builds it
 //! (`building`). Both use a module per kind of filter: `texts`, `scalars`, `listing`, `sorting`,
-//! `unique`, `replacing`, `joining`, `mapping`. `maker` makes the items of lists, and
-//! `seen_numbers` finds repeated numbers.
+//! `unique`, `replacing`, `joining`, `mapping`. `maker` makes the items of lists,
+//! `seen_numbers` finds repeated numbers, and `number_search` finds numbers of a list.
 //! jt_filter_semantics defines the results. Read building.rt first, with measuring.rt beside it:
 //! both have one line per filter.
 #![tactic(auto)]
@@ -24,6 +24,7 @@ mod maker;
 mod mapping;
 mod measuring;
 mod members;
+mod number_search;
 mod operand;
 mod replacing;
 mod scalars;

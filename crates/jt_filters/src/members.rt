@@ -1,27 +1,29 @@
 //! A list in which many items are looked up, as by `select('in', list)`. Items that equal a number
 //! are found by it, other items by their codes. So a search takes time in proportion to log n.
-ghost use Rattle.std.specs.Prelude.{◌≡◌, ℕ, ℤ, true, List, Some, IfOk, OnOk, if◌then◌else◌};
+ghost use Rattle.std.specs.Prelude.{◌≡◌, ℕ, true, List, Some, IfOk, OnOk, if◌then◌else◌};
 ghost use Rattle.std.specs.Cmp.Lexicographic.{slice_cmp};
 ghost use Rattle.std.specs.Option.{IsSome};
-ghost use Rattle.std.specs.Ordering.{int_eq, is_eq, nat_cmp};
+ghost use Rattle.std.specs.Ordering.{is_eq, nat_cmp};
 ghost use Rattle.jt_value.specs.Tree.{Tree};
 ghost use Rattle.jt_value.specs.View.{view, items_view};
 ghost use Rattle.jt_op_semantics.specs.Membership.{has_item};
 ghost use Rattle.jt_filters.specs.internal.Operands.{tree_of};
-ghost use Rattle.jt_filters.specs.internal.IndicesOf.{at_number, at_code, index, Covers};
+ghost use Rattle.jt_filters.specs.internal.IndicesOf.{at_code, index, Covers};
 
 use crate::codes::exact_code_of;
+use crate::item_list::ItemList;
+use crate::number_search::NumberSearch;
 use crate::operand::Operand;
 use crate::unique::{are_equal, number_like};
 use jt_value::{NoMemory, Value};
 use std::alloc::Global;
 use std::collections::BTreeMap;
 
-/// The index of the first item that equals a number, for each number, and of the first item that
-/// has a code, for the code of each other item.
+/// The search for the items that equal a number, and for the code of each other item the index of
+/// the first item that has it.
 #[derive(Drop)]
 pub(crate) struct Indices {
-    numbers: BTreeMap<i64, usize>,
+    numbers: NumberSearch,
     codes: BTreeMap<Vec<u8>, usize>,
 }
 
@@ -60,7 +62,7 @@ fn indices_of(alloc: Global, items: &[Value]) -> Result<Indices, NoMemory>
     ensures { IfOk result (λ p. Covers p (items_view items.now)) }
 {
     let mut indices = Indices {
-        numbers: BTreeMap::new(alloc),
+        numbers: NumberSearch::new(alloc, ItemList::Values(items))?,
         codes: BTreeMap::new(alloc),
     };
     let mut left = items.len();
@@ -71,30 +73,21 @@ fn indices_of(alloc: Global, items: &[Value]) -> Result<Indices, NoMemory>
     Ok(indices)
 }
 
-/// Stores the index of an item, in place of that of any item which equals it.
+/// Stores the index of an item, in place of that of any item which equals it. An item that equals a
+/// number has its index already, which is checked.
 fn put_index(alloc: Global, indices: &mut Indices, item: &Value, at: usize) -> Result<(), NoMemory>
     ensures there { OnOk result (IsSome (index indices.new (view item.now))) }
     ensures kept { OnOk result
         ((t : Tree) → IsSome (index indices.old t) → IsSome (index indices.new t)) }
 {
     match number_like(Operand::Value(item)) {
-        Some(number) => put_number(&mut indices.numbers, number, at),
+        Some(number) => indices.numbers.check(number),
         None => put_code(
             &mut indices.codes,
             exact_code_of(alloc, Operand::Value(item))?,
             at,
         ),
     }
-}
-
-/// Stores the index of a number.
-fn put_number(numbers: &mut BTreeMap<i64, usize>, number: i64, at: usize) -> Result<(), NoMemory>
-    ensures { OnOk result ((z : ℤ)
-        → at_number numbers.new z
-        ≡ (if int_eq number z then Some at else at_number numbers.old z)) }
-{
-    numbers.insert(number, at)?;
-    Ok(())
 }
 
 /// Stores the index of a code.
@@ -116,7 +109,7 @@ fn index_of(
     ensures { IfOk result (λ o. o ≡ index indices.now (tree_of operand.entry)) }
 {
     match number_like(operand) {
-        Some(number) => Ok(indices.numbers.get(&number).copied()),
+        Some(number) => Ok(indices.numbers.find(number)),
         None => {
             let code = exact_code_of(alloc, operand)?;
             Ok(indices.codes.get(code.as_slice()).copied())

@@ -130,7 +130,10 @@ fn search(entries: &[Entry], number: i64) -> Option<usize>
 }
 
 /// Returns the items that equal a number, each with that number.
-fn occurrences_in(alloc: Global, all: ItemList<'_>) -> Result<Vec<Occurrence>, NoMemory> {
+pub(crate) fn occurrences_in(
+    alloc: Global,
+    all: ItemList<'_>,
+) -> Result<Vec<Occurrence>, NoMemory> {
     let mut occurrences = Vec::new(alloc);
     let mut items = all;
     let mut index = 0usize;

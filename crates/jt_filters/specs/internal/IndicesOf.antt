@@ -1,19 +1,16 @@
 -- Definitions for the contracts of private functions: the indices of a list's items, by number or code.
 use Rattle.std.specs.Prelude.{◌≡◌, ℕ, ℤ, true, List, Option, Some, None, Vec}
 use Rattle.std.specs.declared.alloc.Global.{Global}
-use Rattle.std.specs.BTreeMap.{BTreeMap, get, get_by}
+use Rattle.std.specs.BTreeMap.{BTreeMap, get_by}
 use Rattle.std.specs.Cmp.Lexicographic.{slice_cmp}
 use Rattle.std.specs.Option.{IsSome}
-use Rattle.std.specs.Ordering.{int_cmp, nat_cmp}
+use Rattle.std.specs.Ordering.{nat_cmp}
 use Rattle.jt_value.specs.Tree.{Tree, Items}
 use Rattle.jt_op_semantics.specs.Membership.{has_item}
 use Rattle.jt_filters.specs.declared.members.Indices.{Indices}
 use Rattle.jt_filters.specs.internal.Codes.{code}
+use Rattle.jt_filters.specs.internal.Halving.{at_number}
 use Rattle.jt_filters.specs.internal.Seen.{number_like}
-
--- The index that is stored for a number.
-abbrev pub at_number : BTreeMap ℤ ℕ → ℤ → Option ℕ
-at_number m z = get int_cmp m z
 
 -- The index that is stored for a code.
 abbrev pub at_code : BTreeMap (Vec ℕ Global) ℕ → List ℕ → Option ℕ

@@ -12,5 +12,5 @@ returns-in-Some c =
     let z = c.in-Some.number in
     let fits : FitsSigned w64 z = search rules in
     let is : Some z ≡ number_like (tree_of c.args.operand) = sym c.in-Some.is ∙ c.number_like.ensures in
-    c.copied.ensures ∙ c.get.ensures.value
+    c.find.ensures
     ∙ number_found c.args.indices.now (tree_of c.args.operand) z (to_z w64 (of_z w64 z)) (to_z-of_z w64 z fits) is
