@@ -13,27 +13,44 @@ use crate::seen_numbers::{Occurrence, occurrences_in};
 use jt_value::NoMemory;
 use std::alloc::Global;
 
+/// The number of entries for each sample. The samples stay in the cache, so a search reads few
+/// entries from memory.
+const BLOCK: usize = 16;
+
 /// The numbers that the items of a list equal, each with the index of an item, in order.
 #[derive(Drop)]
 pub(crate) struct NumberSearch {
     entries: Vec<Occurrence>,
-    /// The powers of two below the number of entries, the greatest first.
+    /// The first entry of each block.
+    samples: Vec<Occurrence>,
+    /// The powers of two below the number of samples, the greatest first.
     steps: Vec<usize>,
+    /// The powers of two below the length of a block, the greatest first.
+    inner_steps: Vec<usize>,
 }
 
 impl NumberSearch {
     /// Returns the search for the numbers that the items equal.
     pub(crate) fn new(alloc: Global, items: ItemList<'_>) -> Result<NumberSearch, NoMemory> {
         let entries = sorted(alloc, occurrences_in(alloc, items)?)?;
-        let steps = powers_below(alloc, entries.len())?;
-        Ok(NumberSearch { entries, steps })
+        let samples = samples_of(alloc, &entries)?;
+        let steps = powers_below(alloc, samples.len())?;
+        let inner_steps = powers_below(alloc, BLOCK)?;
+        Ok(NumberSearch {
+            entries,
+            samples,
+            steps,
+            inner_steps,
+        })
     }
 
     /// Returns the index of an item that equals the number, if the number is found.
     pub(crate) fn find(&self, number: i64) -> Option<usize>
         ensures { result ≡ at_number self.now number }
     {
-        let place = place_of(&self.entries, &self.steps, number);
+        let sample = place_of(&self.samples, &self.steps, number, 0);
+        let first = sample.saturating_mul(BLOCK);
+        let place = place_of(&self.entries, &self.inner_steps, number, first);
         item_at(&self.entries, number, place)
     }
 
@@ -60,13 +77,24 @@ fn powers_below(alloc: Global, number: usize) -> Result<Vec<usize>, NoMemory> {
     Ok(powers)
 }
 
-/// Returns the place of the last entry whose number is at most `number`, if the entries are in
-/// order.
+/// Returns the first entry of each block.
+fn samples_of(alloc: Global, entries: &[Occurrence]) -> Result<Vec<Occurrence>, NoMemory> {
+    let mut samples = Vec::new(alloc);
+    for (index, entry) in entries.iter().enumerate() {
+        if index % BLOCK == 0 {
+            samples.push(*entry)?;
+        }
+    }
+    Ok(samples)
+}
+
+/// Returns the place of the last entry from `first` on whose number is at most `number`, if the
+/// entries are in order.
 #[tactic(auto, using(crate::proofs::Halving::places))]
-fn place_of(entries: &[Occurrence], steps: &[usize], number: i64) -> usize
-    ensures { result ≡ halving.place steps.now entries.now number 0 }
+fn place_of(entries: &[Occurrence], steps: &[usize], number: i64, first: usize) -> usize
+    ensures { result ≡ halving.place steps.now entries.now number first }
 {
-    let mut place = 0usize;
+    let mut place = first;
     for step in steps {
         place = moved(entries, number, place, *step);
     }

@@ -1,5 +1,5 @@
 -- Definitions for the contracts of private functions: what a search among entries by halving returns.
-use Rattle.std.specs.Prelude.{ℕ, ℤ, pos, ◌+◌, ◌-◌, ◌^◌, min, Bool, not, ◌&&◌, if◌then◌else◌, List, [], ◌∷◌, length}
+use Rattle.std.specs.Prelude.{ℕ, ℤ, pos, ◌+◌, ◌-◌, ◌*◌, ◌^◌, min, Bool, not, ◌&&◌, if◌then◌else◌, List, [], ◌∷◌, length}
 use Rattle.std.specs.Prelude.{Option, Some, None, nat_lt, int_lt, slice_index_or}
 use Rattle.std.specs.Ordering.{int_eq}
 use Rattle.jt_filters.specs.declared.number_search.NumberSearch.{NumberSearch}
@@ -28,6 +28,10 @@ abbrev pub item_at : List Occurrence → ℤ → ℕ → Option ℕ
 item_at es z p =
     if nat_lt p (length es) && int_eq (entry_at es p).number z then Some (entry_at es p).item else None
 
+-- The first place of the block in which a number is searched for.
+abbrev pub first_place : NumberSearch → ℤ → ℕ
+first_place s z = min (place s.steps.items s.samples.items z 0 * 16) (2 ^ 64 - 1)
+
 -- The item that a search for a number finds.
 abbrev pub at_number : NumberSearch → ℤ → Option ℕ
-at_number s z = item_at s.entries.items z (place s.steps.items s.entries.items z 0)
+at_number s z = item_at s.entries.items z (place s.inner_steps.items s.entries.items z (first_place s z))
