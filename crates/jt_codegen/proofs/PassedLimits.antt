@@ -108,7 +108,8 @@ pub tables_fit : (p : given_program.Program) → p.globals ≤ max_count → len
     → (qs : List given.Routine) → qs ≡ p.routines.items → AllByRecursion (λ r. r.locals ≤ max_locals) qs
     → FitsTables (program_of p)
 tables_fit p globals units names n texts rs r parameters qs q locals =
-    let first = subst (λ (l : List given.Routine). AllByRecursion (λ r. r.parameters ≤ max_parameters) l) r parameters in
+    let first =
+    subst (λ (l : List given.Routine). AllByRecursion (λ r. r.parameters ≤ max_parameters) l) r parameters in
     let second = subst (λ (l : List given.Routine). AllByRecursion (λ r. r.locals ≤ max_locals) l) q locals in
     record {
       globals = globals;
