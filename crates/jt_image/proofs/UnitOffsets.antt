@@ -1,8 +1,7 @@
 -- The number of instructions before a unit is the one that its offset stores.
-use Rattle.std.proofs.Common.{◌≡◌, if◌then◌else◌, ℕ, zero, suc, ◌+◌, ◌<◌, ◌≤◌, List, [], ◌∷◌, ◌++◌, length, take}
+use Rattle.std.proofs.Common.{◌≡◌, ℕ, zero, suc, ◌+◌, ◌<◌, ◌≤◌, List, [], ◌∷◌, ◌++◌, length, take}
 use Rattle.std.proofs.Common.{get_or, Ok, Err, drop, Option, Some, None, refl, sym, ap, subst, ◌∙◌, arith, rules}
-use Rattle.std.specs.Prelude.{slice_get, option_map, nat_lt}
-use Rattle.std.proofs.lemmas.Bool.{ltb-true, ltb-false}
+use Rattle.std.specs.Prelude.{slice_get, option_map}
 use Rattle.std.specs.Option.{option_and_then}
 use Rattle.std.proofs.lemmas.Option.{slice_get-map, slice_get_past}
 use Rattle.std.specs.List.{flat_map, AllByRecursion}
@@ -14,8 +13,8 @@ use Rattle.jt_image.specs.InPlace.{read_or, constant_in, HasConstant}
 use Rattle.jt_image.specs.declared.offsets.Offsets.{Offsets}
 use Rattle.jt_image.specs.declared.instruction.Instruction.{Instruction}
 use Rattle.jt_image.specs.Code.{Constant, undefined, Section, Code}
-use Rattle.jt_image.specs.Places.{place_of, place_at}
-use Rattle.jt_image.specs.Readers.{instruction_at, place_there, ConstantPlace, UnitStart, IsUnitAt}
+use Rattle.jt_image.specs.Places.{loc_at, place_of, place_at}
+use Rattle.jt_image.specs.Readers.{encoded_there, instruction_at, place_there, ConstantPlace, UnitStart, IsUnitAt}
 use Rattle.jt_image.specs.Spelling.{constant_bytes, instruction_bytes}
 use Rattle.jt_image.specs.IsCode.{IsConstant, total_len}
 use Rattle.jt_image.specs.Reading as reading
@@ -88,11 +87,20 @@ has_unit bytes [] u q all e = absurd cc
 has_unit bytes (p ∷ ps) zero q all e = let same : p ≡ q = cc in subst (HasUnit bytes) same all.0
 has_unit bytes (p ∷ ps) (suc u) q all e = has_unit bytes ps u q all.1 e
 
+-- The place of an instruction is its decoded one.
+pub place_encoded : (k : Code) (u point : ℕ)
+    → place_there k u point ≡ option_and_then (place_of k.templates) (encoded_there k u point)
+place_encoded k u point = by (instruction_at k u point)
+  where
+    by : (o : Option Instruction) → option_and_then (λ i. place_at k u point) o
+        ≡ option_and_then (place_of k.templates) (option_and_then (λ i. loc_at k u point) o)
+    by None = refl
+    by (Some i) = refl
+
 module _ (bytes : List ℕ) (p : Offsets) (h : AreThere bytes p) (u point : ℕ) where
-  pub place_is : (q : UnitOffset) → slice_get p.units.items u ≡ Some q → point < q.len
-      → place_there (code_in bytes p) u point
-      ≡ option_and_then (place_of (code_in bytes p).templates) (slice_get (code_in bytes p).places (q.first + point))
-  place_is q e lt =
+  pub loc_is : (q : UnitOffset) → slice_get p.units.items u ≡ Some q → point < q.len
+      → encoded_there (code_in bytes p) u point ≡ slice_get (code_in bytes p).places (q.first + point)
+  loc_is q e lt =
       let k : Code = code_in bytes p in
       let unit : slice_get k.units u ≡ Some (section_in bytes q) =
       units_of bytes p.units.items u ∙ ap (option_map (section_in bytes)) e in
@@ -101,28 +109,22 @@ module _ (bytes : List ℕ) (p : Offsets) (h : AreThere bytes p) (u point : ℕ)
       let known : instruction_at k u point ≡ Some i.0 =
       ap (option_and_then (λ (s : Section). slice_get s.code point)) unit ∙ i.1 in
       let count : q.first ≡ total_len (take u k.units) = counted_at bytes p.units.items u q h.units h.counted e in
-      ap (option_and_then (λ _. place_at k u point)) known
-      ∙ ap (λ (n : ℕ). option_and_then (place_of k.templates) (slice_get k.places (n + point))) (sym count)
+      ap (option_and_then (λ _. loc_at k u point)) known
+      ∙ ap (λ (n : ℕ). slice_get k.places (n + point)) (sym count)
 
-  pub place_behind : (q : UnitOffset) → slice_get p.units.items u ≡ Some q → q.len ≤ point
-      → place_there (code_in bytes p) u point ≡ None
-  place_behind q e le =
+  pub loc_behind : (q : UnitOffset) → slice_get p.units.items u ≡ Some q → q.len ≤ point
+      → encoded_there (code_in bytes p) u point ≡ None
+  loc_behind q e le =
       let k : Code = code_in bytes p in
       let unit : slice_get k.units u ≡ Some (section_in bytes q) =
       units_of bytes p.units.items u ∙ ap (option_map (section_in bytes)) e in
       let here = has_unit bytes p.units.items u q h.units e in
       let none : instruction_at k u point ≡ None = ap (option_and_then (λ (s : Section). slice_get s.code point)) unit
       ∙ slice_get_past (section_in bytes q).code point (omega (arith, here.1, le)) in
-      ap (option_and_then (λ _. place_at k u point)) none
+      ap (option_and_then (λ _. loc_at k u point)) none
 
-  pub place_outside : slice_get p.units.items u ≡ None → place_there (code_in bytes p) u point ≡ None
-  place_outside e = search (arith, rules, units_of)
-
-  pub place_known : (q : UnitOffset) → slice_get p.units.items u ≡ Some q
-      → place_there (code_in bytes p) u point ≡ (if nat_lt point q.len
-      then option_and_then (place_of (code_in bytes p).templates) (slice_get (code_in bytes p).places (q.first + point))
-      else None)
-  place_known q e = search (arith, rules, place_is, ltb-true, place_behind, ltb-false)
+  pub loc_outside : slice_get p.units.items u ≡ None → encoded_there (code_in bytes p) u point ≡ None
+  loc_outside e = search (arith, rules, units_of)
 
 -- ---- the offsets of constants and units
 

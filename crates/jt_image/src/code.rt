@@ -2,14 +2,17 @@
 ghost use Rattle.std.specs.Prelude.{◌≡◌, length, option_map, slice_get};
 ghost use Rattle.std.specs.Option.{option_and_then};
 ghost use Rattle.jt_image.specs.IsCode.{IsCode, total_len};
-ghost use Rattle.jt_image.specs.Readers.{constant_ref_view, header_of, instruction_at, number_of};
-ghost use Rattle.jt_image.specs.Readers.{place_ref_view, place_there, ConstantPlace, UnitStart};
+ghost use Rattle.jt_image.specs.Readers.{constant_ref_view, header_of, instruction_at, loc_there};
+ghost use Rattle.jt_image.specs.Readers.{number_of, place_ref_view, place_there, ConstantPlace};
+ghost use Rattle.jt_image.specs.Readers.{UnitStart};
 ghost use Rattle.jt_image.specs.Spelling.{spelling};
+ghost use Rattle.jt_image.specs.View.{loc_view};
 
 use crate::instruction::Instruction;
 use crate::offsets::{
     Reader, constant_in, constant_start, integer_in, name_in, template_in, unit_code_in, unit_start,
 };
+use crate::parts::SourceLoc;
 use crate::unit_code::UnitCode;
 use crate::version::Version;
 
@@ -192,6 +195,15 @@ pub trait Code {
         ensures { option_map place_ref_view result ≡ place_there (code self.now) unit point }
     {
         self.reader().place(unit, point)
+    }
+
+    /// Returns the encoded place of an instruction, if it has a place. Two instructions have the
+    /// same place exactly if these are equal, so that no names of templates need be compared.
+    #[inline(always)]
+    fn loc(&self, unit: usize, point: usize) -> Option<SourceLoc>
+        ensures { option_map loc_view result ≡ loc_there (code self.now) unit point }
+    {
+        self.reader().loc_at(unit, point)
     }
 
     /// Returns the bytes of the image.

@@ -4,9 +4,10 @@ ghost use Rattle.std.specs.Prelude.{drop, option_map, slice_get, IsUtf8, Some, N
 ghost use Rattle.std.specs.Option.{option_and_then};
 ghost use Rattle.std.specs.Int.{w16, w32, w64, from_le_bytes, cast_signed};
 ghost use Rattle.jt_image.specs.Code.{undefined};
-ghost use Rattle.jt_image.specs.Places.{place_of};
+ghost use Rattle.jt_image.specs.Places.{known_loc, place_of};
 ghost use Rattle.jt_image.specs.Readers.{constant_ref_view, name_ref_view, header_of, number_of};
-ghost use Rattle.jt_image.specs.Readers.{instruction_at, place_ref_view, place_there};
+ghost use Rattle.jt_image.specs.Readers.{encoded_there, instruction_at, loc_there};
+ghost use Rattle.jt_image.specs.Readers.{place_ref_view, place_there};
 ghost use Rattle.jt_image.specs.Readers.{ConstantPlace, UnitStart};
 ghost use Rattle.jt_image.specs.View.{loc_view};
 ghost use Rattle.jt_image.specs.Reading.{text_at, long_text_at, constant_of};
@@ -257,9 +258,9 @@ impl<'a> Reader<'a> {
         })
     }
 
-    /// Returns the place of an instruction of a unit.
-    pub(crate) fn place(&self, unit: usize, point: usize) -> Option<PlaceRef<'a>>
-        ensures { option_map place_ref_view result ≡ place_there self.now unit point }
+    // Returns the encoded place of an instruction of a unit.
+    fn encoded(&self, unit: usize, point: usize) -> Option<SourceLoc>
+        ensures { option_map loc_view result ≡ encoded_there self.now unit point }
     {
         let Some(place) = self.offsets.unit_at(unit) else {
             return None;
@@ -267,7 +268,34 @@ impl<'a> Reader<'a> {
         if point >= place.len as usize {
             return None;
         }
-        match self.loc(place.first as usize + point) {
+        self.loc(place.first as usize + point)
+    }
+
+    // Returns an encoded place, if it encodes a place.
+    fn known_loc(&self, loc: SourceLoc) -> Option<SourceLoc>
+        ensures { option_map loc_view result ≡ known_loc self.now.templates (loc_view loc) }
+    {
+        match self.place_of(loc) {
+            Some(_) => Some(loc),
+            None => None,
+        }
+    }
+
+    /// Returns the encoded place of an instruction of a unit, if the instruction has a place.
+    pub(crate) fn loc_at(&self, unit: usize, point: usize) -> Option<SourceLoc>
+        ensures { option_map loc_view result ≡ loc_there self.now unit point }
+    {
+        match self.encoded(unit, point) {
+            Some(loc) => self.known_loc(loc),
+            None => None,
+        }
+    }
+
+    /// Returns the place of an instruction of a unit.
+    pub(crate) fn place(&self, unit: usize, point: usize) -> Option<PlaceRef<'a>>
+        ensures { option_map place_ref_view result ≡ place_there self.now unit point }
+    {
+        match self.encoded(unit, point) {
             Some(loc) => self.place_of(loc),
             None => None,
         }

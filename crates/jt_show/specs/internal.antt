@@ -1,1 +1,2 @@
+pub mod ChangedPlaces
 pub mod SlotNames

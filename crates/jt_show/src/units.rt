@@ -4,6 +4,7 @@ ghost use Rattle.std.specs.Prelude.{if◌then◌else◌, length, option_map, sli
 ghost use Rattle.std.specs.Prelude.{string_bytes};
 ghost use Rattle.std.specs.Option.{is_none};
 ghost use Rattle.jt_image.specs.Code.{Section};
+ghost use Rattle.jt_image.specs.IsCode.{IsCode};
 ghost use Rattle.jt_verify.specs.Search.{shape_at, unit_found};
 ghost use Rattle.jt_show.specs.Listing.{found_or, found_text, instruction_start, is_target};
 ghost use Rattle.jt_show.specs.Listing.{label_line, numbered, point_text, unit_line, unit_text};
@@ -11,11 +12,11 @@ ghost use Rattle.jt_show.specs.internal.SlotNames.{AreNames};
 
 use crate::instructions::{put_instruction, put_worded};
 use crate::marks::put_mark;
-use crate::places::put_place_line;
+use crate::places::{is_same, put_place_line};
 use crate::shapes::put_line_end;
 use crate::targets::jump_targets;
 use crate::words::kind_word;
-use jt_image::{Code, Instruction, PlaceRef, UnitCode, UnitHeader};
+use jt_image::{Code, Instruction, SourceLoc, UnitCode, UnitHeader};
 use jt_value::NoMemory;
 use jt_verify::{ShapeRef, UnitShapes, unit_shapes};
 use std::alloc::{AllocError, Global};
@@ -83,7 +84,8 @@ fn put_unit<C: Code>(
     searched: &Searched,
     out: &mut String,
 ) -> Result<(), NoMemory>
-    requires { AreNames (C.code code.now) slots.now }
+    requires names { AreNames (C.code code.now) slots.now }
+    requires whole { IsCode (C.code code.now) }
     ensures { (section : Section)
         → slice_get (C.code code.now).units searched.now.unit ≡ Some section
         → OnOk result (string_bytes out.new ≡ string_bytes out.old
@@ -142,6 +144,7 @@ fn put_points<C: Code>(
     out: &mut String,
 ) -> Result<(), AllocError>
     requires names { AreNames (C.code code.now) slots.now }
+    requires whole { IsCode (C.code code.now) }
     requires len { length points.now.targets.items ≡ length points.now.instructions }
     requires each { (point : ℕ) → point < length points.now.targets.items
         → slice_index_or points.now.targets.items point false
@@ -150,14 +153,15 @@ fn put_points<C: Code>(
         ++ numbered (point_text (C.code code.now) points.now.unit points.now.instructions
         (found_or points.now.found.now)) 0 points.now.instructions) }
 {
-    let mut before: Option<PlaceRef<'_>> = None;
+    let mut before: Option<SourceLoc> = None;
     'points: for point in 0..points.targets.len() {
         let Some(instruction) = points.instructions.get(point) else {
             unreachable!()
         };
-        let place = code.place(points.unit, point);
-        put_place_line(before, place, out)?;
-        before = place.or(before);
+        let loc = code.loc(points.unit, point);
+        let same = is_same(before, loc);
+        put_place_line(same, code.place(points.unit, point), out)?;
+        before = loc.or(before);
         put_label_line(points.targets[point], point, out)?;
         put_instruction_start(code, slots, point, instruction, out)?;
         put_line_end(shape_of(points.found, point), out)?;

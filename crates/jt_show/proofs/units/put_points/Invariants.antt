@@ -1,13 +1,12 @@
-use Rattle.std.proofs.Common.{◌≡◌, ◌++◌, drop, option_map, string_bytes}
-use Rattle.jt_image.specs.Readers.{place_ref_view}
+use Rattle.std.proofs.Common.{◌≡◌, ◌++◌, drop, string_bytes}
 use Rattle.jt_show.specs.Listing.{found_or, numbered, place_before, point_text}
+use Rattle.jt_show.proofs.PlacesSeen.{place_seen}
 use Rattle.jt_show.proofs.units.put_points.Given as goal
 
 -- The output so far and the lines of the instructions that are left are the whole.
 abbrev pub invariant-points : goal.invariant-points
 invariant-points g l = record {
-  before :
-      option_map place_ref_view l.before ≡ place_before (g.C.Code.code l.code) l.points.unit l.point;
+  before : place_seen (g.C.Code.code l.code) l.before ≡ place_before (g.C.Code.code l.code) l.points.unit l.point;
   shown :
       let text =
       point_text (g.C.Code.code l.code) l.points.unit l.points.instructions (found_or l.points.found.now) in

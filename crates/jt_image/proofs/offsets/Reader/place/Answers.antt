@@ -1,32 +1,19 @@
-use Rattle.std.proofs.Common.{◌≡◌, ◌+◌, ◌<◌, Option, Some, option_map, sym, ap, subst, ◌∙◌, arith}
-use Rattle.std.specs.Prelude.{slice_get}
+use Rattle.std.proofs.Common.{◌≡◌, Option, option_map, sym, ap, ◌∙◌}
 use Rattle.std.specs.Option.{option_and_then}
-use Rattle.jt_image.specs.Code.{Code}
-use Rattle.jt_image.specs.View.{loc_view}
 use Rattle.jt_image.specs.Places.{place_of}
-use Rattle.jt_image.specs.Readers.{place_there}
-use Rattle.jt_image.specs.declared.parts.SourceLoc.{SourceLoc}
-use Rattle.jt_image.proofs.UnitOffsets.{place_is}
+use Rattle.jt_image.specs.View.{loc_view}
+use Rattle.jt_image.proofs.UnitOffsets.{place_encoded}
 use Rattle.jt_image.proofs.offsets.Reader.place.Goals as goal
-use Rattle.jt_image.proofs.offsets.Reader.place.Goals.{After-loc}
 
--- The place is the decoded one, if it exists.
-told : (c : After-loc) (o : Option SourceLoc) → c.loc.result ≡ o
-    → place_there c.args.self.now c.args.unit c.args.point
-    ≡ option_and_then (place_of c.args.self.now.templates) (option_map loc_view o)
-told c o is =
-    let q = c.in-Some.place in
-    let lt : c.args.point < q.len = omega arith in
-    let known = place_is c.self.inside.bytes.now c.self.inside.offsets.now c.self.invariant.there c.args.unit
-    c.args.point q (sym c.unit_at.ensures ∙ c.in-Some.is) lt in
-    subst (λ (k : Code). place_there k c.args.unit c.args.point
-    ≡ option_and_then (place_of k.templates) (slice_get k.places (q.first + c.args.point)))
-    c.self.view_is known
-    ∙ ap (option_and_then (place_of c.args.self.now.templates)) (sym c.loc.ensures ∙ ap (option_map loc_view) is)
-
-pub returns-in-Some-loc : goal.returns-in-Some-loc
-returns-in-Some-loc c =
-    c.place_of.ensures ∙ sym (told (goal.at.returns-in-Some-loc c).After-loc (Some c.in-Some-loc.loc) c.in-Some-loc.is)
+pub returns-in-Some : goal.returns-in-Some
+returns-in-Some c =
+    c.place_of.ensures
+    ∙ sym (place_encoded c.args.self.now c.args.unit c.args.point
+    ∙ ap (option_and_then (place_of c.args.self.now.templates))
+    (sym c.encoded.ensures ∙ ap (option_map loc_view) c.in-Some.is))
 
 pub returns-in-None : goal.returns-in-None
-returns-in-None c = sym (told (goal.at.returns-in-None c).After-loc _ c.in-None.is)
+returns-in-None c =
+    sym (place_encoded c.args.self.now c.args.unit c.args.point
+    ∙ ap (option_and_then (place_of c.args.self.now.templates))
+    (sym c.encoded.ensures ∙ ap (option_map loc_view) c.in-None.is))
