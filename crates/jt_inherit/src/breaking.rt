@@ -1,14 +1,18 @@
 //! Finds the tags that break a rule on the blocks, macros and imports of a chain or library.
 
-ghost use Rattle.std.specs.Prelude.{◌≡◌, true, IfOk, IfSome};
+ghost use Rattle.std.specs.Prelude.{◌≡◌, ◌∷◌, [], false, IfOk, IfSome, MatchOption};
+ghost use Rattle.jt_ast.specs.StatementView.{body_of, given_view};
 ghost use Rattle.jt_chains.specs.Along.{AreIndices};
 ghost use Rattle.jt_chains.specs.TemplateFiles.{file_view, files_view};
+ghost use Rattle.jt_chains.specs.Rules as rules;
+ghost use Rattle.jt_inherit.specs.internal.Breaking.{IsMissing, IsMissingFrom, IsOfMissing};
 ghost use Rattle.jt_inherit.specs.internal.Breaking.{IsOfRule, IsTwiceIn, lacks};
 ghost use Rattle.jt_inherit.specs.internal.Given.{its_sources, its_templates};
+ghost use Rattle.jt_inherit.specs.internal.RuleTests.{any_lacks_macros};
 
 use crate::bodies::{no_super, not_given};
 use crate::error::ChainError;
-use crate::finding::{ChainFinding, ChainSubject};
+use crate::finding::{ChainFinding, ChainSubject, TagPlace};
 use crate::importing::{library_file, names_at};
 use crate::store::TemplateStore;
 use crate::tags::{Wanted, first_place, second_place, tags_at, tags_of};
@@ -18,9 +22,11 @@ use jt_uses::{Use, UseSite, uses_of};
 use std::alloc::{AllocError, Global};
 use std::collections::BTreeSet;
 
-/// A macro that a library does not offer.
+/// A macro that a `from` tag names and the library does not offer.
 #[derive(Clone, Copy)]
-struct MissingMacro<'a> {
+pub(crate) struct MissingMacro<'a> {
+    template: &'a str,
+    line: u32,
     library: &'a str,
     name: &'a str,
 }
@@ -35,17 +41,24 @@ fn lacks_macro(store: TemplateStore<'_>, library: &str, name: &str) -> bool
     }
 }
 
-/// Returns the first of the macros that the library does not offer.
+/// Returns the first macro that the `from` tag at a line names and its library does not offer.
 fn missing_from<'a>(
     store: TemplateStore<'_>,
+    template: &'a str,
+    line: u32,
     library: &'a str,
     macros: &'a [(String, String)],
 ) -> Option<MissingMacro<'a>>
-    ensures { IfSome result (λ m. lacks (its_sources store.entry) m.library.now m.name.now ≡ true) }
+    ensures { MatchOption result
+        (rules.lacks_one (its_sources store.entry) library.now (given_view macros.now) ≡ false)
+        (IsMissingFrom (its_sources store.entry) template.now line library.now
+        (given_view macros.now)) }
 {
     for (name, _) in macros {
         if lacks_macro(store, library, name) {
             return Some(MissingMacro {
+                template,
+                line,
                 library,
                 name: name.as_str(),
             });
@@ -54,18 +67,20 @@ fn missing_from<'a>(
     None
 }
 
-/// Returns the first macro that a template imports and the library does not offer.
-fn missing_in<'a>(store: TemplateStore<'_>, body: &'a [Stmt]) -> Option<MissingMacro<'a>>
-    ensures { IfSome result (λ m. lacks (its_sources store.entry) m.library.now m.name.now ≡ true) }
+/// Returns the first macro that a template imports and its library does not offer.
+fn missing_in<'a>(store: TemplateStore<'_>, file: &'a TemplateFile) -> Option<MissingMacro<'a>>
+    ensures { MatchOption result
+        (rules.lacks_macros (its_sources store.entry) (body_of file.now.template) ≡ false)
+        (IsMissing (its_sources store.entry) (file_view file.now ∷ [])) }
 {
-    for statement in body {
+    for statement in file.template.body() {
         if let Stmt::From {
+            line,
             library,
             macros,
-            ..
         } = statement
         {
-            if let Some(found) = missing_from(store, library, macros) {
+            if let Some(found) = missing_from(store, &file.name, *line, library, macros) {
                 return Some(found);
             }
         }
@@ -73,13 +88,19 @@ fn missing_in<'a>(store: TemplateStore<'_>, body: &'a [Stmt]) -> Option<MissingM
     None
 }
 
-/// Returns the first macro that the templates at `indices` import and the library does not offer.
-fn missing_at<'a>(store: TemplateStore<'a>, indices: &[usize]) -> Option<MissingMacro<'a>>
+/// Returns the first macro that the templates at `indices` import and its library does not offer.
+pub(crate) fn missing_at<'a>(
+    store: TemplateStore<'a>,
+    indices: &[usize],
+) -> Option<MissingMacro<'a>>
     requires { AreIndices (files_view store.files.now) indices.now }
-    ensures { IfSome result (λ m. lacks (its_sources store.entry) m.library.now m.name.now ≡ true) }
+    ensures { MatchOption result
+        (any_lacks_macros (its_sources store.entry) (its_templates store.entry indices.now)
+        ≡ false)
+        (IsMissing (its_sources store.entry) (its_templates store.entry indices.now)) }
 {
     for index in indices {
-        if let Some(found) = missing_in(store, store.files[*index].template.body()) {
+        if let Some(found) = missing_in(store, &store.files[*index]) {
             return Some(found);
         }
     }
@@ -87,31 +108,21 @@ fn missing_at<'a>(store: TemplateStore<'a>, indices: &[usize]) -> Option<Missing
 }
 
 /// Returns the finding of an imported macro that its library does not offer.
-fn missing_finding(
+pub(crate) fn missing_finding(
     alloc: Global,
-    store: TemplateStore<'_>,
-    indices: &[usize],
+    missing: MissingMacro<'_>,
 ) -> Result<ChainFinding, AllocError>
-    requires { AreIndices (files_view store.files.now) indices.now }
-    ensures { IfOk result (IsOfRule (its_sources store.entry)
-        (its_templates store.entry indices.now) ChainError.NoMacro) }
+    ensures { IfOk result (IsOfMissing missing.entry) }
 {
-    let Some(missing) = missing_at(store, indices) else {
-        return Ok(ChainFinding::without_place(ChainError::NoMacro));
-    };
-    let wanted = Wanted::BindsMacro {
-        library: missing.library,
-        name: missing.name,
-    };
-    let tags = tags_at(alloc, store.files, indices, wanted)?;
-    let Some(place) = first_place(alloc, &tags)? else {
-        return Ok(ChainFinding::without_place(ChainError::NoMacro));
-    };
+    let template = String::from_str(alloc, missing.template)?;
     let library = String::from_str(alloc, missing.library)?;
     let name = String::from_str(alloc, missing.name)?;
     Ok(ChainFinding {
         error: ChainError::NoMacro,
-        place: Some(place),
+        place: Some(TagPlace {
+            template,
+            line: missing.line,
+        }),
         subject: Some(ChainSubject::Macro { library, name }),
     })
 }
@@ -221,7 +232,6 @@ pub(crate) fn rule_finding(
         (its_templates store.entry indices.now) error) }
 {
     match error {
-        ChainError::NoMacro => missing_finding(alloc, store, indices),
         ChainError::MacroTwice => name_twice(alloc, store, indices),
         ChainError::DoubleBlock => block_twice(alloc, store, indices),
         ChainError::RequiredNotGiven => not_given(alloc, store, indices),

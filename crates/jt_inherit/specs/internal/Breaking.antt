@@ -17,6 +17,39 @@ use Rattle.jt_inherit.specs.declared.finding.TagPlace.{TagPlace}
 abbrev pub lacks : Sources → Text → Text → Bool
 lacks s library x = is_a_library (s library) && is_none (public_macro x (macros s (a_library library)))
 
+-- The subject is the missing macro.
+abbrev pub IsMacro : MissingMacro → Option ChainSubject → Type 0
+IsMacro m (Some (v.Macro library x)) = (string_bytes library ≡ m.library.now) × (string_bytes x ≡ m.name.now)
+IsMacro m x = ⊥
+
+-- The tag is the `from` tag of the missing macro.
+abbrev pub IsItsTag : MissingMacro → Text × Site → Type 0
+IsItsTag m x =
+    (x.0 ≡ m.template.now) × (x.1.place.line ≡ m.line)
+    × (binds_macro m.library.now m.name.now x.1.made ≡ true)
+
+-- A tag of the templates names a macro that its library lacks.
+pub record IsMissing (s : Sources) (ts : List Template) (m : MissingMacro) : Type 0 where
+  pub broken : any_lacks_macros s ts ≡ true
+  pub lacking : lacks s m.library.now m.name.now ≡ true
+  pub tag : ForSome (IsItsTag m) (all_uses ts)
+
+-- The `from` tag names a macro that the library lacks.
+pub record IsMissingFrom (s : Sources) (template : Text) (line : ℕ) (library : Text) (xs : List (Text × Text))
+    (m : MissingMacro) : Type 0 where
+  pub broken : lacks_one s library xs ≡ true
+  pub lacking : lacks s m.library.now m.name.now ≡ true
+  pub template : m.template.now ≡ template
+  pub line : m.line ≡ line
+  pub library : m.library.now ≡ library
+  pub named : list_any (λ x. bytes_eq x.0 m.name.now) xs ≡ true
+
+-- The finding is that of the missing macro, at its tag.
+pub record IsOfMissing (m : MissingMacro) (f : ChainFinding) : Type 0 where
+  pub error : f.error ≡ error.NoMacro
+  pub place : option_map place_view f.place ≡ Some (m.template.now, m.line)
+  pub subject : IsMacro m f.subject
+
 module _ (s : Sources) (ts : List Template) where
   -- The tag of the templates breaks the rule in the subject.
   abbrev pub BrokenIn : ChainSubject → ChainError → TagPlace → Type 0
