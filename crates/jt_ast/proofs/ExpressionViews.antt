@@ -27,15 +27,6 @@ pairs-map g k v (p ∷ ps) =
     ∙ ap (λ t. pair (string_bytes p.0) t (pairs_of (map g ps))) (v p)
     ∙ ap (pair (string_bytes p.0) (expr_view p.1)) (pairs-map g k v ps)
 
-pub view_Constant : (c : Literal) → expr_view (e.Constant c) ≡ trees.constant (literal_view c)
-view_Constant c = ap expr_view (sym (rolls-Constant c)) ∙ fold-roll-Expr trees.Expr expr_step (Expr-F.Constant c)
-
-pub view_Name : (s : String Global) → expr_view (e.Name s) ≡ trees.name (string_bytes s)
-view_Name s = ap expr_view (sym (rolls-Name s)) ∙ fold-roll-Expr trees.Expr expr_step (Expr-F.Name s)
-
-pub view_Group : (a : Box Expr Global) → expr_view (e.Group a) ≡ trees.group (expr_view a.value)
-view_Group a = ap expr_view (sym (rolls-Group a)) ∙ fold-roll-Expr trees.Expr expr_step (Expr-F.Group a)
-
 pub view_List : (ts : Vec Expr Global) → expr_view (e.List ts) ≡ trees.list_of (exprs_view ts.items)
 view_List ts = ap expr_view (sym (rolls-List ts)) ∙ fold-roll-Expr trees.Expr expr_step (Expr-F.List ts)
 

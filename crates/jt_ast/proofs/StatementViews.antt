@@ -147,9 +147,3 @@ pub shown_filters : (s : Stmt) (line : ℕ) (fs : Vec FilterCall Global) (body :
     → s ≡ v.FilterBlock line fs body → fs' ≡ fs.items → body' ≡ body.items
     → trees.filter_block line (filter_calls_view fs') (body_view body') ≡ stmt_view s
 shown_filters s line fs body fs' body' is p q = rw (p, q) (sym (ap stmt_view is ∙ view_FilterBlock line fs body))
-
-pub shown_macro : (s : Stmt) (line : ℕ) (x : String Global) (ps : Vec Parameter Global) (body : Vec Stmt Global)
-    (ps' : List Parameter) (body' : List Stmt)
-    → s ≡ v.Macro line x ps body → ps' ≡ ps.items → body' ≡ body.items
-    → trees.macro line (string_bytes x) (parameters_view ps') (body_view body') ≡ stmt_view s
-shown_macro s line x ps body ps' body' is p q = rw (p, q) (sym (ap stmt_view is ∙ view_Macro line x ps body))

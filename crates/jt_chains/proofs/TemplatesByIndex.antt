@@ -8,6 +8,7 @@ use Rattle.std.proofs.lemmas.Option.{slice_get_within}
 use Rattle.std.proofs.lemmas.Cmp.{nat_list_eq_equiv}
 use Rattle.std.proofs.lemmas.Slice.Eq.{bytes_eq-Decides}
 use Rattle.std.specs.Str.{bytes_eq}
+use Rattle.std.proofs.lemmas.Bool.{or_parts}
 use Rattle.jt_ast.specs.Expressions.{Text}
 use Rattle.jt_ast.specs.Statements.{Body, end}
 use Rattle.jt_ast.specs.StatementView.{body_of}
@@ -115,10 +116,6 @@ named_among (u ∷ us) (suc i) t e = or_right (bytes_eq u.name t.name) (named_am
     or_right true h = refl
     or_right false h = h
 
-or_false : (a b : Bool) → (a || b) ≡ false → (a ≡ false) × (b ≡ false)
-or_false true b e = absurd (cc)
-or_false false b e = (refl, e)
-
 -- If names differ, the template at an index is the one of its name.
 pub only_one : (ts : List Template) (i : ℕ) (t : Template) → repeated (map (λ u. u.name) ts) ≡ false
     → slice_get ts i ≡ Some t → sources_in ts t.name ≡ Some t.body
@@ -132,7 +129,7 @@ only_one (u ∷ us) (suc i) t once e = by (bytes_eq u.name t.name) refl (only_on
     apart : (among u.name (map (λ (v : Template). v.name) us) ≡ false)
         × (repeated (map (λ (v : Template). v.name) us) ≡ false)
     apart =
-        or_false (among u.name (map (λ (v : Template). v.name) us)) (repeated (map (λ (v : Template). v.name) us)) once
+        or_parts (among u.name (map (λ (v : Template). v.name) us)) (repeated (map (λ (v : Template). v.name) us)) once
 
     by : (b : Bool) → bytes_eq u.name t.name ≡ b → sources_in us t.name ≡ Some t.body
         → sources_in (u ∷ us) t.name ≡ Some t.body

@@ -4,6 +4,7 @@ use Rattle.std.proofs.Common.{take, drop, get_or, refl, sym, ap, ◌∙◌, arit
 use Rattle.std.specs.List.{list_all}
 use Rattle.std.specs.Option.{is_some}
 use Rattle.std.specs.Prelude.{option_map}
+use Rattle.std.proofs.lemmas.Bool.{or_right}
 use Rattle.jt_ast.specs.Texts.{among}
 use Rattle.jt_ast.specs.Statements as trees
 use Rattle.jt_ast.specs.Expressions.{Text}
@@ -15,10 +16,6 @@ use Rattle.jt_checks.specs.internal.RuleTests as rules
 abbrev pub is_filled : List Text → Parameter → Bool
 is_filled ks p = among (string_bytes p.name) ks || is_some p.default
 
-or_true : (b c : Bool) → c ≡ true → (b || c) ≡ true
-or_true true c e = refl
-or_true false c e = e
-
 module _ (ks : List Text) where
   -- A named parameter is among those that are named.
   given_at : (ps : List Parameter) (i : ℕ) (p : Parameter) → i < length ps → p ≡ get_or ps i p
@@ -28,7 +25,8 @@ module _ (ks : List Text) where
       ap (λ (z : Parameter). among (string_bytes z.name) ks || some_given (parameters_view ps) ks) (sym is)
       ∙ ap (λ b. b || some_given (parameters_view ps) ks) e
   given_at (q ∷ ps) (suc i) p lt is e =
-      or_true (among (string_bytes q.name) ks) (some_given (parameters_view ps) ks) (given_at ps i p (omega arith) is e)
+      or_right (among (string_bytes q.name) ks) (some_given (parameters_view ps) ks)
+      (given_at ps i p (omega arith) is e)
 
   -- If no parameter is named, none is reached.
   pub none_reached : (ps : List trees.Parameter) → some_given ps ks ≡ false → rules.reached ps ks ≡ 0

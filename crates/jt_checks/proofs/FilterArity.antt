@@ -70,18 +70,6 @@ none_given : (ps : List Parameter) → some_given ps [] ≡ false
 none_given [] = refl
 none_given (p ∷ ps) = none_given ps
 
-filled_without : (ps : List Parameter) (n : ℕ) → rules.is_filled ps n [] ≡ true
-filled_without [] n = refl
-filled_without (p ∷ ps) (suc n) = filled_without ps n
-filled_without (p ∷ ps) zero = ap (λ b. not b || (is_some p.default && rules.is_filled ps 0 [])) (none_given ps)
-
-with_true : (b c : Bool) → c ≡ true → b ≡ (b && (c && true))
-with_true true c e = sym (ap (λ z. z && true) e)
-with_true false c e = refl
-
-pub takes_by_place : (f : FilterId) (ps : List Parameter) (n : ℕ) → accepts (Some f) (n + 1) ≡ filter_takes f ps n []
-takes_by_place f ps n = search (arith, rules, none_reached, none_given, with_true, filled_without)
-
 pub no_keywords : (ps : List Entry) → nat_eq (length ps) 0 ≡ true → keywords (pairs_view ps) ≡ []
 no_keywords [] e = refl
 no_keywords (p ∷ ps) e = search (arith, rules, nat_eq, nat_tests)

@@ -49,20 +49,6 @@ pub templates_left : (cenv : CompileEnv) (namespace : Namespace) (ts : List Temp
 templates_left cenv namespace ts is i lt =
     ap (λ js. broken.templates_broken cenv namespace (layers_along ts js)) (drop_more is i 0 lt)
 
-pub uses_left : (cenv : CompileEnv) (namespace : Namespace) (n : Text) (ss : List UseSite) (i : ℕ) (s : UseSite)
-    → i < length ss → s ≡ get_or ss i s
-    → broken.uses_broken cenv namespace n (sites_view (drop i ss))
-    ≡ option_or (broken.site_finding cenv namespace n (site_view s))
-    (broken.uses_broken cenv namespace n (sites_view (drop (i + 1) ss)))
-uses_left cenv namespace n ss i s lt is = search (arith, rules, drop_more)
-
-pub lines_left : (ss : List UseSite) (i : ℕ) (s : UseSite) → i < length ss → s ≡ get_or ss i s
-    → broken.lines_bound (sites_view (drop i ss))
-    ≡ (if broken.binds_name (site_view s)
-    then s.place.line ∷ broken.lines_bound (sites_view (drop (i + 1) ss))
-    else broken.lines_bound (sites_view (drop (i + 1) ss)))
-lines_left ss i s lt is = search (arith, rules, drop_more)
-
 -- ---- chains
 
 pub its_place : (c : Chain) (i : ℕ) → namespace_in c i ≡ namespace_at (chain_view c).order i

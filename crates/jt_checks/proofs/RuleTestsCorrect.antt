@@ -6,6 +6,7 @@ use Rattle.std.specs.Option.{option_or, is_some}
 use Rattle.std.specs.Str.{bytes_eq}
 use Rattle.std.proofs.lemmas.Bool.Decides.{nat_tests}
 use Rattle.std.proofs.lemmas.Slice.Eq.{bytes_eq-Decides}
+use Rattle.std.proofs.lemmas.Bool.{and_cases}
 use mathlib.Core.Logic.{inl, inr}
 use Rattle.jt_ast.specs.Expressions as trees
 use Rattle.jt_ast.specs.Expressions.{Expr, name, attribute, Exprs, Text}
@@ -51,10 +52,6 @@ judged_unless : (P : ScopeError → Type 0) (right : Bool) → (right ≡ false 
     → ((rule : ScopeError) → P rule → right ≡ false) → Judged (unless right) P
 judged_unless P true bad each = λ rule p. differs (each rule p)
 judged_unless P false bad each = bad refl
-
-one_false : (a b : Bool) → (a && b) ≡ false → (a ≡ false) ⊎ (b ≡ false)
-one_false true b e = inr e
-one_false false b e = inl refl
 
 not_both_true : (a b : Bool) → (a ≡ false) ⊎ (b ≡ false) → (a && b) ≡ false
 not_both_true a0 b a2 = search (arith, rules, differs)
@@ -226,7 +223,7 @@ module _ (cenv : CompileEnv) (namespace : Namespace) where
   breaks_there error.LoopOutside u w h = search (arith, rules)
   breaks_there error.MacroAsValue u w h = search (arith, rules, differs)
   breaks_there error.NotCallable u w h = search (arith, rules)
-  breaks_there error.BadArguments u w h = search (arith, rules, one_false)
+  breaks_there error.BadArguments u w h = search (arith, rules, and_cases)
   breaks_there error.TooManySlots u w h = search (arith, rules)
   breaks_there error.NoMemory u w h = search (arith, rules)
 

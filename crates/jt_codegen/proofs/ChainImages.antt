@@ -1,15 +1,14 @@
 -- A chain that breaks no rule has its image, and the claims of refusals hold.
 use Rattle.std.proofs.Common.{◌≡◌, ℕ, suc, ◌+◌, ◌*◌, ◌<◌, ◌≤◌, Bool, true, false, List, [], ◌∷◌, map, length, Some}
 use Rattle.std.proofs.Common.{None, refl, sym, ap, ◌∙◌, subst, arith, rules}
-use Rattle.std.specs.Prelude.{slice_get, nat_le, IsTrue}
+use Rattle.std.specs.Prelude.{IsTrue, Result, Ok, Err, IfOk}
 use Rattle.std.specs.List.{AllByRecursion}
-use Rattle.std.proofs.lemmas.Bool.Decides.{nat_tests}
 use Rattle.jt_scan.specs.declared.options.Options.{Options}
 use Rattle.jt_image.proofs.ReadPrefix.{all_weaker}
 use Rattle.jt_image.specs.Code.{Code}
-use Rattle.jt_image.specs.IsCode.{IsCode}
+use Rattle.jt_image.specs.IsCode.{IsCode, max_count}
 use Rattle.jt_image.specs.Typed.{max_entries}
-use Rattle.jt_image.specs.Parts.{HasTables}
+use Rattle.jt_image.specs.Parts.{FitTexts, HasTables}
 use Rattle.jt_image.specs.Laws.{CodeLaws}
 use Rattle.jt_ast.specs.Sizes.{body_bytes}
 use Rattle.jt_ast.specs.Expressions.{Text}
@@ -50,7 +49,11 @@ use Rattle.jt_lower.specs.Lower.{unit_of, places_of, compiled}
 use Rattle.jt_codegen.specs.Compiled.{IsOnlyChain, IsCompiled}
 use Rattle.jt_codegen.specs.Limits.{NeedsTooMany}
 use Rattle.jt_codegen.specs.Refusals.{of_chain, of_scope, of_emit, Breaks, HasProgram, NamesLimit}
-use Rattle.jt_codegen.specs.Units.{FitsImage, HasFewValues, RefusesCode}
+use Rattle.jt_codegen.specs.Passed.{Passes, RefusesImage}
+use Rattle.jt_codegen.specs.Units.{FitsImage, HasFewValues}
+use Rattle.jt_codegen.specs.internal.Asked.{Asked, PassesOf}
+use Rattle.jt_codegen.specs.declared.finding.Limit.TheVariants as limit
+use Rattle.jt_codegen.proofs.PassedLimits.{some_above, too_long}
 use Rattle.jt_codegen.specs.declared.emission.EmitError.{EmitError}
 use Rattle.jt_codegen.specs.declared.emission.EmitError.TheVariants as emit_error
 use Rattle.jt_codegen.proofs.LibrariesAreImported.{all_count}
@@ -62,7 +65,7 @@ use Rattle.jt_codegen.proofs.ChainTemplates.{names_all, own_all, all_short}
 use Rattle.jt_codegen.proofs.RoutineLimits.{parameters_few}
 use Rattle.jt_codegen.proofs.NamesAreNotEmpty.{IsLine, first_line, tree_said}
 use Rattle.jt_codegen.proofs.SmallChainsFit.{small_low, small_fits}
-use Rattle.jt_codegen.proofs.TemplateNamesInOrder.{IsTag, names_of, few_names, namespaces_tagged}
+use Rattle.jt_codegen.proofs.TemplateNamesInOrder.{IsTag, names_of, few_names, namespaces_tagged, short_templates}
 use Rattle.jt_codegen.proofs.PlacesAreTags.{OnTag, program_placed}
 use Rattle.jt_codegen.proofs.TablesInOrder.{tables}
 
@@ -70,25 +73,10 @@ use Rattle.jt_codegen.proofs.TablesInOrder.{tables}
 abbrev pub Low : Program → Type 0
 Low p = AllByRecursion (λ r. body_height r.body ≤ max_entries) p.routines
 
--- Some routine needs more entries than a shape may have.
-abbrev IsHigh : List (Routine ℕ) → Type 0
-IsHigh rs = (n : ℕ) × (r : Routine ℕ) × (slice_get rs n ≡ Some r) × (max_entries < body_height r.body)
-
-high : (rs : List (Routine ℕ)) → ¬ (AllByRecursion (λ r. body_height r.body ≤ max_entries) rs) → IsHigh rs
-high [] n = absurd (n tt)
-high (r ∷ rs) n =
-    first_or_later (nat_le (body_height r.body) max_entries) refl (λ below. high rs (λ all. n (below, all)))
-  where
-    first_or_later : (b : Bool) → nat_le (body_height r.body) max_entries ≡ b
-        → (body_height r.body ≤ max_entries → IsHigh rs) → IsHigh (r ∷ rs)
-    first_or_later false e later = (0, r, refl, grind (arith, nat_tests))
-    first_or_later true e later =
-        let below : body_height r.body ≤ max_entries = grind (arith, nat_tests) in
-        let found = later below in
-        (suc found.0, found.1, found.2, found.3)
-
 needs_too_many : (p : Program) → ¬ (Low p) → NeedsTooMany p
-needs_too_many p n = let h = high p.routines n in record { n = h.0; routine = h.1; is = h.2; many = h.3 }
+needs_too_many p n =
+    let h = some_above (λ (r : Routine ℕ). body_height r.body) max_entries p.routines n in
+    record { n = h.index; routine = h.item; is = h.is; many = h.above }
 
 -- The check of the routines decides whether the program is low.
 pub low_of : (q : given.Program) (rs : List given_routine.Routine) (b : Bool) → rs ≡ q.routines.items
@@ -123,6 +111,16 @@ pub rule_refused : (given : SourceTexts) (entry : Text) (options : Options) (c :
     → Breaks given entry options (of_scope e)
 rule_refused given entry options c is scope_error.NoMemory r = tt
 rule_refused given entry options c is e r = record { chain = c; is = is; fault = λ q. cc; broken = r }
+
+-- If the code of a program passes a limit, the claim of the refusal holds of the entry.
+pub limit_breaks : (asked : Asked) (e : EmitError) → PassesOf asked e
+    → Breaks asked.given asked.entry asked.options (of_emit e)
+limit_breaks asked emit_error.NoMemory h = tt
+limit_breaks asked (emit_error.Limit limit.Entries) h =
+    record { chain = h.chain; is = h.is; lawful = h.lawful; fact = h.fact }
+limit_breaks asked (emit_error.Limit l) h =
+    let fact = too_long l (program (cenv_of h.chain) h.chain.order (a_chain asked.entry)) h.fact in
+    record { chain = h.chain; is = h.is; lawful = h.lawful; fact = fact }
 
 -- Chains with the same sources have the same compile environment.
 pub only_chain : (given : SourceTexts) (entry : Text) (options : Options) (c : Seen) → IsChain given entry options c
@@ -205,11 +203,16 @@ module _ (code : CodeLaws) (low : LowLaws) (programs : ProgramLaws) (given : Sou
   pub fits_of : (q : Program) → IsOf q → Low q → ProgramFits q
   fits_of q same h = subst ProgramFits (sym (is_p q same)) (fits (lows q same h))
 
-  pub image_compiled : (q : Program) (k : Code) → IsOf q → Low q → k ≡ compiled q → IsCode k
+  image_compiled : (q : Program) (k : Code) → IsOf q → Low q → k ≡ compiled q → IsCode k
       → IsCompiled given entry options k
   image_compiled q k same few held whole =
       let one : compiled p ≡ k = ap compiled (sym (is_p q same)) ∙ sym held in
       subst (IsCompiled given entry options) one (does_right (lows q same few) (subst IsCode (sym one) whole))
+
+  pub compiled_of : {E : Type 0} (q : Program) → IsOf q → Low q → (r : Result Code E) → IfOk r (λ k. k ≡ compiled q)
+      → IfOk r (λ k. IsCode k) → IfOk r (λ k. IsCompiled given entry options k)
+  compiled_of q same few (Ok k) held whole = image_compiled q k same few held whole
+  compiled_of q same few (Err e) held whole = tt
 
   -- ---- the tables of the program
 
@@ -235,7 +238,14 @@ module _ (code : CodeLaws) (low : LowLaws) (programs : ProgramLaws) (given : Sou
       (names_all (λ x. 0 < length x) cenv (own_all (λ x. 0 < length x) c.templates some) order (a_chain entry))
       (programs.ascends cenv order (a_chain entry)) (omega (arith, few_globals cenv order (a_chain entry))))
 
-  -- If the code fits into an image, the pool is not too long.
+  -- The names of templates fit their fields.
+  pub names_fit : (q : Program) → IsOf q → FitTexts (compiled q).templates
+  names_fit q same =
+      subst (λ (r : Program). FitTexts (compiled r).templates) (sym (is_p q same))
+      (all_weaker (λ t. length t ≤ 255) (λ t. length t ≤ max_count) (compiled p).templates (λ t h. omega (arith, h))
+      (short_templates named (places_of p) tags))
+
+  -- If the tables and the code are short, the pool is not too long.
   pub few_of : (q : Program) → IsOf q → HasFewValues q
   few_of q same = subst HasFewValues (sym (is_p q same)) (few_values cenv order low (a_chain entry))
 
@@ -244,13 +254,14 @@ module _ (code : CodeLaws) (low : LowLaws) (programs : ProgramLaws) (given : Sou
   has_program : (Fact : Program → Type 0) (q : Program) → IsOf q → Fact q → HasProgram given entry options Fact
   has_program Fact q same fact = record { chain = c; is = the; lawful = kept; fact = subst Fact (of_entry q same) fact }
 
-  pub stack_refused : (q : Program) → IsOf q → ¬ (Low q) → HasProgram given entry options NeedsTooMany
-  stack_refused q same n = has_program NeedsTooMany q same (needs_too_many q n)
+  pub stack_refused : (q : Program) → IsOf q → ¬ (Low q) → HasProgram given entry options (Passes limit.Entries)
+  stack_refused q same n = has_program (Passes limit.Entries) q same (needs_too_many q n)
 
-  pub code_refused : (e : EmitError) (q : Program) → IsOf q → RefusesCode e (compiled q)
-      → Breaks given entry options (of_emit e)
-  code_refused emit_error.CodeTooLong q same n = has_program (λ r. ¬ (FitsImage (compiled r))) q same n
-  code_refused emit_error.NoMemory q same n = tt
+  pub image_refused : (e : EmitError) (q : Program) → IsOf q → RefusesImage e q
+      → PassesOf (record { given = given; entry = entry; options = options }) e
+  image_refused emit_error.NoMemory q same h = tt
+  image_refused (emit_error.Limit limit.Entries) q same h = absurd h
+  image_refused (emit_error.Limit l) q same h = has_program (Passes l) q same h
 
   -- ---- small chains are within the limits
 
@@ -308,11 +319,11 @@ module _ (code : CodeLaws) (low : LowLaws) (programs : ProgramLaws) (given : Sou
       → chains_weight (sources_of c) c.order ≤ chains_len given (sources_of c) c.order → ¬ (IsSmall given entry options)
   stack_not_small q same n weighs = λ small. n (low_small weighs small q same)
 
-  pub code_not_small : (e : EmitError) (q : Program) → IsOf q → RefusesCode e (compiled q)
+  pub image_not_small : (e : EmitError) (q : Program) → IsOf q → RefusesImage e q
       → chains_weight (sources_of c) c.order ≤ chains_len given (sources_of c) c.order
       → AllByRecursion (λ t. body_bytes t.body ≤ source_len (given t.name)) c.templates
       → 7 * length c.order ≤ chains_weight (sources_of c) c.order + 7 → NamesLimit (of_emit e)
       → ¬ (IsSmall given entry options)
-  code_not_small emit_error.CodeTooLong q same n weighs short few limit =
-      λ small. n (fits_small weighs small short few q same)
-  code_not_small emit_error.NoMemory q same n weighs short few limit = absurd limit
+  image_not_small (emit_error.Limit l) q same h weighs short few passed =
+      λ small. too_long l q h (fits_small weighs small short few q same)
+  image_not_small emit_error.NoMemory q same h weighs short few passed = absurd passed

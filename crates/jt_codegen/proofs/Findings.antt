@@ -1,11 +1,12 @@
 -- What an explanation states is true of the entry.
 use Rattle.std.proofs.Common.{◌≡◌, ℕ, List, [], ◌∷◌, Option, Some, None, refl, sym, ap, ◌∙◌, subst, inl, inr}
-use Rattle.std.specs.Prelude.{◌≢◌, ◌⊎◌, ◌≤◌, ◌+◌, ◌*◌, length, Result, Ok, Err, IfOk}
+use Rattle.std.specs.Prelude.{◌≢◌, ◌⊎◌, ◌≤◌, ◌+◌, ◌*◌, length, Result, Ok, Err, IfOk, IfSome, option_map}
 use Rattle.std.specs.List.{AllByRecursion}
 use Rattle.jt_scan.specs.declared.options.Options.{Options}
 use Rattle.jt_ast.specs.Expressions.{Text}
 use Rattle.jt_ast.specs.Sizes.{body_bytes}
 use Rattle.jt_chains.specs.Chain.{Namespace, Template}
+use Rattle.jt_chains.specs.Indices.{namespace_at}
 use Rattle.jt_chains.specs.View.{Seen, sources_of}
 use Rattle.jt_chains.specs.Weights.{chains_weight}
 use Rattle.jt_checks.specs.Findings as findings
@@ -22,21 +23,19 @@ use Rattle.jt_rules.specs.UseSites as sites
 use Rattle.jt_rules.specs.declared.error.ScopeError.{ScopeError}
 use Rattle.jt_rules.specs.declared.error.ScopeError.TheVariants as scope_error
 use Rattle.jt_uses.specs.Uses.{Site, body_uses, outside}
-use Rattle.jt_value.specs.declared.fault.NoMemory.{NoMemory}
+use Rattle.jt_ir.specs.Slots.{Program}
+use Rattle.jt_semantics.specs.Programs.{program}
 use Rattle.jt_codegen.specs.Compiled.{IsOnlyChain}
-use Rattle.jt_codegen.specs.Explaining.{IsBroken, IsExplained, IsFinding, IsOfChain, IsOfSource, IsPlaceOf}
-use Rattle.jt_codegen.specs.Explaining.{IsRuleOf}
-use Rattle.jt_codegen.specs.Refusals.{Breaks, of_emit, of_scope}
-use Rattle.jt_codegen.specs.internal.Asked.{IsChainOf, IsOfImage}
-use Rattle.jt_codegen.specs.internal.NamedLimits.{limit_subject}
-use Rattle.jt_codegen.proofs.ChainImages.{only_chain}
-use Rattle.jt_codegen.specs.declared.emission.EmitError.{EmitError}
+use Rattle.jt_codegen.specs.Explaining.{IsBroken, IsFinding, IsOfChain, IsOfSource, IsPlaceOf, IsRuleOf}
+use Rattle.jt_codegen.specs.Passed.{error_of}
+use Rattle.jt_codegen.specs.Refusals.{Breaks}
+use Rattle.jt_codegen.specs.internal.Asked.{Asked, IsChainOf, IsProgramOf, PassesOf}
+use Rattle.jt_codegen.proofs.ChainImages.{limit_breaks, only_chain}
 use Rattle.jt_codegen.specs.declared.emission.EmitError.TheVariants as emit_error
-use Rattle.jt_codegen.specs.declared.error.CompileError.{CompileError}
-use Rattle.jt_codegen.specs.declared.error.CompileError.TheVariants as error
-use Rattle.jt_codegen.specs.declared.finding.Explained.{Explained}
-use Rattle.jt_codegen.specs.declared.finding.Explained.TheVariants as explained
 use Rattle.jt_codegen.specs.declared.finding.Finding.{Finding}
+use Rattle.jt_codegen.specs.declared.finding.Limit.{Limit}
+use Rattle.jt_codegen.specs.declared.finding.Limit.TheVariants as limit
+use Rattle.jt_codegen.specs.declared.finding.Subject.TheVariants as v
 
 -- The chain that is read is that of the entry.
 pub chain_asked : (given : SourceTexts) (entry : Text) (options : Options) (c : Seen) → IsChain given entry options c
@@ -47,20 +46,6 @@ pub chain_asked : (given : SourceTexts) (entry : Text) (options : Options) (c : 
     → IsChainOf (record { given = given; entry = entry; options = options }) c
 chain_asked given entry options c is one weighs short few =
     record { only = only_chain given entry options c is one; weighs = weighs; short = short; few = few }
-
--- A chain that keeps the rules of names and calls breaks none.
-pub rule_not_broken : (c : Seen) (e : ScopeError) → rules.Breaks e (cenv_of c) c.order → KeepsRules (cenv_of c) c.order
-    → IsOfImage (of_scope e)
-rule_not_broken c scope_error.NoMemory b kept = tt
-rule_not_broken c scope_error.LoopOutside b kept = absurd (kept.none scope_error.LoopOutside b)
-rule_not_broken c scope_error.MacroAsValue b kept = absurd (kept.none scope_error.MacroAsValue b)
-rule_not_broken c scope_error.NotCallable b kept = absurd (kept.none scope_error.NotCallable b)
-rule_not_broken c scope_error.BadArguments b kept = absurd (kept.none scope_error.BadArguments b)
-rule_not_broken c scope_error.TooManySlots b kept = absurd (kept.none scope_error.TooManySlots b)
-
-pub emit_of_image : (e : EmitError) → IsOfImage (of_emit e)
-emit_of_image emit_error.CodeTooLong = tt
-emit_of_image emit_error.NoMemory = tt
 
 -- What no item has, none of the items of a list has.
 some_not : {A : Type 0} (P : A → Type 0) (xs : List A) → ((x : A) → P x → ⊥) → ForSome P xs → ⊥
@@ -136,23 +121,17 @@ chain_found given entry options e broken none f of = record {
   placed = subst (λ x. IsPlaceOf given entry options x f.place f.subject) (sym of.states) of.placed;
 }
 
--- The finding of an image that would pass a limit.
-image_found : (given : SourceTexts) (entry : Text) (options : Options) (e : CompileError) → e ≢ error.NoMemory
-    → Breaks given entry options e → IsOfImage e
-    → IsFinding given entry options (record { error = e; place = None; subject = limit_subject e })
-image_found given entry options (error.Chain e) some broken of = absurd of
-image_found given entry options (error.Scope e) some broken of = absurd of
-image_found given entry options error.CodeTooLong some broken of =
-    record { some = some; broken = broken; placed = (refl, tt) }
-image_found given entry options error.NoMemory some broken of = absurd (some refl)
-image_found given entry options error.StackTooDeep some broken of =
-    record { some = some; broken = broken; placed = (refl, broken) }
+-- The program of the entry.
+pub program_asked : (asked : Asked) (c : Seen) → IsChainOf asked c → KeepsRules (cenv_of c) c.order → (q : Program)
+    → q ≡ program (cenv_of c) c.order (namespace_at c.order 0) → IsProgramOf asked q
+program_asked asked c of kept q is = record { chain = c; of = of; kept = kept; is = is }
 
-pub image_explained : (given : SourceTexts) (entry : Text) (options : Options) (e : CompileError)
-    → Breaks given entry options e → IsOfImage e → (r : Result Explained NoMemory)
-    → IfOk r (λ x. (e ≢ error.NoMemory)
-    × (x ≡ explained.Refused (record { error = e; place = None; subject = limit_subject e })))
-    → IfOk r (IsExplained given entry options)
-image_explained given entry options e broken of (Ok x) h =
-    subst (IsExplained given entry options) (sym h.1) (image_found given entry options e h.0 broken of)
-image_explained given entry options e broken of (Err n) h = tt
+-- The finding of an image that would pass a limit.
+pub limit_found : (asked : Asked) (l : Limit) → PassesOf asked (emit_error.Limit l)
+    → IsFinding asked.given asked.entry asked.options
+    (record { error = error_of l; place = None; subject = Some (v.Limit l) })
+limit_found asked limit.Entries h =
+    let broken = limit_breaks asked (emit_error.Limit limit.Entries) h in
+    record { some = λ q. cc; broken = broken; placed = (refl, (refl, h)) }
+limit_found asked l h =
+    record { some = λ q. cc; broken = limit_breaks asked (emit_error.Limit l) h; placed = (refl, (refl, h)) }

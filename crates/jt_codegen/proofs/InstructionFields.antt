@@ -1,10 +1,12 @@
 -- The fields of emitted instructions are those of the code, and emitted units have their places.
-use Rattle.std.proofs.Common.{◌≡◌, ℕ, ◌≤◌, true, false, List, [], ◌∷◌, ◌++◌, length, map, Option, None, Some, refl, sym}
-use Rattle.std.proofs.Common.{ap, ◌∙◌, subst, arith, rules}
+use Rattle.std.proofs.Common.{◌≡◌, ℕ, ◌<◌, ◌≤◌, true, false, List, [], ◌∷◌, ◌++◌, length, map, Option, None, Some, refl}
+use Rattle.std.proofs.Common.{sym, ap, ◌∙◌, subst, arith, rules}
 use Rattle.std.specs.Prelude.{option_map}
+use Rattle.std.specs.List.{AllByRecursion}
 use Rattle.jt_image.specs.declared.instruction.Instruction.{Instruction}
 use Rattle.jt_image.specs.declared.instruction.Instruction.TheVariants as op
 use Rattle.jt_image.specs.declared.wire.Instr.{Instr}
+use Rattle.jt_image.specs.IsCode.{IsInstruction}
 use Rattle.jt_image.specs.Spelling.{wire_of}
 use Rattle.jt_image.specs.Reading.{instruction_of}
 use Rattle.jt_image.specs.Parts.{in_front, each_of, section_of_unit}
@@ -18,8 +20,8 @@ use Rattle.jt_lower.specs.Lower.{body_asm, routine_places, unit_of}
 use Rattle.jt_lower.specs.Emission.{places_view, HasPlace, Puts}
 use Rattle.jt_lower.specs.declared.emitter.Emitter.{Emitter}
 use Rattle.jt_codegen.specs.internal.Statements.{Emits}
-use Rattle.jt_codegen.specs.Units.{FitsUnit}
 use Rattle.jt_lower.proofs.JumpPatching.{puts_then}
+use Rattle.jt_codegen.proofs.PassedLimits.{not_within}
 use Rattle.jt_codegen.proofs.StatementEmission.{emits_alone}
 
 read_wire : (i : Instruction) → instruction_of (wire_of i) ≡ Some i
@@ -68,11 +70,13 @@ module _ (templates : List Text) (r : Routine) (c0 c1 c2 : Emitter) (empty : c0.
   unit_within left limited = omega (arith, c2.within, puts.limit, limited)
 
   pub unit_refused : (left : ℕ) → c0.limit ≡ left → c2.overflowed ≡ true
-      → ¬ (FitsUnit left (unit_of (routine_view templates r)))
-  unit_refused left limited over = λ fits.
-      let place : HasPlace left 0 all = record { len = omega (arith, fits.len); fields = fits.writable.code } in
+      → AllByRecursion IsInstruction (unit_of (routine_view templates r)).code
+      → left < length (unit_of (routine_view templates r)).code
+  unit_refused left limited over fields =
+      not_within (length (unit_of (routine_view templates r)).code) left (λ len.
+      let place : HasPlace left 0 all = record { len = omega (arith, len); fields = fields } in
       let placed : HasPlace c0.limit 0 all = subst (λ (n : ℕ). HasPlace n 0 all) (sym limited) place in
       let none : c2.overflowed ≡ false =
       puts.place (subst (λ (l : List Instr). HasPlace c0.limit (length l) all) (sym empty) placed) whole in
       let both_ways : true ≡ false = sym over ∙ none in
-      cc
+      cc)

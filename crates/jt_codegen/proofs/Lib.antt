@@ -13,12 +13,14 @@ pub mod SmallChainsFit
 pub mod LibrariesAreImported
 pub mod NamesAreNotEmpty
 pub mod ChainImages
+pub mod PassedLimits
 pub mod PlaceTables
 pub mod BinarySearch
 pub mod PlacesAreTags
 pub mod AscendingSubsets
 pub mod TemplateNamesInOrder
 pub mod MergedUnitsFit
+pub mod OperandsFit
 pub mod PoolSize
 pub mod UnknownNames
 pub mod Findings

@@ -20,9 +20,9 @@ use Rattle.jt_ir.specs.Pool.{stmt_values, body_values, routines_values, placed_r
 use Rattle.jt_ir.specs.Size.{expr_size, row_size, condition_size, stmt_size, body_size, routines_size}
 use Rattle.jt_lower.specs.Compiles.{LowLaws}
 use Rattle.jt_lower.specs.Lower.{unit_of}
-use Rattle.jt_constants.specs.Merged.{moved_unit}
+use Rattle.jt_constants.proofs.MergeIsNoLarger.{units_len}
 use Rattle.jt_codegen.specs.Units.{HasFewValues}
-use Rattle.jt_codegen.proofs.MergedUnitsFit.{ps, all_parameters, parameters_bound, parameters_moved}
+use Rattle.jt_codegen.proofs.MergedUnitsFit.{ps, all_parameters, parameters_bound}
 
 -- ---- each value has an instruction
 
@@ -148,25 +148,23 @@ module _ (cenv : CompileEnv) (order : List Namespace) where
         namespaces_few hs,
       )
 
-  -- Code that fits into an image has at most 65,535 units of 255 parameters, and 262,144
+  -- A program within these limits has at most 65,535 units of 255 parameters, and 262,144
   -- instructions.
   pub few_values : (low : LowLaws) (entry : Namespace) → HasFewValues (program cenv order entry)
-  few_values low entry fits =
+  few_values low entry tables len =
       let rs = routines cenv order in
       let front = shared cenv order in
       let p = program cenv order entry in
-      let us = map unit_of p.routines in
       omega (
         arith,
         length-append front (routines_values rs),
         namespaces_few order,
         units_parameters rs (length front),
-        parameters_moved (ps p) us,
-        parameters_bound (map (moved_unit (ps p)) us) fits.writable,
-        length-map us (moved_unit (ps p)),
-        fits.limits.units,
+        parameters_bound p.routines tables.parameters,
+        tables.units,
         routines_few rs,
         low.same_size rs (length front),
         low.sized p,
-        fits.limits.instructions,
+        units_len (ps p) (map unit_of p.routines),
+        len,
       )

@@ -2,14 +2,16 @@
 use Rattle.std.proofs.Common.{◌≡◌, ℕ, suc, ◌+◌, ◌-◌, ◌<◌, ◌≤◌, List, [], ◌∷◌, ◌++◌, length, drop, get_or, map}
 use Rattle.std.proofs.Common.{Option, Some, None, refl, sym, ap, ◌∙◌, subst, arith, append_assoc, append-nil, rules}
 use Rattle.std.specs.Prelude.{option_map, flat_map}
-use Rattle.std.proofs.lemmas.List.{map-append, drop_more, at_drop_all}
+use Rattle.std.proofs.lemmas.List.{map-append, length-map, drop_more, at_drop_all}
+use Rattle.std.specs.List.{AllByRecursion}
 use Rattle.jt_value.specs.View.{view}
 use Rattle.jt_image.specs.Code.{Section, Code}
 use Rattle.jt_image.specs.declared.instruction.Instruction.{Instruction}
 use Rattle.jt_image.specs.Reading.{instruction_of}
-use Rattle.jt_image.specs.IsCode.{total_len, max_instructions}
+use Rattle.jt_image.specs.IsCode.{IsInstruction, total_len, max_count, max_instructions, max_locals}
 use Rattle.jt_image.specs.declared.parts.Unit as given
 use Rattle.jt_image.specs.View.{names_view, constants_view, texts_view, locs_view}
+use Rattle.jt_image.proofs.PartsForAssembly.{each_holds}
 use Rattle.jt_image.specs.Parts.{in_front, each_of, section_of_unit, code_with, code_of_parts}
 use Rattle.jt_image.specs.declared.parts.Parts.{Parts}
 use Rattle.jt_constants.specs.Merged.{constant_of, moved_unit}
@@ -17,6 +19,7 @@ use Rattle.jt_constants.specs.Refusals.{RefusesTable}
 use Rattle.jt_constants.specs.declared.error.TableError.{TableError}
 use Rattle.jt_constants.specs.declared.error.TableError.TheVariants as table_error
 use Rattle.jt_constants.proofs.LoopPrefix.{each_len}
+use Rattle.jt_constants.proofs.MergeIsNoLarger.{units_len}
 use Rattle.std.proofs.lemmas.Option.{same_Some}
 use Rattle.jt_ast.specs.Expressions.{Text}
 use Rattle.jt_ir.specs.View.{routine_view, templates_of, program_of}
@@ -24,20 +27,35 @@ use Rattle.jt_ir.specs.declared.program.Routine.{Routine}
 use Rattle.jt_ir.specs.declared.program.Program.{Program}
 use Rattle.jt_value.specs.Place as place
 use Rattle.jt_ir.specs.declared.program.Place.{Place}
-use Rattle.jt_lower.specs.Compiles.{LowLaws}
 use Rattle.jt_lower.specs.Emission.{tag_view, places_view}
 use Rattle.jt_lower.specs.Fits.{ProgramFits}
 use Rattle.jt_lower.specs.Lower.{unit_of, numbered, routine_places, compiled}
-use Rattle.jt_codegen.specs.Units.{FitUnits, HasFewValues, Refuses, RefusesUnits, RefusesCode, of_table}
-use Rattle.jt_codegen.proofs.MergedUnitsFit.{ps, units_fit}
+use Rattle.jt_codegen.specs.Passed.{RefusesImage}
+use Rattle.jt_codegen.specs.Units.{AreEncodable, FitsCounts, FitsTables, HasFewValues, RefusesTemplates, RefusesUnit}
+use Rattle.jt_codegen.specs.Units.{RefusesUnits, of_table}
+use Rattle.jt_codegen.proofs.MergedUnitsFit.{ps, moved_all}
+use Rattle.jt_codegen.proofs.OperandsFit.{units_written}
+use Rattle.jt_codegen.proofs.PassedLimits.{not_within}
+use Rattle.jt_codegen.proofs.RoutineLimits.{units_all}
+use Rattle.jt_codegen.proofs.TablesInOrder.{numbered_texts}
 use Rattle.jt_codegen.specs.declared.emission.EmitError.{EmitError}
 use Rattle.jt_codegen.specs.declared.emission.EmitError.TheVariants as error
+use Rattle.jt_codegen.specs.declared.finding.Limit.TheVariants as limit
 
 -- ---- units
 
-total_snoc : (us : List Section) (u : Section) → total_len (us ++ u ∷ []) ≡ total_len us + length u.code
-total_snoc [] u = omega arith
-total_snoc (v ∷ us) u = omega (arith, total_snoc us u)
+total_append : (us vs : List Section) → total_len (us ++ vs) ≡ total_len us + total_len vs
+total_append [] vs = omega arith
+total_append (u ∷ us) vs = omega (arith, total_append us vs)
+
+all_back : {A : Type 0} (P : A → Type 0) (xs ys : List A) → AllByRecursion P (xs ++ ys) → AllByRecursion P ys
+all_back P [] ys h = h
+all_back P (x ∷ xs) ys h = all_back P xs ys h.1
+
+-- A property of all items holds of an item that was read.
+pub item_holds : {A : Type 0} (P : A → Type 0) (xs : List A) (i : ℕ) (x : A) → AllByRecursion P xs → i < length xs
+    → x ≡ get_or xs i x → P x
+item_holds P xs i x all lt is = subst P (sym is) (each_holds P xs i x all lt)
 
 -- A unit has the same number of instructions after decoding.
 section_len : (u : given.Unit) (s : Section) → section_of_unit u ≡ Some s → length u.code.items ≡ length s.code
@@ -61,13 +79,12 @@ module _ (templates : List Text) where
   units rs = map unit_of (map (routine_view templates) rs)
 
   -- The emitted units and those of the remaining routines are the units of all routines, with `n`
-  -- instructions left. If all units fit, the remaining units fit.
+  -- instructions left.
   pub record Made (us : List given.Unit) (n : ℕ) (all left : List Routine) : Type 0 where
     pub front : List Section
     pub read : each_of section_of_unit us ≡ Some front
     pub whole : front ++ units left ≡ units all
     pub counted : total_len front + n ≡ max_instructions
-    pub fits : FitUnits max_instructions (units all) → FitUnits n (units left)
 
   each_snoc : (us : List given.Unit) (u : given.Unit) (front : List Section) (s : Section)
       → each_of section_of_unit us ≡ Some front → section_of_unit u ≡ Some s
@@ -97,11 +114,7 @@ module _ (templates : List Text) where
         whole =
             append_assoc m.front (unit r ∷ []) (units (drop (i + 1) rs)) ∙ ap (λ l. m.front ++ units l) (sym left)
             ∙ m.whole;
-        counted = omega (arith, m.counted, within, len, total_snoc m.front (unit r));
-        fits = λ h.
-            let f = subst (λ (l : List Routine). FitUnits n (units l)) left (m.fits h) in
-            let all : length (unit r).code + total_len (units (drop (i + 1) rs)) ≤ n = f.len in
-            record { locals = f.locals.1; len = omega (arith, all, len); writable = f.writable.1 };
+        counted = omega (arith, m.counted, within, len, total_append m.front (unit r ∷ []));
       }
 
   made_whole : (us : List given.Unit) (n : ℕ) (rs : List Routine) (i : ℕ) → length rs ≤ i
@@ -144,29 +157,75 @@ module _ (templates : List Text) where
       sym (append-nil (tags ps)) ∙ ap (λ l. tags ps ++ all_places l) (sym (at_drop_all (λ l. l) rs i le)) ∙ so_far
 
   pub unit_refused : (e : EmitError) (us : List given.Unit) (n : ℕ) (rs : List Routine) (i : ℕ) (r : Routine)
-      → i < length rs → r ≡ get_or rs i r → Refuses e n (unit r) → Made us n rs (drop i rs) → RefusesUnits e (units rs)
-  unit_refused error.NoMemory us n rs i r lt is unfit m = tt
-  unit_refused error.CodeTooLong us n rs i r lt is unfit m = λ h.
-      let left : drop i rs ≡ r ∷ drop (i + 1) rs = drop_more rs i r lt ∙ ap (λ y. y ∷ drop (i + 1) rs) (sym is) in
-      let f = subst (λ (l : List Routine). FitUnits n (units l)) left (m.fits h) in
-      let all : length (unit r).code + total_len (units (drop (i + 1) rs)) ≤ n = f.len in
-      unfit (record { locals = f.locals.0; len = omega (arith, all); writable = f.writable.0 })
+      → i < length rs → r ≡ get_or rs i r → RefusesUnit e n (unit r) → Made us n rs (drop i rs)
+      → RefusesUnits e (units rs)
+  unit_refused error.NoMemory us n rs i r lt is many m = tt
+  unit_refused (error.Limit limit.Instructions) us n rs i r lt is many m = λ encodable.
+      let rest = drop (i + 1) rs in
+      let left : drop i rs ≡ r ∷ rest = drop_more rs i r lt ∙ ap (λ y. y ∷ rest) (sym is) in
+      let whole : m.front ++ (unit r ∷ units rest) ≡ units rs =
+      ap (λ l. m.front ++ units l) (sym left) ∙ m.whole in
+      let here = all_back (λ u. AllByRecursion IsInstruction u.code) m.front (unit r ∷ units rest)
+      (subst AreEncodable (sym whole) encodable) in
+      omega (arith, many here.0, m.counted, ap total_len whole, total_append m.front (unit r ∷ units rest))
+  unit_refused (error.Limit l) us n rs i r lt is many m = absurd many
 
 -- ---- the whole program
 
-pub units_refused : (low : LowLaws) (e : EmitError) (p : Program) → ProgramFits (program_of p)
-    → HasFewValues (program_of p) → RefusesUnits e (units (templates_of p) p.routines.items)
-    → RefusesCode e (compiled (program_of p))
-units_refused low error.NoMemory p fit few r = tt
-units_refused low error.CodeTooLong p fit few r = λ fits. r (units_fit low (program_of p) fit (few fits) fits)
+-- If the units of a program within the limits of tables are refused, they have too many instructions.
+pub units_refused : (e : EmitError) (p : Program) → ProgramFits (program_of p) → HasFewValues (program_of p)
+    → FitsTables (program_of p) → RefusesUnits e (units (templates_of p) p.routines.items)
+    → RefusesImage e (program_of p)
+units_refused error.NoMemory p fit few tables many = tt
+units_refused (error.Limit limit.Instructions) p fit few tables many =
+    let q = program_of p in
+    let us = map unit_of q.routines in
+    let above = not_within (total_len us) max_instructions (λ len.
+    let more = many (units_written q fit (omega (arith, few tables len)) tables len) in
+    absurd (omega (arith, more, len))) in
+    omega (arith, above, units_len (ps q) us)
+units_refused (error.Limit l) p fit few tables many = absurd many
 
--- If the pool has no table of constants, the code does not fit into an image.
+-- If the pool has no table of constants, it has too many constants.
 pub table_refused : (e : TableError) (p : Program) → RefusesTable e (map constant_of (map view p.pool.items))
-    → RefusesCode (of_table e) (compiled (program_of p))
-table_refused table_error.TooManyConstants p many = λ fits.
-    let most = fits.limits.constants in
-    absurd (omega (arith, many, most))
+    → RefusesImage (of_table e) (program_of p)
+table_refused table_error.TooManyConstants p many = omega (arith, many)
 table_refused table_error.NoMemory p many = tt
+
+-- If the templates of places have no table, they are too many.
+pub templates_refused : (e : EmitError) (p : Program) → RefusesTemplates e (compiled (program_of p)).templates
+    → RefusesImage e (program_of p)
+templates_refused error.NoMemory p many = tt
+templates_refused (error.Limit limit.Templates) p many = many
+templates_refused (error.Limit l) p many = absurd many
+
+pub numbered_len : (i : ℕ) (xs : List Text) → length (numbered i xs) ≡ length xs
+numbered_len i [] = refl
+numbered_len i (x ∷ xs) = ap suc (numbered_len (suc i) xs)
+
+-- The limits that are checked before the parts are assembled.
+pub counts_kept : (p : Program) → ProgramFits (program_of p) → FitsTables (program_of p)
+    → length (compiled (program_of p)).constants ≤ max_count
+    → total_len (compiled (program_of p)).units ≤ max_instructions
+    → length (compiled (program_of p)).templates ≤ max_count → FitsCounts (compiled (program_of p))
+counts_kept p fit tables constants instructions templates =
+    let q = program_of p in record {
+      names = omega (arith, numbered_len 0 q.names, fit.names, tables.globals);
+      texts = numbered_texts (λ t. length t ≤ max_count) 0 q.names tables.names;
+      constants = constants;
+      units =
+          omega (
+            arith,
+            tables.units,
+            length-map q.routines unit_of,
+            length-map (map unit_of q.routines) (moved_unit (ps q)),
+          );
+      locals =
+          moved_all (λ parameters kind locals. locals ≤ max_locals) (ps q) (map unit_of q.routines)
+          (units_all (λ parameters locals. locals ≤ max_locals) q.routines tables.locals);
+      instructions = instructions;
+      templates = templates;
+    }
 
 -- The parts with the units whose constants were moved are the code.
 same_code : (parts : Parts) (us : List Section) (k : Code) → parts.version ≡ k.version → parts.globals ≡ k.globals
@@ -189,7 +248,3 @@ pub parts_are : (p : Program) (parts : Parts) (before : List given.Unit) (places
     → locs_view parts.places.items ≡ (compiled (program_of p)).places
     → code_of_parts parts ≡ Some (compiled (program_of p))
 parts_are p parts before places read moves at v g n c t s = search (arith, rules, same_code, ps)
-
-pub numbered_len : (i : ℕ) (xs : List Text) → length (numbered i xs) ≡ length xs
-numbered_len i [] = refl
-numbered_len i (x ∷ xs) = ap suc (numbered_len (suc i) xs)

@@ -29,7 +29,7 @@ placed_all : (P : ℕ → ℕ → Type 0) (rs : List (Routine Constant)) (n : �
 placed_all P [] n h = tt
 placed_all P (r ∷ rs) n h = (h.0, placed_all P rs (n + length (body_values r.body)) h.1)
 
-units_all : (P : ℕ → ℕ → Type 0) (rs : List (Routine ℕ)) → AllByRecursion (Of P) rs
+pub units_all : (P : ℕ → ℕ → Type 0) (rs : List (Routine ℕ)) → AllByRecursion (Of P) rs
     → AllByRecursion (λ u. P u.parameters u.locals) (map unit_of rs)
 units_all P [] h = tt
 units_all P (r ∷ rs) h = (h.0, units_all P rs h.1)

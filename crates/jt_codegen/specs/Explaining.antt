@@ -18,7 +18,7 @@ use Rattle.jt_inherit.specs.declared.finding.TagPlace.{TagPlace}
 use Rattle.jt_rules.specs.CompileEnv.{cenv_of}
 use Rattle.jt_rules.specs.declared.error.ScopeError.{ScopeError}
 use Rattle.jt_codegen.specs.Compiled.{IsCompiled, IsOnlyChain}
-use Rattle.jt_codegen.specs.Passed.{Passes}
+use Rattle.jt_codegen.specs.Passed.{Passes, error_of}
 use Rattle.jt_codegen.specs.Refusals.{Breaks, HasProgram}
 use Rattle.jt_codegen.specs.Unknown.{HasUnknown}
 use Rattle.jt_codegen.specs.declared.error.CompileError.{CompileError}
@@ -115,19 +115,19 @@ module _ (given : SourceTexts) (entry : Text) (options : Options) where
   IsRuleOf rule place (Some about) = IsTrueOfChain (rule_at rule place about)
   IsRuleOf rule place None = ⊥
 
-  -- The limit that the image of the entry would pass, if it is known.
-  abbrev pub IsLimit : Option Subject → Type 0
-  IsLimit None = Unit {0}
-  IsLimit (Some (v.Limit limit)) = HasProgram given entry options (Passes limit)
-  IsLimit (Some subject) = ⊥
+  -- The subject is a limit of this error, and the image of the entry would pass it.
+  abbrev pub IsLimit : CompileError → Option Subject → Type 0
+  IsLimit e (Some (v.Limit limit)) = (error_of limit ≡ e) × HasProgram given entry options (Passes limit)
+  IsLimit e subject = ⊥
 
-  -- The place and the subject are those of the error. A broken rule of names and calls has both.
+  -- The place and the subject are those of the error. A broken rule of names and calls has both, and an
+  -- image that would be too large always has its limit.
   abbrev pub IsPlaceOf : CompileError → Option TagPlace → Option Subject → Type 0
   IsPlaceOf (error.Scope rule) (Some place) (Some subject) = IsRuleOf rule place (subject_view subject)
   IsPlaceOf (error.Scope rule) place subject = ⊥
   IsPlaceOf (error.Chain e) place subject = IsChainPlace e place subject
-  IsPlaceOf error.CodeTooLong place subject = (place ≡ None) × IsLimit subject
-  IsPlaceOf error.StackTooDeep place subject = (place ≡ None) × IsLimit subject
+  IsPlaceOf error.CodeTooLong place subject = (place ≡ None) × IsLimit error.CodeTooLong subject
+  IsPlaceOf error.StackTooDeep place subject = (place ≡ None) × IsLimit error.StackTooDeep subject
   IsPlaceOf e place subject = (place ≡ None) × (subject ≡ None)
 
   -- The finding is true: `compile` may answer the error, and its place and subject are right.

@@ -17,6 +17,7 @@ use Rattle.jt_rules.specs.declared.error.ScopeError.TheVariants as scope_error
 use Rattle.jt_semantics.specs.Programs.{program}
 use Rattle.jt_codegen.specs.Compiled.{IsOnlyChain}
 use Rattle.jt_codegen.specs.Limits.{IsTooLong, NeedsTooMany}
+use Rattle.jt_codegen.specs.Passed.{error_of}
 use Rattle.jt_codegen.specs.declared.emission.EmitError.{EmitError}
 use Rattle.jt_codegen.specs.declared.emission.EmitError.TheVariants as emit_error
 use Rattle.jt_codegen.specs.declared.error.CompileError.{CompileError}
@@ -33,7 +34,7 @@ of_scope scope_error.NoMemory = error.NoMemory
 of_scope e = error.Scope e
 
 abbrev pub of_emit : EmitError → CompileError
-of_emit emit_error.CodeTooLong = error.CodeTooLong
+of_emit (emit_error.Limit limit) = error_of limit
 of_emit emit_error.NoMemory = error.NoMemory
 
 -- ---- the claims of refusals

@@ -1,5 +1,4 @@
 pub mod Asked
-pub mod NamedLimits
 pub mod Naming
 pub mod Statements
 pub mod UnknownNames

@@ -1,20 +1,20 @@
 //! Compiles templates to images.
 
 ghost use Rattle.std.specs.Prelude.{IfOk, IfErr};
-ghost use Rattle.jt_chains.specs.View.{chain_view};
 ghost use Rattle.jt_inherit.specs.Small.{IsSmall};
-ghost use Rattle.jt_rules.specs.CompileEnv.{cenv_of};
-ghost use Rattle.jt_rules.specs.Rules.{KeepsRules};
+ghost use Rattle.jt_ir.specs.View.{program_of};
 ghost use Rattle.jt_codegen.specs.Compiled.{IsCompiled};
-ghost use Rattle.jt_codegen.specs.Refusals.{Breaks, NamesLimit};
-ghost use Rattle.jt_codegen.specs.internal.Asked.{Asked, IsChainOf, IsOfImage};
+ghost use Rattle.jt_codegen.specs.Refusals.{Breaks, NamesLimit, of_emit};
+ghost use Rattle.jt_codegen.specs.internal.Asked.{Asked, IsProgramOf, PassesOf};
 
+use crate::emission::EmitError;
 use crate::entries::fits_entries;
 use crate::error::CompileError;
+use crate::finding::Limit;
 use crate::image::image_of;
-use jt_chains::Chain;
 use jt_image::{Image, MAX_ENTRIES, code_laws};
 use jt_inherit::{Library, chain};
+use jt_ir::Program;
 use jt_lower::low_laws;
 use jt_scan::Options;
 use jt_scopes::resolve;
@@ -46,29 +46,31 @@ pub fn compile<L: Library>(
         (λ e. NamesLimit e → ¬ (IsSmall (L.sources library.now) entry.now options)) }
 {
     let chain = chain(alloc, entry, library, options)?;
-    compile_chain(alloc, &chain)
+    let program = resolve(alloc, &chain)?;
+    let image = compile_program(alloc, &program)?;
+    Ok(image)
 }
 
-/// Compiles the chain of an entry to an image.
-pub(crate) fn compile_chain(alloc: Global, chain: &Chain) -> Result<Image, CompileError>
-    requires { (asked : Asked) × IsChainOf asked (chain_view chain.now) }
-    ensures compiled { (asked : Asked) → IsChainOf asked (chain_view chain.now) → IfOk result
+/// Compiles the program of an entry to an image.
+///
+/// # Errors
+///
+/// `Limit` if the image would pass a limit.
+/// `NoMemory` if a growth is refused.
+pub(crate) fn compile_program(alloc: Global, program: &Program) -> Result<Image, EmitError>
+    requires { (asked : Asked) × IsProgramOf asked (program_of program.now) }
+    ensures compiled { (asked : Asked) → IsProgramOf asked (program_of program.now) → IfOk result
         (λ image. IsCompiled asked.given asked.entry asked.options image) }
-    ensures refused { (asked : Asked) → IsChainOf asked (chain_view chain.now) → IfErr result
-        (λ e. Breaks asked.given asked.entry asked.options e) }
-    ensures small { (asked : Asked) → IsChainOf asked (chain_view chain.now) → IfErr result
-        (λ e. NamesLimit e → ¬ (IsSmall asked.given asked.entry asked.options)) }
-    // No rule is reported for a chain that keeps all of them.
-    ensures lawful { KeepsRules (cenv_of (chain_view chain.now)) (chain_view chain.now).order
-        → IfErr result IsOfImage }
+    ensures refused { (asked : Asked) → IsProgramOf asked (program_of program.now) → IfErr result
+        (λ e. PassesOf asked e) }
+    ensures small { (asked : Asked) → IsProgramOf asked (program_of program.now) → IfErr result
+        (λ e. NamesLimit (of_emit e) → ¬ (IsSmall asked.given asked.entry asked.options)) }
 {
     code_laws();
     low_laws();
     program_laws();
-    let program = resolve(alloc, chain)?;
     if !fits_entries(&program.routines, MAX_ENTRIES) {
-        return Err(CompileError::StackTooDeep);
+        return Err(EmitError::Limit(Limit::Entries));
     }
-    let image = image_of(alloc, &program)?;
-    Ok(image)
+    image_of(alloc, program)
 }

@@ -1,6 +1,7 @@
 //! Emits the code of resolved statements and routines.
 
 ghost use Rattle.std.specs.Prelude.{◌≡◌, ◌≤◌, List, Some, length, option_map, IfOk, IfErr};
+ghost use Rattle.jt_image.specs.IsCode.{max_locals};
 ghost use Rattle.jt_image.specs.Parts.{section_of_unit};
 ghost use Rattle.jt_ast.specs.Expressions.{Text};
 ghost use Rattle.jt_image.specs.declared.instruction.Instruction.TheVariants as op;
@@ -12,8 +13,9 @@ ghost use Rattle.jt_lower.specs.Lower.{turn_asm, kept_asm, stmt_asm, body_asm, u
 ghost use Rattle.jt_lower.specs.Lower.{routine_places};
 ghost use Rattle.jt_lower.specs.Emission.{tag_view, places_view, PutsFor, PutsAt};
 ghost use Rattle.jt_codegen.specs.internal.Statements.{EmitsAt, Closes};
-ghost use Rattle.jt_codegen.specs.Units.{Refuses};
+ghost use Rattle.jt_codegen.specs.Units.{RefusesUnit, max_parameters};
 
+use crate::finding::Limit;
 use crate::targets::{emit_item, emit_targets};
 use jt_constants::TableError;
 use jt_image::{Instruction, Unit};
@@ -26,8 +28,8 @@ use std::alloc::{AllocError, AllocFailed, Global};
 /// The reason why no code is emitted.
 #[derive(Clone, Copy, Debug, Drop, PartialEq, Eq)]
 pub(crate) enum EmitError {
-    /// Code that does not fit into an image.
-    CodeTooLong,
+    /// A limit that the image would pass.
+    Limit(Limit),
     /// A refused growth.
     NoMemory,
 }
@@ -62,7 +64,7 @@ impl From<TableError> for EmitError {
 
     fn from(refusal: TableError) -> EmitError {
         match refusal {
-            TableError::TooManyConstants => EmitError::CodeTooLong,
+            TableError::TooManyConstants => EmitError::Limit(Limit::Constants),
             TableError::NoMemory => EmitError::NoMemory,
         }
     }
@@ -80,9 +82,11 @@ pub(crate) struct Emitted {
 ///
 /// # Errors
 ///
-/// `CodeTooLong` if the unit does not fit into an image.
+/// `Limit` if the unit has more instructions.
 /// `NoMemory` if a growth is refused.
 pub(crate) fn emit_unit(alloc: Global, routine: &Routine, left: usize) -> Result<Emitted, EmitError>
+    requires parameters { routine.now.parameters ≤ max_parameters }
+    requires locals { routine.now.locals ≤ max_locals }
     ensures emitted { IfOk result (λ e. (templates : List Text)
         → section_of_unit e.unit ≡ Some (unit_of (routine_view templates routine.now))) }
     ensures placed { IfOk result (λ e. (templates : List Text)
@@ -90,24 +94,18 @@ pub(crate) fn emit_unit(alloc: Global, routine: &Routine, left: usize) -> Result
         ≡ routine_places (routine_view templates routine.now)) }
     ensures within { IfOk result (λ e. length e.unit.code.items ≤ left) }
     ensures refused { IfErr result (λ e. (templates : List Text)
-        → Refuses e left (unit_of (routine_view templates routine.now))) }
+        → RefusesUnit e left (unit_of (routine_view templates routine.now))) }
 {
     let mut code = Emitter::new(alloc, left);
     emit_statements(&mut code, &routine.body, 0)?;
     code.put(None, Some(Instruction::Return))?;
-    let Ok(parameters) = u8::try_from(routine.parameters) else {
-        return Err(EmitError::CodeTooLong);
-    };
-    let Ok(locals) = u16::try_from(routine.locals) else {
-        return Err(EmitError::CodeTooLong);
-    };
     if code.overflowed {
-        return Err(EmitError::CodeTooLong);
+        return Err(EmitError::Limit(Limit::Instructions));
     }
     let unit = Unit {
-        parameters,
+        parameters: routine.parameters as u8,
         kind: 0,
-        locals,
+        locals: routine.locals as u16,
         code: code.code,
     };
     Ok(Emitted {

@@ -62,7 +62,7 @@ impl From<EmitError> for CompileError {
     fn from(refusal: EmitError) -> CompileError {
         match refusal {
             EmitError::NoMemory => CompileError::NoMemory,
-            EmitError::CodeTooLong => CompileError::CodeTooLong,
+            EmitError::Limit(limit) => limit.error(),
         }
     }
 }

@@ -1,19 +1,24 @@
 //! Explains why an entry does not compile.
 
-ghost use Rattle.std.specs.Prelude.{◌≡◌, ◌≢◌, None, IfOk};
+ghost use Rattle.std.specs.Prelude.{IfOk};
+ghost use Rattle.jt_chains.specs.View.{chain_view};
+ghost use Rattle.jt_rules.specs.CompileEnv.{cenv_of};
+ghost use Rattle.jt_rules.specs.Rules.{KeepsRules};
 ghost use Rattle.jt_codegen.specs.Explaining.{IsExplained, IsOfChain, IsOfSource, IsUnknown};
-ghost use Rattle.jt_codegen.specs.internal.NamedLimits.{limit_subject};
+ghost use Rattle.jt_codegen.specs.internal.Asked.{Asked, IsChainOf};
 ghost use Rattle.jt_inherit.specs.Findings.{Says};
 
-use crate::compiling::compile_chain;
+use crate::compiling::compile_program;
+use crate::emission::EmitError;
 use crate::error::CompileError;
-use crate::finding::{Explained, Finding, Limit, Subject};
+use crate::finding::{Explained, Finding, Subject};
 use crate::unknown::find_unknown;
+use jt_chains::Chain;
 use jt_expr::Named;
 use jt_inherit::{ChainError, ChainFinding, Library, TagPlace, chain_or_finding};
 use jt_parse::ParseError;
 use jt_scan::Options;
-use jt_scopes::find_broken;
+use jt_scopes::{find_broken, resolve};
 use jt_value::NoMemory;
 use std::alloc::{AllocError, Global};
 
@@ -40,40 +45,28 @@ pub fn explain<L: Library>(
     };
     match find_broken(alloc, &chain)? {
         Some(found) => Ok(Explained::Refused(Finding::of_rule(alloc, &found)?)),
-        None => match compile_chain(alloc, &chain) {
-            Ok(_image) => Ok(Explained::Compiles),
-            Err(error) => image_finding(error),
-        },
+        None => explain_image(alloc, &chain),
     }
 }
 
-/// Returns the limit that an error names, if the error names one alone.
-fn limit_subject(error: &CompileError) -> Option<Subject>
-    ensures { result ≡ limit_subject error.now }
-{
-    match error {
-        CompileError::StackTooDeep => Some(Subject::Limit(Limit::Entries)),
-        _ => None,
-    }
-}
-
-/// Returns what an error states of the image of a chain that keeps the rules.
+/// Explains whether the image of a chain that keeps the rules is within its limits.
 ///
 /// # Errors
 ///
-/// `NoMemory` if that is the error.
-fn image_finding(error: CompileError) -> Result<Explained, NoMemory>
-    ensures { IfOk result (λ x. (error ≢ CompileError.NoMemory) × (x ≡ Explained.Refused
-        (record { error = error; place = None; subject = limit_subject error }))) }
+/// `NoMemory` if a growth is refused.
+fn explain_image(alloc: Global, chain: &Chain) -> Result<Explained, NoMemory>
+    requires of { (asked : Asked) × IsChainOf asked (chain_view chain.now) }
+    requires kept { KeepsRules (cenv_of (chain_view chain.now)) (chain_view chain.now).order }
+    ensures { (asked : Asked) → IsChainOf asked (chain_view chain.now) → IfOk result
+        (λ explained. IsExplained asked.given asked.entry asked.options explained) }
 {
-    let subject = limit_subject(&error);
-    match error {
-        CompileError::NoMemory => Err(NoMemory),
-        other => Ok(Explained::Refused(Finding {
-            error: other,
-            place: None,
-            subject,
-        })),
+    let Ok(program) = resolve(alloc, chain) else {
+        return Err(NoMemory);
+    };
+    match compile_program(alloc, &program) {
+        Ok(_image) => Ok(Explained::Compiles),
+        Err(EmitError::Limit(limit)) => Ok(Explained::Refused(Finding::of_limit(limit))),
+        Err(EmitError::NoMemory) => Err(NoMemory),
     }
 }
 

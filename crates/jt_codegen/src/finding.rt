@@ -3,7 +3,7 @@
 ghost use Rattle.std.specs.Prelude.{◌≡◌, IfOk, Some};
 ghost use Rattle.jt_checks.specs.FindingView as view;
 ghost use Rattle.jt_codegen.specs.Explaining.{IsBroken, subject_view};
-ghost use Rattle.jt_codegen.specs.Passed.{most_of};
+ghost use Rattle.jt_codegen.specs.Passed.{error_of, most_of};
 
 use crate::error::CompileError;
 use jt_inherit::{ChainSubject, TagPlace};
@@ -54,6 +54,12 @@ pub enum Limit {
     NameBytes,
     /// The number of bytes of the image.
     Bytes,
+    /// The number of globals.
+    Globals,
+    /// The number of parameters of a unit.
+    Parameters,
+    /// The number of locals of a unit.
+    Locals,
     /// The number of stack entries of a unit.
     Entries,
 }
@@ -64,18 +70,31 @@ impl Limit {
         ensures { result ≡ most_of self }
     {
         match self {
-            Limit::Constants | Limit::Units | Limit::Templates | Limit::NameBytes => 65_535,
+            Limit::Constants | Limit::Units | Limit::Templates => 65_535,
+            Limit::NameBytes | Limit::Globals => 65_535,
             Limit::Instructions => 262_144,
             Limit::Bytes => 16_777_216,
+            Limit::Parameters => 255,
+            Limit::Locals => 4_096,
             Limit::Entries => 1_024,
+        }
+    }
+
+    /// Returns the error of `compile` for code that passes the limit.
+    pub(crate) fn error(self) -> CompileError
+        ensures { result ≡ error_of self }
+    {
+        match self {
+            Limit::Entries => CompileError::StackTooDeep,
+            _ => CompileError::CodeTooLong,
         }
     }
 }
 
 /// An error of `compile` with the place of the tag and what the error is about, where they are
 /// known. They are known for each rule of names and calls, and for unknown filters and tests. The
-/// place alone is known for a source that cannot be read. For a rule of chains they are what
-/// `chain_or_finding` returns.
+/// place alone is known for a source that cannot be read, and the limit alone for an image that
+/// would be too large. For a rule of chains they are what `chain_or_finding` returns.
 #[derive(Debug, Drop, PartialEq, Eq)]
 pub struct Finding {
     pub error: CompileError,
@@ -93,14 +112,15 @@ pub enum Explained {
 }
 
 impl Finding {
-    /// Returns the finding of an error without a place.
-    pub(crate) fn without_place(error: CompileError) -> Self
-        ensures { result ≡ record { error = error; place = None; subject = None } }
+    /// Returns the finding of a limit that the image would pass.
+    pub(crate) fn of_limit(limit: Limit) -> Self
+        ensures { result ≡ record
+            { error = error_of limit; place = None; subject = Some (Subject.Limit limit) } }
     {
         Finding {
-            error,
+            error: limit.error(),
             place: None,
-            subject: None,
+            subject: Some(Subject::Limit(limit)),
         }
     }
 

@@ -2,9 +2,10 @@
 //!
 //! `compile` (`compiling`) goes from an entry to an image. Statements and routines are emitted in
 //! `emission`, `targets` and `entries`, tables and places are built in `tables`, `places` and
-//! `image`, and refusals are in `error`. `explain` (`explaining`) finds the place of a broken rule
-//! and the names in it (`finding`, `unknown`). Read first: compiling.rt, and specs/Compiled.antt,
-//! which states the guarantee.
+//! `image`, limits are checked in `limits`, and refusals are in `error`. `explain` (`explaining`)
+//! finds the place of a broken rule and the names in it, or the limit that an image would pass
+//! (`finding`, `unknown`). Read first: compiling.rt, and specs/Compiled.antt, which states the
+//! guarantee.
 #![tactic(auto)]
 
 mod compiling;
@@ -14,6 +15,7 @@ mod error;
 mod explaining;
 mod finding;
 mod image;
+mod limits;
 mod places;
 mod tables;
 mod targets;

@@ -13,6 +13,7 @@ ghost use Rattle.jt_codegen.specs.internal.Naming.{named_places, IsNamed};
 ghost use Rattle.jt_codegen.specs.Units.{RefusesTemplates};
 
 use crate::emission::EmitError;
+use crate::finding::Limit;
 use jt_image::{MAX_COUNT, SourceLoc};
 use jt_ir::Place;
 use std::alloc::{AllocError, Global};
@@ -32,7 +33,7 @@ pub(crate) struct PlaceTable {
 ///
 /// # Errors
 ///
-/// * `CodeTooLong` if places refer to more templates than an image may have.
+/// * `Limit` if places refer to more templates than an image may have.
 /// * `NoMemory` if a growth is refused.
 pub(crate) fn place_table(
     alloc: Global,
@@ -43,12 +44,14 @@ pub(crate) fn place_table(
         (λ p. texts_view p.templates.items ≡ templates_of (named_places templates.now places.now)) }
     ensures told { IfOk result (λ p. let places = named_places templates.now places.now in
         locs_view p.places.items ≡ map (loc_of (templates_of places)) places) }
+    ensures few { IfOk result
+        (λ p. length (templates_of (named_places templates.now places.now)) ≤ max_count) }
     ensures refused { IfErr result
         (λ e. RefusesTemplates e (templates_of (named_places templates.now places.now))) }
 {
     let named = named_templates(alloc, templates, places)?;
     if named.len() > MAX_COUNT {
-        return Err(EmitError::CodeTooLong);
+        return Err(EmitError::Limit(Limit::Templates));
     }
     let locs = locs_of(alloc, templates, &named, places)?;
     let names = copies_of(alloc, &named)?;

@@ -7,6 +7,7 @@ use Rattle.std.proofs.lemmas.Bool.Decides.{nat_tests}
 use Rattle.std.proofs.lemmas.List.Folds.{list_any-append}
 use Rattle.std.proofs.lemmas.Option.{slice_get-map, slice_get_past, slice_get_within}
 use Rattle.std.proofs.lemmas.Slice.Eq.{bytes_eq-Decides}
+use Rattle.std.proofs.lemmas.Bool.{or_left, or_right}
 use Rattle.jt_image.specs.Code.{Constant}
 use Rattle.jt_constants.specs.Merged.{same, with_new, each_once, index_in, new_indices, moved}
 
@@ -20,14 +21,6 @@ same_self a0 = search (arith, rules, bytes_eq-Decides)
 
 abbrev pub Has : List Constant → Constant → Type 0
 Has cs c = list_any (same c) cs ≡ true
-
-or_left : (a b : Bool) → a ≡ true → (a || b) ≡ true
-or_left true b e = refl
-or_left false b e = absurd cc
-
-or_right : (a b : Bool) → b ≡ true → (a || b) ≡ true
-or_right true b e = refl
-or_right false b e = e
 
 kept : (cs : List Constant) (c d : Constant) → Has cs c → Has (with_new cs d) c
 kept cs c d h = search (arith, rules, list_any-append, or_left)

@@ -9,6 +9,7 @@ use Rattle.std.specs.List.Sorted.{IsStrictlySortedBy}
 use Rattle.std.specs.Map.{keys_of}
 use Rattle.std.specs.Str.{bytes_eq}
 use Rattle.std.proofs.lemmas.List.{map-append}
+use Rattle.std.proofs.lemmas.Bool.{or_right}
 use Rattle.serde_json.specs.Data.{Num}
 use Rattle.serde_json.specs.View.{view as json_view, items_view as json_items, members_view}
 use Rattle.serde_json.specs.declared.value.Value.{Value as Json}
@@ -112,10 +113,6 @@ put_last (d ∷ done) m rest (p ∷ ps) t s e =
     rw last (ap (λ qs. p ∷ qs) (put_last done m rest ps t s.1 (rest_of (shown d) (Some p) _ _ e)))
 
 -- ---- a flaw of a part is a flaw of the whole
-
-or_right : (a b : Bool) → b ≡ true → (a || b) ≡ true
-or_right true b e = refl
-or_right false b e = e
 
 items_middle : (p : Num → Bool) (done : List Json) (j : Json) (rest : List Json) → has_number p (json_view j) ≡ true
     → items_have p (json_items (done ++ j ∷ rest)) ≡ true

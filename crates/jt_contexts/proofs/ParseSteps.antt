@@ -202,9 +202,6 @@ entries_seen : (es : List Entry) → entries_view es ≡ entries_from (pairs es)
 entries_seen [] = refl
 entries_seen (x ∷ es) = ap (tree.entry (string_bytes x.0) (view x.1)) (entries_seen es)
 
-pub same_entries : (xs ys : List Entry) → pairs xs ≡ pairs ys → entries_view xs ≡ entries_view ys
-same_entries xs ys e = entries_seen xs ∙ ap entries_from e ∙ sym (entries_seen ys)
-
 entries_among : (ms : Members) (ps : Pairs) → pairs_in ms ≡ Some ps → entries_of ms ≡ Some (entries_from ps)
 entries_among no_members [] e = refl
 entries_among no_members (p ∷ ps) e = absurd cc

@@ -5,16 +5,13 @@ use Rattle.std.specs.List.{list_any}
 use Rattle.std.proofs.lemmas.Bool.Decides.{nat_tests}
 use Rattle.std.proofs.lemmas.List.Folds.{list_any_at}
 use Rattle.std.proofs.lemmas.Slice.Eq.{bytes_eq-Decides}
+use Rattle.std.proofs.lemmas.Bool.{false_from_ne_true, not-true, not_from_false}
 use Rattle.jt_scan.specs.declared.segment.Sign.{Sign}
 use Rattle.jt_scan.specs.declared.segment.Sign.TheVariants as s
 use Rattle.jt_scan.specs.Cut as cut
 use Rattle.jt_ast.specs.Expressions.{Text, Literal, truth, nothing}
 use Rattle.jt_expr.specs.Grammar.{Tokens, word, reserved, is_reserved, literal_of, is_literal, is_operand}
 use Rattle.jt_expr.specs.Front.{code, sees, says}
-
-pub false_unless : (b : Bool) → (b ≡ true → ⊥) → b ≡ false
-false_unless true f = absurd (f refl)
-false_unless false f = refl
 
 -- ---- words
 
@@ -57,15 +54,8 @@ same_text x w h = (bytes_eq-Decides x w).0 h
 -- An operand does not begin with `not`.
 pub operand_says : (x : Text) → is_operand x ≡ true → bytes_eq x (codes "not") ≡ false
 operand_says x h =
-    false_unless (bytes_eq x (codes "not")) (λ e.
+    false_from_ne_true (bytes_eq x (codes "not")) (λ e.
     let q : is_operand (codes "not") ≡ true = subst (λ y. is_operand y ≡ true) (same_text x (codes "not") e) h in cc)
-
-pub not_false : (b : Bool) → not b ≡ true → b ≡ false
-not_false true h = cc
-not_false false h = refl
-
-pub false_not : (b : Bool) → b ≡ false → not b ≡ true
-false_not b h = ap not h
 
 pub says_sound : (w : Text) (ts : Tokens) → says w ts ≡ true → ts ≡ word w ∷ drop 1 ts
 says_sound w ts e = search (arith, rules, same_text)

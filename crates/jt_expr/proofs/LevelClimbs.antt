@@ -2,6 +2,7 @@
 use Rattle.std.proofs.Common.{◌≡◌, ◌==◌, ℕ, zero, suc, ◌+◌, ◌-◌, ◌<◌, ◌≤◌, ◌&&◌, nat_le, cond, Bool, true, false}
 use Rattle.std.proofs.Common.{if◌then◌else◌, drop, codes, refl, ap, sym, ◌∙◌, Ok, Err, arith, rules}
 use Rattle.std.proofs.lemmas.Bool.Decides.{nat_tests}
+use Rattle.std.proofs.lemmas.Bool.{and_parts}
 use Rattle.jt_scan.specs.declared.segment.Sign.TheVariants as s
 use Rattle.jt_ast.specs.declared.expression.UnaryOperator.{UnaryOperator}
 use Rattle.jt_ast.specs.declared.expression.UnaryOperator.TheVariants as u
@@ -50,10 +51,6 @@ Plain postfix ts = (sees s.Minus ts ≡ false) × (sees s.Plus ts ≡ false)
 Plain comparison ts = says (codes "not") ts ≡ false
 Plain whole ts = ⊥
 Plain _ ts = Unit {0}
-
-both : (a b : Bool) → (a && b) ≡ true → (a ≡ true) × (b ≡ true)
-both true b h = (refl, h)
-both false b h = absurd (cc)
 
 second : (a b : Bool) → (a && b) ≡ false → a ≡ true → b ≡ false
 second true b h e = h
@@ -150,7 +147,7 @@ module _ (inner : Level → Reader Expr) (m : ℕ) where
     above_inversion goal ts _ a b = tt
 
     at_least : (i : ℕ) (goal : Level) (b : Bool) → (nat_le i (rank goal) && b) ≡ true → i ≤ rank goal
-    at_least i goal b h = let q = (both (nat_le i (rank goal)) b h).0 in grind (arith, nat_tests)
+    at_least i goal b h = let q = (and_parts (nat_le i (rank goal)) b h).0 in grind (arith, nat_tests)
 
     nested : (goal k : Level) (op : UnaryOperator) (ts : Tokens) → prefix_level op ≡ k → rank k ≤ rank goal
         → ((j : Level) → rank k ≤ rank j → rank j < rank goal → Plain j ts)
@@ -189,12 +186,12 @@ module _ (inner : Level → Reader Expr) (m : ℕ) where
         >>= finish inner (suc m) goal)
     begin_cases goal ts true y z h g f =
         nested goal inversion u.Not ts refl (at_least 8 goal (says (codes "not") ts) h) (above_inversion goal ts)
-        (inversion_reads ts (both _ _ h).1)
+        (inversion_reads ts (and_parts _ _ h).1)
     begin_cases goal ts false true z h g f =
         nested goal signed u.Negate ts refl (at_least 1 goal (sees s.Minus ts) g) (above_signed goal ts h)
-        (minus_reads ts (both _ _ g).1)
+        (minus_reads ts (and_parts _ _ g).1)
     begin_cases goal ts false false true h g f =
-        let q = both _ _ f in
+        let q = and_parts _ _ f in
         nested goal signed u.Plus ts refl (at_least 1 goal (sees s.Plus ts) f) (above_signed goal ts h)
         (plus_reads ts (second _ _ g q.0) q.1)
     begin_cases goal ts false false false h g f = primary_begins goal ts (above_postfix goal ts h g f)

@@ -2,9 +2,9 @@
 use Rattle.std.proofs.Common.{◌≡◌, ℕ, ℤ, zero, suc, ◌+◌, ◌<◌, ◌≤◌, max, if◌then◌else◌, Bool, true, false, [], ◌∷◌, ◌++◌}
 use Rattle.std.proofs.Common.{length, drop, codes, encode_utf8_all, bytes_eq, refl, sym, ap, subst, ◌∙◌, append_assoc}
 use Rattle.std.proofs.Common.{arith, Option, Some, None, Ok, Err, length-append, rules}
+use Rattle.std.proofs.lemmas.Bool.{not-true}
 use Rattle.jt_scan.specs.declared.segment.Sign.TheVariants as s
 use Rattle.jt_scan.specs.Cut as cut
-use Rattle.jt_scan.specs.Cut.{Token}
 use Rattle.jt_ast.specs.declared.expression.UnaryOperator.{UnaryOperator}
 use Rattle.jt_ast.specs.declared.expression.UnaryOperator.TheVariants as u
 use Rattle.jt_ast.specs.declared.expression.BinaryOperator.{BinaryOperator}
@@ -15,26 +15,27 @@ use Rattle.jt_ast.specs.Expressions.{expr, Pairs, no_pairs, levels}
 use Rattle.jt_expr.specs.Grammar.{Tokens, word, is_reserved, literal_of, names_test, Level, whole, disjunction}
 use Rattle.jt_expr.specs.Grammar.{conjunction, inversion, comparison, sum, concatenation, product, power, postscript}
 use Rattle.jt_expr.specs.Grammar.{signed, postfix, next, is_chain, level_of, operator_tokens, is_tokens}
-use Rattle.jt_expr.specs.Grammar.{begins_argument, SequenceKind, items, entries, arguments, keywords, closer}
-use Rattle.jt_expr.specs.Grammar.{takes_plain, takes_names, behind_key, LeveledList, no_parts, put, Spells, plain}
-use Rattle.jt_expr.specs.Grammar.{an_if, an_if_else, chain, inverted, upright, compared, alone, postscripts, minus}
-use Rattle.jt_expr.specs.Grammar.{plus, unsigned, postfixes, Goes, stay, operated, filtered, tested, attributed}
-use Rattle.jt_expr.specs.Grammar.{indexed, called, Primary, a_number, a_text, a_constant, a_name, a_group, a_list}
-use Rattle.jt_expr.specs.Grammar.{a_map, Arguments, without, within, TestArguments, as_filter, bare, Holds, closed}
-use Rattle.jt_expr.specs.Grammar.{last, more, IsPart, without_key, an_entry, by_name}
+use Rattle.jt_expr.specs.Grammar.{begins_argument, SequenceKind, items, entries, arguments, closer, takes_plain}
+use Rattle.jt_expr.specs.Grammar.{takes_names, behind_key, LeveledList, no_parts, put, Spells, plain, an_if, an_if_else}
+use Rattle.jt_expr.specs.Grammar.{chain, inverted, upright, compared, alone, postscripts, minus, plus, unsigned}
+use Rattle.jt_expr.specs.Grammar.{postfixes, Goes, stay, operated, filtered, tested, attributed, indexed, called}
+use Rattle.jt_expr.specs.Grammar.{Primary, a_number, a_text, a_constant, a_name, a_group, a_list, a_map, Arguments}
+use Rattle.jt_expr.specs.Grammar.{without, within, TestArguments, as_filter, bare, Holds, closed, last, more, IsPart}
+use Rattle.jt_expr.specs.Grammar.{without_key, an_entry, by_name}
 use Rattle.jt_expr.specs.internal.Reading as r
 use Rattle.jt_expr.specs.Front.{sees, says}
-use Rattle.jt_expr.specs.internal.Reading.{cap, deep, Reader, ParseResult, ◌>>=◌, operator, key_at, keyword, entry_key}
-use Rattle.jt_expr.specs.internal.Reading.{read, read_at, again, loop, chain_step, chain_by, filter_step, test_step}
+use Rattle.jt_expr.specs.internal.Reading.{cap, Reader, ParseResult, ◌>>=◌, operator, key_at, keyword, entry_key, read}
+use Rattle.jt_expr.specs.internal.Reading.{read_at, again, loop, chain_step, chain_by, filter_step, test_step}
 use Rattle.jt_expr.specs.internal.Reading.{postscript_step, postfix_step, read_whole, read_inversion, read_comparison}
 use Rattle.jt_expr.specs.internal.Reading.{read_postscript, read_signed, read_postfix, expect, word_at, name_at}
 use Rattle.jt_expr.specs.internal.Reading.{if_part, else_part, read_chain}
 use Rattle.jt_expr.specs.Promises.{parts_levels}
 use Rattle.jt_expr.proofs.LevelCap.{bound, cap_within, cap_beyond}
-use Rattle.jt_expr.proofs.FirstTokenTests.{no_literal, not_false, sees_self}
+use Rattle.jt_expr.proofs.FirstTokenTests.{no_literal, sees_self}
 use Rattle.jt_expr.proofs.FirstTokens.{begins, begins_primary, begins_signed, begins_operand, primary-append}
 use Rattle.jt_expr.proofs.FirstTokens.{signed-append, argument-append, no_minus-primary, no_plus-primary, no_not-signed}
 use Rattle.jt_expr.proofs.FirstTokens.{part_open, second, second-append}
+use Rattle.jt_expr.proofs.ReaderLoops.{levels_some}
 
 -- ---- the tokens after a form
 
@@ -164,22 +165,6 @@ pub put_levels : (k : Option Text) (t : Expr) (p : LeveledList)
 put_levels None t p = omega arith
 put_levels (Some k) t p = omega arith
 
-some_levels : (t : Expr) → 0 < levels t
-some_levels (constant l) = omega arith
-some_levels (name x) = omega arith
-some_levels (group t) = omega arith
-some_levels (list_of ts) = omega arith
-some_levels (map_of ps) = omega arith
-some_levels (attribute t x) = omega arith
-some_levels (item t i) = omega arith
-some_levels (call t ts ps) = omega arith
-some_levels (filter t x ts ps) = omega arith
-some_levels (test t b x ts ps) = omega arith
-some_levels (unary op t) = omega arith
-some_levels (binary op a b) = omega arith
-some_levels (when c a) = omega arith
-some_levels (choice c a b) = omega arith
-
 grows : {k : Level} {a t : Expr} {y : Tokens} → Goes k a t y → levels a ≤ levels t
 grows stay = omega arith
 grows (operated c e d g) = omega (arith, grows g)
@@ -275,7 +260,7 @@ TestArgumentsAt p x =
 -- A form of the level is read as a nested form.
 inside : (k : Level) (t : Expr) (x : Tokens) → At k t x → Inside k t x
 unfolding read
-inside k t x h zero rest st = sym (cap_beyond (levels t) 0 t rest (some_levels t))
+inside k t x h zero rest st = sym (cap_beyond (levels t) 0 t rest (levels_some t))
 inside k t x h (suc n) rest st = h n rest st
 
 stay_on : (k : Level) (a : Expr) → OnAt k a a []
@@ -366,7 +351,7 @@ test_turn inner n turns a true x v h =
     (again (on inner n postscript turns) a)
 test_turn inner n turns a false x v h =
     ap (λ b. test_step inner n b a (cut.name x ∷ v) >>= again (on inner n postscript turns) a)
-    (not_false (bytes_eq x (codes "not")) h)
+    (not-true (bytes_eq x (codes "not")) h)
     ∙ bind_bind (r.test_arguments inner n v) (λ p w.
     cap (levels (test a false (encode_utf8_all x) p.0 p.1)) n (Some (test a false (encode_utf8_all x) p.0 p.1)) w)
     (again (on inner n postscript turns) a)
@@ -673,7 +658,7 @@ chain_at k a t x y c d g le ab n rest st =
     ap (read_at (read n) (suc n) k) (append_assoc x y rest)
     ∙ chain_reads (read n) (suc n) k (x ++ (y ++ rest)) c
     ∙ ap (λ o. o >>= on (read n) (suc n) k (suc n)) (d n (y ++ rest) (chain_above k (y ++ rest) c (ab rest st)))
-    ∙ first k a t y le g n (suc n) rest (omega (arith, some_levels a)) st
+    ∙ first k a t y le g n (suc n) rest (omega (arith, levels_some a)) st
 
 postscript_at : (a t : Expr) (x y : Tokens) → At signed a x → OnAt postscript a t y → levels a ≤ levels t
     → ((rest : Tokens) → PostscriptStops rest → PostfixStops (y ++ rest)) → At postscript t (x ++ y)
@@ -681,7 +666,7 @@ unfolding read_at read_postscript
 postscript_at a t x y d g le ab n rest st =
     ap (read_at (read n) (suc n) postscript) (append_assoc x y rest)
     ∙ ap (λ o. o >>= on (read n) (suc n) postscript (suc n)) (d n (y ++ rest) (ab rest st))
-    ∙ first postscript a t y le g n (suc n) rest (omega (arith, some_levels a)) st
+    ∙ first postscript a t y le g n (suc n) rest (omega (arith, levels_some a)) st
 
 postfix_at : (a t : Expr) (x y : Tokens) → PrimaryAt a x → OnAt postfix a t y → levels a ≤ levels t
     → At postfix t (x ++ y)
@@ -689,7 +674,7 @@ unfolding read_at read_postfix
 postfix_at a t x y d g le n rest st =
     ap (read_at (read n) (suc n) postfix) (append_assoc x y rest)
     ∙ ap (λ o. o >>= on (read n) (suc n) postfix (suc n)) (d n (y ++ rest))
-    ∙ first postfix a t y le g n (suc n) rest (omega (arith, some_levels a)) st
+    ∙ first postfix a t y le g n (suc n) rest (omega (arith, levels_some a)) st
 
 -- A prefix operator before a form that is one level deeper.
 in_front : (op : UnaryOperator) (k : Level) (t : Expr) (x : Tokens) → At k t x → (n : ℕ) (rest : Tokens) → Stops k rest

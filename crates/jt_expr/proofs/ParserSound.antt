@@ -4,6 +4,7 @@ use Rattle.std.proofs.Common.{◌≡◌, ℕ, zero, suc, ◌≤◌, nat_le, Bool
 use Rattle.std.proofs.Common.{drop, codes, encode_utf8_all, bytes_eq, refl, sym, ap, subst, ◌∙◌, append_assoc, arith}
 use Rattle.std.proofs.Common.{Option, Some, None, Ok, Err, rules}
 use Rattle.std.proofs.lemmas.Bool.Decides.{nat_tests}
+use Rattle.std.proofs.lemmas.Bool.{not_from_false}
 use Rattle.jt_scan.specs.declared.segment.Sign.{Sign}
 use Rattle.jt_scan.specs.declared.segment.Sign.TheVariants as s
 use Rattle.jt_scan.specs.Cut as cut
@@ -32,7 +33,7 @@ use Rattle.jt_expr.specs.internal.Reading.{read_conjunction, read_inversion, rea
 use Rattle.jt_expr.specs.internal.Reading.{read_concatenation, read_product, read_power, read_postscript, read_signed}
 use Rattle.jt_expr.specs.internal.Reading.{read_postfix, expect, word_at, name_at, unreserved, if_part, else_part}
 use Rattle.jt_scan.proofs.ParseResultSteps.{by_test}
-use Rattle.jt_expr.proofs.FirstTokenTests.{says_sound, sees_sound, false_not}
+use Rattle.jt_expr.proofs.FirstTokenTests.{says_sound, sees_sound}
 use Rattle.jt_expr.proofs.FirstTokens.{begins, begins_primary}
 use Rattle.jt_expr.specs.Promises.{parts_levels}
 use Rattle.jt_expr.proofs.ParserComplete.{with_key, put_levels}
@@ -204,7 +205,7 @@ is_sound true ts v x h b p = (
 )
 is_sound false ts v x h b p = (
   says_sound (codes "is") ts h ∙ ap (λ w. word (codes "is") ∷ w) p,
-  false_not (bytes_eq x (codes "not")) (subst (λ z. says (codes "not") z ≡ false) p b),
+  not_from_false (bytes_eq x (codes "not")) (subst (λ z. says (codes "not") z ≡ false) p b),
 )
 
 -- ---- trees that are found

@@ -1,7 +1,7 @@
 -- The reader keeps the contracts of Promises.
 use Rattle.std.proofs.Common.{◌≡◌, ℕ, suc, ◌<◌, ◌≤◌, false, [], ◌∷◌, sym, ap, ◌∙◌, Result, Ok, Err, ⊎_elim, arith}
 use Rattle.std.proofs.Common.{rules}
-use Rattle.std.proofs.lemmas.Bool.{cases_lt}
+use Rattle.std.proofs.lemmas.Bool.{cases_lt, false_from_ne_true}
 use Rattle.jt_scan.specs.declared.segment.Sign.TheVariants as s
 use Rattle.jt_scan.specs.Cut as cut
 use Rattle.jt_expr.specs.declared.error.ExprError.{ExprError}
@@ -17,7 +17,7 @@ use Rattle.jt_expr.specs.Front.{sees}
 use Rattle.jt_expr.specs.internal.Reading.{ParseResult, Fault, syntax, deep, cap, read, arguments_at}
 use Rattle.jt_expr.specs.internal.Gives.{Refuses, Gives, GivesParts}
 use Rattle.jt_expr.specs.Promises.{Leads, Reads, EndsAt, the_end, a_comma, an_if, OpensNone, parts_levels, parts_view}
-use Rattle.jt_expr.proofs.FirstTokenTests.{sees_sound, false_unless}
+use Rattle.jt_expr.proofs.FirstTokenTests.{sees_sound}
 use Rattle.jt_expr.proofs.LevelCap.{cap_within, cap_beyond}
 use Rattle.jt_expr.proofs.ParserComplete.{Stops, nothing_stops, comma_stops, if_stops, spelled_is_read}
 use Rattle.jt_expr.proofs.ParserComplete.{arguments_are_read}
@@ -34,7 +34,7 @@ ends_stop {k} (a_comma {ts = ts}) = stops_all (cut.sign s.Comma ∷ ts) (comma_s
 ends_stop (an_if {ts}) = if_stops ts
 
 opens_none : (ts : Tokens) → OpensNone ts → sees s.LeftParen ts ≡ false
-opens_none ts h = false_unless (sees s.LeftParen ts) (λ q. h _ (sees_sound s.LeftParen ts q))
+opens_none ts h = false_from_ne_true (sees s.LeftParen ts) (λ q. h _ (sees_sound s.LeftParen ts q))
 
 -- ---- exact outcomes
 

@@ -2,8 +2,7 @@
 use Rattle.std.proofs.Common.{◌≡◌, ℕ, zero, suc, ◌+◌, ◌<◌, ◌≤◌, Option, Some, None, Ok, Err, refl, sym, ◌∙◌, arith}
 use Rattle.std.proofs.Common.{rules}
 use Rattle.jt_expr.specs.declared.error.ExprError.{ExprError}
-use Rattle.jt_ast.specs.Expressions.{Expr, constant, name, group, list_of, map_of, attribute, item, call, filter, test}
-use Rattle.jt_ast.specs.Expressions.{unary, binary, when, choice, levels}
+use Rattle.jt_ast.specs.Expressions.{Expr, constant, levels}
 use Rattle.jt_expr.specs.Grammar.{Tokens}
 use Rattle.jt_expr.specs.internal.Reading.{Reader, ParseResult, ◌>>=◌, again, loop, cap}
 use Rattle.jt_expr.specs.internal.Gives.{Refuses}
@@ -16,19 +15,7 @@ refused x o f r h q = search (arith, rules)
 
 pub levels_some : (t : Expr) → 0 < levels t
 levels_some (constant l) = omega arith
-levels_some (name x) = omega arith
-levels_some (group a) = omega arith
-levels_some (list_of ts) = omega arith
-levels_some (map_of ps) = omega arith
-levels_some (attribute a k) = omega arith
-levels_some (item a b) = omega arith
-levels_some (call a ts ps) = omega arith
-levels_some (filter a x ts ps) = omega arith
-levels_some (test a n x ts ps) = omega arith
-levels_some (unary op a) = omega arith
-levels_some (binary op a b) = omega arith
-levels_some (when c a) = omega arith
-levels_some (choice c a b) = omega arith
+levels_some a0 = omega arith
 
 -- A new tree has more levels than t, and at most n.
 abbrev pub Raised : ℕ → Expr → Option Expr → Tokens → Type 0

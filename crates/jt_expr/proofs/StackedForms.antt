@@ -172,13 +172,6 @@ goal_last entry (h ∷ i ∷ gs) g fs e =
     goal_last entry (i ∷ gs) g (form_view h ∷ fs)
     (ap (slice_get (i ∷ gs)) below ∙ ap (slice_get (h ∷ i ∷ gs)) (sym at) ∙ e)
 
-pub goal_none : (entry : Level) (gs : List Pending) → slice_get gs (length gs - 1) ≡ None
-    → goal_of entry (stacked gs []) ≡ entry
-goal_none entry [] e = refl
-goal_none entry (h ∷ gs) e =
-    let some = slice_get-get_or (h ∷ gs) (length (h ∷ gs) - 1) h (omega arith) in
-    absurd (cc)
-
 -- ---- moves of the code's stack
 
 -- The stack `new` has the form g after those of `old`.

@@ -1,11 +1,8 @@
 -- Items with one more at the end.
 use Rattle.std.proofs.lemmas.List.{at_drop_more, at_drop_all}
-use Rattle.std.proofs.Common.{◌≡◌, ℕ, ◌+◌, ◌<◌, ◌≤◌, map, List, [], ◌∷◌, ◌++◌, length, drop, get_or, refl, sym, ap, ◌∙◌}
+use Rattle.std.proofs.Common.{◌≡◌, ℕ, ◌+◌, ◌<◌, ◌≤◌, List, [], ◌∷◌, ◌++◌, length, drop, get_or, refl, sym, ap, ◌∙◌}
 use Rattle.std.proofs.Common.{arith, rules}
-use Rattle.std.specs.Char.{encode_utf8}
-use Rattle.jt_value.specs.Tree as tree
 use Rattle.jt_value.specs.Tree.{Tree, Items, no_items, item}
-use Rattle.jt_value.specs.Iteration.{character_items}
 use Rattle.jt_value.specs.View.{view, items_view}
 use Rattle.jt_value.specs.declared.value.Value.{Value}
 use Rattle.jt_value.specs.Payload.{more_items}
@@ -24,17 +21,6 @@ pushed before after v u us is same = search (arith, rules, items_view-push, join
 pub joined_none : (ts : Items) → joined_items ts no_items ≡ ts
 joined_none no_items = refl
 joined_none (item t ts) = ap (item t) (joined_none ts)
-
-pub character_items-more : (cs : List ℕ) (c : ℕ)
-    → character_items (cs ++ c ∷ []) ≡ more_items (character_items cs) (tree.text (encode_utf8 c))
-character_items-more [] c = refl
-character_items-more (d ∷ cs) c = ap (item (tree.text (encode_utf8 d))) (character_items-more cs c)
-
--- The characters with one more at the end.
-pub characters_pushed : (before after : List Value) (v : Value) (cs : List ℕ) (c : ℕ) → after ≡ before ++ v ∷ []
-    → view v ≡ tree.text (encode_utf8 c) → items_view before ≡ character_items cs
-    → items_view after ≡ character_items (cs ++ c ∷ [])
-characters_pushed before after v cs c is same inv = search (arith, rules, items_view-push, character_items-more)
 
 -- A step of a loop that makes one item of each element of a list.
 pub made_more : {X : Type 0} (F : List X → Items) (before after : List Value) (v : Value) (xs : List X) (i : ℕ) (x : X)
@@ -56,7 +42,3 @@ made_all F before xs i all past none inv =
     sym (joined_none (items_view before))
     ∙ ap (λ (ts : Items). joined_items (items_view before) ts) (sym none ∙ sym (at_drop_all F xs i past))
     ∙ inv
-
-pub same_list : (xs : List ℕ) → map (λ x. x) xs ≡ xs
-same_list [] = refl
-same_list (x ∷ xs) = ap (λ (ys : List ℕ). x ∷ ys) (same_list xs)

@@ -67,18 +67,6 @@ pub kept_still : (o : Option Operand) (P Q : Operand → Type 0) → IfSome o P 
 kept_still None P Q h f = tt
 kept_still (Some x) P Q h f = f x h
 
--- An empty map knows no items.
-pub codes_know_none : (m : Seen) → m.entries ≡ [] → KnowsCodes m no_items
-codes_know_none m e = record {
-  coded = λ t plain there. absurd (true≢false (sym there));
-  seen =
-      λ c t.
-      subst (λ (o : Option Operand). IfSome o (λ x. alike t (tree_of x) ≡ true → false ≡ true)) (sym (none_found c)) tt;
-}
-  where
-    none_found : (c : List ℕ) → found m c ≡ None
-    none_found c = ap (λ (es : List (Vec ℕ Global × Operand)). lookup (is_at (λ x. cmp c x.items)) es) e
-
 -- An item whose code is missing is like no earlier one.
 pub new_item : (m : Seen) (ts : Items) (t : Tree) (c : List ℕ) → KnowsCodes m ts → number_like t ≡ None
     → c ≡ item_code t → found m c ≡ None → has_alike t ts ≡ false

@@ -6,14 +6,14 @@ use Rattle.std.proofs.Math.ListN.{set}
 use Rattle.std.proofs.lemmas.Bool.{cases_lt}
 use Rattle.std.proofs.lemmas.Bool.Decides.{Decides-int_eq}
 use Rattle.std.proofs.lemmas.Int.{by_lt_z}
-use Rattle.std.proofs.lemmas.List.{get_or_append_left, get_or_push, length-set}
+use Rattle.std.proofs.lemmas.List.{get_or_append_left, get_or_push}
 use Rattle.std.proofs.lemmas.List.Folds.{list_any_at, list_any-append}
 use Rattle.std.specs.Cmp.{int_chain}
 use Rattle.std.specs.Int.Signed.{◌<ℤ◌, ◌≤ℤ◌, ≤ℤ_refl, clash_ℤ, <ℤ_irrefl, <ℤ-≤ℤ_trans}
 use Rattle.std.specs.List.{list_any}
 use Rattle.std.specs.Ordering.{int_eq}
 use Rattle.jt_filters.specs.declared.seen_numbers.Entry.{Entry}
-use Rattle.jt_filters.specs.internal.NumberEntries.{was_seen, occurs, AreUnseen, AreDistinct, IsAt, AreRising}
+use Rattle.jt_filters.specs.internal.NumberEntries.{was_seen, occurs, AreDistinct, IsAt, AreRising}
 
 absorb : (a b c : Bool) → (b ≡ true → a ≡ true) → (a || c) ≡ (a || (b || c))
 absorb true b c h = refl
@@ -105,22 +105,6 @@ has_seen es i z e here n seen y =
     ∙ ap (λ (b : Bool). b || was_seen es y) (and_true (int_eq e.number y))
     ∙ ap (λ (k : ℤ). int_eq k y || was_seen es y) n
 
-number_kept : (es : List Entry) (i k : ℕ) (e d : Entry) → i < length es → e.number ≡ (get_or es i e).number
-    → (get_or (set es i e) k d).number ≡ (get_or es k d).number
-number_kept [] i k e d lt n = absurd (omega (arith, lt))
-number_kept (x ∷ es) zero zero e d lt n = n
-number_kept (x ∷ es) zero (suc k) e d lt n = refl
-number_kept (x ∷ es) (suc i) zero e d lt n = refl
-number_kept (x ∷ es) (suc i) (suc k) e d lt n = number_kept es i k e d (omega (arith, lt)) n
-
-pub distinct_set : (es : List Entry) (i : ℕ) (z : ℤ) (e : Entry) → AreDistinct es → IsAt z i es → e.number ≡ z
-    → AreDistinct (set es i e)
-distinct_set es i z e distinct here n j k d lj lk same =
-    let is = n ∙ sym (here.1 e) in
-    let len = length-set es i e in
-    distinct j k d (omega (arith, lj, len)) (omega (arith, lk, len))
-    (sym (number_kept es i j e d here.0 is) ∙ same ∙ number_kept es i k e d here.0 is)
-
 pub not_had : (es : List Entry) (z : ℤ) → occurs z es ≡ false → was_seen es z ≡ false
 not_had es z none =
     any_fewer (λ e. int_eq e.number z) (λ e. int_eq e.number z && e.is_seen) es
@@ -131,15 +115,6 @@ or_comm true true = refl
 or_comm true false = refl
 or_comm false true = refl
 or_comm false false = refl
-
-pub has_added : (es : List Entry) (z : ℤ) (e : Entry) → e.number ≡ z → e.is_seen ≡ true → (y : ℤ)
-    → was_seen (es ++ e ∷ []) y ≡ (int_eq z y || was_seen es y)
-has_added es z e n seen y =
-    list_any-append (λ x. int_eq x.number y && x.is_seen) es (e ∷ [])
-    ∙ or_comm (was_seen es y) (int_eq e.number y && e.is_seen)
-    ∙ ap (λ (b : Bool). (int_eq e.number y && b) || was_seen es y) seen
-    ∙ ap (λ (b : Bool). b || was_seen es y) (and_true (int_eq e.number y))
-    ∙ ap (λ (k : ℤ). int_eq k y || was_seen es y) n
 
 -- No entry has the number of one that is missing.
 other_number : (es : List Entry) (z : ℤ) (k : ℕ) (d : Entry) → occurs z es ≡ false → k < length es

@@ -1,10 +1,10 @@
 -- The set of the numbers of earlier items.
-use Rattle.std.proofs.Common.{◌≡◌, ℕ, ℤ, ◌+◌, Bool, true, false, cond, ◌||◌, List, [], Some, None, refl, sym, ap, ◌∙◌}
+use Rattle.std.proofs.Common.{◌≡◌, ℕ, ℤ, ◌+◌, Bool, true, false, ◌||◌, Some, None, refl, sym, ap, ◌∙◌}
 use Rattle.std.proofs.Common.{subst, arith, rules}
 use Rattle.std.proofs.lemmas.Cmp.{int_eq_equiv}
 use Rattle.std.specs.BTreeMap.{BTreeMap}
 use Rattle.std.specs.Ordering.{int_eq}
-use Rattle.std.specs.Prelude.{Vec, not, Result, Ok, Err, IfOk, OnOk}
+use Rattle.std.specs.Prelude.{Vec, Result, Ok, Err, IfOk, OnOk}
 use Rattle.std.specs.declared.alloc.Global.{Global}
 use Rattle.jt_value.specs.Payload.{joined_items}
 use Rattle.jt_value.specs.Tree.{Tree, number, Items, no_items, item}
@@ -46,9 +46,6 @@ no_number a0 a1 a2 = search (arith, rules)
 
 no_plain : (u t : Tree) (z : ℤ) → number_like u ≡ None → Some z ≡ number_like t → alike u t ≡ false
 no_plain a0 a1 a2 a3 a4 = search (arith, rules)
-
-pub numbers_know_none : (s : SeenNumbers) → ((z : ℤ) → has_number s z ≡ false) → KnowsNumbers s no_items
-numbers_know_none s none z = none z
 
 numbers_number : (s n : SeenNumbers) (ts : Items) (t : Tree) (z : ℤ) → KnowsNumbers s ts → Some z ≡ number_like t
     → ((y : ℤ) → has_number n y ≡ (int_eq z y || has_number s y)) → KnowsNumbers n (joined_items ts (item t no_items))

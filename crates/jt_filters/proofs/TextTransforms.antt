@@ -1,12 +1,12 @@
 -- Texts in another case, trimmed, and reversed.
-use Rattle.std.proofs.Common.{◌≡◌, ℕ, ◌+◌, ◌<◌, ◌≤◌, Bool, true, false, cond, List, [], ◌∷◌, ◌++◌, map, reverse, length}
-use Rattle.std.proofs.Common.{get_or, take, drop, refl, sym, ap, ◌∙◌, arith, length-append}
+use Rattle.std.proofs.Common.{◌≡◌, ℕ, ◌+◌, ◌<◌, Bool, true, cond, List, [], ◌∷◌, ◌++◌, map, reverse, length}
+use Rattle.std.proofs.Common.{get_or, take, drop, refl, ap, ◌∙◌, arith, length-append}
 use Rattle.std.proofs.lemmas.List.{append-nil, take_more, reverse-append, at_drop_more}
 use Rattle.std.proofs.lemmas.Str.{encodes-chars, encodes-append}
 use Rattle.std.proofs.lemmas.Bool.Decides.{nat_tests}
-use Rattle.std.specs.Char.{to_ascii_lowercase, to_ascii_uppercase}
+use Rattle.std.specs.Char.{to_ascii_lowercase}
 use lib.Utf8.{encode}
-use Rattle.std.specs.Str.{chars, encode_utf8_all, str_to_ascii_lowercase, IsUtf8}
+use Rattle.std.specs.Str.{chars, encode_utf8_all, IsUtf8}
 use Rattle.jt_filter_semantics.specs.Texts.{capitalized, trimmed_front, is_whitespace, backwards}
 
 pub length-map : (f : ℕ → ℕ) (s : List ℕ) → length (map f s) ≡ length s
@@ -16,14 +16,6 @@ length-map f (b ∷ s) = omega (arith, length-map f s)
 pub capitalized_length : (s : List ℕ) → length (capitalized s) ≡ length s
 capitalized_length [] = refl
 capitalized_length (b ∷ s) = omega (arith, length-map to_ascii_lowercase s)
-
-high_stays : (b : ℕ) → 128 ≤ b → to_ascii_uppercase b ≡ to_ascii_lowercase b
-high_stays b h = grind (arith, nat_tests)
-
--- If the first byte of a text is not ASCII, capitalizing it only lowers its letters.
-pub capitalized_high : (s : List ℕ) → 128 ≤ get_or s 0 0 → capitalized s ≡ str_to_ascii_lowercase s
-capitalized_high [] h = refl
-capitalized_high (b ∷ s) h = ap (λ (x : ℕ). x ∷ str_to_ascii_lowercase s) (high_stays b h)
 
 length_encodes-reverse : (cs : List ℕ) → length (encode_utf8_all (reverse cs)) ≡ length (encode_utf8_all cs)
 length_encodes-reverse [] = refl
@@ -40,24 +32,6 @@ length_encodes-reverse (c ∷ cs) =
 
 pub backwards_length : (s : List ℕ) → IsUtf8 s → length (backwards s) ≡ length s
 backwards_length s valid = length_encodes-reverse (chars s) ∙ ap length (encodes-chars s valid)
-
--- Whitespace at the end does not change the text trimmed at the end.
-pub back_white : (s : List ℕ) (n : ℕ) → n < length s → is_whitespace (get_or s n 0) ≡ true
-    → trimmed_front (reverse (take (n + 1) s)) ≡ trimmed_front (reverse (take n s))
-back_white s n inside white =
-    ap (λ (xs : List ℕ). trimmed_front (reverse xs)) (take_more s n 0 inside)
-    ∙ ap trimmed_front (reverse-append (take n s) (get_or s n 0 ∷ []))
-    ∙ ap (λ (b : Bool). cond b (trimmed_front (reverse (take n s))) (get_or s n 0 ∷ reverse (take n s))) white
-
--- If the last byte is not whitespace, nothing is trimmed at the end.
-pub back_stop : (s : List ℕ) (n : ℕ) → n < length s → is_whitespace (get_or s n 0) ≡ false
-    → trimmed_front (reverse (take (n + 1) s)) ≡ reverse (take (n + 1) s)
-back_stop s n inside black =
-    let e : reverse (take (n + 1) s) ≡ get_or s n 0 ∷ reverse (take n s) =
-    ap reverse (take_more s n 0 inside) ∙ reverse-append (take n s) (get_or s n 0 ∷ []) in
-    ap trimmed_front e
-    ∙ ap (λ (b : Bool). cond b (trimmed_front (reverse (take n s))) (get_or s n 0 ∷ reverse (take n s))) black
-    ∙ sym e
 
 pub white_ascii : (b : ℕ) → is_whitespace b ≡ true → b < 128
 white_ascii b e = grind (arith, nat_tests)

@@ -18,6 +18,7 @@ use Rattle.jt_graph.specs.declared.walk.Walk.{Walk}
 use Rattle.jt_graph.specs.View.{graph_of}
 use Rattle.std.specs.declared.vec.Vec.{Vec}
 use Rattle.std.specs.declared.alloc.Global.{Global}
+use Rattle.std.proofs.lemmas.Bool.{or_right}
 
 -- ---- numbers
 
@@ -29,10 +30,6 @@ differ i j e p = grind (arith, nat_tests)
 
 pub itself : (i : ℕ) → (i == i) ≡ true
 itself i = grind (arith, nat_tests)
-
-or_true : (a b : Bool) → b ≡ true → (a || b) ≡ true
-or_true true b h = refl
-or_true false b h = h
 
 -- A case split on a boolean.
 pub either : {P : Type 0} (b : Bool) → (b ≡ true → P) → (b ≡ false → P) → P
@@ -120,7 +117,7 @@ among_take P (x ∷ xs) zero (suc m) is lt old new j h =
     none (suc n) z a = absurd (omega arith)
 among_take P (x ∷ xs) (suc k) (suc m) is lt old new j h = either (x == j)
     (λ e. old j (ap (λ b. b || among j (take k xs)) e))
-    (λ e. among_take P xs k m (omega arith) (omega arith) (λ i a. old i (or_true (x == i) (among i (take k xs)) a)) new
+    (λ e. among_take P xs k m (omega arith) (omega arith) (λ i a. old i (or_right (x == i) (among i (take k xs)) a)) new
     j (sym (ap (λ b. b || among j (take m xs)) e) ∙ h))
 
 pub among_all : (xs : List ℕ) (k j : ℕ) → length xs ≤ k → among j xs ≡ true → among j (take k xs) ≡ true
@@ -129,12 +126,12 @@ among_all (x ∷ xs) zero j le h = absurd (omega arith)
 among_all (x ∷ xs) (suc k) j le h = either (x == j)
     (λ e. ap (λ b. b || among j (take k xs)) e)
     (λ e.
-    or_true (x == j) (among j (take k xs)) (among_all xs k j (omega arith) (sym (ap (λ b. b || among j xs) e) ∙ h)))
+    or_right (x == j) (among j (take k xs)) (among_all xs k j (omega arith) (sym (ap (λ b. b || among j xs) e) ∙ h)))
 
 pub among_at : (xs : List ℕ) (k : ℕ) → k < length xs → among (get_or xs k 0) xs ≡ true
 among_at [] k lt = absurd (omega arith)
 among_at (x ∷ xs) zero lt = ap (λ b. b || among x xs) (itself x)
-among_at (x ∷ xs) (suc k) lt = or_true (x == get_or xs k 0) (among (get_or xs k 0) xs) (among_at xs k (omega arith))
+among_at (x ∷ xs) (suc k) lt = or_right (x == get_or xs k 0) (among (get_or xs k 0) xs) (among_at xs k (omega arith))
 
 -- ---- paths
 

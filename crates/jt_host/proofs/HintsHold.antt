@@ -31,13 +31,3 @@ pub result_stands : {E : Type 0} (options : Options) (given : Text) (s : Held)
     → IfOk r (λ o. o ≡ source_hint line ss) → IfOk r (λ o. IfSome o (HasHint options given line))
 result_stands options given s is line ss c (Ok o) h = hint_stands options given s is line ss c o h
 result_stands options given s is line ss c (Err e) h = tt
-
--- The hint of the source of a template is one for its error.
-pub hint_found : {E : Type 0} (sources : SourceTexts) (options : Options) (template source : Text) (line : ℕ)
-    → sources template ≡ Some source → (r : Result (Option SourceHint) E)
-    → IfOk r (λ o. IfSome o (HasHint options source line))
-    → IfOk r (IsParseHint sources options template (parse_error.Syntax line))
-hint_found sources options template source line e (Ok None) h = tt
-hint_found sources options template source line e (Ok (Some x)) h =
-    record { source = source; found = e; reason = h }
-hint_found sources options template source line e (Err x) h = tt

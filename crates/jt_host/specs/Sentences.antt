@@ -100,6 +100,12 @@ image_rule limit.Instructions = codes "the image would have more than 262,144 in
 image_rule limit.Templates = codes "the places of the image would name more than 65,535 templates"
 image_rule limit.NameBytes = codes "a name in the image would have more than 65,535 bytes"
 image_rule limit.Bytes = codes "the image would have more than 16,777,216 bytes"
+image_rule limit.Globals =
+    codes "the image would have over 65,535 globals: a chain also has those of what it includes"
+image_rule limit.Parameters =
+    codes "a unit would have over 255 parameters: a scoped block gets all names of scopes"
+image_rule limit.Locals =
+    codes "a unit would have over 4,096 locals: names, and arguments that are kept aside"
 image_rule limit.Entries =
     codes "more than 1,024 values would be needed at the same time, as by a list of 1,025 items"
 

@@ -141,6 +141,15 @@ fn image_rule(limit: Limit) -> &'static str
         Limit::Templates => "the places of the image would name more than 65,535 templates",
         Limit::NameBytes => "a name in the image would have more than 65,535 bytes",
         Limit::Bytes => "the image would have more than 16,777,216 bytes",
+        Limit::Globals => {
+            "the image would have over 65,535 globals: a chain also has those of what it includes"
+        }
+        Limit::Parameters => {
+            "a unit would have over 255 parameters: a scoped block gets all names of scopes"
+        }
+        Limit::Locals => {
+            "a unit would have over 4,096 locals: names, and arguments that are kept aside"
+        }
         Limit::Entries => {
             "more than 1,024 values would be needed at the same time, as by a list of 1,025 items"
         }

@@ -35,7 +35,7 @@ use Rattle.jt_inherit.specs.Findings.{IsFinding}
 use Rattle.jt_inherit.specs.Refusals.{Breaks}
 use Rattle.jt_inherit.specs.internal.FindsAt.{FindsAt}
 use Rattle.jt_inherit.specs.declared.finding.ChainFinding.{ChainFinding}
-use Rattle.jt_inherit.proofs.FindingsHold.{rule_said}
+use Rattle.jt_inherit.proofs.FindingsHold.{rule_bare, rule_said}
 use Rattle.jt_chains.specs.Rules as rules
 use Rattle.jt_chains.specs.Rules.{Asks, Reaches, here, asked, extends_path, is_whole, KeepsRules}
 use Rattle.jt_chains.specs.Weights.{templates_weight, chains_weight}
@@ -50,6 +50,7 @@ use Rattle.jt_chains.specs.declared.chain.Namespace as linked
 use Rattle.jt_inherit.proofs.RulesCarryOver.{given_names}
 use Rattle.jt_inherit.proofs.NamespaceCount.{few_chains}
 use Rattle.jt_inherit.proofs.DiscoveryInvariant.{none_read, few_way, way_names, asked_way, indexed_templates}
+use Rattle.jt_inherit.proofs.DiscoveryInvariant.{followed_number}
 use Rattle.jt_inherit.proofs.DiscoveryInvariant.{included_is, whole_path, some_source}
 use Rattle.jt_inherit.proofs.ImportCollection.{all_imported, none_given, none_lacking}
 use Rattle.jt_inherit.proofs.PathsGrow.{names, few_templates, all_at_indices}
@@ -69,16 +70,6 @@ pub at_number : (P : List ℕ → Type 0) (ws : Graph) (i : ℕ) → i < length 
 at_number P [] i lt a = absurd (omega arith)
 at_number P (w ∷ ws) zero lt a = a.0
 at_number P (w ∷ ws) (suc i) lt a = at_number P ws i (omega arith) a.1
-
-pub followed_number : (given : SourceTexts) (ts : List Template) (hs gs : List Namespace) (ws ns : Graph) (i : ℕ)
-    → i < length ws → AreFollowed given ts hs gs ws ns
-    → IsFollowed given ts hs (namespace_at gs i) (next_of ws i) (next_of ns i)
-followed_number given ts hs gs [] ns i lt a = absurd (omega arith)
-followed_number given ts hs gs (w ∷ ws) [] i lt a = absurd a
-followed_number given ts hs [] (w ∷ ws) (n ∷ ns) i lt a = absurd a
-followed_number given ts hs (g ∷ gs) (w ∷ ws) (n ∷ ns) zero lt a = a.0
-followed_number given ts hs (g ∷ gs) (w ∷ ws) (n ∷ ns) (suc i) lt a =
-    followed_number given ts hs gs ws ns i (omega arith) a.1
 
 pub next_len : (given : SourceTexts) (ts : List Template) (hs gs : List Namespace) (ws ns : Graph)
     → AreFollowed given ts hs gs ws ns → length ns ≡ length ws
@@ -312,7 +303,8 @@ module _ {given : SourceTexts} {options : Options} {entry : Text} {ts : List Tem
         broken = chain_breaks x.error (record { number = i; within = b.within; broken = b.broken });
         says =
             rule_said f.known (reached (namespace_at hs i) (namespace_among hs i lt)) (number i lt).led
-            (is_one given options ts f.known (namespace_at hs i) (next_of ws i) (number i lt).led) x.error x.place
+            (is_one given options ts f.known (namespace_at hs i) (next_of ws i) (number i lt).led) x.error
+            (rule_bare (sources_in ts) options.autoescape (templates_at ts (next_of ws i)) x.error b.broken) x.place
             x.subject b.said;
       }
 

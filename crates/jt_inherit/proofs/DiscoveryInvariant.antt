@@ -1,6 +1,7 @@
 -- The facts about followed chains and libraries stay true when more is found.
 use Rattle.std.proofs.Common.{◌≡◌, ℕ, zero, suc, ◌<◌, ◌≤◌, Bool, true, false, cond, List, [], ◌∷◌, ◌++◌, length, map}
-use Rattle.std.proofs.Common.{refl, sym, ap, subst, ◌∙◌, arith, ◌⊎◌, ⊎_elim, Option, Some, None, Vec, Global, rules}
+use Rattle.std.proofs.Common.{refl, sym, ap, subst, ◌∙◌, arith, ◌⊎◌, ⊎_elim, inl, inr, Option, Some, None, Vec, Global}
+use Rattle.std.proofs.Common.{length-append, rules}
 use Rattle.std.specs.Prelude.{slice_get, flat_map, filter, unwrap_or}
 use Rattle.std.specs.List.{AllByRecursion}
 use Rattle.std.specs.Option.{is_some, option_to_list}
@@ -13,24 +14,22 @@ use Rattle.jt_inherit.specs.internal.Along.{imports_along, needs_along}
 use Rattle.jt_chains.specs.Chain.{Namespace, a_chain, a_library, namespace_name, listed, Template, templates, libraries}
 use Rattle.jt_chains.specs.Chain.{libraries_in, sources_in}
 use Rattle.jt_inherit.specs.Chains.{SourceTexts, IsRead}
-use Rattle.jt_inherit.specs.internal.Found.{AreNext, IsMet, IsNeedFault, IsNextFault, IsFollowed, AreFollowed, AreFound}
+use Rattle.jt_inherit.specs.internal.Found.{AreNext, IsMet, IsFollowed, IsLedTo, AreFollowed, AreFound}
 use Rattle.jt_inherit.specs.internal.Found.{chosen}
 use Rattle.jt_chains.specs.Includes.{included, includes_in, needs_in}
 use Rattle.jt_chains.specs.Needs.{Need, include_need, library_need, needed}
 use Rattle.jt_chains.specs.Indices.{namespace_at}
-use Rattle.jt_inherit.specs.Refusals.{Breaks}
 use Rattle.jt_chains.specs.Rules.{Asks, Reaches, here, asked, extends_path}
 use Rattle.jt_inherit.specs.internal.ExtendsPaths.{AreKnown, IsExtendsPath}
-use Rattle.jt_inherit.specs.declared.error.ChainError.{ChainError}
-use Rattle.jt_inherit.specs.declared.error.ChainError.TheVariants as error
 use Rattle.jt_inherit.proofs.ImportCollection.{all_imports, imports_needed, imports_chosen, all_includes}
 use Rattle.jt_inherit.proofs.ImportCollection.{includes_chosen, none_imported}
-use Rattle.jt_inherit.proofs.FollowStep.{met_grows, numbers_grow, chosen-append}
+use Rattle.jt_inherit.proofs.FollowStep.{at_front, met_grows, numbers_grow, chosen-append}
 use Rattle.jt_inherit.proofs.SourcesGrow.{reach_more, ask_more, reaches_next}
-use Rattle.jt_inherit.proofs.PathsGrow.{names, names_to_root, templates_grow, way_grows, few_templates}
-use Rattle.jt_inherit.proofs.PathsGrow.{templates_to_root, asked_breaks}
+use Rattle.jt_inherit.proofs.PathsGrow.{names, names_to_root, templates_grow, way_grows, few_templates, last_at}
+use Rattle.jt_inherit.proofs.PathsGrow.{templates_to_root}
 use Rattle.jt_chains.proofs.IncludeCollection.{by_templates, needed-append}
 use Rattle.jt_chains.proofs.TemplatesByIndex.{along_templates}
+use Rattle.jt_graph.specs.Graph.{Graph, next_of}
 use Rattle.jt_graph.specs.View.{graph_of}
 use Rattle.jt_chains.specs.TemplateFiles.{file_view, files_view}
 use Rattle.jt_chains.specs.declared.files.TemplateFile.{TemplateFile}
@@ -180,22 +179,27 @@ module _ (given : SourceTexts) (options : Options) (ts us : List Template) (hs m
       both_names [] = refl
       both_names (v ∷ vs) = ap (λ l. v.name ∷ l) (both_names vs)
 
+  same_chosen : {h : Namespace} {w n : List ℕ} → IsFollowed given ts hs h w n
+      → chosen (names (ts ++ us)) (needs_along (ts ++ us) w) ≡ chosen (names ts) (needs_along ts w)
+  same_chosen {h} {w} {n} f =
+      ap (λ ks. chosen ks (needs_along (ts ++ us) w)) more_names
+      ∙ ap (chosen (names ts ++ names us))
+      (includes_grow ts us w f.led.indices (way_grows ts us h w None f.led).indices)
+      ∙ chosen_same given (names ts) (names us)
+      (λ x e. sym (ap (among x) more_names) ∙ none_read given options (ts ++ us) x read e) (needs_along ts w) f.met
+
   followed_grows : (h : Namespace) (w n : List ℕ) → IsFollowed given ts hs h w n
       → IsFollowed given (ts ++ us) (hs ++ ms) h w n
   followed_grows h w n f =
       let grown = way_grows ts us h w None f.led in
       let needs = includes_grow ts us w f.led.indices grown.indices in
-      let same_chosen : chosen (names (ts ++ us)) (needs_along (ts ++ us) w) ≡ chosen (names ts) (needs_along ts w) =
-      ap (λ ks. chosen ks (needs_along (ts ++ us) w)) more_names ∙ ap (chosen (names ts ++ names us)) needs
-      ∙ chosen_same given (names ts) (names us)
-      (λ x e. sym (ap (among x) more_names) ∙ none_read given options (ts ++ us) x read e) (needs_along ts w) f.met in
       record {
         led = grown;
         met = subst (λ l. AllByRecursion (IsMet given (names (ts ++ us))) l) (sym needs)
             (subst (λ ks. AllByRecursion (IsMet given ks) (needs_along ts w)) (sym more_names)
             (met_grows given (names ts) (names us) (needs_along ts w) f.met));
         numbered =
-            subst (λ l. map (slice_get (hs ++ ms)) n ≡ map Some l) (sym same_chosen)
+            subst (λ l. map (slice_get (hs ++ ms)) n ≡ map Some l) (sym (same_chosen f))
             (numbers_grow hs ms n (chosen (names ts) (needs_along ts w)) f.numbered);
       }
 
@@ -226,10 +230,21 @@ followed_next given ts hs (g ∷ gs) (v ∷ ws) (m ∷ ns) h w n a at f =
     (a.0, followed_next given ts hs gs ws ns h w n a.1 at f)
 followed_next given ts hs a3 a4 a5 h w n a at f = search (arith, rules)
 
-at_front : (xs ys : List Namespace) (i : ℕ) (x : Namespace) → slice_get xs i ≡ Some x → slice_get (xs ++ ys) i ≡ Some x
-at_front [] ys i x e = absurd (cc)
-at_front (y ∷ xs) ys zero x e = e
-at_front (y ∷ xs) ys (suc i) x e = at_front xs ys i x e
+-- The followed namespace of a number.
+pub followed_number : (given : SourceTexts) (ts : List Template) (hs gs : List Namespace) (ws ns : Graph) (i : ℕ)
+    → i < length ws → AreFollowed given ts hs gs ws ns
+    → IsFollowed given ts hs (namespace_at gs i) (next_of ws i) (next_of ns i)
+followed_number given ts hs gs [] ns i lt a = absurd (omega arith)
+followed_number given ts hs gs (w ∷ ws) [] i lt a = absurd a
+followed_number given ts hs [] (w ∷ ws) (n ∷ ns) i lt a = absurd a
+followed_number given ts hs (g ∷ gs) (w ∷ ws) (n ∷ ns) zero lt a = a.0
+followed_number given ts hs (g ∷ gs) (w ∷ ws) (n ∷ ns) (suc i) lt a =
+    followed_number given ts hs gs ws ns i (omega arith) a.1
+
+next_front : (ws : List (List ℕ)) (w : List ℕ) (i : ℕ) → i < length ws → next_of (ws ++ w ∷ []) i ≡ next_of ws i
+next_front [] w i lt = absurd (omega arith)
+next_front (v ∷ ws) w zero lt = refl
+next_front (v ∷ ws) w (suc i) lt = next_front ws w i (omega arith)
 
 -- One more namespace is followed.
 module _ {given : SourceTexts} {options : Options} {root : Text} {ts0 : List Template} {ks0 : List Text}
@@ -242,15 +257,6 @@ module _ {given : SourceTexts} {options : Options} {root : Text} {ts0 : List Tem
       reach_more ts0 ts1 more.0 options.autoescape (a_chain root) h more.1
       (f.reached h (indexed_among of_namespaces hs (length ws) h at))
 
-  -- An error of an included or imported template.
-  pub need_breaks : AreKnown given options ts1 (names ts1) → (e : ChainError)
-      → (e ≡ error.NoMemory) ⊎ IsNeedFault given options (needs_along ts1 is) e → Breaks e given root options
-  need_breaks known e fault = ⊎_elim
-      (λ m. subst (λ z. Breaks z given root options) (sym m) tt)
-      (λ n. asked_breaks known reached_here n.name e (asks_needed ts1 options.autoescape h is w true n.name n.asked)
-      (λ q. asks_needed ts1 options.autoescape h is w false n.name (n.must q)) n.fault)
-      fault
-
   module _ {ts2 : List Template} (m2 : List Template) (e2 : ts2 ≡ ts1 ++ m2) {ks2 : List Text}
       (known : AreKnown given options ts2 ks2) where
     pub way_there : IsExtendsPath ts2 h is None
@@ -261,23 +267,21 @@ module _ {given : SourceTexts} {options : Options} {root : Text} {ts0 : List Tem
         ap (λ vs. needs_along vs is) e2
         ∙ includes_grow ts1 m2 is w.indices (subst (λ vs. AreIndices vs is) e2 way_there.indices)
 
-    chosen_there : included (sources_in ts2) h ≡ chosen ks2 (needs_along ts2 is)
+    pub chosen_there : included (sources_in ts2) h ≡ chosen ks2 (needs_along ts2 is)
     chosen_there = included_is ts2 h is way_there ∙ ap (λ ks. chosen ks (needs_along ts2 is)) (sym known.named)
 
     all_more : ts2 ≡ ts0 ++ (more.0 ++ m2)
     all_more = e2 ∙ ap (λ l. l ++ m2) more.1 ∙ append_assoc ts0 more.0 m2
 
-    reached_from : (x : Namespace) → (listed x hs ≡ true) ⊎ (listed x (chosen ks2 (needs_along ts2 is)) ≡ true)
+    pub reached_there : Reaches (sources_in ts2) options.autoescape (a_chain root) h
+    reached_there = reach_more ts1 ts2 m2 options.autoescape (a_chain root) h e2 reached_here
+
+    pub reached_from : (x : Namespace) → (listed x hs ≡ true) ⊎ (listed x (chosen ks2 (needs_along ts2 is)) ≡ true)
         → Reaches (sources_in ts2) options.autoescape (a_chain root) x
     reached_from x c = ⊎_elim
         (λ a. reach_more ts0 ts2 (more.0 ++ m2) options.autoescape (a_chain root) x all_more (f.reached x a))
-        (λ a. reaches_next (reach_more ts1 ts2 m2 options.autoescape (a_chain root) h e2 reached_here)
-        (ap (listed x) chosen_there ∙ a))
+        (λ a. reaches_next reached_there (ap (listed x) chosen_there ∙ a))
         c
-
-    pub next_breaks : (e : ChainError) → IsNextFault hs (chosen ks2 (needs_along ts2 is)) e
-        → Breaks e given root options
-    next_breaks e fault = search (arith, rules, reached_from)
 
     -- Each known name is requested.
     asks_more : (ks1 : List Text)
@@ -293,6 +297,35 @@ module _ {given : SourceTexts} {options : Options} {root : Text} {ts0 : List Tem
         (λ p. ask_more ts1 ts2 m2 options.autoescape (a_chain root) n e2
         (h, reached_here, asks_needed ts1 options.autoescape h is w true n p))
         (needs n a)
+
+    -- Each new namespace is one that the followed one leads to.
+    led_more : {hs2 : List Namespace} {next : List ℕ} → AreNext hs hs2 (chosen ks2 (needs_along ts2 is)) next
+        → (x : Namespace) → listed x hs2 ≡ true → (x ≡ a_chain root) ⊎ IsLedTo ts2 (ws ++ is ∷ []) x
+    led_more n x a =
+        ⊎_elim (λ q. ⊎_elim (λ e. inl e) (λ l. inr (old l)) (f.led x q)) (λ q. inr (new q)) (n.from x a)
+      where
+        old : IsLedTo ts0 ws x → IsLedTo ts2 (ws ++ is ∷ []) x
+        old l =
+            let read = subst (AllByRecursion (IsRead given options)) all_more known.read.each in
+            let i = l.0 in
+            let lt : i < length ws = l.1 in
+            let theirs = same_chosen given options ts0 (more.0 ++ m2) hs [] read
+            (followed_number given ts0 hs hs ws ns i lt f.followed) in (
+              i,
+              omega (arith, lt, length-append ws (is ∷ [])),
+              subst (λ v. listed x (chosen (names ts2) (needs_along ts2 v)) ≡ true) (sym (next_front ws is i lt))
+                  (subst (λ vs. listed x (chosen (names vs) (needs_along vs (next_of ws i))) ≡ true) (sym all_more)
+                  (ap (listed x) theirs ∙ l.2)),
+            )
+
+        new : listed x (chosen ks2 (needs_along ts2 is)) ≡ true → IsLedTo ts2 (ws ++ is ∷ []) x
+        new q = (
+          length ws,
+          omega (arith, length-append ws (is ∷ [])),
+          subst (λ v. listed x (chosen (names ts2) (needs_along ts2 v)) ≡ true)
+              (sym (ap (λ o. unwrap_or o []) (last_at ws is)))
+              (subst (λ ks. listed x (chosen ks (needs_along ts2 is)) ≡ true) known.named q),
+        )
 
     pub found_more : (ks1 : List Text)
         → ((n : Text) → among n ks1 ≡ true → (among n ks0 ≡ true) ⊎ (among n (names (templates_at ts1 is)) ≡ true))
@@ -321,6 +354,7 @@ module _ {given : SourceTexts} {options : Options} {root : Text} {ts0 : List Tem
           once = n.once;
           few = n.few;
           reached = λ x a. reached_from x (n.from x a);
+          led = led_more n;
           followed = followed_next given ts2 hs2 hs2 ws ns h is next
               (subst (λ vs. AreFollowed given vs hs2 hs2 ws ns) (sym all_more)
               (subst (λ l. AreFollowed given (ts0 ++ (more.0 ++ m2)) l l ws ns) (sym n.grown)
@@ -356,6 +390,7 @@ found_first given options entry root ts ks hs ws ns eh er et ek ew en =
       reached =
           λ x a. subst (λ z. Reaches (sources_in []) options.autoescape (a_chain entry) z)
           (only_among of_namespaces (a_chain entry) x a) here;
+      led = λ x a. inl (sym (only_among of_namespaces (a_chain entry) x a));
       followed = tt;
     }))))))
 

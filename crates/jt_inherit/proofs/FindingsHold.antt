@@ -1,21 +1,21 @@
 -- Findings that have no place, and those of included and imported templates.
-use Rattle.std.proofs.Common.{◌≡◌, true, false, ℕ, List, [], sym, subst, ◌∙◌, ⊎_elim, Option, Some, None}
+use Rattle.std.proofs.Common.{◌≡◌, Bool, true, false, ℕ, List, [], refl, sym, subst, ⊎_elim, Option, Some, None}
 use Rattle.std.proofs.Common.{◌∷◌, string_bytes}
-use Rattle.std.proofs.lemmas.List.{append-nil}
 use Rattle.jt_scan.specs.declared.options.Options.{Options}
 use Rattle.jt_ast.specs.Expressions.{Text}
-use Rattle.jt_chains.specs.Along.{templates_at}
-use Rattle.jt_chains.specs.Chain.{Namespace, a_chain, Template, sources_in}
+use Rattle.jt_chains.specs.Along.{AreIndices, templates_at}
+use Rattle.jt_chains.specs.Chain.{Sources, Namespace, a_chain, Template, sources_in}
 use Rattle.jt_chains.specs.Rules.{Reaches, is_whole}
 use Rattle.jt_chains.specs.TemplateFiles.{files_view}
 use Rattle.jt_chains.specs.declared.files.TemplateFile.{TemplateFile}
 use Rattle.jt_inherit.specs.Chains.{SourceTexts}
-use Rattle.jt_inherit.specs.Findings.{IsFinding, IsBare, Says, ForSome, HasTag, HasTwoTags, binds_macro, defines}
-use Rattle.jt_inherit.specs.Findings.{IsNotGiven, HasNoSuper, is_block}
-use Rattle.jt_inherit.specs.Refusals.{Breaks}
+use Rattle.jt_inherit.specs.Findings.{IsFinding, IsNoMemory, Says, ForSome, HasTag, HasTwoTags, binds_macro, defines}
+use Rattle.jt_inherit.specs.Findings.{IsNotGiven, HasNoSuper, all_uses, is_block, may_be_bare}
 use Rattle.jt_inherit.specs.internal.ExtendsPaths.{AreKnown, IsExtendsPath}
 use Rattle.jt_inherit.specs.internal.Breaking.{BrokenIn, RuleAt}
-use Rattle.jt_inherit.specs.internal.Unmet.{IsUnmet}
+use Rattle.jt_inherit.specs.internal.RuleTests.{BreakOne}
+use Rattle.jt_inherit.specs.internal.Unmet.{IsUnmet, IsUnmetNeed}
+use Rattle.jt_inherit.specs.internal.Placing.{need_test}
 use Rattle.jt_inherit.specs.declared.error.ChainError.{ChainError}
 use Rattle.jt_inherit.specs.declared.error.ChainError.TheVariants as error
 use Rattle.jt_inherit.specs.declared.finding.ChainFinding.{ChainFinding}
@@ -25,12 +25,22 @@ use Rattle.jt_inherit.specs.declared.finding.TagPlace.{TagPlace}
 use Rattle.jt_inherit.proofs.DiscoveryInvariant.{asks_needed, whole_path}
 use Rattle.jt_inherit.proofs.PathsGrow.{asked_breaks}
 use Rattle.jt_inherit.proofs.PlacedErrors.{need_said, shown}
+use Rattle.jt_inherit.proofs.TagPlaces.{HasUse}
+use Rattle.jt_inherit.proofs.UsesFound.{asked_used}
+
+-- The tag that asks for an unmet template.
+need_used : {given : SourceTexts} {options : Options} {ps : List TemplateFile} {is : List ℕ} {f : ChainFinding}
+    → AreIndices (files_view ps) is → (n : IsUnmetNeed given options ps is f)
+    → HasUse (need_test n.name f.error) (all_uses (templates_at (files_view ps) is))
+need_used {given} {options} {ps} {is} {f} w n = by f.error refl
+  where
+    by : (e : ChainError) → f.error ≡ e → HasUse (need_test n.name e) (all_uses (templates_at (files_view ps) is))
+    by error.Missing q = asked_used false n.name (files_view ps) is w (n.must q)
+    by e q = asked_used true n.name (files_view ps) is w n.asked
 
 module _ {given : SourceTexts} {root : Text} {options : Options} where
-  -- An error alone, which is justified.
-  pub bare_finding : (e : ChainError) (f : ChainFinding) → IsBare e f → Breaks e given root options
-      → IsFinding given root options f
-  bare_finding e f is b = subst (IsFinding given root options) (sym is) (record { broken = b; says = tt })
+  pub no_memory : (f : ChainFinding) → IsNoMemory f → IsFinding given root options f
+  no_memory f is = subst (IsFinding given root options) (sym is) (record { broken = tt; says = refl })
 
   -- An error of an included or imported template.
   pub need_finds : {ps : List TemplateFile} {ks : List Text} {h : Namespace} {is : List ℕ}
@@ -39,16 +49,15 @@ module _ {given : SourceTexts} {root : Text} {options : Options} where
       → IsExtendsPath (files_view ps) h is None → (f : ChainFinding) → IsUnmet given options ps is f
       → IsFinding given root options f
   need_finds {ps} {ks} {h} {is} known r w f unmet = ⊎_elim
-      (λ m. bare_finding error.NoMemory f m tt)
+      (λ m. no_memory f m)
       (λ n. record {
         broken =
             asked_breaks known r n.name f.error
             (asks_needed (files_view ps) options.autoescape h is w true n.name n.asked)
             (λ q. asks_needed (files_view ps) options.autoescape h is w false n.name (n.must q)) n.fault;
         says =
-            need_said known r (templates_at (files_view ps) is) []
-            (whole_path (files_view ps) h is w ∙ sym (append-nil (templates_at (files_view ps) is))) n.name f.error
-            n.fault f.place f.subject n.placed.1;
+            need_said known r (whole_path (files_view ps) h is w) n.name f.error n.fault
+            (need_used w.indices n) f.place f.subject n.placed.1;
       })
       unmet
 
@@ -83,9 +92,19 @@ module _ {given : SourceTexts} {root : Text} {options : Options} {ts : List Temp
       (whole, subst (λ l. HasNoSuper l (string_bytes x) opened p) (sym (whole_path ts h is w)) q.1))
   broken_said e p x q = absurd q
 
-  pub rule_said : (e : ChainError) (p : Option TagPlace) (x : Option ChainSubject)
+  pub rule_said : (e : ChainError) → may_be_bare e ≡ true → (p : Option TagPlace) (x : Option ChainSubject)
       → RuleAt (sources_in ts) (templates_at ts is) p x e → Says given root options p x e
-  rule_said e None None q = tt
-  rule_said e None (Some x) q = absurd q
-  rule_said e (Some p) None q = absurd q
-  rule_said e (Some p) (Some x) q = broken_said e p x q
+  rule_said e bare None None q = bare
+  rule_said e bare None (Some x) q = absurd q
+  rule_said e bare (Some p) None q = absurd q
+  rule_said e bare (Some p) (Some x) q = broken_said e p x q
+
+-- The errors of a broken rule on blocks, macros and imports.
+pub rule_bare : (s : Sources) (escaping : Bool) (ts : List Template) (e : ChainError) → BreakOne s escaping ts e
+    → may_be_bare e ≡ true
+rule_bare s escaping ts error.Missing b = absurd b
+rule_bare s escaping ts error.BadName b = absurd b
+rule_bare s escaping ts error.ExtendsCycle b = absurd b
+rule_bare s escaping ts error.ChainTooLong b = absurd b
+rule_bare s escaping ts error.NotALibrary b = absurd b
+rule_bare s escaping ts e b = refl

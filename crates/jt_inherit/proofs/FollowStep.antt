@@ -6,21 +6,21 @@ use Rattle.std.specs.Prelude.{slice_get}
 use Rattle.std.specs.List.{AllByRecursion}
 use Rattle.std.specs.Str.{bytes_eq}
 use Rattle.std.proofs.lemmas.List.{append-nil, append_assoc, take_more, drop_more, map-append}
-use Rattle.jt_scan.specs.declared.options.Options.{Options}
 use Rattle.jt_ast.specs.Texts.{among, repeated}
 use Rattle.jt_ast.specs.Expressions.{Text}
 use Rattle.jt_inherit.specs.Chains.{SourceTexts}
 use Rattle.jt_chains.specs.Chain.{Namespace, a_chain, a_library, listed}
-use Rattle.jt_inherit.specs.internal.Found.{AreNext, AddsNext, TooMany, IsNextFault, IsMet, IsFaultAt, IsNeedFault}
+use Rattle.jt_inherit.specs.internal.Found.{AreNext, AddsNext, TooMany, IsNextFault, IsMet}
 use Rattle.jt_inherit.specs.internal.Found.{known_of, chosen, chains_of, twice}
 use Rattle.jt_chains.specs.Needs.{Need, needed, need_namespace, need_view, needs_view}
 use Rattle.jt_inherit.specs.declared.error.ChainError.{ChainError}
 use Rattle.jt_inherit.specs.declared.error.ChainError.TheVariants as error
 use Rattle.jt_chains.specs.declared.include_tags.NeededTemplate.{NeededTemplate}
 use Rattle.jt_inherit.proofs.NameMembership.{of_texts, reflexive}
+use Rattle.jt_inherit.proofs.PathsGrow.{last_at}
 use Rattle.jt_inherit.proofs.NamespaceMembership.{chain_among, of_namespaces}
-use Rattle.jt_inherit.proofs.Membership.{among_behind, among_cases, among_front, both_false, once_more, only_among}
-use Rattle.jt_inherit.proofs.Membership.{or_false}
+use Rattle.jt_inherit.proofs.Membership.{among_behind, among_cases, among_front, among_next, both_false, once_more}
+use Rattle.jt_inherit.proofs.Membership.{only_among, or_false}
 
 -- ---- known includes and imports
 
@@ -32,10 +32,6 @@ pub one_known : (ks : List Text) (n : Need) → among n.name ks ≡ true → cho
 one_known ks n e = ap (λ b. map need_namespace (cond b (n ∷ []) [])) e
 
 -- ---- numbers of namespaces
-
-last_at : (xs : List Namespace) (x : Namespace) → slice_get (xs ++ x ∷ []) (length xs) ≡ Some x
-last_at [] x = refl
-last_at (y ∷ xs) x = last_at xs x
 
 -- A namespace that has a number.
 pub next_there : (hs : List Namespace) (x : Namespace) (i : ℕ) → twice hs ≡ false → length (chains_of hs) ≤ 1024
@@ -55,7 +51,8 @@ pub next_new : (old new : List Namespace) (x : Namespace) (i : ℕ) → new ≡ 
 next_new old new x i is once h few at =
     search (arith, rules, once_more of_namespaces, among_cases of_namespaces, last_at)
 
-at_front : (xs ys : List Namespace) (i : ℕ) (x : Namespace) → slice_get xs i ≡ Some x → slice_get (xs ++ ys) i ≡ Some x
+pub at_front : (xs ys : List Namespace) (i : ℕ) (x : Namespace) → slice_get xs i ≡ Some x
+    → slice_get (xs ++ ys) i ≡ Some x
 at_front [] ys i x e = absurd (cc)
 at_front (y ∷ xs) ys zero x e = e
 at_front (y ∷ xs) ys (suc i) x e = at_front xs ys i x e
@@ -72,21 +69,37 @@ pub next_both : (a b c xs ys : List Namespace) (is js : List ℕ) → AreNext a 
 next_both a b c xs ys is js p q =
     search (arith, rules, append_assoc, among_front of_namespaces, among_behind of_namespaces, map-append, numbers_grow)
 
--- An error at a later name is an error of all names.
-pub fault_later : (a b xs ys zs : List Namespace) (is : List ℕ) (e : ChainError) → AreNext a b xs is
-    → IsNextFault b ys e → IsNextFault a (xs ++ (ys ++ zs)) e
-fault_later a b xs ys zs is e p f = search (arith, rules, among_front of_namespaces, among_behind of_namespaces)
+-- Too many chains at a later name are too many at all names.
+pub many_later : (a b xs ys zs : List Namespace) (is : List ℕ) (n : Text) → AreNext a b xs is → TooMany b ys n
+    → TooMany a (xs ++ (ys ++ zs)) n
+many_later a b xs ys zs is n p f =
+    let later = λ (h : Namespace) (q : listed h ys ≡ true). among_behind of_namespaces h xs (ys ++ zs)
+    (among_front of_namespaces h ys zs q) in
+    record {
+      chains = f.chains;
+      many = f.many;
+      once = f.once;
+      from = λ m k. ⊎_elim
+          (λ q. ⊎_elim (λ r. inl r) (λ r. inr (among_front of_namespaces (a_chain m) xs (ys ++ zs) r))
+          (p.from (a_chain m) q))
+          (λ q. inr (later (a_chain m) q))
+          (f.from m k);
+      this_one = f.this_one;
+      led = later (a_chain n) f.led;
+    }
 
 pub too_many : (old : List Namespace) (n : Text) → twice old ≡ false → length (chains_of old) ≡ 1024
-    → listed (a_chain n) old ≡ false → TooMany old (a_chain n ∷ [])
-too_many old n once len new = (
-  chains_of old ++ n ∷ [],
-  omega (arith, length-append (chains_of old) (n ∷ []), len),
-  once_more of_texts n (chains_of old) (chains_once old once) (sym (chain_among n old) ∙ new),
-  λ m a. ⊎_elim (λ p. inl (chain_among m old ∙ p))
+    → listed (a_chain n) old ≡ false → TooMany old (a_chain n ∷ []) n
+too_many old n once len new = record {
+  chains = chains_of old ++ n ∷ [];
+  many = omega (arith, length-append (chains_of old) (n ∷ []), len);
+  once = once_more of_texts n (chains_of old) (chains_once old once) (sym (chain_among n old) ∙ new);
+  from = λ m a. ⊎_elim (λ p. inl (chain_among m old ∙ p))
       (λ q. inr (ap (λ b. b || false) (ap (λ z. bytes_eq z m) (only_among of_texts n m q) ∙ reflexive m)))
-      (among_cases of_texts m (chains_of old) (n ∷ []) a),
-)
+      (among_cases of_texts m (chains_of old) (n ∷ []) a);
+  this_one = among_next of_texts n (chains_of old) [];
+  led = ap (λ b. b || false) (reflexive n);
+}
   where
     chains_once : (hs : List Namespace) → twice hs ≡ false → repeated (chains_of hs) ≡ false
     chains_once [] o = refl
@@ -99,11 +112,11 @@ too_many old n once len new = (
 pub put_fault : (old : List Namespace) (x : Namespace) (n : Text) (e : ChainError) → twice old ≡ false
     → listed x old ≡ false
     → (e ≡ error.NoMemory) ⊎ ((e ≡ error.ChainTooLong) × (length (chains_of old) ≡ 1024) × (x ≡ a_chain n))
-    → IsNextFault old (x ∷ []) e
+    → IsNextFault old (x ∷ []) n e
 put_fault old x n e once new f = ⊎_elim (λ m. inl m)
     (λ t. inr (
       t.0,
-      subst (λ y. TooMany old (y ∷ [])) (sym t.2) (too_many old n once t.1 (ap (λ y. listed y old) (sym t.2) ∙ new)),
+      subst (λ y. TooMany old (y ∷ []) n) (sym t.2) (too_many old n once t.1 (ap (λ y. listed y old) (sym t.2) ∙ new)),
     )) f
 
 -- ---- includes and imports, in order
@@ -172,15 +185,14 @@ next_turn old mid new ks ns k d is js lt p q =
     (next_both old mid new (chosen ks (needs_view (take k ns))) (chosen ks (need_view (get_or ns k d) ∷ [])) is q.0 p
     q.2))
 
-pub fault_turn : (old mid : List Namespace) (ks : List Text) (ns : List NeededTemplate) (k : ℕ) (d : NeededTemplate)
-    (is : List ℕ)
-    (e : ChainError)
+pub many_turn : (old mid : List Namespace) (ks : List Text) (ns : List NeededTemplate) (k : ℕ) (d : NeededTemplate)
+    (is : List ℕ) (n : Text)
     → k < length ns → AreNext old mid (chosen ks (needs_view (take k ns))) is
-    → IsNextFault mid (chosen ks (need_view (get_or ns k d) ∷ [])) e → IsNextFault old (chosen ks (needs_view ns)) e
-fault_turn old mid ks ns k d is e lt p f =
-    subst (λ l. IsNextFault old l e) (sym (chosen_all ks ns k d lt))
-    (fault_later old mid (chosen ks (needs_view (take k ns))) (chosen ks (need_view (get_or ns k d) ∷ []))
-    (chosen ks (needs_view (drop (k + 1) ns))) is e p f)
+    → TooMany mid (chosen ks (need_view (get_or ns k d) ∷ [])) n → TooMany old (chosen ks (needs_view ns)) n
+many_turn old mid ks ns k d is n lt p f =
+    subst (λ l. TooMany old l n) (sym (chosen_all ks ns k d lt))
+    (many_later old mid (chosen ks (needs_view (take k ns))) (chosen ks (need_view (get_or ns k d) ∷ []))
+    (chosen ks (needs_view (drop (k + 1) ns))) is n p f)
 
 -- ---- an error of an included template
 
@@ -193,10 +205,3 @@ asked_at all (n ∷ ns) zero d lt e =
 asked_at all (n ∷ ns) (suc k) d lt e =
     among_behind of_texts (get_or ns k d).name.now (if all || not n.ignoring then n.name.now ∷ [] else [])
     (needed all (needs_view ns)) (asked_at all ns k d (omega arith) e)
-
-pub need_fault : (given : SourceTexts) (options : Options) (ns : List NeededTemplate) (ms : List Need) (k : ℕ)
-    (d : NeededTemplate)
-    (e : ChainError)
-    → needs_view ns ≡ ms → k < length ns → IsFaultAt given options (need_view (get_or ns k d)) e
-    → IsNeedFault given options ms e
-need_fault given options ns ms k d e same_needs lt f = search (arith, rules, get_or, asked_at)

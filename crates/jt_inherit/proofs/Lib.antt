@@ -36,3 +36,5 @@ pub mod ImportFound
 pub mod RingFound
 pub mod LastCall
 pub mod SuperTagLines
+pub mod UsesFound
+pub mod ManyChains

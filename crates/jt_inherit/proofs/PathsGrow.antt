@@ -1,12 +1,13 @@
 -- Paths that are extended, and the facts about them that stay true.
 use Rattle.std.proofs.Common.{◌≡◌, ℕ, zero, suc, ◌+◌, ◌-◌, ◌<◌, ◌≤◌, ◌==◌, Bool, true, false, not, ◌&&◌, List, [], ◌∷◌}
-use Rattle.std.proofs.Common.{◌++◌, length, map, get_or, refl, sym, ap, subst, ◌∙◌, arith, inl, inr, ◌⊎◌, ⊎_elim}
-use Rattle.std.proofs.Common.{Option, Some, None, length-append, string_bytes, rules}
-use Rattle.std.specs.Prelude.{flat_map, slice_get}
+use Rattle.std.proofs.Common.{◌||◌, ◌++◌, length, map, drop, get_or, refl, sym, ap, subst, ◌∙◌, arith, inl, inr, ◌⊎◌}
+use Rattle.std.proofs.Common.{⊎_elim, Option, Some, None, length-append, string_bytes, rules}
+use Rattle.std.specs.Prelude.{flat_map, option_map, slice_get}
+use Rattle.std.specs.Str.{bytes_eq}
 use Rattle.std.specs.Option.{option_to_list}
 use Rattle.std.proofs.lemmas.Option.{slice_get_within, slice_get-get_or}
 use Rattle.std.specs.List.{AllByRecursion}
-use Rattle.std.proofs.lemmas.List.{append-nil, append_assoc, length-map}
+use Rattle.std.proofs.lemmas.List.{append-nil, append_assoc, drop_more, length-map}
 use Rattle.jt_scan.specs.declared.options.Options.{Options}
 use Rattle.jt_ast.specs.Texts.{among, repeated}
 use Rattle.jt_ast.specs.Expressions.{Text}
@@ -28,7 +29,8 @@ use Rattle.jt_inherit.specs.internal.ExtendsPaths.{Leads, LeadsFrom, AreKnown, I
 use Rattle.jt_inherit.specs.declared.error.ChainError.{ChainError}
 use Rattle.jt_inherit.specs.declared.error.ChainError.TheVariants as error
 use Rattle.jt_chains.proofs.TemplatesByIndex.{only_one, map_at}
-use Rattle.jt_inherit.proofs.NameMembership.{all_more, map_more, of_texts}
+use Rattle.jt_inherit.specs.internal.Placing.{IsNamedOn}
+use Rattle.jt_inherit.proofs.NameMembership.{all_more, map_more, of_texts, same}
 use Rattle.jt_inherit.proofs.Membership.{among_front, among_next, comes_again, once_more}
 
 abbrev pub names : List Template → List Text
@@ -130,6 +132,34 @@ templates_more ts [] i t e = ap (λ o. option_to_list o ++ []) e
 templates_more ts (j ∷ is) i t e =
     ap (λ l. option_to_list (slice_get ts j) ++ l) (templates_more ts is i t e)
     ∙ sym (append_assoc (option_to_list (slice_get ts j)) (templates_at ts is) (t ∷ []))
+
+-- The template file at an index, and the templates at the further indices.
+pub templates_turn : (ps : List TemplateFile) (is : List ℕ) (k : ℕ) (p : TemplateFile) → k < length is
+    → get_or is k 0 < length ps → p ≡ get_or ps (get_or is k 0) p
+    → templates_at (files_view ps) (drop k is) ≡ file_view p ∷ templates_at (files_view ps) (drop (k + 1) is)
+templates_turn ps is k p lt within at =
+    ap (templates_at (files_view ps)) (drop_more is k 0 lt)
+    ∙ ap (λ o. option_to_list o ++ templates_at (files_view ps) (drop (k + 1) is))
+    (map_at file_view ps (get_or is k 0) p within at)
+
+-- The template file at a number on a path has the name, or another one.
+pub named_here : (ps : List TemplateFile) (is : List ℕ) (k : ℕ) (p : TemplateFile) (n : Text) → k < length is
+    → get_or is k 0 < length ps → p ≡ get_or ps (get_or is k 0) p → bytes_eq (string_bytes p.name) n ≡ true
+    → IsNamedOn (files_view ps) is n k
+named_here ps is k p n lt within at e = (
+  lt,
+  ap (option_map (λ (t : Template). t.name)) (map_at file_view ps (get_or is k 0) p within at)
+      ∙ ap Some (same (string_bytes p.name) n e),
+)
+
+pub passed_by : (ps : List TemplateFile) (is : List ℕ) (k : ℕ) (p : TemplateFile) (n : Text) (b : Bool) → k < length is
+    → get_or is k 0 < length ps → p ≡ get_or ps (get_or is k 0) p → bytes_eq (string_bytes p.name) n ≡ false
+    → among n (names (templates_at (files_view ps) (drop k is))) ≡ b
+    → among n (names (templates_at (files_view ps) (drop (k + 1) is))) ≡ b
+passed_by ps is k p n b lt within at e before =
+    sym (ap (λ us. among n (names us)) (templates_turn ps is k p lt within at)
+    ∙ ap (λ d. d || among n (names (templates_at (files_view ps) (drop (k + 1) is)))) e)
+    ∙ before
 
 pub few_templates : (ts : List Template) (is : List ℕ) → length (templates_at ts is) ≤ length is
 few_templates ts [] = omega arith
@@ -337,13 +367,6 @@ file_last ps qs p n k e is at =
     search (arith, rules, length_names, length-map, files_more, map_more, string_bytes, last_at)
 
 -- ---- one step of a path
-
-pub on_path : {ps qs : List TemplateFile} {is js : List ℕ} {n m : Text} {b : Bool} → qs ≡ ps → js ≡ is → m ≡ n
-    → b ≡ among m (names (templates_at (files_view qs) js)) → b ≡ among n (names (templates_at (files_view ps) is))
-on_path {ps} {qs} {is} {js} {n} {m} {b} p q r e =
-    e ∙ ap (λ (z : List TemplateFile). among m (names (templates_at (files_view z) js))) p
-    ∙ ap (λ (z : List ℕ). among m (names (templates_at (files_view ps) z))) q
-    ∙ ap (λ (z : Text). among z (names (templates_at (files_view ps) is))) r
 
 pub name_of_slice : (ts : List Template) (i : ℕ) (t : Template) → slice_get ts i ≡ Some t
     → slice_get (names ts) i ≡ Some t.name

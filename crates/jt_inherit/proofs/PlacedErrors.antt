@@ -1,16 +1,16 @@
 -- What the place of an error at the name of a template shows in each chain that reaches the tag.
 use Rattle.std.proofs.Common.{◌≡◌, ℕ, suc, ◌+◌, ◌-◌, ◌<◌, ◌≤◌, Bool, true, false, not, ◌||◌, List, [], ◌∷◌, ◌++◌}
 use Rattle.std.proofs.Common.{length}
-use Rattle.std.proofs.Common.{String, Global, get_or, Result, Ok, Err, map, refl, sym, ap, subst, ◌∙◌, arith, inl, inr}
+use Rattle.std.proofs.Common.{String, Global, drop, get_or, map, zero, refl, sym, ap, subst, ◌∙◌, arith, inl, inr}
 use Rattle.std.proofs.Common.{◌⊎◌, ⊎_elim, Option, Some, None, string_bytes}
-use Rattle.std.specs.Prelude.{IfOk, flat_map, slice_get}
+use Rattle.std.specs.Prelude.{flat_map, slice_get, option_map}
 use Rattle.std.specs.Option.{is_some, option_to_list}
-use Rattle.std.specs.Str.{bytes_eq}
-use Rattle.std.proofs.lemmas.List.{append_assoc, append-nil, length-map}
+use Rattle.std.proofs.lemmas.List.{append_assoc, append-nil, length-map, map-append}
 use Rattle.std.proofs.lemmas.Option.{slice_get-get_or}
 use Rattle.jt_scan.specs.declared.options.Options.{Options}
 use Rattle.jt_ast.specs.Texts.{among, repeated}
 use Rattle.jt_ast.specs.Expressions.{Text}
+use Rattle.jt_ast.specs.Statements.{end}
 use Rattle.jt_uses.specs.Uses.{Use, Site, body_uses, outside}
 use Rattle.jt_chains.specs.Along.{AreIndices, templates_at}
 use Rattle.jt_chains.specs.Chain.{Sources, Namespace, namespace_name, a_chain, a_library, listed, Template, template}
@@ -20,19 +20,20 @@ use Rattle.jt_chains.specs.Names.{IsName}
 use Rattle.jt_chains.specs.Rules.{Reaches, here, through, extends_path}
 use Rattle.jt_chains.specs.TemplateFiles.{files_view}
 use Rattle.jt_chains.specs.declared.files.TemplateFile.{TemplateFile}
-use Rattle.jt_chains.proofs.TemplatesByIndex.{index_within}
+use Rattle.jt_chains.proofs.TemplatesByIndex.{number_at}
 use Rattle.jt_inherit.specs.Chains.{SourceTexts}
 use Rattle.jt_inherit.specs.Findings.{ForSome, IsAt, HasTag, all_uses, uses_in, asks, is_extends, IsBrokenAt, Says}
+use Rattle.jt_inherit.specs.Findings.{last_of, may_be_bare}
 use Rattle.jt_inherit.specs.internal.ExtendsPaths.{AreKnown, BreaksAll, Grow, IsExtendsPath, Leads, SaysAll}
 use Rattle.jt_inherit.specs.internal.Faults.{IsFaultOf}
-use Rattle.jt_inherit.specs.internal.Placing.{IsOfHead, IsOfNeed, IsOfParent, HeadAt, LastAt, PlacedAt, SubjectOf}
-use Rattle.jt_inherit.specs.internal.Placing.{IsOfName, need_test}
+use Rattle.jt_inherit.specs.internal.Placing.{IsCycle, IsLong, IsNamed, IsNamedOn, IsNameless, IsOfName, IsOfNeed}
+use Rattle.jt_inherit.specs.internal.Placing.{IsOneMore, IsRound, NamedAt, need_test, parent_at, uses_at, uses_of}
 use Rattle.jt_chains.specs.Needs.{Need, need_view, needed, needs_view}
 use Rattle.jt_chains.specs.declared.include_tags.NeededTemplate.{NeededTemplate}
 use Rattle.jt_inherit.specs.internal.Along.{needs_of}
 use Rattle.jt_inherit.specs.internal.Found.{IsFaultAt}
 use Rattle.jt_inherit.specs.internal.Unmet.{IsUnmet}
-use Rattle.jt_inherit.specs.internal.Tags.{tags, place_view}
+use Rattle.jt_inherit.specs.internal.Tags.{tags, place_in, place_view}
 use Rattle.jt_inherit.specs.declared.error.ChainError.{ChainError}
 use Rattle.jt_inherit.specs.declared.error.ChainError.TheVariants as error
 use Rattle.jt_inherit.specs.declared.finding.ChainSubject.{ChainSubject}
@@ -40,7 +41,7 @@ use Rattle.jt_inherit.specs.declared.finding.ChainSubject.TheVariants as v
 use Rattle.jt_inherit.specs.declared.finding.TagPlace.{TagPlace}
 use Rattle.jt_inherit.proofs.DiscoveryInvariant.{some_source, none_read}
 use Rattle.jt_inherit.proofs.Membership.{among_next, once_more}
-use Rattle.jt_inherit.proofs.NameMembership.{map_more, of_texts, reflexive, same}
+use Rattle.jt_inherit.proofs.NameMembership.{of_texts}
 use Rattle.jt_inherit.proofs.PathTemplates.{all_among, all_named, never}
 use Rattle.jt_inherit.proofs.PathsGrow.{names, names_lead, templates_lead, few_templates, all_templates, last_at}
 use Rattle.jt_inherit.specs.Refusals.{Breaks}
@@ -48,11 +49,11 @@ use Rattle.jt_inherit.specs.internal.SetView.{key_view}
 use Rattle.jt_inherit.specs.declared.finding.ChainFinding.{ChainFinding}
 use Rattle.jt_inherit.specs.declared.sets.NamespaceKey.{NamespaceKey}
 use Rattle.jt_inherit.proofs.FollowStep.{asked_at}
-use Rattle.jt_inherit.proofs.LibraryTemplate.{alone_breaks}
 use Rattle.jt_inherit.proofs.NamespaceSets.{is_chain}
 use Rattle.jt_inherit.proofs.SourcesGrow.{among_passes, chains_listed, chain_breaks, libraries_listed, flat-append}
 use Rattle.jt_inherit.proofs.SourcesGrow.{reach_more}
-use Rattle.jt_inherit.proofs.TagPlaces.{first_shows, place_in, tag_front, tag_last, tag_weaker, extends_asks}
+use Rattle.jt_inherit.proofs.TagPlaces.{HasUse, placed, tag_front, tag_last, tag_weaker, extends_asks}
+use Rattle.jt_inherit.proofs.UsesFound.{extends_used}
 
 -- ---- a chain or library that is reached has a template, or is the entry's
 
@@ -87,28 +88,24 @@ chain_front s n us o le l =
           ∙ ap (λ z. z ++ flat_map (λ m. template m (s m)) (names_up s k o)) (templates_lead s (Some n) us o l),
     )
 
-pub ok_weaker : {A E : Type 0} (P Q : A → Type 0) → ((x : A) → P x → Q x) → (r : Result A E) → IfOk r P → IfOk r Q
-ok_weaker P Q f (Ok x) h = f x h
-ok_weaker P Q f (Err e) h = h
-
 -- The last index of a path is that of a template.
-pub index_at_end : (ps : List TemplateFile) (is : List ℕ) (i : ℕ) → AreIndices (files_view ps) is
-    → Some i ≡ slice_get is (length is - 1) → i < length ps
-index_at_end ps [] i a e = absurd (cc)
-index_at_end ps (j ∷ is) i a e =
+pub index_at_end : (ts : List Template) (is : List ℕ) (i : ℕ) → AreIndices ts is → Some i ≡ slice_get is (length is - 1)
+    → i < length ts
+index_at_end ts [] i a e = absurd (cc)
+index_at_end ts (j ∷ is) i a e =
     let lt : length (j ∷ is) - 1 < length (j ∷ is) = omega arith in
     let h = slice_get-get_or (j ∷ is) (length (j ∷ is) - 1) 0 lt in
     let last : i ≡ get_or (j ∷ is) (length (j ∷ is) - 1) 0 = cc in
-    omega (arith, last, index_within ps (j ∷ is) (length (j ∷ is) - 1) lt a)
+    omega (arith, last, number_at (λ k. k < length ts) (j ∷ is) (length (j ∷ is) - 1) lt a)
 
-pub last_none : (is : List ℕ) → slice_get is (length is - 1) ≡ None → is ≡ []
+last_none : (is : List ℕ) → slice_get is (length is - 1) ≡ None → is ≡ []
 last_none [] e = refl
 last_none (j ∷ is) e =
     let lt : length (j ∷ is) - 1 < length (j ∷ is) = omega arith in
     let h = slice_get-get_or (j ∷ is) (length (j ∷ is) - 1) 0 lt in
     absurd (cc)
 
-pub last_template : (ts : List Template) (is : List ℕ) (i : ℕ) (t : Template) → slice_get is (length is - 1) ≡ Some i
+last_template : (ts : List Template) (is : List ℕ) (i : ℕ) (t : Template) → slice_get is (length is - 1) ≡ Some i
     → slice_get ts i ≡ Some t → (us : List Template) × (templates_at ts is ≡ us ++ t ∷ [])
 last_template ts [] i t e at = absurd (cc)
 last_template ts (j ∷ []) i t e at =
@@ -125,37 +122,90 @@ last_template ts (j ∷ (k ∷ is)) i t e at =
           ∙ sym (append_assoc (option_to_list (slice_get ts j)) more.0 (t ∷ [])),
     )
 
--- The path from a name on it comes to its last template.
-comes_back : (s : Sources) (o : Option Text) (us : List Template) (t : Template) (n : Text)
-    → Leads s o (us ++ t ∷ []) (Some n) → among n (names (us ++ t ∷ [])) ≡ true
-    → (count : ℕ) × (among t.name (names_up s count (Some n)) ≡ true)
-comes_back s None [] t n l a = absurd l
-comes_back s (Some m) [] t n l a = by (bytes_eq t.name n) refl
+-- A fact about the uses of the last template of a path, or about none if the path is empty.
+at_the_end : (Q : List (Text × Site) → Type 0) (ts : List Template) (is : List ℕ) → AreIndices ts is
+    → (is ≡ [] → Q [])
+    → ((us : List Template) (t : Template) → templates_at ts is ≡ us ++ t ∷ [] → Q (uses_in t))
+    → Q (uses_at ts (slice_get is (length is - 1)))
+at_the_end Q ts is a f g = by (slice_get is (length is - 1)) refl
   where
-    by : (b : Bool) → bytes_eq t.name n ≡ b → (count : ℕ) × (among t.name (names_up s count (Some n)) ≡ true)
-    by true h =
-        (1, ap (λ z. among t.name (z ∷ [])) (sym (same t.name n h)) ∙ ap (λ b. b || false) (reflexive t.name))
-    by false h = absurd (never (bytes_eq t.name n || false) (ap (λ b. b || false) h) a)
-comes_back s None (u ∷ us) t n l a = absurd l
-comes_back s (Some m) (u ∷ us) t n l a =
-    by (bytes_eq u.name n) refl (λ k b. comes_back s (extends_of u.body) us t n k b)
+    by : (o : Option ℕ) → slice_get is (length is - 1) ≡ o → Q (uses_at ts o)
+    by None e = f (last_none is e)
+    by (Some i) e = there (slice_get ts i) refl
+      where
+        there : (o : Option Template) → slice_get ts i ≡ o → Q (uses_of o)
+        there None h =
+            let some = slice_get-get_or ts i (let t : Template = record { name = []; body = end } in t)
+            (index_at_end ts is i a (sym e)) in
+            absurd (cc)
+        there (Some t) h =
+            let last = last_template ts is i t e h in
+            g last.0 t last.1
+
+-- The last template of a path extends the name after the path.
+last_extends : (s : Sources) (o : Option Text) (us : List Template) (t : Template) (p : Option Text)
+    → Leads s o (us ++ t ∷ []) p → extends_of t.body ≡ p
+last_extends s None [] t p l = absurd l
+last_extends s (Some n) [] t p l = l.2
+last_extends s None (u ∷ us) t p l = absurd l
+last_extends s (Some n) (u ∷ us) t p l = last_extends s (extends_of u.body) us t p l.2
+
+-- ---- a path that comes back to one of its names
+
+-- The path begins again at each of its templates.
+leads_on : (s : Sources) (o : Option Text) (us : List Template) (t : Template) (vs : List Template) (p : Option Text)
+    → Leads s o (us ++ t ∷ vs) p → Leads s (Some t.name) (t ∷ vs) p
+leads_on s None [] t vs p l = absurd l
+leads_on s (Some n) [] t vs p l = (refl, ap s l.0 ∙ l.1, l.2)
+leads_on s None (u ∷ us) t vs p l = absurd l
+leads_on s (Some n) (u ∷ us) t vs p l = leads_on s (extends_of u.body) us t vs p l.2
+
+last_name : (x : Text) (us : List Template) (t : Template) → last_of x (names (us ++ t ∷ [])) ≡ t.name
+last_name x [] t = refl
+last_name x (u ∷ us) t = last_name u.name us t
+
+last_after : (x : Text) (us : List Template) (t : Template) (vs : List Template)
+    → last_of x (names (us ++ t ∷ vs)) ≡ last_of t.name (names vs)
+last_after x [] t vs = refl
+last_after x (u ∷ us) t vs = last_after u.name us t vs
+
+-- The templates before and after the one at a number on a path.
+split_at : (ts : List Template) (is : List ℕ) (k : ℕ) (n : Text) → IsNamedOn ts is n k
+    → (us : List Template) × (t : Template) × (t.name ≡ n)
+    × (templates_at ts is ≡ us ++ t ∷ templates_at ts (drop (k + 1) is))
+split_at ts [] k n at = let no : k < 0 = at.0 in absurd (omega arith)
+split_at ts (i ∷ is) zero n at = by (slice_get ts i) refl
   where
-    by : (b : Bool) → bytes_eq u.name n ≡ b
-        → (Leads s (extends_of u.body) (us ++ t ∷ []) (Some n) → among n (names (us ++ t ∷ [])) ≡ true
-        → (count : ℕ) × (among t.name (names_up s count (Some n)) ≡ true))
-        → (count : ℕ) × (among t.name (names_up s count (Some n)) ≡ true)
-    by false h go = go l.2 (sym (ap (λ b. b || among n (names (us ++ t ∷ []))) h) ∙ a)
-    by true h go =
-        let is_n : u.name ≡ n = same u.name n h in
-        let there : s n ≡ Some u.body = ap s (sym is_n ∙ l.0) ∙ l.1 in
-        let up = names_lead s (length (u ∷ (us ++ t ∷ [])) + 0) 0 (Some n) (u ∷ (us ++ t ∷ [])) (Some n) refl
-        (is_n, there, l.2) in
-        let their_names : names (u ∷ (us ++ t ∷ [])) ≡ names (u ∷ us) ++ t.name ∷ [] =
-        map_more (λ (w : Template). w.name) (u ∷ us) t in (
-          length (u ∷ (us ++ t ∷ [])) + 0,
-          ap (among t.name) (up ∙ append-nil (names (u ∷ (us ++ t ∷ []))) ∙ their_names)
-              ∙ among_next of_texts t.name (names (u ∷ us)) [],
-        )
+    by : (o : Option Template) → slice_get ts i ≡ o
+        → (us : List Template) × (t : Template) × (t.name ≡ n)
+        × (templates_at ts (i ∷ is) ≡ us ++ t ∷ templates_at ts is)
+    by None e =
+        let no : None ≡ Some n = sym (ap (option_map (λ (t : Template). t.name)) e) ∙ at.1 in
+        absurd (cc)
+    by (Some t) e =
+        let told : Some t.name ≡ Some n = sym (ap (option_map (λ (t : Template). t.name)) e) ∙ at.1 in
+        ([], t, (let is_n : t.name ≡ n = cc in is_n), ap (λ o. option_to_list o ++ templates_at ts is) e)
+split_at ts (i ∷ is) (suc k) n at =
+    let lt : k < length is = omega (arith, at.0) in
+    let rest = split_at ts is k n (lt, at.1) in
+    let one : suc (k + 1) ≡ suc k + 1 = omega arith in (
+      option_to_list (slice_get ts i) ++ rest.0,
+      rest.1,
+      rest.2,
+      subst (λ j. templates_at ts (i ∷ is) ≡ (option_to_list (slice_get ts i) ++ rest.0)
+          ++ rest.1 ∷ templates_at ts (drop j (i ∷ is))) one
+          (ap (λ l. option_to_list (slice_get ts i) ++ l) rest.3
+          ∙ sym (append_assoc (option_to_list (slice_get ts i)) rest.0 (rest.1 ∷ templates_at ts (drop (k + 1) is)))),
+    )
+
+pub there_on : (ts : List Template) (is : List ℕ) (k : ℕ) (n : Text) → IsNamedOn ts is n k
+    → among n (names (templates_at ts is)) ≡ true
+there_on ts is k n on =
+    let cut = split_at ts is k n on in
+    let vs = templates_at ts (drop (k + 1) is) in
+    ap (λ us. among n (names us)) cut.3
+    ∙ ap (among n) (map-append (λ (t : Template). t.name) cut.0 (cut.1 ∷ vs))
+    ∙ ap (λ z. among n (names cut.0 ++ z ∷ names vs)) cut.2 ∙ among_next of_texts n (names cut.0) (names vs)
 
 -- A tag of a template has its name.
 tag_name : (test : Use → Bool) (p : TagPlace) (n : Text) (ss : List Site)
@@ -195,18 +245,39 @@ module _ {given : SourceTexts} {options : Options} {root : Text} {ts : List Temp
           absurd (f (all_among IsName ts n (all_named given options ts known.read.each) (sym (some_source ts n) ∙ e)))
       by false e = e
 
+  -- An error of a source may come without a tag.
+  fault_bare : (n : Text) (e : ChainError) → IsFaultOf e given n options → IsNameless e → may_be_bare e ≡ true
+  fault_bare n error.Missing f q = absurd q
+  fault_bare n error.BadName f q = absurd q
+  fault_bare n error.ExtendsCycle f q = absurd f
+  fault_bare n error.ChainTooLong f q = absurd f
+  fault_bare n error.NotALibrary f q = absurd f
+  fault_bare n e f q = refl
+
+  -- The place of the first use that passes a test is known if one passes.
+  pub said_at : (e : ChainError) (x : ChainSubject) (test : Use → Bool) (xs : List (Text × Site)) → HasUse test xs
+      → (p : Option TagPlace) → option_map place_view p ≡ place_in 0 (tags test xs)
+      → ((q : TagPlace) → ForSome (IsAt test q) xs → Says given root options (Some q) (Some x) e)
+      → Says given root options p (Some x) e
+  said_at e x test xs h p is f =
+      let k = placed test xs h p is in
+      subst (λ z. Says given root options z (Some x) e) (sym k.1) (f k.0 k.2)
+
   -- A name without a place is the entry's own.
   pub head_said : (n : Text) → namespace_name h ≡ n → (e : ChainError) → IsFaultOf e given n options
-      → (p : Option TagPlace) (x : Option ChainSubject) → HeadAt n e p x → Says given root options p x e
-  head_said n is e f (Some p) x q = absurd q
-  head_said n is e f None None q = tt
+      → (p : Option TagPlace) (x : Option ChainSubject) → NamedAt None n e x p → Says given root options p x e
+  head_said n is e f None None q = fault_bare n e f q
   head_said n is error.Missing f None (Some (v.Template m)) q =
       let root_is = unread_root n is (missing_unread n f) in
-      (q ∙ root_is, ap given (sym root_is) ∙ f)
+      (q.1 ∙ root_is, ap given (sym root_is) ∙ f)
   head_said n is error.BadName f None (Some (v.Template m)) q =
       let root_is = unread_root n is (bad_unread n f) in
-      (q ∙ root_is, λ k. f (subst IsName (sym root_is) k))
-  head_said n is e f None (Some x) q = absurd q
+      (q.1 ∙ root_is, λ k. f (subst IsName (sym root_is) k))
+  head_said n is e f None (Some (v.Template m)) q = absurd q.2
+  head_said n is e f (Some p) (Some (v.Template m)) q =
+      let no = q.0 in
+      absurd (cc)
+  head_said n is e f p x q = absurd q
 
   asked_said : (n : Text) (e : ChainError) → IsFaultOf e given n options → (p : TagPlace) (m : String Global)
       → string_bytes m ≡ n → HasTag (need_test n e) (templates (sources_in ts) h) p → IsOfName e
@@ -217,46 +288,34 @@ module _ {given : SourceTexts} {options : Options} {root : Text} {ts : List Temp
   asked_said n error.BadName f p m is t o =
       shown error.BadName p (v.Template m)
       (subst (λ z. HasTag (asks true z) (templates (sources_in ts) h) p × (IsName z → ⊥)) (sym is) (t, f))
-  asked_said n error.ExtendsCycle f p m is t o = absurd f
   asked_said n e f p m is t o = absurd o
 
-  fault_subject : (n : Text) (e : ChainError) → IsFaultOf e given n options → (p : TagPlace) (x : ChainSubject)
-      → SubjectOf n e x → HasTag (need_test n e) (templates (sources_in ts) h) p
-      → Says given root options (Some p) (Some x) e
-  fault_subject n e f p (v.Template m) q t = asked_said n e f p m q.0 t q.1
-  fault_subject n e f p (v.Templates m) q t = absurd (subst (λ z. IsFaultOf z given n options) q.1 f)
-  fault_subject n e f p x q t = absurd q
+  -- A tag of the chain or library asks for the name.
+  name_said : (test : Use → Bool) (xs : List (Text × Site)) → HasUse test xs → (n : Text) (e : ChainError)
+      → IsFaultOf e given n options
+      → ((q : TagPlace) → ForSome (IsAt test q) xs → HasTag (need_test n e) (templates (sources_in ts) h) q)
+      → (p : Option TagPlace) (x : Option ChainSubject) → NamedAt (place_in 0 (tags test xs)) n e x p
+      → Says given root options p x e
+  name_said test xs used n e f g None None q = fault_bare n e f q
+  name_said test xs used n e f g p (Some (v.Template m)) q =
+      said_at e (v.Template m) test xs used p q.0 (λ z t. asked_said n e f z m q.1 (g z t) q.2)
+  name_said test xs used n e f g p x q = absurd q
 
-  -- A tag on the path asks for the name.
-  pub need_said : (us rest : List Template) → templates (sources_in ts) h ≡ us ++ rest → (n : Text) (e : ChainError)
-      → IsFaultOf e given n options → (p : Option TagPlace) (x : Option ChainSubject)
-      → PlacedAt (tags (need_test n e) (all_uses us)) n e p x → Says given root options p x e
-  need_said us rest front n e f None None q = tt
-  need_said us rest front n e f None (Some x) q = absurd q
-  need_said us rest front n e f (Some p) None q = absurd q
-  need_said us rest front n e f (Some p) (Some x) q =
-      fault_subject n e f p x q.1 (subst (λ l. HasTag (need_test n e) l p) (sym front)
-      (tag_front (need_test n e) p us rest (first_shows (need_test n e) p (all_uses us) q.0)))
+  pub need_said : {us : List Template} → templates (sources_in ts) h ≡ us → (n : Text) (e : ChainError)
+      → IsFaultOf e given n options
+      → HasUse (need_test n e) (all_uses us) → (p : Option TagPlace) (x : Option ChainSubject)
+      → NamedAt (place_in 0 (tags (need_test n e) (all_uses us))) n e x p → Says given root options p x e
+  need_said {us} whole n e f used p x q =
+      name_said (need_test n e) (all_uses us) used n e f
+      (λ z t. subst (λ l. HasTag (need_test n e) l z) (sym whole) t) p x q
 
   -- The last template on the path extends the name.
   parent_tag : (us rest : List Template) (t : Template) → templates (sources_in ts) h ≡ (us ++ t ∷ []) ++ rest
-      → (n : Text) (p : TagPlace) → place_in 0 (tags (is_extends n) (uses_in t)) ≡ Some (place_view p)
+      → (n : Text) (p : TagPlace) → ForSome (IsAt (is_extends n) p) (uses_in t)
       → HasTag (is_extends n) (templates (sources_in ts) h) p
   parent_tag us rest t front n p q =
       subst (λ l. HasTag (is_extends n) l p) (sym front)
-      (tag_front (is_extends n) p (us ++ t ∷ []) rest
-      (tag_last (is_extends n) p us t (first_shows (is_extends n) p (uses_in t) q)))
-
-  parent_said : (us rest : List Template) (t : Template) → templates (sources_in ts) h ≡ (us ++ t ∷ []) ++ rest
-      → (n : Text) (e : ChainError) → IsFaultOf e given n options → (p : Option TagPlace) (x : Option ChainSubject)
-      → PlacedAt (tags (is_extends n) (uses_in t)) n e p x → Says given root options p x e
-  parent_said us rest t front n e f None None q = tt
-  parent_said us rest t front n e f None (Some x) q = absurd q
-  parent_said us rest t front n e f (Some p) None q = absurd q
-  parent_said us rest t front n e f (Some p) (Some x) q =
-      fault_subject n e f p x q.1
-      (tag_weaker (is_extends n) (need_test n e) (extends_need n e) p (templates (sources_in ts) h)
-      (parent_tag us rest t front n p q.0))
+      (tag_front (is_extends n) p (us ++ t ∷ []) rest (tag_last (is_extends n) p us t q))
 
 -- ---- an error at the end of a path
 
@@ -279,83 +338,108 @@ module _ {given : SourceTexts} {options : Options} {root : Text} {ts : List Temp
       let told : Some h ≡ Some n = subst (λ l. Leads (sources_in ts) (Some h) (templates_at ts l) (Some n)) e w.leads in
       cc
 
+  -- What the tag of the last template shows, if the path is not empty.
+  parent_said : (e : ChainError) (x : ChainSubject) → (is ≡ [] → ⊥)
+      → ((us : List Template) (t : Template) → templates_at ts is ≡ us ++ t ∷ [] → (q : TagPlace)
+      → HasTag (is_extends n) (templates (sources_in ts) (a_chain h)) q → string_bytes q.template ≡ t.name
+      → Says given root options (Some q) (Some x) e)
+      → (p : Option TagPlace) → option_map place_view p ≡ parent_at ts is n → Says given root options p (Some x) e
+  parent_said e x some f p =
+      at_the_end
+      (λ l. option_map place_view p ≡ place_in 0 (tags (is_extends n) l) → Says given root options p (Some x) e)
+      ts is w.indices (λ none q. absurd (some none))
+      (λ us t last q.
+      let on = front us t last in
+      let used = extends_used n t (last_extends (sources_in ts) (Some h) us t (Some n)
+      (subst (λ vs. Leads (sources_in ts) (Some h) vs (Some n)) last w.leads)) in
+      said_at known r e x (is_extends n) (uses_in t) used p q
+      (λ z tag. f us t last z (parent_tag known r us on.0 t on.1 n z tag)
+      (tag_name (is_extends n) z t.name (body_uses t.body outside) tag)))
+
   pub fault_placed : (e : ChainError) → IsFaultOf e given n options → (p : Option TagPlace) (x : Option ChainSubject)
-      → LastAt ts (slice_get is (length is - 1)) n e p x → Says given root options p x e
-  fault_placed e f p x q = by (slice_get is (length is - 1)) refl q
-    where
-      by : (o : Option ℕ) → slice_get is (length is - 1) ≡ o → LastAt ts o n e p x → Says given root options p x e
-      by None at l = head_said known r n (own_name (last_none is at)) e f p x l
-      by (Some i) at l =
-          let last = last_template ts is i l.0 at l.1 in
-          let on = front last.0 l.0 last.1 in
-          parent_said known r last.0 on.0 l.0 on.1 n e f p x l.2
+      → NamedAt (parent_at ts is n) n e x p → Says given root options p x e
+  fault_placed e f p x =
+      at_the_end (λ l. NamedAt (place_in 0 (tags (is_extends n) l)) n e x p → Says given root options p x e)
+      ts is w.indices (λ none q. head_said known r n (own_name none) e f p x q)
+      (λ us t last q.
+      let on = front us t last in
+      let used = extends_used n t (last_extends (sources_in ts) (Some h) us t (Some n)
+      (subst (λ vs. Leads (sources_in ts) (Some h) vs (Some n)) last w.leads)) in
+      name_said known r (is_extends n) (uses_in t) used n e f
+      (λ z tag. tag_weaker (is_extends n) (need_test n e) (extends_need n e) z (templates (sources_in ts) (a_chain h))
+      (parent_tag known r us on.0 t on.1 n z tag)) p x q)
 
-  pub cycle_placed : among n (names (templates_at ts is)) ≡ true → (p : Option TagPlace) (x : Option ChainSubject)
-      → LastAt ts (slice_get is (length is - 1)) n error.ExtendsCycle p x
-      → Says given root options p x error.ExtendsCycle
-  cycle_placed there p x q = by (slice_get is (length is - 1)) refl p x q
+  pub cycle_placed : {k : ℕ} → IsNamedOn ts is n k → (f : ChainFinding) → IsCycle ts is k n f
+      → Says given root options f.place f.subject error.ExtendsCycle
+  cycle_placed {k} on f told = by f.subject told.subject
     where
-      by : (o : Option ℕ) → slice_get is (length is - 1) ≡ o → (p : Option TagPlace) (x : Option ChainSubject)
-          → LastAt ts o n error.ExtendsCycle p x → Says given root options p x error.ExtendsCycle
-      by None at (Some p) x l = absurd l
-      by None at None None l = tt
-      by None at None (Some x) l = absurd l
-      by (Some i) at None None l = tt
-      by (Some i) at None (Some x) l = absurd l.2
-      by (Some i) at (Some p) None l = absurd l.2
-      by (Some i) at (Some p) (Some (v.Template m)) l =
-          let last = last_template ts is i l.0 at l.1 in
-          let on = front last.0 l.0 last.1 in
-          let back = comes_back (sources_in ts) (Some h) last.0 l.0 n
-          (subst (λ us. Leads (sources_in ts) (Some h) us (Some n)) last.1 w.leads)
-          (sym (ap (λ us. among n (names us)) last.1) ∙ there) in
-          let its_name : string_bytes p.template ≡ l.0.name =
-          tag_name (is_extends n) p l.0.name (body_uses l.0.body outside)
-          (first_shows (is_extends n) p (uses_in l.0) l.2.0) in
-          shown known r error.ExtendsCycle p (v.Template m)
-          (subst (λ z. HasTag (is_extends z) (templates (sources_in ts) (a_chain h)) p
-          × ((count : ℕ) × (among (string_bytes p.template) (names_up (sources_in ts) count (Some z)) ≡ true)))
-          (sym l.2.1.0) (
-            parent_tag known r last.0 on.0 l.0 on.1 n p l.2.0,
-            (back.0, ap (λ z. among z (names_up (sources_in ts) back.0 (Some n))) its_name ∙ back.1),
-          ))
-      by (Some i) at (Some p) (Some (v.Templates m)) l = let no = l.2.1.1 in absurd (cc)
-      by (Some i) at (Some p) (Some x) l = absurd l.2.1
+      s : Sources
+      s = sources_in ts
 
-  pub long_placed : length is ≡ 64 → among n (names (templates_at ts is)) ≡ false
-      → (p : Option TagPlace) (x : Option ChainSubject)
-      → LastAt ts (slice_get is (length is - 1)) n error.ChainTooLong p x
-      → Says given root options p x error.ChainTooLong
-  long_placed full new p x q = by (slice_get is (length is - 1)) refl p x q
+      some : is ≡ [] → ⊥
+      some e = let lt : k < length is = on.0 in absurd (omega (arith, ap length e))
+
+      -- The names of the ring are those of the path from the name on.
+      ring : (names_up s (length (templates_at ts (drop (k + 1) is)) + 1) (Some n)
+          ≡ n ∷ names (templates_at ts (drop (k + 1) is)))
+          × ((us : List Template) (t : Template) → templates_at ts is ≡ us ++ t ∷ []
+          → t.name ≡ last_of n (names (templates_at ts (drop (k + 1) is))))
+      ring =
+          let vs = templates_at ts (drop (k + 1) is) in
+          let cut = split_at ts is k n on in
+          let leads = leads_on s (Some h) cut.0 cut.1 vs (Some n)
+          (subst (λ us. Leads s (Some h) us (Some n)) cut.3 w.leads) in (
+            subst (λ z. names_up s (length vs + 1) (Some z) ≡ z ∷ names vs) cut.2
+                (names_lead s (length vs + 1) 0 (Some cut.1.name) (cut.1 ∷ vs) (Some n) (omega arith) leads
+                ∙ append-nil (names (cut.1 ∷ vs))),
+            λ us t last.
+                sym (last_name n us t) ∙ ap (λ l. last_of n (names l)) (sym last ∙ cut.3)
+                ∙ last_after n cut.0 cut.1 vs ∙ ap (λ z. last_of z (names vs)) cut.2,
+          )
+
+      by : (x : Option ChainSubject) → IsRound ts is k n x → Says given root options f.place x error.ExtendsCycle
+      by (Some (v.Ring m rest)) q =
+          let vs = templates_at ts (drop (k + 1) is) in
+          let len : length rest.items ≡ length vs =
+          sym (length-map rest.items (λ (z : String Global). string_bytes z)) ∙ ap length q.1
+          ∙ length-map vs (λ (t : Template). t.name) in
+          parent_said error.ExtendsCycle (v.Ring m rest) some
+          (λ us t last z tag named.
+          shown known r error.ExtendsCycle z (v.Ring m rest)
+          (subst (λ x. HasTag (is_extends x) (templates s (a_chain h)) z
+          × (names_up s (length rest.items + 1) (Some x) ≡ x ∷ map string_bytes rest.items)
+          × (string_bytes z.template ≡ last_of x (map string_bytes rest.items))) (sym q.0) (
+            tag,
+            ap (λ j. names_up s (j + 1) (Some n)) len ∙ ring.0 ∙ ap (λ l. n ∷ l) (sym q.1),
+            named ∙ ring.1 us t last ∙ ap (last_of n) (sym q.1),
+          ))) f.place told.place
+      by x q = absurd q
+
+  pub long_placed : length is ≡ 64 → among n (names (templates_at ts is)) ≡ false → (f : ChainFinding)
+      → IsLong ts is n f
+      → Says given root options f.place f.subject error.ChainTooLong
+  long_placed full new f told = by f.subject told.subject
     where
-      by : (o : Option ℕ) → slice_get is (length is - 1) ≡ o → (p : Option TagPlace) (x : Option ChainSubject)
-          → LastAt ts o n error.ChainTooLong p x → Says given root options p x error.ChainTooLong
-      by None at (Some p) x l = absurd l
-      by None at None None l = tt
-      by None at None (Some x) l = absurd l
-      by (Some i) at None None l = tt
-      by (Some i) at None (Some x) l = absurd l.2
-      by (Some i) at (Some p) None l = absurd l.2
-      by (Some i) at (Some p) (Some (v.Templates m)) l =
+      by : (x : Option ChainSubject) → IsOneMore n x → Says given root options f.place x error.ChainTooLong
+      by (Some (v.Templates m)) q =
           let s = sources_in ts in
           let us = templates_at ts is in
-          let last = last_template ts is i l.0 at l.1 in
-          let on = front last.0 l.0 last.1 in
           let len : length us ≡ 64 = all_templates ts is w.indices ∙ full in
           let up : extends_path s options.autoescape (a_chain h) ≡ names us ++ n ∷ [] =
           names_lead s 65 1 (Some h) us (Some n) (omega (arith, len)) w.leads in
           let count : length (names us) ≡ 64 = length-map us (λ (u : Template). u.name) ∙ len in
-          shown known r error.ChainTooLong p (v.Templates m)
-          (subst (λ z. HasTag (is_extends z) (templates s (a_chain h)) p
-          × (slice_get (extends_path s options.autoescape (a_chain h)) 64 ≡ Some z)
-          × (repeated (extends_path s options.autoescape (a_chain h)) ≡ false)) (sym l.2.1.0) (
-            parent_tag known r last.0 on.0 l.0 on.1 n p l.2.0,
-            ap (λ z. slice_get z 64) up
-                ∙ subst (λ k. slice_get (names us ++ n ∷ []) k ≡ Some n) count (last_at (names us) n),
+          parent_said error.ChainTooLong (v.Templates m) (λ e. absurd (omega (arith, full, ap length e)))
+          (λ front_templates t last z tag named.
+          shown known r error.ChainTooLong z (v.Templates m)
+          (subst (λ x. HasTag (is_extends x) (templates s (a_chain h)) z
+          × (slice_get (extends_path s options.autoescape (a_chain h)) 64 ≡ Some x)
+          × (repeated (extends_path s options.autoescape (a_chain h)) ≡ false)) (sym q) (
+            tag,
+            ap (λ l. slice_get l 64) up
+                ∙ subst (λ j. slice_get (names us ++ n ∷ []) j ≡ Some n) count (last_at (names us) n),
             ap repeated up ∙ once_more of_texts n (names us) w.once new,
-          ))
-      by (Some i) at (Some p) (Some (v.Template m)) l = absurd l.2.1.1
-      by (Some i) at (Some p) (Some x) l = absurd l.2.1
+          ))) f.place told.place
+      by x q = absurd q
 
 -- The finding of an error of a chain, for each chain that reaches it, before more was read.
 pub refused_all : (given : SourceTexts) (options : Options) (ps qs : List TemplateFile) → Grow ps qs
@@ -373,25 +457,13 @@ refused_all given options ps qs more k is e f told b s = (
       (subst (λ h. Reaches (sources_in (files_view ps)) options.autoescape (a_chain root) h) (is_chain k is) r))),
 )
 
--- The finding of an error of a library's source.
-pub library_refused : (given : SourceTexts) (options : Options) (ps : List TemplateFile) (ks : List Text)
-    → AreKnown given options (files_view ps) ks → (n : Text) (e : ChainError) → IsFaultOf e given n options
-    → (f : ChainFinding) → IsOfHead n e f
-    → BreaksAll given options ps (a_library n) f.error × SaysAll given options ps (a_library n) f
-library_refused given options ps ks known n e fault f told = (
-  λ root r. subst (λ z. Breaks z given root options) (sym told.0)
-      (alone_breaks given options root (files_view ps) known n r e fault),
-  λ root r. subst (λ z. Says given root options f.place f.subject z) (sym told.0)
-      (head_said known r n refl e fault f.place f.subject told.1),
-)
-
--- The finding of the last template of a path, by equal templates, path and name.
-pub same_parent : {ps qs : List TemplateFile} {is js : List ℕ} {n m : Text} (e : ChainError) (f : ChainFinding)
-    → qs ≡ ps → js ≡ is → m ≡ n → IsOfParent (files_view qs) js m e f → IsOfParent (files_view ps) is n e f
-same_parent {ps} {qs} {is} {js} {n} {m} e f a b d told =
-    subst (λ (z : Text). IsOfParent (files_view ps) is z e f) d
-    (subst (λ (z : List ℕ). IsOfParent (files_view ps) z m e f) b
-    (subst (λ (z : List TemplateFile). IsOfParent (files_view z) js m e f) a told))
+-- A fact about the templates of a path and a name, by equal templates, path and name.
+pub same_path : (P : List TemplateFile → List ℕ → Text → Type 0) {ps qs : List TemplateFile} {is js : List ℕ}
+    {n m : Text}
+    → qs ≡ ps → js ≡ is → m ≡ n → P qs js m → P ps is n
+same_path P {ps} {qs} {is} {js} {n} {m} a b d h =
+    subst (λ (z : Text). P ps is z) d
+    (subst (λ (z : List ℕ). P ps z m) b (subst (λ (z : List TemplateFile). P z js m) a h))
 
 -- The finding of an included or imported template, by its index among them.
 pub unmet_need : (given : SourceTexts) (options : Options) (ps : List TemplateFile) (is : List ℕ)

@@ -9,10 +9,11 @@ use Rattle.jt_graph.specs.Graph.{Graph, HasCycle, next_of}
 use Rattle.jt_graph.specs.View.{graph_of}
 use Rattle.jt_scan.specs.declared.options.Options.{Options}
 use Rattle.jt_ast.specs.Expressions.{Text}
+use Rattle.jt_chains.specs.Along.{templates_at}
 use Rattle.jt_chains.specs.Chain.{Namespace, namespace_name, Template, sources_in}
 use Rattle.jt_chains.specs.Indices.{namespace_at}
 use Rattle.jt_inherit.specs.Chains.{SourceTexts}
-use Rattle.jt_inherit.specs.Findings.{HasTag, IsFinding, IsNoMemory, LeadsTo, Says, leads_to}
+use Rattle.jt_inherit.specs.Findings.{HasTag, IsFinding, IsNoMemory, LeadsTo, Says, all_uses, leads_to}
 use Rattle.jt_inherit.specs.Refusals.{Breaks}
 use Rattle.jt_inherit.specs.internal.Found.{AreFound}
 use Rattle.jt_inherit.specs.internal.Rings.{IsOfRing, RingAt, last_number, leads_round}
@@ -23,10 +24,12 @@ use Rattle.jt_inherit.specs.declared.finding.ChainSubject.TheVariants as v
 use Rattle.jt_inherit.specs.declared.finding.TagPlace.{TagPlace}
 use Rattle.jt_inherit.proofs.ChainComplete.{cycle_breaks, edge, none_next, number, reached}
 use Rattle.jt_inherit.proofs.DiscoveryInvariant.{whole_path}
-use Rattle.jt_inherit.proofs.FindingsHold.{bare_finding}
-use Rattle.jt_inherit.proofs.PlacedErrors.{shown}
+use Rattle.jt_inherit.proofs.FindingsHold.{no_memory}
+use Rattle.jt_inherit.proofs.PlacedErrors.{said_at, shown}
 use Rattle.jt_inherit.proofs.RulesCarryOver.{both_true}
+use Rattle.jt_inherit.proofs.TagPlaces.{HasUse}
 use Rattle.jt_inherit.proofs.TopologicalOrder.{namespace_among}
+use Rattle.jt_inherit.proofs.UsesFound.{leads_used}
 
 module _ {given : SourceTexts} {options : Options} {entry : Text} {ts : List Template} {ks : List Text}
     {hs : List Namespace} {ws ns : Graph} (f : AreFound given options entry ts ks hs ws ns)
@@ -44,33 +47,36 @@ module _ {given : SourceTexts} {options : Options} {entry : Text} {ts : List Tem
   last_leads i (k ∷ is) t a =
       last_leads k is t (both_true (graph.among k (next_of ns i)) (leads_round ns k is t) a).1
 
-  ring_said : (p : Option TagPlace) (x : Option ChainSubject) → RingAt ts hs ws ns p x
+  ring_said : (p : Option TagPlace) (x : Option ChainSubject) → RingAt ts hs ws ns x p
       → Says given entry options p x error.IncludeCycle
-  ring_said None None q = tt
-  ring_said None (Some x) q = absurd q
-  ring_said (Some p) None q = absurd q
-  ring_said (Some p) (Some (v.Ring n rest)) q =
+  ring_said None None q = refl
+  ring_said p (Some (v.Ring n rest)) q =
       let last = last_number q.first q.others in
       let e = edge f all last q.first (last_leads q.first q.others q.first q.round) in
       let h = namespace_at hs last in
       let front = whole_path ts h (next_of ws last) (number f all last e.0).led in
-      shown f.known (reached f all h (namespace_among hs last e.0)) error.IncludeCycle p (v.Ring n rest)
+      let next = namespace_at hs q.first in
+      let used = subst (λ l. HasUse (leads_to next) (all_uses l)) front (leads_used (sources_in ts) h next e.1) in
+      let here = reached f all h (namespace_among hs last e.0) in
+      said_at f.known here error.IncludeCycle (v.Ring n rest) (leads_to next)
+      (all_uses (templates_at ts (next_of ws last))) used p q.tag
+      (λ z tag. shown f.known here error.IncludeCycle z (v.Ring n rest)
       (record {
         next = namespace_at hs q.first;
         others = map (namespace_at hs) q.others;
         first_name = sym q.first_name;
         other_names = map-map namespace_name (namespace_at hs) q.others ∙ sym q.other_names;
-        tag = subst (λ l. HasTag (leads_to (namespace_at hs q.first)) l p) (sym front) q.tag;
+        tag = subst (λ l. HasTag (leads_to next) l z) (sym front) tag;
         led = e.1;
         back = leads_namespaces q.first q.others q.first q.round;
-      })
-  ring_said (Some p) (Some x) q = absurd q
+      }))
+  ring_said p x q = absurd q
 
   -- The error of an order: lack of memory, or a ring.
   pub order_finds : (x : ChainFinding) → IsNoMemory x ⊎ (HasCycle ns × IsOfRing ts hs ws ns x)
       → IsFinding given entry options x
   order_finds x q = ⊎_elim
-      (λ m. bare_finding error.NoMemory x m tt)
+      (λ m. no_memory x m)
       (λ n. record {
         broken = subst (λ z. Breaks z given entry options) (sym n.1.0) (cycle_breaks f all n.0);
         says =

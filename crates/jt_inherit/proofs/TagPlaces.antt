@@ -1,10 +1,10 @@
 -- The places of tags: what the first ones show.
 use Rattle.std.proofs.Common.{◌≡◌, ℕ, zero, suc, ◌+◌, ◌<◌, Bool, true, false, cond, List, [], ◌∷◌, ◌++◌, length}
 use Rattle.std.proofs.Common.{drop, get_or, refl, sym, ap, subst, ◌∙◌, arith, inl, inr, ⊎_elim, Option, Some}
-use Rattle.std.specs.Prelude.{option_map, slice_get, string_bytes, None, Result, Ok, Err, IfOk, IfSome}
+use Rattle.std.specs.Prelude.{option_map, slice_get, string_bytes, None}
 use Rattle.std.specs.Option.{option_to_list}
 use Rattle.std.proofs.lemmas.List.Elements.{filter-append}
-use Rattle.std.proofs.lemmas.List.{append_assoc, drop_more}
+use Rattle.std.proofs.lemmas.List.{append_assoc}
 use Rattle.jt_ast.specs.Expressions.{Text}
 use Rattle.jt_uses.specs.Uses as uses
 use Rattle.jt_uses.specs.Uses.{Use, Site}
@@ -20,9 +20,10 @@ use Rattle.jt_inherit.specs.declared.error.ChainError.TheVariants as error
 use Rattle.jt_inherit.specs.declared.finding.ChainFinding.{ChainFinding}
 use Rattle.jt_inherit.specs.declared.finding.ChainSubject.{ChainSubject}
 use Rattle.jt_inherit.specs.declared.finding.ChainSubject.TheVariants as v
-use Rattle.jt_inherit.specs.internal.Tags.{tags, place_of, place_view, tag_view, tags_view}
+use Rattle.jt_inherit.specs.internal.Tags.{tags, place_in, place_of, place_view, tag_view, tags_view}
 use Rattle.jt_inherit.specs.declared.tags.FoundTag.{FoundTag}
 use Rattle.jt_inherit.specs.declared.finding.TagPlace.{TagPlace}
+use Rattle.jt_inherit.proofs.PathsGrow.{templates_turn}
 
 -- ---- tags of several templates
 
@@ -37,12 +38,9 @@ pub tags_turn : (test : Use → Bool) (ps : List TemplateFile) (is : List ℕ) (
     → old ++ tags test (all_uses (templates_at (files_view ps) (drop k is))) ≡ all
     → new ++ tags test (all_uses (templates_at (files_view ps) (drop (k + 1) is))) ≡ all
 tags_turn test ps is k p old more new all lt within at theirs longer before =
-    let i = get_or is k 0 in
     let us = templates_at (files_view ps) (drop (k + 1) is) in
     let rest = tags test (all_uses us) in
-    let here : templates_at (files_view ps) (drop k is) ≡ file_view p ∷ us =
-    ap (templates_at (files_view ps)) (drop_more is k 0 lt)
-    ∙ ap (λ o. option_to_list o ++ us) (map_at file_view ps i p within at) in
+    let here = templates_turn ps is k p lt within at in
     let split : tags test (all_uses (templates_at (files_view ps) (drop k is)))
     ≡ tags test (uses_in (file_view p)) ++ rest =
     ap (λ l. tags test (all_uses l)) here ∙ tags-append test (uses_in (file_view p)) (all_uses us) in
@@ -50,10 +48,6 @@ tags_turn test ps is k p old more new all lt within at theirs longer before =
     ∙ ap (λ l. old ++ l) (sym split) ∙ before
 
 -- ---- what the first tags show
-
--- The place of the tag at a number.
-abbrev pub place_in : ℕ → List (Text × Site) → Option (Text × ℕ)
-place_in k xs = option_map place_of (slice_get xs k)
 
 -- The tags of a use, if it passes, and of those after it.
 begin : (test : Use → Bool) (x : Text × Site) (xs : List (Text × Site)) (b : Bool) → test x.1.made ≡ b
@@ -100,19 +94,39 @@ second_shows test p q (x ∷ xs) e f = by (test x.1.made) refl (λ g h. second_s
         inr (go (sym (ap (place_in 0) (begin test x xs false h)) ∙ e)
         (sym (ap (place_in 1) (begin test x xs false h)) ∙ f))
 
+-- A use passes the test.
+abbrev pub HasUse : (Use → Bool) → List (Text × Site) → Type 0
+HasUse test = ForSome (λ x. test x.1.made ≡ true)
+
+-- The first use that passes has a place.
+tag_found : (test : Use → Bool) (xs : List (Text × Site)) → HasUse test xs
+    → (q : Text × ℕ) × (place_in 0 (tags test xs) ≡ Some q)
+tag_found test [] h = absurd h
+tag_found test (x ∷ xs) h = by (test x.1.made) refl h (λ k. tag_found test xs k)
+  where
+    by : (b : Bool) → test x.1.made ≡ b → HasUse test (x ∷ xs)
+        → (HasUse test xs → (q : Text × ℕ) × (place_in 0 (tags test xs) ≡ Some q))
+        → (q : Text × ℕ) × (place_in 0 (tags test (x ∷ xs)) ≡ Some q)
+    by true e k go = (place_of x, ap (place_in 0) (begin test x xs true e))
+    by false e k go =
+        let there : HasUse test xs = ⊎_elim (λ (q : test x.1.made ≡ true). absurd (cc)) (λ q. q) k in
+        let rest = go there in
+        (rest.0, ap (place_in 0) (begin test x xs false e) ∙ rest.1)
+
+-- If a use passes, the place of the first tag is known.
+pub placed : (test : Use → Bool) (xs : List (Text × Site)) → HasUse test xs → (p : Option TagPlace)
+    → option_map place_view p ≡ place_in 0 (tags test xs) → (q : TagPlace) × (p ≡ Some q) × ForSome (IsAt test q) xs
+placed test xs h None e =
+    let f = tag_found test xs h in
+    let no : None ≡ Some f.0 = e ∙ f.1 in
+    absurd (cc)
+placed test xs h (Some q) e = (q, refl, first_shows test q xs (sym e))
+
 -- The first one of some tags, by its view.
 pub first_view : (l : List FoundTag) (t : FoundTag) → slice_get l 0 ≡ Some t
     → slice_get (tags_view l) 0 ≡ Some (tag_view t)
 first_view [] t e = ap (option_map tag_view) e
 first_view (x ∷ xs) t e = ap (option_map tag_view) e
-
--- The first tag, if there is one, shows that the templates have it.
-pub first_of : {E : Type 0} (r : Result (Option TagPlace) E) (test : Use → Bool) (xs l : List (Text × Site))
-    → l ≡ tags test xs → IfOk r (λ p. option_map place_view p ≡ place_in 0 l)
-    → IfOk r (λ o. IfSome o (λ p. ForSome (IsAt test p) xs))
-first_of (Ok None) test xs l e h = tt
-first_of (Ok (Some p)) test xs l e h = first_shows test p xs (sym (ap (place_in 0) e) ∙ sym h)
-first_of (Err x) test xs l e h = tt
 
 -- ---- some of the items
 

@@ -177,10 +177,6 @@ module _ (given : SourceTexts) (sources : Sources) (escaping : Bool) (entry name
   -- The tag asks for a name that is not valid.
   IsBrokenAt error.BadName p (v.Template n) =
       HasTag (asks true (string_bytes n)) its_own p × (IsName (string_bytes n) → ⊥)
-  -- The tag extends a template whose path to the root comes to the template of the tag.
-  IsBrokenAt error.ExtendsCycle p (v.Template n) =
-      HasTag (is_extends (string_bytes n)) its_own p
-      × ((count : ℕ) × IsTrue (among (string_bytes p.template) (names_up sources count (Some (string_bytes n)))))
   -- The tag extends a template. The names from it to the template of the tag are those of the path.
   IsBrokenAt error.ExtendsCycle p (v.Ring n rest) =
       HasTag (is_extends (string_bytes n)) its_own p
@@ -218,6 +214,16 @@ module _ (given : SourceTexts) (sources : Sources) (escaping : Bool) (entry name
       × IsTrue (is_some (sources (string_bytes n)) && not (is_a_library (sources (string_bytes n))))
   IsBrokenAt e p x = ⊥
 
+-- The errors that may come without a tag and a subject: lack of memory, an error of a source, which
+-- has a place of its own, and the errors of the rules whose tags may not be found.
+abbrev pub may_be_bare : ChainError → Bool
+may_be_bare error.Missing = false
+may_be_bare error.BadName = false
+may_be_bare error.ExtendsCycle = false
+may_be_bare error.ChainTooLong = false
+may_be_bare error.NotALibrary = false
+may_be_bare e = true
+
 module _ (given : SourceTexts) (entry : Text) (options : Options) where
   -- The entry's own name, for which no tag asks, has no source or is not valid.
   abbrev pub IsOfEntry : ChainError → ChainSubject → Type 0
@@ -227,9 +233,9 @@ module _ (given : SourceTexts) (entry : Text) (options : Options) where
 
   -- What is said of the place and the subject is true. The templates that were read show it, in a
   -- chain or library that the entry reaches. A place without a subject is that of a source that
-  -- spells no tree. Nothing is said where neither is known.
+  -- spells no tree.
   abbrev pub Says : Option TagPlace → Option ChainSubject → ChainError → Type 0
-  Says None None e = Unit {0}
+  Says None None e = IsTrue (may_be_bare e)
   Says (Some p) None e = lines.place e ≡ Some (string_bytes p.template, p.line)
   Says None (Some x) e = IsOfEntry e x
   Says (Some p) (Some x) e =

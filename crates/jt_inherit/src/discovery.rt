@@ -1,6 +1,6 @@
 //! Finds the chains and libraries that an entry reaches.
 
-ghost use Rattle.std.specs.Prelude.{◌≡◌, ◌+◌, ◌<◌, true, length, OnOk, IfOk, IfErr};
+ghost use Rattle.std.specs.Prelude.{◌≡◌, ◌+◌, ◌<◌, false, length, OnOk, IfOk, IfErr};
 ghost use Rattle.std.specs.List.{AllByRecursion};
 ghost use Rattle.jt_chains.specs.Along.{AreIndices};
 ghost use Rattle.jt_chains.specs.Indices.{namespace_at};
@@ -8,13 +8,14 @@ ghost use Rattle.jt_inherit.specs.internal.Found.{IsFirst, IsFound, found_namesp
 ghost use Rattle.jt_inherit.specs.Findings.{IsFinding};
 ghost use Rattle.jt_inherit.specs.internal.ExtendsPaths.{AreNamed};
 ghost use Rattle.jt_inherit.specs.internal.Found.{found_paths, found_templates};
-ghost use Rattle.jt_inherit.specs.internal.Imported.{IsNoLibrary, IsNotLibrary, IsOfImport};
+ghost use Rattle.jt_inherit.specs.internal.Imported as spec;
+ghost use Rattle.jt_inherit.specs.internal.Imported.{IsNoLibrary, IsOfImport, LeadsAt};
 ghost use Rattle.jt_inherit.specs.internal.SetView.{key_view};
 ghost use Rattle.jt_inherit.specs.internal.Sets.{names_view};
 
 use crate::error::ChainError;
 use crate::extends_path::read_namespace;
-use crate::finding::{ChainFinding, ChainSubject};
+use crate::finding::{ChainFinding, ChainSubject, TagPlace};
 use crate::importing::library_file;
 use crate::including::{next_namespaces, read_includes};
 use crate::leading::{leading_tag, name_of};
@@ -61,6 +62,22 @@ fn begin(alloc: Global, entry: &str) -> Result<Discovery, AllocError>
     })
 }
 
+/// Returns the place of the first tag that leads to the chain or library of a number.
+fn place_of(alloc: Global, found: &Discovery, number: usize) -> Result<Option<TagPlace>, AllocError>
+    requires number { number < length (found_namespaces found.now) }
+    requires indices { AllByRecursion (AreIndices (found_templates found.now))
+        (found_paths found.now) }
+    ensures { IfOk result (LeadsAt (found_templates found.now) (found_paths found.now)
+        (namespace_at (found_namespaces found.now) number)) }
+{
+    for from in 0..found.extends_paths.len() {
+        if let Some(place) = leading_tag(alloc, found, from, number)? {
+            return Ok(Some(place));
+        }
+    }
+    Ok(None)
+}
+
 /// Returns the finding of the library of a number, which holds something other than macros, with
 /// the first tag that imports it.
 fn import_finding(
@@ -74,23 +91,19 @@ fn import_finding(
     ensures { IfOk result (IsOfImport (found_templates found.now) (found_paths found.now)
         (namespace_at (found_namespaces found.now) number)) }
 {
-    for from in 0..found.extends_paths.len() {
-        if let Some(place) = leading_tag(alloc, found, from, number)? {
-            let name = name_of(alloc, found, number)?;
-            return Ok(ChainFinding {
-                error: ChainError::NotALibrary,
-                place: Some(place),
-                subject: Some(ChainSubject::Template(name)),
-            });
-        }
-    }
-    Ok(ChainFinding::without_place(ChainError::NotALibrary))
+    let place = place_of(alloc, found, number)?;
+    let name = name_of(alloc, found, number)?;
+    Ok(ChainFinding {
+        error: ChainError::NotALibrary,
+        place,
+        subject: Some(ChainSubject::Template(name)),
+    })
 }
 
-/// Returns whether a namespace is a library that was read and holds something other than macros.
+/// Returns whether a namespace is a library that was not read or holds something other than macros.
 fn is_no_library(found: &Discovery, namespace: &NamespaceKey) -> bool
     requires { AreNamed (found_templates found.now) (names_view found.now.names) }
-    ensures { result ≡ true → IsNotLibrary (found_templates found.now) (key_view namespace.now) }
+    ensures { result ≡ spec.is_no_library (found_templates found.now) (key_view namespace.now) }
 {
     if !namespace.is_library {
         return false;
@@ -101,16 +114,18 @@ fn is_no_library(found: &Discovery, namespace: &NamespaceKey) -> bool
     };
     match library_file(store, &namespace.name) {
         Some(file) => !file.is_library(),
-        None => false,
+        None => true,
     }
 }
 
-/// Refuses the library of a number if it was read and holds something other than macros.
+/// Refuses the library of a number if it holds something other than macros.
 fn check_library(alloc: Global, found: &Discovery, number: usize) -> Result<(), ChainFinding>
     requires number { number < length (found_namespaces found.now) }
     requires named { AreNamed (found_templates found.now) (names_view found.now.names) }
     requires indices { AllByRecursion (AreIndices (found_templates found.now))
         (found_paths found.now) }
+    ensures kept { OnOk result (spec.is_no_library (found_templates found.now)
+        (namespace_at (found_namespaces found.now) number) ≡ false) }
     ensures refused { IfErr result (IsNoLibrary (found_templates found.now) (found_paths found.now)
         (namespace_at (found_namespaces found.now) number)) }
 {

@@ -1,37 +1,46 @@
 //! Reads the path from a chain's entry to its root, and the template of a library.
 
-ghost use Rattle.std.specs.Prelude.{◌≡◌, map, IfOk, option_map, string_bytes};
+ghost use Rattle.std.specs.Prelude.{◌≡◌, false, true, map, IfOk, MatchOption, option_map};
+ghost use Rattle.std.specs.Prelude.{string_bytes};
 ghost use Rattle.jt_ast.specs.Texts.{among};
 ghost use Rattle.jt_ast.specs.StatementView.{body_of};
 ghost use Rattle.jt_chains.specs.Along.{AreIndices, templates_at};
-ghost use Rattle.jt_chains.specs.Chain.{a_library, extends_of};
+ghost use Rattle.jt_chains.specs.Chain.{extends_of};
 ghost use Rattle.jt_chains.specs.TemplateFiles.{files_view};
-ghost use Rattle.jt_inherit.specs.internal.ExtendsPaths.{KnowTemplateFiles, Reads};
+ghost use Rattle.jt_inherit.specs.internal.ExtendsPaths.{IsAt, KnowTemplateFiles, Reads};
+ghost use Rattle.jt_inherit.specs.internal.Imported.{is_no_library};
+ghost use Rattle.jt_inherit.specs.internal.Placing.{IsNamedOn};
 ghost use Rattle.jt_inherit.specs.internal.SetView.{key_view};
+ghost use Rattle.jt_inherit.specs.internal.Sets.{names_view};
 
 use crate::error::ChainError;
 use crate::finding::ChainFinding;
 use crate::library::{Library, Loader};
-use crate::placing::{head_finding, parent_finding};
+use crate::placing::{cycle_finding, long_finding, parent_finding};
 use crate::sets::{Names, NamespaceKey};
 use crate::statements::parent_of;
 use crate::store::read_index;
-use jt_chains::{TemplateFile, holds_macros};
+use jt_chains::TemplateFile;
 use std::alloc::{AllocError, Global};
 
 /// The greatest number of templates in a chain.
 const MAX_TEMPLATES: usize = 64;
 
-/// Returns whether a template on the path has the name.
-fn is_on_path(files: &[TemplateFile], extends_path: &[usize], name: &str) -> bool
+/// Returns the number on the path of the template of a name, or `None` if there is none.
+fn number_on(files: &[TemplateFile], extends_path: &[usize], name: &str) -> Option<usize>
     requires { AreIndices (files_view files.now) extends_path.now }
-    ensures { result
-        ≡ among name.now
-        (map (λ t. t.name) (templates_at (files_view files.now) extends_path.now)) }
+    ensures { MatchOption result
+        (among name.now (map (λ t. t.name) (templates_at (files_view files.now) extends_path.now))
+        ≡ false)
+        (IsNamedOn (files_view files.now) extends_path.now name.now) }
 {
-    extends_path
-        .iter()
-        .any(|index| files[*index].name.as_str() == name)
+    for number in 0..extends_path.len() {
+        let index = extends_path[number];
+        if files[index].name.as_str() == name {
+            return Some(number);
+        }
+    }
+    None
 }
 
 /// Returns the name of the template that a template extends.
@@ -45,33 +54,21 @@ fn parent_name(alloc: Global, file: &TemplateFile) -> Result<Option<String>, All
     }
 }
 
-/// Reads the template of a library and returns its index, as the only one of the path.
-fn read_library<L: Library>(
-    alloc: Global,
-    names: &mut Names,
-    files: &mut Vec<TemplateFile>,
-    name: &str,
-    loader: &Loader<'_, L>,
-) -> Result<Vec<usize>, ChainFinding>
-    requires { KnowTemplateFiles (L.sources loader.now.library.now) loader.now.options
-        files.old.items names.old }
-    ensures { Reads (L.sources loader.now.library.now) loader.now.options files.old.items
-        files.new.items names.old names.new (a_library name.now) result }
+/// Returns the index of the template of a library, which was read, as the only one of the path.
+fn library_path(alloc: Global, names: &Names, name: &str) -> Result<Vec<usize>, AllocError>
+    requires { among name.now (names_view names.now) ≡ true }
+    ensures { IfOk result (IsAt (names_view names.now) name.now) }
 {
-    let index = match read_index(alloc, names, files, name, loader) {
-        Ok(index) => index,
-        Err(error) => return Err(head_finding(alloc, name, error)?),
+    let Some(index) = names.find(name) else {
+        unreachable!();
     };
-    if !holds_macros(files[index].template.body()) {
-        return Err(ChainFinding::without_place(ChainError::NotALibrary));
-    }
     let mut extends_path = Vec::new(alloc);
     extends_path.push(index)?;
     Ok(extends_path)
 }
 
-/// Reads the templates of a chain, from its entry to the root, or the template of a library.
-/// Returns their indices.
+/// Reads the templates of a chain, from its entry to the root. Returns their indices, or the index
+/// of the template of a library, which was read before.
 pub(crate) fn read_namespace<L: Library>(
     alloc: Global,
     names: &mut Names,
@@ -79,20 +76,21 @@ pub(crate) fn read_namespace<L: Library>(
     namespace: &NamespaceKey,
     loader: &Loader<'_, L>,
 ) -> Result<Vec<usize>, ChainFinding>
-    requires { KnowTemplateFiles (L.sources loader.now.library.now) loader.now.options
+    requires known { KnowTemplateFiles (L.sources loader.now.library.now) loader.now.options
         files.old.items names.old }
+    requires library { is_no_library (files_view files.old.items) (key_view namespace.now)
+        ≡ false }
     ensures { Reads (L.sources loader.now.library.now) loader.now.options files.old.items
         files.new.items names.old names.new (key_view namespace.now) result }
 {
     if namespace.is_library {
-        return read_library(alloc, names, files, &namespace.name, loader);
+        return Ok(library_path(alloc, names, &namespace.name)?);
     }
     let mut extends_path = Vec::new(alloc);
     let mut name = String::from_str(alloc, &namespace.name)?;
     for _turn in 0..MAX_TEMPLATES {
-        if is_on_path(files, &extends_path, &name) {
-            let error = ChainError::ExtendsCycle;
-            return Err(parent_finding(alloc, files, &extends_path, &name, error)?);
+        if let Some(start) = number_on(files, &extends_path, &name) {
+            return Err(cycle_finding(alloc, files, &extends_path, start, &name)?);
         }
         let index = match read_index(alloc, names, files, &name, loader) {
             Ok(index) => index,
@@ -104,8 +102,8 @@ pub(crate) fn read_namespace<L: Library>(
             None => return Ok(extends_path),
         }
     }
-    if is_on_path(files, &extends_path, &name) {
-        return Err(parent_finding(alloc, files, &extends_path, &name, ChainError::ExtendsCycle)?);
+    if let Some(start) = number_on(files, &extends_path, &name) {
+        return Err(cycle_finding(alloc, files, &extends_path, start, &name)?);
     }
-    Err(parent_finding(alloc, files, &extends_path, &name, ChainError::ChainTooLong)?)
+    Err(long_finding(alloc, files, &extends_path, &name)?)
 }

@@ -59,16 +59,6 @@ impl ChainFinding {
     }
 }
 
-impl From<ChainError> for ChainFinding {
-    ghost use Rattle.jt_inherit.specs.Findings.{IsBare};
-
-    ghost from_gives = { λ e f. IsBare e f };
-
-    fn from(e: ChainError) -> ChainFinding {
-        ChainFinding::without_place(e)
-    }
-}
-
 impl From<AllocError> for ChainFinding {
     ghost use Rattle.jt_inherit.specs.Findings.{IsNoMemory};
 

@@ -4,11 +4,12 @@
 ghost use Rattle.std.specs.Prelude.{◌≡◌, ◌≤◌, ◌++◌, ◌∷◌, [], true, false, length, OnOk, IfOk};
 ghost use Rattle.std.specs.Prelude.{IfErr, string_bytes};
 ghost use Rattle.std.specs.List.{AllByRecursion};
-ghost use Rattle.jt_chains.specs.Along.{AreIndices};
+ghost use Rattle.jt_chains.specs.Along.{AreIndices, templates_at};
 ghost use Rattle.jt_inherit.specs.internal.Along.{imports_along, needs_of};
 ghost use Rattle.jt_chains.specs.Chain.{listed};
 ghost use Rattle.jt_inherit.specs.internal.Found.{IsMet, IsFaultAt, IsPutFault};
 ghost use Rattle.jt_inherit.specs.internal.Found.{AreNamespaces, AreNext, AddsNext, IsNextFault};
+ghost use Rattle.jt_inherit.specs.internal.Found.{IsNextFinding};
 ghost use Rattle.jt_inherit.specs.internal.Found.{chains_of};
 ghost use Rattle.jt_inherit.specs.internal.Found.{lead_to, leads_to};
 ghost use Rattle.jt_inherit.specs.internal.Unmet.{IsUnmet};
@@ -23,7 +24,7 @@ ghost use Rattle.jt_inherit.specs.internal.ExtendsPaths.{AddsNames, StayKnown};
 use crate::error::ChainError;
 use crate::finding::ChainFinding;
 use crate::library::{Library, Loader};
-use crate::placing::need_finding;
+use crate::placing::{included_finding, need_finding};
 use crate::reading::read_file;
 use crate::sets::{Names, NamespaceKey, Namespaces};
 use crate::statements::add_imports;
@@ -179,8 +180,8 @@ fn number_of(
     requires { AreNamespaces (namespaces_view namespaces.old) }
     ensures next { IfOk result (λ i. AreNext (namespaces_view namespaces.old)
         (namespaces_view namespaces.new) (key_view namespace ∷ []) (i ∷ [])) }
-    ensures refused { IfErr result
-        (IsNextFault (namespaces_view namespaces.old) (key_view namespace ∷ [])) }
+    ensures refused { IfErr result (IsNextFault (namespaces_view namespaces.old)
+        (key_view namespace ∷ []) (string_bytes namespace.name)) }
 {
     if let Some(number) = namespaces.find(&namespace) {
         return Ok(number);
@@ -202,8 +203,8 @@ fn add_number(
     ensures next { OnOk result
         (AddsNext (namespaces_view namespaces.old) (namespaces_view namespaces.new)
         (leads_to names.now include.entry) numbers.old.items numbers.new.items) }
-    ensures refused { IfErr result
-        (IsNextFault (namespaces_view namespaces.old) (leads_to names.now include.entry)) }
+    ensures refused { IfErr result (IsNextFault (namespaces_view namespaces.old)
+        (leads_to names.now include.entry) include.entry.name.now) }
 {
     let Some(_index) = names.find(include.name) else {
         return Ok(());
@@ -222,20 +223,26 @@ pub(crate) fn next_namespaces(
     namespaces: &mut Namespaces,
     files: &[TemplateFile],
     extends_path: &[usize],
-) -> Result<Vec<usize>, ChainError>
+) -> Result<Vec<usize>, ChainFinding>
     requires indices { AreIndices (files_view files.now) extends_path.now }
     requires namespaces { AreNamespaces (namespaces_view namespaces.old) }
     ensures next { IfOk result
         (λ numbers. AreNext (namespaces_view namespaces.old) (namespaces_view namespaces.new)
         (lead_to names.now files.now extends_path.now) numbers.items) }
-    ensures refused { IfErr result
-        (IsNextFault (namespaces_view namespaces.old)
-        (lead_to names.now files.now extends_path.now)) }
+    ensures refused { IfErr result (IsNextFinding (namespaces_view namespaces.old)
+        (lead_to names.now files.now extends_path.now)
+        (templates_at (files_view files.now) extends_path.now)) }
 {
     let found = needs_at(alloc, files, extends_path)?;
     let mut numbers = Vec::new(alloc);
     for include in &found {
-        add_number(alloc, names, namespaces, &mut numbers, *include)?;
+        match add_number(alloc, names, namespaces, &mut numbers, *include) {
+            Ok(()) => {}
+            Err(ChainError::ChainTooLong) => {
+                return Err(included_finding(alloc, files, extends_path, include.name)?);
+            }
+            Err(_) => return Err(ChainFinding::without_place(ChainError::NoMemory)),
+        }
     }
     Ok(numbers)
 }

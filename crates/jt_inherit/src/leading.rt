@@ -1,16 +1,15 @@
 //! Finds the tags that lead to a chain or library.
 
-ghost use Rattle.std.specs.Prelude.{◌≡◌, ◌<◌, length, IfOk, IfSome, string_bytes};
+ghost use Rattle.std.specs.Prelude.{◌≡◌, ◌<◌, length, IfOk, option_map, string_bytes};
 ghost use Rattle.std.specs.List.{AllByRecursion};
-ghost use Rattle.jt_graph.specs.Graph.{next_of};
-ghost use Rattle.jt_chains.specs.Along.{AreIndices, templates_at};
+ghost use Rattle.jt_chains.specs.Along.{AreIndices};
 ghost use Rattle.jt_chains.specs.Indices.{namespace_at};
 ghost use Rattle.jt_inherit.specs.Findings as findings;
-ghost use Rattle.jt_inherit.specs.Findings.{HasTag};
 ghost use Rattle.jt_inherit.specs.internal.Found.{found_namespaces, found_paths, found_templates};
+ghost use Rattle.jt_inherit.specs.internal.Imported.{leading_at};
 ghost use Rattle.jt_inherit.specs.internal.Rings.{name_at};
 ghost use Rattle.jt_inherit.specs.internal.SetView.{key_view};
-ghost use Rattle.jt_inherit.specs.internal.Tags.{test_of};
+ghost use Rattle.jt_inherit.specs.internal.Tags.{place_view, test_of};
 
 use crate::discovery::Discovery;
 use crate::finding::TagPlace;
@@ -37,7 +36,8 @@ fn wanted_for(namespace: &NamespaceKey) -> Wanted<'_>
     Wanted::Includes(&namespace.name)
 }
 
-/// Returns the place of the first tag in the chain or library `from` that leads to `to`.
+/// Returns the place of the first tag in the chain or library `from` that leads to `to`, or `None`
+/// if there is none.
 pub(crate) fn leading_tag(
     alloc: Global,
     found: &Discovery,
@@ -48,9 +48,8 @@ pub(crate) fn leading_tag(
     requires to { to < length (found_namespaces found.now) }
     requires indices { AllByRecursion (AreIndices (found_templates found.now))
         (found_paths found.now) }
-    ensures { IfOk result (λ o. IfSome o
-        (HasTag (findings.leads_to (namespace_at (found_namespaces found.now) to))
-        (templates_at (found_templates found.now) (next_of (found_paths found.now) from)))) }
+    ensures { IfOk result (λ p. option_map place_view p ≡ leading_at (found_templates found.now)
+        (found_paths found.now) (namespace_at (found_namespaces found.now) to) from) }
 {
     let wanted = wanted_for(found.namespaces.get(to));
     let tags = tags_at(alloc, &found.files, &found.extends_paths[from], wanted)?;

@@ -178,14 +178,12 @@ fn ring_finding(alloc: Global, found: &Discovery) -> Result<ChainFinding, AllocE
     let Some(last) = ring.closing(&found.next) else {
         return Ok(ChainFinding::without_place(ChainError::IncludeCycle));
     };
-    let Some(place) = leading_tag(alloc, found, last, ring.first)? else {
-        return Ok(ChainFinding::without_place(ChainError::IncludeCycle));
-    };
+    let place = leading_tag(alloc, found, last, ring.first)?;
     let name = name_of(alloc, found, ring.first)?;
     let rest = names_of(alloc, found, &ring.others)?;
     Ok(ChainFinding {
         error: ChainError::IncludeCycle,
-        place: Some(place),
+        place,
         subject: Some(ChainSubject::Ring { name, rest }),
     })
 }

@@ -5,6 +5,7 @@ use Rattle.std.specs.Prelude.{option_map, filter}
 use Rattle.std.specs.Option.{is_none}
 use Rattle.std.proofs.lemmas.List.{drop_more}
 use Rattle.std.specs.Str.{bytes_eq}
+use Rattle.std.proofs.lemmas.Bool.{or_right}
 use denote.Ref.{Bor}
 use Rattle.jt_ast.specs.Expressions.{Text}
 use Rattle.jt_chains.specs.Chain.{Namespace, a_chain, same_namespace, listed, Template, BlockBody, sources_in}
@@ -16,10 +17,6 @@ use Rattle.jt_ast.specs.Texts.{texts}
 use Rattle.jt_layout.specs.NamespaceLayout.{IsNamespaceAt}
 use Rattle.jt_layout.specs.internal.Indices.{first_of, first_namespace}
 use Rattle.jt_layout.proofs.NamespacesByName.{same_is}
-
-pub or_right : (a b : Bool) → b ≡ true → (a || b) ≡ true
-or_right true b h = refl
-or_right false b h = h
 
 -- One name more, before the remaining ones.
 pub first_turn : (ks : List (Bor Text)) (i : ℕ) (k : Bor Text) (x : Text) (n m : ℕ) → i < length ks → k ≡ get_or ks i k

@@ -5,6 +5,7 @@ use Rattle.std.proofs.Common.{add-one, string_bytes, rules}
 use Rattle.std.proofs.lemmas.List.{length-map}
 use Rattle.std.specs.Prelude.{slice_get, option_map}
 use Rattle.std.specs.Option.{is_some, is_none}
+use Rattle.std.proofs.lemmas.Bool.{or_right}
 use Rattle.jt_ast.specs.Expressions.{Text}
 use Rattle.jt_chains.specs.Chain.{Namespace, a_chain, same_namespace, listed, Sources, Template, BlockBody, MacroBody}
 use Rattle.jt_chains.specs.Chain.{macros, macro_of, given, given_to, all_bodies, sources_in}
@@ -32,7 +33,7 @@ use Rattle.jt_layout.specs.declared.front.FirstFree.{FirstFree}
 use Rattle.jt_layout.specs.declared.namespace_layout.NamespaceLayout.{NamespaceLayout}
 use Rattle.jt_layout.proofs.BodyIndices.{length-counted, length-nexts}
 use Rattle.jt_layout.proofs.FirstMacro.{first_macro, no_macro}
-use Rattle.jt_layout.proofs.FirstOccurrences.{or_right, in_slots, first_bodies, namespaces_left, of_sources}
+use Rattle.jt_layout.proofs.FirstOccurrences.{in_slots, first_bodies, namespaces_left, of_sources}
 use Rattle.jt_layout.proofs.FirstDefinition.{first_given, nothing_given}
 use Rattle.jt_layout.proofs.NamespacesByName.{same, itself}
 use Rattle.jt_layout.proofs.NamesInOrder.{no_names}

@@ -3,6 +3,7 @@ use Rattle.std.proofs.Common.{◌≡◌, ℕ, zero, suc, ◌+◌, ◌<◌, ◌==
 use Rattle.std.proofs.Common.{map, ap, ◌∙◌, if◌then◌else◌, arith, length-append, append_assoc, rules}
 use Rattle.std.proofs.lemmas.List.{length-map}
 use Rattle.std.specs.Prelude.{flat_map}
+use Rattle.std.proofs.lemmas.Bool.{or_right}
 use Rattle.jt_ast.specs.Expressions.{Text}
 use Rattle.jt_chains.specs.Chain.{Namespace, a_chain, a_library, same_namespace, listed, BlockBody, MacroBody, macros}
 use Rattle.jt_chains.specs.Chain.{all_bodies}
@@ -13,7 +14,6 @@ use Rattle.jt_semantics.specs.Layout.{defaults_of, first_default}
 use Rattle.jt_layout.specs.internal.Front.{namespace_of, Stands}
 use Rattle.jt_layout.specs.declared.front.FirstFree.{FirstFree}
 use Rattle.jt_layout.proofs.BodyIndices.{length-counted}
-use Rattle.jt_layout.proofs.FirstOccurrences.{or_right}
 use Rattle.jt_layout.proofs.NamespacesByName.{reflexive, same_is, itself}
 
 -- A namespace after another one differs from it.

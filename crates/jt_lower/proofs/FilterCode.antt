@@ -69,13 +69,3 @@ filters_low room (f ∷ fs) x =
     filters_low room fs (filter_after f x)
     ∙ ap (λ b. b && rows_low (room - 1) fs) (one_low (expr_height x) r room (height_some x))
     ∙ and_again (nat_le (expr_height x) room) (nat_le r (room - 1)) (rows_low (room - 1) fs)
-
-pub rows_next : (room : ℕ) (fs : List SlotFilter) (i : ℕ) (f : SlotFilter) (es : List Entry) (b : Bool) → i < length fs
-    → f ≡ get_or fs i f → es ≡ f.row.items → b ≡ nat_le (row_height (row_view es none)) room
-    → rows_low room (drop i fs) ≡ b && rows_low room (drop (i + 1) fs)
-rows_next room fs i f es b lt is same low =
-    ap (rows_low room) (drop_more fs i f lt)
-    ∙ ap (λ (g : SlotFilter). nat_le (row_height (row_view g.row.items none)) room && rows_low room (drop (i + 1) fs))
-    (sym is)
-    ∙ ap (λ (l : List Entry). nat_le (row_height (row_view l none)) room && rows_low room (drop (i + 1) fs)) (sym same)
-    ∙ ap (λ z. z && rows_low room (drop (i + 1) fs)) (sym low)

@@ -91,23 +91,3 @@ module _ (p : Program) (count : ℕ) where
     body_ok : Bool → SBody ℕ → Bool
     body_ok inside slots.end = true
     body_ok inside (slots.stmt s rest) = stmt_ok inside s && body_ok inside rest
-
-abbrev routines_ok : Program → List (Routine ℕ) → Bool
-routines_ok p [] = true
-routines_ok p (r ∷ rs) =
-    (body_ok p r.locals false r.body && nat_le (body_height r.body) max_entries) && routines_ok p rs
-
-abbrev pool_ok : List Tree → Bool
-pool_ok [] = true
-pool_ok (tree.list ts ∷ us) = false
-pool_ok (tree.map es ∷ us) = false
-pool_ok (t ∷ us) = pool_ok us
-
-abbrev some_routine : List (Routine ℕ) → Bool
-some_routine [] = false
-some_routine (r ∷ rs) = true
-
--- `ProgramFits` as a test.
-abbrev pub program_ok : Program → Bool
-program_ok p =
-    routines_ok p p.routines && (some_routine p.routines && (pool_ok p.pool && nat_le (length p.names) p.globals))

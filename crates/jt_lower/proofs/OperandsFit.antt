@@ -216,7 +216,7 @@ module _ (p : Program) (locals : ℕ) (pool : length p.pool ≤ 2 ^ 32) (globals
 
 -- ---- programs
 
-abbrev Written : Section → Type 0
+abbrev pub Written : Section → Type 0
 Written u = AllByRecursion IsInstruction u.code
 
 routine_written : (p : Program) (r : Routine ℕ) → length p.pool ≤ 2 ^ 32 → p.globals ≤ 2 ^ 32
@@ -231,7 +231,7 @@ routine_written p r pool globals units locals len fits =
     ) in
     flat_fits (both a (one None op.Return)) 0 plain (omega (arith, len, flat_size (both a (one None op.Return)) 0))
 
-routines_written : (p : Program) → length p.pool ≤ 2 ^ 32 → p.globals ≤ 2 ^ 32 → length p.routines ≤ 2 ^ 32
+pub routines_written : (p : Program) → length p.pool ≤ 2 ^ 32 → p.globals ≤ 2 ^ 32 → length p.routines ≤ 2 ^ 32
     → (rs : List (Routine ℕ)) → ((u : ℕ) (r : Routine ℕ) → slice_get rs u ≡ Some r → RoutineFits p r)
     → AllByRecursion (λ u. u.locals ≤ max_locals) (map unit_of rs) → total_len (map unit_of rs) ≤ max_instructions
     → AllByRecursion Written (map unit_of rs)

@@ -33,10 +33,6 @@ pub record Leaves (ts : List Text) (o : Option Place) (old : Emitter) (all : Asm
   pub stands : StandsFor top height
   pub puts : (final : Emitter) → Puts ts now (row_asm o (row_view left none) height) final → Puts ts old all final
 
-pub row_begins : (ts : List Text) (o : Option Place) (es : List Entry) (c : Emitter) (top h : ℕ) → StandsFor top h
-    → Leaves ts o c (row_asm o (row_view es none) h) c (drop 0 es) top
-row_begins ts o es c top h s = record { height = h; stands = s; puts = λ final p. p }
-
 pub row_ends : (ts : List Text) (o : Option Place) (es : List Entry) (i : ℕ) (old now : Emitter) (all : Asm) (top : ℕ)
     → length es ≤ i → Leaves ts o old all now (drop i es) top → Puts ts old all now
 row_ends ts o es i old now all top le l =

@@ -64,9 +64,6 @@ in_there a0 a1 q e = search (arith, rules)
 
 -- ---- encoded places
 
-abbrev on_line : ℕ → Text → Place
-on_line n t = record { template = t; line = n }
-
 -- An encoded place decodes to itself if its template is listed.
 loc_seen : (ts : List Text) (q : Place) → Among q.template ts → place_of ts (loc_of ts (Some q)) ≡ Some q
 loc_seen ts q h = search (arith, rules, nat_tests, number_here)

@@ -5,6 +5,7 @@ pub mod MapUnlessKeyFault
 pub mod ReturnCorrect
 pub mod OutputPrefix
 pub mod DrainedOutput
+pub mod EscapedLength
 pub mod SlicesAddUp
 pub mod SinkWrites
 pub mod FastPathCorrect

@@ -1,7 +1,7 @@
 //! Executes instructions that make one value from several: operators, filters, tests, lists and
 //! maps.
 ghost use Rattle.std.specs.Prelude.{◌≡◌, ◌≤◌, ◌+◌, ◌<◌, ◌^◌, ◌∷◌, [], true, length, map, take};
-ghost use Rattle.std.specs.Prelude.{List, Result, Some, None, IfOk, IfSome};
+ghost use Rattle.std.specs.Prelude.{List, Result, Some, None, IfOk};
 ghost use Rattle.jt_value.specs.Tree as tree;
 ghost use Rattle.jt_value.specs.Tree.{Tree};
 ghost use Rattle.jt_value.specs.View.{view};
@@ -9,7 +9,6 @@ ghost use Rattle.jt_value.specs.declared.fault.Fault.{Fault};
 ghost use Rattle.jt_ops.specs.Limited.{limited, limited_by, Answers};
 ghost use Rattle.jt_op_semantics.specs.Operation.{operation};
 ghost use Rattle.jt_ids.specs.OpTable.{op_operands};
-ghost use Rattle.jt_ids.specs.declared.op_id.OpId.TheVariants as op;
 ghost use Rattle.jt_op_semantics.specs.Testing.{tested as tested_of};
 ghost use Rattle.jt_ops.specs.Limited.{as_answer};
 ghost use Rattle.jt_ids.specs.TestTable.{test_values};
@@ -17,7 +16,6 @@ ghost use Rattle.jt_image.specs.Ids.{operator_of, filter_of, test_of};
 ghost use Rattle.jt_image.specs.Step.{listed, mapped};
 ghost use Rattle.jt_image.specs.Run.{limit_of};
 ghost use Rattle.jt_machine.specs.Activations.{with_running};
-ghost use Rattle.jt_machine.specs.internal.FastPath.{IsMember};
 ghost use Rattle.jt_machine.specs.internal.FilterCalls.{IsCallable, called};
 ghost use Rattle.jt_machine.specs.InstructionSteps.{make, made, operate as operate_next};
 ghost use Rattle.jt_machine.specs.InstructionSteps.{apply_filter as filter_next};
@@ -27,8 +25,8 @@ ghost use Rattle.jt_machine.specs.InstructionSteps.{below};
 ghost use Rattle.jt_machine.specs.View.{budget_view, config_view, IsNext, continues, values_on};
 ghost use Rattle.jt_machine.specs.View.{HasValues, IsReady, IsBounded};
 
-use crate::charging::{charge_fuel, push, push_checked, step_on};
-use crate::limits::{copy_fitting, list_limit};
+use crate::charging::{charge_fuel, push, push_checked};
+use crate::limits::list_limit;
 use crate::maps::{map_of, map_refusal};
 use crate::measure::sizes;
 use crate::outcome::Outcome;
@@ -184,27 +182,9 @@ pub(crate) fn operate(
     if let Some(outcome) = charge_for_values(state, operator.operands()) {
         return Ok(Some(outcome));
     }
-    if let Some(member) = member_within(operator, &state.stack, &state.left) {
-        state.stack.put_for_two(member);
-        return Ok(step_on(state));
-    }
     let limits = limits_of(&state.left);
     let answer = operated(alloc, operator, &mut state.stack, limits);
     push_answer(state, answer)
-}
-
-// Returns a copy of the member that the name at the top names in the map below it, if the operator
-// is `Item`, and the member exists and is within the limits.
-fn member_within(operator: OpId, stack: &Stack, left: &Budget) -> Option<Value>
-    ensures named { IfSome result (λ _. operator ≡ op.Item) }
-    ensures member { IfSome result (λ v. IsMember stack.now.running (view v)) }
-    ensures fits { IfSome result (λ v. limit_of (budget_view left.now) (view v) ≡ None) }
-{
-    if !matches!(operator, OpId::Item) {
-        return None;
-    }
-    let member = stack.member()?;
-    copy_fitting(member, left)
 }
 
 // A call of a filter: the filter, its number of values, and whether it escapes.

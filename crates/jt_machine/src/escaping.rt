@@ -38,7 +38,8 @@ fn stays_plain(plain: bool, byte: u8) -> bool
 // Returns the number of bytes that are written for one byte.
 #[tactic(auto, using(crate::proofs::NumberOperators::kept_above))]
 fn escaped_len(byte: u8) -> u64
-    ensures { result ≡ length (escaped_byte byte) }
+    ensures len { result ≡ length (escaped_byte byte) }
+    ensures few { result ≤ 5 }
 {
     if byte > b'>' {
         return 1;
@@ -48,6 +49,18 @@ fn escaped_len(byte: u8) -> u64
         b'<' | b'>' => 4,
         _ => 1,
     }
+}
+
+/// Returns the number of bytes that are written for a short text.
+pub(crate) fn escaped_size(text: &str) -> usize
+    requires { length text.now < 63 }
+    ensures { result ≡ length (escaped text.now) }
+{
+    let mut size = 0usize;
+    'bytes: for byte in text.as_bytes() {
+        size += escaped_len(*byte) as usize;
+    }
+    size
 }
 
 /// Takes the length of the escaped text from the output budget. Refuses if fewer bytes are left.

@@ -4,7 +4,7 @@
 //! - writing, sink: `run_to`, a run that writes its text into a sink.
 //! - machine: `Machine`, a run that stops and goes on later.
 //! - step: one step, with a module for each kind of instruction.
-//! - fast_path, fast_output, numbers: cheap instructions, many of them in one call.
+//! - fast_path, fast_items, fast_output, numbers: cheap instructions, many of them in one call.
 //! - constants: text constants, each built once in a run.
 //! - outcome: how runs end.
 //!
@@ -18,6 +18,7 @@ mod charging;
 mod constants;
 mod entries;
 mod escaping;
+mod fast_items;
 mod fast_output;
 mod fast_path;
 mod fault_place;

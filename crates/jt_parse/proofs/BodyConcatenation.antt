@@ -11,10 +11,6 @@ pub all_all : (a b c : Body) → then_all (then_all a b) c ≡ then_all a (then_
 all_all end b c = refl
 all_all (stmt s a) b c = ap (stmt s) (all_all a b c)
 
-pub branches_end : (a : Branches) → then_branches a no_branches ≡ a
-branches_end no_branches = refl
-branches_end (branch l c b a) = ap (branch l c b) (branches_end a)
-
 pub branches_all : (a b c : Branches) → then_branches (then_branches a b) c ≡ then_branches a (then_branches b c)
 branches_all no_branches b c = refl
 branches_all (branch l x y a) b c = ap (branch l x y) (branches_all a b c)

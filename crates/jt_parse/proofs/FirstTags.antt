@@ -170,16 +170,6 @@ HeadBy show made line m w ts q rest = Whole show head_view made (Behind line w) 
 at_end : (v : Tokens) → v ≡ [] → EndsAt whole v
 at_end v e = subst (EndsAt whole) (sym e) the_end
 
--- A tag with an unknown first word is refused.
-pub another_word : (line limit : ℕ) (w : List ℕ) (ts v : Tokens) → bytes_eq w (codes "if") ≡ false
-    → bytes_eq w (codes "for") ≡ false → bytes_eq w (codes "set") ≡ false → bytes_eq w (codes "with") ≡ false
-    → bytes_eq w (codes "filter") ≡ false → bytes_eq w (codes "autoescape") ≡ false → bytes_eq w (codes "macro") ≡ false
-    → bytes_eq w (codes "include") ≡ false → bytes_eq w (codes "extends") ≡ false
-    → bytes_eq w (codes "block") ≡ false → bytes_eq w (codes "import") ≡ false → bytes_eq w (codes "from") ≡ false
-    → ReadsHead line limit w ts (Err e.Syntax) v
-another_word line limit w ts v a b c d f g h i j k o p =
-    λ q u l end. rw (a, b, c, d, f, g, h, i, j, k, o, p) at (opened line w q l.0 (word w ∷ l.0) refl l.2)
-
 -- ---- if c
 
 module _ (line m : ℕ) (ts : Tokens) where
@@ -1036,15 +1026,6 @@ module _ (line m : ℕ) (ts : Tokens) where
 -- ---- the whole tag
 
 module _ (line m : ℕ) (w : List ℕ) (ts : Tokens) where
-  pub known_word : (v : List ℕ) (r : Result Read ExprError) (u : Tokens) → bytes_eq w v ≡ true
-      → ReadsHead line m v ts r u → ReadsHead line m w ts r u
-  known_word v r u same g = subst (λ z. ReadsHead line m z ts r u) (sym ((bytes_eq-Decides w v).0 same)) g
-
-  pub still_refused : (x : ExprError) (r u : Tokens) → ReadsHead line m w ts (Err x) r → ReadsHead line m w ts (Err x) u
-  still_refused e.Syntax r u g = g
-  still_refused e.TooDeep r u g = g
-  still_refused e.NoMemory r u g = tt
-
   pub tokens_left : (h : Read) (u z : Tokens) → ReadsHead line m w ts (Ok h) u → 0 < length u
       → ReadsHead line m w ts (Err e.Syntax) z
   tokens_left h u z g some =

@@ -16,6 +16,5 @@ pub mod StatementPositions
 pub mod FirstFault
 pub mod SegmentSteps
 pub mod SegmentLoop
-pub mod TreeWeights
-pub mod NameLengths
+pub mod TreeBounds
 pub mod TrimExamples

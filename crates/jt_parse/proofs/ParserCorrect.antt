@@ -11,8 +11,7 @@ use Rattle.jt_scan.specs.Cut.{weight_of}
 use Rattle.jt_scan.specs.View.{cut_of}
 use Rattle.jt_scan.specs.declared.segment.Segment.{Segment as SegmentKind}
 use Rattle.jt_expr.specs.Promises.{ExpressionLaws}
-use Rattle.jt_parse.proofs.TreeWeights.{weighs_less}
-use Rattle.jt_parse.proofs.NameLengths.{no_longer}
+use Rattle.jt_parse.proofs.TreeBounds.{tree_bound}
 use Rattle.jt_parse.specs.Names.{body_unknown}
 use Rattle.jt_parse.specs.Positions.{is_placed}
 use Rattle.jt_parse.specs.Grammar.{Spelled}
@@ -115,10 +114,10 @@ answer_refused ps (Err e.NoMemory) g = tt
 
 pub answer_weighs : ExpressionLaws → (gs : List SegmentKind) (r : Result Template ParseError)
     → GivesKnown (Parsed 100 (pieces (reads_of gs))) r → IfOk r (λ t. body_weight (body_of t) ≤ weight_of (cut_of gs))
-answer_weighs laws gs (Ok t) g = weighs_less laws gs (exact 100 (body_of t) (pieces (reads_of gs)) g.0).0
+answer_weighs laws gs (Ok t) g = (tree_bound laws gs (exact 100 (body_of t) (pieces (reads_of gs)) g.0).0).0
 answer_weighs laws gs (Err x) g = tt
 
 pub answer_short : ExpressionLaws → (gs : List SegmentKind) (r : Result Template ParseError)
     → GivesKnown (Parsed 100 (pieces (reads_of gs))) r → IfOk r (λ t. body_bytes (body_of t) ≤ bytes_of (cut_of gs))
-answer_short laws gs (Ok t) g = no_longer laws gs (exact 100 (body_of t) (pieces (reads_of gs)) g.0).0
+answer_short laws gs (Ok t) g = (tree_bound laws gs (exact 100 (body_of t) (pieces (reads_of gs)) g.0).0).1
 answer_short laws gs (Err x) g = tt

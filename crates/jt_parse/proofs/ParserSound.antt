@@ -2,6 +2,7 @@
 use Rattle.std.proofs.Common.{◌≡◌, ℕ, ◌&&◌, Bool, true, false, List, [], ◌∷◌, ◌++◌, codes, refl, sym, ap, subst, ◌∙◌}
 use Rattle.std.proofs.Common.{append_assoc, Result, Ok, Err, encode_utf8_all, bytes_eq}
 use Rattle.std.proofs.lemmas.Slice.Eq.{bytes_eq-Decides}
+use Rattle.std.proofs.lemmas.Bool.{and_parts}
 use Rattle.jt_scan.specs.declared.segment.TagKind.TheVariants as kind
 use Rattle.jt_scan.specs.Cut as cut
 use Rattle.jt_scan.specs.Cut.{Token}
@@ -206,15 +207,12 @@ else_sound line [] a (in_opening before k o ∷ fs) next ps w e r = no_error syn
 else_sound line [] a (in_branch before done l c ∷ fs) next ps w e r = else_in (subst (Rest ps w) (ok_is e) r)
 else_sound line [] a (in_loop before k l ∷ fs) next ps w e r = loop_else_in (subst (Rest ps w) (ok_is e) r)
 
-both : (a b : Bool) → (a && b) ≡ true → (a ≡ true) × (b ≡ true)
-both true b h = (refl, h)
-both false b h = cc
-
 -- A tag that consists of the word v alone.
 alone : (x v : Text) (line : ℕ) (ts : List Token) → (bytes_eq x v && none_left ts) ≡ true
     → block line (word v ∷ []) ≡ block line (word x ∷ ts)
-alone x v line [] h = ap (λ y. block line (word y ∷ [])) (sym ((bytes_eq-Decides x v).0 (both (bytes_eq x v) true h).0))
-alone x v line (t ∷ ts) h = let p = (both (bytes_eq x v) false h).1 in cc
+alone x v line [] h =
+    ap (λ y. block line (word y ∷ [])) (sym ((bytes_eq-Decides x v).0 (and_parts (bytes_eq x v) true h).0))
+alone x v line (t ∷ ts) h = let p = (and_parts (bytes_eq x v) false h).1 in cc
 
 opening_ends : (o : BlockStart) (x : Text) (ts : List Token) → bytes_eq x (end_word o) ≡ true → names_end o ts ≡ true
     → Ends o (word x ∷ ts)
@@ -250,7 +248,7 @@ open_stmt_sound line x ts a (in_loop before k l) fs ps w h r =
 open_stmt_sound line x ts a (in_loop_else before k l i) fs ps w h r =
     inside_loop_else end a line [] ps nothing_more (all_end a) (ap (λ z. z ∷ ps) (alone x (codes "endfor") line ts h)) r
 open_stmt_sound line x ts a (in_opening before k o) fs ps w h r =
-    let b = both (bytes_eq x (end_word o)) (names_end o ts) h in
+    let b = and_parts (bytes_eq x (end_word o)) (names_end o ts) h in
     inside_opening end a line (word x ∷ ts) [] ps nothing_more (all_end a) (opening_ends o x ts b.0 b.1) refl r
 
 end_sound : (line : ℕ) (x : Text) (ts : List Token) (a : Body) (fs : List OpenStmt) (next : State)

@@ -107,9 +107,6 @@ text_some n st next t u h e = by (chars t) (not_empty t u h) e
 
 -- ---- one piece
 
-pub run_one : (n : ℕ) (st next : State) (p : SourcePiece) → Steps n st p (Ok next) → Runs n st (p ∷ []) (Ok next)
-run_one n st next p s = went_on s ended
-
 pub one_refused : (n : ℕ) (st : State) (p : SourcePiece) (x : ParseError) → Refuses (Steps n st p) x
     → Refuses (Runs n st (p ∷ [])) x
 one_refused n st p (e.Syntax l) s = refused s

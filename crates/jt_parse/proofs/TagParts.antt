@@ -167,16 +167,6 @@ pub no_token : (ts w : Tokens) → ts ≡ [] → ReadsFlat literal_view IsLitera
 no_token ts w is = λ b v d any. let p = leads_literal b ts v d in no_tokens p.0 v (sym is ∙ p.1)
 
 module _ (ts : Tokens) where
-  abbrev ReadsDefault : Result (Option Constant) ExprError → Tokens → Type 0
-  ReadsDefault = ReadsFlat (option_map literal_view) IsDefault (NoSign s.Assign) ts
-
-  pub no_default : ((w : Tokens) → ts ≡ cut.sign s.Assign ∷ w → ⊥) → ReadsDefault (Ok None) ts
-  no_default none = (([], refl, refl), omega arith, λ b v l end. by b v l)
-    where
-      by : (b : Option Literal) (v : Tokens) → Leads IsDefault b ts v → (b ≡ None) × (v ≡ ts)
-      by None v (x, is, d) = (refl, sym (is ∙ ap (λ z. z ++ v) d))
-      by (Some l) v (x, is, d) = absurd (none (d.0 ∷ v) (is ∙ ap (λ z. z ++ v) d.1))
-
   module _ (q : Tokens) (sign : ts ≡ cut.sign s.Assign ∷ q) where
     behind_sign : (b : Option Literal) (v : Tokens) → Leads IsDefault b ts v → NoSign s.Assign v
         → (l : Literal) × Leads IsLiteral l q v × (b ≡ Some l)
@@ -314,37 +304,6 @@ no_text ts w none = λ b v l any. let p = leads_text b ts v l in none p.0 v p.1
 abbrev pub IsMissing : Bool → Tokens → Type 0
 IsMissing b x = x ≡ missing_words b
 
-module _ (ts : Tokens) where
-  abbrev ReadsMissing : Result Bool ExprError → Tokens → Type 0
-  ReadsMissing = ReadsFlat (λ (b : Bool). b) IsMissing (NoWord (codes "ignore")) ts
-
-  pub not_missing : NoWord (codes "ignore") ts → ReadsMissing (Ok false) ts
-  not_missing none = (([], refl, refl), omega arith, λ b v l end. by b v l)
-    where
-      by : (b : Bool) (v : Tokens) → Leads IsMissing b ts v → (b ≡ false) × (v ≡ ts)
-      by false v (x, is, d) = (refl, sym (is ∙ ap (λ z. z ++ v) d))
-      by true v (x, is, d) = absurd (none (word (codes "missing") ∷ v) (is ∙ ap (λ z. z ++ v) d))
-
-  module _ (q : Tokens) (said : ts ≡ word (codes "ignore") ∷ q) where
-    behind_ignore : (b : Bool) (v : Tokens) → Leads IsMissing b ts v → NoWord (codes "ignore") v
-        → (b ≡ true) × (q ≡ word (codes "missing") ∷ v)
-    behind_ignore false v (x, is, d) end = absurd (end q (sym (is ∙ ap (λ z. z ++ v) d) ∙ said))
-    behind_ignore true v (x, is, d) end =
-        (refl, behind (word (codes "ignore")) ts q (word (codes "missing") ∷ v) said (is ∙ ap (λ z. z ++ v) d))
-
-    pub missing_refused : (x : ExprError) (r w : Tokens) → TakesWord (codes "missing") q (Err x) r
-        → ReadsMissing (Err x) w
-    missing_refused =
-        word_refused (λ (b : Bool). b) IsMissing (NoWord (codes "ignore")) (λ b. 0) 0 ts q (codes "missing")
-        (λ c v l end. (v, (behind_ignore c v l end).1))
-
-    pub missing_read : (u : Tokens) → q ≡ word (codes "missing") ∷ u → ReadsMissing (Ok true) u
-    missing_read u is = (
-      (missing_words true, said ∙ ap (λ z. word (codes "ignore") ∷ z) is, refl),
-      omega arith,
-      λ b v l end. let p = behind_ignore b v l end in (p.0, behind (word (codes "missing")) q v u p.1 is),
-    )
-
 -- ---- with context
 
 words_differ : {G : Type 0} (q v : Tokens) → ◌≡◌ {A = Tokens} (word (codes "with") ∷ q) (word (codes "without") ∷ v) → G
@@ -370,11 +329,6 @@ module _ (ts : Tokens) where
         (refl, behind (word (codes "with")) ts q (word (codes "context") ∷ v) said is)
     behind_with b v (x, is, without_context) end = words_differ q (word (codes "context") ∷ v) (sym said ∙ is)
 
-    pub with_refused : (x : ExprError) (r w : Tokens) → TakesWord (codes "context") q (Err x) r → ReadsContext (Err x) w
-    with_refused =
-        word_refused (λ (b : Bool). b) Context NoToken (λ b. 0) 0 ts q (codes "context")
-        (λ c v l end. (v, (behind_with c v l end).1))
-
     pub with_read : (u : Tokens) → q ≡ word (codes "context") ∷ u → ReadsContext (Ok true) u
     with_read u is = (
       (word (codes "with") ∷ word (codes "context") ∷ [], said ∙ ap (λ z. word (codes "with") ∷ z) is, with_context),
@@ -389,12 +343,6 @@ module _ (ts : Tokens) where
     behind_without b v (x, is, with_context) end = words_differ (word (codes "context") ∷ v) q (sym is ∙ said)
     behind_without b v (x, is, without_context) end =
         (refl, behind (word (codes "without")) ts q (word (codes "context") ∷ v) said is)
-
-    pub without_refused : (x : ExprError) (r w : Tokens) → TakesWord (codes "context") q (Err x) r
-        → ReadsContext (Err x) w
-    without_refused =
-        word_refused (λ (b : Bool). b) Context NoToken (λ b. 0) 0 ts q (codes "context")
-        (λ c v l end. (v, (behind_without c v l end).1))
 
     pub without_read : (u : Tokens) → q ≡ word (codes "context") ∷ u → ReadsContext (Ok false) u
     without_read u is = (
@@ -509,35 +457,3 @@ module _ (ts : Tokens) where
     imported_done d w g (Err e.Syntax) is = absurd is
     imported_done d w g (Err e.TooDeep) is = absurd is
     imported_done d w g (Err e.NoMemory) is = tt
-
--- ---- without context
-
-module _ (ts : Tokens) where
-  abbrev ReadsWithout : Result Bool ExprError → Tokens → Type 0
-  ReadsWithout = ReadsFlat (λ (b : Bool). b) IsWithout (NoWord (codes "without")) ts
-
-  pub not_said : NoWord (codes "without") ts → ReadsWithout (Ok false) ts
-  not_said none = (([], refl, refl), omega arith, λ b v l end. by b v l)
-    where
-      by : (b : Bool) (v : Tokens) → Leads IsWithout b ts v → (b ≡ false) × (v ≡ ts)
-      by false v (x, is, d) = (refl, sym (is ∙ ap (λ z. z ++ v) d))
-      by true v (x, is, d) = absurd (none (word (codes "context") ∷ v) (is ∙ ap (λ z. z ++ v) d))
-
-  module _ (q : Tokens) (said : ts ≡ word (codes "without") ∷ q) where
-    behind_said : (b : Bool) (v : Tokens) → Leads IsWithout b ts v → NoWord (codes "without") v
-        → (b ≡ true) × (q ≡ word (codes "context") ∷ v)
-    behind_said false v (x, is, d) end = absurd (end q (sym (is ∙ ap (λ z. z ++ v) d) ∙ said))
-    behind_said true v (x, is, d) end =
-        (refl, behind (word (codes "without")) ts q (word (codes "context") ∷ v) said (is ∙ ap (λ z. z ++ v) d))
-
-    pub said_refused : (x : ExprError) (r w : Tokens) → TakesWord (codes "context") q (Err x) r → ReadsWithout (Err x) w
-    said_refused =
-        word_refused (λ (b : Bool). b) IsWithout (NoWord (codes "without")) (λ b. 0) 0 ts q (codes "context")
-        (λ c v l end. (v, (behind_said c v l end).1))
-
-    pub said_read : (u : Tokens) → q ≡ word (codes "context") ∷ u → ReadsWithout (Ok true) u
-    said_read u is = (
-      (without_words true, said ∙ ap (λ z. word (codes "without") ∷ z) is, refl),
-      omega arith,
-      λ b v l end. let p = behind_said b v l end in (p.0, behind (word (codes "context")) q v u p.1 is),
-    )

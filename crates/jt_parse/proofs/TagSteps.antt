@@ -4,19 +4,16 @@ use Rattle.std.proofs.Common.{subst, ◌∙◌, append-nil, arith, Result, Ok, E
 use Rattle.std.proofs.lemmas.Bool.Decides.{nat_tests}
 use Rattle.jt_scan.specs.Cut.{Token}
 use Rattle.jt_ast.specs.Expressions.{Expr, levels}
-use Rattle.jt_parse.specs.Tags.{Head, Says, says_if, says_for, says_set, says_text, says_with, says_filter}
-use Rattle.jt_parse.specs.Tags.{says_autoescape, says_macro, says_include, says_import, says_from, says_extends}
-use Rattle.jt_parse.specs.Tags.{says_block, head_levels}
+use Rattle.jt_parse.specs.Tags.{Head, Says, says_if, head_levels}
 use Rattle.jt_ast.specs.Statements.{Body, end, Branches}
 use Rattle.jt_parse.specs.internal.Reading.{OpenStmt, in_branch, then_branch, State, state, After, ElifTag}
-use Rattle.jt_parse.specs.internal.Gives.{GivesOnly, Refuses}
+use Rattle.jt_parse.specs.internal.Gives.{GivesOnly, Refuses, refusal_at}
 use Rattle.jt_expr.specs.Grammar.{Tokens, word, Spells, whole}
 use Rattle.jt_expr.specs.Promises.{Leads}
 use Rattle.jt_ast.specs.ExpressionView.{expr_view}
 use Rattle.jt_ast.specs.declared.expression.Expr.{Expr as Tree}
 use Rattle.jt_expr.specs.declared.error.ExprError.{ExprError}
 use Rattle.jt_expr.specs.declared.error.ExprError.TheVariants as fault
-use Rattle.jt_parse.specs.internal.Gives.{refusal_at}
 use Rattle.jt_parse.specs.internal.HeadView.{head_view}
 use Rattle.jt_parse.specs.internal.Readers.{ReadsHead}
 use Rattle.jt_parse.specs.declared.opening_tags.Head.{Head as First}
@@ -40,18 +37,7 @@ module _ {A B : Type 0} (view : A → B) (NestedForm : B → Type 0) (height : B
 
 pub some_levels : {line : ℕ} {h : Head} {x : List Token} → Says line h x → 0 < head_levels h
 some_levels (says_if d) = omega arith
-some_levels (says_for g d f) = omega arith
-some_levels (says_set g d) = omega arith
-some_levels (says_text h) = omega arith
-some_levels (says_with d) = omega arith
-some_levels (says_filter d) = omega arith
-some_levels (says_autoescape on) = omega arith
-some_levels (says_macro h d) = omega arith
-some_levels (says_include missing d) = omega arith
-some_levels (says_import said h) = omega arith
-some_levels (says_from said d) = omega arith
-some_levels says_extends = omega arith
-some_levels (says_block scoped required h) = omega arith
+some_levels a0 = omega arith
 
 -- If too many levels enclose it, no value of the form fits.
 pub no_room : {B : Type 0} (NestedForm : B → Type 0) (height : B → ℕ) (n : ℕ) (next : B → State) (line : ℕ)

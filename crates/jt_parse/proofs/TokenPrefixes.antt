@@ -122,11 +122,6 @@ name_read n x ts u e h is = (
       (p.3 ∙ ap encode_utf8_all (same_name p.0 x same.0) ∙ sym is, same.1),
 )
 
-pub name_refused : (x : ExprError) (ts r w : Tokens) → TakesAName ts (Err x) r → NameRead ts (Err x) w
-name_refused e.Syntax ts r w g = λ b v l any. let p = leads_name b ts v l in g p.0 v p.1 p.2
-name_refused e.TooDeep ts r w g = absurd g
-name_refused e.NoMemory ts r w g = tt
-
 -- The rest after a name that is read.
 pub behind_name : (n : String Global) (ts u : Tokens) → NameRead ts (Ok n) u → (x : Text) (v : Tokens)
     → ts ≡ cut.name x ∷ v → is_reserved x ≡ false

@@ -2,7 +2,7 @@
 use Rattle.std.proofs.Common.{◌≡◌, ◌≢◌, ℕ, ◌-◌, ◌<◌, ◌≤◌, ◌==◌, ◌&&◌, Bool, true, false, List, [], ◌∷◌, ◌++◌, length}
 use Rattle.std.proofs.Common.{take, refl, sym, ap, subst, ◌∙◌, arith, append_assoc, append-nil, length-append, IsUtf8}
 use Rattle.std.proofs.Common.{⊎_elim}
-use Rattle.std.proofs.lemmas.Bool.{cases_lt}
+use Rattle.std.proofs.lemmas.Bool.{cases_lt, and_parts}
 use Rattle.std.proofs.lemmas.Str.{encodes-chars, encodes-append, length-le-encodes, chars-append, chars-nil}
 use Rattle.std.specs.Str.{chars}
 use lib.Utf8.{encodes}
@@ -16,9 +16,6 @@ whole_end x = ([], refl)
 
 pub empty_end : (x : Text) → EndsWith x []
 empty_end x = (x, sym (append-nil x))
-
-pub no_chars_end : (x : Text) → EndsWith x (chars [])
-no_chars_end x = subst (EndsWith x) (sym chars-nil) (empty_end x)
 
 pub space_end : (x : Text) → EndsWith x (after_space x)
 unfolding after_space
@@ -52,14 +49,10 @@ pub record IsRun (test : ℕ → Bool) (start : Bool) (source : Text) (starts : 
 pub run_none : (test : ℕ → Bool) (start : Bool) (x : Text) → IsRun test start x start x x
 run_none test start x = record { between = []; is = refl; pass = refl; value = refl; begins = refl; end = whole_end x }
 
-both : (a b : Bool) → (a && b) ≡ true → (a ≡ true) × (b ≡ true)
-both true b h = (refl, h)
-both false b h = cc
-
 pass_more : (test : ℕ → Bool) (u : Text) (c : ℕ) → all_pass test u ≡ true → test c ≡ true
     → all_pass test (u ++ (c ∷ [])) ≡ true
 pass_more test [] c h t = rw t refl
-pass_more test (d ∷ u) c h t = let p = both (test d) (all_pass test u) h in rw p.0 (pass_more test u c p.1 t)
+pass_more test (d ∷ u) c h t = let p = and_parts (test d) (all_pass test u) h in rw p.0 (pass_more test u c p.1 t)
 
 pass_not : (test : ℕ → Bool) (u : Text) (c : ℕ) (x : Text) → test c ≡ false → all_pass test (u ++ (c ∷ x)) ≡ false
 pass_not test [] c x t = rw t refl
@@ -140,7 +133,7 @@ pub run_starts : (test : ℕ → Bool) (start : Bool) (source : Text) (starts : 
 run_starts test start source starts run rest r e =
     sym (r.begins ∙ all_starts test starts run (run_all test start source starts run rest r e))
 
--- ---- both ends
+-- ---- and_parts ends
 
 bytes_of : (x : List ℕ) → IsUtf8 x → length x ≡ length (encodes (chars x))
 bytes_of x u = ap length (sym (encodes-chars x u))
@@ -153,10 +146,6 @@ end_of_end (c ∷ y) a (d ∷ z) b e le = let t : y ++ a ≡ z ++ b = cc in end_
 
 longer : (a b : Text) → EndsWith a b → length b ≤ length a
 longer a b e = omega (arith, ap length e.1, length-append e.0 b)
-
-bytes_longer : (a b : Text) → EndsWith a b → length (encodes b) ≤ length (encodes a)
-bytes_longer a b e =
-    omega (arith, ap length (ap encodes e.1 ∙ encodes-append e.0 b), length-append (encodes e.0) (encodes b))
 
 strictly : (a b : Text) → EndsWith a b → length b < length a → length (encodes b) < length (encodes a)
 strictly a b e lt =

@@ -93,11 +93,6 @@ module _ (files after : Known) (found : Option (Word × List Row)) where
   line_ends (Err (failure.Call call_error.NoMemory)) a = tt
   line_ends e a = a
 
-  -- A line without a job ends with the error of the line.
-  pub no_job : (e : JobError) → LineEnds files after found (Err (of_line e))
-  no_job (job_error.Usage text) = tt
-  no_job job_error.NoMemory = tt
-
   -- The end of a line is that of its job, unless it is the usage or lack of memory.
   pub job_ends : (e : Failure) → code_of (status_of e) ≢ 2 → code_of (status_of e) ≢ 6
       → LineEnds files after found (Err e) → Answers files after found (Err e)
@@ -111,13 +106,6 @@ named : (name : Word) (rows : List Row) (k : Command) (o : Options) (b : Budget)
 named name rows (command.Compile dir template out) o b n h is = inl h.0
 named name rows (command.Upgrade image out) o b n h is = inr h.0
 named name rows k o b n h is = absurd is
-
-pub writing_asked : (found : Option (Word × List Row)) (j : Job) → IsAsked found j
-    → (option_map (λ c. c.0) found ≡ Some (codes "compile") → ⊥)
-    → (option_map (λ c. c.0) found ≡ Some (codes "upgrade") → ⊥) → IsWriting j.command → ⊥
-writing_asked None j h a b is = h
-writing_asked (Some c) j h a b is =
-    ⊎_elim (λ e. a (ap Some e)) (λ e. b (ap Some e)) (named c.0 c.1 j.command j.options j.budget j.slice h is)
 
 module _ (files after : Known) where
   -- A command changes no file except OUT, if a command that writes no image changes none.

@@ -3,7 +3,7 @@ use Rattle.std.proofs.Common.{◌≡◌, ℕ, zero, suc, ◌+◌, ◌-◌, ◌<�
 use Rattle.std.proofs.Common.{List, [], ◌∷◌, ◌++◌, length, take, drop, get_or, count_by, refl, sym, ap, ap₂, subst, ◌∙◌}
 use Rattle.std.proofs.Common.{append-nil, arith, zero-add, length-append, length-take, IsUtf8, slice_range, Option}
 use Rattle.std.proofs.Common.{Some, None, unwrap_or, rules}
-use Rattle.std.proofs.lemmas.Bool.{cases_lt}
+use Rattle.std.proofs.lemmas.Bool.{cases_lt, false_from_ne_true, and_parts}
 use Rattle.std.proofs.lemmas.Bool.Decides.{nat_tests}
 use Rattle.std.proofs.lemmas.List.{take-append-drop}
 use Rattle.std.proofs.lemmas.Str.{encodes-append, encodes-chars, encode_ascii, chars-append, chars-nil, inside_one}
@@ -15,7 +15,7 @@ use lib.Utf8.{encode, encodes}
 use Rattle.memchr.specs.Find.{IsFirst, FindsNeedle, OccursAt}
 use Rattle.jt_scan.specs.Cut.{Text, EndsWith, begins, opens, ends_comment, NoneBegins}
 use Rattle.jt_scan.specs.internal.Scanning.{clear_run, is_second, OpensAt}
-use Rattle.jt_scan.proofs.ParseResultSteps.{both, Stops, clear_of}
+use Rattle.jt_scan.proofs.ParseResultSteps.{Stops, clear_of}
 
 -- ---- suffixes
 
@@ -92,7 +92,7 @@ count_lines t u = ap (count_by is_lf) (sym (encodes-chars t u)) ∙ count_all (c
 
 pub pair_up : (a b : ℕ) (cs : Text) → a < 128 → b < 128 → begins a b cs ≡ true
     → (get_or (encodes cs) 0 0 ≡ a) × (get_or (encodes cs) 1 0 ≡ b)
-pair_up a b cs la lb h = search (arith, rules, both, nat_tests, encode_ascii)
+pair_up a b cs la lb h = search (arith, rules, and_parts, nat_tests, encode_ascii)
 
 byte_char : (a c : ℕ) (ys : List ℕ) → a < 128 → get_or (encode c ++ ys) 0 0 ≡ a → c ≡ a
 byte_char a c ys l h =
@@ -127,15 +127,11 @@ none_begins : (test : Text → Bool) (P : List ℕ → ℕ → Type 0) → IsTes
 none_begins test P t [] x h = tt
 none_begins test P t (c ∷ d) x h =
     let long : 1 ≤ length (encode c) = omega (arith, length-encode c, (len_utf8_bounds c).0) in (
-      is_not (test (c ∷ (d ++ x)))
+      false_from_ne_true (test (c ∷ (d ++ x)))
           (λ e. h 0 (omega (arith, length-append (encode c) (encodes d))) (t.up (c ∷ (d ++ x)) e)),
       none_begins test P t d x (λ k below p. h (length (encode c) + k)
           (omega (arith, length-append (encode c) (encodes d))) (t.shift (encode c) (encodes (d ++ x)) k p)),
     )
-  where
-    is_not : (b : Bool) → (b ≡ true → ⊥) → b ≡ false
-    is_not true f = absurd (f refl)
-    is_not false f = refl
 
 stops_by : (test : Text → Bool) (x : Text) → test x ≡ true → Stops test x
 stops_by test [] h = tt

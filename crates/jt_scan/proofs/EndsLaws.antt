@@ -6,11 +6,8 @@ use Rattle.std.proofs.lemmas.List.{take-append-drop, length-take-le}
 use Rattle.std.proofs.lemmas.Bool.Decides.{nat_tests}
 use Rattle.memchr.specs.Find.{IsFirstByte, is_byte}
 use Rattle.std.proofs.Common.{Some, None}
+use Rattle.std.proofs.lemmas.Bool.{false_from_ne_true, and_parts}
 use Rattle.jt_scan.specs.LineEnds.{lf_ends, without_first_lf, without_last_lf, ends_with_lf, normalized}
-
-is_not : (b : Bool) → (b ≡ true → ⊥) → b ≡ false
-is_not true f = absurd (f refl)
-is_not false f = refl
 
 -- A text without CR stays unchanged.
 ends_piece : (x r : List ℕ) → ((k : ℕ) → k < length x → get_or x k 0 ≡ 13 → ⊥)
@@ -19,7 +16,7 @@ unfolding lf_ends
 ends_piece [] r h = refl
 ends_piece (c ∷ x) r h =
     let other : (c == 13) ≡ false =
-    is_not (c == 13) (λ e. h 0 (omega arith) (let i : c ≡ 13 = grind (arith, nat_tests) in i)) in
+    false_from_ne_true (c == 13) (λ e. h 0 (omega arith) (let i : c ≡ 13 = grind (arith, nat_tests) in i)) in
     rw (other, ends_piece x r (λ k below. h (suc k) (omega arith)))
 
 pub ends_whole : (x : List ℕ) → ((k : ℕ) → k < length x → get_or x k 0 ≡ 13 → ⊥) → lf_ends false x ≡ x
@@ -27,7 +24,7 @@ unfolding lf_ends
 ends_whole [] h = refl
 ends_whole (c ∷ x) h =
     let other : (c == 13) ≡ false =
-    is_not (c == 13) (λ e. h 0 (omega arith) (let i : c ≡ 13 = grind (arith, nat_tests) in i)) in
+    false_from_ne_true (c == 13) (λ e. h 0 (omega arith) (let i : c ≡ 13 = grind (arith, nat_tests) in i)) in
     rw (other, ends_whole x (λ k below. h (suc k) (omega arith)))
 
 ends_cr : (r : List ℕ) → lf_ends false (13 ∷ r) ≡ 10 ∷ lf_ends false (without_first_lf r)
@@ -65,16 +62,12 @@ last_from (d ∷ x) c =
     chosen true y z = refl
     chosen false y z = refl
 
-both : (a b : Bool) → (a && b) ≡ true → (a ≡ true) × (b ≡ true)
-both true b h = (refl, h)
-both false b h = cc
-
 pub last_yes : (x : List ℕ) → ends_with_lf x ≡ true → without_last_lf x ≡ take (length x - 1) x
 last_yes [] h = cc
 last_yes (c ∷ x) h =
     let n : suc (length x) - 1 ≡ length x = omega arith in
     let is : (get_or (c ∷ x) (length x) 0 == 10) ≡ true =
-    subst (λ m. (get_or (c ∷ x) m 0 == 10) ≡ true) n (both (nat_lt 0 (suc (length x))) _ h).1 in
+    subst (λ m. (get_or (c ∷ x) m 0 == 10) ≡ true) n (and_parts (nat_lt 0 (suc (length x))) _ h).1 in
     last_from x c ∙ (rw (is, n) refl)
 
 pub last_no : (x : List ℕ) → ends_with_lf x ≡ false → without_last_lf x ≡ x

@@ -3,6 +3,7 @@ use Rattle.std.proofs.Common.{◌≡◌, ℕ, ◌+◌, ◌*◌, ◌-◌, ◌<◌
 use Rattle.std.proofs.Common.{cond, [], ◌∷◌, ◌++◌, length, refl, sym, ap, subst, ◌∙◌, arith, length-append, Option}
 use Rattle.std.proofs.Common.{Some, None, rules}
 use Rattle.std.proofs.lemmas.Bool.Decides.{nat_tests}
+use Rattle.std.proofs.lemmas.Bool.{or_parts}
 use Rattle.jt_scan.specs.Literals.{Text, digit_value, is_digit, digit_first, Digits, no_digit, digit, spaced, goes_on}
 use Rattle.jt_scan.specs.Literals.{base_of, names_base, Numeral, decimal, zeros, based}
 use Rattle.jt_scan.specs.internal.Scanning.{digits_at, next_digit, based_at, number_at}
@@ -45,15 +46,11 @@ base_of_fits c = pick (c == 98 || c == 66) (c == 111 || c == 79) (c == 120 || c 
     pick false false true = omega arith
     pick false false false = omega arith
 
-pub none_of : (a b : Bool) → (a || b) ≡ false → (a ≡ false) × (b ≡ false)
-none_of true b h = cc
-none_of false b h = (refl, h)
-
 digits_end : (base n : ℕ) (rest : Text) → goes_on base rest ≡ false → digits_at base n rest ≡ (n, rest)
 unfolding digits_at
 digits_end base n [] h = refl
 digits_end base n (c ∷ rest) h =
-    let p = none_of (is_digit base c) (c == 95 && digit_first base rest) h in rw (p.0, p.1) refl
+    let p = or_parts (is_digit base c) (c == 95 && digit_first base rest) h in rw (p.0, p.1) refl
 
 digits_found : {base n m : ℕ} {x : Text} → Digits base n x m → base ≤ 16 → (rest : Text) → goes_on base rest ≡ false
     → digits_at base n (x ++ rest) ≡ (m, rest)

@@ -52,9 +52,6 @@ sum_ends base start m x rest s h = search (arith, rules, no_further)
 
 -- ---- the base
 
-pub named_none : (x : Text) → x ≡ [] → names_base x ≡ false
-named_none x e = rw e refl
-
 pub named_not : (x more : Text) (c base : ℕ) → x ≡ c ∷ more → base ≡ base_of c → next_digit base more ≡ None
     → names_base x ≡ false
 named_not x more c base e b h = rw e (ap (λ k. goes_on k more) (sym b) ∙ goes_on_none base more h)
@@ -63,13 +60,3 @@ pub named_so : (x more : Text) (c base : ℕ) (p : ℕ × Text) → x ≡ c ∷ 
     → next_digit base more ≡ Some p → (names_base x ≡ true) × (based_at x ≡ digits_at base 0 more)
 named_so x more c base p e b h =
     rw e (ap (λ k. goes_on k more) (sym b) ∙ goes_on_some base more p h, ap (λ k. digits_at k 0 more) (sym b))
-
-pub number_decimal : (c : ℕ) (cs : Text) → (c == 48) ≡ false → number_at c cs ≡ digits_at 10 (digit_value c) cs
-number_decimal c cs h = rw h refl
-
-pub number_based : (c base : ℕ) (cs rest : Text) → (c == 48) ≡ true → names_base cs ≡ true
-    → based_at cs ≡ digits_at base 0 rest → number_at c cs ≡ digits_at base 0 rest
-number_based c base cs rest h n e = rw (h, n) e
-
-pub number_zeros : (c : ℕ) (cs : Text) → (c == 48) ≡ true → names_base cs ≡ false → number_at c cs ≡ digits_at 1 0 cs
-number_zeros c cs h n = rw (h, n) refl

@@ -2,6 +2,7 @@
 use Rattle.std.proofs.Common.{◌≡◌, ℕ, ◌&&◌, Bool, true, false, cond, [], ◌∷◌, ◌++◌, drop, refl, ap, sym, ◌∙◌, arith, Ok}
 use Rattle.std.proofs.Common.{Err, rules}
 use Rattle.std.proofs.lemmas.Bool.Decides.{nat_tests}
+use Rattle.std.proofs.lemmas.Bool.{and_parts}
 use Rattle.unicode_ident.specs.Ident.{is_xid_continue}
 use Rattle.jt_scan.specs.declared.error.ScanError.{ScanError}
 use Rattle.jt_scan.specs.Cut.{Text, AllContinue, NameEnds, NoneBegins, begins}
@@ -21,18 +22,8 @@ pub bind_ok : {A B : Type 0} (o : ParseResult A) (f : A → Text → ParseResult
 bind_ok (Ok p) f b rest e = (p.0, p.1, refl, e)
 bind_ok (Err x) f b rest e = cc
 
--- If the second step never refuses, the refusal is that of the first one.
-pub bind_err : {A B : Type 0} (o : ParseResult A) (f : A → Text → ParseResult B) (e : ScanError) → (o >>= f) ≡ Err e
-    → (o ≡ Err e → Unit {0}) → ((a : A) (u : Text) → o ≡ Ok (a, u) → f a u ≡ Err e → ⊥) → o ≡ Err e
-bind_err (Ok p) f e h w never = absurd (never p.0 p.1 refl h)
-bind_err (Err x) f e h w never = let same : x ≡ e = cc in ap (λ k. Err k) same
-
-pub both : (a b : Bool) → (a && b) ≡ true → (a ≡ true) × (b ≡ true)
-both true b h = (refl, h)
-both false b h = cc
-
 pub begins_says : (a b c : ℕ) (cs : Text) → begins a b (c ∷ cs) ≡ true → (c ≡ a) × (cs ≡ b ∷ drop 1 cs)
-begins_says a0 a1 a2 a3 a4 = search (arith, rules, both, nat_tests)
+begins_says a0 a1 a2 a3 a4 = search (arith, rules, and_parts, nat_tests)
 
 pub opener_says : (a b : ℕ) (x : Text) → begins a b x ≡ true → x ≡ a ∷ b ∷ drop 2 x
 opener_says a b x h = search (arith, rules, begins_says)

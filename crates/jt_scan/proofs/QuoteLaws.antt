@@ -3,13 +3,14 @@ use Rattle.std.proofs.Common.{◌≡◌, ℕ, zero, suc, ◌+◌, ◌-◌, ◌<�
 use Rattle.std.proofs.Common.{◌∷◌, ◌++◌, length, refl, sym, ap, ap₂, subst, ◌∙◌, arith, append_assoc, length-append}
 use Rattle.std.proofs.Common.{Option, Some, None}
 use Rattle.std.proofs.lemmas.Bool.Decides.{nat_tests}
+use Rattle.std.proofs.lemmas.Bool.{and_parts}
 use lib.Utf8.{scalar}
 use Rattle.jt_scan.specs.Literals as literal
 use Rattle.jt_scan.specs.Literals.{Text, digit_value, is_digit, digit_first, AllDigits, number_of, is_quote, Enclosed}
 use Rattle.jt_scan.specs.Literals.{Unended, Escape, escape, Means, BadEscape, HasBadEscape, some_digits, coded}
 use Rattle.jt_scan.specs.Literals.{escape_by, escape_at, piece_at, with_piece, pieces, unescaped}
 use Rattle.jt_scan.specs.internal.Scanning.{longer, enclosed_at}
-use Rattle.jt_scan.proofs.ParseResultSteps.{by_test, both}
+use Rattle.jt_scan.proofs.ParseResultSteps.{by_test}
 
 -- ---- the closing quote
 
@@ -206,7 +207,7 @@ escape_says c x u z (literal.hexadecimal n) h e =
     let p = some_digits 16 n x in let r = some_say 16 n x in
     by_test (length p.0 == n && scalar (number_of 16 p.0)) _ _ _ e
     (λ t k.
-    let b = both (length p.0 == n) (scalar (number_of 16 p.0)) t in
+    let b = and_parts (length p.0 == n) (scalar (number_of 16 p.0)) t in
     let same : length p.0 ≡ n = grind (arith, nat_tests) in
     moved 92 (c ∷ x) (number_of 16 p.0 ∷ []) u p.1 z k
     (c ∷ p.0, ap (λ k. c ∷ k) r.0, λ w v f m. literal.by_hexadecimal p.0 h r.1 same b.1 m))

@@ -4,12 +4,12 @@ use Rattle.std.proofs.Common.{cond, Bool, true, false, [], ◌∷◌, ◌++◌, 
 use Rattle.std.proofs.Common.{append_assoc, append-nil, length-append, Option, Some, None}
 use Rattle.std.proofs.lemmas.Bool.Decides.{nat_tests}
 use Rattle.std.proofs.lemmas.Str.{encodes-append}
+use Rattle.std.proofs.lemmas.Bool.{and_parts}
 use lib.Utf8.{scalar, encodes}
 use Rattle.jt_scan.specs.Literals as literal
 use Rattle.jt_scan.specs.Literals.{Text, digit_value, is_digit, number_from, number_of, some_digits, coded, escape_by}
 use Rattle.jt_scan.specs.Literals.{escape_at, piece_at, pieces, unescaped}
 use Rattle.jt_scan.specs.internal.Scanning.{longer, enclosed_at, plain_digit}
-use Rattle.jt_scan.proofs.ParseResultSteps.{both}
 use Rattle.jt_scan.proofs.TokenLoop.{cancel_end}
 use Rattle.jt_scan.proofs.NumberLoop.{IsCapped, grown_is}
 use Rattle.jt_scan.proofs.QuoteLaws.{some_say, piece_says, piece_step, piece_stops}
@@ -66,8 +66,8 @@ passed_on quote c x b d z more p e h f = (
 stop_here : (quote c : ℕ) (b : Bool) (cs : Text) → (c == quote && not b) ≡ true
     → enclosed_at quote b (c ∷ cs) ≡ Some ([], cs)
 unfolding enclosed_at
-stop_here quote c true cs h = let g = both (c == quote) false h in cc
-stop_here quote c false cs h = rw (both (c == quote) true h).0 refl
+stop_here quote c true cs h = let g = and_parts (c == quote) false h in cc
+stop_here quote c false cs h = rw (and_parts (c == quote) true h).0 refl
 
 pub passed_found : (quote c : ℕ) (x : Text) (b : Bool) (z more found : Text) → IsPassed quote x b z → z ≡ c ∷ more
     → (c == quote && not b) ≡ true → x ≡ found ++ z → enclosed_at quote false x ≡ Some (found, more)
@@ -98,9 +98,6 @@ IsPart base most start x missing m z =
     (s : Text) × IsCapped m (number_from base start s) × (length s + missing ≡ most)
     × (some_digits base most x ≡ joined s (some_digits base missing z))
 
-pub part_starts : (base most start : ℕ) (x : Text) → start ≤ 2 ^ 64 - 1 → IsPart base most start x most start x
-part_starts base most start x le = ([], omega arith, omega arith, refl)
-
 plain_says : (base d : ℕ) (z more : Text) → plain_digit base z ≡ Some (d, more)
     → (c : ℕ) × (z ≡ c ∷ more) × (is_digit base c ≡ true) × (digit_value c ≡ d)
 plain_says base d [] more h = cc
@@ -113,9 +110,6 @@ plain_says base d (c ∷ cs) more h = by (is_digit base c) refl
         let p : (digit_value c, cs) ≡ (d, more) = cc in
         (c, ap (λ (q : ℕ × Text). c ∷ q.1) p, e, ap (λ (q : ℕ × Text). q.0) p)
     by false e = let g = rw e at h in cc
-
-pub plain_shrinks : (base d : ℕ) (z more : Text) → plain_digit base z ≡ Some (d, more) → length more < length z
-plain_shrinks base d z more h = omega (arith, ap length (plain_says base d z more h).1)
 
 plain_none : (base missing : ℕ) (z : Text) → plain_digit base z ≡ None → some_digits base missing z ≡ ([], z)
 unfolding some_digits

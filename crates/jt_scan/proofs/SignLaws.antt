@@ -3,12 +3,13 @@ use Rattle.std.proofs.Common.{◌≡◌, ℕ, ◌<◌, nat_lt, ◌&&◌, ◌||�
 use Rattle.std.proofs.Common.{Some, None, refl, sym, ap, ap₂, subst, ◌∙◌, arith, cond, rules}
 use Rattle.std.proofs.lemmas.Bool.Decides.{nat_tests}
 use Rattle.std.specs.Char.{is_ascii_alphabetic}
+use Rattle.std.proofs.lemmas.Bool.{and_parts}
 use Rattle.jt_scan.specs.declared.segment.Sign.{Sign}
 use Rattle.jt_scan.specs.declared.segment.Sign.TheVariants as s
 use Rattle.jt_scan.specs.Cut.{Text, sign_text, goes_on, SignEnds, NoSign, starts_name, is_space}
 use Rattle.jt_scan.specs.Literals.{digit_value, is_digit, is_quote}
 use Rattle.jt_scan.specs.internal.Scanning.{one_sign, two_sign, alone, longest, sign_at}
-use Rattle.jt_scan.proofs.ParseResultSteps.{by_test, both}
+use Rattle.jt_scan.proofs.ParseResultSteps.{by_test}
 use Rattle.jt_scan.proofs.Tables.{no_start}
 
 pub sign_found : (t : Sign) (rest : Text) → SignEnds t rest → sign_at (sign_text t ++ rest) ≡ Some (t, rest)
@@ -76,7 +77,7 @@ hit_two : (c d m n : ℕ) (t u : Sign) → (c == m && d == n) ≡ true → sign_
     → ((x : Text) → SignEnds t x) → ◌≡◌ {A = Option Sign} (Some t) (Some u)
     → (sign_text u ≡ c ∷ d ∷ []) × ((x : Text) → SignEnds u x)
 hit_two c d m n t u h w a e =
-    let same : t ≡ u = cc in let p = both (c == m) (d == n) h in
+    let same : t ≡ u = cc in let p = and_parts (c == m) (d == n) h in
     let is : c ≡ m = grind (arith, nat_tests) in let at : d ≡ n = grind (arith, nat_tests) in (
       sym (ap sign_text same) ∙ w ∙ ap₂ (λ j k. j ∷ k ∷ []) (sym is) (sym at),
       subst (λ v. (x : Text) → SignEnds v x) same a,

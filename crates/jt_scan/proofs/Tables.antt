@@ -3,6 +3,7 @@ use Rattle.std.proofs.Common.{◌≡◌, ℕ, ◌<◌, ◌||◌, ◌==◌, ◌&&
 use Rattle.std.proofs.Common.{◌∙◌, arith, Option, Some, rules}
 use Rattle.std.proofs.lemmas.Bool.Decides.{nat_tests}
 use Rattle.std.specs.Char.{is_ascii_alphabetic}
+use Rattle.std.proofs.lemmas.Bool.{and_parts}
 use Rattle.unicode_ident.proofs.IdentLemmas.{is_xid_start-ascii}
 use Rattle.jt_scan.specs.declared.segment.TagKind.{TagKind}
 use Rattle.jt_scan.specs.declared.segment.TagKind.TheVariants.{Variable, Block}
@@ -10,7 +11,7 @@ use Rattle.jt_scan.specs.declared.segment.Mark.{Mark}
 use Rattle.jt_scan.specs.declared.segment.Mark.TheVariants as m
 use Rattle.jt_scan.specs.Cut.{Text, closer, begins, starts_name, is_space, closing_text, closer_at, marked_closer}
 use Rattle.jt_scan.specs.Cut.{may_close, first_mark, behind_mark, mark_text}
-use Rattle.jt_scan.proofs.ParseResultSteps.{by_test, both, opener_says}
+use Rattle.jt_scan.proofs.ParseResultSteps.{by_test, opener_says}
 
 pub no_start : (c : ℕ) → c < 128 → (is_ascii_alphabetic c || (c == 95)) ≡ false → starts_name c ≡ false
 no_start c h e = subst (λ b. (b || (c == 95)) ≡ false) (sym (is_xid_start-ascii c h)) e
@@ -31,10 +32,6 @@ no_end Block c =
 pub no_closer : (k : TagKind) (c : ℕ) (x : Text) → starts_name c ≡ true → begins (closer k) 125 (c ∷ x) ≡ false
 no_closer k c [] h = refl
 no_closer k c (d ∷ x) h = rw (no_end k c h)
-
-pub closer_begins : (k : TagKind) (rest : Text) → begins (closer k) 125 (closer k ∷ 125 ∷ rest) ≡ true
-closer_begins Variable rest = refl
-closer_begins Block rest = refl
 
 -- ---- closers with marks
 
@@ -93,7 +90,7 @@ behind_closes k mark y rest e = by (first_mark y) (behind_mark y) e
         (λ b q. cc)
     by m.Plus z h =
         by_test (may_close k m.Plus && begins (closer k) 125 z) _ _ _ h
-        (λ b q. let p = some_parts q in let t = both (may_close k m.Plus) (begins (closer k) 125 z) b in (
+        (λ b q. let p = some_parts q in let t = and_parts (may_close k m.Plus) (begins (closer k) 125 z) b in (
           p.0,
           subst (λ a. may_close k a ≡ true) p.0 t.0,
           opener_says (closer k) 125 z t.1 ∙ ap (λ w. closer k ∷ 125 ∷ w) p.1,

@@ -36,9 +36,6 @@ pub given_along : {A B : Type 0} (e : ScanError) (o : Result A ScanError) (p : R
     → (o ≡ Err e → p ≡ Err e) → IsGiven e o → IsGiven e p
 given_along e o p f g = search (arith, rules)
 
-pub no_memory_given : {A : Type 0} (e : ScanError) (o : Result A ScanError) → e ≡ error.NoMemory → IsGiven e o
-no_memory_given e o h = subst (λ k. IsGiven k o) (sym h) tt
-
 -- ---- tokens
 
 -- The result with the tokens ts prepended.
@@ -201,9 +198,6 @@ braces_fit depth n more t le e = omega (arith, e, few t)
 
 -- ---- segments
 
-pub with_opener : (a b : ℕ) (x y : Text) → begins a b x ≡ true → x ≡ a ∷ b ∷ y → drop 2 x ≡ y
-with_opener a b x y h e = ap (λ z. drop 2 z) e
-
 abbrev pub before_all : List Segment → Result (List Segment) ScanError → Result (List Segment) ScanError
 before_all ss (Ok us) = Ok (ss ++ us)
 before_all ss (Err e) = Err e
@@ -216,9 +210,6 @@ IsCutOff source ss x =
 before_none : (o : Result (List Segment) ScanError) → before_all [] o ≡ o
 before_none (Ok us) = refl
 before_none (Err e) = refl
-
-pub cut_none : (source : Text) → IsCutOff source [] source
-cut_none source = (length source + 1, omega arith, before_none (cut source (length source + 1) source))
 
 pub cut_ends : (source : Text) (ss : List Segment) → IsCutOff source ss []
     → cut source (length source + 1) source ≡ Ok ss
@@ -400,10 +391,6 @@ pub segment_of_data : (n : ℕ) (x d y : Text) → begins 123 123 x ≡ false �
     → begins 123 35 x ≡ false → clear_run opens x ≡ (d, y) → segment_at n x ≡ Ok (data_of d, y)
 unfolding segment_at
 segment_of_data n x d y a b c e = rw (a, b, c, e) refl
-
-pub comment_read : (n : ℕ) (x d y rest : Text) → clear_run ends_comment x ≡ (d, y) → y ≡ 35 ∷ 125 ∷ rest
-    → comment_at n x ≡ Ok (comment (comment_marks d) d, rest)
-comment_read n x d y rest e f = rw (e, f) refl
 
 pub raw_read : (n : ℕ) (ms : Marks) (x d y : Text) (ends : Marks) (rest : Text) → clear_run ends_raw x ≡ (d, y)
     → endraw_at y ≡ Some (ends, rest) → raw_at n ms x ≡ Ok (raw ms d ends, rest)

@@ -7,23 +7,20 @@ use Rattle.std.specs.Str.{is_utf8}
 use Rattle.std.proofs.lemmas.Bool.Decides.{nat_tests}
 use Rattle.std.proofs.lemmas.Slice.Eq.{bytes_eq-Decides}
 use Rattle.std.proofs.lemmas.Str.{chars-IsAscii, is_utf8-from_IsUtf8, IsUtf8-from_ascii}
+use Rattle.std.proofs.lemmas.Bool.{and_parts}
 use Rattle.jt_scan.specs.Words.{is_plain, letters_of}
-
-both : (a b : Bool) → (a && b) ≡ true → (a ≡ true) × (b ≡ true)
-both true b e = (refl, e)
-both false b e = absurd (cc)
 
 -- The encoding of the characters of a text is the text.
 pub spelled_again : (t : List ℕ) → IsUtf8 t → encode_utf8_all (chars t) ≡ t
 unfolding is_utf8
 spelled_again t u =
     (bytes_eq-Decides (encode_utf8_all (chars t)) t).0
-    (both (scalars (chars t)) (bytes_eq (encode_utf8_all (chars t)) t) (is_utf8-from_IsUtf8 t u)).1
+    (and_parts (scalars (chars t)) (bytes_eq (encode_utf8_all (chars t)) t) (is_utf8-from_IsUtf8 t u)).1
 
 pub plain_ascii : (w : List ℕ) → is_plain w ≡ true → (i : ℕ) → slice_index w i < 128
 plain_ascii [] e i = omega arith
-plain_ascii (c ∷ cs) e zero = let b = (both _ (is_plain cs) e).0 in grind (arith, nat_tests)
-plain_ascii (c ∷ cs) e (suc i) = plain_ascii cs (both _ (is_plain cs) e).1 i
+plain_ascii (c ∷ cs) e zero = let b = (and_parts _ (is_plain cs) e).0 in grind (arith, nat_tests)
+plain_ascii (c ∷ cs) e (suc i) = plain_ascii cs (and_parts _ (is_plain cs) e).1 i
 
 -- The letters of a word are its characters.
 letters_are_chars : (w : List ℕ) (b : Bool) → is_plain w ≡ b → (if b then w else chars w) ≡ chars w

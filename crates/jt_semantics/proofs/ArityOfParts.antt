@@ -6,6 +6,7 @@ use Rattle.std.proofs.Common.{rules}
 use Rattle.std.specs.Prelude.{◌⊎◌, not, ◌||◌, nat_lt, max}
 use Rattle.std.specs.Option.{is_some}
 use Rattle.std.proofs.lemmas.Bool.Decides.{nat_tests}
+use Rattle.std.proofs.lemmas.Bool.{true_from_ne_false}
 use mathlib.Core.Logic.{inl, inr}
 use Rattle.jt_ids.specs.declared.op_id.OpId.TheVariants as op
 use Rattle.jt_ids.specs.declared.test_id.TestId.{TestId}
@@ -48,11 +49,11 @@ use Rattle.jt_semantics.proofs.CallInvariant.{Tail}
 use Rattle.jt_semantics.proofs.DefinedNames.{LeadsTo, Found, called_macro}
 use Rattle.jt_semantics.proofs.ExpressionCorrect.{GivenBy, given_by, numbered_are}
 use Rattle.jt_semantics.proofs.EnvLookup.{no_both}
-use Rattle.jt_semantics.proofs.KeptUses.{AllKeep, front, back, holds_if}
+use Rattle.jt_semantics.proofs.KeptUses.{AllKeep, front, back}
 use Rattle.jt_semantics.proofs.RoutineLookup.{macro_is, body_is}
 
 first_holds : (a b : Bool) → ((a ≡ false) ⊎ (b ≡ false) → ⊥) → a ≡ true
-first_holds a b n = holds_if a (λ e. n (inl e))
+first_holds a b n = true_from_ne_false a (λ e. n (inl e))
 
 both_first : (a b : Bool) → a && b ≡ true → a ≡ true
 both_first true b h = refl
@@ -165,7 +166,7 @@ module _ (cenv : CompileEnv) (order : List Namespace) where
 
   tested_takes : (l : Bool) (t : Option TestId) (ts : Exprs) (ps : written.Pairs) (es : SRow Constant) → IsThere t
       → (test_takes t ts ps ≡ false → ⊥) → row_count es ≡ suc (count ts) → RTakes l es → ETakes l (tested_by t es)
-  tested_takes l a1 ts ps es k h c r = search (arith, rules, holds_if, same_number, both_first)
+  tested_takes l a1 ts ps es k h c r = search (arith, rules, true_from_ne_false, same_number, both_first)
 
   pub filtered_takes : (l : Bool) (f : Option ℕ) (on : Bool) (ts : Exprs) (ps : written.Pairs) (es : SRow Constant)
       → IsThere f
@@ -235,7 +236,7 @@ module _ (cenv : CompileEnv) (order : List Namespace) where
       (if b then field_from (field_named k) else operation_of op.Item e (slots.pooled (own (tree.text k))))
   attribute_takes h w true k ss e r f =
       fields_take w.in_loop (field_named k) (is_there (field_named k) (λ q. r.0.in_loops (inr q)))
-      (holds_if w.in_loop (λ q. r.0.in_loops (inl q)))
+      (true_from_ne_false w.in_loop (λ q. r.0.in_loops (inl q)))
   attribute_takes h w false k ss e r f = (refl, (f r, (tt, tt)))
 
   alone_no_cycle : (o : Option Definition) (x : Text) → named_alone cenv.sources o x ≡ a_cycle → ⊥
@@ -251,7 +252,7 @@ module _ (cenv : CompileEnv) (order : List Namespace) where
   -- A call of `loop.cycle` that does not misuse `loop` is in a loop.
   cycle_inside : (h : Namespace) (f : Expr) (w : Enclosing) → (MisusesLoop f w → ⊥)
       → callee cenv.sources (given cenv.sources h) f ≡ a_cycle → w.in_loop ≡ true
-  cycle_inside h f w n e = search (arith, rules, holds_if, alone_no_cycle, library_no_cycle)
+  cycle_inside h f w n e = search (arith, rules, true_from_ne_false, alone_no_cycle, library_no_cycle)
 
   pub row_counts : (ts : Exprs) (sp : StaticEnv) (behind : SRow Constant)
       → row_count (resolved_row cenv order ts sp behind) ≡ count ts + row_count behind
@@ -283,7 +284,7 @@ module _ (cenv : CompileEnv) (order : List Namespace) where
       let table = locals_from sp.free (keywords ps) in
       let few = at_most (length b.parameters) (count ts)
       (both_first (not (nat_lt (length b.parameters) (count ts))) _
-      (holds_if (fits b.parameters (count ts) (keywords ps)) fit)) in
+      (true_from_ne_false (fits b.parameters (count ts) (keywords ps)) fit)) in
       let n1 = row_counts ts sp (resolved_asides cenv order ps sp (filled b.parameters (count ts) d table)) in
       let n2 = aside_counts ps sp (filled b.parameters (count ts) d table) in
       let n3 = filled_count b.parameters (count ts) d table few in
@@ -303,11 +304,11 @@ module _ (cenv : CompileEnv) (order : List Namespace) where
       names_count [] = refl
       names_count (q ∷ qs) = ap suc (names_count qs)
   call_takes a_range sp w ts ps e t named can fit inside rows asides =
-      search (arith, rules, holds_if, both_second, row_counts, range_takes, both_first)
+      search (arith, rules, true_from_ne_false, both_second, row_counts, range_takes, both_first)
   call_takes a_super sp w ts ps e t named can fit inside rows asides = super_takes sp.part t
     where
       in_block : w.in_block ≡ true
-      in_block = holds_if w.in_block can
+      in_block = true_from_ne_false w.in_block can
 
       super_takes : (p : Option Part) → PartTail w.in_block sp.namespace p
           → ETakes w.in_loop (invoked_super cenv order sp p)

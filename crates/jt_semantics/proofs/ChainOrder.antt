@@ -7,9 +7,8 @@ use Rattle.std.specs.List.{list_any}
 use Rattle.std.specs.Str.{bytes_eq}
 use Rattle.jt_ast.specs.Texts.{ascending}
 use Rattle.jt_ast.specs.Expressions.{Text}
-use Rattle.jt_ast.specs.Statements.{Stmt, data_of, print, choose, for_each, set, set_block, with_values, filter_block}
-use Rattle.jt_ast.specs.Statements.{autoescape, macro, include, import_as, import_from, extends, block, Body, end, stmt}
-use Rattle.jt_ast.specs.Statements.{Branches, no_branches, branch}
+use Rattle.jt_ast.specs.Statements.{Stmt, choose, for_each, set_block, with_values, filter_block, autoescape, macro}
+use Rattle.jt_ast.specs.Statements.{block, Body, end, stmt, Branches, no_branches, branch}
 use Rattle.jt_chains.specs.Chain.{Namespace, a_chain, a_library, same_namespace, listed, Template, templates, BlockBody}
 use Rattle.jt_chains.specs.Chain.{blocks_of, blocks_in, blocks_under, all_bodies, MacroBody, macros_in, macros}
 use Rattle.jt_chains.specs.Chain.{macro_of, libraries}
@@ -175,13 +174,7 @@ module _ (t : Text) where
     scoped_stmt (macro line x ps body) on =
         names_said (blocks_in t body on) (map (λ p. p.name) ps) (named (set_in body) ++ scoped_in body)
         (names_said (blocks_in t body on) (set_in body) (scoped_in body) (scoped_body body on))
-    scoped_stmt (data_of d) on = tt
-    scoped_stmt (print line e) on = tt
-    scoped_stmt (set line xs e) on = tt
-    scoped_stmt (include line n i w) on = tt
-    scoped_stmt (import_as line n new) on = tt
-    scoped_stmt (import_from line n news) on = tt
-    scoped_stmt (extends line n) on = tt
+    scoped_stmt a0 on = tt
 
     scoped_body : (c : Body) (on : Bool) → Each (Saying (blocks_in t c on)) (scoped_in c)
     scoped_body end on = tt
@@ -380,9 +373,6 @@ module _ (cenv : CompileEnv) where
 
       -- ---- The contents of a body of the chain
 
-      abbrev IsScopedHere : Text → Type 0
-      IsScopedHere x = is_scoped cenv h x ≡ true
-
       pub record Belongs (c : Body) : Type 0 where
         pub names : AllAmong (body_names c) (read_names cenv order h)
         pub included : Each (Included cenv order h) (needs_in true c)
@@ -558,13 +548,7 @@ module _ (cenv : CompileEnv) where
           stmt_blocks (macro line x ps body) on b =
               body_blocks body on (owned body (among_back (map (λ p. p.name) ps) (body_names body) all_names b.0) b.1
               (behind_proper cenv order h (map (λ p. p.name) ps) (named (set_in body) ++ scoped_in body) b.2)).belongs
-          stmt_blocks (data_of d) on b = tt
-          stmt_blocks (print line e) on b = tt
-          stmt_blocks (set line xs e) on b = tt
-          stmt_blocks (include line n i w) on b = tt
-          stmt_blocks (import_as line n new) on b = tt
-          stmt_blocks (import_from line n news) on b = tt
-          stmt_blocks (extends line n) on b = tt
+          stmt_blocks a0 on b = tt
 
           body_blocks : (c : Body) (on : Bool) → Belongs c → InBelongs (blocks_in t c on)
           body_blocks end on b = tt

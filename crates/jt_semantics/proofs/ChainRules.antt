@@ -7,6 +7,7 @@ use Rattle.std.specs.Option.{is_none}
 use Rattle.std.specs.List.{list_any}
 use Rattle.std.proofs.lemmas.Bool.Decides.{nat_tests}
 use Rattle.std.proofs.lemmas.List.Folds.{list_any-append}
+use Rattle.std.proofs.lemmas.Bool.{false_from_ne_true, and_from}
 use Rattle.jt_ast.specs.Texts.{repeated}
 use Rattle.jt_ast.specs.Expressions.{Text}
 use Rattle.jt_chains.specs.Chain.{Sources, Namespace, a_chain, a_library, parent_of, names_up, max_templates, templates}
@@ -20,14 +21,6 @@ use Rattle.jt_semantics.proofs.EnvLookup.{no_both}
 use Rattle.jt_semantics.proofs.StatementCorrect.{Each}
 use Rattle.jt_semantics.proofs.ExpressionCorrect.{GivenBy, given_by}
 use Rattle.jt_semantics.proofs.WithoutSuper.{left_false, right_false}
-
-not_so : (b : Bool) → (b ≡ true → ⊥) → b ≡ false
-not_so true f = absurd (f refl)
-not_so false f = refl
-
-both_true : (a b : Bool) → a ≡ true → b ≡ true → (a && b) ≡ true
-both_true true b e f = f
-both_true false b e f = absurd (cc)
 
 below : (m n : ℕ) → m ≤ n → (m == n) ≡ false → nat_lt m n ≡ true
 below m n l e = grind (arith, nat_tests, l, e)
@@ -68,7 +61,8 @@ module _ (sources : Sources) (escaping : Bool) (entry h : Namespace) (reached : 
   asked_behind = needed ++ libraries sources h
 
   none_missing : list_any is_missing (asked sources escaping false h) ≡ false
-  none_missing = not_so (list_any is_missing (asked sources escaping false h)) (λ e. kept.missing (h, reached, e))
+  none_missing =
+      false_from_ne_true (list_any is_missing (asked sources escaping false h)) (λ e. kept.missing (h, reached, e))
 
   on_way : list_any is_missing (extends_path sources escaping h) ≡ false
   on_way =
@@ -98,7 +92,7 @@ module _ (sources : Sources) (escaping : Bool) (entry h : Namespace) (reached : 
 
   once_of : (k : Namespace) → k ≡ h → repeated (extends_path sources escaping k) ≡ false
   once_of (a_chain n) e =
-      not_so (repeated (extends_path sources escaping (a_chain n)))
+      false_from_ne_true (repeated (extends_path sources escaping (a_chain n)))
       (λ r. kept.extends_cycle (h, reached, (n, sym e, suc max_templates, r)))
   once_of (a_library n) e = refl
 
@@ -112,25 +106,25 @@ module _ (sources : Sources) (escaping : Bool) (entry h : Namespace) (reached : 
   short : nat_lt (length (extends_path sources escaping h)) (suc max_templates) ≡ true
   short =
       below (length (extends_path sources escaping h)) (suc max_templates) (way_few h)
-      (not_so (length (extends_path sources escaping h) == suc max_templates)
+      (false_from_ne_true (length (extends_path sources escaping h) == suc max_templates)
       (λ e. kept.too_long (inl (
         h,
         reached,
-        both_true (length (extends_path sources escaping h) == suc max_templates)
+        and_from (length (extends_path sources escaping h) == suc max_templates)
             (not (repeated (extends_path sources escaping h))) e (ap not once),
       ))))
 
   whole : is_whole sources escaping h ≡ true
-  whole = search (arith, rules, both_true, once, short, on_way)
+  whole = search (arith, rules, and_from, once, short, on_way)
 
   abbrev lacks : BlockBody → Bool
   lacks b = lacks_super (bodies sources escaping h b.name)
 
   none_lacks : list_any lacks (all_bodies sources escaping h) ≡ false
   none_lacks =
-      not_so (list_any lacks (all_bodies sources escaping h))
+      false_from_ne_true (list_any lacks (all_bodies sources escaping h))
       (λ e. kept.no_super
-      (h, reached, both_true (is_whole sources escaping h) (list_any lacks (all_bodies sources escaping h)) whole e))
+      (h, reached, and_from (is_whole sources escaping h) (list_any lacks (all_bodies sources escaping h)) whole e))
 
   each_body : (bs : List BlockBody) → list_any lacks bs ≡ false → Every (λ b. lacks b ≡ false) bs
   each_body [] e = tt

@@ -1,8 +1,7 @@
 -- A resolved tree needs at most half an entry for each of its tokens, and in addition one for each
 -- parameter that a call loads.
 use Rattle.std.proofs.Common.{◌≡◌, ℕ, zero, suc, ◌+◌, ◌*◌, max, min, ◌≤◌, Bool, true, false, if◌then◌else◌, List, []}
-use Rattle.std.proofs.Common.{◌∷◌, length, Option, Some, None, arith, refl, sym, subst, rules}
-use Rattle.std.specs.List.{AllByRecursion}
+use Rattle.std.proofs.Common.{◌∷◌, length, Option, Some, None, arith, refl, ap, rules}
 use Rattle.jt_ids.specs.declared.test_id.TestId.{TestId}
 use Rattle.jt_ast.specs.Expressions.{Expr, constant, name, group, list_of, map_of, attribute, item, call, filter, test}
 use Rattle.jt_ast.specs.Expressions.{unary, binary, when, choice, Exprs, no_exprs, expr, Pairs, no_pairs, pair, weight}
@@ -13,18 +12,16 @@ use Rattle.jt_chains.specs.Uses.{count, keywords, set_in}
 use Rattle.jt_ast.specs.Statements.{Parameter, FilterCall, Stmt, choose, for_each, set_block, with_values, filter_block}
 use Rattle.jt_ast.specs.Statements.{autoescape, block, Body, end, stmt, Branches, no_branches, branch, condition_weight}
 use Rattle.jt_ast.specs.Statements.{filter_call_weight, stmt_bound, body_bound, branch_bound}
-use Rattle.jt_chains.specs.Chain.{Sources, Namespace, a_chain, MacroBody, macro_of, is_private, public_macro}
-use Rattle.jt_chains.specs.Chain.{Definition, given, given_to, Callee, a_macro, a_range, a_super, a_block, a_cycle}
-use Rattle.jt_chains.specs.Chain.{no_callee, named_alone, of_library, in_library, named_in, callee}
+use Rattle.jt_chains.specs.Chain.{Namespace, a_chain, given, Callee, a_macro, a_range, a_super, a_block, a_cycle}
+use Rattle.jt_chains.specs.Chain.{no_callee, callee}
 use Rattle.jt_ids.specs.declared.loop_field.LoopField.{LoopField}
-use Rattle.jt_eval.specs.Filters.{default_value, some_given}
 use Rattle.jt_rules.specs.CompileEnv.{CompileEnv}
 use Rattle.jt_semantics.specs.Expressions.{filter_parameters}
 use Rattle.jt_semantics.specs.Layout.{Table, slot_in, names, numbered_of, globals, block_parameters, default_index}
 use Rattle.jt_semantics.specs.Layout.{first_slot, unit, of_chain}
 use Rattle.jt_ir.specs.Slots as slots
 use Rattle.jt_ir.specs.Slots.{Slot, local, SlotExpr, SRow, SBody, variable, run}
-use Rattle.jt_ir.specs.Pool.{Constant, own, known}
+use Rattle.jt_ir.specs.Pool.{Constant, known}
 use Rattle.jt_semantics.specs.Resolve.{value_or, turned_round, tested_by, filtered_by, in_form, field_from, followed}
 use Rattle.jt_semantics.specs.Resolve.{locals_from, fresh_targets, set_targets, filled, filled_some, first_locals}
 use Rattle.jt_semantics.specs.Resolve.{reads, handed_on, Part, StaticEnv, place, grown, bound_all, copied, scoped}
@@ -33,9 +30,10 @@ use Rattle.jt_semantics.specs.Resolve.{resolved_asides, resolved_entries, resolv
 use Rattle.jt_semantics.specs.Resolve.{resolved_values, placed_body, resolved_stmt, resolved_body, resolved_choice}
 use Rattle.jt_semantics.specs.Resolve.{left_out}
 use Rattle.jt_ir.specs.Size.{targets_height, expr_height, row_height, condition_height, body_height}
-use Rattle.jt_semantics.specs.Measure.{GivenFew, HasAtMost}
+use Rattle.jt_semantics.specs.Measure.{HasAtMost}
 use Rattle.jt_semantics.proofs.FreeNameWeights.{stmt_free, body_free, branch_free}
 use Rattle.jt_semantics.proofs.InstructionBounds.{expr_some, operator_some, is_some_weight, kept_len, fresh_len}
+use Rattle.jt_semantics.proofs.InstructionBounds.{none_filled, filter_few, CalleeFew, callee_few}
 
 -- ---- Parts
 
@@ -73,10 +71,6 @@ filled_low [] n d ks = omega arith
 filled_low (p ∷ ps) (suc n) d ks = omega (arith, filled_low ps n (suc d) ks)
 filled_low (p ∷ ps) zero d ks = omega (arith, value_low (slot_in p.name ks) (known d), filled_low ps zero (suc d) ks)
 
-none_given : (ps : List Parameter) → some_given ps [] ≡ false
-none_given [] = refl
-none_given (p ∷ ps) = none_given ps
-
 -- The row of the arguments by name needs at most one entry for each parameter, and no entry if no
 -- name is given.
 some_low : (ps : List Parameter) (n : ℕ) (xs : List Text) (ks : Table) → row_height (filled_some ps n xs ks) ≤ length ps
@@ -84,19 +78,9 @@ some_low [] n xs ks = omega arith
 some_low (p ∷ ps) (suc n) xs ks = omega (arith, some_low ps n xs ks)
 some_low (p ∷ ps) zero xs ks = search (arith, rules, some_low ps zero xs ks, value_low)
 
-none_low : (ps : List Parameter) (n : ℕ) (ks : Table) → row_height (filled_some ps n [] ks) ≡ 0
-none_low [] n ks = refl
-none_low (p ∷ ps) (suc n) ks = none_low ps n ks
-none_low (p ∷ ps) zero ks =
-    subst (λ b. row_height (if b
-    then slots.item (value_or (slot_in p.name ks) (own (default_value p.default))) (filled_some ps zero [] ks)
-    else slots.none)
-    ≡ 0)
-    (sym (none_given (p ∷ ps))) refl
-
 few_low : (ps : List Parameter) (n : ℕ) (xs : List Text) (ks : Table) → length ps ≤ 3
     → row_height (filled_some ps n xs ks) ≤ 3 * min 1 (length xs)
-few_low ps n [] ks h = omega (arith, none_low ps n ks)
+few_low ps n [] ks h = omega (arith, ap row_height (none_filled ps n ks))
 few_low ps n (x ∷ xs) ks h = omega (arith, h, some_low ps n (x ∷ xs) ks)
 
 names_weigh : (ps : Pairs) → 4 * min 1 (length (keywords ps)) ≤ pairs_weight 2 ps
@@ -130,49 +114,6 @@ handed_low : (p : Place) (t : Table) (n : ℕ) (xs : List Text) → body_height 
 handed_low p t n [] = omega arith
 handed_low p t n (x ∷ xs) = omega (arith, value_low (slot_in x t) (known 0), handed_low p t (suc n) xs)
 
--- ---- The callee: its parameters are few, and `loop.cycle` has three tokens
-
-abbrev CalleeLow : ℕ → ℕ → Callee → Type 0
-CalleeLow q w (a_macro k m) = length m.parameters ≤ q
-CalleeLow q w a_cycle = 3 ≤ w
-CalleeLow q w _ = Unit {0}
-
-module _ (q : ℕ) where
-  abbrev AllGivenLow : Sources → List (Text × Definition) → Type 0
-  AllGivenLow sources gs = AllByRecursion (λ g. GivenFew sources q g.1) gs
-
-  given_low : (sources : Sources) (gs : List (Text × Definition)) (x : Text) → AllGivenLow sources gs
-      → CalleeLow q 1 (named_alone sources (given_to x gs) x)
-  given_low sources [] x h = search (arith, rules)
-  given_low sources (g ∷ gs) x h = search (arith, rules, given_low sources gs x h.1)
-
-  of_low : (sources : Sources) (n x : Text) (ms : List MacroBody) → AllByRecursion (λ m. length m.parameters ≤ q) ms
-      → CalleeLow q 3 (of_library sources n (public_macro x ms))
-  of_low sources n x ms h = by (is_private x) (looked ms h)
-    where
-      looked : (ns : List MacroBody) → AllByRecursion (λ m. length m.parameters ≤ q) ns
-          → CalleeLow q 3 (of_library sources n (macro_of x ns))
-      looked [] f = tt
-      looked (m ∷ ns) f = search (arith, rules, looked ns f.1)
-
-      by : (b : Bool) → CalleeLow q 3 (of_library sources n (macro_of x ms))
-          → CalleeLow q 3 (of_library sources n (if b then None else macro_of x ms))
-      by true r = tt
-      by false r = r
-
-  library_low : (sources : Sources) (gs : List (Text × Definition)) (of x : Text) → AllGivenLow sources gs
-      → CalleeLow q 3 (in_library sources (given_to of gs) x)
-  library_low sources [] of x h = tt
-  library_low sources (g ∷ gs) of x h = search (arith, rules, library_low sources gs of x h.1, of_low sources)
-
-  in_low : (sources : Sources) (gs : List (Text × Definition)) (of x : Text) → AllGivenLow sources gs
-      → CalleeLow q 3 (named_in sources (given_to of gs) of x)
-  in_low sources gs of x h = search (arith, rules, library_low)
-
-  callee_low : (sources : Sources) (ms : List (Text × Definition)) (e : Expr) → AllGivenLow sources ms
-      → CalleeLow q (weight e) (callee sources ms e)
-  callee_low sources ms e h = search (arith, rules, given_low, in_low)
-
 module _ (cenv : CompileEnv) (order : List Namespace) (q : ℕ) where
   body_low : (h : Namespace) (on : Bool) (i : Option ℕ) (es : SRow Constant) → row_height es ≤ q
       → expr_height (invoked_body cenv order h on i es) ≤ 1 + q
@@ -193,7 +134,7 @@ module _ (cenv : CompileEnv) (order : List Namespace) (q : ℕ) where
 
   invoked_low : (c : Callee) (sp : StaticEnv) (row asides : SRow Constant → SRow Constant) (n : ℕ) (ks : Table)
       (u w v : ℕ)
-      → 1 ≤ u → CalleeLow q u c → ((x : Text) → length (block_parameters cenv order sp.namespace x) ≤ q) → RowLow w row
+      → 1 ≤ u → CalleeFew q u c → ((x : Text) → length (block_parameters cenv order sp.namespace x) ≤ q) → RowLow w row
       → AsidesLow v asides
       → 2 * expr_height (invoked cenv order c sp row asides n ks) ≤ u + enclosed (w + v) + 1 + 2 * q
   invoked_low (a_macro z m) sp row asides n ks u w v some f k r a =
@@ -217,11 +158,6 @@ module _ (cenv : CompileEnv) (order : List Namespace) (q : ℕ) where
   invoked_low a_cycle sp row asides n ks u w v some f k r a =
       omega (arith, f, r slots.none (2 * q) (omega arith) (omega arith))
   invoked_low no_callee sp row asides n ks u w v some f k r a = omega (arith, some)
-
-  filter_few : (f : Option ℕ) → ((i : ℕ) → length (cenv.filters.parameters i) ≤ 3)
-      → length (filter_parameters cenv.filters f) ≤ 3
-  filter_few None h = omega arith
-  filter_few (Some i) h = h i
 
   -- The bound of the entries of a filter's arguments after its input, by their weight with
   -- parentheses.
@@ -250,7 +186,7 @@ module _ (cenv : CompileEnv) (order : List Namespace) (q : ℕ) where
         invoked_low (callee cenv.sources (given cenv.sources sp.namespace) f) sp (resolved_row cenv order ts sp)
         (resolved_asides cenv order ps sp) (count ts) (locals_from sp.free (keywords ps))
         (weight f) (exprs_weight ts) (pairs_weight 2 ps) (expr_some f)
-        (callee_low q cenv.sources (given cenv.sources sp.namespace) f k.macros) k.blocks (λ b z. row_low ts sp k b z)
+        (callee_few q cenv.sources (given cenv.sources sp.namespace) f k.macros) k.blocks (λ b z. row_low ts sp k b z)
         (λ b. asides_low ps sp k b)
     resolved_low (filter a x ts ps) sp k =
         search (
@@ -320,7 +256,7 @@ module _ (cenv : CompileEnv) (order : List Namespace) (q : ℕ) where
             (resolved_asides cenv order f.keywords sp) rest (λ b z. row_low f.arguments sp k b z)
             (λ b. asides_low f.keywords sp k b)
             (few_low (filter_parameters cenv.filters i) (count f.arguments) (keywords f.keywords)
-            (locals_from sp.free (keywords f.keywords)) (filter_few i k.filters)),
+            (locals_from sp.free (keywords f.keywords)) (filter_few cenv i k.filters)),
       )
 
   values_low : (ps : Pairs) (sp : StaticEnv) (line : ℕ) (b : SBody Constant) → HasAtMost cenv order q sp.namespace

@@ -47,7 +47,7 @@ pairs_bound : (ps : Pairs) → pairs_weight 2 ps ≡ pairs_weight 0 ps + 2 * pai
 pairs_bound no_pairs = omega arith
 pairs_bound (pair x e ps) = omega (arith, pairs_bound ps)
 
-parameters_bound : (ps : List Parameter) → 2 * length ps ≤ parameters_weight ps
+pub parameters_bound : (ps : List Parameter) → 2 * length ps ≤ parameters_weight ps
 parameters_bound [] = omega arith
 parameters_bound (p ∷ ps) = omega (arith, parameters_bound ps)
 
@@ -152,13 +152,7 @@ module _ (t : Text) where
         all_more (body_weight body) (body_bound body) (11 + body_weight body) (body_bound body) (omega arith)
         (omega arith) (blocks_in t body now) (body_blocks body now)
     stmt_blocks (macro line x ps body) on = search (arith, rules, parameters_bound, all_more, body_blocks body on)
-    stmt_blocks (data_of d) on = tt
-    stmt_blocks (print line e) on = tt
-    stmt_blocks (set line xs e) on = tt
-    stmt_blocks (include line n missing with_context) on = tt
-    stmt_blocks (import_as line n new) on = tt
-    stmt_blocks (import_from line n news) on = tt
-    stmt_blocks (extends line n) on = tt
+    stmt_blocks a0 on = tt
 
     pub body_blocks : (b : Body) (on : Bool) → AllPaid (body_weight b) (body_bound b) (blocks_in t b on)
     body_blocks end on = tt
@@ -195,23 +189,7 @@ module _ (t : Text) where
         behind (macro line x ps body) rest,
         top_macros rest,
       )
-  top_macros (stmt (data_of d) rest) = behind (data_of d) rest (top_macros rest)
-  top_macros (stmt (print line e) rest) = behind (print line e) rest (top_macros rest)
-  top_macros (stmt (choose bs other) rest) = behind (choose bs other) rest (top_macros rest)
-  top_macros (stmt (for_each line xs e c body other) rest) =
-      behind (for_each line xs e c body other) rest (top_macros rest)
-  top_macros (stmt (set line xs e) rest) = behind (set line xs e) rest (top_macros rest)
-  top_macros (stmt (set_block line x body) rest) = behind (set_block line x body) rest (top_macros rest)
-  top_macros (stmt (with_values line ps body) rest) = behind (with_values line ps body) rest (top_macros rest)
-  top_macros (stmt (filter_block line fs body) rest) = behind (filter_block line fs body) rest (top_macros rest)
-  top_macros (stmt (autoescape line on body) rest) = behind (autoescape line on body) rest (top_macros rest)
-  top_macros (stmt (include line n missing with_context) rest) =
-      behind (include line n missing with_context) rest (top_macros rest)
-  top_macros (stmt (import_as line n new) rest) = behind (import_as line n new) rest (top_macros rest)
-  top_macros (stmt (import_from line n news) rest) = behind (import_from line n news) rest (top_macros rest)
-  top_macros (stmt (extends line n) rest) = behind (extends line n) rest (top_macros rest)
-  top_macros (stmt (block line x scoped required body) rest) =
-      behind (block line x scoped required body) rest (top_macros rest)
+  top_macros (stmt s rest) = behind s rest (top_macros rest)
 
 -- ---- All templates of a chain
 

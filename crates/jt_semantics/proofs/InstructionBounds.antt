@@ -1,7 +1,7 @@
 -- A resolved tree has at most 100 instructions for each token: expressions, rows, statements and
 -- bodies.
 use Rattle.std.proofs.Common.{◌≡◌, ℕ, zero, suc, ◌+◌, ◌*◌, min, ◌≤◌, Bool, true, false, if◌then◌else◌, List, [], ◌∷◌}
-use Rattle.std.proofs.Common.{length, Option, Some, None, arith, refl, length-append, rules}
+use Rattle.std.proofs.Common.{length, Option, Some, None, arith, refl, length-append, rules, subst, sym}
 use Rattle.std.specs.Option.{is_none}
 use Rattle.std.specs.List.{AllByRecursion}
 use Rattle.jt_ids.specs.declared.test_id.TestId.{TestId}
@@ -12,14 +12,13 @@ use Rattle.jt_ast.specs.Expressions.{pairs_weight, Text}
 use Rattle.jt_ast.specs.declared.expression.BinaryOperator.{BinaryOperator}
 use Rattle.jt_semantics.specs.Operators.{OperatorForm, form}
 use Rattle.jt_value.specs.Place.{Place}
-use Rattle.jt_chains.specs.Uses.{keywords, set_by, set_in, set_under}
-use Rattle.jt_ast.specs.Statements.{Parameter, FilterCall, Stmt, data_of, print, choose, for_each, set, set_block}
-use Rattle.jt_ast.specs.Statements.{with_values, filter_block, autoescape, macro, include, import_as, import_from}
-use Rattle.jt_ast.specs.Statements.{extends, block, Body, end, stmt, Branches, no_branches, branch, condition_weight}
-use Rattle.jt_ast.specs.Statements.{filter_call_weight}
+use Rattle.jt_chains.specs.Uses.{keywords, set_by, set_in, set_under, count}
+use Rattle.jt_ast.specs.Statements.{Parameter, FilterCall, Stmt, print, choose, for_each, set, set_block, with_values}
+use Rattle.jt_ast.specs.Statements.{filter_block, autoescape, include, block, Body, end, stmt, Branches, no_branches}
+use Rattle.jt_ast.specs.Statements.{branch, condition_weight, filter_call_weight}
 use Rattle.jt_chains.specs.Chain.{Sources, Namespace, a_chain, MacroBody, macro_of, is_private, public_macro}
 use Rattle.jt_chains.specs.Chain.{Definition, given_to, Callee, a_macro, named_alone, of_library, in_library, named_in}
-use Rattle.jt_chains.specs.Chain.{callee}
+use Rattle.jt_chains.specs.Chain.{callee, a_cycle, given}
 use Rattle.jt_ids.specs.declared.loop_field.LoopField.{LoopField}
 use Rattle.jt_rules.specs.CompileEnv.{CompileEnv}
 use Rattle.jt_semantics.specs.Expressions.{filter_parameters}
@@ -27,16 +26,17 @@ use Rattle.jt_semantics.specs.Layout.{Table, slot_in, names, numbered_of, global
 use Rattle.jt_semantics.specs.Layout.{of_chain}
 use Rattle.jt_ir.specs.Slots as slots
 use Rattle.jt_ir.specs.Slots.{Slot, local, SlotExpr, SRow, Targets, SBody, variable, run}
-use Rattle.jt_ir.specs.Pool.{Constant, known}
+use Rattle.jt_ir.specs.Pool.{Constant, known, own}
 use Rattle.jt_semantics.specs.Resolve.{value_or, turned_round, tested_by, filtered_by, in_form, field_from, followed}
 use Rattle.jt_semantics.specs.Resolve.{fresh, fresh_targets, kept_slots, set_targets, filled, filled_some, first_locals}
 use Rattle.jt_semantics.specs.Resolve.{reads, handed_on, Part, StaticEnv, place, grown, bound_all, copied, scoped}
 use Rattle.jt_semantics.specs.Resolve.{first_body, invoked_body, invoked_super, invoked, resolved, resolved_row}
 use Rattle.jt_semantics.specs.Resolve.{resolved_asides, resolved_entries, resolved_condition, resolved_filters}
 use Rattle.jt_semantics.specs.Resolve.{resolved_values, placed_body, resolved_stmt, resolved_body, resolved_choice}
-use Rattle.jt_semantics.specs.Resolve.{left_out}
+use Rattle.jt_semantics.specs.Resolve.{left_out, locals_from}
 use Rattle.jt_ir.specs.Size.{targets_size, expr_size, row_size, condition_size, body_size}
 use Rattle.jt_semantics.specs.Measure.{stmt_own, body_own, branch_own, GivenFew, IsFew, HasFewNames}
+use Rattle.jt_eval.specs.Filters.{default_value, some_given}
 
 -- ---- Weights are positive
 
@@ -48,19 +48,10 @@ operator_some b = search (arith, rules)
 
 pub expr_some : (e : Expr) → 1 ≤ weight e
 expr_some (constant l) = literal_some l
-expr_some (name x) = omega arith
-expr_some (group a) = omega arith
-expr_some (list_of ts) = omega arith
-expr_some (map_of ps) = omega arith
-expr_some (attribute a k) = omega arith
-expr_some (item a b) = omega arith
 expr_some (call a ts ps) = omega (arith, expr_some a)
-expr_some (filter a x ts ps) = omega arith
 expr_some (test a n x ts ps) = omega (arith, expr_some a)
-expr_some (unary u a) = omega arith
 expr_some (binary b x y) = omega (arith, expr_some x)
-expr_some (when c a) = omega arith
-expr_some (choice c a b) = omega arith
+expr_some a0 = omega arith
 
 pub is_some_weight : (b : Bool) → 2 ≤ is_weight b
 is_some_weight false = omega arith
@@ -106,6 +97,26 @@ some_size [] n xs ks = omega arith
 some_size (p ∷ ps) (suc n) xs ks = omega (arith, some_size ps n xs ks)
 some_size (p ∷ ps) zero xs ks = search (arith, rules, some_size ps zero xs ks, value_size)
 
+none_given : (ps : List Parameter) → some_given ps [] ≡ false
+none_given [] = refl
+none_given (p ∷ ps) = none_given ps
+
+-- No argument of a filter is filled in if no name is given.
+pub none_filled : (ps : List Parameter) (n : ℕ) (ks : Table) → filled_some ps n [] ks ≡ slots.none
+none_filled [] n ks = refl
+none_filled (p ∷ ps) (suc n) ks = none_filled ps n ks
+none_filled (p ∷ ps) zero ks =
+    subst (λ b. (if b
+    then slots.item (value_or (slot_in p.name ks) (own (default_value p.default))) (filled_some ps zero [] ks)
+    else slots.none)
+    ≡ slots.none)
+    (sym (none_given (p ∷ ps))) refl
+
+pub filter_few : (cenv : CompileEnv) (f : Option ℕ) → ((i : ℕ) → length (cenv.filters.parameters i) ≤ 3)
+    → length (filter_parameters cenv.filters f) ≤ 3
+filter_few cenv None h = omega arith
+filter_few cenv (Some i) h = h i
+
 first_size : (n : ℕ) (xs : List Text) → row_size (first_locals n xs) ≡ length xs
 first_size n [] = refl
 first_size n (x ∷ xs) = omega (arith, first_size (suc n) xs)
@@ -141,46 +152,48 @@ handed_size : (p : Place) (t : Table) (n : ℕ) (xs : List Text) → body_size (
 handed_size p t n [] = omega arith
 handed_size p t n (x ∷ xs) = omega (arith, value_size (slot_in x t) (known 0), handed_size p t (suc n) xs)
 
--- ---- The callee
+-- ---- The callee: its parameters are few, and `loop.cycle` has three tokens
 
-abbrev CalleeFew : Callee → Type 0
-CalleeFew (a_macro k m) = length m.parameters ≤ 200
-CalleeFew _ = Unit {0}
+abbrev pub CalleeFew : ℕ → ℕ → Callee → Type 0
+CalleeFew q w (a_macro k m) = length m.parameters ≤ q
+CalleeFew q w a_cycle = 3 ≤ w
+CalleeFew q w _ = Unit {0}
 
-abbrev AllGivenFew : Sources → List (Text × Definition) → Type 0
-AllGivenFew sources gs = AllByRecursion (λ g. GivenFew sources 200 g.1) gs
+module _ (q : ℕ) where
+  abbrev AllGivenFew : Sources → List (Text × Definition) → Type 0
+  AllGivenFew sources gs = AllByRecursion (λ g. GivenFew sources q g.1) gs
 
-given_few : (sources : Sources) (gs : List (Text × Definition)) (x : Text) → AllGivenFew sources gs
-    → CalleeFew (named_alone sources (given_to x gs) x)
-given_few sources [] x h = search (arith, rules)
-given_few sources (g ∷ gs) x h = search (arith, rules, given_few sources gs x h.1)
+  given_few : (sources : Sources) (gs : List (Text × Definition)) (x : Text) → AllGivenFew sources gs
+      → CalleeFew q 1 (named_alone sources (given_to x gs) x)
+  given_few sources [] x h = search (arith, rules)
+  given_few sources (g ∷ gs) x h = search (arith, rules, given_few sources gs x h.1)
 
-of_few : (sources : Sources) (n x : Text) (ms : List MacroBody) → AllByRecursion (λ m. length m.parameters ≤ 200) ms
-    → CalleeFew (of_library sources n (public_macro x ms))
-of_few sources n x ms h = by (is_private x) (looked ms h)
-  where
-    looked : (ns : List MacroBody) → AllByRecursion (λ m. length m.parameters ≤ 200) ns
-        → CalleeFew (of_library sources n (macro_of x ns))
-    looked [] f = tt
-    looked (m ∷ ns) f = search (arith, rules, looked ns f.1)
+  of_few : (sources : Sources) (n x : Text) (ms : List MacroBody) → AllByRecursion (λ m. length m.parameters ≤ q) ms
+      → CalleeFew q 3 (of_library sources n (public_macro x ms))
+  of_few sources n x ms h = by (is_private x) (looked ms h)
+    where
+      looked : (ns : List MacroBody) → AllByRecursion (λ m. length m.parameters ≤ q) ns
+          → CalleeFew q 3 (of_library sources n (macro_of x ns))
+      looked [] f = tt
+      looked (m ∷ ns) f = search (arith, rules, looked ns f.1)
 
-    by : (b : Bool) → CalleeFew (of_library sources n (macro_of x ms))
-        → CalleeFew (of_library sources n (if b then None else macro_of x ms))
-    by true r = tt
-    by false r = r
+      by : (b : Bool) → CalleeFew q 3 (of_library sources n (macro_of x ms))
+          → CalleeFew q 3 (of_library sources n (if b then None else macro_of x ms))
+      by true r = tt
+      by false r = r
 
-library_few : (sources : Sources) (gs : List (Text × Definition)) (of x : Text) → AllGivenFew sources gs
-    → CalleeFew (in_library sources (given_to of gs) x)
-library_few sources [] of x h = tt
-library_few sources (g ∷ gs) of x h = search (arith, rules, library_few sources gs of x h.1, of_few sources)
+  library_few : (sources : Sources) (gs : List (Text × Definition)) (of x : Text) → AllGivenFew sources gs
+      → CalleeFew q 3 (in_library sources (given_to of gs) x)
+  library_few sources [] of x h = tt
+  library_few sources (g ∷ gs) of x h = search (arith, rules, library_few sources gs of x h.1, of_few sources)
 
-in_few : (sources : Sources) (gs : List (Text × Definition)) (of x : Text) → AllGivenFew sources gs
-    → CalleeFew (named_in sources (given_to of gs) of x)
-in_few sources gs of x h = search (arith, rules, library_few)
+  in_few : (sources : Sources) (gs : List (Text × Definition)) (of x : Text) → AllGivenFew sources gs
+      → CalleeFew q 3 (named_in sources (given_to of gs) of x)
+  in_few sources gs of x h = search (arith, rules, library_few)
 
-pub callee_few : (sources : Sources) (ms : List (Text × Definition)) (e : Expr) → AllGivenFew sources ms
-    → CalleeFew (callee sources ms e)
-callee_few sources ms e h = search (arith, rules, given_few, in_few)
+  pub callee_few : (sources : Sources) (ms : List (Text × Definition)) (e : Expr) → AllGivenFew sources ms
+      → CalleeFew q (weight e) (callee sources ms e)
+  callee_few sources ms e h = search (arith, rules, given_few, in_few)
 
 -- Holds if a part before a row has at most 100 * w instructions, and 100 less if w is not 0.
 abbrev Front : ℕ → (SRow Constant → SRow Constant) → Type 0
@@ -201,16 +214,11 @@ module _ (cenv : CompileEnv) (order : List Namespace) where
   super_sized sp a1 k = search (arith, rules, body_sized, first_size, parameters_few)
 
   invoked_sized : (c : Callee) (sp : StaticEnv) (row asides : SRow Constant → SRow Constant) (n : ℕ) (ks : Table)
-      (w v : ℕ)
-      → CalleeFew c → HasFewNames cenv order sp.namespace → Front w row → Front v asides
+      (u w v : ℕ)
+      → CalleeFew 200 u c → HasFewNames cenv order sp.namespace → Front w row → Front v asides
       → expr_size (invoked cenv order c sp row asides n ks) ≤ 100 * (1 + enclosed (w + v))
-  invoked_sized c sp row asides n ks w v f k r a =
+  invoked_sized c sp row asides n ks u w v f k r a =
       search (arith, rules, filled_size, super_sized, body_sized, reads_size, parameters_few)
-
-  filter_few : (f : Option ℕ) → ((i : ℕ) → length (cenv.filters.parameters i) ≤ 3)
-      → length (filter_parameters cenv.filters f) ≤ 3
-  filter_few None h = omega arith
-  filter_few (Some i) h = h i
 
   mutual
     pub resolved_sized : (e : Expr) (sp : StaticEnv) → IsFew cenv order sp.namespace
@@ -223,7 +231,15 @@ module _ (cenv : CompileEnv) (order : List Namespace) where
     resolved_sized (attribute a x) sp k = search (arith, rules, either_size, field_size, resolved_sized a sp k)
     resolved_sized (item a b) sp k = omega (arith, resolved_sized a sp k, resolved_sized b sp k)
     resolved_sized (call f ts ps) sp k =
-        search (arith, rules, expr_some, invoked_sized, callee_few, row_sized ts sp k, asides_sized ps sp k)
+        omega (
+          arith,
+          expr_some f,
+          invoked_sized (callee cenv.sources (given cenv.sources sp.namespace) f) sp (resolved_row cenv order ts sp)
+              (resolved_asides cenv order ps sp) (count ts) (locals_from sp.free (keywords ps))
+              (weight f) (exprs_weight ts) (pairs_weight 2 ps)
+              (callee_few 200 cenv.sources (given cenv.sources sp.namespace) f k.macros) (k.names sp.namespace)
+              (λ b. row_sized ts sp k b) (λ b. asides_sized ps sp k b),
+        )
     resolved_sized (filter a x ts ps) sp k =
         search (
           arith,
@@ -316,7 +332,6 @@ module _ (cenv : CompileEnv) (order : List Namespace) where
     -- The bound of the instructions of a statement, with the copies at the start of its scope.
     pub stmt_sized : (s : Stmt) (sp : StaticEnv) → IsFew cenv order sp.namespace
         → body_size (resolved_stmt cenv order s sp) + 2 * length (set_by s) ≤ 100 * stmt_own s
-    stmt_sized (data_of t) sp k = omega arith
     stmt_sized (print line e) sp k = omega (arith, resolved_sized e sp k)
     stmt_sized (choose bs other) sp k =
         omega (
@@ -358,18 +373,15 @@ module _ (cenv : CompileEnv) (order : List Namespace) where
           scope_sized body (record sp { escaping = on })
               (all_sized body (bound_all (set_in body) (record sp { escaping = on })) k),
         )
-    stmt_sized (macro line x ps body) sp k = omega arith
     stmt_sized (include line n missing with_context) sp k =
         omega (arith, include_sized sp line n missing with_context (is_none (cenv.sources n)) ((k.names (a_chain n)).0))
-    stmt_sized (import_as line n new) sp k = omega arith
-    stmt_sized (import_from line n news) sp k = omega arith
-    stmt_sized (extends line n) sp k = omega arith
     stmt_sized (block line x is required body) sp k =
         omega (
           arith,
           placed_sized sp (first_body (numbered_of cenv sp.namespace x)) x
               (if is then sp.table else globals cenv order sp.namespace) (k.names sp.namespace),
         )
+    stmt_sized a0 sp k = omega arith
 
     pub all_sized : (b : Body) (sp : StaticEnv) → IsFew cenv order sp.namespace
         → body_size (resolved_body cenv order b sp) + 2 * length (set_in b) ≤ 100 * body_own b

@@ -1,6 +1,7 @@
 -- In chains that keep the rules, each use keeps the rules of loops, of callees and of arguments.
 use Rattle.std.proofs.Common.{◌≡◌, refl, Bool, true, false, List, [], ◌∷◌, ◌++◌}
 use Rattle.std.specs.Prelude.{◌⊎◌}
+use Rattle.std.proofs.lemmas.Bool.{true_from_ne_false}
 use mathlib.Core.Logic.{inl, inr}
 use Rattle.jt_chains.specs.Chain.{Namespace}
 use Rattle.jt_rules.specs.CompileEnv.{CompileEnv}
@@ -54,7 +55,3 @@ chains_keep cenv order k = each order (k.none error.LoopOutside) (k.none error.N
       all_keep cenv h (chain_use_sites cenv.sources h) (λ p. l (inl p)) (λ p. c (inl p)) (λ p. f (inl p)),
       each hs (λ q. l (inr q)) (λ q. c (inr q)) (λ q. f (inr q)),
     )
-
-pub holds_if : (b : Bool) → (b ≡ false → ⊥) → b ≡ true
-holds_if true n = refl
-holds_if false n = absurd (n refl)

@@ -24,13 +24,12 @@ pub mod InstructionBounds
 pub mod EntryBounds
 pub mod ProgramSize
 mod BlockHeightExample
-pub mod ConstantBounds
+pub mod ValueBounds
 pub mod LocalBounds
 pub mod Scopes
 pub mod FreeNameWeights
 pub mod DefinedNames
 pub mod NameCounts
-pub mod TextBounds
 pub mod NameLengths
 pub mod WithoutSuper
 pub mod ChainRules

@@ -10,10 +10,9 @@ use Rattle.jt_ast.specs.Expressions.{exprs_weight, pairs_weight, Text}
 use Rattle.jt_semantics.specs.Operators.{OperatorForm, form}
 use Rattle.jt_value.specs.Place.{Place}
 use Rattle.jt_chains.specs.Uses.{keywords, set_by, set_in, set_under}
-use Rattle.jt_ast.specs.Statements.{Parameter, FilterCall, Stmt, data_of, print, choose, for_each, set, set_block}
-use Rattle.jt_ast.specs.Statements.{with_values, filter_block, autoescape, macro, include, import_as, import_from}
-use Rattle.jt_ast.specs.Statements.{extends, block, Body, end, stmt, Branches, no_branches, branch, condition_weight}
-use Rattle.jt_ast.specs.Statements.{filter_call_weight}
+use Rattle.jt_ast.specs.Statements.{Parameter, FilterCall, Stmt, print, choose, for_each, set, set_block, with_values}
+use Rattle.jt_ast.specs.Statements.{filter_block, autoescape, include, block, Body, end, stmt, Branches, no_branches}
+use Rattle.jt_ast.specs.Statements.{branch, condition_weight, filter_call_weight}
 use Rattle.jt_chains.specs.Chain.{Namespace, a_chain, Callee}
 use Rattle.jt_ids.specs.declared.loop_field.LoopField.{LoopField}
 use Rattle.jt_rules.specs.CompileEnv.{CompileEnv}
@@ -327,7 +326,6 @@ module _ (n : ℕ) (some : 1 ≤ n) where
     mutual
       pub stmt_localed : (s : Stmt) (sp : StaticEnv) → Below sp.table → sp.free + stmt_own s ≤ n + length (set_by s)
           → body_locals (resolved_stmt cenv order s sp) ≤ n
-      stmt_localed (data_of x) sp t k = omega arith
       stmt_localed (print line e) sp t k = omega (arith, localed e sp t (omega (arith, k)))
       stmt_localed (choose bs other) sp t k =
           search (arith, rules, length-append, choice_localed bs sp t, in_few, all_localed other sp t, under_few)
@@ -381,15 +379,12 @@ module _ (n : ℕ) (some : 1 ≤ n) where
           scope_localed body inner (t) (omega (arith, k))
           (all_localed body (bound_all (set_in body) inner)
           (bound_below (set_in body) (sp.free) (sp.table) (omega (arith, k, in_few body)) (t)) (omega (arith, k)))
-      stmt_localed (macro line x ps body) sp t k = omega arith
       stmt_localed (include line m missing with_context) sp t k =
           include_localed sp line m missing with_context (is_none (cenv.sources m)) t
-      stmt_localed (import_as line m new) sp t k = omega arith
-      stmt_localed (import_from line m news) sp t k = omega arith
-      stmt_localed (extends line m) sp t k = omega arith
       stmt_localed (block line x is required body) sp t k =
           placed_localed sp (first_body (numbered_of cenv sp.namespace x)) x
           (if is then sp.table else globals cenv order sp.namespace) (table_below is sp t)
+      stmt_localed a0 sp t k = omega arith
 
       pub all_localed : (b : Body) (sp : StaticEnv) → Below sp.table → sp.free + body_own b ≤ n + length (set_in b)
           → body_locals (resolved_body cenv order b sp) ≤ n

@@ -1,7 +1,7 @@
 -- If the sources of chains read or bind few names, each chain has few names.
 use Rattle.std.proofs.Common.{◌≡◌, ℕ, zero, suc, ◌≤◌, ◌<◌, Bool, true, false, if◌then◌else◌, List, [], ◌∷◌, ◌++◌}
 use Rattle.std.proofs.Common.{length, map, Option, Some, None, refl, sym, ap, ◌∙◌, subst, arith, inl, inr, rules}
-use Rattle.std.specs.Prelude.{not, ◌||◌, flat_map, Contains, slice_index_or}
+use Rattle.std.specs.Prelude.{◌||◌, flat_map, Contains, slice_index_or}
 use Rattle.std.specs.List.{AllByRecursion}
 use Rattle.std.specs.declared.cmp.Ordering.{Ordering}
 use Rattle.std.specs.declared.cmp.Ordering.TheVariants.{Less}
@@ -10,6 +10,7 @@ use Rattle.std.specs.Cmp.Lexicographic.{slice_cmp}
 use Rattle.std.specs.Str.{bytes_eq}
 use Rattle.std.proofs.lemmas.Cmp.{nat_list_cmp_total}
 use Rattle.std.proofs.lemmas.Map.Text.{is_eq-slice_cmp}
+use Rattle.std.proofs.lemmas.Bool.{false_from_ne_true}
 use Rattle.jt_ast.specs.Texts.{among, repeated, inserted, all_inserted, ascending}
 use Rattle.jt_ast.specs.Expressions.{Text}
 use Rattle.jt_ast.specs.Statements.{Parameter, data_of, print, choose, for_each, set, set_block, with_values}
@@ -172,10 +173,6 @@ repeated_differs (x ∷ xs) e =
     is_among (y ∷ ys) (inl p) = ap (λ b. b || among x ys) (is_same y x p)
     is_among (y ∷ ys) (inr i) = search (arith, rules, is_among ys i)
 
-is_false : (b : Bool) → (b ≡ true → ⊥) → b ≡ false
-is_false true n = absurd (n refl)
-is_false false n = refl
-
 module _ (cenv : CompileEnv) (h : Namespace) where
   abbrev OneEach : MacroBody → Type 0
   OneEach m = repeated (parameter_names m.parameters) ≡ false
@@ -188,7 +185,7 @@ module _ (cenv : CompileEnv) (h : Namespace) where
       let here = declared ++ body_use_sites body outside in
       let first = front cenv h declared (body_use_sites body outside)
       (front cenv h here (body_use_sites rest outside) k) in (
-        is_false (repeated (parameter_names ps)) first.0.fitting,
+        false_from_ne_true (repeated (parameter_names ps)) first.0.fitting,
         macros_named t rest (back cenv h here (body_use_sites rest outside) k),
       )
   macros_named t (stmt (data_of d) rest) k =
@@ -243,29 +240,7 @@ module _ (cenv : CompileEnv) (h : Namespace) where
     body_few t end a o = tt
     body_few t (stmt (macro line x ps body) rest) a o =
         search (arith, rules, among_front, named_few, body_few t rest, among_back)
-    body_few t (stmt (data_of d) rest) a o = body_few t rest a o
-    body_few t (stmt (print line x) rest) a o =
-        body_few t rest (among_back (stmt_names (print line x)) (body_names rest) ns a) o
-    body_few t (stmt (choose bs other) rest) a o =
-        body_few t rest (among_back (stmt_names (choose bs other)) (body_names rest) ns a) o
-    body_few t (stmt (for_each line xs x c body other) rest) a o =
-        body_few t rest (among_back (stmt_names (for_each line xs x c body other)) (body_names rest) ns a) o
-    body_few t (stmt (set line xs x) rest) a o =
-        body_few t rest (among_back (stmt_names (set line xs x)) (body_names rest) ns a) o
-    body_few t (stmt (set_block line x body) rest) a o =
-        body_few t rest (among_back (stmt_names (set_block line x body)) (body_names rest) ns a) o
-    body_few t (stmt (with_values line ps body) rest) a o =
-        body_few t rest (among_back (stmt_names (with_values line ps body)) (body_names rest) ns a) o
-    body_few t (stmt (filter_block line fs body) rest) a o =
-        body_few t rest (among_back (stmt_names (filter_block line fs body)) (body_names rest) ns a) o
-    body_few t (stmt (autoescape line on body) rest) a o =
-        body_few t rest (among_back (stmt_names (autoescape line on body)) (body_names rest) ns a) o
-    body_few t (stmt (include line n i w) rest) a o = body_few t rest a o
-    body_few t (stmt (import_as line n new) rest) a o = body_few t rest a o
-    body_few t (stmt (import_from line n news) rest) a o = body_few t rest a o
-    body_few t (stmt (extends line n) rest) a o = body_few t rest a o
-    body_few t (stmt (block line x s r body) rest) a o =
-        body_few t rest (among_back (stmt_names (block line x s r body)) (body_names rest) ns a) o
+    body_few t (stmt s rest) a o = body_few t rest (among_back (stmt_names s) (body_names rest) ns a) o
 
     macros_few : (ts : List Template) → AllAmong (flat_map (λ t. body_names t.body) ts) ns
         → AllKeep cenv h (flat_map (λ t. body_use_sites t.body outside) ts)
@@ -296,7 +271,7 @@ defaults_len (x ∷ xs) (d ∷ ds) = let l = defaults_len xs ds in omega (arith,
 three : (i : FilterId) → length (defaults i) ≤ 3
 three i = search arith
 
-filters_few : (n : ℕ) → length (the_filters.parameters n) ≤ 3
+pub filters_few : (n : ℕ) → length (the_filters.parameters n) ≤ 3
 unfolding the_filters
 filters_few n = through (filter_of n)
   where

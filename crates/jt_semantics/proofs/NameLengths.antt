@@ -10,9 +10,9 @@ use Rattle.jt_ast.specs.Expressions.{Expr, constant, name, group, list_of, map_o
 use Rattle.jt_ast.specs.Expressions.{binary, when, choice, Exprs, no_exprs, expr, Pairs, no_pairs, pair, Text}
 use Rattle.jt_ast.specs.Sizes.{expr_bytes, exprs_bytes, pairs_bytes, texts_bytes, condition_bytes, filter_call_bytes}
 use Rattle.jt_ast.specs.Sizes.{default_bytes, parameters_bytes, stmt_bytes, body_bytes, branch_bytes}
-use Rattle.jt_ast.specs.Statements.{Parameter, FilterCall, Stmt, data_of, print, choose, for_each, set, set_block}
-use Rattle.jt_ast.specs.Statements.{with_values, filter_block, autoescape, macro, include, import_as, import_from}
-use Rattle.jt_ast.specs.Statements.{extends, block, Body, end, stmt, Branches, no_branches, branch}
+use Rattle.jt_ast.specs.Statements.{Parameter, FilterCall, Stmt, print, choose, for_each, set, set_block, with_values}
+use Rattle.jt_ast.specs.Statements.{filter_block, autoescape, macro, block, Body, end, stmt, Branches, no_branches}
+use Rattle.jt_ast.specs.Statements.{branch}
 use Rattle.jt_chains.specs.Chain.{Namespace, a_chain, a_library, Template, templates, BlockBody, blocks_of, blocks_in}
 use Rattle.jt_chains.specs.Chain.{blocks_under, MacroBody, macros_in, macros}
 use Rattle.jt_chains.specs.Uses.{keywords, set_in, expr_names, row_names, pair_names, condition_names}
@@ -32,8 +32,8 @@ use Rattle.jt_semantics.specs.Programs.{program, routines, entry_routines, chain
 use Rattle.jt_semantics.specs.Resolve.{followed, Part, bound_all, resolved_stmt, resolved_body, resolved_sets, top_senv}
 use Rattle.jt_semantics.specs.Resolve.{resolved_chain, scoped, macro_routine}
 use Rattle.jt_semantics.proofs.Among.{Among, AllAmong}
-use Rattle.jt_semantics.proofs.TextBounds.{bytes_in, literal_is, Bare, Three, stmt_counted, all_counted, scope_counted}
-use Rattle.jt_semantics.proofs.NameCounts.{names_from}
+use Rattle.jt_semantics.proofs.ValueBounds.{literal_is, total, Bare, ArePlain, stmt_within, all_within, scope_within}
+use Rattle.jt_semantics.proofs.NameCounts.{names_from, filters_few}
 use Rattle.jt_semantics.proofs.FreeNameWeights.{all_append}
 
 -- ---- Values
@@ -41,21 +41,24 @@ use Rattle.jt_semantics.proofs.FreeNameWeights.{all_append}
 abbrev Shorts : ℕ → List Tree → Type 0
 Shorts n vs = AllByRecursion (λ v. value_bytes v ≤ n) vs
 
-each_short : (n : ℕ) (vs : List Tree) → bytes_in vs ≤ n → Shorts n vs
+own_bytes : (v : Tree) → value_bytes v ≤ value_bytes v
+own_bytes v = omega arith
+
+each_short : (n : ℕ) (vs : List Tree) → total value_bytes vs ≤ n → Shorts n vs
 each_short n [] h = tt
 each_short n (v ∷ vs) h = (omega (arith, h), each_short n vs (omega (arith, h)))
+
+split : (n : ℕ) (xs ys : List Tree) → Shorts n (xs ++ ys) → Shorts n xs × Shorts n ys
+split n [] ys a = (tt, a)
+split n (x ∷ xs) ys a = let r = split n xs ys a.1 in ((a.0, r.0), r.1)
 
 followed_short : (n : ℕ) (a b : SBody Constant) → Shorts n (body_values a) → Shorts n (body_values b)
     → Shorts n (body_values (followed a b))
 followed_short n slots.end b h g = g
 followed_short n (slots.stmt s rest) b h g =
-    let p = split (stmt_values s) (body_values rest) h in
+    let p = split n (stmt_values s) (body_values rest) h in
     all_append (λ v. value_bytes v ≤ n) (stmt_values s) (body_values (followed rest b)) p.0
     (followed_short n rest b p.1 g)
-  where
-    split : (xs ys : List Tree) → Shorts n (xs ++ ys) → Shorts n xs × Shorts n ys
-    split [] ys a = (tt, a)
-    split (x ∷ xs) ys a = let r = split xs ys a.1 in ((a.0, r.0), r.1)
 
 -- ---- The bodies of a template are no longer than it
 
@@ -98,20 +101,7 @@ module _ (t : Text) (n : ℕ) where
   top_macros end h = tt
   top_macros (stmt (macro line x ps body) rest) h =
       ((omega (arith, h), omega (arith, h)), top_macros rest (omega (arith, h)))
-  top_macros (stmt (data_of d) rest) h = top_macros rest (omega (arith, h))
-  top_macros (stmt (print line e) rest) h = top_macros rest (omega (arith, h))
-  top_macros (stmt (choose bs other) rest) h = top_macros rest (omega (arith, h))
-  top_macros (stmt (for_each line xs e c body other) rest) h = top_macros rest (omega (arith, h))
-  top_macros (stmt (set line xs e) rest) h = top_macros rest (omega (arith, h))
-  top_macros (stmt (set_block line x body) rest) h = top_macros rest (omega (arith, h))
-  top_macros (stmt (with_values line ps body) rest) h = top_macros rest (omega (arith, h))
-  top_macros (stmt (filter_block line fs body) rest) h = top_macros rest (omega (arith, h))
-  top_macros (stmt (autoescape line on body) rest) h = top_macros rest (omega (arith, h))
-  top_macros (stmt (include line m i w) rest) h = top_macros rest (omega (arith, h))
-  top_macros (stmt (import_as line m new) rest) h = top_macros rest (omega (arith, h))
-  top_macros (stmt (import_from line m news) rest) h = top_macros rest (omega (arith, h))
-  top_macros (stmt (extends line m) rest) h = top_macros rest (omega (arith, h))
-  top_macros (stmt (block line x scoped required body) rest) h = top_macros rest (omega (arith, h))
+  top_macros (stmt s rest) h = top_macros rest (omega (arith, h))
 
 abbrev pub TemplatesShort : ℕ → List Template → Type 0
 TemplatesShort n ts = AllByRecursion (λ t. body_bytes t.body ≤ n) ts
@@ -133,18 +123,18 @@ chain_macros n (t ∷ ts) h =
 
 -- ---- The values of a chain's routines
 
+-- Holds if the defaults of the filters' parameters have no texts.
+abbrev pub Plain : CompileEnv → Type 0
+Plain cenv = (i : ℕ) → ArePlain value_bytes (cenv.filters.parameters i)
+
 values_append : (n : ℕ) (a b : List (Routine Constant)) → Shorts n (routines_values a) → Shorts n (routines_values b)
     → Shorts n (routines_values (a ++ b))
 values_append n [] b h g = g
 values_append n (r ∷ a) b h g =
-    let p = split (body_values r.body) (routines_values a) h in
+    let p = split n (body_values r.body) (routines_values a) h in
     all_append (λ v. value_bytes v ≤ n) (body_values r.body) (routines_values (a ++ b)) p.0 (values_append n a b p.1 g)
-  where
-    split : (xs ys : List Tree) → Shorts n (xs ++ ys) → Shorts n xs × Shorts n ys
-    split [] ys a = (tt, a)
-    split (x ∷ xs) ys a = let r = split xs ys a.1 in ((a.0, r.0), r.1)
 
-module _ (cenv : CompileEnv) (order : List Namespace) (n : ℕ) (k : Three cenv order) (h : Namespace) where
+module _ (cenv : CompileEnv) (order : List Namespace) (n : ℕ) (k : Plain cenv) (h : Namespace) where
   sets_short : (b : Body) (t : Text) → body_bytes b ≤ n
       → Shorts n (body_values (resolved_sets cenv order b (top_senv cenv order h t)))
   sets_short end t g = tt
@@ -155,7 +145,7 @@ module _ (cenv : CompileEnv) (order : List Namespace) (n : ℕ) (k : Three cenv 
           (resolved_sets cenv order rest (top_senv cenv order h t))
           else resolved_sets cenv order rest (top_senv cenv order h t)))
       through true r =
-          let c = stmt_counted cenv order s (top_senv cenv order h t) k in
+          let c = stmt_within value_bytes own_bytes cenv order k s (top_senv cenv order h t) in
           followed_short n (resolved_stmt cenv order s (top_senv cenv order h t))
           (resolved_sets cenv order rest (top_senv cenv order h t))
           (each_short n (body_values (resolved_stmt cenv order s (top_senv cenv order h t))) (omega (arith, c, g))) r
@@ -164,7 +154,7 @@ module _ (cenv : CompileEnv) (order : List Namespace) (n : ℕ) (k : Three cenv 
   chain_short : (ts : List Template) → TemplatesShort n ts → Shorts n (body_values (resolved_chain cenv order h ts))
   chain_short [] g = tt
   chain_short (t ∷ []) g =
-      let c = all_counted cenv order t.body (top_senv cenv order h t.name) k in
+      let c = all_within value_bytes own_bytes cenv order k t.body (top_senv cenv order h t.name) in
       let f = g.0 in
       each_short n (body_values (resolved_body cenv order t.body (top_senv cenv order h t.name))) (omega (arith, c, f))
   chain_short (t ∷ (u ∷ us)) g =
@@ -177,7 +167,7 @@ module _ (cenv : CompileEnv) (order : List Namespace) (n : ℕ) (k : Three cenv 
   macros_short [] g = tt
   macros_short (m ∷ ms) g =
       let sp = bound_all (map (λ p. p.name) m.parameters) (top_senv cenv order h m.template) in
-      let c = scope_counted cenv order m.body sp (all_counted cenv order m.body (bound_all (set_in m.body) sp) k) in
+      let c = scope_within value_bytes own_bytes cenv order k m.body sp in
       let f = g.0.0 in
       let r = macro_routine cenv order h m in
       all_append (λ v. value_bytes v ≤ n) (body_values r.body) (routines_values (map (macro_routine cenv order h) ms))
@@ -192,7 +182,7 @@ module _ (cenv : CompileEnv) (order : List Namespace) (n : ℕ) (k : Three cenv 
       let sp = bound_all (block_parameters cenv order h b.name)
       (record (top_senv cenv order h b.template) { escaping = b.escaping; part = Some part }) in
       let r = scoped (set_in b.body) sp (resolved_body cenv order b.body) in
-      let c = scope_counted cenv order b.body sp (all_counted cenv order b.body (bound_all (set_in b.body) sp) k) in
+      let c = scope_within value_bytes own_bytes cenv order k b.body sp in
       let f = g.0 in
       all_append (λ v. value_bytes v ≤ n) (body_values r)
       (routines_values (body_routines cenv order h (counted_from (suc i) bs)))
@@ -306,7 +296,6 @@ module _ (n : ℕ) where
 
   mutual
     stmt_short : (s : Stmt) → stmt_bytes s ≤ n → Names n (stmt_names s)
-    stmt_short (data_of t) h = tt
     stmt_short (print line e) h = expr_short e h
     stmt_short (choose bs other) h =
         names_append n (branch_names bs) (body_names other) (branches_short bs (omega (arith, h)))
@@ -336,11 +325,8 @@ module _ (n : ℕ) where
     stmt_short (macro line x ps body) h =
         names_append n (map (λ p. p.name) ps) (body_names body) (given_short ps (omega (arith, h)))
         (body_short body (omega (arith, h)))
-    stmt_short (include line m i w) h = tt
-    stmt_short (import_as line m new) h = tt
-    stmt_short (import_from line m news) h = tt
-    stmt_short (extends line m) h = tt
     stmt_short (block line x scoped required body) h = body_short body (omega (arith, h))
+    stmt_short a0 h = tt
 
     body_short : (b : Body) → body_bytes b ≤ n → Names n (body_names b)
     body_short end h = tt
@@ -377,7 +363,7 @@ module _ (cenv : CompileEnv) (n : ℕ) where
   abbrev pub ChainsShort : List Namespace → Type 0
   ChainsShort hs = AllByRecursion (λ h. TemplatesShort n (templates cenv.sources h)) hs
 
-  module _ (order : List Namespace) (k : Three cenv order) where
+  module _ (order : List Namespace) (k : Plain cenv) where
     chains_values : (hs : List Namespace) → ChainsShort hs
         → Shorts n (routines_values (flat_map (chain_routines cenv order) hs))
     chains_values [] h = tt
@@ -431,7 +417,7 @@ own_among cenv (h ∷ hs) ns f = (
       (λ zs a. f zs (among_right zs (own_names cenv.sources h) (flat_map (own_names cenv.sources) hs) a)),
 )
 
-pub program_short : (cenv : CompileEnv) (entry : Namespace) (rest : List Namespace) (n : ℕ) → Three cenv (entry ∷ rest)
+pub program_short : (cenv : CompileEnv) (entry : Namespace) (rest : List Namespace) (n : ℕ) → Plain cenv
     → ChainsShort cenv n (entry ∷ rest) → IsShort n (program cenv (entry ∷ rest) entry)
 program_short cenv entry rest n k h =
     let order = entry ∷ rest in
@@ -450,14 +436,14 @@ program_short cenv entry rest n k h =
 
 -- ---- The filters of the language
 
-defaults_bare : (i : FilterId) → Bare (filter_parameters i)
+defaults_bare : (i : FilterId) → Bare value_bytes (filter_parameters i)
 defaults_bare i = search (arith, rules)
 
-filters_bare : (n : ℕ) → Bare (the_filters.parameters n)
+filters_bare : (n : ℕ) → Bare value_bytes (the_filters.parameters n)
 unfolding the_filters
 filters_bare n = through (filter_of n)
   where
-    through : (o : Option FilterId) → Bare (parameters_of o)
+    through : (o : Option FilterId) → Bare value_bytes (parameters_of o)
     through None = tt
     through (Some i) = defaults_bare i
 
@@ -466,6 +452,6 @@ pub chain_is_short : (c : Seen) (entry : Namespace) (rest : List Namespace) (n :
     → IsShort n (program (cenv_of c) c.order entry)
 chain_is_short c entry rest n e h =
     subst (λ hs. IsShort n (program (cenv_of c) hs entry)) (sym e)
-    (program_short (cenv_of c) entry rest n filters_bare
+    (program_short (cenv_of c) entry rest n (λ i. record { few = filters_few i; bare = filters_bare i })
     (subst (λ hs. AllByRecursion (λ h. AllByRecursion (λ t. body_bytes t.body ≤ n) (templates (sources_of c) h)) hs) e
     h))

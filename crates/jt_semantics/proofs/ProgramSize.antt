@@ -6,10 +6,9 @@ use Rattle.std.specs.Prelude.{flat_map, filter, map}
 use Rattle.std.specs.List.{AllByRecursion}
 use Rattle.std.specs.Str.{bytes_eq}
 use Rattle.jt_ast.specs.Expressions.{Text}
-use Rattle.jt_ast.specs.Statements.{Parameter, parameters_weight, Stmt, data_of, print, choose, for_each, set}
-use Rattle.jt_ast.specs.Statements.{set_block, with_values, filter_block, autoescape, macro, include, import_as}
-use Rattle.jt_ast.specs.Statements.{import_from, extends, block, stmt_weight, Body, end, stmt, body_weight, Branches}
-use Rattle.jt_ast.specs.Statements.{no_branches, branch, branch_weight, body_bound}
+use Rattle.jt_ast.specs.Statements.{Parameter, Stmt, choose, for_each, set_block, with_values, filter_block, autoescape}
+use Rattle.jt_ast.specs.Statements.{macro, block, stmt_weight, Body, end, stmt, body_weight, Branches, no_branches}
+use Rattle.jt_ast.specs.Statements.{branch, branch_weight, body_bound}
 use Rattle.jt_chains.specs.Chain.{Sources, Namespace, a_chain, a_library, same_namespace, listed, Template, templates}
 use Rattle.jt_chains.specs.Chain.{BlockBody, blocks_of, blocks_in, blocks_under, all_bodies, MacroBody, macros_in}
 use Rattle.jt_chains.specs.Chain.{macros}
@@ -34,11 +33,11 @@ use Rattle.jt_chains.specs.Weights.{templates_weight, chains_weight}
 use Rattle.jt_semantics.proofs.InstructionBounds.{parameters_few, followed_size, stmt_sized, all_sized, scope_sized}
 use Rattle.jt_semantics.proofs.LocalBounds.{Below, globals_below, bound_below, scope_localed, stmt_localed, all_localed}
 use Rattle.jt_semantics.proofs.LocalBounds as locality
-use Rattle.jt_semantics.proofs.ConstantBounds.{followed_count, stmt_counted, all_counted, scope_counted}
+use Rattle.jt_semantics.proofs.ValueBounds.{followed_count, stmt_counted, all_counted, scope_counted}
 use Rattle.jt_semantics.proofs.EntryBounds.{followed_low, stmt_low, all_low, scope_low}
 use Rattle.jt_semantics.proofs.FreeNameWeights.{stmt_free, body_free, AllPaid, MacrosPaid, all_more, macros_more}
 use Rattle.jt_semantics.proofs.FreeNameWeights.{body_paid, templates_bound, templates_pay, chain_blocks, chain_macros}
-use Rattle.jt_semantics.proofs.FreeNameWeights.{scopes_few}
+use Rattle.jt_semantics.proofs.FreeNameWeights.{scopes_few, parameters_bound, all_append}
 use Rattle.jt_chains.specs.Includes.{InOrder}
 use Rattle.jt_semantics.proofs.EnvLookup.{namespace_same, namespace_is, no_both}
 use Rattle.jt_semantics.proofs.DefinedNames.{given_all, all_own}
@@ -61,10 +60,6 @@ bodies_append (x ∷ a) b = omega (arith, bodies_append a b)
 macros_append : (a b : List MacroBody) → macros_own (a ++ b) ≡ macros_own a + macros_own b
 macros_append [] b = omega arith
 macros_append (x ∷ a) b = omega (arith, macros_append a b)
-
-parameters_weigh : (ps : List Parameter) → 2 * length ps ≤ parameters_weight ps
-parameters_weigh [] = omega arith
-parameters_weigh (p ∷ ps) = omega (arith, parameters_weigh ps)
 
 module _ (t : Text) where
   mutual
@@ -98,45 +93,16 @@ module _ (t : Text) where
   top_once : (b : Body) (on : Bool)
       → body_own b + bodies_own (blocks_in t b on) + macros_own (macros_in t b) ≤ body_weight b
   top_once end on = omega arith
-  top_once (stmt (data_of x) rest) on = omega (arith, top_once rest on)
-  top_once (stmt (print line e) rest) on = omega (arith, top_once rest on)
-  top_once (stmt (choose bs other) rest) on =
-      omega (
-        arith,
-        top_once rest on,
-        stmt_once (choose bs other) on,
-        bodies_append (blocks_of t (choose bs other) on) (blocks_in t rest on),
-      )
-  top_once (stmt (for_each line xs e c body other) rest) on =
-      omega (
-        arith,
-        top_once rest on,
-        stmt_once (for_each line xs e c body other) on,
-        bodies_append (blocks_of t (for_each line xs e c body other) on) (blocks_in t rest on),
-      )
-  top_once (stmt (set line xs e) rest) on = omega (arith, top_once rest on)
-  top_once (stmt (set_block line x body) rest) on =
-      omega (arith, top_once rest on, body_once body on, bodies_append (blocks_in t body on) (blocks_in t rest on))
-  top_once (stmt (with_values line ps body) rest) on =
-      omega (arith, top_once rest on, body_once body on, bodies_append (blocks_in t body on) (blocks_in t rest on))
-  top_once (stmt (filter_block line fs body) rest) on =
-      omega (arith, top_once rest on, body_once body on, bodies_append (blocks_in t body on) (blocks_in t rest on))
-  top_once (stmt (autoescape line now body) rest) on =
-      omega (arith, top_once rest on, body_once body now, bodies_append (blocks_in t body now) (blocks_in t rest on))
   top_once (stmt (macro line x ps body) rest) on =
       omega (
         arith,
         top_once rest on,
         body_once body on,
         bodies_append (blocks_in t body on) (blocks_in t rest on),
-        parameters_weigh ps,
+        parameters_bound ps,
       )
-  top_once (stmt (include line n missing with_context) rest) on = omega (arith, top_once rest on)
-  top_once (stmt (import_as line n new) rest) on = omega (arith, top_once rest on)
-  top_once (stmt (import_from line n news) rest) on = omega (arith, top_once rest on)
-  top_once (stmt (extends line n) rest) on = omega (arith, top_once rest on)
-  top_once (stmt (block line x is required body) rest) on =
-      omega (arith, top_once rest on, body_once body on, bodies_append (blocks_in t body on) (blocks_in t rest on))
+  top_once (stmt s rest) on =
+      omega (arith, top_once rest on, stmt_once s on, bodies_append (blocks_of t s on) (blocks_in t rest on))
 
 abbrev templates_own : List Template → ℕ
 templates_own [] = 0
@@ -280,11 +246,6 @@ heights_placed w (r ∷ rs) n h =
 
 abbrev Low : ℕ → Routine Constant → Type 0
 Low w r = 2 * body_height r.body ≤ w
-
-low_append : (w : ℕ) (a b : List (Routine Constant)) → AllByRecursion (Low w) a → AllByRecursion (Low w) b
-    → AllByRecursion (Low w) (a ++ b)
-low_append w [] b h g = g
-low_append w (r ∷ a) b h g = (h.0, low_append w a b h.1 g)
 
 module _ (cenv : CompileEnv) (order : List Namespace) (h : Namespace) (q : ℕ) (k : HasAtMost cenv order q h) where
   sets_low : (b : Body) (t : Text) → body_bound b ≤ q
@@ -440,10 +401,10 @@ module _ (cenv : CompileEnv) (order : List Namespace) (ordered : InOrder cenv.so
       let ts = templates cenv.sources h in
       let p = is_part cenv.sources order h known in
       let k = at_most h known in
-      low_append (max 2 w) (entry_routines cenv order h)
+      all_append (Low (max 2 w)) (entry_routines cenv order h)
       (map (macro_routine cenv order h) (macros cenv.sources h) ++ body_routines cenv order h (numbered_bodies cenv h))
       (entry_low h (chain_low cenv order h q k w ts (templates_each w q ts p.paid p.bound)))
-      (low_append (max 2 w) (map (macro_routine cenv order h) (macros cenv.sources h))
+      (all_append (Low (max 2 w)) (map (macro_routine cenv order h) (macros cenv.sources h))
       (body_routines cenv order h (numbered_bodies cenv h))
       (macros_low cenv order h q k w (macros cenv.sources h) (namespace_macros h known))
       (blocks_low cenv order h q k w 0 (all_bodies cenv.sources cenv.escaping h)
@@ -453,7 +414,7 @@ module _ (cenv : CompileEnv) (order : List Namespace) (ordered : InOrder cenv.so
   chains_low : (hs : List Namespace) → ((h : Namespace) → listed h hs ≡ true → listed h order ≡ true)
       → AllByRecursion (Low (max 2 w)) (flat_map (chain_routines cenv order) hs)
   chains_low [] i = tt
-  chains_low (h ∷ hs) i = search (arith, rules, low_append, low_in_chain, namespace_is, chains_low hs)
+  chains_low (h ∷ hs) i = search (arith, rules, all_append (Low (max 2 w)), low_in_chain, namespace_is, chains_low hs)
 
 -- ---- All chains
 
@@ -490,7 +451,7 @@ module _ (cenv : CompileEnv) (order : List Namespace) (h : Namespace)
 
   chain_counted : (ts : List Template) → length (body_values (resolved_chain cenv order h ts)) ≤ templates_own ts
   chain_counted [] = omega arith
-  chain_counted (t ∷ []) = omega (arith, all_counted cenv order t.body (top_senv cenv order h t.name) k)
+  chain_counted (t ∷ []) = omega (arith, all_counted cenv order k t.body (top_senv cenv order h t.name))
   chain_counted (t ∷ (u ∷ us)) =
       omega (
         arith,
@@ -509,7 +470,7 @@ module _ (cenv : CompileEnv) (order : List Namespace) (h : Namespace)
       omega (
         arith,
         macros_counted ms,
-        scope_counted cenv order m.body sp (all_counted cenv order m.body (bound_all (set_in m.body) sp) k),
+        scope_counted cenv order k m.body sp,
         length-append (body_values r.body) (routines_values (map (macro_routine cenv order h) ms)),
         length-append (map (λ p. default_value p.default) m.parameters) (defaults_of ms),
         length-map m.parameters (λ (p : Parameter). default_value p.default),
@@ -527,7 +488,7 @@ module _ (cenv : CompileEnv) (order : List Namespace) (h : Namespace)
       omega (
         arith,
         blocks_counted (suc n) bs,
-        scope_counted cenv order b.body sp (all_counted cenv order b.body (bound_all (set_in b.body) sp) k),
+        scope_counted cenv order k b.body sp,
         length-append (body_values r) (routines_values (body_routines cenv order h (counted_from (suc n) bs))),
       )
 
@@ -597,11 +558,6 @@ globals_counted cenv order (h ∷ hs) k = omega (arith, k h, globals_counted cen
 
 abbrev Holds : {K : Type 0} → ℕ → Routine K → Type 0
 Holds n r = r.locals ≤ n
-
-holds_append : (n : ℕ) (a b : List (Routine Constant)) → AllByRecursion (Holds n) a → AllByRecursion (Holds n) b
-    → AllByRecursion (Holds n) (a ++ b)
-holds_append n [] b h g = g
-holds_append n (r ∷ a) b h g = (h.0, holds_append n a b h.1 g)
 
 module _ (cenv : CompileEnv) (order : List Namespace) (n : ℕ) (some : 1 ≤ n)
     (few : (h : Namespace) (x : Text) → length (block_parameters cenv order h x) ≤ n) (h : Namespace) where
@@ -691,10 +647,10 @@ module _ (cenv : CompileEnv) (order : List Namespace) (n : ℕ) (some : 1 ≤ n)
       → AllByRecursion (Holds n) (chain_routines cenv order h)
   localed_in_chain k room =
       let once = chain_once cenv.escaping (templates cenv.sources h) in
-      holds_append n (entry_routines cenv order h)
+      all_append (Holds n) (entry_routines cenv order h)
       (map (macro_routine cenv order h) (macros cenv.sources h) ++ body_routines cenv order h (numbered_bodies cenv h))
       (entry_localed h (chain_localed (templates cenv.sources h) (omega (arith, room, once))))
-      (holds_append n (map (macro_routine cenv order h) (macros cenv.sources h))
+      (all_append (Holds n) (map (macro_routine cenv order h) (macros cenv.sources h))
       (body_routines cenv order h (numbered_bodies cenv h))
       (macros_localed (macros cenv.sources h)
       (all_own cenv.sources (λ m. length m.parameters ≤ 200) h (macros cenv.sources h) _ k.macros)
@@ -708,7 +664,7 @@ chains_localed : (cenv : CompileEnv) (order hs : List Namespace) (n : ℕ) (some
     → AllByRecursion (Holds n) (flat_map (chain_routines cenv order) hs)
 chains_localed cenv order [] n some few k room = tt
 chains_localed cenv order (h ∷ hs) n some few k room =
-    holds_append n (chain_routines cenv order h) (flat_map (chain_routines cenv order) hs)
+    all_append (Holds n) (chain_routines cenv order h) (flat_map (chain_routines cenv order) hs)
     (localed_in_chain cenv order n some few h k.0 (omega (arith, room)))
     (chains_localed cenv order hs n some few k.1 (omega (arith, room)))
 

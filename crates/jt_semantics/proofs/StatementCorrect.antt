@@ -76,17 +76,7 @@ mutual
       (under_among bs ns (among_front (branch_names bs) (body_names other) ns a))
       (in_among other ns (among_back (branch_names bs) (body_names other) ns a))
   set_among (for_each line xs e c body other) ns a = search (arith, rules, among_back, in_among other ns)
-  set_among (data_of t) ns a = tt
-  set_among (print line e) ns a = tt
-  set_among (with_values line ps body) ns a = tt
-  set_among (filter_block line fs body) ns a = tt
-  set_among (autoescape line on body) ns a = tt
-  set_among (macro line x ps body) ns a = tt
-  set_among (include line n i w) ns a = tt
-  set_among (import_as line n new) ns a = tt
-  set_among (import_from line n news) ns a = tt
-  set_among (extends line n) ns a = tt
-  set_among (block line x s r body) ns a = tt
+  set_among a0 ns a = tt
 
   pub in_among : (b : Body) (ns : List Text) → AllAmong (body_names b) ns → AllAmong (set_in b) ns
   in_among end ns a = tt

@@ -111,10 +111,6 @@ distinct_added : (j : ℕ) (s : Session) (es : List (ℕ × Session)) → find j
 distinct_added j s [] h d = (refl, tt)
 distinct_added j s (e ∷ es) h d = search (arith, rules, absent_front, find_other, other, distinct_added j s es)
 
-below_more : (n m : ℕ) (es : List (ℕ × Session)) → n ≤ m → Below n es → Below m es
-below_more n m [] h b = tt
-below_more n m (e ∷ es) h b = (omega (arith, h, b.0), below_more n m es h b.1)
-
 below_replace : (n j : ℕ) (t : Session) (es : List (ℕ × Session)) → Below n es → Below n (replace j t es)
 below_replace n j t [] b = tt
 below_replace n j t (e ∷ es) b = search (arith, rules, below_replace n j t es b.1, same)

@@ -5,7 +5,7 @@ use Rattle.std.proofs.Common.{append-nil, is_some, option_map, option_to_list, r
 use Rattle.std.specs.Prelude.{◌==◌, IfOk, IsErrAnd, MatchResult, Result, Ok, Err, String, string_bytes}
 use Rattle.std.specs.declared.alloc.AllocError.{AllocError}
 use Rattle.std.specs.declared.alloc.Global.{Global}
-use Rattle.std.proofs.lemmas.Bool.{eqb-true, eq-eqb}
+use Rattle.std.proofs.lemmas.Bool.{eqb-true, eq-eqb, and_parts}
 use Rattle.jt_image.specs.Code.{Code}
 use Rattle.jt_image.specs.Config.{Outcome}
 use Rattle.jt_machine.specs.Session.{Session, RunStage, SessionLaws, advanced, end_of, moved, outcome_of}
@@ -57,9 +57,6 @@ moved_are_numbered n ds es h is = (moved_length ds es h ∙ is.0, moved_numbered
 
 -- ---- sessions by their ids
 
-both : (a b : Bool) → (a && b) ≡ true → (a ≡ true) × (b ≡ true)
-both a0 b e = search (arith, rules, false_true)
-
 pub numbered_found : (i j n : ℕ) (es : List (ℕ × Session)) → j ≡ i + n → AreNumbered i es → n < length es
     → (s : Session) × (find j es ≡ Some s)
 numbered_found i j n [] is h within = absurd (omega (arith, within))
@@ -74,7 +71,7 @@ numbered_found i j (suc n) (x ∷ es) is h within =
 pub ended_at : (j : ℕ) (s : Session) (es : List (ℕ × Session)) → have_ended es ≡ true → find j es ≡ Some s
     → is_some (outcome_of s) ≡ true
 ended_at j s [] h e = absurd (cc)
-ended_at j s (x ∷ es) h e = search (arith, rules, ended_at j s es, is_some, both)
+ended_at j s (x ∷ es) h e = search (arith, rules, ended_at j s es, is_some, and_parts)
 
 -- If the first `n` sessions have ended and the next one ends, the first `n + 1` have ended.
 pub ended_more : (i j n : ℕ) (t : Session) (es : List (ℕ × Session)) → j ≡ i + n → AreNumbered i es
@@ -83,7 +80,7 @@ pub ended_more : (i j n : ℕ) (t : Session) (es : List (ℕ × Session)) → j 
 ended_more i j n t [] is h end so = refl
 ended_more i j zero t (x ∷ es) is h end so = search (arith, rules, eq-eqb)
 ended_more i j (suc n) t (x ∷ es) is h end so =
-    search (arith, rules, both, is_some, ended_more (i + 1) j n t es (omega (arith, is)) h.1 end, eqb-true)
+    search (arith, rules, and_parts, is_some, ended_more (i + 1) j n t es (omega (arith, is)) h.1 end, eqb-true)
 
 -- ---- a turn
 
@@ -142,7 +139,7 @@ lines_more i j (suc n) s o (x ∷ es) is h most so found end =
       rules,
       lines_more (i + 1) j n s o es (omega (arith, is)) h.1 (omega (arith, most)),
       is_some,
-      both,
+      and_parts,
       eqb-true,
       false_true,
       append_assoc,
@@ -187,7 +184,7 @@ still_sessions laws i a2 a3 a4 h m = search (arith, rules)
 pub outcomes_are : (i : ℕ) (os : List Opening) (es : List (ℕ × Session)) → AreSessions i os es → have_ended es ≡ true
     → AreOutcomes os (outcomes es)
 outcomes_are i (o ∷ os) (e ∷ es) h so =
-    search (arith, rules, outcomes_are (i + 1) os es h.2, is_some, both, option_to_list, false_true, run_of)
+    search (arith, rules, outcomes_are (i + 1) os es h.2, is_some, and_parts, option_to_list, false_true, run_of)
 outcomes_are i a1 a2 h so = search (arith, rules)
 
 -- The result is the text of the outcomes, or lack of memory.

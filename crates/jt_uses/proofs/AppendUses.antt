@@ -9,16 +9,6 @@ use Rattle.jt_uses.specs.Uses.{Site, place_at, expr_uses, row_uses, pair_uses, s
 use Rattle.jt_uses.specs.declared.site.Place.{Place}
 use Rattle.jt_uses.specs.declared.site.Enclosing.{Enclosing}
 
-pub expression_added : (p : Place) (ts : List Expr) (i : ℕ) (t : Expr) (old new : List Site) → i < length ts → t ≡
-    get_or ts i t → new ≡ old ++ expr_uses (expr_view t) p
-    → new ++ row_uses (exprs_view (drop (i + 1) ts)) p ≡ old ++ row_uses (exprs_view (drop i ts)) p
-expression_added p ts i t old new lt is e = search (arith, rules, append_assoc, row_left)
-
-pub entry_added : (p : Place) (qs : List Entry) (i : ℕ) (q : Entry) (old new : List Site) → i < length qs → q ≡ get_or
-    qs i q → new ≡ old ++ expr_uses (expr_view q.1) p
-    → new ++ pair_uses (pairs_view (drop (i + 1) qs)) p ≡ old ++ pair_uses (pairs_view (drop i qs)) p
-entry_added p qs i q old new lt is e = search (arith, rules, append_assoc, pairs_left)
-
 pub statement_added : (w : Enclosing) (ss : List Stmt) (i : ℕ) (s : Stmt) (old new : List Site) → i < length ss → s ≡
     get_or ss i s → new ≡ old ++ stmt_uses (stmt_view s) w
     → new ++ body_uses (body_view (drop (i + 1) ss)) w ≡ old ++ body_uses (body_view (drop i ss)) w

@@ -224,16 +224,3 @@ has_room (search.Indexed indices) n p h = absurd (omega arith)
 none : (m : ℕ) → (0 < m → ⊥) → m ≤ 0 + 1
 none zero h = omega arith
 none (suc m) h = absurd (h (omega arith))
-
--- One more name takes at most one index.
-pub room_left : (s r : KeySearch) (n p q : ℕ) → (0 < room s n p → IsLinear r) → p ≤ q
-    → room s n p ≤ room r (n + 1) q + 1
-room_left s search.Linear n p q few le = linear s few
-  where
-    linear : (s : KeySearch) → (0 < room s n p → IsLinear search.Linear)
-        → room s n p ≤ room search.Linear (n + 1) q + 1
-    linear search.Linear few = omega (arith, le)
-    linear search.Binary few = omega arith
-    linear (search.Indexed indices) few = omega arith
-room_left s search.Binary n p q few le = none (room s n p) (λ h. few h)
-room_left s (search.Indexed indices) n p q few le = none (room s n p) (λ h. few h)

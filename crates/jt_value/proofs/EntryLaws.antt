@@ -3,12 +3,13 @@ use Rattle.std.proofs.Common.{◌≡◌, ℕ, Bool, true, false, cond, List, Opt
 use Rattle.std.specs.Prelude.{is_some}
 use Rattle.std.specs.Option.{option_map_or}
 use Rattle.std.specs.Str.{bytes_eq}
+use Rattle.std.proofs.lemmas.Bool.{and_from}
 use Rattle.jt_value.specs.Tree as tree
 use Rattle.jt_value.specs.Tree.{Tree, Entries, no_entries, entry}
 use Rattle.jt_value.specs.Entries.{entry_of, has_key, all_keys}
 use Rattle.jt_value.specs.Equality.{equal, equal_at, agree, AgreeAtEachKey}
 use Rattle.jt_value.proofs.Lists.{more_entries}
-use Rattle.jt_value.proofs.Equalities.{reflexive, left_true, right_true, both_true, equal_at-entry_of, holds_of, all_of}
+use Rattle.jt_value.proofs.Equalities.{reflexive, left_true, right_true, equal_at-entry_of, holds_of, all_of}
 
 -- A key occurs exactly if it has a first value.
 pub has_key-entry_of : (k : List ℕ) (es : Entries) → has_key k es ≡ is_some (entry_of k es)
@@ -95,7 +96,7 @@ equal-agree es fs h k = by (has_key k es) refl
         ∙ ap (λ o. agree None o) (other (has_key k fs) refl p)
 
 pub agree-equal : (es fs : Entries) → AgreeAtEachKey es fs → equal (tree.map es) (tree.map fs) ≡ true
-agree-equal es fs h = both_true (all_keys (λ n. equal_at es n (entry_of n fs)) es) (all_keys (λ n. has_key n es) fs)
+agree-equal es fs h = and_from (all_keys (λ n. equal_at es n (entry_of n fs)) es) (all_keys (λ n. has_key n es) fs)
     (all_of (λ n. equal_at es n (entry_of n fs)) es
     (λ k there. equal_at-entry_of es k (entry_of k fs)
     ∙ there-agree (entry_of k es) (entry_of k fs) (sym (has_key-entry_of k es) ∙ there) (h k)))

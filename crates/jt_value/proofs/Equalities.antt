@@ -4,6 +4,7 @@ use Rattle.std.proofs.Common.{take, get_or, Option, Some, string_bytes, refl, sy
 use Rattle.std.specs.Option.{option_map_or}
 use Rattle.std.specs.Str.{bytes_eq}
 use Rattle.std.specs.Cmp.Lexicographic.{nat_list_eq_equiv, same_text}
+use Rattle.std.proofs.lemmas.Bool.{and_from}
 use Rattle.jt_value.specs.Tree.{Tree, Entries, no_entries, entry}
 use Rattle.jt_value.specs.View.{view, items_view, entries_view}
 use Rattle.jt_value.specs.Entries.{entry_of, has_key, all_keys, same_keys}
@@ -22,9 +23,6 @@ left_true false b h = h
 pub right_true : (a b : Bool) → (a && b) ≡ true → b ≡ true
 right_true true b h = h
 right_true false b h = absurd (true≢false (sym h))
-
-pub both_true : (a b : Bool) → a ≡ true → b ≡ true → (a && b) ≡ true
-both_true a b p q = ap (λ x. x && b) p ∙ q
 
 pub reflexive : (k : List ℕ) → bytes_eq k k ≡ true
 reflexive k = nat_list_eq_equiv.refl k
@@ -55,9 +53,9 @@ equal_at-entry_of (entry l t es) k other = by (bytes_eq l k) (equal_at-entry_of 
 -- one.
 all_keys-more : (test : List ℕ → Bool) (es : Entries) (k : List ℕ) (u : Tree) → all_keys test es ≡ true → test k ≡ true
     → all_keys test (more_entries es k u) ≡ true
-all_keys-more test no_entries k u h p = both_true (test k) true p refl
+all_keys-more test no_entries k u h p = and_from (test k) true p refl
 all_keys-more test (entry l t es) k u h p =
-    both_true (test l) (all_keys test (more_entries es k u)) (left_true (test l) (all_keys test es) h)
+    and_from (test l) (all_keys test (more_entries es k u)) (left_true (test l) (all_keys test es) h)
     (all_keys-more test es k u (right_true (test l) (all_keys test es) h) p)
 
 -- A test of all keys holds of each key of the map.
@@ -77,7 +75,7 @@ pub all_of : (test : List ℕ → Bool) (es : Entries) → ((k : List ℕ) → h
     → all_keys test es ≡ true
 all_of test no_entries h = refl
 all_of test (entry l t es) h =
-    both_true (test l) (all_keys test es) (h l (ap (λ b. cond b true (has_key l es)) (reflexive l)))
+    and_from (test l) (all_keys test es) (h l (ap (λ b. cond b true (has_key l es)) (reflexive l)))
     (all_of test es (λ k there. h k (later (bytes_eq l k) (has_key k es) there)))
   where
     later : (a b : Bool) → b ≡ true → cond a true b ≡ true

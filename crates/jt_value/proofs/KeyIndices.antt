@@ -99,13 +99,6 @@ abbrev pub IsKept : List Pair → ℕ → BTreeMap (String Global) ℕ → Type 
 IsKept xs i indices =
     (k : List ℕ) → get_by_text indices k ≡ option_map (λ p. i + p) (index_of k (entries_view (drop i xs)))
 
-pub kept_none : (xs : List Pair) (i : ℕ) (indices : BTreeMap (String Global) ℕ) → i ≡ length xs → indices.entries ≡ []
-    → IsKept xs i indices
-kept_none xs i indices e none k =
-    ap (λ (es : List (String Global × ℕ)). lookup (is_at (λ n. slice_cmp nat_cmp k (string_bytes n))) es) none
-    ∙ sym (ap (λ (l : List Pair). option_map (λ p. i + p) (index_of k (entries_view l)))
-    (ap (λ n. drop n xs) e ∙ drop-length xs))
-
 pub kept_more : (xs : List Pair) (i j : ℕ) (e : Pair) (n : List ℕ) (old new : BTreeMap (String Global) ℕ) → j ≡ i + 1
     → i < length xs → e ≡ get_or xs i e → n ≡ string_bytes e.0 → IsKept xs j old
     → ((k : List ℕ) → get_by_text new k ≡ update bytes_eq (get_by_text old) n (Some i) k) → IsKept xs i new

@@ -14,6 +14,7 @@ use Rattle.std.specs.Ordering.{nat_cmp, is_lt}
 use Rattle.std.specs.Cmp.Lexicographic.{slice_cmp, same_text}
 use Rattle.std.specs.String.{string_eq, string_cmp_total}
 use Rattle.std.proofs.lemmas.Map.Views.{All-found}
+use Rattle.std.proofs.lemmas.Bool.{and_from}
 use Rattle.jt_value.specs.Tree as tree
 use Rattle.jt_value.specs.Tree.{Tree, Entries, no_entries, entry, size, entries_size}
 use Rattle.jt_value.specs.Entries.{entry_of, index_of, has_key, keys, stands_before, ascends}
@@ -22,7 +23,7 @@ use Rattle.jt_value.specs.internal.InOrder.{IsInOrder, HasKeyCount, first_and, e
 use Rattle.jt_value.specs.View.{view, entries_view}
 use Rattle.jt_value.proofs.AscendingKeys.{before_all, not_itself, firsts_same, own}
 use Rattle.jt_value.proofs.EntryLaws.{has_key-entry_of, entry_of-own, missing, equal-agree, agree-equal}
-use Rattle.jt_value.proofs.Equalities.{reflexive, left_true, right_true, both_true}
+use Rattle.jt_value.proofs.Equalities.{reflexive, left_true, right_true}
 use Rattle.jt_value.proofs.KeyIndices.{has_key-index_of, size_lt}
 use Rattle.jt_value.proofs.Lists.{Pair}
 use Rattle.jt_value.proofs.ContextLookup.{same_key}
@@ -92,8 +93,8 @@ one_more : (k : List ℕ) (t u : Tree) (es fs : Entries) → ascends (entry k t 
     → AgreeAtEachKey (entry k t es) (entry k u fs)
     → (AgreeAtEachKey es fs → alike es fs ≡ true) → alike (entry k t es) (entry k u fs) ≡ true
 one_more k t u es fs a b h rest =
-    both_true (bytes_eq k k) (equal t u && alike es fs) (reflexive k)
-    (both_true (equal t u) (alike es fs) values (rest behind))
+    and_from (bytes_eq k k) (equal t u && alike es fs) (reflexive k)
+    (and_from (equal t u) (alike es fs) values (rest behind))
   where
     values : equal t u ≡ true
     values =
@@ -192,7 +193,7 @@ unfolding IsStrictlySortedBy
 kept_ascends xs [] h s = refl
 kept_ascends xs (m ∷ ms) h s =
     ap ascends ((first_kept xs m ms h).1 (entries_at xs (values_of ms)))
-    ∙ both_true (stands_before (string_bytes m.0) (entries_at xs (values_of ms)))
+    ∙ and_from (stands_before (string_bytes m.0) (entries_at xs (values_of ms)))
     (ascends (entries_at xs (values_of ms)))
     (stands_before_kept xs m.0 ms (behind xs m ms h) s.0) (kept_ascends xs ms (behind xs m ms h) s.1)
 

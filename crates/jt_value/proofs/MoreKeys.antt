@@ -8,11 +8,12 @@ use Rattle.std.specs.Ordering.{is_lt}
 use Rattle.std.specs.Map.{update}
 use Rattle.std.specs.Cmp.Lexicographic.{slice_cmp, same_text}
 use Rattle.std.specs.BTreeMap.{BTreeMap, get_by_text}
+use Rattle.std.proofs.lemmas.Bool.{and_from}
 use Rattle.jt_value.specs.Tree.{Tree}
 use Rattle.jt_value.specs.Entries.{index_of, ascends}
 use Rattle.jt_value.specs.View.{entries_view}
 use Rattle.jt_value.specs.internal.MoreEntries.{more_entries}
-use Rattle.jt_value.proofs.Equalities.{left_true, right_true, both_true}
+use Rattle.jt_value.proofs.Equalities.{left_true, right_true}
 use Rattle.jt_value.proofs.Lists.{Pair}
 
 -- A new key has the index after the last one, and every other key keeps its index.
@@ -63,12 +64,12 @@ pub ascends-more : (xs : List Pair) (i : ℕ) (e : Pair) (l : List ℕ) (u : Tre
     → ascends (entries_view xs) ≡ true → ascends (more_entries (entries_view xs) l u) ≡ true
 ascends-more [] i e l u last is less up = absurd (omega (arith, last))
 ascends-more (x ∷ []) zero e l u last is less up =
-    both_true (is_lt (slice_cmp nat_cmp (string_bytes x.0) l)) true
+    and_from (is_lt (slice_cmp nat_cmp (string_bytes x.0) l)) true
     (ap (λ (y : Pair). is_lt (slice_cmp nat_cmp (string_bytes y.0) l)) (sym is) ∙ less) refl
 ascends-more (x ∷ []) (suc i) e l u last is less up = absurd (omega (arith, last))
 ascends-more (x ∷ y ∷ xs) zero e l u last is less up = absurd (omega (arith, last))
 ascends-more (x ∷ y ∷ xs) (suc i) e l u last is less up =
-    both_true (is_lt (slice_cmp nat_cmp (string_bytes x.0) (string_bytes y.0)))
+    and_from (is_lt (slice_cmp nat_cmp (string_bytes x.0) (string_bytes y.0)))
     (ascends (more_entries (entries_view (y ∷ xs)) l u))
     (left_true (is_lt (slice_cmp nat_cmp (string_bytes x.0) (string_bytes y.0))) (ascends (entries_view (y ∷ xs))) up)
     (ascends-more (y ∷ xs) i e l u (omega (arith, last)) is less

@@ -1,7 +1,7 @@
 -- The paths on which templates lead from one name to another. Only private clauses cite this
 -- module.
 use Rattle.std.specs.Prelude.{◌≡◌, ℕ, ◌≤◌, ◌⊎◌, ◌++◌, true, false, IsTrue, List, [], ◌∷◌, Option, Some, None, length}
-use Rattle.std.specs.Prelude.{map, Result, Ok, Err, Vec}
+use Rattle.std.specs.Prelude.{map, slice_get, Result, Ok, Err, Vec}
 use Rattle.std.specs.Coded.{×_prop, Coded-set, coded_bool, coded_list, coded_ℕ}
 use Rattle.std.specs.List.{AllByRecursion}
 use Rattle.std.specs.declared.alloc.Global.{Global}
@@ -119,6 +119,10 @@ SaysAll given options ps h f =
     (root : Text)
     → Reaches (sources_in (files_view ps)) options.autoescape (a_chain root) h
     → Says given root options f.place f.subject f.error
+
+-- The index of the name is the only one.
+abbrev pub IsAt : List Text → Text → Vec ℕ Global → Type 0
+IsAt names n is = (i : ℕ) × (is.items ≡ i ∷ []) × (slice_get names i ≡ Some n)
 
 -- The templates of a chain or a library are read, or the finding is true for each chain that reaches
 -- it.

@@ -13,20 +13,23 @@ use Rattle.jt_inherit.specs.internal.Along.{needs_along, needs_of}
 use Rattle.jt_chains.specs.Chain as chain
 use Rattle.jt_chains.specs.Chain.{Template, a_chain, a_library, namespace_name, listed, sources_in}
 use Rattle.jt_inherit.specs.Chains.{SourceTexts}
+use Rattle.jt_inherit.specs.Findings.{IsNoMemory}
 use Rattle.jt_inherit.specs.internal.Faults.{IsFaultOf}
 use Rattle.jt_inherit.specs.internal.RuleTests.{BreakOne, KeepAll}
 use Rattle.jt_chains.specs.Names.{IsName}
-use Rattle.jt_chains.specs.Needs.{Need, need_namespace, need_view, needed}
+use Rattle.jt_chains.specs.Needs.{Need, need_namespace, need_view}
 use Rattle.jt_chains.specs.TemplateFiles.{files_view, namespace_view}
 use Rattle.jt_chains.specs.Indices.{namespace_at}
 use Rattle.jt_chains.specs.Rules.{max_chains, Asks, Reaches}
 use Rattle.jt_inherit.specs.internal.Sets.{names_view, namespaces_view}
 use Rattle.jt_inherit.specs.internal.ExtendsPaths.{AreKnown, IsExtendsPath}
+use Rattle.jt_inherit.specs.internal.Placing.{IsIncludedMore}
 use Rattle.jt_inherit.specs.declared.discovery.Discovery.{Discovery}
 use Rattle.jt_inherit.specs.declared.sets.Names.{Names}
 use Rattle.jt_chains.specs.declared.include_tags.NeededTemplate.{NeededTemplate}
 use Rattle.jt_chains.specs.declared.files.TemplateFile.{TemplateFile}
 use Rattle.jt_inherit.specs.declared.error.ChainError.{ChainError}
+use Rattle.jt_inherit.specs.declared.finding.ChainFinding.{ChainFinding}
 use Rattle.jt_chains.specs.declared.chain.Namespace.{Namespace}
 use Rattle.jt_inherit.specs.declared.error.ChainError.TheVariants as error
 
@@ -40,15 +43,6 @@ IsMet given known n =
 abbrev pub IsFaultAt : SourceTexts → Options → Need → ChainError → Type 0
 IsFaultAt given options n e =
     IsFaultOf e given n.name options × (e ≡ error.Missing → n.ignoring ≡ false)
-
--- The error is one of an included or imported template; it is `Missing` only for a template that
--- may not be missing.
-pub record IsNeedFault (given : SourceTexts) (options : Options) (ns : List Need) (e : ChainError) :
-    Type 0 where
-  pub name : Text
-  pub asked : IsTrue (among name (needed true ns))
-  pub must : e ≡ error.Missing → IsTrue (among name (needed false ns))
-  pub fault : IsFaultOf e given name options
 
 -- The includes and imports whose templates are known.
 abbrev pub known_of : List Text → List Need → List Need
@@ -84,23 +78,28 @@ pub record AreNext (old new names : List chain.Namespace) (numbers : List ℕ) :
       → IsTrue (listed h old) ⊎ IsTrue (listed h names)
   pub numbered : map (slice_get new) numbers ≡ map Some names
 
--- The old namespaces and `names` have together more than 1,024 chains.
-abbrev pub TooMany : List chain.Namespace → List chain.Namespace → Type 0
-TooMany old names =
-    (ns : List Text)
-    × (max_chains < length ns)
-    × (repeated ns ≡ false)
-    × ((n : Text)
-    → IsTrue (among n ns)
-    → IsTrue (listed (a_chain n) old) ⊎ IsTrue (listed (a_chain n) names))
+-- The old namespaces and `names` have together more than 1,024 chains. The chain of the name is
+-- among `names`.
+pub record TooMany (old names : List chain.Namespace) (n : Text) : Type 0 where
+  pub chains : List Text
+  pub many : max_chains < length chains
+  pub once : repeated chains ≡ false
+  pub from : (m : Text) → IsTrue (among m chains)
+      → IsTrue (listed (a_chain m) old) ⊎ IsTrue (listed (a_chain m) names)
+  pub this_one : IsTrue (among n chains)
+  pub led : IsTrue (listed (a_chain n) names)
 
 -- The numbers are appended to the numbers before.
 abbrev pub AddsNext : List chain.Namespace → List chain.Namespace → List chain.Namespace → List ℕ → List ℕ → Type 0
 AddsNext old new names before after =
     (numbers : List ℕ) × (after ≡ before ++ numbers) × AreNext old new names numbers
 
-abbrev pub IsNextFault : List chain.Namespace → List chain.Namespace → ChainError → Type 0
-IsNextFault old names e = (e ≡ error.NoMemory) ⊎ ((e ≡ error.ChainTooLong) × TooMany old names)
+abbrev pub IsNextFault : List chain.Namespace → List chain.Namespace → Text → ChainError → Type 0
+IsNextFault old names n e = (e ≡ error.NoMemory) ⊎ ((e ≡ error.ChainTooLong) × TooMany old names n)
+
+-- The finding is lack of memory, or that of a chain that is one too many.
+abbrev pub IsNextFinding : List chain.Namespace → List chain.Namespace → List Template → ChainFinding → Type 0
+IsNextFinding old names ts f = IsNoMemory f ⊎ ((n : Text) × TooMany old names n × IsIncludedMore ts n f)
 
 -- The error of an append: lack of memory, or the namespace is a chain and the greatest number of
 -- chains is reached.
@@ -108,10 +107,6 @@ abbrev pub IsPutFault : List chain.Namespace → chain.Namespace → Text → Ch
 IsPutFault old h n e =
     (e ≡ error.NoMemory)
     ⊎ ((e ≡ error.ChainTooLong) × (length (chains_of old) ≡ max_chains) × (h ≡ a_chain n))
-
--- The error of an include or import, or lack of memory.
-abbrev pub IsNeedRefusal : SourceTexts → Options → List Need → ChainError → Type 0
-IsNeedRefusal given options ns e = (e ≡ error.NoMemory) ⊎ IsNeedFault given options ns e
 
 -- The namespaces that one include or import leads to, and the namespaces that the templates at some
 -- indices lead to.
@@ -140,6 +135,12 @@ AreFollowed given ts hs [] (w ∷ ws) (n ∷ ns) = ⊥
 AreFollowed given ts hs (g ∷ gs) (w ∷ ws) (n ∷ ns) =
     IsFollowed given ts hs g w n × AreFollowed given ts hs gs ws ns
 
+-- A chain or library on one of the paths includes or imports the chain or library.
+abbrev pub IsLedTo : List Template → List (List ℕ) → chain.Namespace → Type 0
+IsLedTo ts extends_paths h =
+    (i : ℕ) × (i < length extends_paths)
+    × IsTrue (listed h (chosen (map (λ t. t.name) ts) (needs_along ts (next_of extends_paths i))))
+
 -- The templates that were read, and the chains and libraries that were found, the entry's chain
 -- first.
 pub record AreFound (given : SourceTexts) (options : Options) (root : Text) (ts : List Template) (names : List Text)
@@ -152,6 +153,7 @@ pub record AreFound (given : SourceTexts) (options : Options) (root : Text) (ts 
   pub few : length (chains_of hs) ≤ max_chains
   pub reached : (h : chain.Namespace) → IsTrue (listed h hs)
       → Reaches (sources_in ts) options.autoescape (a_chain root) h
+  pub led : (h : chain.Namespace) → IsTrue (listed h hs) → (h ≡ a_chain root) ⊎ IsLedTo ts extends_paths h
   pub followed : AreFollowed given ts hs hs extends_paths next
 
 abbrev pub found_templates : Discovery → List Template

@@ -1,11 +1,12 @@
 -- A ring of chains and libraries, by their numbers. Only private clauses cite this module.
-use Rattle.std.specs.Prelude.{◌≡◌, ◌&&◌, ℕ, Bool, true, List, [], ◌∷◌, map, Option, Some, None, string_bytes}
+use Rattle.std.specs.Prelude.{◌≡◌, ◌&&◌, ℕ, Bool, true, List, [], ◌∷◌, map, Option, Some, None, option_map}
+use Rattle.std.specs.Prelude.{string_bytes}
 use Rattle.jt_graph.specs.Graph.{Graph, among, next_of}
 use Rattle.jt_ast.specs.Expressions.{Text}
-use Rattle.jt_chains.specs.Along.{templates_at}
 use Rattle.jt_chains.specs.Chain.{Namespace, namespace_name, Template}
 use Rattle.jt_chains.specs.Indices.{namespace_at}
-use Rattle.jt_inherit.specs.Findings.{HasTag, leads_to}
+use Rattle.jt_inherit.specs.internal.Imported.{leading_at}
+use Rattle.jt_inherit.specs.internal.Tags.{place_view}
 use Rattle.jt_inherit.specs.declared.error.ChainError.TheVariants as error
 use Rattle.jt_inherit.specs.declared.finding.ChainFinding.{ChainFinding}
 use Rattle.jt_inherit.specs.declared.finding.ChainSubject.{ChainSubject}
@@ -27,19 +28,19 @@ name_at hs i = namespace_name (namespace_at hs i)
 
 module _ (ts : List Template) (hs : List Namespace) (extends_paths next : List (List ℕ)) where
   -- The numbers are a ring with these names. A tag of the last one leads to the first one.
-  pub record IsRingOf (name : Text) (rest : List Text) (p : TagPlace) : Type 0 where
+  pub record IsRingOf (name : Text) (rest : List Text) (p : Option TagPlace) : Type 0 where
     pub first : ℕ
     pub others : List ℕ
     pub round : leads_round next first others first ≡ true
     pub first_name : name ≡ name_at hs first
     pub other_names : rest ≡ map (name_at hs) others
     pub tag :
-        HasTag (leads_to (namespace_at hs first)) (templates_at ts (next_of extends_paths (last_number first others))) p
+        option_map place_view p ≡ leading_at ts extends_paths (namespace_at hs first) (last_number first others)
 
-  abbrev pub RingAt : Option TagPlace → Option ChainSubject → Type 0
+  abbrev pub RingAt : Option ChainSubject → Option TagPlace → Type 0
+  RingAt (Some (v.Ring n rest)) p = IsRingOf (string_bytes n) (map string_bytes rest.items) p
   RingAt None None = Unit {0}
-  RingAt (Some p) (Some (v.Ring n rest)) = IsRingOf (string_bytes n) (map string_bytes rest.items) p
-  RingAt p x = ⊥
+  RingAt x p = ⊥
 
   abbrev pub IsOfRing : ChainFinding → Type 0
-  IsOfRing f = (f.error ≡ error.IncludeCycle) × RingAt f.place f.subject
+  IsOfRing f = (f.error ≡ error.IncludeCycle) × RingAt f.subject f.place

@@ -1,6 +1,6 @@
 -- The tags of wanted uses. Only private clauses cite this module.
-use Rattle.std.specs.Prelude.{◌≡◌, ◌+◌, ℕ, Bool, false, true, IsTrue, List, map, filter, drop, slice_get, Some}
-use Rattle.std.specs.Prelude.{string_bytes}
+use Rattle.std.specs.Prelude.{◌≡◌, ◌+◌, ℕ, Bool, false, true, IsTrue, List, map, filter, drop, slice_get, Option, Some}
+use Rattle.std.specs.Prelude.{option_map, string_bytes}
 use Rattle.std.specs.List.{AllByRecursion}
 use Rattle.jt_ast.specs.Expressions.{Text}
 use Rattle.jt_uses.specs.Uses as uses
@@ -50,6 +50,10 @@ with_name n ss = map (λ s. (n, s)) ss
 -- The uses that pass the test.
 abbrev pub tags : (Use → Bool) → List (Text × Site) → List (Text × Site)
 tags test xs = filter (λ x. test x.1.made) xs
+
+-- The place of the tag at a number.
+abbrev pub place_in : ℕ → List (Text × Site) → Option (Text × ℕ)
+place_in k xs = option_map place_of (slice_get xs k)
 
 -- Among the blocks, one calls `super()` in a tag at the line, and each further one is required.
 pub record IsLastCall (blocks : List (Text × Site)) (tag : Text × Site) (line : ℕ) : Type 0 where

@@ -20,7 +20,7 @@ returns-clause-emitted c = λ templates.
     c.deref.ensures.value (c.in_ok-emit_statements.ensures templates 0 (stands_itself 0)) in
     unit_emitted templates c.args.routine.now c.new-code.result c.emit_statements.new.code c.put.new.self
     c.new-code.ensures.empty c.new-code.ensures.whole body (c.in_ok-put.ensures templates op.Return refl)
-    c.in-Ok.parameters c.in-Ok-try_from.locals c.in-Ok.ensures.1 c.in-Ok-try_from.ensures.1 c.if-code.false
+    _ _ refl refl c.if-code.false
 
 pub returns-clause-within : goal.returns-clause-within
 returns-clause-within c =

@@ -1,7 +1,7 @@
 use Rattle.jt_chains.specs.View.{chain_view}
 use Rattle.jt_checks.specs.FindingView.{finding_view}
 use Rattle.jt_codegen.proofs.ChainImages.{only_chain}
-use Rattle.jt_codegen.proofs.Findings.{chain_asked, chain_found, image_explained, rule_found}
+use Rattle.jt_codegen.proofs.Findings.{chain_asked, chain_found, rule_found}
 use Rattle.jt_codegen.proofs.explaining.explain.Goals as goal
 
 pub returns-in-Err : goal.returns-in-Err
@@ -19,8 +19,8 @@ returns-in-Some g c =
     (rw c.in-Some.is at c.in_ok-found.ensures.found) (rw c.in-Some.is at c.in_ok-found.ensures.holds)
     c.in_ok-of_rule-in-Some.field-0 c.in_ok-of_rule-in-Some.ensures
 
-pub compile_chain-requires : goal.compile_chain-requires
-compile_chain-requires g c = (
+pub explain_image-requires-clause-of : goal.explain_image-requires-clause-of
+explain_image-requires-clause-of g c = (
   record {
     given = g.L.Library.sources c.args.library.now;
     entry = c.args.entry.now;
@@ -30,23 +30,14 @@ compile_chain-requires g c = (
       c.in-Ok.ensures.chained c.in-Ok.ensures.only c.in-Ok.ensures.weighs c.in-Ok.ensures.short c.in-Ok.ensures.few,
 )
 
-pub returns-in-Ok-compile_chain : goal.returns-in-Ok-compile_chain
-returns-in-Ok-compile_chain g c = (
-  c.in-Ok-compile_chain._image,
-  c.in-Ok-compile_chain.ensures.compiled _
-      (chain_asked (g.L.Library.sources c.args.library.now) c.args.entry.now c.args.options (chain_view c.in-Ok.chain)
-      c.in-Ok.ensures.chained c.in-Ok.ensures.only c.in-Ok.ensures.weighs c.in-Ok.ensures.short c.in-Ok.ensures.few),
-)
+pub explain_image-requires-clause-kept : goal.explain_image-requires-clause-kept
+explain_image-requires-clause-kept g c = rw c.in-None.is at c.in_ok-found.ensures.kept
 
 pub returns : goal.returns
 returns g c =
-    let asked = chain_asked (g.L.Library.sources c.args.library.now) c.args.entry.now c.args.options
-    (chain_view c.in-Ok.chain) c.in-Ok.ensures.chained c.in-Ok.ensures.only c.in-Ok.ensures.weighs c.in-Ok.ensures.short
-    c.in-Ok.ensures.few in
-    image_explained (g.L.Library.sources c.args.library.now) c.args.entry.now c.args.options
-    c.in-Err-compile_chain.error (c.in-Err-compile_chain.ensures.refused _ asked)
-    (c.in-Err-compile_chain.ensures.lawful (rw c.in-None.is at c.in_ok-found.ensures.kept)) c.image_finding.result
-    c.image_finding.ensures
+    c.explain_image.ensures _
+    (chain_asked (g.L.Library.sources c.args.library.now) c.args.entry.now c.args.options (chain_view c.in-Ok.chain)
+    c.in-Ok.ensures.chained c.in-Ok.ensures.only c.in-Ok.ensures.weighs c.in-Ok.ensures.short c.in-Ok.ensures.few)
 
 pub chain_finding-requires : goal.chain_finding-requires
 chain_finding-requires g c = c.in-Err.ensures.refused.says

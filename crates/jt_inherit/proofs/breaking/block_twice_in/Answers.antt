@@ -3,9 +3,9 @@ use Rattle.std.specs.Prelude.{option_map}
 use Rattle.std.proofs.lemmas.List.{append-nil}
 use Rattle.jt_chains.specs.TemplateFiles.{file_view}
 use Rattle.jt_inherit.specs.Findings.{HasTwoTags, InTurn, IsAt, is_block, uses_in}
-use Rattle.jt_inherit.specs.internal.Tags.{place_view, tags, tags_view}
+use Rattle.jt_inherit.specs.internal.Tags.{place_in, place_view, tags, tags_view}
 use Rattle.jt_inherit.specs.declared.tags.FoundTag.{FoundTag}
-use Rattle.jt_inherit.proofs.TagPlaces.{place_in, second_shows}
+use Rattle.jt_inherit.proofs.TagPlaces.{second_shows}
 use Rattle.jt_inherit.proofs.breaking.block_twice_in.Goals as goal
 
 pub returns : goal.returns

@@ -2,9 +2,9 @@ use Rattle.std.proofs.Common.{◌≡◌, List, refl, sym, ap, ◌∙◌, Some, s
 use Rattle.std.specs.Prelude.{option_map}
 use Rattle.jt_inherit.specs.Findings.{all_uses, binds_macro}
 use Rattle.jt_inherit.specs.internal.Given.{its_sources, its_templates}
-use Rattle.jt_inherit.specs.internal.Tags.{place_view, tags, tags_view}
+use Rattle.jt_inherit.specs.internal.Tags.{place_in, place_view, tags, tags_view}
 use Rattle.jt_inherit.specs.declared.tags.FoundTag.{FoundTag}
-use Rattle.jt_inherit.proofs.TagPlaces.{first_shows, macro_named, place_in}
+use Rattle.jt_inherit.proofs.TagPlaces.{first_shows, macro_named}
 use Rattle.jt_inherit.proofs.breaking.missing_finding.Goals as goal
 
 pub returns : goal.returns

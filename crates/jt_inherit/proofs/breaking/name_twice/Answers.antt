@@ -2,9 +2,9 @@ use Rattle.std.proofs.Common.{◌≡◌, List, refl, sym, ap, subst, ◌∙◌, 
 use Rattle.std.specs.Prelude.{option_map}
 use Rattle.jt_inherit.specs.Findings.{HasTwoTags, all_uses, defines}
 use Rattle.jt_inherit.specs.internal.Given.{its_templates}
-use Rattle.jt_inherit.specs.internal.Tags.{place_view, tags, tags_view}
+use Rattle.jt_inherit.specs.internal.Tags.{place_in, place_view, tags, tags_view}
 use Rattle.jt_inherit.specs.declared.tags.FoundTag.{FoundTag}
-use Rattle.jt_inherit.proofs.TagPlaces.{place_in, second_shows}
+use Rattle.jt_inherit.proofs.TagPlaces.{second_shows}
 use Rattle.jt_inherit.proofs.breaking.name_twice.Goals as goal
 
 pub returns : goal.returns

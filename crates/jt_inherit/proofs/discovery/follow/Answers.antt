@@ -1,23 +1,29 @@
 use Rattle.std.proofs.Common.{◌≡◌, ◌<◌, true, ◌⊎◌, ◌++◌, ◌∷◌, [], List, ℕ, sym, ap, subst, ◌∙◌, arith}
 use Rattle.std.proofs.Common.{length, Vec, Global}
 use Rattle.std.proofs.lemmas.List.{length-map}
+use Rattle.std.specs.Prelude.{Option, unwrap_or}
 use Rattle.std.specs.List.{AllByRecursion}
 use Rattle.std.proofs.lemmas.Result.{err_from_is_err_and}
 use Rattle.jt_graph.specs.View.{graph_of}
 use Rattle.jt_ast.specs.Texts.{among}
-use Rattle.jt_chains.specs.Along.{AreIndices}
+use Rattle.jt_chains.specs.Along.{AreIndices, templates_at}
+use Rattle.jt_inherit.specs.internal.Along.{needs_along}
 use Rattle.jt_chains.specs.Indices.{namespace_at}
 use Rattle.jt_chains.specs.Needs.{needed}
 use Rattle.jt_chains.specs.TemplateFiles.{files_view}
 use Rattle.jt_chains.specs.declared.files.TemplateFile.{TemplateFile}
-use Rattle.jt_inherit.specs.internal.Found.{AreFound, AreNext, IsMet, IsNextFault, chosen}
+use Rattle.jt_inherit.specs.internal.Found.{AreFound, AreNext, IsMet, IsNextFinding, chosen}
 use Rattle.jt_inherit.specs.internal.Found.{found_namespaces, root_of}
+use Rattle.jt_chains.specs.Chain.{Namespace, a_chain}
+use Rattle.jt_inherit.specs.internal.Imported.{is_no_library}
 use Rattle.jt_inherit.specs.internal.SetView.{key_view}
 use Rattle.jt_inherit.specs.internal.Sets.{names_view, namespaces_view}
 use Rattle.jt_inherit.specs.internal.Unmet.{IsUnmet}
-use Rattle.jt_inherit.proofs.FindingsHold.{bare_finding, need_finds}
-use Rattle.jt_inherit.proofs.DiscoveryInvariant.{namespace_number, reached_here, next_breaks, found_more}
-use Rattle.jt_inherit.proofs.DiscoveryInvariant.{first_same, way_there, both_files, both_known, same_needs}
+use Rattle.jt_inherit.proofs.FindingsHold.{need_finds}
+use Rattle.jt_inherit.proofs.DiscoveryInvariant.{namespace_number, reached_here, reached_there, found_more}
+use Rattle.jt_inherit.proofs.DiscoveryInvariant.{chosen_there, first_same, reached_from, way_there, both_files}
+use Rattle.jt_inherit.proofs.DiscoveryInvariant.{both_known, same_needs}
+use Rattle.jt_inherit.proofs.ManyChains.{next_finds}
 use Rattle.jt_inherit.proofs.NameMembership.{map_more}
 use Rattle.jt_inherit.proofs.NamespaceMembership.{of_namespaces}
 use Rattle.jt_inherit.proofs.Membership.{indexed_among}
@@ -59,10 +65,15 @@ returns-in_err-check_library-clause-refused g c =
     let lt : c.len-number.result < length (found_namespaces f) =
     omega (arith, c.len-number.ensures, f.extends_paths.ok.0, c.requires.more) in
     let p = err_from_is_err_and c.from_residual.result c.from_residual.ensures.1 in
-    let here = c.requires.found.reached (namespace_at (found_namespaces f) c.len-number.result)
-    (namespace_among (found_namespaces f) c.len-number.result lt) in
     rw (p.1, p.2)
-    (library_finds c.requires.found here c.in_err-check_library.field-0.0 c.in_err-check_library.ensures.refused)
+    (library_finds c.requires.found (namespace_among (found_namespaces f) c.len-number.result lt)
+    c.in_err-check_library.field-0.0 c.in_err-check_library.ensures.refused)
+
+pub read_namespace-requires-clause-library : goal.read_namespace-requires-clause-library
+read_namespace-requires-clause-library g c =
+    ap (is_no_library (found_templates c.args.found.now))
+    (sym (ap (λ (o : Option Namespace). unwrap_or o (a_chain [])) c.get-namespace.ensures))
+    ∙ c.in_ok-check_library.ensures.kept
 
 pub returns-in_err-extends_path-clause-refused : goal.returns-in_err-extends_path-clause-refused
 returns-in_err-extends_path-clause-refused g c =
@@ -122,12 +133,18 @@ returns-in_err-next-clause-refused g c =
     c.in_ok-append.ensures.items c.in_ok-newly_read.ensures.known in
     let e = c.in_err-next.field-0.0 in
     let p = err_from_is_err_and c.from_residual-in_err-next.result c.from_residual-in_err-next.ensures.1 in
-    let fault = subst (λ l. IsNextFault (found_namespaces f) (chosen (names_view c.read_includes.new.names) l) e)
-    (same_needs c.append.new.self.items c.deref-3.result.now c.in_ok-extends_path.extends_path.items
-    c.deref-4.result.now c.deref-3.ensures.value c.deref-4.ensures.value) c.in_err-next.ensures.refused in
-    rw p.1 (bare_finding e p.0 p.2
-    (next_breaks c.requires.found at extends_path.grown extends_path.extends_path
-    (files_view c.in_ok-newly_read.newly_read.items) grown known e fault))
+    let newly_read = files_view c.in_ok-newly_read.newly_read.items in
+    let told = subst (λ (z : List ℕ). IsNextFinding (found_namespaces f)
+    (chosen (names_view c.read_includes.new.names) (needs_along (files_view c.append.new.self.items) z))
+    (templates_at (files_view c.append.new.self.items) z) e) c.deref-4.ensures.value
+    (subst (λ (z : List TemplateFile). IsNextFinding (found_namespaces f)
+    (chosen (names_view c.read_includes.new.names) (needs_along (files_view z) c.deref-4.result.now))
+    (templates_at (files_view z) c.deref-4.result.now) e) c.deref-3.ensures.value c.in_err-next.ensures.refused) in
+    rw (p.1, p.2) (next_finds known
+    (reached_there c.requires.found at extends_path.grown extends_path.extends_path newly_read grown known)
+    (way_there c.requires.found at extends_path.grown extends_path.extends_path newly_read grown known)
+    (reached_from c.requires.found at extends_path.grown extends_path.extends_path newly_read grown known)
+    (chosen_there c.requires.found at extends_path.grown extends_path.extends_path newly_read grown known) e told)
 
 pub returns-clause-found : goal.returns-clause-found
 returns-clause-found g c =

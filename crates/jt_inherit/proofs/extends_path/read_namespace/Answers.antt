@@ -1,32 +1,71 @@
-use Rattle.std.proofs.Common.{◌≡◌, ◌+◌, ◌<◌, ◌∷◌, [], length, sym, ap, subst, ◌∙◌, arith, string_bytes, Option, None}
-use Rattle.std.proofs.Common.{String, Global, length-append}
+use Rattle.std.proofs.Common.{◌≡◌, ◌+◌, ◌<◌, ◌∷◌, [], false, true, length, sym, ap, subst, ◌∙◌, arith, string_bytes}
+use Rattle.std.proofs.Common.{Option, None, String, Global, length-append}
 use Rattle.std.proofs.lemmas.List.{length-map}
 use Rattle.std.specs.Prelude.{option_map}
 use Rattle.std.proofs.lemmas.Option.{slice_get_within}
 use Rattle.jt_chains.specs.Chain.{a_chain}
 use Rattle.jt_inherit.specs.internal.Faults.{IsFaultOf}
 use Rattle.jt_chains.specs.TemplateFiles.{file_view, files_view}
-use Rattle.jt_inherit.specs.internal.ExtendsPaths.{IsExtendsPath}
+use Rattle.jt_ast.specs.Expressions.{Text}
+use Rattle.jt_ast.specs.Texts.{among}
+use Rattle.jt_chains.specs.Along.{templates_at}
+use Rattle.jt_inherit.specs.internal.ExtendsPaths.{HasRead, IsAt, IsExtendsPath}
+use Rattle.jt_inherit.specs.internal.Sets.{names_view}
+use Rattle.jt_inherit.specs.internal.Imported.{is_no_library}
+use Rattle.jt_inherit.specs.internal.Placing.{IsCycle, IsLong, IsNamed, IsNamedOn, parent_at}
 use Rattle.jt_inherit.specs.declared.error.ChainError.TheVariants as error
-use Rattle.jt_inherit.proofs.PlacedErrors.{cycle_placed, fault_placed, long_placed, refused_all, same_parent}
-use Rattle.jt_inherit.proofs.NamespaceSets.{is_chain}
-use Rattle.jt_inherit.proofs.PathsGrow.{names, length_names, on_path, way_step, grow_on, cycle_breaks, long_breaks}
+use Rattle.jt_inherit.proofs.PlacedErrors.{cycle_placed, fault_placed, long_placed, refused_all, same_path, there_on}
+use Rattle.jt_inherit.proofs.LibraryTemplate.{library_known, library_read}
+use Rattle.jt_inherit.proofs.NamespaceSets.{is_chain, is_library}
+use Rattle.jt_inherit.proofs.PathsGrow.{names, length_names, way_step, grow_on, cycle_breaks, long_breaks}
 use Rattle.jt_inherit.proofs.PathsGrow.{fault_breaks}
 use Rattle.jt_inherit.proofs.extends_path.read_namespace.Goals as goal
 
-pub returns-then-is_on_path : goal.returns-then-is_on_path
-returns-then-is_on_path g c =
+pub library_path-requires : goal.library_path-requires
+library_path-requires g c =
+    let ps = c.args.files.now.items in
+    let k = c.args.namespace.now in
+    let key = is_library k c.if-namespace.true in
+    subst (λ (n : Text). among n (names_view c.args.names.now) ≡ true) (sym c.deref.ensures)
+    (ap (among (string_bytes k.name)) c.requires.known.named
+    ∙ library_known (files_view ps) (string_bytes k.name)
+    (sym (ap (is_no_library (files_view ps)) key) ∙ c.requires.library))
+
+pub returns-then-namespace : goal.returns-then-namespace
+returns-then-namespace g c =
+    let ps = c.args.files.now.items in
+    let ks = c.args.names.now in
+    let k = c.args.namespace.now in
+    let key = is_library k c.if-namespace.true in
+    let at = subst (λ (n : Text). IsAt (names_view ks) n c.in_ok-library_path.field-0) c.deref.ensures
+    c.in_ok-library_path.ensures in
+    subst (λ h. HasRead (g.L.Library.sources c.args.loader.now.library.now) c.args.loader.now.options ps ps ks ks h
+    c.in_ok-library_path.field-0.items) (sym key)
+    (library_read ps ks c.requires.known (string_bytes k.name)
+    (sym (ap (is_no_library (files_view ps)) key) ∙ c.requires.library) at.0 at.1 at.2)
+
+pub cycle_finding-requires-clause-start : goal.cycle_finding-requires-clause-start
+cycle_finding-requires-clause-start g c =
+    let k = c.in-Some.start in
+    same_path (λ ps is n. IsNamedOn (files_view ps) is n k) (sym c.deref-in-Some.ensures.value)
+    (sym c.deref-in-Some-2.ensures.value) (sym c.deref-in-Some-3.ensures)
+    (same_path (λ ps is n. IsNamedOn (files_view ps) is n k) c.deref-in-loop-turn.ensures.value
+    c.deref-in-loop-turn-2.ensures.value c.deref-in-loop-turn-3.ensures c.in-Some.ensures)
+
+pub returns-in-Some : goal.returns-in-Some
+returns-in-Some g c =
     let l = c.loop-turn in
-    let f = c.in_ok-parent_finding.field-0 in
-    let there = sym (on_path c.deref-in-loop-turn.ensures.value c.deref-in-loop-turn-2.ensures.value
-    c.deref-in-loop-turn-3.ensures c.is_on_path.ensures) ∙ c.if-is_on_path.true in
-    let told = same_parent error.ExtendsCycle f c.deref-then-is_on_path.ensures.value
-    c.deref-then-is_on_path-2.ensures.value
-    c.deref-then-is_on_path-3.ensures c.in_ok-parent_finding.ensures in
+    let f = c.in_ok-cycle_finding.field-0 in
+    let k = c.in-Some.start in
+    let on = same_path (λ ps is n. IsNamedOn (files_view ps) is n k) c.deref-in-loop-turn.ensures.value
+    c.deref-in-loop-turn-2.ensures.value c.deref-in-loop-turn-3.ensures c.in-Some.ensures in
+    let told = same_path (λ ps is n. IsCycle (files_view ps) is k n f) c.deref-in-Some.ensures.value
+    c.deref-in-Some-2.ensures.value c.deref-in-Some-3.ensures c.in_ok-cycle_finding.ensures in
     refused_all (g.L.Library.sources c.args.loader.now.library.now) c.args.loader.now.options c.args.files.now.items
-    l.files.items l.invariant.grown c.args.namespace.now c.if-namespace.false error.ExtendsCycle f told.0
-    (λ root r. cycle_breaks l.invariant.known r l.invariant.led there)
-    (λ root r. cycle_placed l.invariant.known r l.invariant.led there f.place f.subject told.1)
+    l.files.items l.invariant.grown c.args.namespace.now c.if-namespace.false error.ExtendsCycle f told.error
+    (λ root r. cycle_breaks l.invariant.known r l.invariant.led
+    (there_on (files_view l.files.items) l.extends_path.items k (string_bytes l.name) on))
+    (λ root r. cycle_placed l.invariant.known r l.invariant.led on f told)
 
 pub returns-in-Err : goal.returns-in-Err
 returns-in-Err g c =
@@ -36,8 +75,9 @@ returns-in-Err g c =
     let f = c.in_ok-parent_finding-in-Err.field-0 in
     let fault = subst (λ x. IsFaultOf e given x c.args.loader.now.options) c.deref-in-loop-turn-4.ensures
     c.in-Err.ensures.refused in
-    let told = same_parent e f (c.deref-in-Err.ensures.value ∙ c.in-Err.ensures.kept) c.deref-in-Err-2.ensures.value
-    c.deref-in-Err-3.ensures c.in_ok-parent_finding-in-Err.ensures in
+    let told = same_path (λ ps is n. IsNamed (parent_at (files_view ps) is n) n e f)
+    (c.deref-in-Err.ensures.value ∙ c.in-Err.ensures.kept) c.deref-in-Err-2.ensures.value c.deref-in-Err-3.ensures
+    c.in_ok-parent_finding-in-Err.ensures in
     refused_all given c.args.loader.now.options c.args.files.now.items l.files.items l.invariant.grown
     c.args.namespace.now c.if-namespace.false e f told.0
     (λ root r. fault_breaks l.invariant.known r l.invariant.led e fault)
@@ -60,12 +100,13 @@ returns-in-None g c =
     let l = c.loop-turn in
     let indexed = c.in-Ok.ensures in
     let qs = c.read_index.new.files.items in
+    let new = same_path (λ ps is n. among n (names (templates_at (files_view ps) is)) ≡ false)
+    c.deref-in-loop-turn.ensures.value c.deref-in-loop-turn-2.ensures.value c.deref-in-loop-turn-3.ensures
+    c.in_default.ensures in
     let few : length l.extends_path.items < 64 = omega (arith, l.invariant.counted, c.loop-turn-test.true) in
     let step = way_step l.files.items qs indexed.grown l.extends_path.items c.in-Ok.index indexed.index
     c.deref-in-loop-turn-4.ensures c.in_ok-push.ensures.items c.index.ensures
-    l.invariant.led (sym (on_path c.deref-in-loop-turn.ensures.value c.deref-in-loop-turn-2.ensures.value
-    c.deref-in-loop-turn-3.ensures c.is_on_path.ensures)
-    ∙ c.if-is_on_path.false) few
+    l.invariant.led new few
     indexed.known.read.once c.in_ok-parent.ensures c.args.names.now l.names c.read_index.new.names l.invariant.from
     indexed.from in
     record {
@@ -85,12 +126,13 @@ loop-turn-preserved g c =
     let l = c.loop-turn in
     let indexed = c.in-Ok.ensures in
     let qs = c.read_index.new.files.items in
+    let new = same_path (λ ps is n. among n (names (templates_at (files_view ps) is)) ≡ false)
+    c.deref-in-loop-turn.ensures.value c.deref-in-loop-turn-2.ensures.value c.deref-in-loop-turn-3.ensures
+    c.in_default.ensures in
     let few : length l.extends_path.items < 64 = omega (arith, l.invariant.counted, c.loop-turn-test.true) in
     let step = way_step l.files.items qs indexed.grown l.extends_path.items c.in-Ok.index indexed.index
     c.deref-in-loop-turn-4.ensures c.in_ok-push.ensures.items c.index.ensures
-    l.invariant.led (sym (on_path c.deref-in-loop-turn.ensures.value c.deref-in-loop-turn-2.ensures.value
-    c.deref-in-loop-turn-3.ensures c.is_on_path.ensures)
-    ∙ c.if-is_on_path.false) few
+    l.invariant.led new few
     indexed.known.read.once c.in_ok-parent.ensures c.args.names.now l.names c.read_index.new.names l.invariant.from
     indexed.from in
     record {
@@ -103,34 +145,43 @@ loop-turn-preserved g c =
       led =
           subst (λ (o : Option (String Global)). IsExtendsPath (files_view qs)
           (a_chain (string_bytes c.args.namespace.now.name)) c.push.new.self.items (option_map string_bytes o))
-          c.in-Some.is step.0;
+          c.in-Some-2.is step.0;
     }
 
-pub returns-then-is_on_path-2 : goal.returns-then-is_on_path-2
-returns-then-is_on_path-2 g c =
+pub cycle_finding-requires-in-Some-number_on-clause-start : goal.cycle_finding-requires-in-Some-number_on-clause-start
+cycle_finding-requires-in-Some-number_on-clause-start g c =
+    let k = c.in-Some-number_on.start in
+    same_path (λ ps is n. IsNamedOn (files_view ps) is n k) (sym c.deref-in-Some-number_on.ensures.value)
+    (sym c.deref-in-Some-number_on-2.ensures.value) (sym c.deref-in-Some-number_on-3.ensures)
+    (same_path (λ ps is n. IsNamedOn (files_view ps) is n k) c.deref-3.ensures.value c.deref-4.ensures.value
+    c.deref-5.ensures c.in-Some-number_on.ensures)
+
+pub returns-in-Some-number_on : goal.returns-in-Some-number_on
+returns-in-Some-number_on g c =
     let l = c.loop-turn in
-    let f = c.in_ok-parent_finding-2.field-0 in
-    let there = sym (on_path c.deref-3.ensures.value c.deref-4.ensures.value c.deref-5.ensures
-    c.is_on_path-2.ensures) ∙ c.if-is_on_path-2.true in
-    let told = same_parent error.ExtendsCycle f c.deref-then-is_on_path-2-2.ensures.value
-    c.deref-then-is_on_path-2-3.ensures.value
-    c.deref-then-is_on_path-2-4.ensures c.in_ok-parent_finding-2.ensures in
+    let f = c.in_ok-cycle_finding-2.field-0 in
+    let k = c.in-Some-number_on.start in
+    let on = same_path (λ ps is n. IsNamedOn (files_view ps) is n k) c.deref-3.ensures.value c.deref-4.ensures.value
+    c.deref-5.ensures c.in-Some-number_on.ensures in
+    let told = same_path (λ ps is n. IsCycle (files_view ps) is k n f) c.deref-in-Some-number_on.ensures.value
+    c.deref-in-Some-number_on-2.ensures.value c.deref-in-Some-number_on-3.ensures c.in_ok-cycle_finding-2.ensures in
     refused_all (g.L.Library.sources c.args.loader.now.library.now) c.args.loader.now.options c.args.files.now.items
-    l.files.items l.invariant.grown c.args.namespace.now c.if-namespace.false error.ExtendsCycle f told.0
-    (λ root r. cycle_breaks l.invariant.known r l.invariant.led there)
-    (λ root r. cycle_placed l.invariant.known r l.invariant.led there f.place f.subject told.1)
+    l.files.items l.invariant.grown c.args.namespace.now c.if-namespace.false error.ExtendsCycle f told.error
+    (λ root r. cycle_breaks l.invariant.known r l.invariant.led
+    (there_on (files_view l.files.items) l.extends_path.items k (string_bytes l.name) on))
+    (λ root r. cycle_placed l.invariant.known r l.invariant.led on f told)
 
 pub returns : goal.returns
 returns g c =
     let l = c.loop-turn in
-    let f = c.in_ok-parent_finding-3.field-0 in
+    let f = c.in_ok-long_finding.field-0 in
     let full : length l.extends_path.items ≡ 64 =
     omega (arith, l.invariant.counted, c.loop-turn-test.false, l.auto._turn-end) in
-    let new = sym (on_path c.deref-3.ensures.value c.deref-4.ensures.value c.deref-5.ensures c.is_on_path-2.ensures)
-    ∙ c.if-is_on_path-2.false in
-    let told = same_parent error.ChainTooLong f c.deref-6.ensures.value c.deref-7.ensures.value c.deref-8.ensures
-    c.in_ok-parent_finding-3.ensures in
+    let new = same_path (λ ps is n. among n (names (templates_at (files_view ps) is)) ≡ false) c.deref-3.ensures.value
+    c.deref-4.ensures.value c.deref-5.ensures c.in_default-number_on.ensures in
+    let told = same_path (λ ps is n. IsLong (files_view ps) is n f) c.deref-6.ensures.value c.deref-7.ensures.value
+    c.deref-8.ensures c.in_ok-long_finding.ensures in
     refused_all (g.L.Library.sources c.args.loader.now.library.now) c.args.loader.now.options c.args.files.now.items
-    l.files.items l.invariant.grown c.args.namespace.now c.if-namespace.false error.ChainTooLong f told.0
+    l.files.items l.invariant.grown c.args.namespace.now c.if-namespace.false error.ChainTooLong f told.error
     (λ root r. long_breaks l.invariant.known r l.invariant.led full new)
-    (λ root r. long_placed l.invariant.known r l.invariant.led full new f.place f.subject told.1)
+    (λ root r. long_placed l.invariant.known r l.invariant.led full new f told)

@@ -1,12 +1,27 @@
-use Rattle.std.proofs.Common.{◌∷◌, [], sym, subst}
+use Rattle.std.proofs.Common.{◌≡◌, ◌∷◌, [], Bool, true, false, if◌then◌else◌, string_bytes, sym, subst}
 use Rattle.std.proofs.lemmas.Result.{err_from_is_err_and}
 use Rattle.jt_inherit.specs.internal.Found.{AreNext, IsNextFault}
-use Rattle.jt_chains.specs.Needs.{need_view}
+use Rattle.jt_chains.specs.Chain.{a_chain, a_library}
+use Rattle.jt_chains.specs.Needs.{Need, need_namespace, need_view}
+use Rattle.jt_inherit.specs.internal.SetView.{key_view}
+use Rattle.jt_inherit.specs.declared.sets.NamespaceKey.{NamespaceKey}
 use Rattle.jt_inherit.specs.internal.Sets.{names_view, namespaces_view}
 use Rattle.jt_inherit.proofs.FollowStep.{one_known}
 use Rattle.jt_inherit.proofs.NameMembership.{of_texts}
 use Rattle.jt_inherit.proofs.Membership.{indexed_among}
 use Rattle.jt_inherit.proofs.including.add_number.Goals as goal
+
+-- The key of a needed template has its name.
+key_named : (k : NamespaceKey) (n : Need) → key_view k ≡ need_namespace n → string_bytes k.name ≡ n.name
+key_named k n e = by k.is_library n.library e
+  where
+    by : (b d : Bool) → (if b then a_library (string_bytes k.name) else a_chain (string_bytes k.name))
+        ≡ (if d then a_library n.name else a_chain n.name)
+        → string_bytes k.name ≡ n.name
+    by true true q = cc
+    by true false q = absurd (cc)
+    by false true q = absurd (cc)
+    by false false q = cc
 
 pub returns-in_err-number-clause-refused : goal.returns-in_err-number-clause-refused
 returns-in_err-number-clause-refused c =
@@ -15,10 +30,11 @@ returns-in_err-number-clause-refused c =
     let e = c.in_err-number.field-0.0 in
     let p = err_from_is_err_and c.from_residual-in_err-number.result c.from_residual-in_err-number.ensures.1 in
     rw (p.1, p.2)
-    (subst (λ l. IsNextFault (namespaces_view c.args.namespaces.now) l e)
+    (subst (λ l. IsNextFault (namespaces_view c.args.namespaces.now) l n.name e)
     (sym (one_known ks n (indexed_among of_texts ks c.in-Some._index n.name c.in-Some.ensures)))
-    (subst (λ h. IsNextFault (namespaces_view c.args.namespaces.now) (h ∷ []) e) c.in_ok-namespace.ensures
-    c.in_err-number.ensures.refused))
+    (subst (λ h. IsNextFault (namespaces_view c.args.namespaces.now) (h ∷ []) n.name e) c.in_ok-namespace.ensures
+    (subst (λ x. IsNextFault (namespaces_view c.args.namespaces.now) (key_view c.in_ok-namespace.namespace ∷ []) x e)
+    (key_named c.in_ok-namespace.namespace n c.in_ok-namespace.ensures) c.in_err-number.ensures.refused)))
 
 pub returns-clause-next : goal.returns-clause-next
 returns-clause-next c =

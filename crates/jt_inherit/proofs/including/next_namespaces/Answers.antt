@@ -1,27 +1,43 @@
-use Rattle.std.proofs.Common.{◌≡◌, ap, subst, ◌∙◌}
-use Rattle.std.proofs.lemmas.Result.{err_from_is_err_and}
+use Rattle.std.proofs.Common.{◌≡◌, List, ap, sym, subst, ◌∙◌, inr, ⊎_elim}
+use Rattle.jt_ast.specs.Expressions.{Text}
+use Rattle.jt_chains.specs.Chain.{Namespace, Template}
 use Rattle.jt_inherit.specs.internal.Along.{needs_along}
-use Rattle.jt_inherit.specs.internal.Found.{IsNextFault, chosen}
-use Rattle.jt_chains.specs.Needs.{needs_view}
+use Rattle.jt_inherit.specs.internal.Found.{IsNextFault, IsNextFinding, TooMany, chosen}
+use Rattle.jt_inherit.specs.internal.Placing.{IsIncludedMore}
+use Rattle.jt_chains.specs.Needs.{Need, needs_view}
 use Rattle.jt_chains.specs.TemplateFiles.{files_view}
 use Rattle.jt_inherit.specs.internal.Sets.{names_view, namespaces_view}
-use Rattle.jt_inherit.proofs.FollowStep.{next_turn, fault_turn}
+use Rattle.jt_inherit.specs.declared.error.ChainError.{ChainError}
+use Rattle.jt_inherit.specs.declared.error.ChainError.TheVariants as error
+use Rattle.jt_inherit.specs.declared.finding.ChainFinding.{ChainFinding}
+use Rattle.jt_inherit.proofs.FollowStep.{many_turn, next_turn}
 use Rattle.jt_inherit.proofs.including.next_namespaces.Goals as goal
 
-pub returns-in_err-add_number-clause-refused : goal.returns-in_err-add_number-clause-refused
-returns-in_err-add_number-clause-refused c =
+-- The chain that is one too many, of the two errors that a number has.
+many_of : {old names : List Namespace} {n : Text} {e : ChainError} → e ≡ error.ChainTooLong → IsNextFault old names n e
+    → TooMany old names n
+many_of is f =
+    ⊎_elim (λ m. let no : error.NoMemory ≡ error.ChainTooLong = sym m ∙ is in absurd (cc)) (λ t. t.1) f
+
+-- The finding of that chain, by equal needs.
+one_more : {old : List Namespace} (ks : List Text) {ns ms : List Need} {n : Text} {ts : List Template}
+    {f : ChainFinding}
+    → ns ≡ ms → TooMany old (chosen ks ns) n → IsIncludedMore ts n f → IsNextFinding old (chosen ks ms) ts f
+one_more {old} ks {ns} {ms} {n} e t i = inr (n, subst (λ l. TooMany old (chosen ks l) n) e t, i)
+
+pub returns-in-Err-ChainTooLong-clause-refused : goal.returns-in-Err-ChainTooLong-clause-refused
+returns-in-Err-ChainTooLong-clause-refused c =
     let l = c.loop-include in
     let ks = names_view c.args.names.now in
     let old = namespaces_view c.args.namespaces.now in
-    let e = c.in_err-add_number.field-0.0 in
-    let p = err_from_is_err_and c.from_residual-in_err-add_number.result c.from_residual-in_err-add_number.ensures.1 in
     let same_needs : needs_view c.deref-include-items.result.now
     ≡ needs_along (files_view c.args.files.now) c.args.extends_path.now =
     ap needs_view c.deref-include-items.ensures.value ∙ c.in_ok-found.ensures in
-    rw (p.1, p.2)
-    (subst (λ ns. IsNextFault old (chosen ks ns) e) same_needs
-    (fault_turn old (namespaces_view l.namespaces) ks c.deref-include-items.result.now l.include-index _ l.numbers.items
-    e c.loop-include-test.true l.invariant c.in_err-add_number.ensures.refused))
+    one_more ks same_needs
+    (many_turn old (namespaces_view l.namespaces) ks c.deref-include-items.result.now l.include-index _
+    l.numbers.items _ c.loop-include-test.true l.invariant
+    (many_of c.in-Err-ChainTooLong.field-0-is c.in-Err-ChainTooLong.ensures.refused))
+    c.in_ok-included_finding-in-Err-ChainTooLong.ensures
 
 pub loop-include-preserved : goal.loop-include-preserved
 loop-include-preserved c =
@@ -29,4 +45,4 @@ loop-include-preserved c =
     next_turn (namespaces_view c.args.namespaces.now) (namespaces_view l.namespaces)
     (namespaces_view c.add_number.new.namespaces) (names_view c.args.names.now) c.deref-include-items.result.now
     l.include-index _ l.numbers.items c.add_number.new.numbers.items
-    c.loop-include-test.true l.invariant c.in_ok-add_number.ensures.next
+    c.loop-include-test.true l.invariant c.in-Ok.ensures.next

@@ -1,12 +1,9 @@
 use Rattle.std.proofs.Common.{◌≡◌, ◌<◌, ◌∙◌, ℕ, true, List, length, map, refl, sym, ap, subst, Vec, Global}
-use Rattle.std.specs.Prelude.{IfSome}
 use Rattle.std.specs.List.{AllByRecursion}
 use Rattle.std.proofs.lemmas.List.{length-map}
-use Rattle.jt_graph.specs.Graph.{next_of}
 use Rattle.jt_graph.specs.View.{graph_of}
-use Rattle.jt_chains.specs.Along.{templates_at}
 use Rattle.jt_chains.specs.Indices.{namespace_at}
-use Rattle.jt_inherit.specs.Findings.{HasTag, leads_to}
+use Rattle.jt_inherit.specs.internal.Imported.{leading_at}
 use Rattle.jt_inherit.specs.internal.Found.{found_namespaces, found_paths, found_templates}
 use Rattle.jt_inherit.specs.internal.Rings.{leads_round, name_at}
 use Rattle.jt_inherit.specs.declared.discovery.Discovery.{Discovery}
@@ -63,9 +60,7 @@ returns c =
     let hs = found_namespaces f in
     let i = c.in-Some.ring.first in
     let is = c.in-Some.ring.others.items in
-    let p = c.in-Some-2.place in
-    let r = round_of f i is c.deref-2.result.now c.deref-2.ensures.value c.in-Some-closing.ensures.round in
-    let tests = leads_to (namespace_at hs i) in (
+    let r = round_of f i is c.deref-2.result.now c.deref-2.ensures.value c.in-Some-closing.ensures.round in (
       refl,
       record {
         first = i;
@@ -74,10 +69,7 @@ returns c =
         first_name = c.in_ok-name.ensures;
         other_names = c.in_ok-rest.ensures ∙ ap (map (name_at hs)) c.deref-3.ensures.value;
         tag =
-            subst (λ k. HasTag tests (templates_at (found_templates f) (next_of (found_paths f) k)) p)
-            c.in-Some-closing.ensures.last
-            (subst (λ o. IfSome o (HasTag tests
-            (templates_at (found_templates f) (next_of (found_paths f) c.in-Some-closing.last))))
-            c.in-Some-2.is c.in_ok-place.ensures);
+            c.in_ok-place.ensures
+            ∙ ap (leading_at (found_templates f) (found_paths f) (namespace_at hs i)) c.in-Some-closing.ensures.last;
       },
     )

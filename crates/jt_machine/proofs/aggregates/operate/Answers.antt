@@ -1,6 +1,4 @@
 use Rattle.std.proofs.Common.{◌≡◌, ◌∙◌, Some, ap}
-use Rattle.jt_value.specs.Tree.{map, text}
-use Rattle.jt_value.specs.View.{view}
 use Rattle.jt_ops.specs.Limited.{limited, Answers}
 use Rattle.jt_op_semantics.specs.Operation.{operation}
 use Rattle.jt_ids.specs.OpTable.{op_operands}
@@ -8,7 +6,6 @@ use Rattle.jt_image.specs.Step.{operated}
 use Rattle.jt_machine.specs.declared.state.State.{State}
 use Rattle.jt_machine.specs.InstructionSteps.{operate, made, values_at}
 use Rattle.jt_machine.specs.View.{budget_view, config_view}
-use Rattle.jt_machine.proofs.MemberCorrect.{member_made}
 use Rattle.jt_machine.proofs.PoppedValues.{makes_of, operate_is, answers_fit, has_same}
 use Rattle.jt_machine.proofs.aggregates.operate.Goals as goal
 
@@ -22,22 +19,6 @@ pub returns-in-Some-charge_for_values : goal.returns-in-Some-charge_for_values
 returns-in-Some-charge_for_values c =
     operate_is c.args.operator c.in-Some.operator (config_view c.args.state.now) c.in-Some.ensures
     ∙ (rw c.operands.ensures at (c.in-Some-charge_for_values.ensures.rest (operated (Some c.in-Some.operator))))
-
-pub put_for_two-requires : goal.put_for_two-requires
-put_for_two-requires c =
-    let h = c.in-Some-member_within.ensures.member in
-    record { first = map h.members; second = text h.name; rest = h.rest; is = h.is }
-
-pub returns-in-Some-member_within : goal.returns-in-Some-member_within
-returns-in-Some-member_within c =
-    let h = c.in-Some-member_within.ensures.member in
-    let put = c.put_for_two.ensures (map h.members) (text h.name) h.rest h.is in
-    let charged = rw c.operands.ensures at (c.in_default-charge_for_values.ensures.rest
-    (operated (Some c.in-Some.operator))) in
-    operate_is c.args.operator c.in-Some.operator (config_view c.args.state.now) c.in-Some.ensures ∙ charged
-    ∙ member_made c.in-Some.operator (config_view c.charge_for_values.new.state) (view c.in-Some-member_within.member) h
-    c.in-Some-member_within.ensures.named c.in-Some-member_within.ensures.fits
-    ∙ rw put at c.step_on.ensures
 
 pub operated-answer-requires : goal.operated-answer-requires
 operated-answer-requires c =

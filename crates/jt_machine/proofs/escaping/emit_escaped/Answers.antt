@@ -1,9 +1,10 @@
-use Rattle.std.proofs.Common.{◌≡◌, ℕ, ◌+◌, ◌-◌, ◌<◌, ◌≤◌, List, length, get_or, take, sym, ap, ◌∙◌, length-append}
+use Rattle.std.proofs.Common.{◌≡◌, ℕ, ◌+◌, ◌-◌, ◌<◌, ◌≤◌, List, length, sym, ap, ◌∙◌}
 use Rattle.std.proofs.Common.{arith, rules}
 use Rattle.std.proofs.lemmas.List.{take_all}
 use Rattle.jt_budget.specs.declared.budget.Budget.{Budget}
-use Rattle.jt_escape.specs.Escaping.{escaped, escaped_byte}
-use Rattle.jt_escape.proofs.EscapedPrefix.{escaped_more, escaped_front}
+use Rattle.jt_escape.specs.Escaping.{escaped}
+use Rattle.jt_escape.proofs.EscapedPrefix.{escaped_front}
+use Rattle.jt_machine.proofs.EscapedLength.{taken_more}
 use Rattle.jt_machine.proofs.escaping.emit_escaped.Goals as goal
 
 -- Two changes of the output change only the output.
@@ -15,20 +16,10 @@ still a b d n before now =
     let same : n ≡ d.output = sym (ap (λ (x : Budget). x.output) now) in
     now ∙ first ∙ ap (λ (m : ℕ). record a { output = m }) same
 
--- The escaped length with one more byte is the sum of both lengths.
-taken_more : (text items : List ℕ) (i n : ℕ) → items ≡ text → i < length items
-    → n ≡ length (escaped_byte (get_or items i 0))
-    → length (escaped (take (i + 1) text)) ≡ length (escaped (take i text)) + n
-taken_more text items i n same inside is =
-    let within : i < length text = rw same at inside in
-    let here : n ≡ length (escaped_byte (get_or text i 0)) = rw same at is in
-    ap length (escaped_more text i within) ∙ length-append (escaped (take i text)) (escaped_byte (get_or text i 0))
-    ∙ ap (λ (m : ℕ). length (escaped (take i text)) + m) (sym here)
-
 pub bytes-preserved : goal.bytes-preserved
 bytes-preserved c =
     let more = taken_more c.args.text.now c.as_bytes-byte-items.result.now c.bytes.byte-index c.escaped_len.result
-    c.as_bytes-byte-items.ensures.value c.bytes-test.true c.escaped_len.ensures in
+    c.as_bytes-byte-items.ensures.value c.bytes-test.true c.escaped_len.ensures.len in
     let now = c.in_ok-emit.ensures.ok.1 in
     let output = ap (λ (x : Budget). x.output) now in
     record {
@@ -41,7 +32,7 @@ bytes-preserved c =
 pub returns-in_err-emit-clause-err : goal.returns-in_err-emit-clause-err
 returns-in_err-emit-clause-err c =
     let more = taken_more c.args.text.now c.as_bytes-byte-items.result.now c.bytes.byte-index c.escaped_len.result
-    c.as_bytes-byte-items.ensures.value c.bytes-test.true c.escaped_len.ensures in
+    c.as_bytes-byte-items.ensures.value c.bytes-test.true c.escaped_len.ensures.len in
     let front = escaped_front c.args.text.now (c.bytes.byte-index + 1) in
     let long : c.args.left.now.output < length (escaped c.args.text.now) =
     omega (arith, more, front, c.in_err-emit.ensures.err.1, c.bytes.invariant.taken) in

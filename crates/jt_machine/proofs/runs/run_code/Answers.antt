@@ -25,18 +25,16 @@ steps-init g c =
 pub step-requires-clause-not_wrong : goal.step-requires-clause-not_wrong
 step-requires-clause-not_wrong g c =
     let k = g.C.Code.code c.args.code.now in
-    let r = reached_gone k (pairs_of c.args.context.now) (budget_view c.args.budget) c.steps.state
-    c.run_fast-stopped.new.state
-    c.steps.invariant.reached c.run_fast-stopped.ensures.gone in
+    let r = reached_gone k (pairs_of c.args.context.now) (budget_view c.args.budget) _ _ c.steps.state
+    c.run_fast-stopped.new.state c.steps.invariant.reached c.run_fast-stopped.ensures.gone in
     (reached_sound c.code_laws.ensures k c.requires.whole c.requires.typed (pairs_of c.args.context.now)
     (budget_view c.args.budget) (config_view c.run_fast-stopped.new.state) r).not_wrong
 
 pub step-requires-clause-bounded : goal.step-requires-clause-bounded
 step-requires-clause-bounded g c =
     let k = g.C.Code.code c.args.code.now in
-    let r = reached_gone k (pairs_of c.args.context.now) (budget_view c.args.budget) c.steps.state
-    c.run_fast-stopped.new.state
-    c.steps.invariant.reached c.run_fast-stopped.ensures.gone in
+    let r = reached_gone k (pairs_of c.args.context.now) (budget_view c.args.budget) _ _ c.steps.state
+    c.run_fast-stopped.new.state c.steps.invariant.reached c.run_fast-stopped.ensures.gone in
     let s = (reached_sound c.code_laws.ensures k c.requires.whole c.requires.typed (pairs_of c.args.context.now)
     (budget_view c.args.budget) (config_view c.run_fast-stopped.new.state) r) in
     record { sized = s.sized; few = s.few }
@@ -55,16 +53,15 @@ steps-preserved g c =
     let k = g.C.Code.code c.args.code.now in
     let e : next k (config_view c.run_fast-stopped.new.state) ≡ Goes (config_view c.step.new.state) =
     c.in_ok-outcome.ensures.next ∙ rw c.in_default-2.is refl in
-    let r = reached_gone k (pairs_of c.args.context.now) (budget_view c.args.budget) c.steps.state
-    c.run_fast-stopped.new.state
-    c.steps.invariant.reached c.run_fast-stopped.ensures.gone in
+    let r = reached_gone k (pairs_of c.args.context.now) (budget_view c.args.budget) _ _ c.steps.state
+    c.run_fast-stopped.new.state c.steps.invariant.reached c.run_fast-stopped.ensures.gone in
     record {
       reached =
           reached_next k (pairs_of c.args.context.now) (budget_view c.args.budget)
           (config_view c.run_fast-stopped.new.state)
           (config_view c.step.new.state) r e;
       same =
-          λ o r. c.steps.invariant.same o (ending_gone k c.steps.state c.run_fast-stopped.new.state o
+          λ o r. c.steps.invariant.same o (ending_gone k _ _ c.steps.state c.run_fast-stopped.new.state o
           c.run_fast-stopped.ensures.gone
           (ending_back k (config_view c.run_fast-stopped.new.state) (config_view c.step.new.state) o e r));
       depth =
@@ -85,9 +82,8 @@ steps-smaller g c =
     let k = g.C.Code.code c.args.code.now in
     let e : next k (config_view c.run_fast-stopped.new.state) ≡ Goes (config_view c.step.new.state) =
     c.in_ok-outcome.ensures.next ∙ rw c.in_default-2.is refl in
-    let r = reached_gone k (pairs_of c.args.context.now) (budget_view c.args.budget) c.steps.state
-    c.run_fast-stopped.new.state
-    c.steps.invariant.reached c.run_fast-stopped.ensures.gone in
+    let r = reached_gone k (pairs_of c.args.context.now) (budget_view c.args.budget) _ _ c.steps.state
+    c.run_fast-stopped.new.state c.steps.invariant.reached c.run_fast-stopped.ensures.gone in
     let less = (reached_sound c.code_laws.ensures k c.requires.whole c.requires.typed (pairs_of c.args.context.now)
     (budget_view c.args.budget) (config_view c.run_fast-stopped.new.state) r).takes
     (config_view c.step.new.state) e in
@@ -101,7 +97,7 @@ returns-in-Some-2-clause-outcome g c =
     let b = budget_view c.args.budget in
     let e : next k (config_view c.run_fast-stopped.new.state) ≡ Ends o =
     c.in_ok-outcome.ensures.next ∙ rw c.in-Some-2.is refl in
-    let r = c.steps.invariant.same o (ending_gone k c.steps.state c.run_fast-stopped.new.state o
+    let r = c.steps.invariant.same o (ending_gone k _ _ c.steps.state c.run_fast-stopped.new.state o
     c.run_fast-stopped.ensures.gone
     (ending_now k (config_view c.run_fast-stopped.new.state) o e)) in
     let n : passed b x k.names ≡ None = sym c.in_default.ensures in
@@ -116,7 +112,7 @@ returns-in_err-outcome-clause-memory g c =
     let k = g.C.Code.code c.args.code.now in
     let x = pairs_of c.args.context.now in
     let b = budget_view c.args.budget in
-    let r = reached_gone k x b c.steps.state c.run_fast-stopped.new.state c.steps.invariant.reached
+    let r = reached_gone k x b _ _ c.steps.state c.run_fast-stopped.new.state c.steps.invariant.reached
     c.run_fast-stopped.ensures.gone in
     let comes : ComesToGrow k (start k x b) = record {
       steps = r.0;

@@ -39,7 +39,7 @@ pub step-requires-clause-not_wrong : goal.step-requires-clause-not_wrong
 step-requires-clause-not_wrong g c =
     (gone_sent c.code_laws.ensures (g.C.Code.code c.args.code.now) c.requires.whole c.requires.typed
     (pairs_of c.args.context.now) (budget_view c.args.budget) (g.W.Sink.taken c.args.sink.now)
-    (g.W.Sink.taken c.steps.sink) (g.W.Sink.taken c.send.new.sink) c.steps.state c.run_fast-stopped.new.state
+    (g.W.Sink.taken c.steps.sink) (g.W.Sink.taken c.send.new.sink) _ _ c.steps.state c.run_fast-stopped.new.state
     (config_view c.send.new.state) tt c.steps.invariant.so_far c.run_fast-stopped.ensures.gone c.in_ok-send.ensures.put
     c.in_ok-send.ensures.emptied).sound.not_wrong
 
@@ -47,7 +47,7 @@ pub step-requires-clause-bounded : goal.step-requires-clause-bounded
 step-requires-clause-bounded g c =
     let s = (gone_sent c.code_laws.ensures (g.C.Code.code c.args.code.now) c.requires.whole c.requires.typed
     (pairs_of c.args.context.now) (budget_view c.args.budget) (g.W.Sink.taken c.args.sink.now)
-    (g.W.Sink.taken c.steps.sink) (g.W.Sink.taken c.send.new.sink) c.steps.state c.run_fast-stopped.new.state
+    (g.W.Sink.taken c.steps.sink) (g.W.Sink.taken c.send.new.sink) _ _ c.steps.state c.run_fast-stopped.new.state
     (config_view c.send.new.state) tt c.steps.invariant.so_far c.run_fast-stopped.ensures.gone c.in_ok-send.ensures.put
     c.in_ok-send.ensures.emptied) in
     record { sized = s.sound.sized; few = s.sound.few }
@@ -69,7 +69,7 @@ steps-preserved g c =
     let x = pairs_of c.args.context.now in
     let b = budget_view c.args.budget in
     let s = gone_sent c.code_laws.ensures k c.requires.whole c.requires.typed x b (g.W.Sink.taken c.args.sink.now)
-    (g.W.Sink.taken c.steps.sink) (g.W.Sink.taken c.send.new.sink) c.steps.state c.run_fast-stopped.new.state
+    (g.W.Sink.taken c.steps.sink) (g.W.Sink.taken c.send.new.sink) _ _ c.steps.state c.run_fast-stopped.new.state
     (config_view c.send.new.state) tt c.steps.invariant.so_far c.run_fast-stopped.ensures.gone c.in_ok-send.ensures.put
     c.in_ok-send.ensures.emptied in
     let e : next k (config_view c.send.new.state) ≡ Goes (config_view c.step.new.state) =
@@ -98,7 +98,7 @@ steps-smaller g c =
     let x = pairs_of c.args.context.now in
     let b = budget_view c.args.budget in
     let s = gone_sent c.code_laws.ensures k c.requires.whole c.requires.typed x b (g.W.Sink.taken c.args.sink.now)
-    (g.W.Sink.taken c.steps.sink) (g.W.Sink.taken c.send.new.sink) c.steps.state c.run_fast-stopped.new.state
+    (g.W.Sink.taken c.steps.sink) (g.W.Sink.taken c.send.new.sink) _ _ c.steps.state c.run_fast-stopped.new.state
     (config_view c.send.new.state) tt c.steps.invariant.so_far c.run_fast-stopped.ensures.gone c.in_ok-send.ensures.put
     c.in_ok-send.ensures.emptied in
     let e : next k (config_view c.send.new.state) ≡ Goes (config_view c.step.new.state) =
@@ -132,7 +132,7 @@ returns-in_err-send-clause-begun g c =
     on_err c.from_residual-in_err-send.result
     (cut_short k x b (g.W.Sink.taken c.args.sink.now) (g.W.Sink.taken c.steps.sink) (g.W.Sink.taken c.send.new.sink)
     (config_view c.run_fast-stopped.new.state) t.1.front t.0 n safe tt
-    (so_far_gone k x b (g.W.Sink.taken c.args.sink.now) (g.W.Sink.taken c.steps.sink) c.steps.state
+    (so_far_gone k x b (g.W.Sink.taken c.args.sink.now) (g.W.Sink.taken c.steps.sink) _ _ c.steps.state
     c.run_fast-stopped.new.state c.steps.invariant.so_far c.run_fast-stopped.ensures.gone) t.1.parts t.1.taken)
 
 pub returns-in_err-outcome-clause-begun : goal.returns-in_err-outcome-clause-begun
@@ -145,7 +145,7 @@ returns-in_err-outcome-clause-begun g c =
     let mid = g.W.Sink.taken c.send.new.sink in
     let d = config_view c.send.new.state in
     let s = gone_sent c.code_laws.ensures k c.requires.whole c.requires.typed x b (g.W.Sink.taken c.args.sink.now)
-    (g.W.Sink.taken c.steps.sink) (g.W.Sink.taken c.send.new.sink) c.steps.state c.run_fast-stopped.new.state
+    (g.W.Sink.taken c.steps.sink) (g.W.Sink.taken c.send.new.sink) _ _ c.steps.state c.run_fast-stopped.new.state
     (config_view c.send.new.state) tt c.steps.invariant.so_far c.run_fast-stopped.ensures.gone c.in_ok-send.ensures.put
     c.in_ok-send.ensures.emptied in
     on_err c.from_residual-in_err-outcome.result
@@ -163,7 +163,7 @@ returns-in_err-close-clause-begun g c =
     let d = config_view c.send.new.state in
     let o = outcome_view c.in-Some-2.outcome in
     let s = gone_sent c.code_laws.ensures k c.requires.whole c.requires.typed x b (g.W.Sink.taken c.args.sink.now)
-    (g.W.Sink.taken c.steps.sink) (g.W.Sink.taken c.send.new.sink) c.steps.state c.run_fast-stopped.new.state
+    (g.W.Sink.taken c.steps.sink) (g.W.Sink.taken c.send.new.sink) _ _ c.steps.state c.run_fast-stopped.new.state
     (config_view c.send.new.state) tt c.steps.invariant.so_far c.run_fast-stopped.ensures.gone c.in_ok-send.ensures.put
     c.in_ok-send.ensures.emptied in
     let e : next k d ≡ Ends o = c.in_ok-outcome.ensures.next ∙ rw c.in-Some-2.is refl in
@@ -182,7 +182,7 @@ returns-in-Some-2-clause-ended g c =
     let d = config_view c.send.new.state in
     let o = outcome_view c.in-Some-2.outcome in
     let s = gone_sent c.code_laws.ensures k c.requires.whole c.requires.typed x b (g.W.Sink.taken c.args.sink.now)
-    (g.W.Sink.taken c.steps.sink) (g.W.Sink.taken c.send.new.sink) c.steps.state c.run_fast-stopped.new.state
+    (g.W.Sink.taken c.steps.sink) (g.W.Sink.taken c.send.new.sink) _ _ c.steps.state c.run_fast-stopped.new.state
     (config_view c.send.new.state) tt c.steps.invariant.so_far c.run_fast-stopped.ensures.gone c.in_ok-send.ensures.put
     c.in_ok-send.ensures.emptied in
     let e : next k d ≡ Ends o = c.in_ok-outcome.ensures.next ∙ rw c.in-Some-2.is refl in
@@ -199,7 +199,7 @@ returns-in_err-outcome-clause-wanted g c =
     let x = pairs_of c.args.context.now in
     let b = budget_view c.args.budget in
     let s = gone_sent c.code_laws.ensures k c.requires.whole c.requires.typed x b (g.W.Sink.taken c.args.sink.now)
-    (g.W.Sink.taken c.steps.sink) (g.W.Sink.taken c.send.new.sink) c.steps.state c.run_fast-stopped.new.state
+    (g.W.Sink.taken c.steps.sink) (g.W.Sink.taken c.send.new.sink) _ _ c.steps.state c.run_fast-stopped.new.state
     (config_view c.send.new.state) tt c.steps.invariant.so_far c.run_fast-stopped.ensures.gone c.in_ok-send.ensures.put
     c.in_ok-send.ensures.emptied in
     if_err_given c.from_residual-in_err-outcome.result _ _ (

@@ -1,0 +1,189 @@
+-- What the statements of templates name has a use with the name.
+use Rattle.std.proofs.Common.{◌≡◌, Bool, true, false, not, ◌||◌, ◌&&◌, List, [], ◌∷◌, ◌++◌, map, refl, sym, ap, subst}
+use Rattle.std.proofs.Common.{◌∙◌, inl, inr, ⊎_elim, Some, ℕ, if◌then◌else◌}
+use Rattle.std.specs.Prelude.{flat_map}
+use Rattle.std.specs.Option.{is_some}
+use Rattle.std.specs.Str.{bytes_eq}
+use Rattle.jt_ast.specs.Expressions.{Text}
+use Rattle.jt_ast.specs.Statements as trees
+use Rattle.jt_ast.specs.Statements.{Stmt, Body, Branches}
+use Rattle.jt_ast.specs.Texts.{among}
+use Rattle.jt_uses.specs.Uses as uses
+use Rattle.jt_uses.specs.Uses.{Use, Site, body_uses, branch_uses, stmt_uses, expr_uses, pair_uses, keys_bound, bound}
+use Rattle.jt_uses.specs.Uses.{filter_call_uses, parameters_bound, macros_bound, condition_uses, place_at, outside}
+use Rattle.jt_uses.specs.Uses.{inside_scope, inside_loop, inside_block, inside_macro}
+use Rattle.jt_uses.specs.declared.site.Enclosing.{Enclosing}
+use Rattle.jt_chains.specs.Along.{AreIndices, templates_at}
+use Rattle.jt_chains.specs.Chain.{Sources, Namespace, a_chain, a_library, listed, Template, templates, extends_of}
+use Rattle.jt_chains.specs.Chain.{libraries, libraries_in}
+use Rattle.jt_chains.specs.Includes.{included, includes_in, need, needs_by, needs_in, needs_under, with_source}
+use Rattle.jt_chains.specs.Needs.{include_need, library_need, needed}
+use Rattle.jt_chains.proofs.IncludeCollection.{by_templates, needed-append}
+use Rattle.jt_inherit.specs.Findings.{ForSome, all_uses, uses_in, asks, is_extends, is_import, is_include, leads_to}
+use Rattle.jt_inherit.specs.internal.Along.{needs_along}
+use Rattle.jt_inherit.proofs.DiscoveryInvariant.{includes_told}
+use Rattle.jt_inherit.proofs.ImportCollection.{imports_needed}
+use Rattle.jt_inherit.proofs.Membership.{among_cases, only_among}
+use Rattle.jt_inherit.proofs.NameMembership.{of_texts, reflexive, same}
+use Rattle.jt_inherit.proofs.SourcesGrow.{among_passes, chains_listed, libraries_listed}
+use Rattle.jt_inherit.proofs.TagPlaces.{HasUse, some_front, some_behind}
+
+-- The use at a place passes the test.
+abbrev Passes : (Use → Bool) → Site → Type 0
+Passes test s = test s.made ≡ true
+
+-- A name among the names of one part or another.
+either : (test : Use → Bool) (n : Text) (xs ys : List Text) (ss us : List Site) → among n (xs ++ ys) ≡ true
+    → (among n xs ≡ true → ForSome (Passes test) ss) → (among n ys ≡ true → ForSome (Passes test) us)
+    → ForSome (Passes test) (ss ++ us)
+either test n xs ys ss us a f g =
+    ⊎_elim (λ p. some_front (Passes test) ss us (f p)) (λ q. some_behind (Passes test) ss us (g q))
+    (among_cases of_texts n xs ys a)
+
+-- ---- includes
+
+module _ (all : Bool) (n : Text) (test : Use → Bool)
+    (passes : (m : Text) (i c : Bool) → among n (need all m i) ≡ true → test (uses.includes m i c) ≡ true) where
+  mutual
+    by_statement : (s : Stmt) (w : Enclosing) → among n (needs_by all s) ≡ true → ForSome (Passes test) (stmt_uses s w)
+    by_statement (trees.include line m i c) w a = inl (passes m i c a)
+    by_statement (trees.choose bs other) w a =
+        either test n (needs_under all bs) (needs_in all other) (branch_uses bs w) (body_uses other w) a
+        (λ p. by_branches bs w p) (λ q. by_body other w q)
+    by_statement (trees.for_each line xs e c body other) w a =
+        some_behind (Passes test)
+        (expr_uses e (place_at line w)
+        ++ (bound xs (place_at line (inside_scope w)) ++ condition_uses c (place_at line w)))
+        (body_uses body (inside_loop w) ++ body_uses other w)
+        (either test n (needs_in all body) (needs_in all other) (body_uses body (inside_loop w)) (body_uses other w) a
+        (λ p. by_body body (inside_loop w) p) (λ q. by_body other w q))
+    by_statement (trees.set_block line x body) w a = inr (by_body body (inside_scope w) a)
+    by_statement (trees.with_values line ps body) w a =
+        some_behind (Passes test) (pair_uses ps (place_at line w))
+        (keys_bound ps (place_at line (inside_scope w)) ++ body_uses body (inside_scope w))
+        (some_behind (Passes test) (keys_bound ps (place_at line (inside_scope w))) (body_uses body (inside_scope w))
+        (by_body body (inside_scope w) a))
+    by_statement (trees.filter_block line fs body) w a =
+        some_behind (Passes test) (filter_call_uses fs (place_at line w)) (body_uses body (inside_scope w))
+        (by_body body (inside_scope w) a)
+    by_statement (trees.autoescape line on body) w a = by_body body (inside_scope w) a
+    by_statement (trees.macro line x ps body) w a =
+        inr (some_behind (Passes test) (parameters_bound ps (place_at line (inside_scope w)))
+        (body_uses body (inside_macro w)) (by_body body (inside_macro w) a))
+    by_statement (trees.block line x scoped required body) w a = inr (by_body body (inside_block w) a)
+    by_statement s w a = absurd (cc)
+
+    by_body : (b : Body) (w : Enclosing) → among n (needs_in all b) ≡ true → ForSome (Passes test) (body_uses b w)
+    by_body trees.end w a = absurd (cc)
+    by_body (trees.stmt s rest) w a =
+        either test n (needs_by all s) (needs_in all rest) (stmt_uses s w) (body_uses rest w) a
+        (λ p. by_statement s w p) (λ q. by_body rest w q)
+
+    by_branches : (bs : Branches) (w : Enclosing) → among n (needs_under all bs) ≡ true
+        → ForSome (Passes test) (branch_uses bs w)
+    by_branches trees.no_branches w a = absurd (cc)
+    by_branches (trees.branch line c body rest) w a =
+        either test n (needs_in all body) (needs_under all rest) (expr_uses c (place_at line w) ++ body_uses body w)
+        (branch_uses rest w) a
+        (λ p. some_behind (Passes test) (expr_uses c (place_at line w)) (body_uses body w) (by_body body w p))
+        (λ q. by_branches rest w q)
+
+-- ---- imports and parents
+
+module _ (n : Text) (test : Use → Bool) (passes : test (uses.imports n) ≡ true) where
+  imports_by : (m : Text) → among n (m ∷ []) ≡ true → test (uses.imports m) ≡ true
+  imports_by m a = subst (λ z. test (uses.imports z) ≡ true) (sym (only_among of_texts m n a)) passes
+
+  libraries_by : (b : Body) (w : Enclosing) → among n (libraries_in b) ≡ true → ForSome (Passes test) (body_uses b w)
+  libraries_by trees.end w a = absurd (cc)
+  libraries_by (trees.stmt (trees.import_as line m x) rest) w a =
+      ⊎_elim (λ p. inl (imports_by m p)) (λ q. inr (inr (libraries_by rest w q)))
+      (among_cases of_texts n (m ∷ []) (libraries_in rest) a)
+  libraries_by (trees.stmt (trees.import_from line m xs) rest) w a =
+      ⊎_elim (λ p. inl (imports_by m p))
+      (λ q.
+      inr (some_behind (Passes test) (macros_bound m xs (place_at line w)) (body_uses rest w) (libraries_by rest w q)))
+      (among_cases of_texts n (m ∷ []) (libraries_in rest) a)
+  libraries_by (trees.stmt s rest) w a =
+      some_behind (Passes test) (stmt_uses s w) (body_uses rest w) (libraries_by rest w a)
+
+extends_by : (n : Text) (b : Body) (w : Enclosing) → extends_of b ≡ Some n
+    → ForSome (Passes (is_extends n)) (body_uses b w)
+extends_by n trees.end w e = absurd (cc)
+extends_by n (trees.stmt (trees.extends line m) rest) w e =
+    let is : m ≡ n = cc in
+    inl (subst (λ z. bytes_eq z n ≡ true) (sym is) (reflexive n))
+extends_by n (trees.stmt s rest) w e =
+    some_behind (Passes (is_extends n)) (stmt_uses s w) (body_uses rest w) (extends_by n rest w e)
+
+-- ---- the uses of templates
+
+with_name : (test : Use → Bool) (n : Text) (ss : List Site) → ForSome (Passes test) ss
+    → HasUse test (map (λ s. (n, s)) ss)
+with_name test n [] h = absurd h
+with_name test n (s ∷ ss) h = ⊎_elim (λ p. inl p) (λ q. inr (with_name test n ss q)) h
+
+pub extends_used : (n : Text) (t : Template) → extends_of t.body ≡ Some n → HasUse (is_extends n) (uses_in t)
+extends_used n t e = with_name (is_extends n) t.name (body_uses t.body outside) (extends_by n t.body outside e)
+
+in_templates : (test : Use → Bool) (n : Text) (g : Body → List Text)
+    → ((b : Body) → among n (g b) ≡ true → ForSome (Passes test) (body_uses b outside)) → (ts : List Template)
+    → among n (flat_map (λ t. g t.body) ts) ≡ true → HasUse test (all_uses ts)
+in_templates test n g f [] a = absurd (cc)
+in_templates test n g f (t ∷ ts) a =
+    ⊎_elim
+    (λ p.
+    some_front (λ (x : Text × Site). test x.1.made ≡ true) (uses_in t) (all_uses ts)
+    (with_name test t.name (body_uses t.body outside) (f t.body p)))
+    (λ q.
+    some_behind (λ (x : Text × Site). test x.1.made ≡ true) (uses_in t) (all_uses ts)
+    (in_templates test n g f ts q))
+    (among_cases of_texts n (g t.body) (flat_map (λ (u : Template). g u.body) ts) a)
+
+asks_include : (all : Bool) (n m : Text) (i c : Bool) → among n (need all m i) ≡ true
+    → asks all n (uses.includes m i c) ≡ true
+asks_include all n m i c a = by (all || not i) a
+  where
+    by : (b : Bool) → among n (if b then m ∷ [] else []) ≡ true → (b && bytes_eq m n) ≡ true
+    by true h = subst (λ z. bytes_eq z n ≡ true) (sym (only_among of_texts m n h)) (reflexive n)
+    by false h = absurd (cc)
+
+-- A template that is asked for has a tag that asks for it.
+pub asked_used : (all : Bool) (n : Text) (ts : List Template) (is : List ℕ) → AreIndices ts is
+    → among n (needed all (needs_along ts is)) ≡ true → HasUse (asks all n) (all_uses (templates_at ts is))
+asked_used all n ts is w a =
+    let us = templates_at ts is in
+    let libs = flat_map (λ (t : Template). libraries_in t.body) us in
+    let told = ap (needed all) (includes_told ts is w)
+    ∙ needed-append all (flat_map (λ (t : Template). includes_in include_need t.body) us) (map library_need libs)
+    ∙ ap (λ l. l ++ needed all (map library_need libs)) (by_templates all us)
+    ∙ ap (λ l. flat_map (λ (t : Template). needs_in all t.body) us ++ l) (imports_needed all libs) in
+    ⊎_elim
+    (λ p.
+    in_templates (asks all n) n (needs_in all)
+    (λ b q. by_body all n (asks all n) (asks_include all n) b outside q) us p)
+    (λ p. in_templates (asks all n) n libraries_in
+    (λ b q. libraries_by n (asks all n) (reflexive n) b outside q) us p)
+    (among_cases of_texts n (flat_map (λ (t : Template). needs_in all t.body) us) libs (sym (ap (among n) told) ∙ a))
+
+-- A chain or library that another one leads to has a tag there that leads to it.
+pub leads_used : (s : Sources) (h m : Namespace) → listed m (included s h) ≡ true
+    → HasUse (leads_to m) (all_uses (templates s h))
+leads_used s h (a_chain n) a =
+    let xs = flat_map (λ (t : Template). needs_in true t.body) (templates s h) in
+    let there = (among_passes (λ m. is_some (s m)) n xs
+    (sym (chains_listed n (with_source s xs) (with_source s (libraries s h))) ∙ a)).0 in
+    in_templates (is_include n) n (needs_in true)
+    (λ b q. by_body true n (is_include n) (λ m i c p.
+    subst (λ z. bytes_eq z n ≡ true) (sym (only_among of_texts m n p)) (reflexive n)) b outside q) (templates s h) there
+leads_used s (a_chain k) (a_library n) a =
+    let xs = flat_map (λ (t : Template). needs_in true t.body) (templates s (a_chain k)) in
+    let there = (among_passes (λ m. is_some (s m)) n (libraries s (a_chain k))
+    (sym (libraries_listed n (with_source s xs) (with_source s (libraries s (a_chain k)))) ∙ a)).0 in
+    in_templates (is_import n) n libraries_in (λ b q. libraries_by n (is_import n) (reflexive n) b outside q)
+    (templates s (a_chain k)) there
+leads_used s (a_library k) (a_library n) a =
+    let xs = flat_map (λ (t : Template). needs_in true t.body) (templates s (a_library k)) in
+    let there : among n [] ≡ true = (among_passes (λ m. is_some (s m)) n []
+    (sym (libraries_listed n (with_source s xs) []) ∙ a)).0 in
+    absurd (cc)

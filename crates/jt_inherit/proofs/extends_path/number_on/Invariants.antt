@@ -1,0 +1,11 @@
+use Rattle.std.proofs.Common.{◌≡◌, drop}
+use Rattle.jt_ast.specs.Texts.{among}
+use Rattle.jt_chains.specs.Along.{templates_at}
+use Rattle.jt_chains.specs.TemplateFiles.{files_view}
+use Rattle.jt_inherit.proofs.PathsGrow.{names}
+use Rattle.jt_inherit.proofs.extends_path.number_on.Given as goal
+
+abbrev pub invariant-loop-number : goal.invariant-loop-number
+invariant-loop-number l =
+    among l.name (names (templates_at (files_view l.files) (drop l.number l.extends_path)))
+    ≡ among l.name (names (templates_at (files_view l.files) l.extends_path))

@@ -1,0 +1,26 @@
+use Rattle.std.proofs.Common.{◌∙◌, ◌<◌, ◌≤◌, List, ℕ, length, ap, arith}
+use Rattle.std.proofs.lemmas.List.{take_all}
+use Rattle.jt_escape.specs.Escaping.{escaped}
+use Rattle.jt_machine.proofs.EscapedLength.{taken_more}
+use Rattle.jt_machine.proofs.escaping.escaped_size.Goals as goal
+
+pub overflow_add-size : goal.overflow_add-size
+overflow_add-size c =
+    let inside : c.bytes.byte-index < length c.args.text.now =
+    rw c.as_bytes-byte-items.ensures.value at c.bytes-test.true in
+    omega (arith, inside, c.bytes.invariant.few, c.escaped_len.ensures.few)
+
+pub bytes-preserved : goal.bytes-preserved
+bytes-preserved c =
+    let more = taken_more c.args.text.now c.as_bytes-byte-items.result.now c.bytes.byte-index c.escaped_len.result
+    c.as_bytes-byte-items.ensures.value c.bytes-test.true c.escaped_len.ensures.len in
+    record {
+      taken = omega (arith, more, c.bytes.invariant.taken);
+      few = omega (arith, c.escaped_len.ensures.few, c.bytes.invariant.few);
+    }
+
+pub returns : goal.returns
+returns c =
+    let text = c.args.text.now in
+    let all : length text ≤ c.bytes.byte-index = rw c.as_bytes-byte-items.ensures.value at c.bytes-test.false in
+    c.bytes.invariant.taken ∙ ap (λ (xs : List ℕ). length (escaped xs)) (take_all c.bytes.byte-index text all)
