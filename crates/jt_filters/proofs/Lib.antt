@@ -1,7 +1,7 @@
 pub mod DistinctItems
 pub mod ApplyCorrect
 pub mod TextKeys
-pub mod BuiltPayloads
+pub mod PlanPayloads
 pub mod Characters
 pub mod FilterRows
 pub mod EndItems

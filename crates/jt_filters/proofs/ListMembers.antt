@@ -1,14 +1,14 @@
 -- The items of a list, found by their indices.
-use Rattle.std.proofs.Common.{◌≡◌, ℕ, zero, suc, ℤ, ◌+◌, ◌<◌, Bool, true, false, cond, ◌||◌, List, [], ◌∷◌, length}
+use Rattle.std.proofs.Common.{◌≡◌, ℕ, zero, suc, ℤ, ◌+◌, ◌<◌, Bool, true, false, cond, List, [], ◌∷◌, length}
 use Rattle.std.proofs.Common.{drop, get_or, Some, None, refl, sym, ap, ◌∙◌, subst, true≢false, arith}
-use Rattle.std.proofs.lemmas.Cmp.{int_eq_equiv, nat_list_cmp_total}
+use Rattle.std.proofs.lemmas.Cmp.{nat_list_cmp_total}
 use Rattle.std.proofs.lemmas.List.{at_drop_more}
 use Rattle.std.specs.BTreeMap.{BTreeMap, insert_entry, is_at}
 use Rattle.std.specs.Map.{lookup}
 use Rattle.std.specs.Cmp.{tied_itself, signed_Decides}
 use Rattle.std.specs.Cmp.Lexicographic.{slice_cmp}
 use Rattle.std.specs.Option.{IsSome, is_some}
-use Rattle.std.specs.Ordering.{int_eq, is_eq, nat_cmp}
+use Rattle.std.specs.Ordering.{is_eq, nat_cmp}
 use Rattle.std.specs.Prelude.{Option, Vec, Result, Ok, Err, OnOk}
 use Rattle.std.specs.declared.alloc.Global.{Global}
 use Rattle.jt_ids.specs.declared.test_id.TestId.TheVariants as test
@@ -16,7 +16,7 @@ use Rattle.jt_op_semantics.specs.Membership.{has_item}
 use Rattle.jt_op_semantics.specs.Testing.{tested}
 use Rattle.jt_value.specs.Equality.{equal, truth_number}
 use Rattle.jt_value.specs.Tree as tree
-use Rattle.jt_value.specs.Tree.{Tree, Items, no_items, item}
+use Rattle.jt_value.specs.Tree.{Tree, Items, item}
 use Rattle.jt_value.specs.View.{view, items_view}
 use Rattle.jt_value.specs.declared.value.Value.{Value}
 use Rattle.jt_filters.specs.declared.members.Indices.{Indices}

@@ -10,6 +10,8 @@ use Rattle.jt_value.specs.Tree as tree
 use Rattle.jt_value.specs.Tree.{Tree, Items, Entries}
 use Rattle.jt_value.specs.Iteration.{character_items, key_items}
 use Rattle.jt_value.specs.Payload.{items_of_list, entries_of_map}
+use Rattle.jt_filters.specs.declared.operand.Operand.{Operand}
+use Rattle.jt_filters.specs.internal.Operands.{operand_items}
 
 pub list_is : (t : Tree) (ts : Items) → Some ts ≡ items_of_list t → t ≡ tree.list ts
 list_is a0 a1 a2 = search (arith, rules)
@@ -36,4 +38,8 @@ pub keys_count : (es : List Pair) → items_count (key_items (entries_view es)) 
 keys_count [] = refl
 keys_count (e ∷ es) = omega (arith, keys_count es)
 
-pub ruleset item_counts = (items_count_view, characters_count, keys_count)
+pub operands_count : (os : List Operand) → items_count (operand_items os) ≡ length os
+operands_count [] = refl
+operands_count (o ∷ os) = omega (arith, operands_count os)
+
+pub ruleset item_counts = (items_count_view, characters_count, keys_count, operands_count)

@@ -6,3 +6,5 @@ pub mod Ranks
 pub mod Rows
 pub mod Seen
 pub mod NumberEntries
+pub mod TextChanges
+pub mod Plans

@@ -7,18 +7,20 @@ ghost use Rattle.jt_value.specs.Tree as tree;
 ghost use Rattle.jt_value.specs.View.{view, items_view};
 ghost use Rattle.jt_ids.specs.TestTable.{test_values};
 ghost use Rattle.jt_op_semantics.specs.Testing as testing;
-ghost use Rattle.jt_filter_semantics.specs.Mapping.{attribute_or_item, if_kept, in_front, alone};
+ghost use Rattle.jt_filter_semantics.specs.Mapping.{attribute_or_item, if_kept, in_front};
 ghost use Rattle.jt_filters.specs.internal.Operands.{tree_of, chosen};
 ghost use Rattle.jt_filters.specs.internal.Rows.{judges, Judges, kept, gives, Gives, row_measured};
 ghost use Rattle.jt_filters.specs.internal.Rows.{RowFault, IsSought, IsJudged};
+ghost use Rattle.jt_filters.specs.internal.Plans.{planned_row};
 
 use crate::attributes::item_of;
-use crate::building::build;
-use crate::joining::{Separator, join, join_measure};
-use crate::maker::{Maker, lists_items};
-use crate::measuring::measure;
+use crate::item_list::items_of;
+use crate::joining::Separator;
+use crate::maker::Maker;
 use crate::members::Members;
 use crate::operand::Operand;
+use crate::planning::Call;
+use crate::plans::Plan;
 use jt_ids::{FilterId, TestId};
 use jt_ops::{test_of, test_of_text};
 use jt_search::TextIndex;
@@ -48,14 +50,6 @@ pub(crate) struct Selection<'a> {
     pub(crate) predicate: Predicate<'a>,
 }
 
-/// A filter that is called on each item.
-#[derive(Clone, Copy)]
-pub(crate) struct InnerCall<'a> {
-    pub(crate) filter: FilterId,
-    pub(crate) autoescape: bool,
-    pub(crate) arguments: &'a [Value],
-}
-
 /// The action on each item.
 #[derive(Clone, Copy)]
 pub(crate) enum ItemAction<'a> {
@@ -64,7 +58,7 @@ pub(crate) enum ItemAction<'a> {
     /// The attribute of the item with this key.
     Attribute(&'a str),
     /// The result of a filter on the item.
-    Filter(InnerCall<'a>),
+    Filter(Call<'a>),
     /// The join of the item's items under autoescaping.
     Join(Separator<'a>),
 }
@@ -129,17 +123,6 @@ impl<'a> Selection<'a> {
             Some(key) => item_of(item, key),
             None => Ok(item),
         }
-    }
-}
-
-impl InnerCall<'_> {
-    /// Returns whether the filter makes texts of one character if the item is a text.
-    pub(crate) fn makes_letters(self) -> bool {
-        lists_items(self.filter)
-            || matches!(
-                self.filter,
-                FilterId::First | FilterId::Last | FilterId::Max | FilterId::Min
-            )
     }
 }
 
@@ -212,23 +195,47 @@ impl<'a> ItemAction<'a> {
         }
     }
 
+    /// Returns whether the action makes texts of one character if the items are texts.
+    pub(crate) fn makes_letters(self) -> bool {
+        match self {
+            ItemAction::Filter(call) => matches!(
+                call.filter,
+                FilterId::First
+                    | FilterId::Last
+                    | FilterId::List
+                    | FilterId::Max
+                    | FilterId::Min
+                    | FilterId::Sort
+                    | FilterId::Unique
+            ),
+            _ => false,
+        }
+    }
+
+    /// Returns the plan of the action's result on an item, if it has one.
+    fn plan(self, alloc: Global, item: Operand<'a>) -> Result<Option<Plan<'a>>, Fault>
+        requires { Gives self }
+        ensures { planned_row result ≡ gives self.entry (tree_of item.entry) }
+    {
+        match self {
+            ItemAction::Keep(selection) => Ok(plan_if(selection.keeps(alloc, item)?, item)),
+            ItemAction::Attribute(key) => Ok(Some(Plan::Operand(item_of(item, key)?))),
+            ItemAction::Filter(call) => Ok(Some(call.plan(item)?)),
+            ItemAction::Join(separator) => {
+                Ok(Some(Plan::Joined(items_of(item)?, separator, true)))
+            },
+        }
+    }
+
     /// Returns the size and the nesting of the action's result on an item, or zeros if it has none.
-    #[tactic(auto, using(crate::proofs::ItemResults::action_measures))]
+    #[tactic(auto, using(crate::proofs::ItemResults::alone_measured))]
     pub(crate) fn measure(self, alloc: Global, item: Operand<'a>) -> Result<(u64, u32), Fault>
         requires { Gives self }
         ensures { result ≡ row_measured (gives self.entry (tree_of item.entry)) }
     {
-        match self {
-            ItemAction::Keep(selection) => Ok(measure_if(selection.keeps(alloc, item)?, item)),
-            ItemAction::Attribute(key) => measured(item_of(item, key)),
-            ItemAction::Filter(call) => measure(
-                alloc,
-                call.filter,
-                item,
-                call.arguments,
-                call.autoescape,
-            ),
-            ItemAction::Join(separator) => join_measure(item, separator, true),
+        match self.plan(alloc, item)? {
+            Some(plan) => plan.measure(alloc),
+            None => Ok((0, 0)),
         }
     }
 
@@ -246,20 +253,21 @@ impl<'a> ItemAction<'a> {
             ≡ Ok (items_view values.new.items)) }
         ensures fault { IfErr result (RowFault (gives self.entry (tree_of item.entry))) }
     {
-        let value = match self {
-            ItemAction::Keep(selection) => {
-                if !selection.keeps(maker.alloc, item)? {
-                    return Ok(());
-                }
-                item.value(maker)?
-            },
-            ItemAction::Attribute(key) => item_of(item, key)?.value(maker)?,
-            ItemAction::Filter(call) => {
-                build(maker, call.filter, item, call.arguments, call.autoescape)?
-            },
-            ItemAction::Join(separator) => join(maker, item, separator.operand, true)?,
-        };
-        Ok(put(values, value)?)
+        match self.plan(maker.alloc, item)? {
+            Some(plan) => Ok(put(values, plan.build(maker)?)?),
+            None => Ok(()),
+        }
+    }
+}
+
+/// Returns the plan of an item, if it is kept.
+fn plan_if(keeps: bool, item: Operand<'_>) -> Option<Plan<'_>>
+    ensures { planned_row (Ok result) ≡ if_kept (tree_of item.entry) (Ok keeps) }
+{
+    if keeps {
+        Some(Plan::Operand(item))
+    } else {
+        None
     }
 }
 
@@ -269,23 +277,4 @@ fn put(values: &mut Vec<Value>, value: Value) -> Result<(), NoMemory>
 {
     values.push(value)?;
     Ok(())
-}
-
-/// Returns the size and the nesting of an item, or zeros if it is not kept.
-fn measure_if(keeps: bool, item: Operand<'_>) -> (u64, u32)
-    ensures { Ok result ≡ row_measured (if_kept (tree_of item.entry) (Ok keeps)) }
-{
-    if keeps {
-        (item.size(), item.nesting())
-    } else {
-        (0, 0)
-    }
-}
-
-/// Returns the size and the nesting of an operand as the only item, or its fault.
-fn measured(given: Result<Operand<'_>, Fault>) -> Result<(u64, u32), Fault>
-    ensures { result ≡ row_measured (alone (chosen given.entry)) }
-{
-    let operand = given?;
-    Ok((operand.size(), operand.nesting()))
 }
