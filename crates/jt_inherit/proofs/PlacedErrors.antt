@@ -43,7 +43,7 @@ use Rattle.jt_inherit.proofs.DiscoveryInvariant.{some_source, none_read}
 use Rattle.jt_inherit.proofs.Membership.{among_next, once_more}
 use Rattle.jt_inherit.proofs.NameMembership.{of_texts}
 use Rattle.jt_inherit.proofs.PathTemplates.{all_among, all_named, never}
-use Rattle.jt_inherit.proofs.PathsGrow.{names, names_lead, templates_lead, few_templates, all_templates, last_at}
+use Rattle.jt_inherit.proofs.PathsGrow.{shows, names, names_lead, templates_lead, few_templates, all_templates, last_at}
 use Rattle.jt_inherit.specs.Refusals.{Breaks}
 use Rattle.jt_inherit.specs.internal.SetView.{key_view}
 use Rattle.jt_inherit.specs.declared.finding.ChainFinding.{ChainFinding}
@@ -225,7 +225,7 @@ module _ {given : SourceTexts} {options : Options} {root : Text} {ts : List Temp
   pub shown : (e : ChainError) (p : TagPlace) (x : ChainSubject)
       → IsBrokenAt given (sources_in ts) options.autoescape (a_chain root) h e p x
       → Says given root options (Some p) (Some x) e
-  shown e p x b = record { templates = ts; read = known.read; only = known.only; holds = (h, r, b) }
+  shown e p x b = shows known (h, r, b)
 
   unread_root : (n : Text) → namespace_name h ≡ n → is_some (sources_in ts n) ≡ false → n ≡ root
   unread_root n e none =

@@ -181,19 +181,7 @@ module _ (s r : Sources) where
   in_imports (trees.stmt (trees.import_from line n xs) rest) g =
       within_both (in_from n xs (g n (ap (λ c. c || among n (libraries_in rest)) (reflexive n))))
       (in_imports rest (λ m a. g m (or_true (bytes_eq n m) (among m (libraries_in rest)) a)))
-  in_imports (trees.stmt (trees.data_of t) rest) g = in_imports rest g
-  in_imports (trees.stmt (trees.print line e) rest) g = in_imports rest g
-  in_imports (trees.stmt (trees.choose bs other) rest) g = in_imports rest g
-  in_imports (trees.stmt (trees.for_each line xs e c body other) rest) g = in_imports rest g
-  in_imports (trees.stmt (trees.set line xs e) rest) g = in_imports rest g
-  in_imports (trees.stmt (trees.set_block line x body) rest) g = in_imports rest g
-  in_imports (trees.stmt (trees.with_values line ps body) rest) g = in_imports rest g
-  in_imports (trees.stmt (trees.filter_block line fs body) rest) g = in_imports rest g
-  in_imports (trees.stmt (trees.autoescape line on body) rest) g = in_imports rest g
-  in_imports (trees.stmt (trees.macro line x ps body) rest) g = in_imports rest g
-  in_imports (trees.stmt (trees.include line n i c) rest) g = in_imports rest g
-  in_imports (trees.stmt (trees.extends line x) rest) g = in_imports rest g
-  in_imports (trees.stmt (trees.block line x scoped required body) rest) g = in_imports rest g
+  in_imports (trees.stmt t rest) g = in_imports rest g
 
   lacking : (b : Body) → Carries s r (libraries_in b) → rules.lacks_macros s b ≡ true → rules.lacks_macros r b ≡ true
   lacking trees.end g h = h
@@ -212,19 +200,7 @@ module _ (s r : Sources) where
           (f (sym (ap (λ c. c || rules.lacks_macros s rest) e) ∙ h))
   lacking (trees.stmt (trees.import_as line n x) rest) g h =
       lacking rest (λ m a. g m (or_true (bytes_eq n m) (among m (libraries_in rest)) a)) h
-  lacking (trees.stmt (trees.data_of t) rest) g h = lacking rest g h
-  lacking (trees.stmt (trees.print line e) rest) g h = lacking rest g h
-  lacking (trees.stmt (trees.choose bs other) rest) g h = lacking rest g h
-  lacking (trees.stmt (trees.for_each line xs e c body other) rest) g h = lacking rest g h
-  lacking (trees.stmt (trees.set line xs e) rest) g h = lacking rest g h
-  lacking (trees.stmt (trees.set_block line x body) rest) g h = lacking rest g h
-  lacking (trees.stmt (trees.with_values line ps body) rest) g h = lacking rest g h
-  lacking (trees.stmt (trees.filter_block line fs body) rest) g h = lacking rest g h
-  lacking (trees.stmt (trees.autoescape line on body) rest) g h = lacking rest g h
-  lacking (trees.stmt (trees.macro line x ps body) rest) g h = lacking rest g h
-  lacking (trees.stmt (trees.include line n i c) rest) g h = lacking rest g h
-  lacking (trees.stmt (trees.extends line x) rest) g h = lacking rest g h
-  lacking (trees.stmt (trees.block line x scoped required body) rest) g h = lacking rest g h
+  lacking (trees.stmt t rest) g h = lacking rest g h
 
   all_imports : (ts : List Template) → Carries s r (flat_map (λ t. libraries_in t.body) ts)
       → Within (flat_map (λ t. imported_names s t.body) ts) (flat_map (λ t. imported_names r t.body) ts)
