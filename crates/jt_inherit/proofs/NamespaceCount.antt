@@ -5,8 +5,8 @@ use Rattle.std.proofs.Common.{refl, sym, ap, ◌∙◌, subst, arith, length-app
 use Rattle.std.specs.Prelude.{not, flat_map, filter, IsTrue}
 use Rattle.std.proofs.lemmas.List.{length-map}
 use Rattle.jt_ast.specs.Expressions.{Text}
-use Rattle.jt_ast.specs.Statements.{Stmt, data_of, print, choose, for_each, set, set_block, with_values, filter_block}
-use Rattle.jt_ast.specs.Statements.{autoescape, macro, include, import_as, import_from, extends, block, Body, end, stmt}
+use Rattle.jt_ast.specs.Statements.{Stmt, choose, for_each, set_block, with_values, filter_block}
+use Rattle.jt_ast.specs.Statements.{autoescape, macro, import_as, import_from, block, Body, end, stmt}
 use Rattle.jt_ast.specs.Statements.{Branches, no_branches, branch, stmt_weight, body_weight, branch_weight}
 use Rattle.jt_chains.specs.Chain.{Sources, Namespace, a_chain, a_library, same_namespace, listed, Template, templates}
 use Rattle.jt_chains.specs.Chain.{libraries, libraries_in}

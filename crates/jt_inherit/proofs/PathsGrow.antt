@@ -63,7 +63,7 @@ leads_more s (Some n) (u ∷ ts) t l e = (l.0, l.1, leads_more s (extends_of u.b
 
 -- ---- the names on a path
 
-none_up : (s : Sources) (k : ℕ) → names_up s k None ≡ []
+pub none_up : (s : Sources) (k : ℕ) → names_up s k None ≡ []
 none_up s zero = refl
 none_up s (suc k) = refl
 

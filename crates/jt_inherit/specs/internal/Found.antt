@@ -1,6 +1,6 @@
 -- The invariants of the search for chains and libraries. They concern includes and imports, and the
 -- chains and libraries that were followed. Only private clauses cite this module.
-use Rattle.std.specs.Prelude.{◌≡◌, ℕ, ◌<◌, ◌≤◌, ◌⊎◌, true, false, Bool, IsTrue, List, [], ◌∷◌, ◌++◌, ◌||◌, length, map}
+use Rattle.std.specs.Prelude.{◌≡◌, ℕ, ◌<◌, ◌≤◌, ◌⊎◌, false, Bool, IsTrue, List, [], ◌∷◌, ◌++◌, ◌||◌, length, map}
 use Rattle.std.specs.Prelude.{filter, slice_get, Some, None}
 use Rattle.std.specs.List.{AllByRecursion}
 use Rattle.jt_graph.specs.Graph.{IsClosed, next_of}

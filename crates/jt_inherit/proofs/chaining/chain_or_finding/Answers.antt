@@ -1,7 +1,6 @@
-use Rattle.std.proofs.Common.{List, map, sym, ap, subst}
-use Rattle.std.specs.List.{AllByRecursion}
+use Rattle.std.proofs.Common.{List, ap, subst}
 use Rattle.std.proofs.lemmas.Result.{err_from_is_err_and}
-use Rattle.jt_chains.specs.TemplateFiles.{namespace_view, files_view}
+use Rattle.jt_chains.specs.TemplateFiles.{files_view}
 use Rattle.jt_chains.specs.Tables.{AreAt}
 use Rattle.jt_chains.specs.declared.files.TemplateFile.{TemplateFile}
 use Rattle.jt_inherit.specs.internal.Found.{found_templates}
