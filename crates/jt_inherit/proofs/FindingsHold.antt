@@ -12,8 +12,9 @@ use Rattle.jt_inherit.specs.Chains.{SourceTexts}
 use Rattle.jt_inherit.specs.Findings.{IsFinding, IsNoMemory, Says, ForSome, HasTag, HasTwoTags, binds_macro, defines}
 use Rattle.jt_inherit.specs.Findings.{IsNotGiven, HasNoSuper, all_uses, is_block, may_be_bare}
 use Rattle.jt_inherit.specs.internal.ExtendsPaths.{AreKnown, IsExtendsPath}
-use Rattle.jt_inherit.specs.internal.Breaking.{BrokenIn, RuleAt}
+use Rattle.jt_inherit.specs.internal.Breaking.{BrokenIn, IsOfRule, RuleAt}
 use Rattle.jt_inherit.specs.internal.RuleTests.{BreakOne}
+use Rattle.jt_inherit.specs.internal.FindsAt.{IsBroken}
 use Rattle.jt_inherit.specs.internal.Unmet.{IsUnmet, IsUnmetNeed}
 use Rattle.jt_inherit.specs.internal.Placing.{need_test}
 use Rattle.jt_inherit.specs.declared.error.ChainError.{ChainError}
@@ -60,6 +61,18 @@ module _ {given : SourceTexts} {root : Text} {options : Options} where
             (need_used w.indices n) f.place f.subject n.placed.1;
       })
       unmet
+
+-- The finding of a rule that the templates break, or lack of memory.
+pub rule_broken : {s : Sources} {escaping : Bool} {ts : List Template} {e : ChainError} {f : ChainFinding}
+    → BreakOne s escaping ts e → IsOfRule s ts e f → IsBroken s escaping ts f
+rule_broken {s} {escaping} {ts} {e} {f} b r = record {
+  broken = subst (BreakOne s escaping ts) (sym r.0) b;
+  said = subst (RuleAt s ts f.place f.subject) (sym r.0) r.1;
+}
+
+pub memory_broken : {s : Sources} {escaping : Bool} {ts : List Template} {f : ChainFinding} → IsNoMemory f
+    → IsBroken s escaping ts f
+memory_broken {s} {escaping} {ts} m = subst (IsBroken s escaping ts) (sym m) (record { broken = tt; said = tt })
 
 -- A broken rule on the blocks, macros and imports of a chain or library.
 module _ {given : SourceTexts} {root : Text} {options : Options} {ts : List Template} {ks : List Text}

@@ -117,19 +117,7 @@ imports_named s (trees.stmt (trees.import_from line n xs) rest) =
     ∙ ap (λ l. l ++ map (λ (g : Text × Definition). g.0) (imports_in s rest))
     (from_named n (macros s (a_library n)) xs s refl)
     ∙ ap (λ l. names_from (macros s (a_library n)) xs ++ l) (imports_named s rest)
-imports_named s (trees.stmt (trees.data_of t) rest) = imports_named s rest
-imports_named s (trees.stmt (trees.print line e) rest) = imports_named s rest
-imports_named s (trees.stmt (trees.choose bs other) rest) = imports_named s rest
-imports_named s (trees.stmt (trees.for_each line xs e c body other) rest) = imports_named s rest
-imports_named s (trees.stmt (trees.set line xs e) rest) = imports_named s rest
-imports_named s (trees.stmt (trees.set_block line x body) rest) = imports_named s rest
-imports_named s (trees.stmt (trees.with_values line ps body) rest) = imports_named s rest
-imports_named s (trees.stmt (trees.filter_block line fs body) rest) = imports_named s rest
-imports_named s (trees.stmt (trees.autoescape line on body) rest) = imports_named s rest
-imports_named s (trees.stmt (trees.macro line x ps body) rest) = imports_named s rest
-imports_named s (trees.stmt (trees.include line n i c) rest) = imports_named s rest
-imports_named s (trees.stmt (trees.extends line x) rest) = imports_named s rest
-imports_named s (trees.stmt (trees.block line x scoped required body) rest) = imports_named s rest
+imports_named s (trees.stmt t rest) = imports_named s rest
 
 pub all_imported : (s : Sources) (ts : List Template)
     → map (λ g. g.0) (flat_map (λ t. imports_in s t.body) ts) ≡ flat_map (λ t. imported_names s t.body) ts

@@ -22,6 +22,7 @@ use Rattle.jt_inherit.specs.declared.finding.TagPlace.{TagPlace}
 use Rattle.jt_inherit.proofs.DiscoveryInvariant.{followed_len, followed_number, included_is, whole_path}
 use Rattle.jt_inherit.proofs.FindingsHold.{no_memory}
 use Rattle.jt_inherit.proofs.PathTemplates.{and_true}
+use Rattle.jt_inherit.proofs.PathsGrow.{shows}
 use Rattle.jt_inherit.proofs.PlacedErrors.{reached_source, shown}
 use Rattle.jt_inherit.proofs.TagPlaces.{HasUse, placed}
 use Rattle.jt_inherit.proofs.TopologicalOrder.{namespace_among}
@@ -80,12 +81,7 @@ module _ {given : SourceTexts} {options : Options} {entry : Text} {ts : List Tem
       record {
         broken =
             subst (λ z. Breaks z given entry options) (sym told.error)
-            (record {
-              templates = ts;
-              read = f.known.read;
-              only = f.known.only;
-              holds = (a_library n, here, (n, refl, other));
-            });
+            (shows f.known (a_library n, here, (n, refl, other)));
         says =
             subst (λ z. Says given entry options x.place x.subject z) (sym told.error)
             (import_said n a other x.place told.place x.subject told.subject);

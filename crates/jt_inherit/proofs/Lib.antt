@@ -15,7 +15,6 @@ pub mod ImportCollection
 pub mod RefusalsPersist
 pub mod PathsGrow
 pub mod TreeLengths
-pub mod NamespaceListing
 pub mod Membership
 pub mod NameSets
 pub mod ValidNames
@@ -26,7 +25,6 @@ pub mod RawLengths
 pub mod ChainRules
 pub mod ChainIsUnique
 pub mod StoreLookup
-pub mod SuperInBranches
 pub mod TreeWeights
 pub mod ChainComplete
 pub mod PlacedErrors

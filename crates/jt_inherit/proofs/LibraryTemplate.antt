@@ -15,7 +15,7 @@ use Rattle.jt_chains.specs.TemplateFiles.{files_view}
 use Rattle.jt_chains.specs.declared.files.TemplateFile.{TemplateFile}
 use Rattle.jt_chains.proofs.TemplatesByIndex.{only_one}
 use Rattle.jt_inherit.specs.Chains.{SourceTexts}
-use Rattle.jt_inherit.specs.internal.ExtendsPaths.{AreKnown, HasRead, IsAt, IsExtendsPath}
+use Rattle.jt_inherit.specs.internal.ExtendsPaths.{AreKnown, HasRead, IsExtendsPath}
 use Rattle.jt_inherit.specs.internal.Imported.{is_no_library}
 use Rattle.jt_inherit.specs.internal.Sets.{names_view}
 use Rattle.jt_inherit.specs.declared.sets.Names.{Names}

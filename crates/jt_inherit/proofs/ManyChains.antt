@@ -19,6 +19,7 @@ use Rattle.jt_inherit.specs.declared.finding.ChainSubject.{ChainSubject}
 use Rattle.jt_inherit.specs.declared.finding.ChainSubject.TheVariants as v
 use Rattle.jt_inherit.proofs.DiscoveryInvariant.{whole_path}
 use Rattle.jt_inherit.proofs.FindingsHold.{no_memory}
+use Rattle.jt_inherit.proofs.PathsGrow.{shows}
 use Rattle.jt_inherit.proofs.PlacedErrors.{said_at, shown}
 use Rattle.jt_inherit.proofs.TagPlaces.{HasUse}
 use Rattle.jt_inherit.proofs.UsesFound.{leads_used}
@@ -33,12 +34,7 @@ module _ {given : SourceTexts} {options : Options} {root : Text} {ts : List Temp
   many_broken : {n : Text} → TooMany old (chosen ks (needs_along ts is)) n
       → Breaks error.ChainTooLong given root options
   many_broken t =
-      record {
-        templates = ts;
-        read = known.read;
-        only = known.only;
-        holds = inr (t.chains, t.many, ap not t.once, λ m a. reached (a_chain m) (t.from m a));
-      }
+      shows known (inr (t.chains, t.many, ap not t.once, λ m a. reached (a_chain m) (t.from m a)))
 
   many_said : {n : Text} → TooMany old (chosen ks (needs_along ts is)) n
       → HasUse (is_include n) (all_uses (templates_at ts is)) → (f : ChainFinding)

@@ -1,5 +1,5 @@
 -- What the place of an error at the name of a template shows in each chain that reaches the tag.
-use Rattle.std.proofs.Common.{◌≡◌, ℕ, suc, ◌+◌, ◌-◌, ◌<◌, ◌≤◌, Bool, true, false, not, ◌||◌, List, [], ◌∷◌, ◌++◌}
+use Rattle.std.proofs.Common.{◌≡◌, ℕ, suc, ◌+◌, ◌-◌, ◌<◌, ◌≤◌, Bool, true, false, not, List, [], ◌∷◌, ◌++◌}
 use Rattle.std.proofs.Common.{length}
 use Rattle.std.proofs.Common.{String, Global, drop, get_or, map, zero, refl, sym, ap, subst, ◌∙◌, arith, inl, inr}
 use Rattle.std.proofs.Common.{◌⊎◌, ⊎_elim, Option, Some, None, string_bytes}
@@ -26,7 +26,7 @@ use Rattle.jt_inherit.specs.Findings.{ForSome, IsAt, HasTag, all_uses, uses_in, 
 use Rattle.jt_inherit.specs.Findings.{last_of, may_be_bare}
 use Rattle.jt_inherit.specs.internal.ExtendsPaths.{AreKnown, BreaksAll, Grow, IsExtendsPath, Leads, SaysAll}
 use Rattle.jt_inherit.specs.internal.Faults.{IsFaultOf}
-use Rattle.jt_inherit.specs.internal.Placing.{IsCycle, IsLong, IsNamed, IsNamedOn, IsNameless, IsOfName, IsOfNeed}
+use Rattle.jt_inherit.specs.internal.Placing.{IsCycle, IsLong, IsNamedOn, IsNameless, IsOfName, IsOfNeed}
 use Rattle.jt_inherit.specs.internal.Placing.{IsOneMore, IsRound, NamedAt, need_test, parent_at, uses_at, uses_of}
 use Rattle.jt_chains.specs.Needs.{Need, need_view, needed, needs_view}
 use Rattle.jt_chains.specs.declared.include_tags.NeededTemplate.{NeededTemplate}
@@ -43,8 +43,7 @@ use Rattle.jt_inherit.proofs.DiscoveryInvariant.{some_source, none_read}
 use Rattle.jt_inherit.proofs.Membership.{among_next, once_more}
 use Rattle.jt_inherit.proofs.NameMembership.{of_texts}
 use Rattle.jt_inherit.proofs.PathTemplates.{all_among, all_named, never}
-use Rattle.jt_inherit.proofs.PathsGrow.{names, names_lead, templates_lead, few_templates, all_templates, last_at}
-use Rattle.jt_inherit.specs.Refusals.{Breaks}
+use Rattle.jt_inherit.proofs.PathsGrow.{shows, names, names_lead, templates_lead, few_templates, all_templates, last_at}
 use Rattle.jt_inherit.specs.internal.SetView.{key_view}
 use Rattle.jt_inherit.specs.declared.finding.ChainFinding.{ChainFinding}
 use Rattle.jt_inherit.specs.declared.sets.NamespaceKey.{NamespaceKey}
@@ -225,7 +224,7 @@ module _ {given : SourceTexts} {options : Options} {root : Text} {ts : List Temp
   pub shown : (e : ChainError) (p : TagPlace) (x : ChainSubject)
       → IsBrokenAt given (sources_in ts) options.autoescape (a_chain root) h e p x
       → Says given root options (Some p) (Some x) e
-  shown e p x b = record { templates = ts; read = known.read; only = known.only; holds = (h, r, b) }
+  shown e p x b = shows known (h, r, b)
 
   unread_root : (n : Text) → namespace_name h ≡ n → is_some (sources_in ts n) ≡ false → n ≡ root
   unread_root n e none =

@@ -97,18 +97,7 @@ module _ (options : Options) (given : Text) (s : Held)
   unspelled name e (error.Parse n f) c h r none p =
       (p.0, subst (λ z. IsUnspelled z options given) (sym p.1) (refused_as e p.2 c h r), none p.2)
   unspelled name e error.NoMemory c h r none p = tt
-  unspelled name e (error.Scan n f) c h r none p = absurd p
-  unspelled name e error.Missing c h r none p = absurd p
-  unspelled name e error.BadName c h r none p = absurd p
-  unspelled name e error.ExtendsCycle c h r none p = absurd p
-  unspelled name e error.ChainTooLong c h r none p = absurd p
-  unspelled name e error.DoubleBlock c h r none p = absurd p
-  unspelled name e error.RequiredNotGiven c h r none p = absurd p
-  unspelled name e error.NoSuper c h r none p = absurd p
-  unspelled name e error.IncludeCycle c h r none p = absurd p
-  unspelled name e error.MacroTwice c h r none p = absurd p
-  unspelled name e error.NoMacro c h r none p = absurd p
-  unspelled name e error.NotALibrary c h r none p = absurd p
+  unspelled name e x c h r none p = absurd p
 
 -- ---- a source that cannot be cut
 

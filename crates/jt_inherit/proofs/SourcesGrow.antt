@@ -21,7 +21,7 @@ use Rattle.jt_inherit.specs.internal.ExtendsPaths.{BreaksAll, Grow}
 use Rattle.jt_inherit.specs.internal.SetView.{key_view}
 use Rattle.jt_inherit.specs.declared.error.ChainError.{ChainError}
 use Rattle.jt_inherit.specs.declared.sets.NamespaceKey.{NamespaceKey}
-use Rattle.jt_inherit.proofs.PathsGrow.{more_sources}
+use Rattle.jt_inherit.proofs.PathsGrow.{more_sources, none_up}
 use Rattle.jt_inherit.proofs.NameMembership.{of_texts, reflexive, same}
 use Rattle.jt_inherit.proofs.NamespaceSets.{is_chain}
 use Rattle.jt_inherit.proofs.Membership.{among_behind, among_cases, among_front, or_true}
@@ -39,10 +39,6 @@ passes_among p x [] h t = absurd (cc)
 passes_among p x (y ∷ xs) h t = search (arith, rules, passes_among p x xs, or_true, same)
 
 -- ---- the templates of a chain when sources grow
-
-none_up : (s : Sources) (k : ℕ) → names_up s k None ≡ []
-none_up s zero = refl
-none_up s (suc k) = refl
 
 pub up_some : (s : Sources) (k : ℕ) (n : Text) (b : Body) → s n ≡ Some b
     → flat_map (λ m. template m (s m)) (names_up s (suc k) (Some n))

@@ -80,7 +80,7 @@ no_macros s n e = search (arith, rules)
 no_macro : (x : Text) → public_macro x [] ≡ None
 no_macro x = search (arith, rules)
 
-none_from : (xs : List (Text × Text)) → names_from [] xs ≡ []
+pub none_from : (xs : List (Text × Text)) → names_from [] xs ≡ []
 none_from [] = refl
 none_from (x ∷ xs) =
     ap (λ (o : Option MacroBody). (if is_some o then x.1 ∷ [] else []) ++ names_from [] xs) (no_macro x.0)
@@ -96,6 +96,14 @@ pub nothing_lacks : (s : Sources) (n : Text) (xs : List (Text × Text)) → is_a
 nothing_lacks s n [] e = refl
 nothing_lacks s n (x ∷ xs) e =
     ap (λ b. (b && is_none (public_macro x.0 (macros s (a_library n)))) || lacks_one s n xs) e ∙ nothing_lacks s n xs e
+
+-- A library with the same tree lacks the same macros.
+pub lacks_same : (s r : Sources) (n : Text) (xs : List (Text × Text)) → s n ≡ r n → lacks_one s n xs ≡ lacks_one r n xs
+lacks_same s r n [] e = refl
+lacks_same s r n (x ∷ xs) e =
+    ap (λ o. (is_a_library o && is_none (public_macro x.0 (own_macros (library_template n o)))) || lacks_one s n xs) e
+    ∙ ap (λ b. (is_a_library (r n) && is_none (public_macro x.0 (macros r (a_library n)))) || b)
+    (lacks_same s r n xs e)
 
 pub library_lacks : (s : Sources) (n : Text) (xs : List (Text × Text)) → is_a_library (s n) ≡ true
     → lacks_one s n xs ≡ has_not (macros s (a_library n)) xs

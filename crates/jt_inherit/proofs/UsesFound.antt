@@ -1,5 +1,5 @@
 -- What the statements of templates name has a use with the name.
-use Rattle.std.proofs.Common.{◌≡◌, Bool, true, false, not, ◌||◌, ◌&&◌, List, [], ◌∷◌, ◌++◌, map, refl, sym, ap, subst}
+use Rattle.std.proofs.Common.{◌≡◌, Bool, true, false, not, ◌||◌, ◌&&◌, List, [], ◌∷◌, ◌++◌, map, sym, ap, subst}
 use Rattle.std.proofs.Common.{◌∙◌, inl, inr, ⊎_elim, Some, ℕ, if◌then◌else◌}
 use Rattle.std.specs.Prelude.{flat_map}
 use Rattle.std.specs.Option.{is_some}
@@ -24,7 +24,7 @@ use Rattle.jt_inherit.specs.internal.Along.{needs_along}
 use Rattle.jt_inherit.proofs.DiscoveryInvariant.{includes_told}
 use Rattle.jt_inherit.proofs.ImportCollection.{imports_needed}
 use Rattle.jt_inherit.proofs.Membership.{among_cases, only_among}
-use Rattle.jt_inherit.proofs.NameMembership.{of_texts, reflexive, same}
+use Rattle.jt_inherit.proofs.NameMembership.{of_texts, reflexive}
 use Rattle.jt_inherit.proofs.SourcesGrow.{among_passes, chains_listed, libraries_listed}
 use Rattle.jt_inherit.proofs.TagPlaces.{HasUse, some_front, some_behind}
 

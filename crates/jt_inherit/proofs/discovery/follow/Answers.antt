@@ -8,7 +8,6 @@ use Rattle.jt_graph.specs.View.{graph_of}
 use Rattle.jt_ast.specs.Texts.{among}
 use Rattle.jt_chains.specs.Along.{AreIndices, templates_at}
 use Rattle.jt_inherit.specs.internal.Along.{needs_along}
-use Rattle.jt_chains.specs.Indices.{namespace_at}
 use Rattle.jt_chains.specs.Needs.{needed}
 use Rattle.jt_chains.specs.TemplateFiles.{files_view}
 use Rattle.jt_chains.specs.declared.files.TemplateFile.{TemplateFile}
