@@ -12,7 +12,7 @@ const PLACES: usize = 64;
 /// The number of bytes of the longest values that are shared. Longer texts seldom occur again.
 const SHORT: usize = 12;
 
-/// The number of texts that a table takes if none of them occurs again.
+/// The number of texts after which a table is given up if none of them occurs again.
 const CREDIT: u32 = 128;
 
 /// What the members that were read foretell about the next ones. Most objects of a list have equal
@@ -32,7 +32,7 @@ pub(crate) struct Earlier {
 #[derive(Drop)]
 struct Recent {
     places: Vec<Option<Text>>,
-    // The number of texts that the table still takes. Each text that is shared adds four.
+    // The number of new texts after which the table is given up. Each text that is shared adds four.
     credit: u32,
 }
 
@@ -88,21 +88,19 @@ impl Recent {
     }
 
     /// Returns the text of these characters. It shares the memory of the text at its place if both
-    /// are equal. Else it takes the place, unless too few texts occurred again.
+    /// are equal. Else it takes the place, unless the table is given up.
     fn text(&mut self, alloc: Global, text: &str) -> Result<Text, NoMemory>
         ensures { IfOk result (λ t. t ≡ text.now) }
     {
+        if self.credit == 0 {
+            return Text::from_str(alloc, text);
+        }
         let place = place_of(text);
         if let Some(known) = self.at(place, text)? {
             self.credit = self.credit.saturating_add(4);
             return Ok(known);
         }
-        let new = Text::from_str(alloc, text)?;
-        if self.credit > 0 {
-            self.credit -= 1;
-            self.keep(place, &new)?;
-        }
-        Ok(new)
+        self.add(alloc, place, text)
     }
 
     /// Returns a copy of the text at a place, if it has these characters.
@@ -115,8 +113,13 @@ impl Recent {
         }
     }
 
-    /// Keeps a copy of a text at a place.
-    fn keep(&mut self, place: usize, text: &Text) -> Result<(), NoMemory> {
+    /// Returns a new text of these characters, which takes a place.
+    #[inline(never)]
+    fn add(&mut self, alloc: Global, place: usize, text: &str) -> Result<Text, NoMemory>
+        ensures { IfOk result (λ t. t ≡ text.now) }
+    {
+        self.credit = self.credit.saturating_sub(1);
+        let new = Text::from_str(alloc, text)?;
         if self.places.is_empty() {
             self.places.reserve(PLACES)?;
             for _ in 0..PLACES {
@@ -124,9 +127,9 @@ impl Recent {
             }
         }
         if let Some(kept) = self.places.get_mut(place) {
-            *kept = Some(text.clone()?);
+            *kept = Some(new.clone()?);
         }
-        Ok(())
+        Ok(new)
     }
 }
 
