@@ -32,7 +32,7 @@ pub(crate) struct Earlier {
 #[derive(Drop)]
 struct Recent {
     places: Vec<Option<Text>>,
-    // The number of new texts after which the table is given up. Each text that is shared adds four.
+    // The number of new texts after which the table is given up. A text that is shared adds four.
     credit: u32,
 }
 
