@@ -32,7 +32,7 @@ pub(crate) struct Earlier {
 #[derive(Drop)]
 struct Recent {
     places: Vec<Option<Text>>,
-    // The number of new texts after which the table is given up. Each text that is shared adds four.
+    // The number of new texts after which the table is given up. A text that is shared adds four.
     credit: u32,
 }
 
@@ -56,7 +56,7 @@ impl Earlier {
         ensures { IfOk result (λ key. key ≡ name.now) }
     {
         if self.count == 0 {
-            return Text::from_str(alloc, name);
+            return new_text(alloc, name);
         }
         self.keys.text(alloc, name)
     }
@@ -72,7 +72,7 @@ impl Earlier {
         ensures { IfOk result (λ v. view v ≡ tree.text text.now) }
     {
         if self.count == 0 || text.len() > SHORT {
-            return Value::text(alloc, text);
+            return Ok(Value::Text(new_text(alloc, text)?));
         }
         Ok(Value::Text(self.values.text(alloc, text)?))
     }
@@ -89,11 +89,12 @@ impl Recent {
 
     /// Returns the text of these characters. It shares the memory of the text at its place if both
     /// are equal. Else it takes the place, unless the table is given up.
+    #[inline(always)]
     fn text(&mut self, alloc: Global, text: &str) -> Result<Text, NoMemory>
         ensures { IfOk result (λ t. t ≡ text.now) }
     {
         if self.credit == 0 {
-            return Text::from_str(alloc, text);
+            return new_text(alloc, text);
         }
         let place = place_of(text);
         if let Some(known) = self.at(place, text)? {
@@ -104,6 +105,7 @@ impl Recent {
     }
 
     /// Returns a copy of the text at a place, if it has these characters.
+    #[inline(always)]
     fn at(&self, place: usize, text: &str) -> Result<Option<Text>, NoMemory>
         ensures { IfOk result (λ found. IfSome found (λ t. t ≡ text.now)) }
     {
@@ -131,6 +133,14 @@ impl Recent {
         }
         Ok(new)
     }
+}
+
+/// Returns a new text of these characters. Out of line, so that a search that succeeds is short.
+#[inline(never)]
+fn new_text(alloc: Global, text: &str) -> Result<Text, NoMemory>
+    ensures { IfOk result (λ t. t ≡ text.now) }
+{
+    Text::from_str(alloc, text)
 }
 
 /// Returns the place of a text, by its length, its first byte and its last byte.

@@ -203,7 +203,8 @@ unfolding IsDistinct
 distinct-none = tt
 
 -- Distinct keys of a map are distinct names.
-apart : (k : String Global) (es : List (String Global × Value)) → AllByRecursion (λ y. string_eq k y ≡ false) (keys_of es)
+apart : (k : String Global) (es : List (String Global × Value))
+    → AllByRecursion (λ y. string_eq k y ≡ false) (keys_of es)
     → AllByRecursion (λ y. bytes_eq (string_bytes k) y ≡ false) (map (λ p. p.0) (pairs (text_keyed es)))
 apart k [] h = h
 apart k (e ∷ es) h = (h.0, apart k es h.1)

@@ -14,7 +14,8 @@ loop-key-preserved c =
     c.loop-key.invariant.0 ∙ ap (λ es. done ++ es) c.in-Some.ensures.steps.0 in (
       all ∙ sym (append_assoc done (e ∷ []) left),
       c.in_ok-push.ensures.items
-          ∙ ap (λ (es : List (Text × Value)). es ++ (c.in_ok-from_string.field-0, c.in-Some.value) ∷ []) c.loop-key.invariant.1
+          ∙ ap (λ (es : List (Text × Value)). es ++ (c.in_ok-from_string.field-0, c.in-Some.value) ∷ [])
+          c.loop-key.invariant.1
           ∙ ap (λ (k : Text). text_keyed done ++ (k, c.in-Some.value) ∷ []) c.in_ok-from_string.ensures
           ∙ sym (map-append (λ (y : String Global × Value). (string_bytes y.0, y.1)) done (e ∷ [])),
     )
