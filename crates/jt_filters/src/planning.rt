@@ -11,7 +11,6 @@ ghost use Rattle.jt_filters.specs.internal.Plans.{made, planned};
 
 use crate::attributes::attribute;
 use crate::item_list::{ItemList, items_of};
-use crate::joining::Separator;
 use crate::kinds::{are_numbers, are_plain, operand_fault_of_items};
 use crate::operand::Operand;
 use crate::plans::Plan;
@@ -146,7 +145,7 @@ fn join<'a>(
     ensures { planned result
         ≡ on_items (joined_by autoescape (tree_of separator.entry)) (tree_of operand.entry) }
 {
-    Ok(Plan::Joined(items_of(operand)?, Separator::new(separator), autoescape))
+    Ok(Plan::Joined(items_of(operand)?, separator, autoescape))
 }
 
 /// Plans filter `list`.

@@ -37,7 +37,7 @@ pub(crate) enum Plan<'a> {
     /// The list of the items that are like no earlier one.
     Unique(ItemList<'a>),
     /// The text of items with a separator between them, and whether `join` keeps markup.
-    Joined(ItemList<'a>, Separator<'a>, bool),
+    Joined(ItemList<'a>, Operand<'a>, bool),
 }
 
 impl<'a> Plan<'a> {
@@ -63,7 +63,7 @@ impl<'a> Plan<'a> {
             Plan::Pairs(entries, _) => Ok(pair_list_measure(entries)),
             Plan::Unique(items) => Ok(unique_measure(alloc, items)),
             Plan::Joined(items, separator, autoescape) => {
-                join_measure(items, separator, autoescape)
+                join_measure(items, Separator::new(separator), autoescape)
             },
         }
     }
@@ -90,7 +90,7 @@ impl<'a> Plan<'a> {
             Plan::Pairs(entries, arrangement) => Ok(pair_list(maker.alloc, entries, arrangement)?),
             Plan::Unique(items) => Ok(unique_list(maker, items)?),
             Plan::Joined(items, separator, autoescape) => {
-                joined(maker, items, separator.operand, autoescape)
+                joined(maker, items, separator, autoescape)
             },
         }
     }
