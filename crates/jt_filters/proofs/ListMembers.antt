@@ -80,7 +80,7 @@ not_covered m t ts known none missing = by (has_item t ts) refl
   where
     by : (b : Bool) → has_item t ts ≡ b → false ≡ has_item t ts
     by false e = sym e
-    by true e = absurd (subst (λ (o : Option ℕ). IsSome o) (sym missing) (known t e none))
+    by true e = absurd (true≢false (sym (subst (λ (o : Option ℕ). IsSome o) (sym missing) (known t e none))))
 
 -- A value that equals a number needs no index.
 pub numbered : (m : BTreeMap (Vec ℕ Global) ℕ) (t : Tree) (z : ℤ) → Some z ≡ number_like t → HasIndex m t

@@ -1,11 +1,12 @@
 -- Numbers that are looked up in a list: answers that are right, and a place between two neighbours.
-use Rattle.std.proofs.Common.{◌≡◌, ℕ, zero, suc, ℤ, ◌+◌, ◌<◌, ◌≤◌, ◌×◌, Bool, true, false, ◌||◌, List, [], ◌∷◌, ◌++◌}
+use Rattle.std.proofs.Common.{◌≡◌, ℕ, zero, suc, ℤ, ◌+◌, ◌<◌, ◌≤◌, ◌-◌, Bool, true, false, ◌||◌, List, [], ◌∷◌, ◌++◌}
+use Rattle.std.proofs.Math.ListN.{replicate, set}
 use Rattle.std.proofs.Common.{length, drop, get_or, Some, None, refl, sym, ap, ◌∙◌, ◌⊎◌, inl, inr, subst, true≢false, arith}
 use Rattle.std.proofs.lemmas.Bool.{cases_lt}
 use Rattle.std.proofs.lemmas.Bool.Decides.{Decides-int_eq}
 use Rattle.std.proofs.lemmas.Cmp.{int_cmp_total}
 use Rattle.std.proofs.lemmas.List.{at_drop_more}
-use Rattle.std.proofs.lemmas.List.Elements.{All-get_or}
+use Rattle.std.proofs.lemmas.List.Elements.{All-get_or, All-replicate, All-set}
 use Rattle.std.proofs.lemmas.List.Folds.{list_any-append}
 use Rattle.std.proofs.lemmas.List.MinMax.{ranks_by}
 use Rattle.std.proofs.lemmas.List.Sorted.{sorted_far, list_any-IsPermutation}
@@ -145,3 +146,12 @@ between zs n p up above below = any_false (int_eq n) zs (λ k d lt. by k d lt _ 
     by k d lt true e = absurd (apart k d lt ((Decides-int_eq n (get_or zs k d)).0 e) (cases_lt k p))
 
 pub ruleset pushed_numbers = (number_pushed, no_number_pushed)
+
+-- Answers that are all the same one are right if it is.
+pub filled : (ts : Items) (a : Answer) (n : ℕ) (xs : List Answer) → IsRight ts a → xs ≡ replicate n a → AreRight ts xs
+filled ts a n xs right is = subst (λ (ys : List Answer). AreRight ts ys) (sym is) (All-replicate (IsRight ts) n a right)
+
+-- Right answers stay right if one is replaced by a right one.
+pub replaced : (ts : Items) (xs : List Answer) (i : ℕ) (a : Answer) → AreRight ts xs → IsRight ts a
+    → AreRight ts (set xs i a)
+replaced ts xs i a known right = All-set (IsRight ts) xs i a right known

@@ -26,6 +26,7 @@ pub(crate) struct Answer {
 }
 
 /// Returns the answers for the numbers `sought` of `count` items, each at the index of its item.
+#[tactic(auto, using(crate::proofs::NumberAnswers::filled))]
 pub(crate) fn answers_of(
     alloc: Global,
     list: &[Value],
@@ -53,7 +54,6 @@ pub(crate) fn answers_of(
 }
 
 /// Returns the numbers that the items of a list equal, in ascending order.
-#[tactic(auto, using(crate::proofs::NumberAnswers::numbers_sorted))]
 fn sorted_numbers(alloc: Global, list: &[Value]) -> Result<Vec<i64>, NoMemory>
     ensures numbers { IfOk result (λ v. AreNumbers (items_view list.now) v.items) }
     ensures sorted { IfOk result (λ v. IsSorted int_cmp v.items) }
@@ -89,8 +89,8 @@ fn push_number(numbers: &mut Vec<i64>, item: &Value) -> Result<(), NoMemory>
 }
 
 /// Returns the place of the first number from a place on that is not below `number`.
-fn place_of(numbers: &[i64], place: usize, number: i64) -> usize {
-    let mut place = place;
+fn place_of(numbers: &[i64], from: usize, number: i64) -> usize {
+    let mut place = from;
     while place < numbers.len() && numbers[place] < number {
         place += 1;
     }
@@ -134,7 +134,6 @@ fn is_at(numbers: &[i64], number: i64, place: usize) -> bool
 }
 
 /// Returns whether a number is above all those before a place, and below those from it on.
-#[tactic(auto, using(crate::proofs::NumberAnswers::between))]
 fn is_between(numbers: &[i64], number: i64, place: usize) -> bool
     requires { IsSorted int_cmp numbers.now }
     ensures { result ≡ true → list_any (int_eq number) numbers.now ≡ false }
@@ -181,6 +180,7 @@ fn occurs(numbers: &[i64], number: i64) -> bool
 }
 
 /// Replaces the answer at an index, if there is one.
+#[tactic(auto, using(crate::proofs::NumberAnswers::replaced))]
 fn put(answers: &mut Vec<Answer>, index: usize, answer: Answer)
     ensures { (ts : Items)
         → AreRight ts answers.old.items
