@@ -121,10 +121,10 @@ between zs n p up above below = any_false (int_eq n) zs (λ k d lt. by k d lt _ 
     far = sorted_far (λ x y. is_lt (int_cmp x y)) (ranks_by int_cmp_total (λ (x : ℤ). x)) zs up
 
     not_below : (x : ℤ) → is_lt (int_cmp n x) ≡ false → n <ℤ x → ⊥
-    not_below x no lt = true≢false (sym (is_below n x lt) ∙ no)
+    not_below x e lt = true≢false (sym (is_below n x lt) ∙ e)
 
     not_above : (x : ℤ) → is_lt (int_cmp x n) ≡ false → x <ℤ n → ⊥
-    not_above x no lt = true≢false (sym (is_below x n lt) ∙ no)
+    not_above x e lt = true≢false (sym (is_below x n lt) ∙ e)
 
     apart : (k : ℕ) (d : ℤ) → k < length zs → n ≡ get_or zs k d → (k < p) ⊎ (p ≤ k) → ⊥
     apart k d lt same (inr after) =
