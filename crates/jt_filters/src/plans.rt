@@ -17,7 +17,7 @@ use crate::sorting::Arrangement;
 use crate::texts::{TextChange, changed_text, text_measure};
 use crate::unique::{first_items, unique_list, unique_measure, unseen_list_measure};
 use jt_ops::{Limits, OpError};
-use jt_value::{Fault, Value, ValueError};
+use jt_value::{Fault, Text, Value, ValueError};
 use std::alloc::Global;
 
 /// The result of a filter before it is built. Only texts can still be faults: an operand may have
@@ -33,7 +33,7 @@ pub(crate) enum Plan<'a> {
     /// The list of items.
     List(ItemList<'a>, Arrangement),
     /// The list of a map's entries, each as a list of its key and its value.
-    Pairs(&'a [(String, Value)], Arrangement),
+    Pairs(&'a [(Text, Value)], Arrangement),
     /// The list of the items that are like no earlier one.
     Unique(ItemList<'a>),
     /// The text of items with a separator between them, and whether `join` keeps markup.
