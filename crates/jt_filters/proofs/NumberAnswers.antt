@@ -1,7 +1,8 @@
 -- Numbers that are looked up in a list: answers that are right, and a place between two neighbours.
 use Rattle.std.proofs.Common.{◌≡◌, ℕ, zero, suc, ℤ, ◌+◌, ◌<◌, ◌≤◌, ◌-◌, Bool, true, false, ◌||◌, List, [], ◌∷◌, ◌++◌}
 use Rattle.std.proofs.Math.ListN.{replicate, set}
-use Rattle.std.proofs.Common.{length, drop, get_or, Some, None, refl, sym, ap, ◌∙◌, ◌⊎◌, inl, inr, subst, true≢false, arith}
+use Rattle.std.proofs.Common.{length, drop, get_or, Some, None, refl, sym, ap, ◌∙◌, ◌⊎◌, inl, inr, subst}
+use Rattle.std.proofs.Common.{true≢false, arith}
 use Rattle.std.proofs.lemmas.Bool.{cases_lt}
 use Rattle.std.proofs.lemmas.Bool.Decides.{Decides-int_eq}
 use Rattle.std.proofs.lemmas.Cmp.{int_cmp_total}
@@ -29,7 +30,9 @@ use Rattle.jt_filters.proofs.SeenEntries.{any_false}
 
 -- A value that equals a number equals what the number does.
 equal_number : (t u : Tree) (z : ℤ) → Some z ≡ number_like t → equal t u ≡ equal (tree.number z) u
-equal_number (tree.truth_value b) u z e = let same : z ≡ truth_number b = cc in by u ∙ ap (λ (y : ℤ). equal (tree.number y) u) (sym same)
+equal_number (tree.truth_value b) u z e =
+    let same : z ≡ truth_number b = cc in
+    by u ∙ ap (λ (y : ℤ). equal (tree.number y) u) (sym same)
   where
     by : (u : Tree) → equal (tree.truth_value b) u ≡ equal (tree.number (truth_number b)) u
     by tree.undefined = refl

@@ -148,11 +148,15 @@ fn join<'a>(
     Ok(Plan::Joined(items_of(operand)?, separator, autoescape))
 }
 
-/// Plans filter `list`.
+/// Plans filter `list`. The list of a list is the list itself.
+#[tactic(auto, using(crate::proofs::Payloads::list_listed))]
 fn list(operand: Operand<'_>) -> Result<Plan<'_>, Fault>
     ensures { planned result ≡ on_items listed (tree_of operand.entry) }
 {
-    Ok(Plan::List(items_of(operand)?, Arrangement::Unchanged))
+    match operand.as_list() {
+        Some(_) => Ok(Plan::Operand(operand)),
+        None => Ok(Plan::List(items_of(operand)?, Arrangement::Unchanged)),
+    }
 }
 
 /// Plans filter `unique`.
