@@ -23,10 +23,7 @@ use Rattle.jt_inherit.proofs.Vocabulary.{same, symmetric, among_next, both_false
 pub any_text : (x : Text) (ks : List (Bor Text))
     → list_any (λ k. is_eq (slice_cmp nat_cmp x k.now)) ks ≡ among x (texts ks)
 any_text x [] = refl
-any_text x (k ∷ ks) =
-    ap (λ b. b || list_any (λ (j : Bor Text). is_eq (slice_cmp nat_cmp x j.now)) ks)
-    (is_eq-slice_cmp x k.now ∙ symmetric x k.now)
-    ∙ ap (λ b. bytes_eq k.now x || b) (any_text x ks)
+any_text x (k ∷ ks) = search (arith, rules, is_eq-slice_cmp, symmetric, any_text x ks)
 
 either : (a b : Bool) → cond a true b ≡ (a || b)
 either true b = refl
@@ -89,10 +86,7 @@ all_given bs g = any_none (λ b. is_required (named b.name bs)) (λ b. g b.name)
 
 pub none_given : (bs : List BlockBody) (b : BlockBody) (cs : List BlockBody) → among b.name (names_of bs) ≡ false
     → b.required ≡ true → lacks_body (bs ++ b ∷ cs) ≡ true
-none_given bs b cs n r =
-    any_here (λ c. is_required (named c.name (bs ++ b ∷ cs))) bs b cs
-    (ap is_required (named_new b.name bs (b ∷ cs) n)
-    ∙ ap (λ c. is_required (cond c (b ∷ named b.name cs) (named b.name cs))) (reflexive b.name) ∙ r)
+none_given bs b cs n r = search (arith, rules, any_here, named_new, reflexive)
 
 -- ---- bodies that `super()` can call
 
@@ -176,10 +170,7 @@ among_set ks ms pre n h m y =
 module _ {X : Type 0} (f : X → Text) (xs : List X) (i : ℕ) (x : X) (lt : i < length xs) (is : x ≡ get_or xs i x) where
   pub repeat_found : (ks : List Text) → ((y : Text) → among y ks ≡ among y (map f (take i xs))) → among (f x) ks ≡ true
       → repeated (map f xs) ≡ true
-  repeat_found ks e h =
-      let p = parted xs i x lt is in
-      ap (λ l. repeated (map f l)) p.1 ∙ ap repeated (map-append f (take i xs) (x ∷ p.0))
-      ∙ again (f x) (map f (take i xs)) (map f p.0) (sym (e (f x)) ∙ h)
+  repeat_found ks e h = search (arith, rules, parted, map-append, again)
 
   pub repeat_goes : (ks ms : List Text) (b : Bool) → ((y : Text) → among y ks ≡ among y (map f (take i xs)))
       → repeated (map f (take i xs)) ≡ false → b ≡ among (f x) ks

@@ -22,7 +22,7 @@ use Rattle.jt_inherit.proofs.Vocabulary.{BreakOne, their_blocks, their_names, an
 use Rattle.jt_inherit.proofs.Vocabulary.{Need, needed, namespace_at, IsFinding, Breaks, ChainFinding, Asks, Reaches}
 use Rattle.jt_inherit.proofs.Vocabulary.{here, asked, extends_path, is_whole, KeepsRules, templates_weight}
 use Rattle.jt_inherit.proofs.Vocabulary.{chains_weight, templates_len, chains_len, Seen, AreKnown, IsExtendsPath}
-use Rattle.jt_inherit.proofs.Vocabulary.{IsWithin, names_view, Discovery, ChainError, map_at, of_texts, same}
+use Rattle.jt_inherit.proofs.Vocabulary.{names_view, Discovery, ChainError, map_at, of_texts, same}
 use Rattle.jt_inherit.proofs.Vocabulary.{chain_among, of_namespaces, among_cases, both_false, no_more, or_false}
 use Rattle.jt_inherit.proofs.Vocabulary.{or_true, indexed_among}
 use Rattle.jt_inherit.proofs.FindingsHold.{rule_bare, rule_said}
@@ -53,11 +53,7 @@ at_number P (w ∷ ws) (suc i) lt a = at_number P ws i (omega arith) a.1
 -- The path at a number, and the number is one of a path.
 pub way_at : (vs us : List (Vec ℕ Global)) (i : ℕ) (v : Vec ℕ Global) (is : List ℕ) → us ≡ vs → i < length us
     → v ≡ get_or us i v → is ≡ v.items → (i < length (graph_of vs)) × (next_of (graph_of vs) i ≡ is)
-way_at vs us i v is e lt at items = (
-  omega (arith, lt, ap length e, length-map vs (λ (u : Vec ℕ Global). u.items)),
-  ap (λ (z : List (Vec ℕ Global)). next_of (graph_of z) i) (sym e)
-      ∙ ap (λ o. unwrap_or o []) (map_at (λ (u : Vec ℕ Global). u.items) us i v lt at) ∙ sym items,
-)
+way_at vs us i v is e lt at items = search (arith, rules, length-map, map_at)
 
 pub next_len : (given : SourceTexts) (ts : List Template) (hs gs : List Namespace) (ws ns : Graph)
     → AreFollowed given ts hs gs ws ns → length ns ≡ length ws
@@ -253,10 +249,7 @@ module _ {given : SourceTexts} {options : Options} {entry : Text} {ts : List Tem
 
   pub edge : (i j : ℕ) → graph.among j (next_of ns i) ≡ true
       → (i < length hs) × (listed (namespace_at hs j) (included (sources_in ts) (namespace_at hs i)) ≡ true)
-  edge i j a =
-      ⊎_elim (λ (lt : i < length hs).
-      (lt, numbered_among hs j (next_of ns i) (included (sources_in ts) (namespace_at hs i)) (includes_next i lt) a))
-      (λ (le : length hs ≤ i). absurd (none_next ns i j (omega (arith, lens, le)) a)) (cases_lt i (length hs))
+  edge i j a = search (arith, rules, numbered_among, includes_next, none_next, lens, cases_lt)
 
   along : {i j : ℕ} → graph.Reaches ns i j → (m : Namespace)
       × (listed m (included (sources_in ts) (namespace_at hs i)) ≡ true)
@@ -458,10 +451,7 @@ module _ {given : SourceTexts} {options : Options} {entry : Text} {ts : List Tem
     -- The templates of a namespace weigh no more than their sources.
     one_weighs : (h : Namespace) → listed h hs ≡ true
         → templates_weight (templates (sources_in ts) h) ≤ templates_len given (templates (sources_in ts) h)
-    one_weighs h a =
-        let k = way_of h a in
-        subst (λ us. templates_weight us ≤ templates_len given us) (sym (whole_path ts h k.0 k.1))
-        (weigh given (templates_at ts k.0) (all_at_indices (IsWithin given) ts k.0 f.known.within))
+    one_weighs h a = search (arith, rules, way_of, whole_path, weigh, all_at_indices, within)
 
     pub weighs : chains_weight (sources_in ts) (map (namespace_at hs) is)
         ≤ chains_len given (sources_in ts) (map (namespace_at hs) is)
@@ -554,12 +544,7 @@ module _ {given : SourceTexts} {options : Options} {entry : Text} {f : Discovery
       order = map namespace_view namespaces;
       escaping = options.autoescape;
     })
-    its_chain =
-        subst (λ z. IsChain given entry options (record {
-          templates = found_templates f;
-          order = z;
-          escaping = options.autoescape;
-        })) (sym named) (chained d.found all kept o)
+    its_chain = search (arith, rules, named, chained, all)
 
     pub its_weight : chains_weight (sources_in (found_templates f)) (map namespace_view namespaces)
         ≤ chains_len given (sources_in (found_templates f)) (map namespace_view namespaces)

@@ -28,14 +28,7 @@ one_known ks n e = ap (λ b. map need_namespace (cond b (n ∷ []) [])) e
 -- A namespace that has a number.
 pub next_there : (hs : List Namespace) (x : Namespace) (i : ℕ) → twice hs ≡ false → length (chains_of hs) ≤ 1024
     → slice_get hs i ≡ Some x → AreNext hs hs (x ∷ []) (i ∷ [])
-next_there hs x i once few at = record {
-  more = [];
-  grown = sym (append-nil hs);
-  once = once;
-  few = few;
-  from = λ h a. inl a;
-  numbered = ap (λ o. o ∷ []) at;
-}
+next_there hs x i once few at = search (arith, rules, append-nil)
 
 -- A namespace that is new.
 pub next_new : (old new : List Namespace) (x : Namespace) (i : ℕ) → new ≡ old ++ x ∷ [] → twice old ≡ false
@@ -105,11 +98,7 @@ pub put_fault : (old : List Namespace) (x : Namespace) (n : Text) (e : ChainErro
     → listed x old ≡ false
     → (e ≡ error.NoMemory) ⊎ ((e ≡ error.ChainTooLong) × (length (chains_of old) ≡ 1024) × (x ≡ a_chain n))
     → IsNextFault old (x ∷ []) n e
-put_fault old x n e once new f = ⊎_elim (λ m. inl m)
-    (λ t. inr (
-      t.0,
-      subst (λ y. TooMany old (y ∷ []) n) (sym t.2) (too_many old n once t.1 (ap (λ y. listed y old) (sym t.2) ∙ new)),
-    )) f
+put_fault old x n e once new f = search (arith, rules, too_many)
 
 -- ---- includes and imports, in order
 

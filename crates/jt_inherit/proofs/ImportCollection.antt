@@ -6,7 +6,7 @@ use Rattle.jt_chains.specs.Chain.{imports_in, all_given_from}
 use Rattle.jt_chains.specs.Includes.{includes_by, includes_under}
 use Rattle.jt_inherit.proofs.Vocabulary.{flat_map, filter, AllByRecursion, map-append, Text, Body, Branches, among}
 use Rattle.jt_inherit.proofs.Vocabulary.{Sources, Namespace, a_chain, a_library, Template, holds_macros, libraries_in}
-use Rattle.jt_inherit.proofs.Vocabulary.{macros, MacroBody, Definition, own, lacks_macros, chosen, names_from}
+use Rattle.jt_inherit.proofs.Vocabulary.{macros, MacroBody, own, lacks_macros, chosen, names_from}
 use Rattle.jt_inherit.proofs.Vocabulary.{imported_names, includes_in, Need, include_need, library_need, needed}
 
 -- ---- the imports of a template
@@ -106,22 +106,13 @@ from_named n ms (x ∷ xs) s e = search (arith, rules, map-append, from_named n 
 pub imports_named : (s : Sources) (b : Body) → map (λ g. g.0) (imports_in s b) ≡ imported_names s b
 imports_named s trees.end = refl
 imports_named s (trees.stmt (trees.import_as line n x) rest) = ap (λ l. x ∷ l) (imports_named s rest)
-imports_named s (trees.stmt (trees.import_from line n xs) rest) =
-    map-append (λ (g : Text × Definition). g.0) (all_given_from s n xs) (imports_in s rest)
-    ∙ ap (λ l. l ++ map (λ (g : Text × Definition). g.0) (imports_in s rest))
-    (from_named n (macros s (a_library n)) xs s refl)
-    ∙ ap (λ l. names_from (macros s (a_library n)) xs ++ l) (imports_named s rest)
+imports_named s (trees.stmt (trees.import_from line n xs) rest) = search (arith, rules, map-append, from_named, imports_named s rest)
 imports_named s (trees.stmt t rest) = imports_named s rest
 
 pub all_imported : (s : Sources) (ts : List Template)
     → map (λ g. g.0) (flat_map (λ t. imports_in s t.body) ts) ≡ flat_map (λ t. imported_names s t.body) ts
 all_imported s [] = refl
-all_imported s (t ∷ ts) =
-    map-append (λ (g : Text × Definition). g.0) (imports_in s t.body)
-    (flat_map (λ (u : Template). imports_in s u.body) ts)
-    ∙ ap (λ l. l ++ map (λ (g : Text × Definition). g.0) (flat_map (λ (u : Template). imports_in s u.body) ts))
-    (imports_named s t.body)
-    ∙ ap (λ l. imported_names s t.body ++ l) (all_imported s ts)
+all_imported s (t ∷ ts) = search (arith, rules, map-append, imports_named, all_imported s ts)
 
 pub own_named : (h : Namespace) (ms : List MacroBody) → map (λ g. g.0) (own h ms) ≡ map (λ m. m.name) ms
 own_named h [] = refl

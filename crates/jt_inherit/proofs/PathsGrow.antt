@@ -1,11 +1,11 @@
 -- Paths that are extended, and the facts about them that stay true.
 use Rattle.std.proofs.Common.{◌≡◌, ℕ, zero, suc, ◌+◌, ◌-◌, ◌<◌, ◌≤◌, ◌==◌, Bool, true, false, not, ◌&&◌, List, [], ◌∷◌}
-use Rattle.std.proofs.Common.{◌||◌, ◌++◌, length, map, drop, get_or, refl, sym, ap, subst, ◌∙◌, arith, inl, inr, ◌⊎◌}
+use Rattle.std.proofs.Common.{◌++◌, length, map, drop, get_or, refl, sym, ap, subst, ◌∙◌, arith, inl, inr, ◌⊎◌}
 use Rattle.std.proofs.Common.{⊎_elim, Option, Some, None, length-append, string_bytes, rules}
 use Rattle.jt_inherit.specs.internal.Faults.{HasFaulty}
 use Rattle.jt_inherit.specs.internal.ExtendsPaths.{LeadsFrom, AddsName}
 use Rattle.jt_inherit.specs.declared.error.ChainError.TheVariants as error
-use Rattle.jt_inherit.proofs.Vocabulary.{flat_map, option_map, slice_get, bytes_eq, option_to_list, slice_get_within}
+use Rattle.jt_inherit.proofs.Vocabulary.{flat_map, slice_get, bytes_eq, option_to_list, slice_get_within}
 use Rattle.jt_inherit.proofs.Vocabulary.{slice_get-get_or, AllByRecursion, append-nil, append_assoc, drop_more}
 use Rattle.jt_inherit.proofs.Vocabulary.{length-map, Options, among, repeated, Text, Body, end, body_of, AreIndices}
 use Rattle.jt_inherit.proofs.Vocabulary.{templates_at, Sources, Namespace, a_chain, a_library, Template, template}
@@ -121,29 +121,19 @@ templates_more ts (j ∷ is) i t e =
 pub templates_turn : (ps : List TemplateFile) (is : List ℕ) (k : ℕ) (p : TemplateFile) → k < length is
     → get_or is k 0 < length ps → p ≡ get_or ps (get_or is k 0) p
     → templates_at (files_view ps) (drop k is) ≡ file_view p ∷ templates_at (files_view ps) (drop (k + 1) is)
-templates_turn ps is k p lt within at =
-    ap (templates_at (files_view ps)) (drop_more is k 0 lt)
-    ∙ ap (λ o. option_to_list o ++ templates_at (files_view ps) (drop (k + 1) is))
-    (map_at file_view ps (get_or is k 0) p within at)
+templates_turn ps is k p lt within at = search (arith, rules, drop_more, map_at)
 
 -- The template file at a number on a path has the name, or another one.
 pub named_here : (ps : List TemplateFile) (is : List ℕ) (k : ℕ) (p : TemplateFile) (n : Text) → k < length is
     → get_or is k 0 < length ps → p ≡ get_or ps (get_or is k 0) p → bytes_eq (string_bytes p.name) n ≡ true
     → IsNamedOn (files_view ps) is n k
-named_here ps is k p n lt within at e = (
-  lt,
-  ap (option_map (λ (t : Template). t.name)) (map_at file_view ps (get_or is k 0) p within at)
-      ∙ ap Some (same (string_bytes p.name) n e),
-)
+named_here ps is k p n lt within at e = search (arith, rules, map_at, same)
 
 pub passed_by : (ps : List TemplateFile) (is : List ℕ) (k : ℕ) (p : TemplateFile) (n : Text) (b : Bool) → k < length is
     → get_or is k 0 < length ps → p ≡ get_or ps (get_or is k 0) p → bytes_eq (string_bytes p.name) n ≡ false
     → among n (names (templates_at (files_view ps) (drop k is))) ≡ b
     → among n (names (templates_at (files_view ps) (drop (k + 1) is))) ≡ b
-passed_by ps is k p n b lt within at e before =
-    sym (ap (λ us. among n (names us)) (templates_turn ps is k p lt within at)
-    ∙ ap (λ d. d || among n (names (templates_at (files_view ps) (drop (k + 1) is)))) e)
-    ∙ before
+passed_by ps is k p n b lt within at e before = search (arith, rules, templates_turn)
 
 pub few_templates : (ts : List Template) (is : List ℕ) → length (templates_at ts is) ≤ length is
 few_templates ts [] = omega arith
@@ -196,14 +186,7 @@ length_names (t ∷ ts) = ap suc (length_names ts)
 from_grows : (s r : Sources) → Grows s r → (h : Namespace) (ts : List Template) (p : Option Text) → LeadsFrom s h ts p
     → LeadsFrom r h ts p
 from_grows s r g (a_chain n) ts p l = leads_grow s r g (Some n) ts p l
-from_grows s r g (a_library n) ts p l = record {
-  template = l.template;
-  only = l.only;
-  named = l.named;
-  source = g n l.template.body l.source;
-  holds = l.holds;
-  last = l.last;
-}
+from_grows s r g (a_library n) ts p l = search (arith, rules)
 
 pub way_grows : (ts us : List Template) (h : Namespace) (is : List ℕ) (p : Option Text) → IsExtendsPath ts h is p
     → IsExtendsPath (ts ++ us) h is p
@@ -240,13 +223,7 @@ module _ {given : SourceTexts} {options : Options} {root : Text} {ts : List Temp
   fault_asked : {m : Text} {P : Text → Type 0} (n : Text)
       → among n (asked (sources_in ts) options.autoescape true h) ≡ true → HasFaulty m given n options P
       → HasFault given root options m P
-  fault_asked n a f = record {
-    reached = shows known (h, r, ap (λ x. among x (asked (sources_in ts) options.autoescape true h)) f.0 ∙ a);
-    source = f.1.0;
-    found = ap given f.0 ∙ f.1.1;
-    fault = f.1.2;
-    none = f.1.3;
-  }
+  fault_asked n a f = search (arith, rules, shows)
 
   -- An error of a requested template breaks each chain that reaches the requester.
   pub asked_breaks : (n : Text) (e : ChainError) → among n (asked (sources_in ts) options.autoescape true h) ≡ true

@@ -74,12 +74,7 @@ module _ (options : Options) (given : Text) (s : Held)
 
   refused_as : (e : ParseError) → (e ≡ parse_error.NoMemory → ⊥) → IsCut (cut_of ss) (chars s.text)
       → HaveOptions s.options ss → IsRefusal e (pieces (reads_of ss)) → IsUnspelled e options given
-  refused_as e f c h r = record {
-    fault = f;
-    segments = cut_of ss;
-    cut = its_cut c;
-    refused = subst (λ rs. IsRefusal e (pieces rs)) (its_reads h) r;
-  }
+  refused_as e f c h r = search (arith, rules, its_cut, its_reads)
 
   pub unspelled : (name : Text) (e : ParseError) (x : ChainError) → IsCut (cut_of ss) (chars s.text)
       → HaveOptions s.options ss → IsRefusal e (pieces (reads_of ss))

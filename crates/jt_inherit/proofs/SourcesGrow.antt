@@ -66,12 +66,7 @@ names_more s r (suc k) (Some n) g =
       sym (ap (λ o. n ∷ names_up s k (parent_of o) ++ names_up r k (parent_of (r n))) e
           ∙ ap (λ l. n ∷ l ++ names_up r k (parent_of (r n))) (none_up s k)),
     )
-    by (Some b) e f =
-        let more = f b e in (
-          more.0,
-          ap (λ o. n ∷ names_up r k (parent_of o)) (front_carried s r k n g b e) ∙ ap (λ l. n ∷ l) more.1
-              ∙ sym (ap (λ o. n ∷ names_up s k (parent_of o) ++ more.0) e),
-        )
+    by (Some b) e f = search (arith, rules, front_carried)
 
 pub templates_more : (s r : Sources) (k : ℕ) (o : Option Text) → Carries s r (names_up r k o)
     → (rest : List Template)
@@ -91,12 +86,7 @@ templates_more s r (suc k) (Some n) g =
       flat_map (λ m. template m (r m)) (names_up r (suc k) (Some n)),
       sym (ap (λ l. l ++ flat_map (λ m. template m (r m)) (names_up r (suc k) (Some n))) (up_none s k n e)),
     )
-    by (Some b) e f =
-        let more = f b e in (
-          more.0,
-          up_some r k n b (front_carried s r k n g b e) ∙ ap (λ l. template n (Some b) ++ l) more.1
-              ∙ sym (ap (λ l. l ++ more.0) (up_some s k n b e)),
-        )
+    by (Some b) e f = search (arith, rules, up_some, front_carried)
 
 -- The first m names on the path begin with the first k.
 pub up_more : (s : Sources) (m k : ℕ) (o : Option Text) → k ≤ m
@@ -157,11 +147,7 @@ library_more s r n g = by (s n) refl
     by : (o : Option Body) → s n ≡ o
         → (rest : List Template) × (library_template n (r n) ≡ library_template n (s n) ++ rest)
     by None e = (library_template n (r n), sym (ap (λ o. library_template n o ++ library_template n (r n)) e))
-    by (Some b) e = (
-      [],
-      ap (library_template n) (g n (ap (λ c. c || false) (reflexive n)) b e) ∙ sym (ap (library_template n) e)
-          ∙ sym (append-nil (library_template n (s n))),
-    )
+    by (Some b) e = search (arith, rules, reflexive, append-nil)
 
 module _ (s r : Sources) (e : Bool) (entry : Namespace)
     (g : (n : Text) (b : Body) → Asks r e entry n → s n ≡ Some b → r n ≡ Some b) where

@@ -31,23 +31,14 @@ module _ (ps : List TemplateFile) (ks : List Text) (k : AreNamed (files_view ps)
   named_at = ap (λ l. slice_get l i) (sym k.0) ∙ at
 
   pub index_read : i < length ps
-  index_read =
-      omega (
-        arith,
-        slice_get_within (names (files_view ps)) i n named_at,
-        length_names (files_view ps),
-        length-map ps file_view,
-      )
+  index_read = search (arith, rules, slice_get_within, names, named_at, length_names, length-map)
 
   module _ (p : TemplateFile) (is : p ≡ get_or ps i p) where
     there : slice_get (files_view ps) i ≡ Some (file_view p)
     there = map_at file_view ps i p index_read is
 
     name_is : string_bytes p.name ≡ n
-    name_is =
-        let told : Some (string_bytes p.name) ≡ Some n =
-        sym (name_of_slice (files_view ps) i (file_view p) there) ∙ named_at in
-        cc
+    name_is = search (arith, rules, name_of_slice, there, named_at)
 
     source_is : sources_in (files_view ps) n ≡ Some (body_of p.template)
     source_is =
@@ -89,10 +80,7 @@ nothing_lacks s n (x ∷ xs) e =
 -- A library with the same tree lacks the same macros.
 pub lacks_same : (s r : Sources) (n : Text) (xs : List (Text × Text)) → s n ≡ r n → lacks_one s n xs ≡ lacks_one r n xs
 lacks_same s r n [] e = refl
-lacks_same s r n (x ∷ xs) e =
-    ap (λ o. (is_a_library o && is_none (public_macro x.0 (own_macros (library_template n o)))) || lacks_one s n xs) e
-    ∙ ap (λ b. (is_a_library (r n) && is_none (public_macro x.0 (macros r (a_library n)))) || b)
-    (lacks_same s r n xs e)
+lacks_same s r n (x ∷ xs) e = search (arith, rules, lacks_same s r n xs e)
 
 pub library_lacks : (s : Sources) (n : Text) (xs : List (Text × Text)) → is_a_library (s n) ≡ true
     → lacks_one s n xs ≡ has_not (macros s (a_library n)) xs

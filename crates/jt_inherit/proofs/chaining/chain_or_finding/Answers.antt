@@ -1,3 +1,4 @@
+use Rattle.std.proofs.Common.{arith, rules}
 use Rattle.std.proofs.Common.{List, ap, subst}
 use Rattle.jt_chains.specs.Tables.{AreAt}
 use Rattle.jt_inherit.proofs.Vocabulary.{err_from_is_err_and, files_view, TemplateFile, found_templates, ChainFinding}
@@ -9,11 +10,7 @@ use Rattle.jt_inherit.proofs.ChainComplete.{its_weight, its_count, all}
 use Rattle.jt_inherit.proofs.chaining.chain_or_finding.Goals as goal
 
 pub returns-in_err-check_chains-clause-refused : goal.returns-in_err-check_chains-clause-refused
-returns-in_err-check_chains-clause-refused g c =
-    let p =
-    err_from_is_err_and c.from_residual-in_err-check_chains.result c.from_residual-in_err-check_chains.ensures.1 in
-    rw (p.1, p.2)
-    (its_findings c.in_ok-found.ensures.done c.in_err-check_chains.field-0.0 c.in_err-check_chains.ensures.broken)
+returns-in_err-check_chains-clause-refused g c = search (arith, rules, err_from_is_err_and, its_findings)
 
 pub returns-in_err-order-clause-refused : goal.returns-in_err-order-clause-refused
 returns-in_err-order-clause-refused g c =

@@ -1,15 +1,12 @@
+use Rattle.std.proofs.Common.{arith, rules}
 use Rattle.std.proofs.Common.{List, sym, subst}
 use Rattle.jt_inherit.proofs.Vocabulary.{err_from_is_err_and, graph_of, AreIndices, templates_at, sources_in}
-use Rattle.jt_inherit.proofs.Vocabulary.{files_view, TemplateFile, AreNamed, IsBroken, found_templates, names_view}
+use Rattle.jt_inherit.proofs.Vocabulary.{files_view, TemplateFile, IsBroken, found_templates}
 use Rattle.jt_inherit.proofs.ChainComplete.{at_number, way_at}
 use Rattle.jt_inherit.proofs.chaining.check_chains.Goals as goal
 
 pub invariant_of-store : goal.invariant_of-store
-invariant_of-store c =
-    record {
-      named = subst (λ (z : List TemplateFile). AreNamed (files_view z) (names_view c.args.found.now.names))
-          (sym c.deref.ensures.value) c.requires.named;
-    }
+invariant_of-store c = search (arith, rules)
 
 pub check_rules-requires : goal.check_rules-requires
 check_rules-requires c =

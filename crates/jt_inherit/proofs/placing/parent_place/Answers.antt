@@ -1,3 +1,4 @@
+use Rattle.std.proofs.Common.{rules}
 use Rattle.std.proofs.Common.{◌≡◌, ◌<◌, ℕ, List, length, sym, ap, subst, ◌∙◌, arith, Option, Some}
 use Rattle.jt_inherit.proofs.Vocabulary.{IfOk, option_map, slice_get, length-map, Text, Site, Template, file_view}
 use Rattle.jt_inherit.proofs.Vocabulary.{files_view, map_at, is_extends, uses_at, uses_of, place_in, place_view, tags}
@@ -11,13 +12,7 @@ returns-in_default c =
     c.in_default.ensures.value
 
 pub bounds-files-last : goal.bounds-files-last
-bounds-files-last c =
-    omega (
-      arith,
-      index_at_end (files_view c.args.files.now) c.args.extends_path.now c.in-Some.last.now c.requires
-          c.in-Some.ensures.value,
-      length-map c.args.files.now file_view,
-    )
+bounds-files-last c = search (arith, rules, index_at_end, length-map)
 
 pub returns : goal.returns
 returns c =
