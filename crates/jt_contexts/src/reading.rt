@@ -97,7 +97,7 @@ fn read(
 {
     let token = reader.next().ok_or(ReadError::NoContext)?;
     match token {
-        Token::String(text) => Ok(Value::text(alloc, text)?),
+        Token::String(text) => Ok(earlier.text(alloc, text)?),
         Token::Number(text) => match whole_number(text) {
             Some(number) => Ok(Value::Int(number)),
             None => Err(ReadError::NoContext),

@@ -3,49 +3,30 @@
 use Rattle.std.proofs.Common.{◌≡◌, ◌≢◌, ◌↔◌, ℕ, zero, suc, ◌+◌, ◌*◌, ◌<◌, ◌≤◌, ◌==◌, Bool, true, false, not, ◌&&◌}
 use Rattle.std.proofs.Common.{nat_lt, List, [], ◌∷◌, ◌++◌, length, map, refl, sym, ap, subst, ◌∙◌, arith, inl, inr, ◌⊎◌, get_or}
 use Rattle.std.proofs.Common.{⊎_elim, Some, None, Vec, Global, rules}
-use Rattle.std.proofs.lemmas.List.{length-map, append-nil}
-use Rattle.std.proofs.lemmas.Simd.{map-map}
-use Rattle.std.specs.Prelude.{slice_get, unwrap_or}
-use Rattle.std.specs.List.{AllByRecursion, list_any}
-use Rattle.std.specs.Option.{is_some, is_none}
-use Rattle.std.specs.Str.{bytes_eq}
-use Rattle.std.proofs.lemmas.Bool.{cases_lt}
-use Rattle.std.proofs.lemmas.Bool.Decides.{nat_tests}
 use Rattle.jt_graph.specs.Graph as graph
-use Rattle.jt_graph.specs.Graph.{Graph, next_of, IsClosed, HasCycle, IsOrder}
-use Rattle.jt_graph.specs.View.{graph_of}
-use Rattle.jt_scan.specs.declared.options.Options.{Options}
-use Rattle.jt_ast.specs.Texts.{among, repeated}
-use Rattle.jt_ast.specs.Expressions.{Text}
-use Rattle.jt_chains.specs.Along.{AreIndices, templates_at}
-use Rattle.jt_inherit.specs.internal.Along.{needs_along}
-use Rattle.jt_chains.specs.Chain.{Namespace, a_chain, listed, is_a_library, Template, templates, sources_in, all_bodies}
+use Rattle.jt_graph.specs.Graph.{IsClosed, IsOrder}
+use Rattle.jt_chains.specs.Chain.{all_bodies}
 use Rattle.jt_chains.specs.Chain.{given as given_in}
-use Rattle.jt_inherit.specs.Chains.{SourceTexts, IsChain}
-use Rattle.jt_inherit.specs.internal.Checks.{lacks_body, lacks_next}
-use Rattle.jt_inherit.specs.internal.Found.{chains_of, AreFound, IsFound, found_templates, found_namespaces, root_of}
-use Rattle.jt_inherit.specs.internal.Found.{AllKeep, IsDone, IsFollowed, AreFollowed, IsMet, chosen, found_paths, listed_at, listed_view}
-use Rattle.jt_chains.specs.Includes.{begins_with_chain, included, InOrder}
-use Rattle.jt_inherit.specs.internal.RuleTests.{KeepAll, BreakOne, their_blocks, their_names, any_double}
-use Rattle.jt_inherit.specs.internal.RuleTests.{any_lacks_macros}
-use Rattle.jt_chains.specs.Names.{IsName}
-use Rattle.jt_chains.specs.Needs.{Need, needed}
+use Rattle.jt_inherit.specs.internal.Found.{AllKeep, IsDone}
+use Rattle.jt_chains.specs.Includes.{begins_with_chain}
 use Rattle.jt_chains.specs.TemplateFiles.{namespace_view, AreWhole}
-use Rattle.jt_chains.specs.Indices.{namespace_at}
-use Rattle.jt_inherit.specs.Findings.{IsFinding}
-use Rattle.jt_inherit.specs.Refusals.{Breaks}
 use Rattle.jt_inherit.specs.internal.FindsAt.{FindsAt}
-use Rattle.jt_inherit.specs.declared.finding.ChainFinding.{ChainFinding}
+use Rattle.jt_inherit.proofs.Vocabulary.{length-map, append-nil, map-map, slice_get, unwrap_or, AllByRecursion}
+use Rattle.jt_inherit.proofs.Vocabulary.{list_any, is_some, is_none, bytes_eq, cases_lt, nat_tests, Graph, next_of}
+use Rattle.jt_inherit.proofs.Vocabulary.{HasCycle, graph_of, Options, among, repeated, Text, AreIndices, templates_at}
+use Rattle.jt_inherit.proofs.Vocabulary.{needs_along, Namespace, a_chain, listed, is_a_library, Template, templates}
+use Rattle.jt_inherit.proofs.Vocabulary.{sources_in, SourceTexts, IsChain, lacks_body, lacks_next, chains_of, AreFound}
+use Rattle.jt_inherit.proofs.Vocabulary.{IsFound, found_templates, found_namespaces, root_of, IsFollowed, AreFollowed}
+use Rattle.jt_inherit.proofs.Vocabulary.{IsMet, chosen, found_paths, listed_at, listed_view, included, InOrder, KeepAll}
+use Rattle.jt_inherit.proofs.Vocabulary.{BreakOne, their_blocks, their_names, any_double, any_lacks_macros, IsName}
+use Rattle.jt_inherit.proofs.Vocabulary.{Need, needed, namespace_at, IsFinding, Breaks, ChainFinding, Asks, Reaches}
+use Rattle.jt_inherit.proofs.Vocabulary.{here, asked, extends_path, is_whole, KeepsRules, templates_weight}
+use Rattle.jt_inherit.proofs.Vocabulary.{chains_weight, templates_len, chains_len, Seen, AreKnown, IsExtendsPath}
+use Rattle.jt_inherit.proofs.Vocabulary.{IsWithin, names_view, Discovery, ChainError, map_at, of_texts, same}
+use Rattle.jt_inherit.proofs.Vocabulary.{chain_among, of_namespaces, among_cases, both_false, no_more, or_false}
+use Rattle.jt_inherit.proofs.Vocabulary.{or_true, indexed_among}
 use Rattle.jt_inherit.proofs.FindingsHold.{rule_bare, rule_said}
 use Rattle.jt_chains.specs.Rules as rules
-use Rattle.jt_chains.specs.Rules.{Asks, Reaches, here, asked, extends_path, is_whole, KeepsRules}
-use Rattle.jt_chains.specs.Weights.{templates_weight, chains_weight}
-use Rattle.jt_inherit.specs.Small.{templates_len, chains_len}
-use Rattle.jt_chains.specs.View.{Seen}
-use Rattle.jt_inherit.specs.internal.ExtendsPaths.{AreKnown, IsExtendsPath, IsWithin}
-use Rattle.jt_inherit.specs.internal.Sets.{names_view}
-use Rattle.jt_inherit.specs.declared.discovery.Discovery.{Discovery}
-use Rattle.jt_inherit.specs.declared.error.ChainError.{ChainError}
 use Rattle.jt_inherit.specs.declared.error.ChainError.TheVariants as error
 use Rattle.jt_chains.specs.declared.chain.Namespace as linked
 use Rattle.jt_inherit.proofs.RulesCarryOver.{given_names}
@@ -60,10 +41,7 @@ use Rattle.jt_inherit.proofs.PathTemplates.{all_among, repeated_up, weigh, names
 use Rattle.jt_inherit.proofs.TopologicalOrder.{namespace_among, number_of, names_in_order, reached_in_order, no_cycle}
 use Rattle.jt_inherit.proofs.TopologicalOrder.{first_in_order, named_among}
 use Rattle.jt_inherit.proofs.TreeWeights.{all_weigh}
-use Rattle.jt_chains.proofs.TemplatesByIndex.{given_templates, map_at}
-use Rattle.jt_inherit.proofs.NameMembership.{of_texts, same}
-use Rattle.jt_inherit.proofs.NamespaceMembership.{chain_among, of_namespaces}
-use Rattle.jt_inherit.proofs.Membership.{among_cases, both_false, no_more, or_false, or_true, indexed_among}
+use Rattle.jt_chains.proofs.TemplatesByIndex.{given_templates}
 
 -- ---- chains by their numbers
 

@@ -1,25 +1,16 @@
 -- An entry has one chain, up to the order of its parts, and none if a rule is broken.
 use Rattle.std.proofs.Common.{◌≡◌, ◌≢◌, ◌↔◌, Bool, true, false, List, [], ◌∷◌, refl, sym, ap, subst, ◌∙◌, ⊎_elim}
 use Rattle.std.proofs.Common.{Option, Some, None, string_bytes, arith, rules}
-use Rattle.std.specs.List.{AllByRecursion, list_any}
-use Rattle.std.specs.Option.{is_some, is_none}
-use Rattle.jt_scan.specs.declared.options.Options.{Options}
-use Rattle.jt_ast.specs.Texts.{among}
-use Rattle.jt_ast.specs.Expressions.{Text}
-use Rattle.jt_ast.specs.Statements.{Body}
-use Rattle.jt_chains.specs.Chain.{Sources, a_chain, Template, sources_in}
-use Rattle.jt_inherit.specs.Chains.{SourceTexts, IsTree, IsRead, IsOnly, IsChain}
-use Rattle.jt_inherit.specs.Refusals.{Breaks, Shows, HasFault, IsUncut, IsUnspelled}
-use Rattle.jt_chains.specs.Rules.{Asks, here, asked, KeepsRules}
-use Rattle.jt_chains.specs.View.{Seen, sources_of}
-use Rattle.jt_inherit.specs.declared.error.ChainError.{ChainError}
+use Rattle.jt_chains.specs.View.{sources_of}
 use Rattle.jt_inherit.specs.declared.error.ChainError.TheVariants as error
+use Rattle.jt_inherit.proofs.Vocabulary.{AllByRecursion, list_any, is_some, is_none, Options, among, Text, Body}
+use Rattle.jt_inherit.proofs.Vocabulary.{Sources, a_chain, Template, sources_in, SourceTexts, IsTree, IsRead, IsOnly}
+use Rattle.jt_inherit.proofs.Vocabulary.{IsChain, Breaks, Shows, HasFault, IsUncut, IsUnspelled, Asks, here, asked}
+use Rattle.jt_inherit.proofs.Vocabulary.{KeepsRules, Seen, ChainError, same, or_true}
 use Rattle.jt_inherit.proofs.RulesCarryOver as carried
 use Rattle.jt_inherit.proofs.DiscoveryInvariant.{some_source}
 use Rattle.jt_inherit.proofs.SourcesGrow.{asks_more, asked_more, reaches_more}
 use Rattle.jt_inherit.proofs.PathsGrow.{names}
-use Rattle.jt_inherit.proofs.NameMembership.{same}
-use Rattle.jt_inherit.proofs.Membership.{or_true}
 
 pub any_at : (p : Text → Bool) (x : Text) (xs : List Text) → among x xs ≡ true → p x ≡ true → list_any p xs ≡ true
 any_at p x [] a t = absurd (cc)

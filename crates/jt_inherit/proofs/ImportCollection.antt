@@ -1,19 +1,13 @@
 -- The imports of templates; libraries import nothing.
 use Rattle.std.proofs.Common.{◌≡◌, Bool, true, false, ◌&&◌, List, [], ◌∷◌, ◌++◌, map, refl, sym, ap, ◌∙◌, arith, rules}
-use Rattle.std.specs.Prelude.{flat_map, filter}
-use Rattle.std.specs.List.{AllByRecursion}
-use Rattle.std.proofs.lemmas.List.{map-append}
 use Rattle.jt_ast.specs.Statements as trees
-use Rattle.jt_ast.specs.Expressions.{Text}
-use Rattle.jt_ast.specs.Statements.{Body, Branches}
-use Rattle.jt_ast.specs.Texts.{among}
-use Rattle.jt_chains.specs.Chain.{Sources, Namespace, a_chain, a_library, Template, holds_macros, of_a_library}
-use Rattle.jt_chains.specs.Chain.{libraries_in, imports_in, all_given_from, macros, MacroBody, Definition, own}
-use Rattle.jt_chains.specs.Rules.{lacks_macros}
-use Rattle.jt_inherit.specs.internal.Found.{chosen}
-use Rattle.jt_inherit.specs.internal.RuleTests.{names_from, imported_names}
-use Rattle.jt_chains.specs.Includes.{includes_by, includes_in, includes_under}
-use Rattle.jt_chains.specs.Needs.{Need, include_need, library_need, needed}
+use Rattle.jt_chains.specs.Chain.{of_a_library}
+use Rattle.jt_chains.specs.Chain.{imports_in, all_given_from}
+use Rattle.jt_chains.specs.Includes.{includes_by, includes_under}
+use Rattle.jt_inherit.proofs.Vocabulary.{flat_map, filter, AllByRecursion, map-append, Text, Body, Branches, among}
+use Rattle.jt_inherit.proofs.Vocabulary.{Sources, Namespace, a_chain, a_library, Template, holds_macros, libraries_in}
+use Rattle.jt_inherit.proofs.Vocabulary.{macros, MacroBody, Definition, own, lacks_macros, chosen, names_from}
+use Rattle.jt_inherit.proofs.Vocabulary.{imported_names, includes_in, Need, include_need, library_need, needed}
 
 -- ---- the imports of a template
 

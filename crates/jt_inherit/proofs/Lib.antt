@@ -1,3 +1,4 @@
+pub mod Vocabulary
 pub mod LibraryTemplate
 pub mod NameMembership
 pub mod TestsAtIndices

@@ -2,20 +2,17 @@
 -- chain has its own tag, an include or an import, which weighs at least 7.
 use Rattle.std.proofs.Common.{◌≡◌, ◌+◌, ◌*◌, ◌≤◌, Bool, true, false, ◌||◌, ◌⊎◌, inl, inr, List, [], ◌∷◌, ◌++◌, length}
 use Rattle.std.proofs.Common.{refl, sym, ap, ◌∙◌, subst, arith, length-append, rules}
-use Rattle.std.specs.Prelude.{not, flat_map, filter, IsTrue}
-use Rattle.std.proofs.lemmas.List.{length-map}
-use Rattle.jt_ast.specs.Expressions.{Text}
-use Rattle.jt_ast.specs.Statements.{Stmt, choose, for_each, set_block, with_values, filter_block}
-use Rattle.jt_ast.specs.Statements.{autoescape, macro, import_as, import_from, block, Body, end, stmt}
-use Rattle.jt_ast.specs.Statements.{Branches, no_branches, branch, stmt_weight, body_weight, branch_weight}
-use Rattle.jt_chains.specs.Chain.{Sources, Namespace, a_chain, a_library, same_namespace, listed, Template, templates}
-use Rattle.jt_chains.specs.Chain.{libraries, libraries_in}
-use Rattle.jt_chains.specs.Includes.{needs_by, needs_in, needs_under, included, AllIn, InOrder}
-use Rattle.jt_chains.specs.Rules.{Reaches, here, through}
-use Rattle.jt_chains.specs.Weights.{templates_weight, chains_weight}
-use Rattle.jt_inherit.specs.internal.Found.{twice}
-use Rattle.jt_inherit.proofs.NamespaceMembership.{of_namespaces, reflexive, same}
-use Rattle.jt_inherit.proofs.Membership.{among_behind, among_front, both_false, no_more}
+use Rattle.std.specs.Prelude.{not, IsTrue}
+use Rattle.jt_ast.specs.Statements.{macro, import_as, import_from, block}
+use Rattle.jt_ast.specs.Statements.{stmt_weight, body_weight, branch_weight}
+use Rattle.jt_inherit.proofs.Vocabulary.{flat_map, filter, length-map, Text, Stmt, choose, for_each, set_block}
+use Rattle.jt_inherit.proofs.Vocabulary.{with_values, filter_block, autoescape, Body, end, stmt, Branches, no_branches}
+use Rattle.jt_inherit.proofs.Vocabulary.{branch, Sources, Namespace, a_chain, a_library, same_namespace, listed}
+use Rattle.jt_inherit.proofs.Vocabulary.{Template, templates, libraries, libraries_in, needs_by, needs_in, needs_under}
+use Rattle.jt_inherit.proofs.Vocabulary.{included, AllIn, InOrder, Reaches, here, through, templates_weight}
+use Rattle.jt_inherit.proofs.Vocabulary.{chains_weight, twice, of_namespaces, among_behind, among_front, both_false}
+use Rattle.jt_inherit.proofs.Vocabulary.{no_more}
+use Rattle.jt_inherit.proofs.NamespaceMembership.{reflexive, same}
 
 -- ---- tags
 

@@ -2,36 +2,20 @@
 use Rattle.std.proofs.Common.{◌≡◌, ℕ, zero, suc, ◌+◌, ◌-◌, ◌<◌, ◌≤◌, ◌==◌, Bool, true, false, not, ◌&&◌, List, [], ◌∷◌}
 use Rattle.std.proofs.Common.{◌||◌, ◌++◌, length, map, drop, get_or, refl, sym, ap, subst, ◌∙◌, arith, inl, inr, ◌⊎◌}
 use Rattle.std.proofs.Common.{⊎_elim, Option, Some, None, length-append, string_bytes, rules}
-use Rattle.std.specs.Prelude.{flat_map, option_map, slice_get}
-use Rattle.std.specs.Str.{bytes_eq}
-use Rattle.std.specs.Option.{option_to_list}
-use Rattle.std.proofs.lemmas.Option.{slice_get_within, slice_get-get_or}
-use Rattle.std.specs.List.{AllByRecursion}
-use Rattle.std.proofs.lemmas.List.{append-nil, append_assoc, drop_more, length-map}
-use Rattle.jt_scan.specs.declared.options.Options.{Options}
-use Rattle.jt_ast.specs.Texts.{among, repeated}
-use Rattle.jt_ast.specs.Expressions.{Text}
-use Rattle.jt_ast.specs.Statements.{Body, end}
-use Rattle.jt_ast.specs.StatementView.{body_of}
-use Rattle.jt_chains.specs.Along.{AreIndices, templates_at}
-use Rattle.jt_chains.specs.Chain.{Sources, Namespace, a_chain, a_library, Template, template, templates, libraries}
-use Rattle.jt_chains.specs.Chain.{extends_of, parent_of, names_up, sources_in}
-use Rattle.jt_inherit.specs.Chains.{SourceTexts, IsRead, IsOnly}
-use Rattle.jt_inherit.specs.internal.Faults.{HasFaulty, IsFaultOf}
-use Rattle.jt_chains.specs.Includes.{needs_in}
-use Rattle.jt_chains.specs.TemplateFiles.{file_view, files_view}
-use Rattle.jt_chains.specs.declared.files.TemplateFile.{TemplateFile}
-use Rattle.jt_inherit.specs.Refusals.{Breaks, HasFault, Shows}
-use Rattle.jt_inherit.specs.internal.Sets.{names_view}
-use Rattle.jt_inherit.specs.declared.sets.Names.{Names}
-use Rattle.jt_chains.specs.Rules.{Reaches, asked, extends_path}
-use Rattle.jt_inherit.specs.internal.ExtendsPaths.{Leads, LeadsFrom, AreKnown, IsExtendsPath, IsWithin, AddsName, Grow}
-use Rattle.jt_inherit.specs.declared.error.ChainError.{ChainError}
+use Rattle.jt_inherit.specs.internal.Faults.{HasFaulty}
+use Rattle.jt_inherit.specs.internal.ExtendsPaths.{LeadsFrom, AddsName}
 use Rattle.jt_inherit.specs.declared.error.ChainError.TheVariants as error
-use Rattle.jt_chains.proofs.TemplatesByIndex.{only_one, map_at}
-use Rattle.jt_inherit.specs.internal.Placing.{IsNamedOn}
-use Rattle.jt_inherit.proofs.NameMembership.{all_more, map_more, of_texts, same}
-use Rattle.jt_inherit.proofs.Membership.{among_front, among_next, comes_again, once_more}
+use Rattle.jt_inherit.proofs.Vocabulary.{flat_map, option_map, slice_get, bytes_eq, option_to_list, slice_get_within}
+use Rattle.jt_inherit.proofs.Vocabulary.{slice_get-get_or, AllByRecursion, append-nil, append_assoc, drop_more}
+use Rattle.jt_inherit.proofs.Vocabulary.{length-map, Options, among, repeated, Text, Body, end, body_of, AreIndices}
+use Rattle.jt_inherit.proofs.Vocabulary.{templates_at, Sources, Namespace, a_chain, a_library, Template, template}
+use Rattle.jt_inherit.proofs.Vocabulary.{templates, libraries, extends_of, parent_of, names_up, sources_in, SourceTexts}
+use Rattle.jt_inherit.proofs.Vocabulary.{IsRead, IsOnly, IsFaultOf, needs_in, file_view, files_view, TemplateFile}
+use Rattle.jt_inherit.proofs.Vocabulary.{Breaks, HasFault, Shows, names_view, Names, Reaches, asked, extends_path}
+use Rattle.jt_inherit.proofs.Vocabulary.{Leads, AreKnown, IsExtendsPath, IsWithin, Grow, ChainError, only_one, map_at}
+use Rattle.jt_inherit.proofs.Vocabulary.{IsNamedOn, map_more, of_texts, same, among_front, among_next, once_more}
+use Rattle.jt_inherit.proofs.NameMembership.{all_more}
+use Rattle.jt_inherit.proofs.Membership.{comes_again}
 
 abbrev pub names : List Template → List Text
 names = map (λ t. t.name)

@@ -2,35 +2,26 @@
 use Rattle.std.proofs.Common.{◌≡◌, ℕ, zero, suc, ◌<◌, ◌≤◌, ◌==◌, Bool, true, false, not, ◌&&◌, ◌||◌, nat_lt, List, []}
 use Rattle.std.proofs.Common.{◌∷◌, ◌++◌, length, map, refl, sym, ap, subst, ◌∙◌, arith, inl, inr, ◌⊎◌, ⊎_elim, Option}
 use Rattle.std.proofs.Common.{Some, None, length-append, rules}
-use Rattle.std.specs.Prelude.{flat_map}
-use Rattle.std.specs.List.{list_any}
-use Rattle.std.specs.Option.{is_none}
-use Rattle.std.specs.Str.{bytes_eq}
-use Rattle.std.proofs.lemmas.List.{append-nil, map-append}
-use Rattle.std.proofs.lemmas.Bool.{cases_lt}
-use Rattle.std.proofs.lemmas.Bool.Decides.{nat_tests}
-use Rattle.jt_ast.specs.Texts.{among, repeated}
-use Rattle.jt_ast.specs.Expressions.{Text}
 use Rattle.jt_ast.specs.Statements as trees
-use Rattle.jt_ast.specs.Statements.{Body}
-use Rattle.jt_chains.specs.Chain.{Sources, Namespace, a_chain, a_library, Template, template, templates}
-use Rattle.jt_chains.specs.Chain.{library_template, is_a_library, extends_of, parent_of, names_up, blocks_in, MacroBody}
-use Rattle.jt_chains.specs.Chain.{Definition, macros, given, own, imports, libraries_in}
-use Rattle.jt_inherit.specs.internal.Checks.{lacks_body, lacks_next}
-use Rattle.jt_inherit.specs.internal.RuleTests.{their_blocks, their_macros, any_double, any_lacks_macros, names_from}
-use Rattle.jt_inherit.specs.internal.RuleTests.{imported_names}
+use Rattle.jt_chains.specs.Chain.{given, imports}
 use Rattle.jt_chains.specs.Rules as rules
-use Rattle.jt_chains.specs.Rules.{Asks, Reaches, here, InSomeChain, is_whole, extends_path, BadName, ExtendsCycle}
+use Rattle.jt_chains.specs.Rules.{InSomeChain, BadName, ExtendsCycle}
 use Rattle.jt_chains.specs.Rules.{ChainTooLong, DoubleBlock, RequiredNotGiven, NoSuper, IncludeCycle, MacroTwice}
 use Rattle.jt_chains.specs.Rules.{NoMacro, NotALibrary}
+use Rattle.jt_inherit.proofs.Vocabulary.{flat_map, list_any, is_none, bytes_eq, append-nil, map-append, cases_lt}
+use Rattle.jt_inherit.proofs.Vocabulary.{nat_tests, among, repeated, Text, Body, Sources, Namespace, a_chain, a_library}
+use Rattle.jt_inherit.proofs.Vocabulary.{Template, template, templates, library_template, is_a_library, extends_of}
+use Rattle.jt_inherit.proofs.Vocabulary.{parent_of, names_up, blocks_in, MacroBody, Definition, macros, own}
+use Rattle.jt_inherit.proofs.Vocabulary.{libraries_in, lacks_body, lacks_next, their_blocks, their_macros, any_double}
+use Rattle.jt_inherit.proofs.Vocabulary.{any_lacks_macros, names_from, imported_names, Asks, Reaches, here, is_whole}
+use Rattle.jt_inherit.proofs.Vocabulary.{extends_path, of_texts, reflexive, among_behind, among_front, both_false}
+use Rattle.jt_inherit.proofs.Vocabulary.{or_false, or_true}
 use Rattle.jt_inherit.proofs.SourcesGrow.{Carries, carries_up, front_carried, up_more, up_some, flat-append, on_path}
 use Rattle.jt_inherit.proofs.SourcesGrow.{on_first, on_libraries, way_more, namespace_more, included_more, reaches_more}
 use Rattle.jt_inherit.proofs.SourcesGrow.{reaches_next, asked_more}
 use Rattle.jt_inherit.proofs.ImportCollection.{all_imported, own_named}
 use Rattle.jt_inherit.proofs.StoreLookup.{none_from, nothing_lacks, lacks_same}
 use Rattle.jt_inherit.proofs.PathTemplates.{and_true}
-use Rattle.jt_inherit.proofs.NameMembership.{of_texts, reflexive}
-use Rattle.jt_inherit.proofs.Membership.{among_behind, among_front, both_false, or_false, or_true}
 
 -- ---- tests of the first elements
 

@@ -1,10 +1,6 @@
 use Rattle.std.proofs.Common.{List, ap, subst}
-use Rattle.std.proofs.lemmas.Result.{err_from_is_err_and}
-use Rattle.jt_chains.specs.TemplateFiles.{files_view}
 use Rattle.jt_chains.specs.Tables.{AreAt}
-use Rattle.jt_chains.specs.declared.files.TemplateFile.{TemplateFile}
-use Rattle.jt_inherit.specs.internal.Found.{found_templates}
-use Rattle.jt_inherit.specs.declared.finding.ChainFinding.{ChainFinding}
+use Rattle.jt_inherit.proofs.Vocabulary.{err_from_is_err_and, files_view, TemplateFile, found_templates, ChainFinding}
 use Rattle.jt_inherit.proofs.PathTemplates.{all_short}
 use Rattle.jt_inherit.proofs.RingFound.{order_finds}
 use Rattle.jt_inherit.proofs.ChainIsUnique.{no_chain, one_chain}

@@ -1,14 +1,6 @@
 use Rattle.std.proofs.Common.{List, sym, subst}
-use Rattle.std.proofs.lemmas.Result.{err_from_is_err_and}
-use Rattle.jt_graph.specs.View.{graph_of}
-use Rattle.jt_chains.specs.Along.{AreIndices, templates_at}
-use Rattle.jt_chains.specs.Chain.{sources_in}
-use Rattle.jt_chains.specs.TemplateFiles.{files_view}
-use Rattle.jt_chains.specs.declared.files.TemplateFile.{TemplateFile}
-use Rattle.jt_inherit.specs.internal.ExtendsPaths.{AreNamed}
-use Rattle.jt_inherit.specs.internal.FindsAt.{IsBroken}
-use Rattle.jt_inherit.specs.internal.Found.{found_templates}
-use Rattle.jt_inherit.specs.internal.Sets.{names_view}
+use Rattle.jt_inherit.proofs.Vocabulary.{err_from_is_err_and, graph_of, AreIndices, templates_at, sources_in}
+use Rattle.jt_inherit.proofs.Vocabulary.{files_view, TemplateFile, AreNamed, IsBroken, found_templates, names_view}
 use Rattle.jt_inherit.proofs.ChainComplete.{at_number, way_at}
 use Rattle.jt_inherit.proofs.chaining.check_chains.Goals as goal
 

@@ -1,12 +1,6 @@
 use Rattle.std.proofs.Common.{◌≡◌, length, ap, arith}
-use Rattle.std.proofs.lemmas.List.{length-map}
-use Rattle.jt_graph.specs.View.{graph_of}
-use Rattle.jt_inherit.specs.internal.Found.{found_templates, found_namespaces, found_paths, root_of}
-use Rattle.jt_chains.specs.Chain.{namespace_name}
-use Rattle.jt_chains.specs.TemplateFiles.{files_view}
-use Rattle.jt_chains.specs.Indices.{namespace_at}
-use Rattle.jt_inherit.specs.internal.SetView.{strings, key_view}
-use Rattle.jt_inherit.specs.internal.Sets.{names_view}
+use Rattle.jt_inherit.proofs.Vocabulary.{length-map, graph_of, found_templates, found_namespaces, found_paths, root_of}
+use Rattle.jt_inherit.proofs.Vocabulary.{namespace_name, files_view, namespace_at, strings, key_view, names_view}
 use Rattle.jt_inherit.proofs.ChainComplete.{search_done}
 use Rattle.jt_inherit.proofs.DiscoveryInvariant.{found_first, followed_len}
 use Rattle.jt_inherit.proofs.discovery.discover.Goals as goal

@@ -1,16 +1,8 @@
 use Rattle.std.proofs.Common.{◌≡◌, [], List, refl, sym, ap, subst, ◌∙◌, Option, Bool}
-use Rattle.std.specs.Prelude.{IfOk, option_map, unwrap_or}
-use Rattle.jt_graph.specs.Graph.{next_of}
-use Rattle.jt_graph.specs.View.{graph_of}
-use Rattle.jt_chains.specs.Along.{AreIndices, templates_at}
-use Rattle.jt_chains.specs.Chain.{Namespace, Template, a_chain}
-use Rattle.jt_chains.specs.Indices.{namespace_at}
-use Rattle.jt_chains.specs.TemplateFiles.{files_view}
-use Rattle.jt_chains.specs.declared.files.TemplateFile.{TemplateFile}
-use Rattle.jt_uses.specs.Uses.{Use}
-use Rattle.jt_inherit.specs.Findings.{all_uses, leads_to}
-use Rattle.jt_inherit.specs.internal.Found.{found_namespaces, found_templates}
-use Rattle.jt_inherit.specs.internal.Tags.{place_in, place_view, tags, test_of}
+use Rattle.jt_inherit.proofs.Vocabulary.{IfOk, option_map, unwrap_or, next_of, graph_of, AreIndices, templates_at}
+use Rattle.jt_inherit.proofs.Vocabulary.{Namespace, Template, a_chain, namespace_at, files_view, TemplateFile, Use}
+use Rattle.jt_inherit.proofs.Vocabulary.{all_uses, leads_to, found_namespaces, found_templates, place_in, place_view}
+use Rattle.jt_inherit.proofs.Vocabulary.{tags, test_of}
 use Rattle.jt_inherit.proofs.ChainComplete.{at_number, way_at}
 use Rattle.jt_inherit.proofs.leading.leading_tag.Goals as goal
 

@@ -1,7 +1,7 @@
 use borrow.Author.Tests.{ltb-true}
 use Rattle.std.proofs.Common.{◌==◌, ◌∙◌, refl, sym, ap}
-use Rattle.std.specs.List.{list_any}
 use Rattle.jt_graph.specs.Graph.{among}
+use Rattle.jt_inherit.proofs.Vocabulary.{list_any}
 use Rattle.jt_inherit.proofs.ChainComplete.{way_at}
 use Rattle.jt_inherit.proofs.RingFound.{any_among, past_end}
 use Rattle.jt_inherit.proofs.rings.leads.Goals as goal

@@ -1,12 +1,6 @@
 use Rattle.std.proofs.Common.{List, sym, ap, ◌∙◌}
-use Rattle.jt_ast.specs.Texts.{repeated, texts}
-use Rattle.jt_inherit.specs.internal.Checks.{lacks_body}
-use Rattle.jt_chains.specs.Along.{templates_at}
-use Rattle.jt_chains.specs.TemplateFiles.{files_view}
-use Rattle.jt_chains.specs.Parts.{blocks_view}
-use Rattle.jt_chains.specs.declared.parts.Block.{Block}
-use denote.Ref.{Bor}
-use Rattle.jt_ast.specs.Expressions.{Text}
+use Rattle.jt_inherit.proofs.Vocabulary.{repeated, texts, lacks_body, templates_at, files_view, blocks_view, Block, Bor}
+use Rattle.jt_inherit.proofs.Vocabulary.{Text}
 use Rattle.jt_inherit.proofs.DiscoveryInvariant.{indexed_templates}
 use Rattle.jt_inherit.proofs.FindingsHold.{rule_broken}
 use Rattle.jt_inherit.proofs.ChainRules.{bodies_told, next_told}

@@ -2,8 +2,8 @@ use Rattle.std.proofs.Common.{◌≡◌, ◌+◌, ◌*◌, drop}
 use denote.Param.Weighed.{most}
 use Rattle.jt_ast.specs.declared.statement.Stmt.{size-Stmt}
 use Rattle.jt_ast.proofs.RemainingParts.{Branch}
-use Rattle.jt_ast.specs.StatementView.{body_view, branches_view}
-use Rattle.jt_inherit.specs.internal.SuperLines.{first_in, first_under}
+use Rattle.jt_ast.specs.StatementView.{branches_view}
+use Rattle.jt_inherit.proofs.Vocabulary.{body_view, first_in, first_under}
 use Rattle.jt_inherit.proofs.supers.+lines.Given as goal
 
 abbrev pub decreases-statement_line : goal.decreases-statement_line

@@ -1,8 +1,6 @@
 use Rattle.std.proofs.Common.{◌≡◌, true, IfSome, sym, subst}
-use Rattle.jt_ast.specs.StatementView.{body_view}
 use Rattle.jt_uses.specs.UseView.{use_view}
-use Rattle.jt_inherit.specs.Findings.{calls_super_at}
-use Rattle.jt_inherit.specs.SuperTags.{super_at}
+use Rattle.jt_inherit.proofs.Vocabulary.{body_view, calls_super_at, super_at}
 use Rattle.jt_inherit.proofs.SuperTagLines.{body_shown}
 use Rattle.jt_inherit.proofs.tags.FoundTag.super_line.Goals as goal
 
