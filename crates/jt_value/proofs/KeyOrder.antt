@@ -12,7 +12,7 @@ use Rattle.std.specs.BTreeMap.{BTreeMap, get_by_text, is_at, values, IsOrdered}
 use Rattle.std.specs.declared.cmp.Ordering.TheVariants.{Less}
 use Rattle.std.specs.Ordering.{nat_cmp, is_lt}
 use Rattle.std.specs.Cmp.Lexicographic.{slice_cmp, same_text}
-use Rattle.std.specs.String.{string_eq, string_cmp_total}
+use Rattle.std.specs.String.{string_cmp_total}
 use Rattle.std.proofs.lemmas.Map.Views.{All-found}
 use Rattle.std.proofs.lemmas.Bool.{and_from}
 use Rattle.jt_value.specs.Tree as tree

@@ -1,6 +1,6 @@
 -- One more entry, whose key is new: the indices of keys, and ascending keys.
 use Rattle.std.proofs.Common.{◌≡◌, ℕ, zero, suc, ◌+◌, Bool, true, false, cond, List, [], ◌∷◌, length}
-use Rattle.std.proofs.Common.{get_or, Option, Some, None, String, Global, string_bytes, nat_cmp, refl, sym, ap, ◌∙◌}
+use Rattle.std.proofs.Common.{get_or, Option, Some, None, String, Global, nat_cmp, refl, sym, ap, ◌∙◌}
 use Rattle.std.proofs.Common.{true≢false, arith}
 use Rattle.std.specs.Prelude.{option_map, is_some}
 use Rattle.std.specs.Str.{bytes_eq}

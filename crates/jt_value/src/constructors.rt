@@ -107,7 +107,10 @@ impl Value {
     ) -> Result<Value, NoMemory>
         ensures { IfOk result (λ v. view v ≡ tree.map (entries_view (text_keyed entries.entries))) }
     {
-        Value::from_entries(alloc, with_text_keys(alloc, entries)?)
+        Value::from_entries(
+            alloc,
+            with_text_keys(alloc, entries.into_iter().collect(alloc)?)?,
+        )
     }
 
     /// Returns the characters of a text, plain or markup, or `None` for any other value.

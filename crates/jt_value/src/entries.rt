@@ -10,9 +10,7 @@ ghost use Rattle.jt_value.specs.internal.MoreEntries.{more_entries};
 use crate::fault::NoMemory;
 use crate::text::Text;
 use crate::value::Value;
-use indexmap::IndexMap;
 use std::alloc::Global;
-use std::hash::BuildHasher;
 
 /// Returns the index of a key's first entry, by a linear search.
 pub(crate) fn first_index(entries: &[(Text, Value)], key: &str) -> Option<usize>
@@ -76,16 +74,15 @@ pub(crate) fn stays_ascending(entries: &[(Text, Value)], key: &str) -> bool
     }
 }
 
-/// Returns the entries of an `IndexMap` with their keys as texts, in their order.
-pub(crate) fn with_text_keys<S: BuildHasher + Drop>(
+/// Returns the entries with their keys as texts.
+pub(crate) fn with_text_keys(
     alloc: Global,
-    entries: IndexMap<String, Value, S>,
+    entries: Vec<(String, Value)>,
 ) -> Result<Vec<(Text, Value)>, NoMemory>
-    ensures { IfOk result (λ es. es.items ≡ text_keyed entries.entries) }
+    ensures { IfOk result (λ es. es.items ≡ text_keyed entries.items) }
 {
-    let named: Vec<(String, Value)> = entries.into_iter().collect(alloc)?;
-    let mut keyed = Vec::with_capacity(alloc, named.len())?;
-    for (key, value) in named {
+    let mut keyed = Vec::with_capacity(alloc, entries.len())?;
+    for (key, value) in entries {
         keyed.push((Text::from_string(key)?, value))?;
     }
     Ok(keyed)

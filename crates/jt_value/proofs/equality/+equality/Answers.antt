@@ -1,5 +1,4 @@
 use Rattle.std.proofs.Common.{◌≡◌, ◌≢◌, ◌<◌, true, false, Bor, List, length, get_or, sym, ap, ◌∙◌, true≢false, arith}
-use Rattle.std.proofs.Common.{string_bytes}
 use Rattle.jt_value.specs.Entries.{entry_of, has_key, all_keys, keys, same_keys}
 use Rattle.jt_value.specs.Equality.{equal, equal_at, equal_items}
 use Rattle.jt_value.specs.Falls.{size_le, sizes-items}

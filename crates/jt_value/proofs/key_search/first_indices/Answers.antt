@@ -15,7 +15,7 @@ loop-left-preserved c =
       kept =
           kept_more c.args.entries.now i c.loop-left.left c.index-entries-left.result name old new (omega arith)
           (omega (arith, c.loop-left.invariant.left)) c.index-entries-left.is
-          (c.in_ok-clone.ensures.cases ∙ ap (λ (e : Pair). e.0) (sym c.index-entries-left.is))
+          (c.in_ok-name.ensures.ok ∙ c.as_str.ensures ∙ ap (λ (e : Pair). e.0) (sym c.index-entries-left.is))
           c.loop-left.invariant.kept
           (btree_map_updates_text name old new (Some i) c.in_ok-_behind.ensures.updates);
     }

@@ -1,4 +1,4 @@
-use Rattle.std.proofs.Common.{◌≡◌, ◌+◌, max, List, length, take, get_or, ap, ◌∙◌, arith, string_bytes}
+use Rattle.std.proofs.Common.{◌≡◌, ◌+◌, max, List, length, take, get_or, ap, ◌∙◌, arith}
 use Rattle.jt_value.specs.Tree.{size, entries_size, nesting, entries_nesting}
 use Rattle.jt_value.specs.View.{view, entries_view}
 use Rattle.jt_value.proofs.Lists.{Pair, entries_view-take_more, entries_size-more, entries_nesting-more}
