@@ -102,8 +102,10 @@ impl<'a> Reader<'a> {
             (complete (level_view level) (tree_of tree)) (ahead cursor.old)) result self.new
             (ahead cursor.new) }
     {
-        if !level.admits(self.goal()) {
-            return Ok(Progress::Moved(Step::Grown(level.looser(), tree)));
+        let goal = self.goal();
+        if !level.admits(goal) {
+            let next = level.towards(cursor.continued(), goal);
+            return Ok(Progress::Moved(Step::Grown(next, tree)));
         }
         let Some(form) = self.pending.pop() else {
             return Ok(Progress::Done(tree));
