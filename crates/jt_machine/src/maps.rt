@@ -2,7 +2,7 @@
 ghost use Rattle.std.specs.Prelude.{◌≡◌, ◌<◌, ◌∷◌, [], true, length, map, reverse, Ok, IfOk};
 ghost use Rattle.std.specs.Prelude.{IfSome, IfNone, OnOk};
 ghost use Rattle.std.specs.List.{list_all};
-ghost use Rattle.jt_value.specs.Tree.{Tree, Entries, no_entries};
+ghost use Rattle.jt_value.specs.Tree.{Entries, no_entries};
 ghost use Rattle.jt_value.specs.View.{view, entries_view};
 ghost use Rattle.jt_op_semantics.specs.Testing.{is_text};
 ghost use Rattle.jt_image.specs.Config.{Config};
