@@ -12,7 +12,7 @@ entries-preserved c =
     let is = c.entry-item.is in
     rw c.in_ok-push.ensures.items (mapped-more view key_of c.entries.keys.items c.args.entries.now c.entries.entry-index
     (value.Text c.in_ok-clone.field-0) c.entry-item.result lt c.entries.invariant
-    (ap text c.in_ok-clone.ensures ∙ ap key_of is))
+    (ap text c.in_ok-clone.ensures.cases ∙ ap key_of is))
 
 pub returns : goal.returns
 returns c =
