@@ -89,7 +89,8 @@ impl<'a> Reader<'a> {
         Ok(Progress::Moved(self.begin(cursor)?))
     }
 
-    /// Passes a complete tree to the next looser level or to the innermost form.
+    /// Passes a complete tree to a looser level, which the next token continues if one does, or to
+    /// the innermost form.
     fn complete(
         &mut self,
         cursor: &mut Cursor<'a>,

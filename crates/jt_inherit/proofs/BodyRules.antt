@@ -1,32 +1,22 @@
 -- The rules on bodies of blocks, as they are checked one body at a time.
 use Rattle.std.proofs.Common.{◌≡◌, ℕ, zero, suc, ◌+◌, ◌<◌, ◌≤◌, Bool, true, false, not, cond, ◌&&◌, ◌||◌, List, [], ◌∷◌}
 use Rattle.std.proofs.Common.{◌++◌, length, map, take, drop, get_or, refl, sym, ap, subst, ◌∙◌, arith, rules}
-use Rattle.std.specs.Prelude.{slice_get, unwrap_or, option_map}
 use Rattle.std.proofs.Common.{Some}
-use Rattle.std.proofs.lemmas.List.{drop_more, map-append}
-use Rattle.std.proofs.lemmas.Option.{slice_get-get_or}
 use Rattle.std.specs.BTreeSet as set
 use Rattle.std.specs.BTreeSet.{BTreeSet}
 use Rattle.std.specs.Cmp.Lexicographic.{slice_cmp}
-use Rattle.std.specs.List.{list_any}
 use Rattle.std.specs.Ordering.{nat_cmp, is_eq}
-use Rattle.std.specs.Str.{bytes_eq}
 use Rattle.std.proofs.lemmas.Map.Text.{is_eq-slice_cmp}
-use denote.Ref.{Bor}
-use Rattle.jt_ast.specs.Texts.{among, repeated, texts}
-use Rattle.jt_ast.specs.Expressions.{Text}
-use Rattle.jt_ast.specs.Statements.{end}
-use Rattle.std.specs.Option.{option_to_list}
-use Rattle.jt_chains.specs.Along.{body_at, templates_at}
-use Rattle.jt_inherit.specs.internal.RuleTests.{any_double}
-use Rattle.jt_chains.specs.Chain.{Template, BlockBody, from_given, blocks_in}
-use Rattle.jt_inherit.specs.internal.Checks.{named, lacks_body, lacks_next, block_names}
-use Rattle.jt_chains.specs.Parts.{block_view, blocks_view, name_at}
-use Rattle.jt_chains.specs.declared.parts.Block.{Block}
+use Rattle.jt_chains.specs.Along.{body_at}
+use Rattle.jt_chains.specs.Chain.{BlockBody, from_given}
+use Rattle.jt_inherit.specs.internal.Checks.{named}
+use Rattle.jt_chains.specs.Parts.{name_at}
 use Rattle.jt_chains.specs.Rules.{is_required, lacks_super, is_empty}
-use Rattle.jt_chains.specs.Supers.{calls_super}
-use Rattle.jt_inherit.proofs.NameMembership.{of_texts, reflexive, same, symmetric}
-use Rattle.jt_inherit.proofs.Membership.{among_next, both_false, once_more, or_false, or_true}
+use Rattle.jt_inherit.proofs.Vocabulary.{slice_get, unwrap_or, option_map, drop_more, map-append, slice_get-get_or}
+use Rattle.jt_inherit.proofs.Vocabulary.{list_any, bytes_eq, Bor, among, repeated, texts, Text, end, option_to_list}
+use Rattle.jt_inherit.proofs.Vocabulary.{templates_at, any_double, Template, blocks_in, lacks_body, lacks_next}
+use Rattle.jt_inherit.proofs.Vocabulary.{block_names, block_view, blocks_view, Block, calls_super, of_texts, reflexive}
+use Rattle.jt_inherit.proofs.Vocabulary.{same, symmetric, among_next, both_false, once_more, or_false, or_true}
 
 -- ---- a set of texts
 

@@ -2,40 +2,24 @@
 use Rattle.std.proofs.Common.{◌≡◌, ℕ, zero, suc, ◌<◌, ◌≤◌, Bool, true, false, cond, List, [], ◌∷◌, ◌++◌, length, map}
 use Rattle.std.proofs.Common.{refl, sym, ap, subst, ◌∙◌, arith, ◌⊎◌, ⊎_elim, inl, inr, Option, Some, None, Vec, Global}
 use Rattle.std.proofs.Common.{length-append, rules}
-use Rattle.std.specs.Prelude.{slice_get, flat_map, filter, unwrap_or}
-use Rattle.std.specs.List.{AllByRecursion}
-use Rattle.std.specs.Option.{is_some, option_to_list}
-use Rattle.std.proofs.lemmas.List.{append-nil, append_assoc, length-map, map-append}
-use Rattle.jt_scan.specs.declared.options.Options.{Options}
-use Rattle.jt_ast.specs.Texts.{among}
-use Rattle.jt_ast.specs.Expressions.{Text}
-use Rattle.jt_chains.specs.Along.{AreIndices, templates_at}
-use Rattle.jt_inherit.specs.internal.Along.{imports_along, needs_along}
-use Rattle.jt_chains.specs.Chain.{Namespace, a_chain, a_library, namespace_name, listed, Template, templates, libraries}
-use Rattle.jt_chains.specs.Chain.{libraries_in, sources_in}
-use Rattle.jt_inherit.specs.Chains.{SourceTexts, IsRead}
-use Rattle.jt_inherit.specs.internal.Found.{AreNext, IsMet, IsFollowed, IsLedTo, AreFollowed, AreFound}
-use Rattle.jt_inherit.specs.internal.Found.{chosen}
-use Rattle.jt_chains.specs.Includes.{included, includes_in, needs_in}
-use Rattle.jt_chains.specs.Needs.{Need, include_need, library_need, needed}
-use Rattle.jt_chains.specs.Indices.{namespace_at}
-use Rattle.jt_chains.specs.Rules.{Asks, Reaches, here, asked, extends_path}
-use Rattle.jt_inherit.specs.internal.ExtendsPaths.{AreKnown, IsExtendsPath}
+use Rattle.jt_inherit.specs.internal.Found.{IsLedTo}
+use Rattle.jt_inherit.proofs.Vocabulary.{slice_get, flat_map, filter, unwrap_or, AllByRecursion, is_some}
+use Rattle.jt_inherit.proofs.Vocabulary.{option_to_list, append-nil, append_assoc, length-map, map-append, Options}
+use Rattle.jt_inherit.proofs.Vocabulary.{among, Text, AreIndices, templates_at, imports_along, needs_along, Namespace}
+use Rattle.jt_inherit.proofs.Vocabulary.{a_chain, a_library, namespace_name, listed, Template, templates, libraries}
+use Rattle.jt_inherit.proofs.Vocabulary.{libraries_in, sources_in, SourceTexts, IsRead, AreNext, IsMet, IsFollowed}
+use Rattle.jt_inherit.proofs.Vocabulary.{AreFollowed, AreFound, chosen, included, includes_in, needs_in, Need}
+use Rattle.jt_inherit.proofs.Vocabulary.{include_need, library_need, needed, namespace_at, Asks, Reaches, here, asked}
+use Rattle.jt_inherit.proofs.Vocabulary.{extends_path, AreKnown, IsExtendsPath, by_templates, needed-append}
+use Rattle.jt_inherit.proofs.Vocabulary.{along_templates, Graph, next_of, graph_of, file_view, files_view, TemplateFile}
+use Rattle.jt_inherit.proofs.Vocabulary.{of_texts, same, of_namespaces, among_behind, among_front, both_false}
+use Rattle.jt_inherit.proofs.Vocabulary.{only_among, indexed_among}
 use Rattle.jt_inherit.proofs.ImportCollection.{all_imports, imports_needed, imports_chosen, all_includes}
 use Rattle.jt_inherit.proofs.ImportCollection.{includes_chosen, none_imported}
 use Rattle.jt_inherit.proofs.FollowStep.{at_front, met_grows, numbers_grow, chosen-append}
 use Rattle.jt_inherit.proofs.SourcesGrow.{reach_more, ask_more, reaches_next}
 use Rattle.jt_inherit.proofs.PathsGrow.{names, names_to_root, templates_grow, way_grows, few_templates, last_at}
 use Rattle.jt_inherit.proofs.PathsGrow.{templates_to_root}
-use Rattle.jt_chains.proofs.IncludeCollection.{by_templates, needed-append}
-use Rattle.jt_chains.proofs.TemplatesByIndex.{along_templates}
-use Rattle.jt_graph.specs.Graph.{Graph, next_of}
-use Rattle.jt_graph.specs.View.{graph_of}
-use Rattle.jt_chains.specs.TemplateFiles.{file_view, files_view}
-use Rattle.jt_chains.specs.declared.files.TemplateFile.{TemplateFile}
-use Rattle.jt_inherit.proofs.NameMembership.{of_texts, same}
-use Rattle.jt_inherit.proofs.NamespaceMembership.{of_namespaces}
-use Rattle.jt_inherit.proofs.Membership.{among_behind, among_front, both_false, only_among, indexed_among}
 
 -- ---- templates at indices
 

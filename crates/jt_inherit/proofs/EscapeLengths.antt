@@ -1,12 +1,12 @@
 -- The spelling of a text between quotes is no shorter than the text.
 use Rattle.std.proofs.Common.{◌≡◌, ℕ, ◌+◌, ◌<◌, ◌≤◌, Bool, true, false, ◌==◌, ◌||◌, [], ◌∷◌, ◌++◌, length, refl, ap}
 use Rattle.std.proofs.Common.{subst, ◌∙◌, arith, encode_utf8_all, length-append, if◌then◌else◌}
-use Rattle.std.proofs.lemmas.Bool.Decides.{nat_tests}
-use Rattle.std.proofs.lemmas.Str.{encodes-append, length-encode, len_utf8_bounds, len_utf8_ascii, length-le-encodes}
+use Rattle.std.proofs.lemmas.Str.{encodes-append, length-encode, len_utf8_bounds, len_utf8_ascii}
 use lib.Utf8.{encode}
 use Rattle.jt_scan.specs.Literals as literal
 use Rattle.jt_scan.specs.Literals.{Text, digit_value, is_digit, AllDigits, number_of, Escape, drops, gives, octal}
 use Rattle.jt_scan.specs.Literals.{hexadecimal, refused, stays, escape, Means}
+use Rattle.jt_inherit.proofs.Vocabulary.{nat_tests, length-le-encodes}
 
 -- The number of bytes of the characters.
 abbrev pub bytes : Text → ℕ

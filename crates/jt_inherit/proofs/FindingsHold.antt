@@ -1,27 +1,16 @@
 -- Findings that have no place, and those of included and imported templates.
 use Rattle.std.proofs.Common.{◌≡◌, Bool, true, false, ℕ, List, [], refl, sym, subst, ⊎_elim, Option, Some, None}
 use Rattle.std.proofs.Common.{◌∷◌, string_bytes}
-use Rattle.jt_scan.specs.declared.options.Options.{Options}
-use Rattle.jt_ast.specs.Expressions.{Text}
-use Rattle.jt_chains.specs.Along.{AreIndices, templates_at}
-use Rattle.jt_chains.specs.Chain.{Sources, Namespace, a_chain, Template, sources_in}
-use Rattle.jt_chains.specs.Rules.{Reaches, is_whole}
-use Rattle.jt_chains.specs.TemplateFiles.{files_view}
-use Rattle.jt_chains.specs.declared.files.TemplateFile.{TemplateFile}
-use Rattle.jt_inherit.specs.Chains.{SourceTexts}
-use Rattle.jt_inherit.specs.Findings.{IsFinding, IsNoMemory, Says, ForSome, HasTag, HasTwoTags, binds_macro, defines}
-use Rattle.jt_inherit.specs.Findings.{IsNotGiven, HasNoSuper, all_uses, is_block, may_be_bare}
-use Rattle.jt_inherit.specs.internal.ExtendsPaths.{AreKnown, IsExtendsPath}
-use Rattle.jt_inherit.specs.internal.Breaking.{BrokenIn, RuleAt}
-use Rattle.jt_inherit.specs.internal.RuleTests.{BreakOne}
-use Rattle.jt_inherit.specs.internal.Unmet.{IsUnmet, IsUnmetNeed}
-use Rattle.jt_inherit.specs.internal.Placing.{need_test}
-use Rattle.jt_inherit.specs.declared.error.ChainError.{ChainError}
+use Rattle.jt_inherit.specs.internal.Breaking.{BrokenIn}
+use Rattle.jt_inherit.specs.internal.Unmet.{IsUnmetNeed}
 use Rattle.jt_inherit.specs.declared.error.ChainError.TheVariants as error
-use Rattle.jt_inherit.specs.declared.finding.ChainFinding.{ChainFinding}
-use Rattle.jt_inherit.specs.declared.finding.ChainSubject.{ChainSubject}
 use Rattle.jt_inherit.specs.declared.finding.ChainSubject.TheVariants as v
-use Rattle.jt_inherit.specs.declared.finding.TagPlace.{TagPlace}
+use Rattle.jt_inherit.proofs.Vocabulary.{Options, Text, AreIndices, templates_at, Sources, Namespace, a_chain, Template}
+use Rattle.jt_inherit.proofs.Vocabulary.{sources_in, Reaches, is_whole, files_view, TemplateFile, SourceTexts}
+use Rattle.jt_inherit.proofs.Vocabulary.{IsFinding, IsNoMemory, Says, ForSome, HasTag, HasTwoTags, binds_macro, defines}
+use Rattle.jt_inherit.proofs.Vocabulary.{IsNotGiven, HasNoSuper, all_uses, is_block, may_be_bare, AreKnown}
+use Rattle.jt_inherit.proofs.Vocabulary.{IsExtendsPath, IsOfRule, RuleAt, BreakOne, IsBroken, IsUnmet, need_test}
+use Rattle.jt_inherit.proofs.Vocabulary.{ChainError, ChainFinding, ChainSubject, TagPlace}
 use Rattle.jt_inherit.proofs.DiscoveryInvariant.{asks_needed, whole_path}
 use Rattle.jt_inherit.proofs.PathsGrow.{asked_breaks}
 use Rattle.jt_inherit.proofs.PlacedErrors.{need_said, shown}
@@ -60,6 +49,18 @@ module _ {given : SourceTexts} {root : Text} {options : Options} where
             (need_used w.indices n) f.place f.subject n.placed.1;
       })
       unmet
+
+-- The finding of a rule that the templates break, or lack of memory.
+pub rule_broken : {s : Sources} {escaping : Bool} {ts : List Template} {e : ChainError} {f : ChainFinding}
+    → BreakOne s escaping ts e → IsOfRule s ts e f → IsBroken s escaping ts f
+rule_broken {s} {escaping} {ts} {e} {f} b r = record {
+  broken = subst (BreakOne s escaping ts) (sym r.0) b;
+  said = subst (RuleAt s ts f.place f.subject) (sym r.0) r.1;
+}
+
+pub memory_broken : {s : Sources} {escaping : Bool} {ts : List Template} {f : ChainFinding} → IsNoMemory f
+    → IsBroken s escaping ts f
+memory_broken {s} {escaping} {ts} m = subst (IsBroken s escaping ts) (sym m) (record { broken = tt; said = tt })
 
 -- A broken rule on the blocks, macros and imports of a chain or library.
 module _ {given : SourceTexts} {root : Text} {options : Options} {ts : List Template} {ks : List Text}

@@ -2,25 +2,17 @@
 use Rattle.std.proofs.Common.{◌≡◌, ℕ, zero, suc, ◌+◌, ◌<◌, ◌≤◌, Bool, true, false, not, cond, ◌||◌, if◌then◌else◌, List}
 use Rattle.std.proofs.Common.{[], ◌∷◌, ◌++◌, length, map, take, drop, get_or, refl, sym, ap, subst, ◌∙◌, arith, inl}
 use Rattle.std.proofs.Common.{inr, ◌⊎◌, ⊎_elim, Some, length-append, rules}
-use Rattle.std.specs.Prelude.{slice_get}
-use Rattle.std.specs.List.{AllByRecursion}
-use Rattle.std.specs.Str.{bytes_eq}
-use Rattle.std.proofs.lemmas.List.{append-nil, append_assoc, take_more, drop_more, map-append}
-use Rattle.jt_ast.specs.Texts.{among, repeated}
-use Rattle.jt_ast.specs.Expressions.{Text}
-use Rattle.jt_inherit.specs.Chains.{SourceTexts}
-use Rattle.jt_chains.specs.Chain.{Namespace, a_chain, a_library, listed}
-use Rattle.jt_inherit.specs.internal.Found.{AreNext, AddsNext, TooMany, IsNextFault, IsMet}
-use Rattle.jt_inherit.specs.internal.Found.{known_of, chosen, chains_of, twice}
-use Rattle.jt_chains.specs.Needs.{Need, needed, need_namespace, need_view, needs_view}
-use Rattle.jt_inherit.specs.declared.error.ChainError.{ChainError}
+use Rattle.std.proofs.lemmas.List.{take_more}
+use Rattle.jt_inherit.specs.internal.Found.{AddsNext}
+use Rattle.jt_inherit.specs.internal.Found.{known_of}
 use Rattle.jt_inherit.specs.declared.error.ChainError.TheVariants as error
-use Rattle.jt_chains.specs.declared.include_tags.NeededTemplate.{NeededTemplate}
-use Rattle.jt_inherit.proofs.NameMembership.{of_texts, reflexive}
+use Rattle.jt_inherit.proofs.Vocabulary.{slice_get, AllByRecursion, bytes_eq, append-nil, append_assoc, drop_more}
+use Rattle.jt_inherit.proofs.Vocabulary.{map-append, among, repeated, Text, SourceTexts, Namespace, a_chain, a_library}
+use Rattle.jt_inherit.proofs.Vocabulary.{listed, AreNext, TooMany, IsNextFault, IsMet, chosen, chains_of, twice, Need}
+use Rattle.jt_inherit.proofs.Vocabulary.{needed, need_namespace, need_view, needs_view, ChainError, NeededTemplate}
+use Rattle.jt_inherit.proofs.Vocabulary.{of_texts, reflexive, chain_among, of_namespaces, among_behind, among_cases}
+use Rattle.jt_inherit.proofs.Vocabulary.{among_front, among_next, both_false, once_more, only_among, or_false}
 use Rattle.jt_inherit.proofs.PathsGrow.{last_at}
-use Rattle.jt_inherit.proofs.NamespaceMembership.{chain_among, of_namespaces}
-use Rattle.jt_inherit.proofs.Membership.{among_behind, among_cases, among_front, among_next, both_false, once_more}
-use Rattle.jt_inherit.proofs.Membership.{only_among, or_false}
 
 -- ---- known includes and imports
 

@@ -1,24 +1,10 @@
 -- The path of a library, by the index of its template.
 use Rattle.std.proofs.Common.{◌≡◌, ℕ, zero, suc, true, false, not, Bool, List, [], ◌∷◌, ◌++◌, refl, sym, ap, subst}
 use Rattle.std.proofs.Common.{◌∙◌, arith, inl, Option, Some, None}
-use Rattle.std.specs.Prelude.{slice_get}
-use Rattle.std.specs.Option.{is_some, option_to_list}
-use Rattle.std.proofs.lemmas.List.{append-nil}
-use Rattle.std.proofs.lemmas.Option.{slice_get_within}
-use Rattle.jt_scan.specs.declared.options.Options.{Options}
-use Rattle.jt_ast.specs.Texts.{among, repeated}
-use Rattle.jt_ast.specs.Expressions.{Text}
-use Rattle.jt_ast.specs.Statements.{Body}
-use Rattle.jt_chains.specs.Along.{templates_at}
-use Rattle.jt_chains.specs.Chain.{a_library, Template, is_a_library, sources_in}
-use Rattle.jt_chains.specs.TemplateFiles.{files_view}
-use Rattle.jt_chains.specs.declared.files.TemplateFile.{TemplateFile}
-use Rattle.jt_chains.proofs.TemplatesByIndex.{only_one}
-use Rattle.jt_inherit.specs.Chains.{SourceTexts}
-use Rattle.jt_inherit.specs.internal.ExtendsPaths.{AreKnown, HasRead, IsAt, IsExtendsPath}
-use Rattle.jt_inherit.specs.internal.Imported.{is_no_library}
-use Rattle.jt_inherit.specs.internal.Sets.{names_view}
-use Rattle.jt_inherit.specs.declared.sets.Names.{Names}
+use Rattle.jt_inherit.proofs.Vocabulary.{slice_get, is_some, option_to_list, append-nil, slice_get_within, Options}
+use Rattle.jt_inherit.proofs.Vocabulary.{among, repeated, Text, Body, templates_at, a_library, Template, is_a_library}
+use Rattle.jt_inherit.proofs.Vocabulary.{sources_in, files_view, TemplateFile, only_one, SourceTexts, AreKnown, HasRead}
+use Rattle.jt_inherit.proofs.Vocabulary.{IsExtendsPath, is_no_library, names_view, Names}
 use Rattle.jt_inherit.proofs.DiscoveryInvariant.{some_source}
 use Rattle.jt_inherit.proofs.PathsGrow.{names}
 

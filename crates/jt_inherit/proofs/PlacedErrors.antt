@@ -1,53 +1,33 @@
 -- What the place of an error at the name of a template shows in each chain that reaches the tag.
-use Rattle.std.proofs.Common.{◌≡◌, ℕ, suc, ◌+◌, ◌-◌, ◌<◌, ◌≤◌, Bool, true, false, not, ◌||◌, List, [], ◌∷◌, ◌++◌}
+use Rattle.std.proofs.Common.{◌≡◌, ℕ, suc, ◌+◌, ◌-◌, ◌<◌, ◌≤◌, Bool, true, false, not, List, [], ◌∷◌, ◌++◌}
 use Rattle.std.proofs.Common.{length}
 use Rattle.std.proofs.Common.{String, Global, drop, get_or, map, zero, refl, sym, ap, subst, ◌∙◌, arith, inl, inr}
 use Rattle.std.proofs.Common.{◌⊎◌, ⊎_elim, Option, Some, None, string_bytes}
-use Rattle.std.specs.Prelude.{flat_map, slice_get, option_map}
-use Rattle.std.specs.Option.{is_some, option_to_list}
-use Rattle.std.proofs.lemmas.List.{append_assoc, append-nil, length-map, map-append}
-use Rattle.std.proofs.lemmas.Option.{slice_get-get_or}
-use Rattle.jt_scan.specs.declared.options.Options.{Options}
-use Rattle.jt_ast.specs.Texts.{among, repeated}
-use Rattle.jt_ast.specs.Expressions.{Text}
-use Rattle.jt_ast.specs.Statements.{end}
-use Rattle.jt_uses.specs.Uses.{Use, Site, body_uses, outside}
-use Rattle.jt_chains.specs.Along.{AreIndices, templates_at}
-use Rattle.jt_chains.specs.Chain.{Sources, Namespace, namespace_name, a_chain, a_library, listed, Template, template}
-use Rattle.jt_chains.specs.Chain.{templates, libraries, extends_of, names_up, sources_in}
-use Rattle.jt_chains.specs.Includes.{included, needs_in, with_source}
-use Rattle.jt_chains.specs.Names.{IsName}
-use Rattle.jt_chains.specs.Rules.{Reaches, here, through, extends_path}
-use Rattle.jt_chains.specs.TemplateFiles.{files_view}
-use Rattle.jt_chains.specs.declared.files.TemplateFile.{TemplateFile}
 use Rattle.jt_chains.proofs.TemplatesByIndex.{number_at}
-use Rattle.jt_inherit.specs.Chains.{SourceTexts}
-use Rattle.jt_inherit.specs.Findings.{ForSome, IsAt, HasTag, all_uses, uses_in, asks, is_extends, IsBrokenAt, Says}
-use Rattle.jt_inherit.specs.Findings.{last_of, may_be_bare}
-use Rattle.jt_inherit.specs.internal.ExtendsPaths.{AreKnown, BreaksAll, Grow, IsExtendsPath, Leads, SaysAll}
-use Rattle.jt_inherit.specs.internal.Faults.{IsFaultOf}
-use Rattle.jt_inherit.specs.internal.Placing.{IsCycle, IsLong, IsNamed, IsNamedOn, IsNameless, IsOfName, IsOfNeed}
-use Rattle.jt_inherit.specs.internal.Placing.{IsOneMore, IsRound, NamedAt, need_test, parent_at, uses_at, uses_of}
-use Rattle.jt_chains.specs.Needs.{Need, need_view, needed, needs_view}
-use Rattle.jt_chains.specs.declared.include_tags.NeededTemplate.{NeededTemplate}
+use Rattle.jt_inherit.specs.Findings.{IsBrokenAt}
+use Rattle.jt_inherit.specs.Findings.{last_of}
+use Rattle.jt_inherit.specs.internal.ExtendsPaths.{SaysAll}
+use Rattle.jt_inherit.specs.internal.Placing.{IsNameless, IsOfName, IsOfNeed}
+use Rattle.jt_inherit.specs.internal.Placing.{IsOneMore, IsRound, NamedAt}
 use Rattle.jt_inherit.specs.internal.Along.{needs_of}
 use Rattle.jt_inherit.specs.internal.Found.{IsFaultAt}
-use Rattle.jt_inherit.specs.internal.Unmet.{IsUnmet}
-use Rattle.jt_inherit.specs.internal.Tags.{tags, place_in, place_view}
-use Rattle.jt_inherit.specs.declared.error.ChainError.{ChainError}
 use Rattle.jt_inherit.specs.declared.error.ChainError.TheVariants as error
-use Rattle.jt_inherit.specs.declared.finding.ChainSubject.{ChainSubject}
 use Rattle.jt_inherit.specs.declared.finding.ChainSubject.TheVariants as v
-use Rattle.jt_inherit.specs.declared.finding.TagPlace.{TagPlace}
+use Rattle.jt_inherit.proofs.Vocabulary.{flat_map, slice_get, option_map, is_some, option_to_list, append_assoc}
+use Rattle.jt_inherit.proofs.Vocabulary.{append-nil, length-map, map-append, slice_get-get_or, Options, among, repeated}
+use Rattle.jt_inherit.proofs.Vocabulary.{Text, end, Use, Site, body_uses, outside, AreIndices, templates_at, Sources}
+use Rattle.jt_inherit.proofs.Vocabulary.{Namespace, namespace_name, a_chain, a_library, listed, Template, template}
+use Rattle.jt_inherit.proofs.Vocabulary.{templates, libraries, extends_of, names_up, sources_in, included, needs_in}
+use Rattle.jt_inherit.proofs.Vocabulary.{with_source, IsName, Reaches, here, through, extends_path, files_view}
+use Rattle.jt_inherit.proofs.Vocabulary.{TemplateFile, SourceTexts, ForSome, IsAt, HasTag, all_uses, uses_in, asks}
+use Rattle.jt_inherit.proofs.Vocabulary.{is_extends, Says, may_be_bare, AreKnown, BreaksAll, Grow, IsExtendsPath, Leads}
+use Rattle.jt_inherit.proofs.Vocabulary.{IsFaultOf, IsCycle, IsLong, IsNamedOn, need_test, parent_at, uses_at, uses_of}
+use Rattle.jt_inherit.proofs.Vocabulary.{Need, need_view, needed, needs_view, NeededTemplate, IsUnmet, tags, place_in}
+use Rattle.jt_inherit.proofs.Vocabulary.{place_view, ChainError, ChainSubject, TagPlace, among_next, once_more}
+use Rattle.jt_inherit.proofs.Vocabulary.{of_texts, key_view, ChainFinding, NamespaceKey}
 use Rattle.jt_inherit.proofs.DiscoveryInvariant.{some_source, none_read}
-use Rattle.jt_inherit.proofs.Membership.{among_next, once_more}
-use Rattle.jt_inherit.proofs.NameMembership.{of_texts}
 use Rattle.jt_inherit.proofs.PathTemplates.{all_among, all_named, never}
-use Rattle.jt_inherit.proofs.PathsGrow.{names, names_lead, templates_lead, few_templates, all_templates, last_at}
-use Rattle.jt_inherit.specs.Refusals.{Breaks}
-use Rattle.jt_inherit.specs.internal.SetView.{key_view}
-use Rattle.jt_inherit.specs.declared.finding.ChainFinding.{ChainFinding}
-use Rattle.jt_inherit.specs.declared.sets.NamespaceKey.{NamespaceKey}
+use Rattle.jt_inherit.proofs.PathsGrow.{shows, names, names_lead, templates_lead, few_templates, all_templates, last_at}
 use Rattle.jt_inherit.proofs.FollowStep.{asked_at}
 use Rattle.jt_inherit.proofs.NamespaceSets.{is_chain}
 use Rattle.jt_inherit.proofs.SourcesGrow.{among_passes, chains_listed, chain_breaks, libraries_listed, flat-append}
@@ -225,7 +205,7 @@ module _ {given : SourceTexts} {options : Options} {root : Text} {ts : List Temp
   pub shown : (e : ChainError) (p : TagPlace) (x : ChainSubject)
       → IsBrokenAt given (sources_in ts) options.autoescape (a_chain root) h e p x
       → Says given root options (Some p) (Some x) e
-  shown e p x b = record { templates = ts; read = known.read; only = known.only; holds = (h, r, b) }
+  shown e p x b = shows known (h, r, b)
 
   unread_root : (n : Text) → namespace_name h ≡ n → is_some (sources_in ts n) ≡ false → n ≡ root
   unread_root n e none =

@@ -3,12 +3,11 @@ use Rattle.std.proofs.Common.{◌≡◌, ◌≤◌, ◌==◌, Bool, true, false,
 use Rattle.std.proofs.Common.{None, rules}
 use Rattle.jt_scan.specs.Cut.{Text, closer, closing_text, mark_text, behind_mark, is_space, after_space, after_word}
 use Rattle.jt_scan.specs.Cut.{closer_at, first_mark, marks, endraw_closed, endraw_named, endraw_at, begins}
-use Rattle.jt_scan.specs.declared.segment.TagKind.{TagKind}
 use Rattle.jt_scan.specs.declared.segment.TagKind.TheVariants as kind
-use Rattle.jt_scan.specs.declared.segment.Mark.{Mark}
 use Rattle.jt_scan.specs.declared.segment.Marks.{Marks}
 use Rattle.jt_scan.proofs.ParseResultSteps.{by_test}
 use Rattle.jt_scan.proofs.Tables.{closer_says}
+use Rattle.jt_inherit.proofs.Vocabulary.{TagKind, Mark}
 use Rattle.jt_inherit.proofs.EscapeLengths.{bytes, bytes-cons, bytes-append}
 
 pub closing_long : (k : TagKind) (mark : Mark) (rest : Text) → bytes rest ≤ bytes (closing_text k mark rest)

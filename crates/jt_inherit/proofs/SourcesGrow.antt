@@ -1,30 +1,15 @@
 -- Reachability and requests of names stay true when more is read.
 use Rattle.std.proofs.Common.{◌≡◌, ℕ, zero, suc, ◌≤◌, arith, map, Bool, true, false, ◌||◌, List, [], ◌∷◌, ◌++◌, refl}
 use Rattle.std.proofs.Common.{sym, ap, subst, ◌∙◌, Option, Some, None, string_bytes, rules}
-use Rattle.std.specs.Prelude.{flat_map, filter}
-use Rattle.std.specs.Option.{is_some}
-use Rattle.std.specs.Str.{bytes_eq}
-use Rattle.std.proofs.lemmas.List.{append-nil, append_assoc}
-use Rattle.jt_ast.specs.Texts.{among}
-use Rattle.jt_ast.specs.Expressions.{Text}
-use Rattle.jt_ast.specs.Statements.{Body}
-use Rattle.jt_chains.specs.Chain.{Sources, Namespace, a_chain, a_library, listed, Template, template, templates}
-use Rattle.jt_chains.specs.Chain.{library_template, libraries, libraries_in, extends_of, parent_of, names_up}
-use Rattle.jt_chains.specs.Chain.{sources_in}
-use Rattle.jt_chains.specs.Includes.{included, needs_in, with_source}
-use Rattle.jt_chains.specs.Rules.{Asks, Reaches, here, through, asked, extends_path}
-use Rattle.jt_chains.specs.TemplateFiles.{files_view}
-use Rattle.jt_chains.specs.declared.files.TemplateFile.{TemplateFile}
-use Rattle.jt_scan.specs.declared.options.Options.{Options}
-use Rattle.jt_inherit.specs.Chains.{SourceTexts}
-use Rattle.jt_inherit.specs.internal.ExtendsPaths.{BreaksAll, Grow}
-use Rattle.jt_inherit.specs.internal.SetView.{key_view}
-use Rattle.jt_inherit.specs.declared.error.ChainError.{ChainError}
-use Rattle.jt_inherit.specs.declared.sets.NamespaceKey.{NamespaceKey}
-use Rattle.jt_inherit.proofs.PathsGrow.{more_sources}
-use Rattle.jt_inherit.proofs.NameMembership.{of_texts, reflexive, same}
+use Rattle.jt_inherit.proofs.Vocabulary.{flat_map, filter, is_some, bytes_eq, append-nil, append_assoc, among, Text}
+use Rattle.jt_inherit.proofs.Vocabulary.{Body, Sources, Namespace, a_chain, a_library, listed, Template, template}
+use Rattle.jt_inherit.proofs.Vocabulary.{templates, library_template, libraries, libraries_in, extends_of, parent_of}
+use Rattle.jt_inherit.proofs.Vocabulary.{names_up, sources_in, included, needs_in, with_source, Asks, Reaches, here}
+use Rattle.jt_inherit.proofs.Vocabulary.{through, asked, extends_path, files_view, TemplateFile, Options, SourceTexts}
+use Rattle.jt_inherit.proofs.Vocabulary.{BreaksAll, Grow, key_view, ChainError, NamespaceKey, of_texts, reflexive, same}
+use Rattle.jt_inherit.proofs.Vocabulary.{among_behind, among_cases, among_front, or_true}
+use Rattle.jt_inherit.proofs.PathsGrow.{more_sources, none_up}
 use Rattle.jt_inherit.proofs.NamespaceSets.{is_chain}
-use Rattle.jt_inherit.proofs.Membership.{among_behind, among_cases, among_front, or_true}
 
 -- ---- the members that pass a test
 
@@ -39,10 +24,6 @@ passes_among p x [] h t = absurd (cc)
 passes_among p x (y ∷ xs) h t = search (arith, rules, passes_among p x xs, or_true, same)
 
 -- ---- the templates of a chain when sources grow
-
-none_up : (s : Sources) (k : ℕ) → names_up s k None ≡ []
-none_up s zero = refl
-none_up s (suc k) = refl
 
 pub up_some : (s : Sources) (k : ℕ) (n : Text) (b : Body) → s n ≡ Some b
     → flat_map (λ m. template m (s m)) (names_up s (suc k) (Some n))

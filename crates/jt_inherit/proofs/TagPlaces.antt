@@ -1,28 +1,19 @@
 -- The places of tags: what the first ones show.
 use Rattle.std.proofs.Common.{◌≡◌, ℕ, zero, suc, ◌+◌, ◌<◌, Bool, true, false, cond, List, [], ◌∷◌, ◌++◌, length}
 use Rattle.std.proofs.Common.{drop, get_or, refl, sym, ap, subst, ◌∙◌, arith, inl, inr, ⊎_elim, Option, Some}
-use Rattle.std.specs.Prelude.{option_map, slice_get, string_bytes, None}
-use Rattle.std.specs.Option.{option_to_list}
+use Rattle.std.specs.Prelude.{string_bytes, None}
 use Rattle.std.proofs.lemmas.List.Elements.{filter-append}
-use Rattle.std.proofs.lemmas.List.{append_assoc}
-use Rattle.jt_ast.specs.Expressions.{Text}
 use Rattle.jt_uses.specs.Uses as uses
-use Rattle.jt_uses.specs.Uses.{Use, Site}
-use Rattle.jt_chains.specs.Along.{templates_at}
-use Rattle.jt_chains.specs.Chain.{Sources, Template}
-use Rattle.jt_chains.specs.TemplateFiles.{file_view, files_view}
-use Rattle.jt_chains.specs.declared.files.TemplateFile.{TemplateFile}
-use Rattle.jt_chains.proofs.TemplatesByIndex.{map_at}
-use Rattle.jt_inherit.specs.Findings.{ForSome, InTurn, IsAt, HasTag, HasTwoTags, all_uses, uses_in, asks, binds_macro}
-use Rattle.jt_inherit.specs.Findings.{is_block, is_extends}
-use Rattle.jt_inherit.specs.internal.Breaking.{IsOfRule, IsTwiceIn, RuleAt, TwiceAt, lacks}
+use Rattle.jt_inherit.specs.internal.Breaking.{TwiceAt, lacks}
 use Rattle.jt_inherit.specs.declared.error.ChainError.TheVariants as error
-use Rattle.jt_inherit.specs.declared.finding.ChainFinding.{ChainFinding}
-use Rattle.jt_inherit.specs.declared.finding.ChainSubject.{ChainSubject}
 use Rattle.jt_inherit.specs.declared.finding.ChainSubject.TheVariants as v
-use Rattle.jt_inherit.specs.internal.Tags.{tags, place_in, place_of, place_view, tag_view, tags_view}
-use Rattle.jt_inherit.specs.declared.tags.FoundTag.{FoundTag}
-use Rattle.jt_inherit.specs.declared.finding.TagPlace.{TagPlace}
+use Rattle.jt_inherit.specs.internal.Tags.{place_of}
+use Rattle.jt_inherit.proofs.Vocabulary.{option_map, slice_get, option_to_list, append_assoc, Text, Use, Site}
+use Rattle.jt_inherit.proofs.Vocabulary.{templates_at, Sources, Template, file_view, files_view, TemplateFile, map_at}
+use Rattle.jt_inherit.proofs.Vocabulary.{ForSome, InTurn, IsAt, HasTag, HasTwoTags, all_uses, uses_in, asks}
+use Rattle.jt_inherit.proofs.Vocabulary.{binds_macro, is_block, is_extends, IsOfRule, IsTwiceIn, RuleAt, ChainFinding}
+use Rattle.jt_inherit.proofs.Vocabulary.{ChainSubject, tags, place_in, place_view, tag_view, tags_view, FoundTag}
+use Rattle.jt_inherit.proofs.Vocabulary.{TagPlace}
 use Rattle.jt_inherit.proofs.PathsGrow.{templates_turn}
 
 -- ---- tags of several templates

@@ -2,7 +2,7 @@
 
 use indexmap::IndexMap;
 use jt_ops::{Limits, OpId, binary, binary_owned, range};
-use jt_value::{Context, Fault, ListItems, NoMemory, Value, ValueError};
+use jt_value::{Context, Fault, ListItems, NoMemory, Text, Value, ValueError};
 use std::alloc::Global;
 use std::test::Fail;
 
@@ -31,7 +31,7 @@ fn values_print(rt: HostRuntime) -> Result<(), Fail> {
 
 /// Adds a number to a context and returns whether that succeeded.
 fn is_added(alloc: Global, context: &mut Context, name: &str, number: i64) -> bool {
-    match String::from_str(alloc, name) {
+    match Text::from_str(alloc, name) {
         Ok(name) => context.insert(name, Value::Int(number)).is_ok(),
         Err(_) => false,
     }
@@ -54,7 +54,7 @@ fn a_name_keeps_its_last_value(rt: HostRuntime) {
 }
 
 /// Returns the keys of entries in their order, each followed by a space.
-fn keys_of(alloc: Global, entries: &[(String, Value)]) -> Result<String, Fail> {
+fn keys_of(alloc: Global, entries: &[(Text, Value)]) -> Result<String, Fail> {
     let mut keys = String::new(alloc);
     for entry in entries {
         keys.push_str(entry.0.as_str())?;

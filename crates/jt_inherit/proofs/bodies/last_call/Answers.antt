@@ -1,7 +1,5 @@
 use Rattle.std.proofs.Common.{List, [], ◌∷◌, ◌++◌, ap, ◌∙◌}
-use Rattle.std.specs.Option.{option_to_list}
-use Rattle.std.proofs.lemmas.List.{append_assoc}
-use Rattle.jt_inherit.specs.declared.tags.FoundTag.{FoundTag}
+use Rattle.jt_inherit.proofs.Vocabulary.{option_to_list, append_assoc, FoundTag}
 use Rattle.jt_inherit.proofs.LastCall.{call_found}
 use Rattle.jt_inherit.proofs.bodies.last_call.Goals as goal
 

@@ -1,9 +1,5 @@
 use Rattle.std.proofs.Common.{sym, subst}
-use Rattle.jt_chains.specs.TemplateFiles.{file_view}
-use Rattle.jt_chains.specs.declared.files.TemplateFile.{TemplateFile}
-use Rattle.jt_chains.proofs.TemplatesByIndex.{index_within}
-use Rattle.jt_inherit.specs.internal.Breaking.{IsTwiceIn}
-use Rattle.jt_inherit.specs.internal.Given.{its_sources}
+use Rattle.jt_inherit.proofs.Vocabulary.{file_view, TemplateFile, index_within, IsTwiceIn, its_sources}
 use Rattle.jt_inherit.proofs.TagPlaces.{twice_rule}
 use Rattle.jt_inherit.proofs.breaking.block_twice.Goals as goal
 

@@ -1,8 +1,5 @@
 use Rattle.std.proofs.Common.{[], Option, sym, ap, ◌∙◌}
-use Rattle.std.specs.Prelude.{unwrap_or}
-use Rattle.jt_chains.specs.Chain.{Namespace, a_chain}
-use Rattle.jt_inherit.specs.internal.Found.{found_templates}
-use Rattle.jt_inherit.specs.internal.Imported.{is_no_library}
+use Rattle.jt_inherit.proofs.Vocabulary.{unwrap_or, Namespace, a_chain, found_templates, is_no_library}
 use Rattle.jt_inherit.proofs.discovery.check_library.Goals as goal
 
 pub returns-clause-kept : goal.returns-clause-kept

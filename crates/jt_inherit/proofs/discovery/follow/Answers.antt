@@ -1,35 +1,17 @@
 use Rattle.std.proofs.Common.{◌≡◌, ◌<◌, true, ◌⊎◌, ◌++◌, ◌∷◌, [], List, ℕ, sym, ap, subst, ◌∙◌, arith}
 use Rattle.std.proofs.Common.{length, Vec, Global}
-use Rattle.std.proofs.lemmas.List.{length-map}
-use Rattle.std.specs.Prelude.{Option, unwrap_or}
-use Rattle.std.specs.List.{AllByRecursion}
-use Rattle.std.proofs.lemmas.Result.{err_from_is_err_and}
-use Rattle.jt_graph.specs.View.{graph_of}
-use Rattle.jt_ast.specs.Texts.{among}
-use Rattle.jt_chains.specs.Along.{AreIndices, templates_at}
-use Rattle.jt_inherit.specs.internal.Along.{needs_along}
-use Rattle.jt_chains.specs.Indices.{namespace_at}
-use Rattle.jt_chains.specs.Needs.{needed}
-use Rattle.jt_chains.specs.TemplateFiles.{files_view}
-use Rattle.jt_chains.specs.declared.files.TemplateFile.{TemplateFile}
-use Rattle.jt_inherit.specs.internal.Found.{AreFound, AreNext, IsMet, IsNextFinding, chosen}
-use Rattle.jt_inherit.specs.internal.Found.{found_namespaces, root_of}
-use Rattle.jt_chains.specs.Chain.{Namespace, a_chain}
-use Rattle.jt_inherit.specs.internal.Imported.{is_no_library}
-use Rattle.jt_inherit.specs.internal.SetView.{key_view}
-use Rattle.jt_inherit.specs.internal.Sets.{names_view, namespaces_view}
-use Rattle.jt_inherit.specs.internal.Unmet.{IsUnmet}
+use Rattle.std.specs.Prelude.{Option}
+use Rattle.jt_inherit.proofs.Vocabulary.{length-map, unwrap_or, AllByRecursion, err_from_is_err_and, graph_of, among}
+use Rattle.jt_inherit.proofs.Vocabulary.{AreIndices, templates_at, needs_along, needed, files_view, TemplateFile}
+use Rattle.jt_inherit.proofs.Vocabulary.{AreFound, AreNext, IsMet, IsNextFinding, chosen, found_namespaces, root_of}
+use Rattle.jt_inherit.proofs.Vocabulary.{Namespace, a_chain, is_no_library, key_view, names_view, namespaces_view}
+use Rattle.jt_inherit.proofs.Vocabulary.{IsUnmet, map_more, of_namespaces, indexed_among, repeated, found_templates}
 use Rattle.jt_inherit.proofs.FindingsHold.{need_finds}
 use Rattle.jt_inherit.proofs.DiscoveryInvariant.{namespace_number, reached_here, reached_there, found_more}
 use Rattle.jt_inherit.proofs.DiscoveryInvariant.{chosen_there, first_same, reached_from, way_there, both_files}
 use Rattle.jt_inherit.proofs.DiscoveryInvariant.{both_known, same_needs}
 use Rattle.jt_inherit.proofs.ManyChains.{next_finds}
-use Rattle.jt_inherit.proofs.NameMembership.{map_more}
-use Rattle.jt_inherit.proofs.NamespaceMembership.{of_namespaces}
-use Rattle.jt_inherit.proofs.Membership.{indexed_among}
 use Rattle.jt_inherit.proofs.TopologicalOrder.{namespace_among}
-use Rattle.jt_ast.specs.Texts.{repeated}
-use Rattle.jt_inherit.specs.internal.Found.{found_templates}
 use Rattle.jt_inherit.proofs.ChainComplete.{ways_indexed}
 use Rattle.jt_inherit.proofs.ImportFound.{library_finds}
 use Rattle.jt_inherit.proofs.discovery.follow.Goals as goal

@@ -1,10 +1,6 @@
 use Rattle.std.proofs.Common.{sym, arith, Vec, Global, ℕ}
-use Rattle.std.proofs.lemmas.List.{length-map}
-use Rattle.jt_graph.specs.Graph.{next_of}
-use Rattle.jt_chains.specs.Along.{templates_at}
-use Rattle.jt_chains.specs.Indices.{namespace_at}
-use Rattle.jt_inherit.specs.Findings.{all_uses, leads_to}
-use Rattle.jt_inherit.specs.internal.Found.{found_namespaces, found_paths, found_templates}
+use Rattle.jt_inherit.proofs.Vocabulary.{length-map, next_of, templates_at, namespace_at, all_uses, leads_to}
+use Rattle.jt_inherit.proofs.Vocabulary.{found_namespaces, found_paths, found_templates}
 use Rattle.jt_inherit.proofs.TagPlaces.{first_shows}
 use Rattle.jt_inherit.proofs.discovery.place_of.Goals as goal
 

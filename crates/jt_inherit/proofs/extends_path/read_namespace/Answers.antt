@@ -1,19 +1,11 @@
 use Rattle.std.proofs.Common.{◌≡◌, ◌+◌, ◌<◌, ◌∷◌, [], false, true, length, sym, ap, subst, ◌∙◌, arith, string_bytes}
 use Rattle.std.proofs.Common.{Option, None, String, Global, length-append}
-use Rattle.std.proofs.lemmas.List.{length-map}
-use Rattle.std.specs.Prelude.{option_map}
-use Rattle.std.proofs.lemmas.Option.{slice_get_within}
-use Rattle.jt_chains.specs.Chain.{a_chain}
-use Rattle.jt_inherit.specs.internal.Faults.{IsFaultOf}
-use Rattle.jt_chains.specs.TemplateFiles.{file_view, files_view}
-use Rattle.jt_ast.specs.Expressions.{Text}
-use Rattle.jt_ast.specs.Texts.{among}
-use Rattle.jt_chains.specs.Along.{templates_at}
-use Rattle.jt_inherit.specs.internal.ExtendsPaths.{HasRead, IsAt, IsExtendsPath}
-use Rattle.jt_inherit.specs.internal.Sets.{names_view}
-use Rattle.jt_inherit.specs.internal.Imported.{is_no_library}
-use Rattle.jt_inherit.specs.internal.Placing.{IsCycle, IsLong, IsNamed, IsNamedOn, parent_at}
+use Rattle.jt_inherit.specs.internal.ExtendsPaths.{IsAt}
+use Rattle.jt_inherit.specs.internal.Placing.{IsNamed}
 use Rattle.jt_inherit.specs.declared.error.ChainError.TheVariants as error
+use Rattle.jt_inherit.proofs.Vocabulary.{length-map, option_map, slice_get_within, a_chain, IsFaultOf, file_view}
+use Rattle.jt_inherit.proofs.Vocabulary.{files_view, Text, among, templates_at, HasRead, IsExtendsPath, names_view}
+use Rattle.jt_inherit.proofs.Vocabulary.{is_no_library, IsCycle, IsLong, IsNamedOn, parent_at}
 use Rattle.jt_inherit.proofs.PlacedErrors.{cycle_placed, fault_placed, long_placed, refused_all, same_path, there_on}
 use Rattle.jt_inherit.proofs.LibraryTemplate.{library_known, library_read}
 use Rattle.jt_inherit.proofs.NamespaceSets.{is_chain, is_library}

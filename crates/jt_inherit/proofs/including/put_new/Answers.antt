@@ -1,5 +1,5 @@
 use Rattle.std.proofs.Common.{arith, rules}
-use Rattle.jt_inherit.specs.internal.Sets.{namespaces_view}
+use Rattle.jt_inherit.proofs.Vocabulary.{namespaces_view}
 use Rattle.jt_inherit.proofs.NamespaceSets.{library_more, chain_more}
 use Rattle.jt_inherit.proofs.including.put_new.Goals as goal
 

@@ -1,18 +1,9 @@
 use Rattle.std.proofs.Common.{◌≡◌, ◌≤◌, None, length, ap, subst, arith, IsUtf8}
 use Rattle.std.proofs.lemmas.Str.{IsUtf8-string_bytes}
 use Rattle.jt_scan.specs.Cut.{weight_of}
-use Rattle.jt_scan.specs.SourceView.{Held, max_source_len}
-use Rattle.jt_scan.specs.View.{cut_of}
-use Rattle.jt_parse.specs.Bytes.{bytes_of}
-use Rattle.jt_scan.specs.LineEnds.{normalized}
-use Rattle.jt_parse.specs.Grammar.{Spelled}
-use Rattle.jt_parse.specs.Kept.{pieces}
-use Rattle.jt_parse.specs.Refusals.{IsRefusal}
-use Rattle.jt_parse.specs.Names.{body_unknown}
-use Rattle.jt_ast.specs.Statements.{Body, body_levels}
-use Rattle.jt_ast.specs.StatementView.{body_of}
-use Rattle.jt_parse.specs.View.{reads_of}
 use Rattle.jt_parse.specs.declared.error.ParseError.TheVariants as parse_error
+use Rattle.jt_inherit.proofs.Vocabulary.{Held, max_source_len, cut_of, bytes_of, normalized, Spelled, pieces, IsRefusal}
+use Rattle.jt_inherit.proofs.Vocabulary.{body_unknown, Body, body_levels, body_of, reads_of}
 use Rattle.jt_inherit.proofs.SourceErrors.{limited, tree_found, only_tree, no_tree, unspelled}
 use Rattle.jt_inherit.proofs.TreeLengths.{taken, few_chars, few_bytes, cut_short}
 use Rattle.jt_inherit.proofs.reading.template_of.Goals as goal

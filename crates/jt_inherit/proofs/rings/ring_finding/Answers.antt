@@ -1,12 +1,7 @@
 use Rattle.std.proofs.Common.{◌≡◌, ◌<◌, ◌∙◌, ℕ, true, List, length, map, refl, sym, ap, subst, Vec, Global}
-use Rattle.std.specs.List.{AllByRecursion}
-use Rattle.std.proofs.lemmas.List.{length-map}
-use Rattle.jt_graph.specs.View.{graph_of}
-use Rattle.jt_chains.specs.Indices.{namespace_at}
-use Rattle.jt_inherit.specs.internal.Imported.{leading_at}
-use Rattle.jt_inherit.specs.internal.Found.{found_namespaces, found_paths, found_templates}
-use Rattle.jt_inherit.specs.internal.Rings.{leads_round, name_at}
-use Rattle.jt_inherit.specs.declared.discovery.Discovery.{Discovery}
+use Rattle.jt_inherit.proofs.Vocabulary.{AllByRecursion, length-map, graph_of, namespace_at, leading_at}
+use Rattle.jt_inherit.proofs.Vocabulary.{found_namespaces, found_paths, found_templates, leads_round, name_at}
+use Rattle.jt_inherit.proofs.Vocabulary.{Discovery}
 use Rattle.jt_inherit.proofs.RingFound.{last_within, ring_within}
 use Rattle.jt_inherit.proofs.rings.ring_finding.Goals as goal
 

@@ -1,5 +1,5 @@
 use Rattle.std.proofs.Common.{not, ap}
-use Rattle.jt_ast.specs.Texts.{texts}
+use Rattle.jt_inherit.proofs.Vocabulary.{texts}
 use Rattle.jt_inherit.proofs.BodyRules.{given_noted}
 use Rattle.jt_inherit.proofs.rules.note_given.Goals as goal
 

@@ -1,13 +1,7 @@
 use Rattle.std.proofs.Common.{◌≡◌, ◌++◌, ◌∷◌, [], List, false, sym, ap, subst, ◌∙◌, arith, string_bytes, inl}
-use Rattle.std.specs.Prelude.{slice_get}
-use Rattle.std.proofs.lemmas.List.{append-nil}
-use Rattle.jt_ast.specs.Texts.{among}
-use Rattle.jt_ast.specs.Expressions.{Text}
-use Rattle.jt_chains.specs.TemplateFiles.{file_view, files_view}
-use Rattle.jt_inherit.specs.internal.Sets.{names_view}
-use Rattle.jt_inherit.specs.internal.ExtendsPaths.{AreKnown}
+use Rattle.jt_inherit.proofs.Vocabulary.{slice_get, append-nil, among, Text, file_view, files_view, names_view}
+use Rattle.jt_inherit.proofs.Vocabulary.{AreKnown, among_last}
 use Rattle.jt_inherit.proofs.PathsGrow.{known_more, files_more, file_last}
-use Rattle.jt_inherit.proofs.NameMembership.{among_last}
 use Rattle.jt_inherit.proofs.store.read_index.Goals as goal
 
 pub returns-in-Some-clause-grown : goal.returns-in-Some-clause-grown

@@ -1,11 +1,8 @@
 use Rattle.std.proofs.Common.{◌≡◌, ◌∙◌, Bool, true, false, ◌||◌, List, [], ◌∷◌, refl, ap, rules, tests}
-use Rattle.std.specs.List.{list_any}
-use Rattle.std.proofs.lemmas.Iterator.{YieldsList-from_slice}
-use Rattle.std.proofs.lemmas.Iterator.Search.{any_from_yields_List}
-use Rattle.jt_ast.specs.ExpressionView.{exprs_view, pairs_view}
 use Rattle.jt_ast.specs.StatementView.{filter_calls_view}
 use Rattle.jt_ast.specs.declared.statement.FilterCall.{FilterCall}
-use Rattle.jt_chains.specs.Supers.{filter_call_super, row_super, pairs_super}
+use Rattle.jt_inherit.proofs.Vocabulary.{list_any, YieldsList-from_slice, any_from_yields_List, exprs_view, pairs_view}
+use Rattle.jt_inherit.proofs.Vocabulary.{filter_call_super, row_super, pairs_super}
 use Rattle.jt_inherit.proofs.supers.filters_super.Goals as goal
 
 abbrev has_super : FilterCall → Bool
