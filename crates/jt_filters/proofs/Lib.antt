@@ -16,6 +16,7 @@ pub mod SeenEntries
 pub mod SeenNumbers
 pub mod ListAppend
 pub mod ListMembers
+pub mod NumberAnswers
 pub mod IndexedTexts
 pub mod TextMeasures
 pub mod Measures

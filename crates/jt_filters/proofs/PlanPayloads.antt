@@ -58,7 +58,7 @@ plan_payload (plan.Replaced r) other = refl
 plan_payload (plan.List is a) other = refl
 plan_payload (plan.Pairs es a) other = refl
 plan_payload (plan.Unique is) other = refl
-plan_payload (plan.Joined is s autoescape) other = join_payload autoescape (tree_of s.operand) (items_in is)
+plan_payload (plan.Joined is s autoescape) other = join_payload autoescape (tree_of s) (items_in is)
 
 built : (wanted : Result Tree Fault) (r : Result Value ValueError) → HasPayload wanted → IsAnswer wanted r
     → Builds wanted r

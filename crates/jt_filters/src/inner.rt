@@ -11,11 +11,10 @@ ghost use Rattle.jt_filter_semantics.specs.Mapping.{attribute_or_item, if_kept, 
 ghost use Rattle.jt_filters.specs.internal.Operands.{tree_of, chosen};
 ghost use Rattle.jt_filters.specs.internal.Rows.{judges, Judges, kept, gives, Gives, row_measured};
 ghost use Rattle.jt_filters.specs.internal.Rows.{RowFault, IsSought, IsJudged};
-ghost use Rattle.jt_filters.specs.internal.Plans.{planned_row};
 
 use crate::attributes::item_of;
 use crate::item_list::items_of;
-use crate::joining::Separator;
+use crate::joining::{Separator, join_measure, joined};
 use crate::maker::Maker;
 use crate::members::Members;
 use crate::operand::Operand;
@@ -66,14 +65,14 @@ pub(crate) enum ItemAction<'a> {
 impl Predicate<'_> {
     /// Returns whether an operand passes.
     #[tactic(auto, using(crate::proofs::ListMembers::in_list, crate::proofs::IndexedTexts::in_text))]
-    fn passes(self, alloc: Global, operand: Operand<'_>) -> Result<bool, Fault>
+    fn passes(self, alloc: Global, operand: Operand<'_>, index: usize) -> Result<bool, Fault>
         requires { Judges self }
         ensures { result ≡ judges self.entry (tree_of operand.entry) }
     {
         match self {
             Predicate::Truth => Ok(operand.truth()),
             Predicate::Test(test, arguments) => test_operand(test, operand, arguments),
-            Predicate::Among(members) => Ok(members.has(alloc, operand)),
+            Predicate::Among(members) => Ok(members.has(alloc, operand, index)),
             Predicate::Within(_, index) => is_within(index, operand),
         }
     }
@@ -106,11 +105,13 @@ fn test_operand(test: TestId, operand: Operand<'_>, arguments: &[Value]) -> Resu
 
 impl<'a> Selection<'a> {
     /// Returns whether an item is kept.
-    fn keeps(self, alloc: Global, item: Operand<'a>) -> Result<bool, Fault>
+    fn keeps(self, alloc: Global, item: Operand<'a>, index: usize) -> Result<bool, Fault>
         requires { Judges self.predicate }
         ensures { result ≡ kept self.entry (tree_of item.entry) }
     {
-        let passes = self.predicate.passes(alloc, self.attribute_or_item(item)?)?;
+        let passes = self
+            .predicate
+            .passes(alloc, self.attribute_or_item(item)?, index)?;
         Ok(passes == self.passes)
     }
 
@@ -136,6 +137,14 @@ impl<'a> ItemAction<'a> {
                 Predicate::Test(TestId::In, [container]) => Some(container),
                 _ => None,
             },
+            _ => None,
+        }
+    }
+
+    /// Returns the key of the attribute that the action tests, if it tests one.
+    pub(crate) fn key(self) -> Option<&'a str> {
+        match self {
+            ItemAction::Keep(selection) => selection.key,
             _ => None,
         }
     }
@@ -190,6 +199,7 @@ impl<'a> ItemAction<'a> {
             ItemAction::Keep(_) | ItemAction::Attribute(_) => false,
             ItemAction::Filter(call) => {
                 matches!(call.filter, FilterId::Join | FilterId::Replace)
+                    && !call.arguments.is_empty()
             },
             ItemAction::Join(_) => true,
         }
@@ -212,40 +222,37 @@ impl<'a> ItemAction<'a> {
         }
     }
 
-    /// Returns the plan of the action's result on an item, if it has one.
-    fn plan(self, alloc: Global, item: Operand<'a>) -> Result<Option<Plan<'a>>, Fault>
-        requires { Gives self }
-        ensures { planned_row result ≡ gives self.entry (tree_of item.entry) }
-    {
-        match self {
-            ItemAction::Keep(selection) => Ok(plan_if(selection.keeps(alloc, item)?, item)),
-            ItemAction::Attribute(key) => Ok(Some(Plan::Operand(item_of(item, key)?))),
-            ItemAction::Filter(call) => Ok(Some(call.plan(item)?)),
-            ItemAction::Join(separator) => {
-                Ok(Some(Plan::Joined(items_of(item)?, separator, true)))
-            },
-        }
-    }
-
     /// Returns the size and the nesting of the action's result on an item, or zeros if it has none.
+    /// `index` is the index of the item.
     #[tactic(auto, using(crate::proofs::ItemResults::alone_measured))]
-    pub(crate) fn measure(self, alloc: Global, item: Operand<'a>) -> Result<(u64, u32), Fault>
+    pub(crate) fn measure(
+        self,
+        alloc: Global,
+        item: Operand<'a>,
+        index: usize,
+    ) -> Result<(u64, u32), Fault>
         requires { Gives self }
         ensures { result ≡ row_measured (gives self.entry (tree_of item.entry)) }
     {
-        match self.plan(alloc, item)? {
-            Some(plan) => plan.measure(alloc),
-            None => Ok((0, 0)),
+        match self {
+            ItemAction::Keep(selection) => Ok(measure_if(
+                selection.keeps(alloc, item, index)?,
+                item,
+            )),
+            ItemAction::Attribute(key) => Plan::Operand(item_of(item, key)?).measure(alloc),
+            ItemAction::Filter(call) => call.plan(item)?.measure(alloc),
+            ItemAction::Join(separator) => join_measure(items_of(item)?, separator, true),
         }
     }
 
-    /// Appends the action's result on an item, if it has one.
+    /// Appends the action's result on an item, if it has one. `index` is the index of the item.
     #[tactic(auto, using(crate::proofs::ItemResults::action_values))]
     pub(crate) fn push(
         self,
         maker: Maker<'_>,
         values: &mut Vec<Value>,
         item: Operand<'a>,
+        index: usize,
     ) -> Result<(), ValueError>
         requires { Gives self }
         ensures ok { OnOk result (in_front (Ok (items_view values.old.items))
@@ -253,21 +260,31 @@ impl<'a> ItemAction<'a> {
             ≡ Ok (items_view values.new.items)) }
         ensures fault { IfErr result (RowFault (gives self.entry (tree_of item.entry))) }
     {
-        match self.plan(maker.alloc, item)? {
-            Some(plan) => Ok(put(values, plan.build(maker)?)?),
-            None => Ok(()),
+        match self {
+            ItemAction::Keep(selection) => {
+                if selection.keeps(maker.alloc, item, index)? {
+                    put(values, item.value(maker)?)?;
+                }
+                Ok(())
+            },
+            ItemAction::Attribute(key) => Ok(put(values, item_of(item, key)?.value(maker)?)?),
+            ItemAction::Filter(call) => Ok(put(values, call.plan(item)?.build(maker)?)?),
+            ItemAction::Join(separator) => {
+                let text = joined(maker, items_of(item)?, separator.operand, true)?;
+                Ok(put(values, text)?)
+            },
         }
     }
 }
 
-/// Returns the plan of an item, if it is kept.
-fn plan_if(keeps: bool, item: Operand<'_>) -> Option<Plan<'_>>
-    ensures { planned_row (Ok result) ≡ if_kept (tree_of item.entry) (Ok keeps) }
+/// Returns the measure of an item that is kept, or zeros.
+fn measure_if(keeps: bool, item: Operand<'_>) -> (u64, u32)
+    ensures { Ok result ≡ row_measured (if_kept (tree_of item.entry) (Ok keeps)) }
 {
     if keeps {
-        Some(Plan::Operand(item))
+        (item.size(), item.nesting())
     } else {
-        None
+        (0, 0)
     }
 }
 

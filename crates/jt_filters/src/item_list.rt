@@ -9,7 +9,7 @@ ghost use Rattle.jt_filters.specs.internal.Operands.{tree_of, items_in, has_seco
 
 use crate::operand::Operand;
 use jt_ops::character_count;
-use jt_value::{Fault, ListItems, NumberRange, Value};
+use jt_value::{Fault, ListItems, NumberRange, Text, Value};
 
 /// A list of items: values, the numbers of a range, the characters of a text, the keys of a map, or
 /// operands.
@@ -18,7 +18,7 @@ pub(crate) enum ItemList<'a> {
     Values(&'a [Value]),
     Numbers(NumberRange),
     Characters(&'a str),
-    Keys(&'a [(String, Value)]),
+    Keys(&'a [(Text, Value)]),
     Operands(&'a [Operand<'a>]),
 }
 

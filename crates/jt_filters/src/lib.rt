@@ -8,6 +8,7 @@
 //! repeated numbers. jt_filter_semantics defines the results. Read planning.rt first.
 #![tactic(auto)]
 
+mod answers;
 mod attributes;
 mod codes;
 mod digit_sort;

@@ -12,7 +12,7 @@ ghost use Rattle.jt_filters.specs.internal.Ranks.{arranged};
 use crate::item_list::ItemList;
 use crate::maker::Maker;
 use crate::sorting::{Arrangement, arranged};
-use jt_value::{NoMemory, Value};
+use jt_value::{NoMemory, Text, Value};
 use std::alloc::Global;
 
 /// Returns the size of items, at most 2^64 - 1, and their nesting, at most 2^32 - 1.
@@ -70,7 +70,7 @@ pub(crate) fn values(maker: Maker<'_>, items: ItemList<'_>) -> Result<Vec<Value>
 /// Returns the measure of the list of a map's entries, in any order. Each entry is a list of its
 /// key and its value.
 #[tactic(auto, using(crate::proofs::SortOrders::arranged_measures))]
-pub(crate) fn pair_list_measure(entries: &[(String, Value)]) -> (u64, u32)
+pub(crate) fn pair_list_measure(entries: &[(Text, Value)]) -> (u64, u32)
     ensures { (a : Arrangement) → Ok result
         ≡ measured (Ok (tree.list (arranged a (pair_items (entries_view entries.now))))) }
 {
@@ -81,7 +81,7 @@ pub(crate) fn pair_list_measure(entries: &[(String, Value)]) -> (u64, u32)
 /// Returns the list of a map's entries in an order.
 pub(crate) fn pair_list(
     alloc: Global,
-    entries: &[(String, Value)],
+    entries: &[(Text, Value)],
     arrangement: Arrangement,
 ) -> Result<Value, NoMemory>
     ensures { Lists (arranged arrangement (pair_items (entries_view entries.now))) result }
@@ -91,7 +91,7 @@ pub(crate) fn pair_list(
 
 /// Returns the size, at most 2^64 - 1, and the nesting, at most 2^32 - 1, of a map's entries as
 /// lists.
-fn pairs_measure(entries: &[(String, Value)]) -> (u64, u32)
+fn pairs_measure(entries: &[(Text, Value)]) -> (u64, u32)
     ensures size { result.0
         ≡ min (items_size (pair_items (entries_view entries.now))) (2 ^ 64 - 1) }
     ensures nesting { result.1
@@ -110,22 +110,22 @@ fn pairs_measure(entries: &[(String, Value)]) -> (u64, u32)
 }
 
 /// Returns a map's entries, each as a list of its key and its value.
-fn pairs(alloc: Global, entries: &[(String, Value)]) -> Result<Vec<Value>, NoMemory>
+fn pairs(alloc: Global, entries: &[(Text, Value)]) -> Result<Vec<Value>, NoMemory>
     ensures { IfOk result (λ v. items_view v.items ≡ pair_items (entries_view entries.now)) }
 {
-    let mut pairs = Vec::new(alloc);
+    let mut pairs = Vec::with_capacity(alloc, entries.len())?;
     for entry in entries {
         pairs.push(pair(alloc, &entry.0, &entry.1)?)?;
     }
     Ok(pairs)
 }
 
-/// Returns the list of a key and a copy of its value.
-fn pair(alloc: Global, key: &str, value: &Value) -> Result<Value, NoMemory>
+/// Returns the list of copies of a key and of its value.
+fn pair(alloc: Global, key: &Text, value: &Value) -> Result<Value, NoMemory>
     ensures { IfOk result (λ v. view v ≡ listing.pair key.now (view value.now)) }
 {
-    let mut pair = Vec::new(alloc);
-    pair.push(Value::from_text(String::from_str(alloc, key)?)?)?;
+    let mut pair = Vec::with_capacity(alloc, 2)?;
+    pair.push(Value::Text(key.clone()?))?;
     pair.push(value.try_clone(alloc)?)?;
     Value::list(alloc, pair)
 }

@@ -22,6 +22,7 @@ use crate::maker::{Maker, letters_for};
 use crate::members::Members;
 use crate::operand::Operand;
 use crate::planning::Call;
+use crate::seen_numbers::occurrences_in;
 use jt_ids::{FilterId, TestId};
 use jt_ops::{Limits, OpError, within};
 use jt_search::TextIndex;
@@ -132,7 +133,7 @@ fn row_list_among<'a>(
     ensures { Answers result (limited_by limits
         (as_list (gathered (gives change.entry) (items_in items.entry)))) }
 {
-    match members_of(alloc, items, list) {
+    match members_of(alloc, items, change, list) {
         Some(members) => limited_row_list(alloc, items, change.among(&members), limits),
         None => limited_row_list(alloc, items, change, limits),
     }
@@ -140,13 +141,21 @@ fn row_list_among<'a>(
 
 /// Returns the members of a list in which each item is looked up. Returns `None` if a comparison
 /// with each member is faster, or if memory is refused.
-fn members_of<'a>(alloc: Global, items: ItemList<'_>, list: &'a [Value]) -> Option<Members<'a>>
+fn members_of<'a>(
+    alloc: Global,
+    items: ItemList<'_>,
+    change: ItemAction<'_>,
+    list: &'a [Value],
+) -> Option<Members<'a>>
     ensures { IfSome result (λ m. items_view m.items.now ≡ items_view list.now) }
 {
     if list.len() < MANY || items.len() < MANY {
         return None;
     }
-    match Members::new(alloc, list) {
+    let Ok(sought) = occurrences_in(alloc, items, change.key()) else {
+        return None;
+    };
+    match Members::new(alloc, list, sought, items.len()) {
         Ok(members) => Some(members),
         Err(_) => None,
     }
@@ -235,15 +244,17 @@ fn row_measure<'a>(
     ensures { result ≡ row_measured (gathered (gives change.entry) (items_in items.entry)) }
 {
     let mut items = items;
+    let mut index = 0usize;
     let mut size = 0u64;
     let mut nesting = 0u32;
     while let Some((item, behind)) = items.split_first() {
-        let (more, deepest) = match change.measure(alloc, item) {
+        let (more, deepest) = match change.measure(alloc, item, index) {
             Ok(measure) => measure,
             Err(fault) => return Err(fault),
         };
         size = size.saturating_add(more);
         nesting = nesting.max(deepest);
+        index = index.wrapping_add(1);
         items = behind;
     }
     Ok((size, nesting))
@@ -279,8 +290,10 @@ fn row_values<'a>(
     let room = if change.keeps_count() { items.len() } else { 0 };
     let mut values = Vec::with_capacity(alloc, room)?;
     let mut items = items;
+    let mut index = 0usize;
     while let Some((item, behind)) = items.split_first() {
-        change.push(maker, &mut values, item)?;
+        change.push(maker, &mut values, item, index)?;
+        index = index.wrapping_add(1);
         items = behind;
     }
     Ok(values)

@@ -11,7 +11,6 @@ ghost use Rattle.jt_filters.specs.internal.Plans.{made, planned};
 
 use crate::attributes::attribute;
 use crate::item_list::{ItemList, items_of};
-use crate::joining::Separator;
 use crate::kinds::{are_numbers, are_plain, operand_fault_of_items};
 use crate::operand::Operand;
 use crate::plans::Plan;
@@ -146,14 +145,18 @@ fn join<'a>(
     ensures { planned result
         ≡ on_items (joined_by autoescape (tree_of separator.entry)) (tree_of operand.entry) }
 {
-    Ok(Plan::Joined(items_of(operand)?, Separator::new(separator), autoescape))
+    Ok(Plan::Joined(items_of(operand)?, separator, autoescape))
 }
 
-/// Plans filter `list`.
+/// Plans filter `list`. The list of a list is the list itself.
+#[tactic(auto, using(crate::proofs::Payloads::list_listed))]
 fn list(operand: Operand<'_>) -> Result<Plan<'_>, Fault>
     ensures { planned result ≡ on_items listed (tree_of operand.entry) }
 {
-    Ok(Plan::List(items_of(operand)?, Arrangement::Unchanged))
+    match operand.as_list() {
+        Some(_) => Ok(Plan::Operand(operand)),
+        None => Ok(Plan::List(items_of(operand)?, Arrangement::Unchanged)),
+    }
 }
 
 /// Plans filter `unique`.

@@ -17,7 +17,7 @@ use crate::sorting::Arrangement;
 use crate::texts::{TextChange, changed_text, text_measure};
 use crate::unique::{first_items, unique_list, unique_measure, unseen_list_measure};
 use jt_ops::{Limits, OpError};
-use jt_value::{Fault, Value, ValueError};
+use jt_value::{Fault, Text, Value, ValueError};
 use std::alloc::Global;
 
 /// The result of a filter before it is built. Only texts can still be faults: an operand may have
@@ -33,11 +33,11 @@ pub(crate) enum Plan<'a> {
     /// The list of items.
     List(ItemList<'a>, Arrangement),
     /// The list of a map's entries, each as a list of its key and its value.
-    Pairs(&'a [(String, Value)], Arrangement),
+    Pairs(&'a [(Text, Value)], Arrangement),
     /// The list of the items that are like no earlier one.
     Unique(ItemList<'a>),
     /// The text of items with a separator between them, and whether `join` keeps markup.
-    Joined(ItemList<'a>, Separator<'a>, bool),
+    Joined(ItemList<'a>, Operand<'a>, bool),
 }
 
 impl<'a> Plan<'a> {
@@ -63,7 +63,7 @@ impl<'a> Plan<'a> {
             Plan::Pairs(entries, _) => Ok(pair_list_measure(entries)),
             Plan::Unique(items) => Ok(unique_measure(alloc, items)),
             Plan::Joined(items, separator, autoescape) => {
-                join_measure(items, separator, autoescape)
+                join_measure(items, Separator::new(separator), autoescape)
             },
         }
     }
@@ -90,7 +90,7 @@ impl<'a> Plan<'a> {
             Plan::Pairs(entries, arrangement) => Ok(pair_list(maker.alloc, entries, arrangement)?),
             Plan::Unique(items) => Ok(unique_list(maker, items)?),
             Plan::Joined(items, separator, autoescape) => {
-                joined(maker, items, separator.operand, autoescape)
+                joined(maker, items, separator, autoescape)
             },
         }
     }

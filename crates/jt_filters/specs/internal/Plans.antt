@@ -1,11 +1,10 @@
 -- Definitions for the contracts of private functions: the results of calls and of plans.
-use Rattle.std.specs.Prelude.{Option, Some, None, Result, Ok, Err}
+use Rattle.std.specs.Prelude.{Result, Ok, Err}
 use Rattle.jt_value.specs.declared.fault.Fault.{Fault}
-use Rattle.jt_value.specs.Tree.{Tree, text, list, Items, no_items}
+use Rattle.jt_value.specs.Tree.{Tree, text, list}
 use Rattle.jt_value.specs.View.{entries_view}
 use Rattle.jt_filter_semantics.specs.Filtering.{filtered}
 use Rattle.jt_filter_semantics.specs.Listing.{joined_by, pair_items}
-use Rattle.jt_filter_semantics.specs.Mapping.{alone}
 use Rattle.jt_filter_semantics.specs.Ordering.{distinct}
 use Rattle.jt_filter_semantics.specs.Texts.{replaced_behind}
 use Rattle.jt_filters.specs.declared.operand.Operand.{Operand}
@@ -28,15 +27,9 @@ made (plan.Replaced r) = Ok (text (replaced_behind 0 r.old.now r.new.now r.text.
 made (plan.List is a) = Ok (list (arranged a (items_in is)))
 made (plan.Pairs es a) = Ok (list (arranged a (pair_items (entries_view es.now))))
 made (plan.Unique is) = distinct (items_in is)
-made (plan.Joined is s autoescape) = joined_by autoescape (tree_of s.operand) (items_in is)
+made (plan.Joined is s autoescape) = joined_by autoescape (tree_of s) (items_in is)
 
 -- The result of a plan, or the fault.
 abbrev pub planned : Result Plan Fault → Result Tree Fault
 planned (Ok p) = made p
 planned (Err f) = Err f
-
--- The result of a plan as the only item, no items without a plan, or the fault.
-abbrev pub planned_row : Result (Option Plan) Fault → Result Items Fault
-planned_row (Ok (Some p)) = alone (made p)
-planned_row (Ok None) = Ok no_items
-planned_row (Err f) = Err f
