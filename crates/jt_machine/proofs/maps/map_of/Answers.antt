@@ -7,7 +7,7 @@ use Rattle.jt_machine.proofs.maps.map_of.Goals as goal
 
 pub returns : goal.returns
 returns c =
-    if_ok_map c.map.result _ _ c.map.ensures
+    if_ok_map c.from_entries.result _ _ c.from_entries.ensures
     (λ v e. mapped_is (map view c.args.values.items) (entries_view c.in_ok-entries.entries.entries) c.requires
     c.in_ok-entries.ensures
     ∙ ap (λ (t : Tree). Ok t) (sym e))
