@@ -30,7 +30,7 @@ first_inserted None qs ns = refl
 first_inserted (Some q) qs ns = refl
 
 once : (x : Text) → inserted x (x ∷ []) ≡ x ∷ []
-once x = rw (bytes_eq-Decides x x).1 refl refl
+once x = rw ((bytes_eq-Decides x x).1 refl) refl
 
 pub again : (x : Text) (ns : List Text) → inserted x (inserted x ns) ≡ inserted x ns
 again x ns = sym (ascending_inserted (x ∷ x ∷ []) ns) ∙ ap (λ l. all_inserted l ns) (once x)

@@ -129,11 +129,7 @@ fn number_of(name: &str, named: &[&str]) -> usize
 }
 
 /// Returns for each template the number of the ascending names `named` before its name.
-fn numbers_of(
-    alloc: Global,
-    templates: &[String],
-    named: &[&str],
-) -> Result<Vec<usize>, AllocError>
+fn numbers_of(alloc: Global, templates: &[String], named: &[&str]) -> Result<Vec<usize>, AllocError>
     requires ascend { Ascends (texts named.now) }
     ensures { IfOk result (λ ns.
         ns.items ≡ numbers_among (texts named.now) (texts_view templates.now)) }
@@ -169,12 +165,7 @@ fn locs_of(
 
 /// Encodes a place by the number of its template, counted from 1. `numbers` has for each template
 /// the number of names before its name.
-fn loc_of(
-    templates: &[String],
-    named: &[&str],
-    numbers: &[usize],
-    tag: Option<Place>,
-) -> SourceLoc
+fn loc_of(templates: &[String], named: &[&str], numbers: &[usize], tag: Option<Place>) -> SourceLoc
     requires few { length named.now ≤ max_count }
     requires numbers { numbers.now ≡ numbers_among (texts named.now) (texts_view templates.now) }
     requires ascend { Ascends (texts named.now) }
