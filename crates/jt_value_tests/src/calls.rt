@@ -179,11 +179,10 @@ fn a_range_takes_another_item(rt: HostRuntime) -> Result<(), Fail> {
     };
     let numbers = range(alloc, &[Value::Int(2)], limits)?;
     let sum = binary_owned(alloc, OpId::Add, numbers, list_of(alloc, 7)?, limits)?;
-    let [zero, one, seven] = [Value::Int(0), Value::Int(1), Value::Int(7)];
     let mut items = Vec::new(alloc);
-    items.push(zero)?;
-    items.push(one)?;
-    items.push(seven)?;
+    for number in [0, 1, 7] {
+        items.push(Value::Int(number))?;
+    }
     assert!(rt; sum.equals(&Value::list(alloc, items)?));
     Ok(())
 }
