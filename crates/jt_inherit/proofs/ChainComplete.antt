@@ -1,8 +1,8 @@
 -- The chains and libraries that an entry reaches: all of them are followed and checked, and each
 -- comes before those that it leads to.
 use Rattle.std.proofs.Common.{◌≡◌, ◌≢◌, ◌↔◌, ℕ, zero, suc, ◌+◌, ◌*◌, ◌<◌, ◌≤◌, ◌==◌, Bool, true, false, not, ◌&&◌}
-use Rattle.std.proofs.Common.{nat_lt, List, [], ◌∷◌, ◌++◌, length, map, refl, sym, ap, subst, ◌∙◌, arith, inl, inr, ◌⊎◌, get_or}
-use Rattle.std.proofs.Common.{⊎_elim, Some, None, Vec, Global, rules}
+use Rattle.std.proofs.Common.{nat_lt, List, [], ◌∷◌, ◌++◌, length, map, refl, sym, ap, subst, ◌∙◌, arith, inl, inr, ◌⊎◌}
+use Rattle.std.proofs.Common.{⊎_elim, Some, None, Vec, Global, get_or, rules}
 use Rattle.jt_graph.specs.Graph as graph
 use Rattle.jt_graph.specs.Graph.{IsClosed, IsOrder}
 use Rattle.jt_chains.specs.Chain.{all_bodies}
@@ -165,11 +165,28 @@ module _ (given : SourceTexts) (options : Options) (ts : List Template) {ks : Li
   one_breaks root r error.DoubleBlock b =
       shows known (h, r, subst (λ us. any_double options.autoescape us ≡ true) (sym (whole_path ts h is w)) b)
   one_breaks root r error.RequiredNotGiven b =
-      shows known (h, r, and_true (is_whole (sources_in ts) options.autoescape h) (lacks_body (all_bodies (sources_in ts) options.autoescape h)) is_one (subst (λ us. lacks_body (their_blocks options.autoescape us) ≡ true) (sym (whole_path ts h is w)) b))
+      shows known (
+        h,
+        r,
+        and_true (is_whole (sources_in ts) options.autoescape h)
+            (lacks_body (all_bodies (sources_in ts) options.autoescape h)) is_one
+            (subst (λ us. lacks_body (their_blocks options.autoescape us) ≡ true) (sym (whole_path ts h is w)) b),
+      )
   one_breaks root r error.NoSuper b =
-      shows known (h, r, and_true (is_whole (sources_in ts) options.autoescape h) (lacks_next (all_bodies (sources_in ts) options.autoescape h)) is_one (subst (λ us. lacks_next (their_blocks options.autoescape us) ≡ true) (sym (whole_path ts h is w)) b))
+      shows known (
+        h,
+        r,
+        and_true (is_whole (sources_in ts) options.autoescape h)
+            (lacks_next (all_bodies (sources_in ts) options.autoescape h)) is_one
+            (subst (λ us. lacks_next (their_blocks options.autoescape us) ≡ true) (sym (whole_path ts h is w)) b),
+      )
   one_breaks root r error.MacroTwice b =
-      shows known (h, r, and_true (is_whole (sources_in ts) options.autoescape h) (repeated (map (λ g. g.0) (given_in (sources_in ts) h))) is_one (ap repeated names_told ∙ b))
+      shows known (
+        h,
+        r,
+        and_true (is_whole (sources_in ts) options.autoescape h)
+            (repeated (map (λ g. g.0) (given_in (sources_in ts) h))) is_one (ap repeated names_told ∙ b),
+      )
   one_breaks root r error.NoMacro b =
       let k = chain_alone b in
       shows known (h, r, (k.0, k.1, ap (any_lacks_macros (sources_in ts)) (whole_path ts h is w) ∙ b))
@@ -505,7 +522,8 @@ search_done {given} {options} {entry} f root is all =
     }
 
 -- A search from an entry that is done, with the chain of an order of its numbers.
-module _ {given : SourceTexts} {options : Options} {entry : Text} {f : Discovery} (d : IsDone given options entry f) where
+module _ {given : SourceTexts} {options : Options} {entry : Text} {f : Discovery}
+    (d : IsDone given options entry f) where
   pub all : length (found_paths f) ≡ length (found_namespaces f)
   all = length-map f.extends_paths.items (λ (v : Vec ℕ Global). v.items) ∙ d.paths
 

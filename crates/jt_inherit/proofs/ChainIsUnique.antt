@@ -103,27 +103,20 @@ module _ (given : SourceTexts) (options : Options) where
             by : (o : Option Body) → sources_of d n ≡ o → is_none o ≡ true
             by None e = refl
             by (Some b) e = absurd (has_source d.templates n b is.read.each e none)
-    no_chain error.BadName x =
-        absurd (shown x (λ s g b. d_keeps.bad_name (carried.bad_name s (sources_of d) options.autoescape (a_chain entry) g b)))
+    no_chain error.BadName x = absurd (shown x (λ s g b. d_keeps.bad_name (carried.bad_name s _ _ _ g b)))
     no_chain error.ExtendsCycle x =
         absurd (shown x (λ s g b. ⊎_elim d_keeps.extends_cycle d_keeps.too_long
         (carried.extends_cycle s (sources_of d) options.autoescape (a_chain entry) g b)))
-    no_chain error.ChainTooLong x =
-        absurd (shown x (λ s g b. d_keeps.too_long (carried.too_long s (sources_of d) options.autoescape (a_chain entry) g b)))
-    no_chain error.DoubleBlock x =
-        absurd (shown x (λ s g b. d_keeps.double_block (carried.double_block s (sources_of d) options.autoescape (a_chain entry) g b)))
+    no_chain error.ChainTooLong x = absurd (shown x (λ s g b. d_keeps.too_long (carried.too_long s _ _ _ g b)))
+    no_chain error.DoubleBlock x = absurd (shown x (λ s g b. d_keeps.double_block (carried.double_block s _ _ _ g b)))
     no_chain error.RequiredNotGiven x =
-        absurd (shown x (λ s g b. d_keeps.required_not_given (carried.required_not_given s (sources_of d) options.autoescape (a_chain entry) g b)))
-    no_chain error.NoSuper x =
-        absurd (shown x (λ s g b. d_keeps.no_super (carried.no_super s (sources_of d) options.autoescape (a_chain entry) g b)))
+        absurd (shown x (λ s g b. d_keeps.required_not_given (carried.required_not_given s _ _ _ g b)))
+    no_chain error.NoSuper x = absurd (shown x (λ s g b. d_keeps.no_super (carried.no_super s _ _ _ g b)))
     no_chain error.IncludeCycle x =
-        absurd (shown x (λ s g b. d_keeps.include_cycle (carried.include_cycle s (sources_of d) options.autoescape (a_chain entry) g b)))
-    no_chain error.MacroTwice x =
-        absurd (shown x (λ s g b. d_keeps.macro_twice (carried.macro_twice s (sources_of d) options.autoescape (a_chain entry) g b)))
-    no_chain error.NoMacro x =
-        absurd (shown x (λ s g b. d_keeps.no_macro (carried.no_macro s (sources_of d) options.autoescape (a_chain entry) g b)))
-    no_chain error.NotALibrary x =
-        absurd (shown x (λ s g b. d_keeps.not_a_library (carried.not_a_library s (sources_of d) options.autoescape (a_chain entry) g b)))
+        absurd (shown x (λ s g b. d_keeps.include_cycle (carried.include_cycle s _ _ _ g b)))
+    no_chain error.MacroTwice x = absurd (shown x (λ s g b. d_keeps.macro_twice (carried.macro_twice s _ _ _ g b)))
+    no_chain error.NoMacro x = absurd (shown x (λ s g b. d_keeps.no_macro (carried.no_macro s _ _ _ g b)))
+    no_chain error.NotALibrary x = absurd (shown x (λ s g b. d_keeps.not_a_library (carried.not_a_library s _ _ _ g b)))
     no_chain error.NoMemory x = refl
     no_chain (error.Scan n e) x = absurd (no_fault (string_bytes n) (IsUncut e options) x)
     no_chain (error.Parse n e) x = absurd (no_fault (string_bytes n) (IsUnspelled e options) x)

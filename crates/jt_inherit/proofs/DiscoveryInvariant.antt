@@ -74,7 +74,22 @@ libraries_way ts a1 is w = search (arith, rules, whole_path, append-nil, none_im
 -- The namespaces that a namespace leads to, by its path.
 pub included_is : (ts : List Template) (h : Namespace) (is : List ℕ) → IsExtendsPath ts h is None
     → included (sources_in ts) h ≡ chosen (names ts) (needs_along ts is)
-included_is ts h is w = search (arith, rules, names, whole_path, by_templates, filter_same, some_source, libraries_way, includes_told, chosen-append, includes_chosen, all_includes, imports_chosen)
+included_is ts h is w =
+    search (
+      arith,
+      rules,
+      names,
+      whole_path,
+      by_templates,
+      filter_same,
+      some_source,
+      libraries_way,
+      includes_told,
+      chosen-append,
+      includes_chosen,
+      all_includes,
+      imports_chosen,
+    )
 
 -- The path of a chain or a library, and the names that it requests.
 module _ (ts : List Template) (e : Bool) (h : Namespace) (is : List ℕ) (w : IsExtendsPath ts h is None) where

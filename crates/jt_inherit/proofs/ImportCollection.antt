@@ -106,7 +106,8 @@ from_named n ms (x ∷ xs) s e = search (arith, rules, map-append, from_named n 
 pub imports_named : (s : Sources) (b : Body) → map (λ g. g.0) (imports_in s b) ≡ imported_names s b
 imports_named s trees.end = refl
 imports_named s (trees.stmt (trees.import_as line n x) rest) = ap (λ l. x ∷ l) (imports_named s rest)
-imports_named s (trees.stmt (trees.import_from line n xs) rest) = search (arith, rules, map-append, from_named, imports_named s rest)
+imports_named s (trees.stmt (trees.import_from line n xs) rest) =
+    search (arith, rules, map-append, from_named, imports_named s rest)
 imports_named s (trees.stmt t rest) = imports_named s rest
 
 pub all_imported : (s : Sources) (ts : List Template)

@@ -36,4 +36,5 @@ pub library_read : {given : SourceTexts} {options : Options} (ps : List Template
     → is_no_library (files_view ps) (a_library n) ≡ false
     → {is : List ℕ} (i : ℕ) → is ≡ i ∷ [] → slice_get (names_view ks) i ≡ Some n
     → HasRead given options ps ps ks ks (a_library n) is
-library_read {given} {options} ps ks known n library {is} i e at = search (arith, rules, of_name, only_one, append-nil, slice_get_within, not_not, names)
+library_read {given} {options} ps ks known n library {is} i e at =
+    search (arith, rules, of_name, only_one, append-nil, slice_get_within, not_not, names)

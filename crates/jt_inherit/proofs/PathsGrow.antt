@@ -256,7 +256,12 @@ module _ {given : SourceTexts} {options : Options} {root : Text} {ts : List Temp
       let len : length us ≡ 64 = all_templates ts is w.indices ∙ full in
       let up : extends_path s options.autoescape (a_chain h) ≡ names us ++ n ∷ [] =
       names_lead s 65 1 (Some h) us (Some n) (omega (arith, len)) w.leads in
-      shows known (inl (a_chain h, r, subst (λ xs. ((length xs == 65) && not (repeated xs)) ≡ true) (sym up) (sixty_five n us len (once_more of_texts n (names us) w.once new))))
+      shows known (inl (
+        a_chain h,
+        r,
+        subst (λ xs. ((length xs == 65) && not (repeated xs)) ≡ true) (sym up)
+            (sixty_five n us len (once_more of_texts n (names us) w.once new)),
+      ))
     where
       sixty_five : (n : Text) (us : List Template) → length us ≡ 64 → repeated (names us ++ n ∷ []) ≡ false
           → ((length (names us ++ n ∷ []) == 65) && not (repeated (names us ++ n ∷ []))) ≡ true

@@ -29,7 +29,8 @@ pub tags_turn : (test : Use → Bool) (ps : List TemplateFile) (is : List ℕ) (
     → more ≡ tags test (uses_in (file_view p)) → new ≡ old ++ more
     → old ++ tags test (all_uses (templates_at (files_view ps) (drop k is))) ≡ all
     → new ++ tags test (all_uses (templates_at (files_view ps) (drop (k + 1) is))) ≡ all
-tags_turn test ps is k p old more new all lt within at theirs longer before = search (arith, rules, templates_turn, tags-append, append_assoc)
+tags_turn test ps is k p old more new all lt within at theirs longer before =
+    search (arith, rules, templates_turn, tags-append, append_assoc)
 
 -- ---- what the first tags show
 

@@ -4,7 +4,8 @@ ghost use Rattle.std.specs.Prelude.{◌≡◌, ◌+◌, ◌<◌, false, length, 
 ghost use Rattle.std.specs.List.{AllByRecursion};
 ghost use Rattle.jt_chains.specs.Along.{AreIndices};
 ghost use Rattle.jt_chains.specs.Indices.{namespace_at};
-ghost use Rattle.jt_inherit.specs.internal.Found.{IsDone, IsFirst, IsFound, found_namespaces, root_of};
+ghost use Rattle.jt_inherit.specs.internal.Found.{IsDone, IsFirst, IsFound, found_namespaces};
+ghost use Rattle.jt_inherit.specs.internal.Found.{root_of};
 ghost use Rattle.jt_inherit.specs.Findings.{IsFinding};
 ghost use Rattle.jt_inherit.specs.internal.ExtendsPaths.{AreNamed};
 ghost use Rattle.jt_inherit.specs.internal.Found.{found_paths, found_templates};

@@ -131,8 +131,8 @@ fn any_double(
     Ok(false)
 }
 
-/// Refuses a chain or library whose blocks, macros or imports break a rule, with the tag that breaks
-/// it. `indices` are its templates.
+/// Refuses a chain or library whose blocks, macros or imports break a rule, with the tag that
+/// breaks it. `indices` are its templates.
 #[tactic(auto, using(crate::proofs::FindingsHold::memory_broken, crate::proofs::FindingsHold::rule_broken))]
 pub(crate) fn check_rules(
     alloc: Global,
