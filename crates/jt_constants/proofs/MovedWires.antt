@@ -32,7 +32,8 @@ moved_wire indices (op.Data n) h = refl
 moved_wire indices i h = search (arith, rules)
 
 pub moves : (w : Instr) (indices : List ℕ) (n : ℕ) → n ≡ moved indices w.c
-    → (w.op ≡ 1) ⊎ ((w.op ≡ 1 → ⊥) × (w.op ≡ 9)) → (i : Instruction) → instruction_of w ≡ Some i → instruction_of (renumbered w n) ≡ Some (with_indices indices i)
+    → (w.op ≡ 1) ⊎ ((w.op ≡ 1 → ⊥) × (w.op ≡ 9)) → (i : Instruction) → instruction_of w ≡ Some i
+    → instruction_of (renumbered w n) ≡ Some (with_indices indices i)
 moves w indices n is h i e =
     let wire = wire_from w i e in
     ap (λ m. instruction_of (renumbered w m)) is

@@ -11,7 +11,8 @@ returns-then-code-clause-refused c = λ templates.
     let body = subst (λ ss. Emits templates 0 c.in_ok-code.code (body_view templates ss) c.emit_statements.new.code)
     c.deref.ensures.value (c.in_ok-emit_statements.ensures templates 0 (stands_itself 0)) in
     unit_refused templates c.args.routine.now c.in_ok-code.code c.emit_statements.new.code c.put.new.self
-    c.in_ok-code.ensures.empty c.in_ok-code.ensures.whole body (c.in_ok-put.ensures templates op.Return refl) c.args.left
+    c.in_ok-code.ensures.empty c.in_ok-code.ensures.whole body
+    (c.in_ok-put.ensures templates op.Return refl) c.args.left
     c.in_ok-code.ensures.limited c.if-code.true
 
 pub returns-clause-emitted : goal.returns-clause-emitted
