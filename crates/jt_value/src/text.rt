@@ -19,9 +19,6 @@ use std::marker::Model;
 use std::ops::DerefStr;
 use std::rc::Rc;
 
-/// The greatest number of bytes that are stored in one block with the number of owners.
-const FEW: usize = 24;
-
 /// The characters of a text or of a key. A copy shares them.
 #[derive(Drop)]
 pub struct Text {
@@ -31,7 +28,7 @@ pub struct Text {
 /// Characters as they are stored.
 #[derive(Drop)]
 enum Chars {
-    /// A few bytes, in the block of the number of owners.
+    /// At most 24 bytes, in the block of the number of owners.
     Short(ArrayString<24>),
     /// A string with a block of its own.
     Long(String),
