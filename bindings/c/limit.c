@@ -152,7 +152,7 @@ static void many_lists(void) {
     struct rusage used;
     char *end = source + 1;
     for (int i = 0; i < 1500; i++) {
-        end += sprintf(end, "{%% set a%d = range(65535) | list %%}", i);
+        end += sprintf(end, "{%% set a%d = range(65535)|map('abs') %%}", i);
     }
     const size_t length = (size_t)(end - source);
     struct jt_answer answer =

@@ -676,7 +676,7 @@ class Lives(unittest.TestCase):
         finally:
             library.jt_image_run = call
         self.assertEqual(inner, [wanted])
-        lists = "".join(f"{{% set a{i} = range(65535) | list %}}" for i in range(300))
+        lists = "".join(f"{{% set a{i} = range(65535)|map('abs') %}}" for i in range(300))
         with self.assertRaises(NoMemory):
             Template("t", {"t": lists}).render(None, Budget(fuel=10**9, memory=8_000_000))
 

@@ -27,7 +27,7 @@ pub struct Budget {
     /// ```
     /// use jt::{Budget, Context, Error, Templates};
     ///
-    /// let lists = Templates::new(&[("t", "{% set a = range(60000) | list %}")]);
+    /// let lists = Templates::new(&[("t", "{% set a = range(60000)|map('abs') %}")]);
     /// let image = lists.compile("t", jt::Options::default())?;
     /// let few = Budget { memory: 100_000, ..Budget::default() };
     /// let outcome = image.run(&Context::from_json("{}")?, few);

@@ -14,21 +14,24 @@ use Rattle.jt_ir.specs.Slots as slots
 use Rattle.jt_ir.specs.Slots.{SlotExpr, SRow, SBody}
 use Rattle.jt_ir.specs.View.{Front, slot_view, targets_view, place_view, expr_view, stmt_view, body_view, choice_view}
 use Rattle.jt_ir.specs.View.{filtered_view}
-use Rattle.jt_ir.specs.declared.program.Place as code_place
 use Rattle.jt_ir.specs.declared.program.Slot as code_slot
 use Rattle.jt_ir.specs.declared.program.Targets as code_targets
 use Rattle.jt_ir.specs.declared.program.SlotExpr as code
 use Rattle.jt_ir.specs.declared.program.Filtered.{Filtered}
 use Rattle.jt_ir.specs.declared.program.SlotStmt as code_stmt
-use Rattle.jt_ir.specs.declared.program.SlotStmt.TheVariants as s
+use Rattle.jt_ir.specs.declared.program.SlotStmt.TheVariants as v
 use Rattle.jt_semantics.specs.Resolve.{followed, alone}
-use Rattle.jt_bind.specs.internal.Scoped.{IsPlaced, RowLeads, BodyLeads}
-use Rattle.jt_ir.proofs.StatementViews.{SBranch}
-use Rattle.jt_bind.specs.internal.Stated.{Led, IsBody, IsAsked, IsBranch, StandsFor, ChoiceLeads}
+use Rattle.jt_chains.specs.View.{chain_view}
+use Rattle.jt_bind.specs.declared.emission.Turns.{Turns}
+use Rattle.jt_bind.specs.declared.senv.StaticEnv.{StaticEnv}
+use Rattle.jt_bind.specs.internal.Chains.{Chains}
+use Rattle.jt_bind.specs.internal.Scoped.{IsPlaced, RowLeads, BodyLeads, templates_in}
+use Rattle.jt_bind.proofs.PlacesAndScopes.{place_shown}
+use Rattle.jt_ir.proofs.StatementViews.{SBranch, view_PutPooled, view_Print, view_Assign, view_If, view_For}
+use Rattle.jt_ir.proofs.StatementViews.{view_Capture, view_Run, body_push, joined, choice_push}
+use Rattle.jt_bind.specs.internal.Stated.{Emits, IsAsked, IsBranch, AreTurns, StandsFor, ChoiceLeads, line_in, place_of}
 use Rattle.jt_bind.proofs.RowConcatenation.{grown_by}
 use Rattle.jt_ir.proofs.ExpressionViews.{Entry}
-use Rattle.jt_ir.proofs.StatementViews.{view_PutPooled, view_Print, view_Assign, view_If, view_For, view_Capture}
-use Rattle.jt_ir.proofs.StatementViews.{view_Run, body_push, joined, choice_push}
 
 -- ---- bodies
 
@@ -58,9 +61,6 @@ module _ (templates : List Text) where
 
   -- ---- concatenation of parts
 
-  pub lead_same : (whole : SBody Constant) (es : List code_stmt.SlotStmt) (p : List Tree) → Leads whole whole es es p p
-  lead_same whole es p = record { shown = refl; pooled = refl }
-
   pub lead_both : (a b c : SBody Constant) (es fs gs : List code_stmt.SlotStmt) (p q r : List Tree)
       → Leads a b es fs p q → Leads b c fs gs q r → Leads a c es gs p r
   lead_both a b c es fs gs p q r h g = record { shown = g.shown ∙ h.shown; pooled = g.pooled ∙ h.pooled }
@@ -76,43 +76,43 @@ module _ (templates : List Text) where
   lead_left whole a b es fs p q h =
       let P : SBody Constant → Type 0 = λ z. BodyLeads templates whole z es fs p q in subst P h
 
-  pub led_nothing : (es : List code_stmt.SlotStmt) (p : List Tree) → Led templates slots.end es es p p
-  led_nothing es p = λ left. record { shown = refl; pooled = refl }
+  pub emits_nothing : (es : List code_stmt.SlotStmt) (p : List Tree) → Emits templates slots.end es es p p
+  emits_nothing es p = λ left. record { shown = refl; pooled = refl }
 
   -- A body after another one.
-  pub led_both : (a b : SBody Constant) (es fs gs : List code_stmt.SlotStmt) (p q r : List Tree)
-      → Led templates a es fs p q → Led templates b fs gs q r → Led templates (followed a b) es gs p r
-  led_both a b es fs gs p q r h g = search (arith, rules, lead_both, lead_of, followed_again)
+  pub emits_both : (a b : SBody Constant) (es fs gs : List code_stmt.SlotStmt) (p q r : List Tree)
+      → Emits templates a es fs p q → Emits templates b fs gs q r → Emits templates (followed a b) es gs p r
+  emits_both a b es fs gs p q r h g = search (arith, rules, lead_both, lead_of, followed_again)
 
-  pub led_of : (a b : SBody Constant) (es fs : List code_stmt.SlotStmt) (p q : List Tree) → a ≡ b
-      → Led templates a es fs p q → Led templates b es fs p q
-  led_of a b es fs p q e h =
+  pub emits_of : (a b : SBody Constant) (es fs : List code_stmt.SlotStmt) (p q : List Tree) → a ≡ b
+      → Emits templates a es fs p q → Emits templates b es fs p q
+  emits_of a b es fs p q e h =
       λ left. lead_of (followed a left) (followed b left) left es fs p q (ap (λ z. followed z left) e) (h left)
 
   -- The body begins with no statements.
-  pub led_begun : (whole : SBody Constant) (es fs gs : List code_stmt.SlotStmt) (p q : List Tree) → es ≡ gs
-      → Led templates whole es fs p q → Led templates whole gs fs p q
-  led_begun whole es fs gs p q e h =
+  pub emits_begun : (whole : SBody Constant) (es fs gs : List code_stmt.SlotStmt) (p q : List Tree) → es ≡ gs
+      → Emits templates whole es fs p q → Emits templates whole gs fs p q
+  emits_begun whole es fs gs p q e h =
       λ left. let P : List code_stmt.SlotStmt → Type 0 = λ l. BodyLeads templates (followed whole left) left l fs p q in
       subst P e (h left)
 
   -- ---- a whole body
 
-  pub body_shown : (w : SBody Constant) (es : List code_stmt.SlotStmt) (p q : List Tree) → IsBody templates w es p q
+  pub body_shown : (w : SBody Constant) (es : List code_stmt.SlotStmt) (p q : List Tree) → Emits templates w [] es p q
       → body_view templates es slots.end ≡ placed_body w (length p)
   body_shown w es p q h = (h slots.end).shown ∙ ap (λ z. placed_body z (length p)) (followed_end w)
 
-  pub body_pooled : (w : SBody Constant) (es : List code_stmt.SlotStmt) (p q : List Tree) → IsBody templates w es p q
+  pub body_pooled : (w : SBody Constant) (es : List code_stmt.SlotStmt) (p q : List Tree) → Emits templates w [] es p q
       → q ≡ p ++ body_values w
   body_pooled w es p q h = sym (append-nil q) ∙ (h slots.end).pooled ∙ ap (λ z. p ++ body_values z) (followed_end w)
 
   -- ---- one more statement
 
-  pub stmt_led : (c : slots.SlotStmt Constant) (x : code_stmt.SlotStmt) (ss ts : List code_stmt.SlotStmt)
+  pub stmt_emitted : (c : slots.SlotStmt Constant) (x : code_stmt.SlotStmt) (ss ts : List code_stmt.SlotStmt)
       (p q : List Tree)
       → ((behind : SBody ℕ) → stmt_view templates x behind ≡ slots.stmt (placed_stmt c (length p)) behind)
-      → q ≡ p ++ stmt_values c → ts ≡ ss ++ x ∷ [] → Led templates (alone c) ss ts p q
-  stmt_led c x ss ts p q h f e = λ left. record {
+      → q ≡ p ++ stmt_values c → ts ≡ ss ++ x ∷ [] → Emits templates (alone c) ss ts p q
+  stmt_emitted c x ss ts p q h f e = λ left. record {
     shown =
         ap (λ l. body_view templates l (placed_body left (length q))) e
         ∙ body_push templates ss x (placed_body left (length q))
@@ -121,80 +121,28 @@ module _ (templates : List Text) where
     pooled = ap (λ l. l ++ body_values left) f ∙ append_assoc p (stmt_values c) (body_values left);
   }
 
-  pub print_led : (at : code_place.Place) (pl : Place) (escaping : Bool) (c : SlotExpr Constant) (e : Filtered)
-      (ss ts : List code_stmt.SlotStmt) (p q : List Tree)
-      → place_view templates at ≡ pl → IsPlaced c (filtered_view e) p q
-      → ts ≡ ss ++ s.Print at escaping e ∷ [] → Led templates (alone (slots.print pl escaping c)) ss ts p q
-  print_led at pl escaping c e ss ts p q f h = search (arith, rules, stmt_led, view_Print)
-
-  pub assign_led : (at : code_place.Place) (pl : Place) (xs : code_targets.Targets) (c : SlotExpr Constant)
-      (e : code.SlotExpr) (ss ts : List code_stmt.SlotStmt) (p q : List Tree)
-      → place_view templates at ≡ pl → IsPlaced c (expr_view e) p q
-      → ts ≡ ss ++ s.Assign at xs e ∷ [] → Led templates (alone (slots.assign pl (targets_view xs) c)) ss ts p q
-  assign_led at pl xs c e ss ts p q f h = search (arith, rules, stmt_led, view_Assign)
-
-  pub run_led : (u : ℕ) (es : SRow Constant) (row : Vec Entry Global) (ss ts : List code_stmt.SlotStmt)
+  pub run_emitted : (u : ℕ) (es : SRow Constant) (row : Vec Entry Global) (ss ts : List code_stmt.SlotStmt)
       (p q : List Tree)
       → RowLeads es slots.none [] row.items p q
-      → ts ≡ ss ++ s.Run u row ∷ [] → Led templates (alone (slots.run u es)) ss ts p q
-  run_led u es row ss ts p q h =
-      stmt_led (slots.run u es) (s.Run u row) ss ts p q
+      → ts ≡ ss ++ v.Run u row ∷ [] → Emits templates (alone (slots.run u es)) ss ts p q
+  run_emitted u es row ss ts p q h =
+      stmt_emitted (slots.run u es) (v.Run u row) ss ts p q
       (λ behind. view_Run templates u row behind ∙ ap (λ z. slots.stmt (slots.run u z) behind) h.shown)
       (sym (append-nil q) ∙ h.pooled)
 
-  pub capture_led : (escaping : Bool) (x : code_slot.Slot) (w : SBody Constant) (body : Vec code_stmt.SlotStmt Global)
-      (ss ts : List code_stmt.SlotStmt) (p q : List Tree)
-      → IsBody templates w body.items p q
-      → ts ≡ ss ++ s.Capture escaping x body ∷ []
-      → Led templates (alone (slots.capture escaping (slot_view x) w)) ss ts p q
-  capture_led escaping x w body ss ts p q h = search (arith, rules, stmt_led, view_Capture, body_shown, body_pooled)
+  pub capture_emitted : (escaping : Bool) (x : code_slot.Slot) (w : SBody Constant)
+      (body : Vec code_stmt.SlotStmt Global) (ss ts : List code_stmt.SlotStmt) (p q : List Tree)
+      → Emits templates w [] body.items p q
+      → ts ≡ ss ++ v.Capture escaping x body ∷ []
+      → Emits templates (alone (slots.capture escaping (slot_view x) w)) ss ts p q
+  capture_emitted escaping x w body ss ts p q h =
+      search (arith, rules, stmt_emitted, view_Capture, body_shown, body_pooled)
 
-  pub data_led : (v : Tree) (i : ℕ) (ss ts : List code_stmt.SlotStmt) (p q : List Tree) → i ≡ length p → q ≡ p ++ v ∷ []
-      → ts ≡ ss ++ s.PutPooled i ∷ [] → Led templates (alone (slots.put_pooled (own v))) ss ts p q
-  data_led v i ss ts p q e =
-      stmt_led (slots.put_pooled (own v)) (s.PutPooled i) ss ts p q
+  pub data_emitted : (d : Tree) (i : ℕ) (ss ts : List code_stmt.SlotStmt) (p q : List Tree) → i ≡ length p
+      → q ≡ p ++ d ∷ [] → ts ≡ ss ++ v.PutPooled i ∷ [] → Emits templates (alone (slots.put_pooled (own d))) ss ts p q
+  data_emitted d i ss ts p q e =
+      stmt_emitted (slots.put_pooled (own d)) (v.PutPooled i) ss ts p q
       (λ behind. view_PutPooled templates i behind ∙ ap (λ n. slots.stmt (slots.put_pooled n) behind) e)
-
-  pub loop_led : (at : code_place.Place) (pl : Place) (xs : code_targets.Targets) (c : SlotExpr Constant)
-      (e : code.SlotExpr) (k : Option (SlotExpr Constant)) (d : Option code.SlotExpr) (turn last : SBody Constant)
-      (body other : Vec code_stmt.SlotStmt Global) (ss ts : List code_stmt.SlotStmt) (p q r t v : List Tree)
-      → place_view templates at ≡ pl → IsPlaced c (expr_view e) p q → IsAsked k d q r
-      → IsBody templates turn body.items r t
-      → IsBody templates last other.items t v → ts ≡ ss ++ s.For at xs e d body other ∷ []
-      → Led templates (alone (slots.for_each pl (targets_view xs) c k turn last)) ss ts p v
-  loop_led at pl xs c e k d turn last body other ss ts p q r t v f h g b o =
-      let first : length q ≡ length p + length (expr_values c) = grown_by p (expr_values c) q h.pooled in
-      let second : length r ≡ length p + length (expr_values c) + length (condition_values k) =
-      grown_by q (condition_values k) r g.pooled ∙ ap (λ n. n + length (condition_values k)) first in
-      let third : length t
-      ≡ length p + length (expr_values c) + length (condition_values k) + length (body_values turn) =
-      grown_by r (body_values turn) t (body_pooled turn body.items r t b)
-      ∙ ap (λ n. n + length (body_values turn)) second in
-      let seen = λ (z : Place) (y : SlotExpr ℕ) (w : Option (SlotExpr ℕ)) (m n : SBody ℕ) (behind : SBody ℕ).
-      slots.stmt (slots.for_each z (targets_view xs) y w m n) behind in
-      stmt_led (slots.for_each pl (targets_view xs) c k turn last) (s.For at xs e d body other) ss ts p v
-      (λ behind. view_For templates at xs e d body other behind
-      ∙ ap (λ z. seen z (expr_view e) (option_map expr_view d) (body_view templates body.items slots.end)
-      (body_view templates other.items slots.end) behind) f
-      ∙ ap (λ z. seen pl z (option_map expr_view d) (body_view templates body.items slots.end)
-      (body_view templates other.items slots.end) behind) h.shown
-      ∙ ap (λ z. seen pl (placed_expr c (length p)) z (body_view templates body.items slots.end)
-      (body_view templates other.items slots.end) behind)
-      (g.shown ∙ ap (placed_condition k) first)
-      ∙ ap (λ z. seen pl (placed_expr c (length p)) (placed_condition k (length p + length (expr_values c))) z
-      (body_view templates other.items slots.end) behind)
-      (body_shown turn body.items r t b ∙ ap (placed_body turn) second)
-      ∙ ap (λ z. seen pl (placed_expr c (length p)) (placed_condition k (length p + length (expr_values c)))
-      (placed_body turn (length p + length (expr_values c) + length (condition_values k))) z behind)
-      (body_shown last other.items t v o ∙ ap (placed_body last) third))
-      (four_pooled p (expr_values c) (condition_values k) (body_values turn) (body_values last) q r t v h.pooled
-      g.pooled (body_pooled turn body.items r t b) (body_pooled last other.items t v o))
-    where
-      four_pooled : (p ws xs ys zs q r t v : List Tree) → q ≡ p ++ ws → r ≡ q ++ xs → t ≡ r ++ ys → v ≡ t ++ zs
-          → v ≡ p ++ (ws ++ (xs ++ (ys ++ zs)))
-      four_pooled p ws xs ys zs q r t v e f g h =
-          h ∙ ap (λ l. l ++ zs) (g ∙ ap (λ l. l ++ ys) (f ∙ ap (λ l. l ++ xs) e)) ∙ append_assoc (p ++ ws ++ xs) ys zs
-          ∙ append_assoc (p ++ ws) xs (ys ++ zs) ∙ append_assoc p ws (xs ++ (ys ++ zs))
 
   -- ---- `if` statements
 
@@ -209,11 +157,11 @@ module _ (templates : List Text) where
   choice_same whole bs p e = search (arith, rules)
 
   -- One more branch.
-  pub branch_led : (whole rest b : SBody Constant) (pl : Place) (c : SlotExpr Constant) (x : SBranch)
+  pub branch_lead : (whole rest b : SBody Constant) (pl : Place) (c : SlotExpr Constant) (x : SBranch)
       (bs cs : List SBranch) (p q t : List Tree)
       → ChoiceLeads templates whole (alone (slots.if_else pl c b rest)) bs p q → IsBranch templates pl c b x q t
       → cs ≡ bs ++ x ∷ [] → ChoiceLeads templates whole rest cs p t
-  branch_led whole rest b pl c x bs cs p q t so is w = subst P (sym w) (record { shown = shown; pooled = pooled })
+  branch_lead whole rest b pl c x bs cs p q t so is w = subst P (sym w) (record { shown = shown; pooled = pooled })
     where
       P : List SBranch → Type 0
       P l = ChoiceLeads templates whole rest l p t
@@ -224,7 +172,7 @@ module _ (templates : List Text) where
       h : IsPlaced c (expr_view x.condition) q r
       h = is.asked
 
-      g : IsBody templates b x.body.items r t
+      g : Emits templates b [] x.body.items r t
       g = is.taken
 
       first : length r ≡ length q + length (expr_values c)
@@ -286,11 +234,11 @@ module _ (templates : List Text) where
           ∙ ap (λ l. q ++ l) (sym (append-nil (expr_values c ++ (body_values b ++ body_values rest)))) ∙ so.pooled
 
   -- All branches, and the `else` part.
-  pub choice_led : (whole last : SBody Constant) (bs : Vec SBranch Global) (other : Vec code_stmt.SlotStmt Global)
+  pub choice_emitted : (whole last : SBody Constant) (bs : Vec SBranch Global) (other : Vec code_stmt.SlotStmt Global)
       (ss ts : List code_stmt.SlotStmt) (p q r : List Tree)
-      → ChoiceLeads templates whole last bs.items p q → IsBody templates last other.items q r
-      → ts ≡ ss ++ s.If bs other ∷ [] → Led templates whole ss ts p r
-  choice_led whole last bs other ss ts p q r h g e = λ left.
+      → ChoiceLeads templates whole last bs.items p q → Emits templates last [] other.items q r
+      → ts ≡ ss ++ v.If bs other ∷ [] → Emits templates whole ss ts p r
+  choice_emitted whole last bs other ss ts p q r h g e = λ left.
       let all = h.shown (body_view templates other.items) left (length r)
       (record {
         alone = body_shown last other.items q r g;
@@ -300,10 +248,74 @@ module _ (templates : List Text) where
       record {
         shown =
             ap (λ l. body_view templates l (placed_body left (length r))) e
-            ∙ body_push templates ss (s.If bs other) (placed_body left (length r))
+            ∙ body_push templates ss (v.If bs other) (placed_body left (length r))
             ∙ ap (body_view templates ss) (view_If templates bs other (placed_body left (length r)) ∙ all.before);
         pooled =
             ap (λ l. l ++ body_values left) (body_pooled last other.items q r g ∙ h.pooled)
             ∙ append_assoc p (body_values whole) (body_values left)
             ∙ ap (λ l. p ++ l) (sym (followed_values whole left));
       }
+
+-- ---- statements with the places of their tags
+
+module _ (scope : Chains) (senv : StaticEnv) (line : ℕ) where
+  abbrev T : List Text
+  T = templates_in scope
+
+  abbrev tag : Place
+  tag = line_in scope senv line
+
+  pub place_is : place_view T (place_of senv line) ≡ tag
+  place_is = place_shown (chain_view scope.chain.now).templates senv.template line
+
+  pub print_emitted : (c : SlotExpr Constant) (x : Filtered) (ss ts : List code_stmt.SlotStmt) (p q : List Tree)
+      → IsPlaced c (filtered_view x) p q → ts ≡ ss ++ v.Print (place_of senv line) senv.escaping x ∷ []
+      → Emits T (alone (slots.print tag senv.escaping c)) ss ts p q
+  print_emitted c x ss ts p q h =
+      stmt_emitted T (slots.print tag senv.escaping c) (v.Print (place_of senv line) senv.escaping x) ss ts p q
+      (λ behind. view_Print T (place_of senv line) senv.escaping x behind
+      ∙ ap (λ z. slots.stmt (slots.print z senv.escaping (filtered_view x)) behind) place_is
+      ∙ ap (λ z. slots.stmt (slots.print tag senv.escaping z) behind) h.shown) h.pooled
+
+  pub assign_emitted : (xs : code_targets.Targets) (c : SlotExpr Constant) (e : code.SlotExpr)
+      (ss ts : List code_stmt.SlotStmt) (p q : List Tree)
+      → IsPlaced c (expr_view e) p q → ts ≡ ss ++ v.Assign (place_of senv line) xs e ∷ []
+      → Emits T (alone (slots.assign tag (targets_view xs) c)) ss ts p q
+  assign_emitted xs c e ss ts p q h =
+      stmt_emitted T (slots.assign tag (targets_view xs) c) (v.Assign (place_of senv line) xs e) ss ts p q
+      (λ behind. view_Assign T (place_of senv line) xs e behind
+      ∙ ap (λ z. slots.stmt (slots.assign z (targets_view xs) (expr_view e)) behind) place_is
+      ∙ ap (λ z. slots.stmt (slots.assign tag (targets_view xs) z) behind) h.shown) h.pooled
+
+  pub loop_emitted : (xs : slots.Targets) (c : SlotExpr Constant) (k : Option (SlotExpr Constant))
+      (turn last : SBody Constant) (t : Turns) (other : Vec code_stmt.SlotStmt Global)
+      (ss ts : List code_stmt.SlotStmt) (p q r : List Tree)
+      → AreTurns scope xs c k turn t p q → Emits T last [] other.items q r
+      → ts ≡ ss ++ v.For (place_of senv line) t.head.value.targets t.head.value.items t.head.value.condition t.body
+      other
+      ∷ []
+      → Emits T (alone (slots.for_each tag xs c k turn last)) ss ts p r
+  loop_emitted xs c k turn last t other ss ts p q r w o =
+      let h = w.headed in
+      let e = h.goes_over in
+      let first : length h.given ≡ length p + length (expr_values c) = grown_by p (expr_values c) h.given e.pooled in
+      let second : length w.between ≡ length p + length (expr_values c) + length (condition_values k) =
+      grown_by h.given (condition_values k) w.between h.asked.pooled ∙ ap (λ n. n + length (condition_values k)) first
+      in
+      let body : q ≡ w.between ++ body_values turn = body_pooled T turn t.body.items w.between q w.taken in
+      let third : length q
+      ≡ length p + length (expr_values c) + length (condition_values k) + length (body_values turn) =
+      grown_by w.between (body_values turn) q body ∙ ap (λ n. n + length (body_values turn)) second in
+      let turn_is = body_shown T turn t.body.items w.between q w.taken ∙ ap (placed_body turn) second in
+      let last_is = body_shown T last other.items q r o ∙ ap (placed_body last) third in
+      let asked = h.asked.shown ∙ ap (placed_condition k) first in
+      stmt_emitted T (slots.for_each tag xs c k turn last)
+      (v.For (place_of senv line) t.head.value.targets t.head.value.items t.head.value.condition t.body other) ss ts p r
+      (λ behind. view_For T (place_of senv line) t.head.value.targets t.head.value.items t.head.value.condition t.body
+      other behind ∙ cc (place_is, h.takes, e.shown, asked, turn_is, last_is))
+      (four_pooled p (expr_values c) (condition_values k) (body_values turn) (body_values last) h.given w.between q r
+      e.pooled h.asked.pooled body (body_pooled T last other.items q r o))
+    where
+      four_pooled : (p ws xs ys zs q r t v : List Tree) → q ≡ p ++ ws → r ≡ q ++ xs → t ≡ r ++ ys → v ≡ t ++ zs
+          → v ≡ p ++ (ws ++ (xs ++ (ys ++ zs)))
+      four_pooled p ws xs ys zs q r t v e f g h = rw (h, g, f, e) (simp append_assoc)

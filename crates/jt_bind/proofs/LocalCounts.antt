@@ -10,18 +10,17 @@ use Rattle.jt_ir.specs.Pool.{Constant, placed_expr, placed_row, placed_condition
 use Rattle.jt_ir.specs.Slots as slots
 use Rattle.jt_ir.specs.Slots.{SlotExpr, SRow, SlotStmt, SBody}
 use Rattle.jt_ir.specs.View.{Front, slot_view, targets_view, expr_view, row_view, stmt_view, body_view, choice_view}
+use Rattle.jt_ir.specs.View.{filter_after, filters_after}
 use Rattle.jt_ir.specs.declared.program.Slot as code_slot
 use Rattle.jt_ir.specs.declared.program.Place.{Place}
 use Rattle.jt_ir.specs.declared.program.Targets.{Targets}
-use Rattle.jt_ir.specs.View.{filter_after, filters_after}
 use Rattle.jt_ir.specs.declared.program.SlotFilter.{SlotFilter}
 use Rattle.jt_ir.specs.declared.program.SlotExpr as code
 use Rattle.jt_ir.specs.declared.program.SlotStmt as code_stmt
 use Rattle.jt_ir.specs.declared.program.SlotStmt.TheVariants as s
 use Rattle.jt_bind.specs.internal.Counts.{aside_locals, target_locals, branches_locals}
-use Rattle.jt_ir.proofs.StatementViews.{SBranch}
+use Rattle.jt_ir.proofs.StatementViews.{SBranch, view_If, view_For, view_Capture}
 use Rattle.jt_ir.proofs.ExpressionViews.{Entry}
-use Rattle.jt_ir.proofs.StatementViews.{view_If, view_For, view_Capture}
 
 -- ---- the count does not depend on pool indices
 
@@ -113,11 +112,6 @@ filters_counted (f ∷ fs) x =
     filters_counted fs (filter_after f x)
     ∙ max_again (expr_locals x) (row_locals (row_view f.row.items slots.none)) (filters_locals fs)
 
-pub filter_step : (fs : List SlotFilter) (i : ℕ) (f : SlotFilter) (n m m' r : ℕ) → i < length fs → f ≡ get_or fs i f
-    → n ≡ row_locals (row_view f.row.items slots.none) → m' ≡ max m n → max m (filters_locals (drop i fs)) ≡ r
-    → max m' (filters_locals (drop (i + 1) fs)) ≡ r
-filter_step fs i f n m m' r lt is counted larger so = search (arith, rules, drop_more, counted_on)
-
 pub body_step : (templates : List Text) (ss : List code_stmt.SlotStmt) (i : ℕ) (x : code_stmt.SlotStmt) (n m m' : ℕ)
     (behind : SBody ℕ) (r : ℕ)
     → i < length ss → x ≡ get_or ss i x
@@ -142,10 +136,8 @@ module _ (templates : List Text) (x : code_stmt.SlotStmt) (behind : SBody ℕ) w
       → ((b : SBody ℕ) → body_locals (body_view templates other.items b) ≡ max n (body_locals b)) → k ≡ max m n
       → body_locals (stmt_view templates x behind) ≡ max k (body_locals behind)
   choice_done bs other m n k is f g h =
-      ap (λ (z : code_stmt.SlotStmt). body_locals (stmt_view templates z behind)) is
-      ∙ ap body_locals (view_If templates bs other behind)
-      ∙ choice_counted templates bs.items (body_view templates other.items) n g behind
-      ∙ ap (λ z. max z (body_locals behind)) (ap (λ z. max z n) (sym f) ∙ sym h)
+      rw is (ap body_locals (view_If templates bs other behind)
+      ∙ choice_counted templates bs.items (body_view templates other.items) n g behind ∙ rw (h, f) refl)
 
   pub loop_counted : (p : Place) (xs : Targets) (e : code.SlotExpr) (c : Option code.SlotExpr)
       (body other : Vec code_stmt.SlotStmt Global) (m n k t l r : ℕ)
@@ -155,28 +147,12 @@ module _ (templates : List Text) (x : code_stmt.SlotStmt) (behind : SBody ℕ) w
       → ((b : SBody ℕ) → body_locals (body_view templates other.items b) ≡ max l (body_locals b))
       → r ≡ max m (max (max n k) (max t l)) → body_locals (stmt_view templates x behind) ≡ max r (body_locals behind)
   loop_counted p xs e c body other m n k t l r is f g h a b z =
-      ap (λ (z : code_stmt.SlotStmt). body_locals (stmt_view templates z behind)) is
-      ∙ ap body_locals (view_For templates p xs e c body other behind)
-      ∙ ap (λ z. max z (body_locals behind))
-      (ap (λ u. max u (max (max (expr_locals (expr_view e)) (condition_locals (option_map expr_view c)))
-      (max (body_locals (body_view templates body.items slots.end))
-      (body_locals (body_view templates other.items slots.end))))) (sym f)
-      ∙ ap (λ u. max m (max (max u (condition_locals (option_map expr_view c)))
-      (max (body_locals (body_view templates body.items slots.end))
-      (body_locals (body_view templates other.items slots.end))))) (sym g)
-      ∙ ap (λ u. max m (max (max n u) (max (body_locals (body_view templates body.items slots.end))
-      (body_locals (body_view templates other.items slots.end))))) (sym h)
-      ∙ ap (λ u. max m (max (max n k) (max u (body_locals (body_view templates other.items slots.end)))))
-      (a slots.end ∙ max_zero t)
-      ∙ ap (λ u. max m (max (max n k) (max t u))) (b slots.end ∙ max_zero l) ∙ sym z)
+      rw is (ap body_locals (view_For templates p xs e c body other behind)
+      ∙ rw (z, f, g, h, a slots.end, b slots.end, max_zero t, max_zero l) refl)
 
   pub capture_counted : (escaping : Bool) (y : code_slot.Slot) (body : Vec code_stmt.SlotStmt Global) (m n k : ℕ)
       → x ≡ s.Capture escaping y body → m ≡ slot_locals (slot_view y)
       → ((b : SBody ℕ) → body_locals (body_view templates body.items b) ≡ max n (body_locals b)) → k ≡ max m n
       → body_locals (stmt_view templates x behind) ≡ max k (body_locals behind)
   capture_counted escaping y body m n k is f g h =
-      ap (λ (z : code_stmt.SlotStmt). body_locals (stmt_view templates z behind)) is
-      ∙ ap body_locals (view_Capture templates escaping y body behind)
-      ∙ ap (λ z. max z (body_locals behind)) (ap (λ z. max z (body_locals (body_view templates body.items slots.end)))
-      (sym f)
-      ∙ ap (max m) (g slots.end ∙ max_zero n) ∙ sym h)
+      rw is (ap body_locals (view_Capture templates escaping y body behind) ∙ rw (h, f, g slots.end, max_zero n) refl)

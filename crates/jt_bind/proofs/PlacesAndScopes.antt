@@ -1,24 +1,50 @@
--- The places of tags, and the scopes around them.
-use Rattle.std.proofs.Common.{◌≡◌, ℕ, ◌+◌, List, [], ◌∷◌, ◌++◌, length, map, refl, ap, ◌∙◌, Bool, true, false, Option}
-use Rattle.std.proofs.Common.{Some, None, Global, arith, rules}
-use Rattle.std.specs.Prelude.{option_map, unwrap_or, slice_get, if◌then◌else◌}
-use Rattle.std.specs.declared.rc.Rc.{Rc}
-use Rattle.std.proofs.lemmas.List.{map-append}
-use Rattle.std.proofs.lemmas.Option.{slice_get-map}
+-- The places of tags, and the scopes around them with the slots of their names.
+use Rattle.std.proofs.Common.{◌≡◌, ℕ, suc, ◌+◌, ◌<◌, false, List, [], ◌∷◌, length, drop, get_or, refl, sym, ap, ◌∙◌}
+use Rattle.std.proofs.Common.{Option, Some, None, if◌then◌else◌, add-one, arith, rules, ◌++◌, map, Bool, true, Global}
+use Rattle.std.proofs.Common.{take}
+use Rattle.std.proofs.lemmas.List.{drop_more, map-append, take_more}
 use Rattle.std.specs.Str.{bytes_eq}
+use denote.Ref.{Bor}
 use Rattle.jt_ast.specs.Expressions.{Text}
+use Rattle.jt_ir.specs.Slots.{Slot, local}
+use Rattle.jt_semantics.specs.Layout.{Table, slot_in}
+use Rattle.jt_semantics.specs.Resolve.{bound_table, StaticEnv, slot_of, bound_all}
+use Rattle.jt_ast.specs.Texts.{texts}
+use Rattle.jt_bind.specs.internal.Names.{last_among}
+use Rattle.std.specs.Prelude.{option_map, unwrap_or, slice_get}
+use Rattle.std.specs.declared.rc.Rc.{Rc}
+use Rattle.std.proofs.lemmas.Option.{slice_get-map}
 use Rattle.jt_chains.specs.Chain.{Template}
 use Rattle.jt_chains.specs.Parts.{name_at}
 use Rattle.jt_value.specs.Place as place
-use Rattle.jt_ir.specs.Slots.{Slot, local}
 use Rattle.jt_ir.specs.View.{place_view, slot_view}
 use Rattle.jt_ir.specs.declared.program.Slot as code_slot
 use Rattle.jt_ir.specs.declared.program.Slot.TheVariants as s
-use Rattle.jt_semantics.specs.Layout.{Table, slot_in}
-use Rattle.jt_semantics.specs.Resolve.{StaticEnv, slot_of, bound_table, bound_all}
-use Rattle.jt_ast.specs.Texts.{texts}
 use Rattle.jt_bind.specs.internal.Scoped.{framed}
 use Rattle.jt_bind.specs.declared.name_scope.NameScope.{NameScope}
+use Rattle.jt_layout.specs.Names.{index_in}
+
+-- ---- names with numbers
+
+-- The local that was found, or else another slot.
+abbrev pub found_or : Option ℕ → Option Slot → Option Slot
+found_or None s = s
+found_or (Some i) s = Some (local i)
+
+-- Names that are bound in an inner scope.
+pub bound_found : (x : Text) (xs : List Text) (n : ℕ) (f : Option ℕ) (s : Option Slot) (t : Table)
+    → found_or f s ≡ slot_in x t → found_or (last_among x xs n f) s ≡ slot_in x (bound_table xs n t)
+bound_found x [] n f s t h = h
+bound_found x (y ∷ ys) n f s t h =
+    search (arith, rules, bound_found x ys (suc n) (if bytes_eq y x then Some n else f) s ((y, local n) ∷ t))
+
+-- One more name is numbered.
+pub placed_next : (ks : List (Bor Text)) (i : ℕ) (d : Bor Text) (x : Text) (n n' : ℕ) (f f' : Option ℕ) → i < length ks
+    → n' ≡ n + 1 → f' ≡ (if bytes_eq (get_or ks i d).now x then Some n else f)
+    → last_among x (texts (drop (i + 1) ks)) n' f' ≡ last_among x (texts (drop i ks)) n f
+placed_next ks i d x n n' f f' lt e h = search (arith, rules, add-one, drop_more)
+
+-- ---- the places of tags, and the scopes around them
 
 -- The name of the template of a tag.
 pub name_shown : (ts : List Template) (i : ℕ) → unwrap_or (slice_get (map (λ t. t.name) ts) i) [] ≡ name_at ts i
@@ -64,3 +90,28 @@ pub viewed_or : (o : Option code_slot.Slot)
     → unwrap_or (option_map slot_view o) (local 0) ≡ slot_view (unwrap_or o (s.Local 0))
 viewed_or None = refl
 viewed_or (Some x) = refl
+
+-- ---- names in a list of scopes
+
+-- The scopes up to one of them.
+framed_more : (rs : List (Rc NameScope Global)) (i : ℕ) (r : Rc NameScope Global) (t : Table) → i < length rs
+    → framed (map (λ f. f.value) (take (i + 1) rs)) t
+    ≡ bound_table (texts (get_or rs i r).value.names.items) (get_or rs i r).value.first
+    (framed (map (λ f. f.value) (take i rs)) t)
+framed_more rs i r t lt =
+    ap (λ (l : List (Rc NameScope Global)). framed (map (λ f. f.value) l) t) (take_more rs i r lt)
+    ∙ ap (λ l. framed l t) (map-append (λ (f : Rc NameScope Global). f.value) (take i rs) (get_or rs i r ∷ []))
+    ∙ framed_push (map (λ f. f.value) (take i rs)) (get_or rs i r).value t
+
+-- A name that the innermost scope has, or does not have.
+pub framed_found : (x : Text) (rs : List (Rc NameScope Global)) (i : ℕ) (f : NameScope) (r : Rc NameScope Global)
+    (t : Table)
+    → i < length rs → f ≡ (get_or rs i r).value
+    → slot_in x (framed (map (λ f. f.value) (take (i + 1) rs)) t)
+    ≡ found_or (index_in f.index.indices x) (slot_in x (framed (map (λ f. f.value) (take i rs)) t))
+framed_found x rs i f r t lt is =
+    let inner = framed (map (λ f. f.value) (take i rs)) t in
+    ap (slot_in x) (framed_more rs i r t lt)
+    ∙ ap (λ (g : NameScope). slot_in x (bound_table (texts g.names.items) g.first inner)) (sym is)
+    ∙ sym (bound_found x (texts f.names.items) f.first None (slot_in x inner) inner refl)
+    ∙ ap (λ o. found_or o (slot_in x inner)) (sym (f.indexed x))

@@ -2,16 +2,13 @@
 use Rattle.std.proofs.Common.{◌≡◌, ℕ, ◌+◌, ◌<◌, List, [], ◌∷◌, ◌++◌, length, map, drop, get_or, refl, sym, ap, ◌∙◌}
 use Rattle.std.proofs.Common.{append_assoc}
 use Rattle.std.proofs.lemmas.List.{drop_more}
+use Rattle.std.proofs.lemmas.Simd.{map-map}
 use Rattle.jt_ast.specs.StatementView.{parameter_view}
 use Rattle.jt_chains.specs.Chain.{Template}
 use Rattle.jt_chains.specs.Parts.{macro_view}
 use Rattle.jt_chains.specs.declared.parts.Macro.{Macro}
 use Rattle.jt_eval.specs.Filters.{default_value}
 use Rattle.jt_semantics.specs.Layout.{defaults_of}
-
-map_both : {A B C : Type 0} (f : B → C) (g : A → B) (xs : List A) → map (λ x. f (g x)) xs ≡ map f (map g xs)
-map_both f g [] = refl
-map_both f g (x ∷ xs) = ap (λ l. f (g x) ∷ l) (map_both f g xs)
 
 -- A part that was appended no longer remains.
 pub part_put : {A : Type 0} (at part left all new : List A) → new ≡ at ++ part → at ++ (part ++ left) ≡ all
@@ -26,4 +23,4 @@ pub defaults_left : (ts : List Template) (ms : List Macro) (i : ℕ) (m : Macro)
 defaults_left ts ms i m lt is =
     ap (λ ks. defaults_of (map (macro_view ts) ks)) (drop_more ms i m lt ∙ ap (λ k. k ∷ drop (i + 1) ms) (sym is))
     ∙ ap (λ vs. vs ++ defaults_of (map (macro_view ts) (drop (i + 1) ms)))
-    (sym (map_both (λ p. default_value p.default) parameter_view m.parameters.now))
+    (map-map (λ p. default_value p.default) parameter_view m.parameters.now)

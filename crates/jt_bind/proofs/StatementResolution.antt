@@ -24,7 +24,8 @@ use Rattle.jt_ir.specs.declared.program.SlotStmt.{SlotStmt}
 use Rattle.jt_semantics.specs.Layout.{Table, slot_in}
 use Rattle.jt_semantics.specs.Meaning.{is_set}
 use Rattle.jt_semantics.specs.Resolve.{StaticEnv, read_from, followed, alone, copied, handed_on, resolved}
-use Rattle.jt_semantics.specs.Resolve.{resolved_values, resolved_condition, resolved_filters, grown, kept_slots}
+use Rattle.jt_semantics.specs.Resolve.{resolved_values, resolved_body, resolved_condition, resolved_filters, grown}
+use Rattle.jt_semantics.specs.Resolve.{kept_slots}
 use Rattle.jt_semantics.specs.Resolve.{bound_all, place}
 use Rattle.jt_bind.specs.internal.Chains.{Chains}
 use Rattle.jt_bind.specs.internal.Names.{last_among}
@@ -32,9 +33,9 @@ use Rattle.jt_bind.specs.declared.name_scope.NameScope.{NameScope}
 use Rattle.jt_bind.specs.declared.emission.Turns.{Turns}
 use Rattle.jt_bind.specs.declared.senv.StaticEnv as code_senv
 use Rattle.jt_bind.specs.internal.Scoped.{IsPlaced, BodyLeads, cenv_in, order_in, senv_in, templates_in}
-use Rattle.jt_bind.specs.internal.Stated.{Led, IsHead, AreTurns, slot_if, line_in, stmt_in, body_in, scoped_in}
+use Rattle.jt_bind.specs.internal.Stated.{Emits, IsHead, AreTurns, slot_if, line_in, stmt_in, body_in, scoped_in}
 use Rattle.jt_bind.specs.internal.Stated.{values_in}
-use Rattle.jt_bind.proofs.BodyConcatenation.{led_of, lead_of, lead_both}
+use Rattle.jt_bind.proofs.BodyConcatenation.{emits_of, emits_both, lead_of}
 use Rattle.jt_ast.proofs.RemainingParts.{names_left}
 use Rattle.jt_bind.proofs.LastAssignedSlot.{slot_kept}
 
@@ -55,7 +56,7 @@ module _ (templates : List Text) (pl : Place) (t : Table) (ks : List (Bor Text))
   pub copy_step : (d : Bor Text) (o : Option Slot) (e : SlotExpr ℕ) (ss ts : List SlotStmt)
       → o ≡ slot_in (get_or ks i d).now t → i < length ks → n' ≡ n + 1
       → ((c : SlotExpr Constant) (p q : List Tree) → IsPlaced c e p q
-      → Led templates (alone (slots.assign pl (one (local n)) c)) ss ts p q)
+      → Emits templates (alone (slots.assign pl (one (local n)) c)) ss ts p q)
       → ((p : List Tree) → IsPlaced (read_from o) e p p)
       → (behind : SBody Constant) (p : List Tree)
       → BodyLeads templates (copied pl t n (texts (drop i ks)) behind) (copied pl t n' (texts (drop (i + 1) ks)) behind)
@@ -66,7 +67,7 @@ module _ (templates : List Text) (pl : Place) (t : Table) (ks : List (Bor Text))
   -- One more name is passed to a global.
   pub hand_step : (d : Bor Text) (e : SlotExpr ℕ) (ss ts : List SlotStmt) → i < length ks → n' ≡ n + 1
       → ((c : SlotExpr Constant) (p q : List Tree) → IsPlaced c e p q
-      → Led templates (alone (slots.assign pl (one (global n)) c)) ss ts p q)
+      → Emits templates (alone (slots.assign pl (one (global n)) c)) ss ts p q)
       → ((p : List Tree) → IsPlaced (read_from (slot_in (get_or ks i d).now t)) e p p)
       → (left : SBody Constant) (p : List Tree)
       → BodyLeads templates (followed (handed_on pl t n (texts (drop i ks))) left)
@@ -83,21 +84,6 @@ values_followed cenv order (pair x e ps) sp line b left =
     ap (slots.stmt (slots.assign (place sp line) (one (local sp.free)) (resolved cenv order e sp)))
     (values_followed cenv order ps (grown sp) line b left)
 
--- ---- equal trees
-
-pub stmt_as : (s : Chains) (senv : code_senv.StaticEnv) (x y : trees.Stmt) (ss ts : List SlotStmt) (p q : List Tree)
-    → x ≡ y → Led (templates_in s) (stmt_in s x senv) ss ts p q → Led (templates_in s) (stmt_in s y senv) ss ts p q
-stmt_as s senv x y ss ts p q e h =
-    led_of (templates_in s) (stmt_in s x senv) (stmt_in s y senv) ss ts p q (ap (λ z. stmt_in s z senv) e) h
-
--- The statement may be replaced by an equal one, if only statements that set names count.
-pub set_as : (s : Chains) (senv : code_senv.StaticEnv) (x y : trees.Stmt) (ss ts : List SlotStmt) (p q : List Tree)
-    → x ≡ y → is_set x ≡ true → Led (templates_in s) (stmt_in s x senv) ss ts p q
-    → Led (templates_in s) (if is_set y then stmt_in s y senv else slots.end) ss ts p q
-set_as s senv x y ss ts p q e is =
-    led_of (templates_in s) (stmt_in s x senv) (if is_set y then stmt_in s y senv else slots.end) ss ts p q
-    (rw (sym e, is) refl)
-
 -- A filter tag: its text, and the result of its filters.
 pub filter_shown : (s : Chains) (senv : code_senv.StaticEnv) (line : ℕ) (fs : List trees.FilterCall) (b : trees.Body)
     (n : ℕ)
@@ -111,42 +97,33 @@ pub filter_shown : (s : Chains) (senv : code_senv.StaticEnv) (line : ℕ) (fs : 
 filter_shown s senv line fs b n e = search (arith, rules, add-one)
 
 -- The values of a `with` tag, followed by its body.
-pub values_led : (s : Chains) (senv : code_senv.StaticEnv) (ps : Pairs) (line : ℕ) (w : SBody Constant)
+pub values_emitted : (s : Chains) (senv : code_senv.StaticEnv) (ps : Pairs) (line : ℕ) (w : SBody Constant)
     (es fs gs : List SlotStmt) (p q r : List Tree)
-    → ((behind : SBody Constant) → BodyLeads (templates_in s) (values_in s ps senv line behind) behind es fs p q)
-    → Led (templates_in s) w fs gs q r → Led (templates_in s) (values_in s ps senv line w) es gs p r
-values_led s senv ps line w es fs gs p q r h g = search (arith, rules, lead_both, lead_of, values_followed)
+    → Emits (templates_in s) (values_in s ps senv line slots.end) es fs p q
+    → Emits (templates_in s) w fs gs q r → Emits (templates_in s) (values_in s ps senv line w) es gs p r
+values_emitted s senv ps line w es fs gs p q r h g =
+    emits_of (templates_in s) _ _ es gs p r
+    (values_followed (cenv_in s) (order_in s) ps (senv_in s senv) line slots.end w)
+    (emits_both (templates_in s) _ w es fs gs p q r h g)
 
 -- Copies of the names that a scope sets, followed by its body.
-pub scope_led : (s : Chains) (b : trees.Body) (sp : StaticEnv) (senv : code_senv.StaticEnv) (es fs gs : List SlotStmt)
-    (p r : List Tree)
+pub scope_emitted : (s : Chains) (b : trees.Body) (sp : StaticEnv) (senv : code_senv.StaticEnv)
+    (es fs gs : List SlotStmt) (p r : List Tree)
     → senv_in s senv ≡ bound_all (set_in b) sp
-    → ((behind : SBody Constant)
-    → BodyLeads (templates_in s) (copied (place sp 1) sp.table sp.free (set_in b) behind) behind es fs p p)
-    → Led (templates_in s) (body_in s b senv) fs gs p r → Led (templates_in s) (scoped_in s b sp) es gs p r
-scope_led s b sp senv es fs gs p r e h g = search (arith, rules, lead_both, lead_of, copied_followed)
-
--- The names to copy may be replaced by an equal list.
-pub copies_as : (s : Chains) (sp : StaticEnv) (xs : List Text) (b : trees.Body) (es fs : List SlotStmt) (p : List Tree)
-    → xs ≡ set_in b
-    → ((behind : SBody Constant)
-    → BodyLeads (templates_in s) (copied (place sp 1) sp.table sp.free xs behind) behind es fs p p)
-    → (behind : SBody Constant)
-    → BodyLeads (templates_in s) (copied (place sp 1) sp.table sp.free (set_in b) behind) behind es fs p p
-copies_as s sp xs b es fs p e h behind =
-    lead_of (templates_in s) _ _ behind es fs p p (ap (λ z. copied (place sp 1) sp.table sp.free z behind) e) (h behind)
-
--- The environment of a body may be replaced by an equal one.
-pub scoped_as : (s : Chains) (b : trees.Body) (sp sq : StaticEnv) (es fs : List SlotStmt) (p q : List Tree) → sp ≡ sq
-    → Led (templates_in s) (scoped_in s b sp) es fs p q → Led (templates_in s) (scoped_in s b sq) es fs p q
-scoped_as s b sp sq es fs p q e =
-    led_of (templates_in s) (scoped_in s b sp) (scoped_in s b sq) es fs p q (ap (scoped_in s b) e)
+    → Emits (templates_in s) (copied (place sp 1) sp.table sp.free (set_in b) slots.end) es fs p p
+    → Emits (templates_in s) (body_in s b senv) fs gs p r → Emits (templates_in s) (scoped_in s b sp) es gs p r
+scope_emitted s b sp senv es fs gs p r e h g =
+    let copies = copied (place sp 1) sp.table sp.free (set_in b) in
+    emits_of (templates_in s) _ _ es gs p r
+    (copied_followed (place sp 1) sp.table sp.free (set_in b) slots.end (body_in s b senv)
+    ∙ ap (λ z. copies (resolved_body (cenv_in s) (order_in s) b z)) e)
+    (emits_both (templates_in s) _ (body_in s b senv) es fs gs p p r h g)
 
 -- The environment of a loop's body may be replaced by an equal one.
 pub turns_as : (s : Chains) (b : trees.Body) (k : Option expressions.Expr) (sp sq : StaticEnv) (xs : Targets)
     (c : SlotExpr Constant) (t : Turns) (p r v : List Tree)
     → sp ≡ sq → IsHead xs c (resolved_condition (cenv_in s) (order_in s) k sp) t.head.value p r
-    → Led (templates_in s) (scoped_in s b sp) [] t.body.items r v
+    → Emits (templates_in s) (scoped_in s b sp) [] t.body.items r v
     → AreTurns s xs c (resolved_condition (cenv_in s) (order_in s) k sq) (scoped_in s b sq) t p v
 turns_as s b k sp sq xs c t p r v e h w =
     let P : StaticEnv → Type 0 =
@@ -154,7 +131,7 @@ turns_as s b k sp sq xs c t p r v e h w =
     record {
       between = r;
       headed = subst P e h;
-      taken = scoped_as s b sp sq [] t.body.items r v e w;
+      taken = emits_of (templates_in s) _ _ [] t.body.items r v (ap (scoped_in s b) e) w;
     }
 
 -- ---- slots of names that are set
@@ -172,10 +149,8 @@ kept_step t ks i k last ss ts o {x} lt is all first has same pushed so =
     let left : names_view (drop i ks) ≡ string_bytes k ∷ rest = names_left ks i k lt is in
     let whole : drop i (names_view ks) ≡ string_bytes k ∷ rest = drop_viewed ks i ∙ left in
     let here : option_map slot_view o ≡ (if among (string_bytes k) rest then None else slot_in (string_bytes k) t) =
-    has ∙ ap (λ z. slot_if (last_among z (texts last.names.items) last.first None) i (slot_in z t)) same
-    ∙ ap (λ z. slot_if (last_among (string_bytes k) z last.first None) i (slot_in (string_bytes k) t)) all
-    ∙ ap (λ n. slot_if (last_among (string_bytes k) (names_view ks) n None) i (slot_in (string_bytes k) t)) first
-    ∙ slot_kept (string_bytes k) (names_view ks) rest i (slot_in (string_bytes k) t) whole in
+    (rw (same, all, first) at has) ∙ slot_kept (string_bytes k) (names_view ks) rest i (slot_in (string_bytes k) t)
+    whole in
     ap (λ l. map (option_map slot_view) l ++ kept_slots t rest) pushed
     ∙ ap (λ l. l ++ kept_slots t rest) (map-append (option_map slot_view) ss (o ∷ []))
     ∙ append_assoc (map (option_map slot_view) ss) (option_map slot_view o ∷ []) (kept_slots t rest)

@@ -1,16 +1,17 @@
 //! Appends resolved statements to others.
 
-ghost use Rattle.std.specs.Prelude.{◌≡◌, List, Option, [], ◌∷◌, ◌++◌, IfOk};
+ghost use Rattle.std.specs.Prelude.{◌≡◌, List, [], ◌∷◌, ◌++◌, IfOk};
 ghost use Rattle.jt_value.specs.Tree as tree;
 ghost use Rattle.jt_bind.specs.internal.Chains.{Chains};
 ghost use Rattle.jt_semantics.specs.Resolve.{alone};
-ghost use Rattle.jt_bind.specs.internal.Scoped.{values, IsPlaced, IsShown, RowLeads, templates_in};
+ghost use Rattle.jt_bind.specs.internal.Scoped.{values, IsShown, templates_in};
 ghost use Rattle.jt_ast.specs.Expressions.{Text};
 ghost use Rattle.jt_ir.specs.Pool.{Constant, own};
 ghost use Rattle.jt_ir.specs.Slots as slots;
-ghost use Rattle.jt_ir.specs.View.{slot_view, targets_view, filtered_view};
-ghost use Rattle.jt_bind.specs.internal.Stated.{Led, Puts, IsBody, AreTurns, ChoiceLeads, line_in};
+ghost use Rattle.jt_ir.specs.declared.program.SlotStmt.TheVariants as s;
+ghost use Rattle.jt_bind.specs.internal.Stated.{Emits, line_in, place_of};
 
+use crate::held::Held;
 use crate::senv::StaticEnv;
 use jt_ir::{Filtered, Slot, SlotBranch, SlotExpr, SlotStmt, Targets};
 use jt_value::{NoMemory, Value};
@@ -25,7 +26,7 @@ pub(crate) fn put_data(
     pool: &mut Vec<Value>,
 ) -> Result<(), NoMemory>
     ensures { IfOk result (λ u. (templates : List Text)
-        → Led templates (alone (slots.put_pooled (own (tree.text text.now)))) done.old.items
+        → Emits templates (alone (slots.put_pooled (own (tree.text text.now)))) done.old.items
         done.new.items (values pool.old) (values pool.new)) }
 {
     let index = pool.len();
@@ -42,10 +43,12 @@ pub(crate) fn put_print(
     value: SlotExpr,
     done: &mut Vec<SlotStmt>,
 ) -> Result<(), NoMemory>
-    ensures { IfOk result (λ u. (s : Chains) (c : slots.SlotExpr Constant) (p q : List tree.Tree)
+    ensures { IfOk result (λ u. (scope : Chains) (c : slots.SlotExpr Constant)
+        (p q : List tree.Tree)
         → IsShown c value p q
-        → Puts s (alone (slots.print (line_in s senv.now line) senv.now.escaping c)) done.old
-        done.new p q) }
+        → Emits (templates_in scope)
+        (alone (slots.print (line_in scope senv.now line) senv.now.escaping c)) done.old.items
+        done.new.items p q) }
 {
     let filters = Vec::new(*done.allocator());
     put_filtered(senv, line, Filtered { value, filters }, done)
@@ -59,10 +62,8 @@ pub(crate) fn put_filtered(
     filtered: Filtered,
     done: &mut Vec<SlotStmt>,
 ) -> Result<(), NoMemory>
-    ensures { IfOk result (λ u. (s : Chains) (c : slots.SlotExpr Constant) (p q : List tree.Tree)
-        → IsPlaced c (filtered_view filtered) p q
-        → Puts s (alone (slots.print (line_in s senv.now line) senv.now.escaping c)) done.old
-        done.new p q) }
+    ensures { IfOk result (λ u. done.new.items ≡ done.old.items
+        ++ s.Print (place_of senv.now line) senv.now.escaping filtered ∷ []) }
 {
     done.push(SlotStmt::Print {
         place: senv.place(line),
@@ -81,10 +82,8 @@ pub(crate) fn put_assign(
     value: SlotExpr,
     done: &mut Vec<SlotStmt>,
 ) -> Result<(), NoMemory>
-    ensures { IfOk result (λ u. (s : Chains) (c : slots.SlotExpr Constant) (p q : List tree.Tree)
-        → IsShown c value p q
-        → Puts s (alone (slots.assign (line_in s senv.now line) (targets_view targets) c)) done.old
-        done.new p q) }
+    ensures { IfOk result (λ u. done.new.items ≡ done.old.items
+        ++ s.Assign (place_of senv.now line) targets value ∷ []) }
 {
     done.push(SlotStmt::Assign {
         place: senv.place(line),
@@ -113,11 +112,7 @@ pub(crate) fn put_choice(
     other: Vec<SlotStmt>,
     done: &mut Vec<SlotStmt>,
 ) -> Result<(), NoMemory>
-    ensures { IfOk result (λ u. (templates : List Text) (whole last : slots.SBody Constant)
-        (p q r : List tree.Tree)
-        → ChoiceLeads templates whole last branches.items p q
-        → IsBody templates last other.items q r
-        → Led templates whole done.old.items done.new.items p r) }
+    ensures { IfOk result (λ u. done.new.items ≡ done.old.items ++ s.If branches other ∷ []) }
 {
     done.push(SlotStmt::If(branches, other))?;
     Ok(())
@@ -133,69 +128,10 @@ pub(crate) struct LoopHead {
 
 /// The head and the body of a resolved loop. The head is on the heap, so that the frames of nested
 /// loops are small.
+#[derive(Drop)]
 pub(crate) struct Turns {
     pub head: Box<LoopHead>,
     pub body: Vec<SlotStmt>,
-}
-
-impl Turns {
-    /// Returns the head and the body.
-    fn into_parts(self) -> (Box<LoopHead>, Vec<SlotStmt>)
-        ensures { result ≡ (self.head, self.body) }
-    {
-        let Turns { head, body } = self;
-        (head, body)
-    }
-}
-
-impl Drop for Turns {
-    /// Drops the head and the body in a frame of its own.
-    #[inline(never)]
-    fn drop(self) {
-        let Turns { head: _, body: _ } = self;
-    }
-}
-
-/// Resolved statements that are part of no other statement yet.
-pub(crate) struct Statements(pub Vec<SlotStmt>);
-
-impl Statements {
-    /// Returns the statements.
-    pub(crate) fn into_inner(self) -> Vec<SlotStmt>
-        ensures { result ≡ self.0 }
-    {
-        let Statements(statements) = self;
-        statements
-    }
-}
-
-impl Drop for Statements {
-    /// Drops the statements in a frame of its own.
-    #[inline(never)]
-    fn drop(self) {
-        let Statements(_) = self;
-    }
-}
-
-/// Resolved branches that are part of no `if` yet.
-pub(crate) struct Branches(pub Vec<SlotBranch<SlotStmt>>);
-
-impl Branches {
-    /// Returns the branches.
-    pub(crate) fn into_inner(self) -> Vec<SlotBranch<SlotStmt>>
-        ensures { result ≡ self.0 }
-    {
-        let Branches(branches) = self;
-        branches
-    }
-}
-
-impl Drop for Branches {
-    /// Drops the branches in a frame of its own.
-    #[inline(never)]
-    fn drop(self) {
-        let Branches(_) = self;
-    }
 }
 
 /// Emits a loop and its `else` part.
@@ -203,19 +139,15 @@ impl Drop for Branches {
 pub(crate) fn put_loop(
     senv: &StaticEnv<'_, '_>,
     line: u32,
-    turns: Turns,
+    turns: Held<Turns>,
     other: Vec<SlotStmt>,
     done: &mut Vec<SlotStmt>,
 ) -> Result<(), NoMemory>
-    ensures { IfOk result (λ u. (s : Chains) (xs : slots.Targets) (c : slots.SlotExpr Constant)
-        (k : Option (slots.SlotExpr Constant)) (turn last : slots.SBody Constant)
-        (p q r : List tree.Tree)
-        → AreTurns s xs c k turn turns p q
-        → IsBody (templates_in s) last other.items q r
-        → Puts s (alone (slots.for_each (line_in s senv.now line) xs c k turn last)) done.old
-        done.new p r) }
+    ensures { IfOk result (λ u. done.new.items ≡ done.old.items
+        ++ s.For (place_of senv.now line) turns.part.head.value.targets turns.part.head.value.items
+        turns.part.head.value.condition turns.part.body other ∷ []) }
 {
-    let (head, body) = turns.into_parts();
+    let Turns { head, body } = turns.into_part();
     let LoopHead {
         targets,
         items,
@@ -240,11 +172,8 @@ pub(crate) fn put_capture(
     body: Vec<SlotStmt>,
     done: &mut Vec<SlotStmt>,
 ) -> Result<(), NoMemory>
-    ensures { IfOk result (λ u. (templates : List Text) (whole : slots.SBody Constant)
-        (p q : List tree.Tree)
-        → IsBody templates whole body.items p q
-        → Led templates (alone (slots.capture escaping (slot_view slot) whole)) done.old.items
-        done.new.items p q) }
+    ensures { IfOk result (λ u. done.new.items ≡ done.old.items
+        ++ s.Capture escaping slot body ∷ []) }
 {
     done.push(SlotStmt::Capture {
         escaping,
@@ -261,10 +190,7 @@ pub(crate) fn put_run(
     row: Vec<(Option<usize>, SlotExpr)>,
     done: &mut Vec<SlotStmt>,
 ) -> Result<(), NoMemory>
-    ensures { IfOk result (λ u. (templates : List Text) (es : slots.SRow Constant)
-        (p q : List tree.Tree)
-        → RowLeads es slots.none [] row.items p q
-        → Led templates (alone (slots.run unit es)) done.old.items done.new.items p q) }
+    ensures { IfOk result (λ u. done.new.items ≡ done.old.items ++ s.Run unit row ∷ []) }
 {
     done.push(SlotStmt::Run(unit, row))?;
     Ok(())

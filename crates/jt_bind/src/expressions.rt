@@ -18,8 +18,8 @@ ghost use Rattle.jt_bind.specs.internal.Resolving.{filter_row_of};
 ghost use Rattle.jt_bind.specs.internal.Scoped.{values, IsAdded, turn_in};
 
 use crate::callee::{Callee, Signature};
+use crate::held::{Held, boxed};
 use crate::lookup::{absent, no_value, reading, told};
-use crate::operand::{Operand, Row, boxed};
 use crate::operator_forms::{
     OperatorForm, chosen, conjunction, disjunction, form_of, item_in_turn, literal_value, on_one,
     range_of, turned, unary_operation,
@@ -54,7 +54,7 @@ impl<'t, 's, 'a> Resolver<'t, 's, 'a> {
             Expr::List(row) => self.resolve_list(row, pool),
             Expr::Map(pairs) => self.resolve_map(pairs, pool),
             Expr::Attribute(value, key) => self.resolve_attribute(value, key, pool),
-            Expr::Item(value, index) => self.resolve_item(value, index, pool),
+            Expr::Item(value, index) => { self.resolve_operation(OpId::Item, value, index, pool) }
             Expr::Call {
                 callee: called,
                 arguments: row,
@@ -109,9 +109,11 @@ impl<'t, 's, 'a> Resolver<'t, 's, 'a> {
         ensures { IfOk result (λ e. IsResolved self.now
             (trees.list_of (written.exprs_view row.now)) e pool.old pool.new) }
     {
-        let mut items = Row(Vec::new(self.alloc));
-        self.resolve_row(row, &mut items.0, pool)?;
-        Ok(SlotExpr::Made(NaryOp::List, items.into_inner()))
+        let mut items = Held {
+            part: Vec::new(self.alloc),
+        };
+        self.resolve_row(row, &mut items.part, pool)?;
+        Ok(SlotExpr::Made(NaryOp::List, items.into_part()))
     }
 
     /// Resolves a map.
@@ -125,9 +127,11 @@ impl<'t, 's, 'a> Resolver<'t, 's, 'a> {
         ensures { IfOk result (λ e. IsResolved self.now
             (trees.map_of (written.pairs_view pairs.now)) e pool.old pool.new) }
     {
-        let mut entries = Row(Vec::new(self.alloc));
-        self.resolve_entries(pairs, &mut entries.0, pool)?;
-        Ok(SlotExpr::Made(NaryOp::Map, entries.into_inner()))
+        let mut entries = Held {
+            part: Vec::new(self.alloc),
+        };
+        self.resolve_entries(pairs, &mut entries.part, pool)?;
+        Ok(SlotExpr::Made(NaryOp::Map, entries.into_part()))
     }
 
     /// Resolves an attribute, or a field of `loop`.
@@ -145,26 +149,13 @@ impl<'t, 's, 'a> Resolver<'t, 's, 'a> {
         if is_loop_name(value) {
             return Ok(told(LoopField::by_name(key)));
         }
-        let mut operands = Row(Vec::with_capacity(self.alloc, 2)?);
-        self.resolve_operand(value, &mut operands.0, pool)?;
+        let mut operands = Held {
+            part: Vec::with_capacity(self.alloc, 2)?,
+        };
+        self.resolve_operand(value, &mut operands.part, pool)?;
         let item_key = add_text(self.alloc, key, pool)?;
-        put_argument(&mut operands.0, None, item_key)?;
-        Ok(SlotExpr::Made(NaryOp::Operator(OpId::Item), operands.into_inner()))
-    }
-
-    /// Resolves an item.
-    #[cycle(expressions)]
-    fn resolve_item(
-        &self,
-        value: &Expr,
-        index: &Expr,
-        pool: &mut Vec<Value>,
-    ) -> Result<SlotExpr, NoMemory>
-        ensures { IfOk result (λ e. IsResolved self.now
-            (trees.item (written.expr_view value.now) (written.expr_view index.now)) e pool.old
-            pool.new) }
-    {
-        self.resolve_operation(OpId::Item, value, index, pool)
+        put_argument(&mut operands.part, None, item_key)?;
+        Ok(SlotExpr::Made(NaryOp::Operator(OpId::Item), operands.into_part()))
     }
 
     /// Resolves the operands of an operation and applies it to them.
@@ -181,10 +172,12 @@ impl<'t, 's, 'a> Resolver<'t, 's, 'a> {
             (expr_of self.now (written.expr_view left.now))
             (expr_of self.now (written.expr_view right.now))) e pool.old pool.new) }
     {
-        let mut operands = Row(Vec::with_capacity(self.alloc, 2)?);
-        self.resolve_operand(left, &mut operands.0, pool)?;
-        self.resolve_operand(right, &mut operands.0, pool)?;
-        Ok(SlotExpr::Made(NaryOp::Operator(op), operands.into_inner()))
+        let mut operands = Held {
+            part: Vec::with_capacity(self.alloc, 2)?,
+        };
+        self.resolve_operand(left, &mut operands.part, pool)?;
+        self.resolve_operand(right, &mut operands.part, pool)?;
+        Ok(SlotExpr::Made(NaryOp::Operator(op), operands.into_part()))
     }
 
     /// Resolves a unary operator.
@@ -278,8 +271,12 @@ impl<'t, 's, 'a> Resolver<'t, 's, 'a> {
     /// Resolves an expression and returns it on the heap.
     #[cycle(expressions)]
     #[inline(never)]
-    fn resolve_boxed(&self, expr: &Expr, pool: &mut Vec<Value>) -> Result<Operand, NoMemory>
-        ensures { IfOk result (λ o. IsResolved self.now (written.expr_view expr.now) o.0.value
+    fn resolve_boxed(
+        &self,
+        expr: &Expr,
+        pool: &mut Vec<Value>,
+    ) -> Result<Held<Box<SlotExpr>>, NoMemory>
+        ensures { IfOk result (λ o. IsResolved self.now (written.expr_view expr.now) o.part.value
             pool.old pool.new) }
     {
         boxed(self.alloc, self.resolve_expression(expr, pool)?)
@@ -322,10 +319,12 @@ impl<'t, 's, 'a> Resolver<'t, 's, 'a> {
         match test_of(name) {
             None => Ok(absent()),
             Some(test) => {
-                let mut operands = Row(Vec::new(self.alloc));
-                self.resolve_operand(value, &mut operands.0, pool)?;
-                self.resolve_row(row, &mut operands.0, pool)?;
-                Ok(SlotExpr::Made(NaryOp::Test(test), operands.into_inner()))
+                let mut operands = Held {
+                    part: Vec::new(self.alloc),
+                };
+                self.resolve_operand(value, &mut operands.part, pool)?;
+                self.resolve_row(row, &mut operands.part, pool)?;
+                Ok(SlotExpr::Made(NaryOp::Test(test), operands.into_part()))
             }
         }
     }
@@ -364,15 +363,17 @@ impl<'t, 's, 'a> Resolver<'t, 's, 'a> {
         match filter_of(name, arguments.row, arguments.pairs) {
             None => Ok(absent()),
             Some(filter) => {
-                let mut given = Row(Vec::new(self.alloc));
-                self.resolve_operand(value, &mut given.0, pool)?;
-                self.resolve_filter_row(filter, arguments, &mut given.0, pool)?;
+                let mut given = Held {
+                    part: Vec::new(self.alloc),
+                };
+                self.resolve_operand(value, &mut given.part, pool)?;
+                self.resolve_filter_row(filter, arguments, &mut given.part, pool)?;
                 Ok(SlotExpr::Made(
                     NaryOp::Filter {
                         filter,
                         escaping: self.senv.escaping,
                     },
-                    given.into_inner(),
+                    given.into_part(),
                 ))
             }
         }
@@ -431,14 +432,16 @@ impl<'t, 's, 'a> Resolver<'t, 's, 'a> {
             self.now.senv.escaping (called_of self.now signature.entry arguments.entry)) e pool.old
             pool.new) }
     {
-        let mut given = Row(Vec::new(self.alloc));
-        self.resolve_given(arguments, &mut given.0, pool)?;
-        self.fill(signature, arguments, &mut given.0)?;
+        let mut given = Held {
+            part: Vec::new(self.alloc),
+        };
+        self.resolve_given(arguments, &mut given.part, pool)?;
+        self.fill(signature, arguments, &mut given.part)?;
         let escaping = self.senv.escaping;
         Ok(SlotExpr::Invoke {
             routine: signature.unit,
             escaping,
-            row: given.into_inner(),
+            row: given.into_part(),
         })
     }
 
@@ -450,9 +453,11 @@ impl<'t, 's, 'a> Resolver<'t, 's, 'a> {
             (slots.operator (operators.range_of (length row.now)))
             (row_of self.now (written.exprs_view row.now) slots.none)) e pool.old pool.new) }
     {
-        let mut operands = Row(Vec::new(self.alloc));
-        self.resolve_row(row, &mut operands.0, pool)?;
-        Ok(SlotExpr::Made(NaryOp::Operator(range_of(row.len())), operands.into_inner()))
+        let mut operands = Held {
+            part: Vec::new(self.alloc),
+        };
+        self.resolve_row(row, &mut operands.part, pool)?;
+        Ok(SlotExpr::Made(NaryOp::Operator(range_of(row.len())), operands.into_part()))
     }
 
     /// Resolves `loop.cycle`: the item of a list at the index of the turn, modulo its length.

@@ -4,13 +4,13 @@ ghost use Rattle.std.specs.Prelude.{◌≡◌, ℕ, Bool, List, [], IfOk, if◌t
 ghost use Rattle.jt_bind.specs.internal.Chains.{Chains};
 ghost use Rattle.jt_semantics.specs.Resolve as resolve;
 ghost use Rattle.jt_semantics.specs.Layout.{slot_in};
-ghost use Rattle.jt_bind.specs.internal.Resolving.{StmtLeads, line_of, table_of};
-ghost use Rattle.jt_bind.specs.internal.Scoped.{PutsNone, globals_in, senv_in};
+ghost use Rattle.jt_bind.specs.internal.Resolving.{line_of, stmt_of, table_of, templates_of};
+ghost use Rattle.jt_bind.specs.internal.Scoped.{PutsNone, globals_in, senv_in, templates_in};
 ghost use Rattle.jt_ast.specs.Statements as trees;
 ghost use Rattle.jt_ast.specs.StatementView.{is_ignored, passes_context};
 ghost use Rattle.jt_ast.specs.Texts.{texts};
 ghost use Rattle.jt_value.specs.Tree.{Tree};
-ghost use Rattle.jt_bind.specs.internal.Stated.{Puts};
+ghost use Rattle.jt_bind.specs.internal.Stated.{Emits};
 
 use crate::emission::{put_assign, put_print, put_run};
 use crate::lookup::{absent, no_value, reading};
@@ -30,8 +30,8 @@ fn put_missing(
     done: &mut Vec<SlotStmt>,
 ) -> Result<(), NoMemory>
     ensures { IfOk result (λ u. (s : Chains) (p : List Tree)
-        → Puts s (resolve.left_out (senv_in s senv.now) line ignore_missing) done.old done.new p
-        p) }
+        → Emits (templates_in s) (resolve.left_out (senv_in s senv.now) line ignore_missing)
+        done.old.items done.new.items p p) }
 {
     if ignore_missing {
         return Ok(());
@@ -72,9 +72,9 @@ impl<'t, 's, 'a> Resolver<'t, 's, 'a> {
         done: &mut Vec<SlotStmt>,
     ) -> Result<(), NoMemory>
         ensures { IfOk result (λ u. (p : List Tree)
-            → Puts self.now.tables.now (resolve.handed_on (line_of self.now line)
+            → Emits (templates_of self.now) (resolve.handed_on (line_of self.now line)
             (if with_context then table_of self.now else []) there.now.first_slot
-            (texts there.now.names.items)) done.old done.new p p) }
+            (texts there.now.names.items)) done.old.items done.new.items p p) }
     {
         let mut global = there.first_slot;
         for name in there.names.iter() {
@@ -102,8 +102,8 @@ impl<'t, 's, 'a> Resolver<'t, 's, 'a> {
         done: &mut Vec<SlotStmt>,
     ) -> Result<(), NoMemory>
         ensures { IfOk result (λ u. (p : List Tree)
-            → StmtLeads self.now (trees.include line name.now (is_ignored missing)
-            (passes_context names)) done.old done.new p p) }
+            → Emits (templates_of self.now) (stmt_of self.now (trees.include line name.now
+            (is_ignored missing) (passes_context names))) done.old.items done.new.items p p) }
     {
         if self.tables.is_missing(name) {
             return put_missing(&self.senv, line, missing.is_ignored(), done);
@@ -125,8 +125,9 @@ impl<'t, 's, 'a> Resolver<'t, 's, 'a> {
         done: &mut Vec<SlotStmt>,
     ) -> Result<(), NoMemory>
         ensures { IfOk result (λ u. (line : ℕ) (required : Bool) (body : trees.Body) (p : List Tree)
-            → StmtLeads self.now (trees.block line name.now scoped required body) done.old done.new
-            p p) }
+            → Emits (templates_of self.now)
+            (stmt_of self.now (trees.block line name.now scoped required body)) done.old.items
+            done.new.items p p) }
     {
         let Some(unit) = self.tables.first_body(name)? else {
             return put_print(&self.senv, 1, absent(), done);

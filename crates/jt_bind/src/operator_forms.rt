@@ -16,7 +16,7 @@ ghost use Rattle.jt_bind.specs.internal.Scoped.{values, IsShown, IsAdded, MadeOf
 ghost use Rattle.jt_bind.specs.internal.Scoped.{turn_in};
 ghost use Rattle.jt_ids.specs.declared.op_id.OpId.TheVariants as op;
 
-use crate::operand::Operand;
+use crate::held::Held;
 use crate::pool::add_value;
 use jt_ast::{BinaryOperator, Literal, Parameter, UnaryOperator};
 use jt_ids::{LoopField, OpId};
@@ -159,31 +159,35 @@ pub(crate) fn turned(alloc: Global, negated: bool, inside: SlotExpr) -> Result<S
 }
 
 /// Returns the expression for the left operand if it is false, else for the right one.
-pub(crate) fn conjunction(left: Operand, right: Operand) -> SlotExpr
-    ensures { MadeOfTwo slots.conjunction left.0.value right.0.value result }
+pub(crate) fn conjunction(left: Held<Box<SlotExpr>>, right: Held<Box<SlotExpr>>) -> SlotExpr
+    ensures { MadeOfTwo slots.conjunction left.part.value right.part.value result }
 {
-    SlotExpr::Conjunction(left.into_inner(), right.into_inner())
+    SlotExpr::Conjunction(left.into_part(), right.into_part())
 }
 
 /// Returns the expression for the left operand if it is true, else for the right one.
-pub(crate) fn disjunction(left: Operand, right: Operand) -> SlotExpr
-    ensures { MadeOfTwo slots.disjunction left.0.value right.0.value result }
+pub(crate) fn disjunction(left: Held<Box<SlotExpr>>, right: Held<Box<SlotExpr>>) -> SlotExpr
+    ensures { MadeOfTwo slots.disjunction left.part.value right.part.value result }
 {
-    SlotExpr::Disjunction(left.into_inner(), right.into_inner())
+    SlotExpr::Disjunction(left.into_part(), right.into_part())
 }
 
 /// Returns the conditional expression that chooses between two values.
-pub(crate) fn chosen(condition: Operand, value: Operand, other: Operand) -> SlotExpr
+pub(crate) fn chosen(
+    condition: Held<Box<SlotExpr>>,
+    value: Held<Box<SlotExpr>>,
+    other: Held<Box<SlotExpr>>,
+) -> SlotExpr
     ensures { (c a b : slots.SlotExpr Constant) (p q r s : List Tree)
-        → IsShown c condition.0.value p q
-        → IsShown a value.0.value q r
-        → IsShown b other.0.value r s
+        → IsShown c condition.part.value p q
+        → IsShown a value.part.value q r
+        → IsShown b other.part.value r s
         → IsShown (slots.choice c a b) result p s }
 {
     SlotExpr::Choice {
-        condition: condition.into_inner(),
-        value: value.into_inner(),
-        other: other.into_inner(),
+        condition: condition.into_part(),
+        value: value.into_part(),
+        other: other.into_part(),
     }
 }
 

@@ -4,14 +4,15 @@
 ghost use Rattle.std.specs.Prelude.{◌≡◌, IfOk};
 ghost use Rattle.jt_chains.specs.Chain.{a_chain};
 ghost use Rattle.jt_semantics.specs.Resolve as resolve;
-ghost use Rattle.jt_bind.specs.internal.Resolving.{BodyAdds, sets_of, routine_of, layer_of};
-ghost use Rattle.jt_bind.specs.internal.Scoped.{cenv_in, order_in, namespace_in, senv_in, top_in};
+ghost use Rattle.jt_bind.specs.internal.Resolving.{sets_of, routine_of, layer_of, templates_of};
+ghost use Rattle.jt_bind.specs.internal.Scoped.{values, cenv_in, order_in, namespace_in};
+ghost use Rattle.jt_bind.specs.internal.Scoped.{senv_in, top_in, templates_in};
 ghost use Rattle.jt_ast.specs.Expressions.{Text};
 ghost use Rattle.jt_ast.specs.StatementView.{body_view};
 ghost use Rattle.jt_ast.specs.Texts.{texts};
-ghost use Rattle.jt_bind.specs.internal.Routines.{RoutineIs, PutsAll, AddsAll, entry_in, macros_in};
+ghost use Rattle.jt_bind.specs.internal.Routines.{RoutineIs, AreRoutines, entry_in, macros_in};
 ghost use Rattle.jt_bind.specs.internal.Routines.{blocks_in, routines_in};
-ghost use Rattle.jt_bind.specs.internal.Stated.{BodyLed, layers_in};
+ghost use Rattle.jt_bind.specs.internal.Stated.{Emits, layers_in};
 
 use crate::local_counts::{body_locals, larger};
 use crate::resolver::Resolver;
@@ -67,8 +68,9 @@ impl<'t, 's, 'a> Resolver<'t, 's, 'a> {
         done: &mut Vec<SlotStmt>,
         pool: &mut Vec<Value>,
     ) -> Result<(), NoMemory>
-        ensures { IfOk result (λ u. BodyAdds self.now (sets_of self.now (body_view body.now))
-            done.old done.new pool.old pool.new) }
+        ensures { IfOk result (λ u. Emits (templates_of self.now)
+            (sets_of self.now (body_view body.now)) done.old.items done.new.items
+            (values pool.old) (values pool.new)) }
     {
         for statement in body {
             self.resolve_if_set(statement, done, pool)?;
@@ -85,8 +87,9 @@ impl<'t, 's, 'a> Resolver<'t, 's, 'a> {
         done: &mut Vec<SlotStmt>,
         pool: &mut Vec<Value>,
     ) -> Result<(), NoMemory>
-        ensures { IfOk result (λ u. BodyAdds self.now (layer_of self.now (body_view body.now)
-            is_root) done.old done.new pool.old pool.new) }
+        ensures { IfOk result (λ u. Emits (templates_of self.now)
+            (layer_of self.now (body_view body.now) is_root) done.old.items done.new.items
+            (values pool.old) (values pool.new)) }
     {
         if is_root {
             return self.resolve_body(body, done, pool);
@@ -103,8 +106,9 @@ fn resolve_layers<'a>(
     done: &mut Vec<SlotStmt>,
     pool: &mut Vec<Value>,
 ) -> Result<(), NoMemory>
-    ensures { IfOk result (λ u. BodyLed tables.now (layers_in tables.now layers.now) done.old
-        done.new pool.old pool.new) }
+    ensures { IfOk result (λ u. Emits (templates_in tables.now)
+        (layers_in tables.now layers.now) done.old.items done.new.items (values pool.old)
+        (values pool.new)) }
 {
     for (index, layer) in layers.iter().enumerate() {
         let is_root = index + 1 == layers.len();
@@ -148,8 +152,8 @@ fn resolve_entry<'a>(
     routines: &mut Vec<Routine>,
     pool: &mut Vec<Value>,
 ) -> Result<(), NoMemory>
-    ensures { IfOk result (λ u. PutsAll tables.now (entry_in tables.now) routines.old routines.new
-        pool.old pool.new) }
+    ensures { IfOk result (λ u. AreRoutines (templates_in tables.now) (entry_in tables.now)
+        routines.old.items routines.new.items (values pool.old) (values pool.new)) }
 {
     let here = tables.here();
     if here.is_library {
@@ -166,8 +170,8 @@ fn resolve_macros<'a>(
     routines: &mut Vec<Routine>,
     pool: &mut Vec<Value>,
 ) -> Result<(), NoMemory>
-    ensures { IfOk result (λ u. PutsAll tables.now (macros_in tables.now) routines.old routines.new
-        pool.old pool.new) }
+    ensures { IfOk result (λ u. AreRoutines (templates_in tables.now) (macros_in tables.now)
+        routines.old.items routines.new.items (values pool.old) (values pool.new)) }
 {
     let here = tables.here();
     for called in here.macros.iter() {
@@ -189,8 +193,8 @@ fn resolve_blocks<'a>(
     routines: &mut Vec<Routine>,
     pool: &mut Vec<Value>,
 ) -> Result<(), NoMemory>
-    ensures { IfOk result (λ u. PutsAll tables.now (blocks_in tables.now) routines.old routines.new
-        pool.old pool.new) }
+    ensures { IfOk result (λ u. AreRoutines (templates_in tables.now) (blocks_in tables.now)
+        routines.old.items routines.new.items (values pool.old) (values pool.new)) }
 {
     let here = tables.here();
     for (index, block) in here.blocks.iter().enumerate() {
@@ -220,8 +224,8 @@ pub(crate) fn resolve_namespace<'a>(
     routines: &mut Vec<Routine>,
     pool: &mut Vec<Value>,
 ) -> Result<(), NoMemory>
-    ensures { IfOk result (λ u. AddsAll tables.now (routines_in tables.now) routines.old
-        routines.new pool.old pool.new) }
+    ensures { IfOk result (λ u. AreRoutines (templates_in tables.now) (routines_in tables.now)
+        routines.old.items routines.new.items (values pool.old) (values pool.new)) }
 {
     resolve_entry(alloc, tables, routines, pool)?;
     resolve_macros(alloc, tables, routines, pool)?;

@@ -3,9 +3,9 @@
 ghost use Rattle.std.specs.Prelude.{◌≡◌, List, IfOk};
 ghost use Rattle.jt_semantics.specs.Resolve.{copied};
 ghost use Rattle.jt_bind.specs.internal.Resolving.{line_of, table_of, templates_of};
-ghost use Rattle.jt_bind.specs.internal.Scoped.{BodyLeads, HasInside, Enters};
-ghost use Rattle.jt_ir.specs.Pool.{Constant};
-ghost use Rattle.jt_ir.specs.Slots.{SBody};
+ghost use Rattle.jt_bind.specs.internal.Scoped.{HasInside, Enters};
+ghost use Rattle.jt_bind.specs.internal.Stated.{Emits};
+ghost use Rattle.jt_ir.specs.Slots.{end};
 ghost use Rattle.jt_value.specs.Tree.{Tree};
 ghost use Rattle.jt_ast.specs.Texts.{texts};
 
@@ -67,9 +67,9 @@ impl<'t, 's, 'a> Resolver<'t, 's, 'a> {
         names: &[&str],
         done: &mut Vec<SlotStmt>,
     ) -> Result<(), NoMemory>
-        ensures { IfOk result (λ u. (behind : SBody Constant) (p : List Tree)
-            → BodyLeads (templates_of self.now) (copied (line_of self.now 1) (table_of self.now)
-            self.now.senv.free (texts names.now) behind) behind done.old.items done.new.items p p) }
+        ensures { IfOk result (λ u. (p : List Tree) → Emits (templates_of self.now)
+            (copied (line_of self.now 1) (table_of self.now) self.now.senv.free (texts names.now)
+            end) done.old.items done.new.items p p) }
     {
         let mut local = self.senv.free;
         for name in names {

@@ -24,11 +24,10 @@ pub(crate) struct StaticEnv<'s, 'a> {
 impl<'s, 'a> StaticEnv<'s, 'a> {
     ghost use Rattle.std.specs.Prelude.{◌≡◌, List};
     ghost use Rattle.jt_ast.specs.Expressions.{Text};
-    ghost use Rattle.jt_ir.specs.View.{place_view};
     ghost use Rattle.jt_semantics.specs.Resolve.{bound_all};
     ghost use Rattle.jt_bind.specs.internal.Chains.{Chains};
-    ghost use Rattle.jt_bind.specs.internal.Scoped.{Enters, globals_in, senv_in, templates_in};
-    ghost use Rattle.jt_bind.specs.internal.Stated.{line_in};
+    ghost use Rattle.jt_bind.specs.internal.Scoped.{Enters, globals_in, senv_in};
+    ghost use Rattle.jt_bind.specs.internal.Stated.{place_of};
 
     /// Returns the environment without scopes, so that names are globals.
     pub(crate) fn outside(self) -> StaticEnv<'s, 'a>
@@ -58,8 +57,7 @@ impl<'s, 'a> StaticEnv<'s, 'a> {
 
     /// Returns the place of a tag in the template.
     pub(crate) fn place(&self, line: u32) -> Place
-        ensures { (scope : Chains)
-            → place_view (templates_in scope) result ≡ line_in scope self.now line }
+        ensures { result ≡ place_of self.now line }
     {
         Place {
             template: self.template,

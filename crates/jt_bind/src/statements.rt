@@ -1,27 +1,27 @@
 //! Resolves statements: names to slots, and literals and data to indices of a pool.
 
-ghost use Rattle.std.specs.Prelude.{ℕ, option_map, IfOk, if◌then◌else◌};
+ghost use Rattle.std.specs.Prelude.{ℕ, [], option_map, IfOk, if◌then◌else◌};
 ghost use Rattle.jt_ast.specs.ExpressionView as written;
 ghost use Rattle.jt_semantics.specs.Resolve as resolve;
 ghost use Rattle.jt_semantics.specs.Meaning.{is_set};
-ghost use Rattle.jt_bind.specs.internal.Resolving.{BodyAdds, BodyIs, StmtAdds, BranchIs, TurnsAre};
+ghost use Rattle.jt_bind.specs.internal.Resolving.{BranchIs, TurnsAre};
 ghost use Rattle.jt_bind.specs.internal.Resolving.{templates_of, senv_of, stmt_of, body_of};
 ghost use Rattle.jt_bind.specs.internal.Resolving.{scoped_of};
 ghost use Rattle.jt_bind.specs.internal.Resolving.{expr_of, values_of, inside_of, condition_of};
-ghost use Rattle.jt_bind.specs.internal.Scoped.{values, BodyLeads};
+ghost use Rattle.jt_bind.specs.internal.Scoped.{values};
 ghost use Rattle.jt_ast.specs.Statements as trees;
 ghost use Rattle.jt_ast.specs.StatementView.{stmt_view, body_view, branches_view, names_view};
 ghost use Rattle.jt_ast.specs.StatementView.{filter_calls_view};
-ghost use Rattle.jt_ir.specs.Pool.{Constant};
 ghost use Rattle.jt_ir.specs.Slots as slots;
 ghost use Rattle.jt_ir.specs.View.{slot_view};
 ghost use Rattle.jt_ast.specs.Texts.{texts};
-ghost use Rattle.jt_bind.specs.internal.Stated.{IsAsked, IsHead};
+ghost use Rattle.jt_bind.specs.internal.Stated.{Emits, IsAsked, IsHead};
 
 use crate::emission::{
-    Branches, LoopHead, Statements, Turns, put_assign, put_branch, put_capture, put_choice,
-    put_data, put_filtered, put_loop, put_print,
+    LoopHead, Turns, put_assign, put_branch, put_capture, put_choice, put_data, put_filtered,
+    put_loop, put_print,
 };
+use crate::held::Held;
 use crate::resolver::{ForTag, Resolver};
 use crate::scope_entry::entered;
 use crate::targets::fresh_targets;
@@ -40,8 +40,8 @@ impl<'t, 's, 'a> Resolver<'t, 's, 'a> {
         done: &mut Vec<SlotStmt>,
         pool: &mut Vec<Value>,
     ) -> Result<(), NoMemory>
-        ensures { IfOk result (λ u. BodyAdds self.now (body_of self.now (body_view body.now))
-            done.old done.new pool.old pool.new) }
+        ensures { IfOk result (λ u. Emits (templates_of self.now) (body_of self.now (body_view
+            body.now)) done.old.items done.new.items (values pool.old) (values pool.new)) }
     {
         for statement in body {
             self.resolve_statement(statement, done, pool)?;
@@ -58,8 +58,8 @@ impl<'t, 's, 'a> Resolver<'t, 's, 'a> {
         done: &mut Vec<SlotStmt>,
         pool: &mut Vec<Value>,
     ) -> Result<(), NoMemory>
-        ensures { IfOk result (λ u. StmtAdds self.now (stmt_view statement.now) done.old
-            done.new pool.old pool.new) }
+        ensures { IfOk result (λ u. Emits (templates_of self.now) (stmt_of self.now (stmt_view
+            statement.now)) done.old.items done.new.items (values pool.old) (values pool.new)) }
     {
         match statement {
             Stmt::Data(text) => put_data(self.alloc, text, done, pool),
@@ -114,9 +114,9 @@ impl<'t, 's, 'a> Resolver<'t, 's, 'a> {
         done: &mut Vec<SlotStmt>,
         pool: &mut Vec<Value>,
     ) -> Result<(), NoMemory>
-        ensures { IfOk result (λ u. BodyAdds self.now (if is_set (stmt_view statement.now) then
-            stmt_of self.now (stmt_view statement.now) else slots.end) done.old done.new pool.old
-            pool.new) }
+        ensures { IfOk result (λ u. Emits (templates_of self.now) (if is_set (stmt_view
+            statement.now) then stmt_of self.now (stmt_view statement.now) else slots.end)
+            done.old.items done.new.items (values pool.old) (values pool.new)) }
     {
         match statement {
             Stmt::Set {
@@ -158,10 +158,10 @@ impl<'t, 's, 'a> Resolver<'t, 's, 'a> {
         done: &mut Vec<SlotStmt>,
         pool: &mut Vec<Value>,
     ) -> Result<(), NoMemory>
-        ensures { IfOk result (λ u. StmtAdds self.now (trees.for_each tag.entry.line
-            (names_view tag.entry.names.now) (written.expr_view tag.entry.over.now)
-            (option_map written.expr_view tag.entry.condition.now) (body_view body.now)
-            (body_view other.now)) done.old done.new pool.old pool.new) }
+        ensures { IfOk result (λ u. Emits (templates_of self.now) (stmt_of self.now (trees.for_each
+            tag.entry.line (names_view tag.entry.names.now) (written.expr_view tag.entry.over.now)
+            (option_map written.expr_view tag.entry.condition.now) (body_view body.now) (body_view
+            other.now))) done.old.items done.new.items (values pool.old) (values pool.new)) }
     {
         let turns = self.resolve_turns(body, tag, pool)?;
         let last = self.resolve_whole(other, pool)?;
@@ -178,15 +178,18 @@ impl<'t, 's, 'a> Resolver<'t, 's, 'a> {
         done: &mut Vec<SlotStmt>,
         pool: &mut Vec<Value>,
     ) -> Result<(), NoMemory>
-        ensures { IfOk result (λ u. StmtAdds self.now (trees.choose (branches_view branches.now)
-            (body_view other.now)) done.old done.new pool.old pool.new) }
+        ensures { IfOk result (λ u. Emits (templates_of self.now) (stmt_of self.now (trees.choose
+            (branches_view branches.now) (body_view other.now))) done.old.items done.new.items
+            (values pool.old) (values pool.new)) }
     {
-        let mut made = Branches(Vec::with_capacity(self.alloc, branches.len())?);
+        let mut made = Held {
+            part: Vec::with_capacity(self.alloc, branches.len())?,
+        };
         for branch in branches {
-            put_branch(&mut made.0, self.resolve_branch(branch, pool)?)?;
+            put_branch(&mut made.part, self.resolve_branch(branch, pool)?)?;
         }
         let last = self.resolve_whole(other, pool)?;
-        put_choice(made.into_inner(), last, done)
+        put_choice(made.into_part(), last, done)
     }
 
     /// Resolves a branch of an `if`.
@@ -217,11 +220,11 @@ impl<'t, 's, 'a> Resolver<'t, 's, 'a> {
         body: &'a [Stmt],
         tag: ForTag<'a>,
         pool: &mut Vec<Value>,
-    ) -> Result<Turns, NoMemory>
+    ) -> Result<Held<Turns>, NoMemory>
         ensures { IfOk result (λ t. TurnsAre self.now (names_view tag.entry.names.now)
             (written.expr_view tag.entry.over.now)
-            (option_map written.expr_view tag.entry.condition.now) (body_view body.now) t pool.old
-            pool.new) }
+            (option_map written.expr_view tag.entry.condition.now) (body_view body.now) t.part
+            pool.old pool.new) }
     {
         let inner = entered(self.alloc, &self.senv, names_of(self.alloc, tag.names)?)?;
         let inside = Resolver {
@@ -229,11 +232,13 @@ impl<'t, 's, 'a> Resolver<'t, 's, 'a> {
             ..*self
         };
         let head = self.resolve_head(&inside, tag, pool)?;
-        let mut turns = Turns {
-            head,
-            body: Vec::new(self.alloc),
+        let mut turns = Held {
+            part: Turns {
+                head,
+                body: Vec::new(self.alloc),
+            },
         };
-        inside.resolve_scoped(body, &mut turns.body, pool)?;
+        inside.resolve_scoped(body, &mut turns.part.body, pool)?;
         Ok(turns)
     }
 
@@ -273,9 +278,9 @@ impl<'t, 's, 'a> Resolver<'t, 's, 'a> {
         done: &mut Vec<SlotStmt>,
         pool: &mut Vec<Value>,
     ) -> Result<(), NoMemory>
-        ensures { IfOk result (λ u. StmtAdds self.now (trees.with_values line
-            (written.pairs_view pairs.now) (body_view body.now)) done.old done.new pool.old
-            pool.new) }
+        ensures { IfOk result (λ u. Emits (templates_of self.now) (stmt_of self.now
+            (trees.with_values line (written.pairs_view pairs.now) (body_view body.now)))
+            done.old.items done.new.items (values pool.old) (values pool.new)) }
     {
         self.resolve_values(line, pairs, done, pool)?;
         self.resolve_within(body, keyword_names(self.alloc, pairs)?, done, pool)
@@ -293,9 +298,9 @@ impl<'t, 's, 'a> Resolver<'t, 's, 'a> {
         done: &mut Vec<SlotStmt>,
         pool: &mut Vec<Value>,
     ) -> Result<(), NoMemory>
-        ensures { IfOk result (λ u. StmtAdds self.now (trees.filter_block line
-            (filter_calls_view filters.now) (body_view body.now)) done.old done.new pool.old
-            pool.new) }
+        ensures { IfOk result (λ u. Emits (templates_of self.now) (stmt_of self.now
+            (trees.filter_block line (filter_calls_view filters.now) (body_view body.now)))
+            done.old.items done.new.items (values pool.old) (values pool.new)) }
     {
         let kept = Slot::Local(self.senv.free);
         let mut inside = *self;
@@ -316,8 +321,9 @@ impl<'t, 's, 'a> Resolver<'t, 's, 'a> {
         done: &mut Vec<SlotStmt>,
         pool: &mut Vec<Value>,
     ) -> Result<(), NoMemory>
-        ensures { IfOk result (λ u. BodyAdds self.now (scoped_of self.now (body_view body.now)
-            (inside_of self.now (texts names.entry.items))) done.old done.new pool.old pool.new) }
+        ensures { IfOk result (λ u. Emits (templates_of self.now) (scoped_of self.now (body_view
+            body.now) (inside_of self.now (texts names.entry.items))) done.old.items done.new.items
+            (values pool.old) (values pool.new)) }
     {
         let inner = entered(self.alloc, &self.senv, names)?;
         let inside = Resolver {
@@ -337,8 +343,9 @@ impl<'t, 's, 'a> Resolver<'t, 's, 'a> {
         done: &mut Vec<SlotStmt>,
         pool: &mut Vec<Value>,
     ) -> Result<(), NoMemory>
-        ensures { IfOk result (λ u. BodyAdds self.now (scoped_of self.now (body_view body.now)
-            (senv_of self.now)) done.old done.new pool.old pool.new) }
+        ensures { IfOk result (λ u. Emits (templates_of self.now) (scoped_of self.now (body_view
+            body.now) (senv_of self.now)) done.old.items done.new.items (values pool.old) (values
+            pool.new)) }
     {
         let names = set_names(self.alloc, body)?;
         self.put_copies(&names, done)?;
@@ -357,12 +364,14 @@ impl<'t, 's, 'a> Resolver<'t, 's, 'a> {
         body: &'a [Stmt],
         pool: &mut Vec<Value>,
     ) -> Result<Vec<SlotStmt>, NoMemory>
-        ensures { IfOk result (λ ss. BodyIs self.now
-            (scoped_of self.now (body_view body.now) (senv_of self.now)) ss pool.old pool.new) }
+        ensures { IfOk result (λ ss. Emits (templates_of self.now) (scoped_of self.now (body_view
+            body.now) (senv_of self.now)) [] ss.items (values pool.old) (values pool.new)) }
     {
-        let mut done = Statements(Vec::new(self.alloc));
-        self.resolve_scoped(body, &mut done.0, pool)?;
-        Ok(done.into_inner())
+        let mut done = Held {
+            part: Vec::new(self.alloc),
+        };
+        self.resolve_scoped(body, &mut done.part, pool)?;
+        Ok(done.into_part())
     }
 
     /// Resolves a body in the current scope and returns it.
@@ -373,11 +382,14 @@ impl<'t, 's, 'a> Resolver<'t, 's, 'a> {
         pool: &mut Vec<Value>,
     ) -> Result<Vec<SlotStmt>, NoMemory>
         ensures { IfOk result
-            (λ ss. BodyIs self.now (body_of self.now (body_view body.now)) ss pool.old pool.new) }
+            (λ ss. Emits (templates_of self.now) (body_of self.now (body_view body.now)) [] ss.items
+            (values pool.old) (values pool.new)) }
     {
-        let mut done = Statements(Vec::new(self.alloc));
-        self.resolve_body(body, &mut done.0, pool)?;
-        Ok(done.into_inner())
+        let mut done = Held {
+            part: Vec::new(self.alloc),
+        };
+        self.resolve_body(body, &mut done.part, pool)?;
+        Ok(done.into_part())
     }
 
     /// Resolves a body in a scope of its own and emits a capture of its text in a slot.
@@ -390,9 +402,10 @@ impl<'t, 's, 'a> Resolver<'t, 's, 'a> {
         done: &mut Vec<SlotStmt>,
         pool: &mut Vec<Value>,
     ) -> Result<(), NoMemory>
-        ensures { IfOk result (λ u. BodyAdds self.now (resolve.alone
-            (slots.capture self.now.senv.escaping (slot_view slot) (scoped_of self.now
-            (body_view body.now) (senv_of self.now)))) done.old done.new pool.old pool.new) }
+        ensures { IfOk result (λ u. Emits (templates_of self.now) (resolve.alone (slots.capture
+            self.now.senv.escaping (slot_view slot) (scoped_of self.now (body_view body.now)
+            (senv_of self.now)))) done.old.items done.new.items (values pool.old)
+            (values pool.new)) }
     {
         let text = self.resolve_inside(body, pool)?;
         put_capture(self.senv.escaping, slot, text, done)
@@ -408,9 +421,9 @@ impl<'t, 's, 'a> Resolver<'t, 's, 'a> {
         done: &mut Vec<SlotStmt>,
         pool: &mut Vec<Value>,
     ) -> Result<(), NoMemory>
-        ensures { IfOk result (λ u. (line : ℕ) → StmtAdds self.now
-            (trees.autoescape line escaping (body_view body.now)) done.old done.new pool.old
-            pool.new) }
+        ensures { IfOk result (λ u. (line : ℕ) → Emits (templates_of self.now) (stmt_of self.now
+            (trees.autoescape line escaping (body_view body.now))) done.old.items done.new.items
+            (values pool.old) (values pool.new)) }
     {
         let mut inside = *self;
         inside.senv.escaping = escaping;
@@ -426,8 +439,9 @@ impl<'t, 's, 'a> Resolver<'t, 's, 'a> {
         done: &mut Vec<SlotStmt>,
         pool: &mut Vec<Value>,
     ) -> Result<(), NoMemory>
-        ensures { IfOk result (λ u. StmtAdds self.now
-            (trees.print line (written.expr_view value.now)) done.old done.new pool.old pool.new) }
+        ensures { IfOk result (λ u. Emits (templates_of self.now) (stmt_of self.now (trees.print
+            line (written.expr_view value.now))) done.old.items done.new.items (values pool.old)
+            (values pool.new)) }
     {
         let shown = self.resolve_expression(value, pool)?;
         put_print(&self.senv, line, shown, done)
@@ -460,10 +474,9 @@ impl<'t, 's, 'a> Resolver<'t, 's, 'a> {
         done: &mut Vec<SlotStmt>,
         pool: &mut Vec<Value>,
     ) -> Result<(), NoMemory>
-        ensures { IfOk result (λ u. (behind : slots.SBody Constant)
-            → BodyLeads (templates_of self.now)
-            (values_of self.now (written.pairs_view pairs.now) line behind) behind
-            done.old.items done.new.items (values pool.old) (values pool.new)) }
+        ensures { IfOk result (λ u. Emits (templates_of self.now) (values_of self.now
+            (written.pairs_view pairs.now) line slots.end) done.old.items done.new.items
+            (values pool.old) (values pool.new)) }
     {
         let mut senv = self.senv;
         for (_, value) in pairs {

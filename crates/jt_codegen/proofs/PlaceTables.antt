@@ -4,9 +4,10 @@ use Rattle.std.proofs.Common.{◌≡◌, ℕ, ◌+◌, ◌<◌, List, [], ◌∷
 use Rattle.std.proofs.Common.{refl, sym, ap, ◌∙◌, subst, append_assoc, inl, inr, arith, rules}
 use Rattle.std.specs.List.{AllByRecursion}
 use Rattle.std.proofs.lemmas.List.{map-append, drop_more}
+use Rattle.std.proofs.lemmas.Slice.Eq.{bytes_eq-Decides}
 use Rattle.jt_value.specs.Place as place
 use Rattle.jt_ast.specs.Expressions.{Text}
-use Rattle.jt_ast.specs.Texts.{all_inserted}
+use Rattle.jt_ast.specs.Texts.{all_inserted, inserted}
 use Rattle.jt_image.specs.Code.{SourceLoc}
 use Rattle.jt_image.specs.View.{loc_view, locs_view}
 use Rattle.jt_image.specs.declared.parts.SourceLoc as given
@@ -14,6 +15,7 @@ use Rattle.jt_ir.specs.declared.program.Place.{Place}
 use Rattle.jt_lower.specs.Emission.{tag_view, places_view}
 use Rattle.jt_lower.specs.SourceLocs.{templates_in, templates_of, loc_of}
 use Rattle.jt_lower.proofs.SourceLocsCorrect.{Among, number_within, all_here}
+use Rattle.jt_names.proofs.SortedNames.{ascending_inserted}
 use Rattle.jt_codegen.specs.internal.Naming.{IsNamed}
 
 -- ---- sorted templates
@@ -26,6 +28,12 @@ first_inserted : (o : Option place.Place) (qs : List (Option place.Place)) (ns :
     → all_inserted (templates_in qs) (all_inserted (templates_in (o ∷ [])) ns) ≡ all_inserted (templates_in (o ∷ qs)) ns
 first_inserted None qs ns = refl
 first_inserted (Some q) qs ns = refl
+
+once : (x : Text) → inserted x (x ∷ []) ≡ x ∷ []
+once x = rw ((bytes_eq-Decides x x).1 refl) refl
+
+pub again : (x : Text) (ns : List Text) → inserted x (inserted x ns) ≡ inserted x ns
+again x ns = sym (ascending_inserted (x ∷ x ∷ []) ns) ∙ ap (λ l. all_inserted l ns) (once x)
 
 pub named_more : (ts : List Text) (ps : List (Option Place)) (i : ℕ) (d o : Option Place) (ns ns' : List Text)
     → i < length ps → get_or ps i d ≡ o → ns' ≡ all_inserted (templates_in (tag_view ts o ∷ [])) ns

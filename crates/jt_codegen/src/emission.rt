@@ -96,7 +96,7 @@ pub(crate) fn emit_unit(alloc: Global, routine: &Routine, left: usize) -> Result
     ensures refused { IfErr result (λ e. (templates : List Text)
         → RefusesUnit e left (unit_of (routine_view templates routine.now))) }
 {
-    let mut code = Emitter::new(alloc, left);
+    let mut code = Emitter::new(alloc, left)?;
     emit_statements(&mut code, &routine.body, 0)?;
     code.put(None, Some(Instruction::Return))?;
     if code.overflowed {

@@ -9,7 +9,7 @@ ghost use Rattle.jt_lower.specs.Emission.{tag_view};
 ghost use Rattle.jt_ast.specs.Texts.{all_inserted, texts};
 ghost use Rattle.jt_lower.specs.SourceLocs.{templates_in, templates_of, number_of, loc_of};
 ghost use Rattle.jt_semantics.specs.Ascends.{Ascends};
-ghost use Rattle.jt_codegen.specs.internal.Naming.{named_places, IsNamed};
+ghost use Rattle.jt_codegen.specs.internal.Naming.{named_places, IsNamed, HasLast, numbers_among};
 ghost use Rattle.jt_codegen.specs.Units.{RefusesTemplates};
 
 use crate::emission::EmitError;
@@ -80,27 +80,43 @@ fn named_templates<'a>(
     ensures { IfOk result
         (λ ns. texts ns.items ≡ templates_of (named_places templates.now places.now)) }
 {
-    let mut named = BTreeSet::new(alloc);
+    let mut named = NamedTemplates {
+        names: BTreeSet::new(alloc),
+        last: None,
+    };
     for tag in places {
-        add_template(&mut named, templates, *tag)?;
+        named.add(templates, *tag)?;
     }
-    named.into_iter().collect(alloc)
+    named.names.into_iter().collect(alloc)
 }
 
-/// Adds the template of a place, if the place exists.
-fn add_template<'a>(
-    named: &mut BTreeSet<&'a str>,
-    templates: &'a [String],
-    tag: Option<Place>,
-) -> Result<(), AllocError>
-    ensures { IfOk result (λ u. texts named.new.keys
-        ≡ all_inserted (templates_in (tag_view (texts_view templates.now) tag ∷ []))
-        (texts named.old.keys)) }
-{
-    if let Some(place) = tag {
-        named.insert(template_at(templates, place))?;
+/// The templates that places refer to.
+#[derive(Drop)]
+struct NamedTemplates<'a> {
+    /// The names of the templates.
+    names: BTreeSet<&'a str>,
+    /// The index of the template that was added last. Most places have the template of the place
+    /// before them.
+    last: Option<usize>,
+}
+
+impl<'a> NamedTemplates<'a> {
+    /// Adds the template of a place, if the place exists.
+    fn add(&mut self, templates: &'a [String], tag: Option<Place>) -> Result<(), AllocError>
+        requires { HasLast (texts_view templates.now) self.old }
+        ensures added { IfOk result (λ u. texts self.new.names.keys
+            ≡ all_inserted (templates_in (tag_view (texts_view templates.now) tag ∷ []))
+            (texts self.old.names.keys)) }
+        ensures last { IfOk result (λ u. HasLast (texts_view templates.now) self.new) }
+    {
+        if let Some(place) = tag {
+            if self.last != Some(place.template) {
+                self.names.insert(template_at(templates, place))?;
+                self.last = Some(place.template);
+            }
+        }
+        Ok(())
     }
-    Ok(())
 }
 
 /// Returns the number of the ascending names `named` before `name`, or the length of `named` if
@@ -110,6 +126,19 @@ fn number_of(name: &str, named: &[&str]) -> usize
     ensures { result ≡ number_of name.now (texts named.now) }
 {
     named.binary_search(&name).unwrap_or(named.len())
+}
+
+/// Returns for each template the number of the ascending names `named` before its name.
+fn numbers_of(alloc: Global, templates: &[String], named: &[&str]) -> Result<Vec<usize>, AllocError>
+    requires ascend { Ascends (texts named.now) }
+    ensures { IfOk result (λ ns.
+        ns.items ≡ numbers_among (texts named.now) (texts_view templates.now)) }
+{
+    let mut numbers = Vec::with_capacity(alloc, templates.len())?;
+    for name in templates {
+        numbers.push(number_of(name, named))?;
+    }
+    Ok(numbers)
 }
 
 /// Encodes each place by the number of its template among `named`.
@@ -126,16 +155,19 @@ fn locs_of(
     ensures { IfOk result (λ ss. locs_view ss.items
         ≡ map (loc_of (texts named.now)) (named_places templates.now places.now)) }
 {
+    let numbers = numbers_of(alloc, templates, named)?;
     let mut locs = Vec::with_capacity(alloc, places.len())?;
     for tag in places {
-        locs.push(loc_of(templates, named, *tag))?;
+        locs.push(loc_of(templates, named, &numbers, *tag))?;
     }
     Ok(locs)
 }
 
-/// Encodes a place by the number of its template, counted from 1.
-fn loc_of(templates: &[String], named: &[&str], tag: Option<Place>) -> SourceLoc
+/// Encodes a place by the number of its template, counted from 1. `numbers` has for each template
+/// the number of names before its name.
+fn loc_of(templates: &[String], named: &[&str], numbers: &[usize], tag: Option<Place>) -> SourceLoc
     requires few { length named.now ≤ max_count }
+    requires numbers { numbers.now ≡ numbers_among (texts named.now) (texts_view templates.now) }
     requires ascend { Ascends (texts named.now) }
     requires named { IsNamed (texts named.now) (tag_view (texts_view templates.now) tag) }
     ensures { loc_view result ≡ loc_of (texts named.now) (tag_view (texts_view templates.now) tag) }
@@ -146,7 +178,10 @@ fn loc_of(templates: &[String], named: &[&str], tag: Option<Place>) -> SourceLoc
             line: 0,
         },
         Some(place) => {
-            let before = number_of(template_at(templates, place), named);
+            let before = match numbers.get(place.template) {
+                Some(number) => *number,
+                None => number_of(template_at(templates, place), named),
+            };
             SourceLoc {
                 template: (before + 1) as u16,
                 line: place.line,

@@ -1,3 +1,4 @@
+pub mod MovedWires
 pub mod LoopPrefix
 pub mod UniqueConstants
 pub mod MergeKeepsRuns

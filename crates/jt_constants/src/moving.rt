@@ -7,7 +7,13 @@ ghost use Rattle.jt_image.specs.Reading.{instruction_of};
 ghost use Rattle.jt_image.specs.Parts.{each_of, section_of_unit};
 ghost use Rattle.jt_constants.specs.Merged.{moved, with_indices, moved_unit};
 
-use jt_image::{Instr, Instruction, Unit};
+use jt_image::{Instr, Unit};
+
+/// The opcode of an instruction that pushes a constant.
+const CONST: u8 = 1;
+
+/// The opcode of an instruction that writes a constant.
+const DATA: u8 = 9;
 
 /// Replaces the index of a constant in each instruction of the units by its new index.
 pub fn move_constants(units: &mut [Unit], indices: &[u32])
@@ -46,16 +52,16 @@ fn moved_instruction(instruction: Instr, indices: &[u32]) -> Instr
         → instruction_of instruction ≡ Some i
         → instruction_of result ≡ Some (with_indices indices.now i) }
 {
-    match instruction.instruction() {
-        Some(Instruction::Const { constant }) => Instruction::Const {
-            constant: moved(constant, indices),
+    let Instr { op, a, b, c } = instruction;
+    if op == CONST || op == DATA {
+        Instr {
+            op,
+            a,
+            b,
+            c: moved(c, indices),
         }
-        .wire(),
-        Some(Instruction::Data { constant }) => Instruction::Data {
-            constant: moved(constant, indices),
-        }
-        .wire(),
-        _ => instruction,
+    } else {
+        instruction
     }
 }
 

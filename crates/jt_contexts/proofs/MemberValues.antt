@@ -1,5 +1,5 @@
 -- The values of items and members are converted in order.
-use Rattle.std.proofs.Common.{◌≡◌, ◌∙◌, ◌++◌, ◌||◌, ℕ, Bool, true, false, List, [], ◌∷◌, Option, Some, None, String}
+use Rattle.std.proofs.Common.{◌≡◌, ◌∙◌, ◌++◌, ℕ, Bool, true, false, List, [], ◌∷◌, Option, Some, None, String}
 use Rattle.std.proofs.Common.{Global, Less, ap, ap₂, refl, sym, map, option_map, string_bytes, string_cmp}
 use Rattle.std.proofs.Common.{length, arith, rules}
 use Rattle.std.specs.Prelude.{OnOk, Result, Ok, Err}
@@ -16,6 +16,7 @@ use Rattle.serde_json.specs.declared.value.Value.{Value as Json}
 use Rattle.jt_value.specs.Tree.{Tree}
 use Rattle.jt_value.specs.Pairs.{Pairs, pairs, put}
 use Rattle.jt_value.specs.View.{view, items_view, entries_view}
+use Rattle.jt_value.specs.declared.text.Text.{Text}
 use Rattle.jt_value.specs.declared.value.Value.{Value}
 use Rattle.jt_contexts.specs.Json.{value_of, items_of, entries_of, pairs_in, has_number, items_have, members_have, Flaw}
 use Rattle.jt_contexts.specs.Json.{ItemsFlaw, MembersFlaw, is_not_whole, is_out_of_range}
@@ -81,15 +82,15 @@ pairs_from (m ∷ ms) (p ∷ ps) e =
     let rest = pairs_from ms ps (rest_of (shown m) (Some p) _ _ e) in
     rw (head.0, rest, head.1) refl
 
-pub entries_from : (ms : List Member) (es : List (String Global × Value)) → map shown ms ≡ map Some (pairs es)
+pub entries_from : (ms : List Member) (es : List (Text × Value)) → map shown ms ≡ map Some (pairs es)
     → entries_of (members_view ms) ≡ Some (entries_view es)
 entries_from [] [] e = refl
 entries_from [] (x ∷ es) e = absurd cc
 entries_from (m ∷ ms) [] e = absurd cc
 entries_from (m ∷ ms) (x ∷ es) e =
-    let head = named (string_bytes m.0) (value_in m.1) (string_bytes x.0, view x.1)
-    (first_of (shown m) (Some (string_bytes x.0, view x.1)) _ _ e) in
-    let rest = entries_from ms es (rest_of (shown m) (Some (string_bytes x.0, view x.1)) _ _ e) in
+    let head = named (string_bytes m.0) (value_in m.1) (x.0, view x.1)
+    (first_of (shown m) (Some (x.0, view x.1)) _ _ e) in
+    let rest = entries_from ms es (rest_of (shown m) (Some (x.0, view x.1)) _ _ e) in
     rw (head.0, rest, head.1) refl
 
 -- ---- a key above all keys before it is put at the end

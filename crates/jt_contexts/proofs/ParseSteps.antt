@@ -1,9 +1,9 @@
 -- Each step of the grammar over tokens extends what they spell, and maps have the values of
 -- members.
 use Rattle.std.proofs.Common.{◌≡◌, ◌∙◌, ◌++◌, ℕ, ◌-◌, ◌<◌, ◌≤◌, List, [], ◌∷◌, length, map, Option, Some, None}
-use Rattle.std.proofs.Common.{option_map, option_and_then, String, Global, Ordering, Less, Equal, Greater, string_bytes}
+use Rattle.std.proofs.Common.{option_map, option_and_then, Ordering, Less, Equal, Greater}
 use Rattle.std.proofs.Common.{false}
-use Rattle.std.proofs.Common.{string_cmp, nat_cmp, refl, sym, ap, ap₂, arith, rules}
+use Rattle.std.proofs.Common.{nat_cmp, refl, sym, ap, ap₂, arith, rules}
 use Rattle.std.specs.List.{AllByRecursion}
 use Rattle.std.specs.List.Sorted.{IsStrictlySortedBy}
 use Rattle.std.specs.Map.{keys_of}
@@ -23,11 +23,13 @@ use Rattle.jt_value.specs.Tree.{Tree, Entries}
 use Rattle.jt_value.specs.Pairs.{Pairs, pairs}
 use Rattle.jt_value.specs.Pairs as named
 use Rattle.jt_value.specs.View.{view, items_view, entries_view}
+use Rattle.jt_value.specs.declared.text.Text.{Text}
 use Rattle.jt_value.specs.declared.value.Value.{Value}
+use Rattle.jt_contexts.specs.internal.KeyOrder.{text_cmp}
 use Rattle.jt_contexts.specs.Json.{number_of, value_of, items_of, entries_of, pairs_in}
 
 abbrev pub Entry : Type 0
-Entry = String Global × Value
+Entry = Text × Value
 
 -- ---- the grammar under the conversion to data
 
@@ -160,10 +162,10 @@ more : (k : List ℕ) (d : Data) (ms : Members) (t : Tree) (ps : Pairs) → valu
 more k d ms t ps h e = ap₂ (λ o r. option_and_then (λ t. option_map (λ qs. (k, t) ∷ qs) r) o) h e
 
 -- A map has the values of members also after a value is inserted at its key.
-pub pairs-put : (ms : Members) (es : List Entry) (k : String Global) (d : Data) (v : Value)
+pub pairs-put : (ms : Members) (es : List Entry) (k : Text) (d : Data) (v : Value)
     → pairs_in ms ≡ Some (pairs es) → value_of d ≡ Some (view v)
-    → pairs_in (put (string_bytes k) d ms) ≡ Some (pairs (insert_entry string_cmp es k v))
-pairs-put no_members [] k d v e h = more (string_bytes k) d no_members (view v) [] h refl
+    → pairs_in (put k d ms) ≡ Some (pairs (insert_entry text_cmp es k v))
+pairs-put no_members [] k d v e h = more k d no_members (view v) [] h refl
 pairs-put no_members (x ∷ es) k d v e h = absurd cc
 pairs-put (member l c ms) [] k d v e h =
     let f = first l (value_of c) (pairs_in ms) [] e in
@@ -171,27 +173,27 @@ pairs-put (member l c ms) [] k d v e h =
     absurd cc
 pairs-put (member l c ms) (x ∷ es) k d v e h =
     let f = first l (value_of c) (pairs_in ms) (pairs (x ∷ es)) e in
-    let head : (string_bytes x.0, view x.1) ≡ (l, f.value) =
-    first_of (string_bytes x.0, view x.1) (l, f.value) (pairs es) f.rest f.all in
-    let tail : pairs es ≡ f.rest = rest_of (string_bytes x.0, view x.1) (l, f.value) (pairs es) f.rest f.all in
-    let name : l ≡ string_bytes x.0 = ap (λ (p : List ℕ × Tree). p.0) (sym head) in
+    let head : (x.0, view x.1) ≡ (l, f.value) =
+    first_of (x.0, view x.1) (l, f.value) (pairs es) f.rest f.all in
+    let tail : pairs es ≡ f.rest = rest_of (x.0, view x.1) (l, f.value) (pairs es) f.rest f.all in
+    let name : l ≡ x.0 = ap (λ (p : List ℕ × Tree). p.0) (sym head) in
     let old : value_of c ≡ Some (view x.1) = f.is ∙ ap (λ (p : List ℕ × Tree). Some p.1) (sym head) in
     let others : pairs_in ms ≡ Some (pairs es) = f.others ∙ ap Some (sym tail) in
-    ap (λ (n : List ℕ). pairs_in (match_ordering (slice_cmp nat_cmp (string_bytes k) n)
-    (member (string_bytes k) d (member l c ms)) (member l d ms) (member l c (put (string_bytes k) d ms)))) name
-    ∙ by (string_cmp k x.0) name old others (pairs-put ms es k d v others h)
+    ap (λ (n : List ℕ). pairs_in (match_ordering (slice_cmp nat_cmp k n)
+    (member k d (member l c ms)) (member l d ms) (member l c (put k d ms)))) name
+    ∙ by (text_cmp k x.0) name old others (pairs-put ms es k d v others h)
   where
-    by : (o : Ordering) → l ≡ string_bytes x.0 → value_of c ≡ Some (view x.1) → pairs_in ms ≡ Some (pairs es)
-        → pairs_in (put (string_bytes k) d ms) ≡ Some (pairs (insert_entry string_cmp es k v))
-        → pairs_in (match_ordering o (member (string_bytes k) d (member l c ms)) (member l d ms)
-        (member l c (put (string_bytes k) d ms)))
-        ≡ Some (pairs (match_ordering o ((k, v) ∷ x ∷ es) ((x.0, v) ∷ es) (x ∷ insert_entry string_cmp es k v)))
-    by Less name old others later = more (string_bytes k) d (member l c ms) (view v) (pairs (x ∷ es)) h e
+    by : (o : Ordering) → l ≡ x.0 → value_of c ≡ Some (view x.1) → pairs_in ms ≡ Some (pairs es)
+        → pairs_in (put k d ms) ≡ Some (pairs (insert_entry text_cmp es k v))
+        → pairs_in (match_ordering o (member k d (member l c ms)) (member l d ms)
+        (member l c (put k d ms)))
+        ≡ Some (pairs (match_ordering o ((k, v) ∷ x ∷ es) ((x.0, v) ∷ es) (x ∷ insert_entry text_cmp es k v)))
+    by Less name old others later = more k d (member l c ms) (view v) (pairs (x ∷ es)) h e
     by Equal name old others later =
         more l d ms (view v) (pairs es) h others ∙ ap (λ (n : List ℕ). Some ((n, view v) ∷ pairs es)) name
     by Greater name old others later =
-        more l c (put (string_bytes k) d ms) (view x.1) (pairs (insert_entry string_cmp es k v)) old later
-        ∙ ap (λ (n : List ℕ). Some ((n, view x.1) ∷ pairs (insert_entry string_cmp es k v))) name
+        more l c (put k d ms) (view x.1) (pairs (insert_entry text_cmp es k v)) old later
+        ∙ ap (λ (n : List ℕ). Some ((n, view x.1) ∷ pairs (insert_entry text_cmp es k v))) name
 
 -- Pairs as entries of a map.
 abbrev entries_from : Pairs → Entries
@@ -200,7 +202,7 @@ entries_from (p ∷ ps) = tree.entry p.0 p.1 (entries_from ps)
 
 entries_seen : (es : List Entry) → entries_view es ≡ entries_from (pairs es)
 entries_seen [] = refl
-entries_seen (x ∷ es) = ap (tree.entry (string_bytes x.0) (view x.1)) (entries_seen es)
+entries_seen (x ∷ es) = ap (tree.entry x.0 (view x.1)) (entries_seen es)
 
 entries_among : (ms : Members) (ps : Pairs) → pairs_in ms ≡ Some ps → entries_of ms ≡ Some (entries_from ps)
 entries_among no_members [] e = refl
@@ -218,7 +220,7 @@ entries_in ms es e = entries_among ms (pairs es) e ∙ ap Some (sym (entries_see
 -- ---- a key above all keys before it is put at the end
 
 below_middle : (d : Entry) (ms : List Entry) (m : Entry) (rest : List Entry)
-    → AllByRecursion (λ y. string_cmp d.0 y ≡ Less) (keys_of (ms ++ m ∷ rest)) → string_cmp d.0 m.0 ≡ Less
+    → AllByRecursion (λ y. text_cmp d.0 y ≡ Less) (keys_of (ms ++ m ∷ rest)) → text_cmp d.0 m.0 ≡ Less
 below_middle d [] m rest h = h.0
 below_middle d (x ∷ ms) m rest h = below_middle d ms m rest h.1
 
@@ -226,11 +228,11 @@ pub apart : (x y : List ℕ) → slice_cmp nat_cmp x y ≡ Less → bytes_eq x y
 apart x y e = sym (is_eq-slice_cmp x y) ∙ ap is_eq e
 
 pub put_last : (done : List Entry) (m : Entry) (rest : List Entry)
-    → IsStrictlySortedBy string_cmp (keys_of (done ++ m ∷ rest))
-    → named.put (string_bytes m.0) (view m.1) (pairs done) ≡ pairs (done ++ m ∷ [])
+    → IsStrictlySortedBy text_cmp (keys_of (done ++ m ∷ rest))
+    → named.put m.0 (view m.1) (pairs done) ≡ pairs (done ++ m ∷ [])
 unfolding IsStrictlySortedBy
 put_last [] m rest s = refl
 put_last (d ∷ done) m rest s =
-    let last : bytes_eq (string_bytes d.0) (string_bytes m.0) ≡ false =
-    apart (string_bytes d.0) (string_bytes m.0) (below_middle d done m rest s.0) in
-    rw last (ap (λ qs. (string_bytes d.0, view d.1) ∷ qs) (put_last done m rest s.1))
+    let last : bytes_eq d.0 m.0 ≡ false =
+    apart d.0 m.0 (below_middle d done m rest s.0) in
+    rw last (ap (λ qs. (d.0, view d.1) ∷ qs) (put_last done m rest s.1))

@@ -11,7 +11,7 @@ ghost use Rattle.jt_contexts.specs.Json.{IsContext, Holds, Flaw, ItemsFlaw, Memb
 use crate::error::ContextError;
 use crate::numbers::number_value;
 use crate::reading::{ReadError, read_context};
-use jt_value::{Context, Value};
+use jt_value::{Context, Text, Value};
 use serde_json::Map;
 use std::alloc::Global;
 
@@ -76,6 +76,7 @@ fn context_of(
     let mut context = Context::new(alloc);
     for (name, member) in members {
         let value = value_of(alloc, member)?;
+        let name = Text::from_string(name)?;
         if context.insert(name, value).is_err() {
             return Err(ContextError::NoMemory);
         }
@@ -120,7 +121,7 @@ fn items_of(alloc: Global, items: Vec<serde_json::Value>) -> Result<Vec<Value>, 
 fn entries_of(
     alloc: Global,
     members: Map<String, serde_json::Value>,
-) -> Result<Vec<(String, Value)>, ContextError>
+) -> Result<Vec<(Text, Value)>, ContextError>
     ensures ok { IfOk result
         (λ es. entries_of_json (members_view members.entries) ≡ Some (entries_view es.items)) }
     ensures err { IfErr result (MembersFlaw (members_view members.entries)) }
@@ -128,6 +129,7 @@ fn entries_of(
     let mut entries = Vec::with_capacity(alloc, members.len())?;
     for (key, member) in members {
         let value = value_of(alloc, member)?;
+        let key = Text::from_string(key)?;
         entries.push((key, value))?;
     }
     Ok(entries)

@@ -2,18 +2,19 @@
 ghost use Rattle.std.specs.Prelude.{◌≡◌, ◌<◌, length, Some, IfOk, OnOk};
 ghost use Rattle.std.specs.List.Sorted.{IsStrictlySortedBy};
 ghost use Rattle.std.specs.Map.{keys_of};
-ghost use Rattle.std.specs.String.{string_cmp};
 ghost use Rattle.jt_value.specs.ContextView.{pairs_of};
 ghost use Rattle.jt_value.specs.Pairs.{pairs};
 ghost use Rattle.jt_value.specs.Tree as tree;
 ghost use Rattle.jt_value.specs.View.{view};
 ghost use Rattle.jt_contexts.specs.Json.{IsContext};
+ghost use Rattle.jt_contexts.specs.internal.KeyOrder.{text_cmp};
 ghost use Rattle.jt_contexts.specs.internal.Reading.{Spells, SpellsItems, SpellsMembers};
 
+use crate::earlier::Earlier;
 use crate::numbers::whole_number;
 use crate::ordering::{FEW, Members};
 use json::{Invalid, Reader, Scratch, Token};
-use jt_value::{Context, NoMemory, Value};
+use jt_value::{Context, NoMemory, Text, Value};
 use std::alloc::{AllocError, AllocFailed, Global};
 
 const MAX_DEPTH: usize = 127;
@@ -60,8 +61,8 @@ pub(crate) fn read_context(alloc: Global, text: &str) -> Result<Context, ReadErr
     let Some(Token::BeginObject) = reader.next() else {
         return Err(ReadError::NoContext);
     };
-    let mut expected = 0;
-    let members = read_members(alloc, &mut reader, MAX_DEPTH - 1, &mut expected)?;
+    let mut earlier = Earlier::new(alloc);
+    let members = read_members(alloc, &mut reader, MAX_DEPTH - 1, &mut earlier)?;
     if reader.next().is_some() {
         return Err(ReadError::NoContext);
     }
@@ -69,8 +70,8 @@ pub(crate) fn read_context(alloc: Global, text: &str) -> Result<Context, ReadErr
 }
 
 /// Builds the context of members that are in the order of their names.
-fn context_of(alloc: Global, members: Vec<(String, Value)>) -> Result<Context, ReadError>
-    requires { IsStrictlySortedBy string_cmp (keys_of members.items) }
+fn context_of(alloc: Global, members: Vec<(Text, Value)>) -> Result<Context, ReadError>
+    requires { IsStrictlySortedBy text_cmp (keys_of members.items) }
     ensures { IfOk result (λ c. pairs_of c ≡ pairs members.items) }
 {
     let mut context = Context::new(alloc);
@@ -82,22 +83,21 @@ fn context_of(alloc: Global, members: Vec<(String, Value)>) -> Result<Context, R
     Ok(context)
 }
 
-/// Reads the value that the next tokens spell, if it nests at most `depth` deep. `expected` is the
-/// number of members of the object that was read last, for which the next object reserves memory.
+/// Reads the value that the next tokens spell, if it nests at most `depth` deep.
 #[cycle(read)]
 #[inline(always)]
 fn read(
     alloc: Global,
     reader: &mut Reader<'_>,
     depth: usize,
-    expected: &mut usize,
+    earlier: &mut Earlier,
 ) -> Result<Value, ReadError>
     ensures ok { IfOk result (λ v. Spells depth reader.old (view v) reader.new) }
     ensures shorter { OnOk result (length reader.new < length reader.old) }
 {
     let token = reader.next().ok_or(ReadError::NoContext)?;
     match token {
-        Token::String(text) => Ok(Value::text(alloc, text)?),
+        Token::String(text) => Ok(earlier.text(alloc, text)?),
         Token::Number(text) => match whole_number(text) {
             Some(number) => Ok(Value::Int(number)),
             None => Err(ReadError::NoContext),
@@ -105,11 +105,11 @@ fn read(
         Token::Bool(truth) => Ok(Value::Bool(truth)),
         Token::Null => Ok(Value::None),
         Token::BeginArray if depth > 0 => {
-            let items = read_items(alloc, reader, depth - 1, expected)?;
+            let items = read_items(alloc, reader, depth - 1, earlier)?;
             Ok(Value::list(alloc, items)?)
         }
         Token::BeginObject if depth > 0 => {
-            let members = read_members(alloc, reader, depth - 1, expected)?;
+            let members = read_members(alloc, reader, depth - 1, earlier)?;
             Ok(Value::from_entries(alloc, members)?)
         }
         _ => Err(ReadError::NoContext),
@@ -123,14 +123,14 @@ fn read_items(
     alloc: Global,
     reader: &mut Reader<'_>,
     depth: usize,
-    expected: &mut usize,
+    earlier: &mut Earlier,
 ) -> Result<Vec<Value>, ReadError>
     ensures ok { IfOk result (λ vs. SpellsItems depth reader.old vs.items reader.new) }
     ensures shorter { OnOk result (length reader.new < length reader.old) }
 {
     let mut found = Vec::new(alloc);
     'items: while !reader.take_end_array() {
-        let item = read(alloc, reader, depth, expected)?;
+        let item = read(alloc, reader, depth, earlier)?;
         found.push(item)?;
     }
     Ok(found)
@@ -144,19 +144,19 @@ fn read_members(
     alloc: Global,
     reader: &mut Reader<'_>,
     depth: usize,
-    expected: &mut usize,
-) -> Result<Vec<(String, Value)>, ReadError>
+    earlier: &mut Earlier,
+) -> Result<Vec<(Text, Value)>, ReadError>
     ensures ok { IfOk result (λ es. SpellsMembers depth reader.old es.items reader.new) }
-    ensures ordered { IfOk result (λ es. IsStrictlySortedBy string_cmp (keys_of es.items)) }
+    ensures ordered { IfOk result (λ es. IsStrictlySortedBy text_cmp (keys_of es.items)) }
     ensures shorter { OnOk result (length reader.new < length reader.old) }
 {
-    let mut found = Members::with_room(alloc, FEW.min(*expected))?;
+    let mut found = Members::with_room(alloc, FEW.min(earlier.count))?;
     'members: while let Some(name) = reader.next_key()? {
-        let key = String::from_str(alloc, name)?;
-        let member = read(alloc, reader, depth, expected)?;
+        let key = earlier.key(alloc, name)?;
+        let member = read(alloc, reader, depth, earlier)?;
         found.put(alloc, key, member)?;
     }
     let members = found.into_list(alloc)?;
-    *expected = members.len();
+    earlier.count = members.len();
     Ok(members)
 }

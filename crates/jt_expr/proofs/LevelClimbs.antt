@@ -34,7 +34,7 @@ unrank_rank : (k : Level) → unrank (rank k) ≡ k
 unfolding unrank
 unrank_rank k = search (arith, rules)
 
-rank_same : (j k : Level) → rank j ≡ rank k → j ≡ k
+pub rank_same : (j k : Level) → rank j ≡ rank k → j ≡ k
 rank_same j k e = sym (unrank_rank j) ∙ ap unrank e ∙ unrank_rank k
 
 pub rank_most : (k : Level) → rank k ≤ 11

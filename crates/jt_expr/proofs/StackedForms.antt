@@ -12,13 +12,14 @@ use Rattle.jt_expr.specs.Grammar.{Tokens, Level}
 use Rattle.jt_expr.specs.internal.Reading.{Fault, syntax, deep, ParseResult, ◌>>=◌, read, read_at}
 use Rattle.jt_expr.specs.internal.Gives.{Refuses}
 use Rattle.jt_expr.specs.internal.Pending.{rank, looser, Form, Move, grown, complete, waits, nests, awaited, reached}
-use Rattle.jt_expr.specs.internal.Pending.{deeper, depth, goal_of, form_view, stacked}
+use Rattle.jt_expr.specs.internal.Pending.{deeper, depth, goal_of, form_view, stacked, joined, Leads}
 use Rattle.jt_expr.specs.internal.Moves.{begin, grow, resume}
 use Rattle.jt_expr.specs.internal.Unwinding.{rest_of, onward, climb, climbs, finish, carried, unwind, outcome_at}
 use Rattle.jt_expr.proofs.Binding.{assoc}
 use Rattle.jt_expr.proofs.MovesRead.{grow_reads, resume_reads}
 use Rattle.jt_expr.proofs.MoveBounds.{grow_level, resume_level}
-use Rattle.jt_expr.proofs.LevelClimbs.{rank_most, looser_rank, finishing, begin_reads}
+use Rattle.jt_expr.proofs.LevelClimbs.{rank_most, rank_same, looser_rank, finishing, begin_reads}
+use Rattle.jt_expr.proofs.QuietTokens.{quiet}
 use Rattle.jt_expr.proofs.ParserSound.{read_is_spelled}
 
 -- ---- refusals
@@ -126,6 +127,33 @@ looser_next entry below fs k t ts less =
     let turn : rank (goal_of entry fs) - rank k ≡ suc (rank (goal_of entry fs) - rank (looser k)) = omega arith in
     ap (λ d. unwind entry below fs (climb (read below) (suc below) d k t ts)) turn
 
+-- A token that continues no form of the level completes a tree of the level.
+quiet_next : (entry : Level) (below : ℕ) (fs : List Form) (k : Level) (t : Expr) (ts : Tokens)
+    → rank k < rank (joined ts)
+    → outcome_at entry below fs (grown k t) ts ≡ outcome_at entry below fs (complete k t) ts
+unfolding outcome_at
+quiet_next entry below fs k t ts less =
+    grow_next entry below fs k t ts
+    ∙ ap (λ o. unwind entry below fs (o >>= finish (read below) (suc below) (goal_of entry fs)))
+    (quiet (read below) (suc below) k t ts less)
+
+-- The d levels after k are tighter than the one that the next token continues.
+skips : (entry : Level) (below : ℕ) (fs : List Form) (t : Expr) (ts : Tokens) (d : ℕ) (k n : Level)
+    → rank n ≡ suc d + rank k → rank n ≤ rank (goal_of entry fs) → (0 < d → rank n ≤ rank (joined ts))
+    → outcome_at entry below fs (complete k t) ts ≡ outcome_at entry below fs (grown n t) ts
+skips entry below fs t ts zero k n e le h =
+    let most : rank n ≤ 11 = rank_most n in
+    let up : rank (looser k) ≡ suc (rank k) = looser_rank k (omega arith) in
+    looser_next entry below fs k t ts (omega arith)
+    ∙ ap (λ j. outcome_at entry below fs (grown j t) ts) (rank_same (looser k) n (omega arith))
+skips entry below fs t ts (suc d) k n e le h =
+    let most : rank n ≤ 11 = rank_most n in
+    let far : rank n ≤ rank (joined ts) = h (omega arith) in
+    let up : rank (looser k) ≡ suc (rank k) = looser_rank k (omega arith) in
+    looser_next entry below fs k t ts (omega arith)
+    ∙ quiet_next entry below fs (looser k) t ts (omega arith)
+    ∙ skips entry below fs t ts d (looser k) n (omega arith) le (λ g. far)
+
 completed_tree : (entry : Level) (below : ℕ) (fs : List Form) (k : Level) (t : Expr) (ts : Tokens)
     → rank (goal_of entry fs) ≤ rank k
     → outcome_at entry below fs (complete k t) ts ≡ unwind entry below fs (Ok (t, ts))
@@ -220,14 +248,13 @@ nest_refused entry below old f ts is =
 -- The test of the code for the end of a form, whose level is g.
 module _ (entry : Level) (below : ℕ) (old : List Pending) (k g : Level) (t : Expr) (ts : Tokens)
     (same : g ≡ goal_of entry (stacked old [])) where
-  pub looser_moves : (n : Level) → n ≡ looser k → nat_le (rank g) (rank k) ≡ false
+  pub skip_moves : (n : Level) → Leads k (joined ts) g n → nat_le (rank g) (rank k) ≡ false
       → outcome_at entry below (stacked old []) (complete k t) ts
       ≡ outcome_at entry below (stacked old []) (grown n t) ts
-  looser_moves n is test =
+  skip_moves n leads test =
       let ranks : rank g ≡ rank (goal_of entry (stacked old [])) = ap rank same in
-      let beyond : rank k < rank g = grind (arith, nat_tests) in
-      looser_next entry below (stacked old []) k t ts (omega arith)
-      ∙ ap (λ j. outcome_at entry below (stacked old []) (grown j t) ts) (sym is)
+      skips entry below (stacked old []) t ts (rank n - suc (rank k)) k n (omega (arith, leads.past))
+      (omega (arith, leads.within)) (λ h. leads.between (omega (arith, h, leads.past)))
 
   within : nat_le (rank g) (rank k) ≡ true → rank (goal_of entry (stacked old [])) ≤ rank k
   within test =

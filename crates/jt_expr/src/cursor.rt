@@ -7,7 +7,8 @@ ghost use Rattle.jt_expr.specs.Front as front;
 ghost use Rattle.jt_expr.specs.internal.Reading as reading;
 ghost use Rattle.jt_expr.specs.Grammar as grammar;
 ghost use Rattle.jt_expr.specs.Cursor.{ahead, Passes, Takes, TakesSign, TakesAName};
-ghost use Rattle.jt_expr.specs.internal.Pending.{level_view};
+ghost use Rattle.std.specs.Str.{chars};
+ghost use Rattle.jt_expr.specs.internal.Pending.{joined, level_view, sign_level, word_level};
 ghost use Rattle.jt_expr.specs.internal.Gives.{Operates, OperatesAt, NamesBy, TextsBy, GivesWord};
 
 use crate::error::ExprError;
@@ -54,6 +55,17 @@ impl<'a> Cursor<'a> {
         match self.rest {
             [Token::Name(found), ..] => is_word(found, word),
             _ => false,
+        }
+    }
+
+    /// Returns the tightest level whose forms the next token may continue, or `Whole`.
+    pub(crate) fn continued(&self) -> Level
+        ensures { level_view result ≡ joined (ahead self.now) }
+    {
+        match self.rest {
+            [Token::Sign(sign), ..] => sign_level(*sign),
+            [Token::Name(word), ..] => word_level(word),
+            _ => Level::Whole,
         }
     }
 
@@ -307,6 +319,43 @@ impl<'a> Cursor<'a> {
         } else {
             None
         }
+    }
+}
+
+/// Returns the level of the forms that a sign after a tree continues, or `Whole` if it continues
+/// none.
+fn sign_level(sign: Sign) -> Level
+    ensures { level_view result ≡ sign_level sign }
+{
+    match sign {
+        Sign::Dot | Sign::LeftBracket | Sign::LeftParen => Level::Postfix,
+        Sign::Pipe => Level::Postscript,
+        Sign::Power => Level::Power,
+        Sign::Times | Sign::FloorDivide | Sign::Percent => Level::Product,
+        Sign::Tilde => Level::Concatenation,
+        Sign::Plus | Sign::Minus => Level::Sum,
+        Sign::Equal | Sign::NotEqual | Sign::Less => Level::Comparison,
+        Sign::LessEqual | Sign::Greater | Sign::GreaterEqual => Level::Comparison,
+        Sign::Assign | Sign::Comma | Sign::Colon | Sign::LeftBrace => Level::Whole,
+        Sign::RightParen | Sign::RightBracket | Sign::RightBrace => Level::Whole,
+    }
+}
+
+/// Returns the level of the forms that a word after a tree continues, or `Whole` if it continues
+/// none.
+fn word_level(word: &str) -> Level
+    ensures { level_view result ≡ word_level (chars word.now) }
+{
+    if is_word(word, "is") {
+        Level::Postscript
+    } else if is_word(word, "in") || is_word(word, "not") {
+        Level::Comparison
+    } else if is_word(word, "and") {
+        Level::Conjunction
+    } else if is_word(word, "or") {
+        Level::Disjunction
+    } else {
+        Level::Whole
     }
 }
 

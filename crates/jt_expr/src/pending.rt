@@ -3,7 +3,7 @@
 ghost use Rattle.std.specs.Prelude.{◌≡◌, ◌<◌, ◌+◌, ◌^◌, nat_le};
 ghost use Rattle.jt_expr.specs.internal.Pending.{awaited, deeper, depth, form_view, forms_of};
 ghost use Rattle.jt_expr.specs.internal.Pending.{level_view};
-ghost use Rattle.jt_expr.specs.internal.Pending.{looser, rank};
+ghost use Rattle.jt_expr.specs.internal.Pending.{Leads, looser, rank};
 ghost use Rattle.jt_expr.specs.internal.Pending as pending;
 ghost use Rattle.jt_expr.specs.Grammar.{next};
 ghost use Rattle.jt_expr.specs.Promises.{level_of_form};
@@ -46,7 +46,7 @@ impl Level {
     }
 
     /// Returns the next looser level.
-    pub(crate) fn looser(self) -> Level
+    fn looser(self) -> Level
         ensures { level_view result ≡ looser (level_view self) }
     {
         match self {
@@ -61,6 +61,26 @@ impl Level {
             Level::Inversion => Level::Conjunction,
             Level::Conjunction => Level::Disjunction,
             Level::Disjunction | Level::Whole => Level::Whole,
+        }
+    }
+
+    /// Returns a looser level, at most `goal`. It skips levels that are tighter than `continued`,
+    /// the level that the next token continues.
+    pub(crate) fn towards(self, continued: Level, goal: Level) -> Level
+        requires { rank (level_view self) < rank (level_view goal) }
+        ensures { Leads (level_view self) (level_view continued) (level_view goal)
+            (level_view result) }
+    {
+        let next = self.looser();
+        let farthest = if continued.admits(goal) {
+            goal
+        } else {
+            continued
+        };
+        if farthest.admits(next) {
+            farthest
+        } else {
+            next
         }
     }
 

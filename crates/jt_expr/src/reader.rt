@@ -89,7 +89,8 @@ impl<'a> Reader<'a> {
         Ok(Progress::Moved(self.begin(cursor)?))
     }
 
-    /// Passes a complete tree to the next looser level or to the innermost form.
+    /// Passes a complete tree to a looser level, which the next token continues if one does, or to
+    /// the innermost form.
     fn complete(
         &mut self,
         cursor: &mut Cursor<'a>,
@@ -102,8 +103,10 @@ impl<'a> Reader<'a> {
             (complete (level_view level) (tree_of tree)) (ahead cursor.old)) result self.new
             (ahead cursor.new) }
     {
-        if !level.admits(self.goal()) {
-            return Ok(Progress::Moved(Step::Grown(level.looser(), tree)));
+        let goal = self.goal();
+        if !level.admits(goal) {
+            let next = level.towards(cursor.continued(), goal);
+            return Ok(Progress::Moved(Step::Grown(next, tree)));
         }
         let Some(form) = self.pending.pop() else {
             return Ok(Progress::Done(tree));

@@ -1,10 +1,10 @@
 -- Escaping keeps a text without special characters.
-use Rattle.std.proofs.Common.{◌≡◌, ℕ, Bool, true, false, ◌||◌, List, [], ◌∷◌, ◌++◌, flat_map, Option, Some, None, refl}
+use Rattle.std.proofs.Common.{◌≡◌, ℕ, Bool, true, false, ◌||◌, List, [], ◌∷◌, ◌++◌, Option, Some, None, refl}
 use Rattle.std.proofs.Common.{ap, ◌∙◌}
 use Rattle.std.specs.List.{list_any}
 use Rattle.std.specs.Option.{is_some}
 use Rattle.std.specs.Prelude.{unwrap_or}
-use Rattle.jt_escape.specs.Escaping.{escaped, escaped_byte, entity}
+use Rattle.jt_escape.specs.Escaping.{escaped, entity}
 
 left_false : (a b : Bool) → (a || b) ≡ false → a ≡ false
 left_false true b e = e

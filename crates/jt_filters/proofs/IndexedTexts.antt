@@ -1,6 +1,6 @@
 -- Test `in` with a text that has an index.
 use Rattle.std.proofs.Common.{◌≡◌, ℕ, List, [], ◌∷◌, Some, None, refl, ap, ◌∙◌}
-use Rattle.std.specs.Prelude.{Result, Ok, Err, Bool}
+use Rattle.std.specs.Prelude.{Ok, Err}
 use Rattle.jt_ids.specs.declared.test_id.TestId.TheVariants as test
 use Rattle.jt_op_semantics.specs.Membership.{occurs_in}
 use Rattle.jt_op_semantics.specs.Operands.{operand_fault_of_one}

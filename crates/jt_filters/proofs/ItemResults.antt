@@ -1,5 +1,5 @@
 -- The gathered results of items: their size, their nesting, and the values.
-use Rattle.std.proofs.Common.{◌≡◌, ℕ, ◌+◌, ◌-◌, ◌^◌, ◌≤◌, min, max, List, [], ◌∷◌, ◌++◌, true, refl, sym, ap, ◌∙◌}
+use Rattle.std.proofs.Common.{◌≡◌, ℕ, ◌+◌, ◌-◌, ◌^◌, ◌≤◌, min, max, List, [], ◌∷◌, ◌++◌, refl, sym, ap, ◌∙◌}
 use Rattle.std.proofs.Common.{arith, rules}
 use Rattle.std.specs.Prelude.{Result, Ok, Err}
 use Rattle.jt_value.specs.declared.fault.Fault.{Fault}
@@ -10,7 +10,7 @@ use Rattle.jt_value.specs.View.{view, items_view}
 use Rattle.jt_value.proofs.Lists.{joined_size, joined_nesting}
 use Rattle.jt_value.specs.Iteration.{items_of_tree}
 use Rattle.jt_filter_semantics.specs.Listing.{on_items, given}
-use Rattle.jt_filter_semantics.specs.Mapping.{in_front, gathered, gathered_by, as_list, alone, if_kept}
+use Rattle.jt_filter_semantics.specs.Mapping.{in_front, gathered, gathered_by, as_list, alone}
 use Rattle.jt_filters.specs.internal.Operands.{measured}
 use Rattle.jt_filters.specs.internal.Rows.{row_measured, measured_behind}
 use Rattle.jt_filters.proofs.ListAppend.{pushed, joined_none}
@@ -21,9 +21,6 @@ pair_is a b c d e f = ap (λ (x : ℕ). Ok (x, c)) e ∙ ap (λ (x : ℕ). Ok (b
 pub alone_measured : (r : Result Tree Fault) → row_measured (alone r) ≡ measured r
 alone_measured (Ok t) = pair_is _ _ _ _ (omega arith) (omega arith)
 alone_measured (Err f) = refl
-
-pub kept_measured : (t : Tree) → row_measured (if_kept t (Ok true)) ≡ measured (Ok t)
-kept_measured t = alone_measured (Ok t)
 
 joined_joined : (ts us vs : Items) → joined_items (joined_items ts us) vs ≡ joined_items ts (joined_items us vs)
 joined_joined no_items us vs = refl
@@ -148,8 +145,6 @@ pub whole : (t : Tree) (ts : Items) (one : Tree → Result Items Fault) (give : 
     → items_of_tree t ≡ Ok ts → Ok one ≡ give → on_items (gathered_by give) t ≡ as_list (gathered one ts)
 whole t ts one give e g =
     ap (given (gathered_by give)) e ∙ ap (λ (h : Result (Tree → Result Items Fault) Fault). gathered_by h ts) (sym g)
-
-pub ruleset action_measures = (alone_measured, kept_measured)
 
 pub ruleset action_values = (put_alone, put_none)
 

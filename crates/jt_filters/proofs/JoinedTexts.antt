@@ -1,6 +1,6 @@
 -- The texts of joins, piece by piece.
 use Rattle.std.proofs.Common.{◌≡◌, ℕ, Bool, true, false, cond, ◌||◌, ◌&&◌, List, [], ◌∷◌, ◌++◌, flat_map, Option, Some}
-use Rattle.std.proofs.Common.{None, refl, sym, ap, ◌∙◌, subst, append_assoc, arith, rules}
+use Rattle.std.proofs.Common.{None, refl, sym, ap, ◌∙◌, subst, append_assoc}
 use Rattle.std.proofs.lemmas.List.{append-nil}
 use Rattle.std.specs.Prelude.{Ok, Err, Result, option_map, option_and_then, String}
 use Rattle.std.specs.declared.alloc.Global.{Global}
@@ -11,7 +11,7 @@ use Rattle.jt_value.specs.declared.fault.ValueError.{ValueError}
 use Rattle.jt_value.specs.declared.fault.ValueError.TheVariants as error
 use Rattle.jt_value.specs.Tree as tree
 use Rattle.jt_value.specs.Tree.{Tree, Items, no_items, item, printed}
-use Rattle.jt_escape.specs.Joining.{piece, pieces, joined_text, joined_markup, joined_plain, joined_as_markup}
+use Rattle.jt_escape.specs.Joining.{piece, pieces, joined_text, joined_plain, joined_as_markup}
 use Rattle.jt_escape.specs.Joining.{has_markup, or_unprintable}
 use Rattle.jt_op_semantics.specs.Testing.{is_markup}
 use Rattle.jt_filter_semantics.specs.Listing.{joined_by}

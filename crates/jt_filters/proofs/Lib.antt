@@ -1,7 +1,7 @@
 pub mod DistinctItems
 pub mod ApplyCorrect
 pub mod TextKeys
-pub mod BuiltPayloads
+pub mod PlanPayloads
 pub mod Characters
 pub mod FilterRows
 pub mod EndItems
@@ -16,6 +16,7 @@ pub mod SeenEntries
 pub mod SeenNumbers
 pub mod ListAppend
 pub mod ListMembers
+pub mod NumberAnswers
 pub mod IndexedTexts
 pub mod TextMeasures
 pub mod Measures

@@ -1,14 +1,14 @@
 -- The items of a list, found by their indices.
-use Rattle.std.proofs.Common.{◌≡◌, ℕ, zero, suc, ℤ, ◌+◌, ◌<◌, Bool, true, false, cond, ◌||◌, List, [], ◌∷◌, length}
+use Rattle.std.proofs.Common.{◌≡◌, ℕ, zero, suc, ℤ, ◌+◌, ◌<◌, Bool, true, false, cond, List, [], ◌∷◌, length}
 use Rattle.std.proofs.Common.{drop, get_or, Some, None, refl, sym, ap, ◌∙◌, subst, true≢false, arith}
-use Rattle.std.proofs.lemmas.Cmp.{int_eq_equiv, nat_list_cmp_total}
+use Rattle.std.proofs.lemmas.Cmp.{nat_list_cmp_total}
 use Rattle.std.proofs.lemmas.List.{at_drop_more}
 use Rattle.std.specs.BTreeMap.{BTreeMap, insert_entry, is_at}
 use Rattle.std.specs.Map.{lookup}
 use Rattle.std.specs.Cmp.{tied_itself, signed_Decides}
 use Rattle.std.specs.Cmp.Lexicographic.{slice_cmp}
 use Rattle.std.specs.Option.{IsSome, is_some}
-use Rattle.std.specs.Ordering.{int_eq, is_eq, nat_cmp}
+use Rattle.std.specs.Ordering.{is_eq, nat_cmp}
 use Rattle.std.specs.Prelude.{Option, Vec, Result, Ok, Err, OnOk}
 use Rattle.std.specs.declared.alloc.Global.{Global}
 use Rattle.jt_ids.specs.declared.test_id.TestId.TheVariants as test
@@ -16,12 +16,11 @@ use Rattle.jt_op_semantics.specs.Membership.{has_item}
 use Rattle.jt_op_semantics.specs.Testing.{tested}
 use Rattle.jt_value.specs.Equality.{equal, truth_number}
 use Rattle.jt_value.specs.Tree as tree
-use Rattle.jt_value.specs.Tree.{Tree, Items, no_items, item}
+use Rattle.jt_value.specs.Tree.{Tree, Items, item}
 use Rattle.jt_value.specs.View.{view, items_view}
 use Rattle.jt_value.specs.declared.value.Value.{Value}
-use Rattle.jt_filters.specs.declared.members.Indices.{Indices}
 use Rattle.jt_filters.specs.internal.Codes.{code}
-use Rattle.jt_filters.specs.internal.IndicesOf.{at_number, at_code, index_by, index, Covers}
+use Rattle.jt_filters.specs.internal.IndicesOf.{at_code, HasIndex, Covers}
 use Rattle.jt_filters.specs.internal.Seen.{number_like}
 use Rattle.jt_filters.proofs.SameCodes.{same_code}
 use Rattle.jt_filters.proofs.SeenCodes.{either, or_left, or_right}
@@ -53,36 +52,39 @@ same_number (tree.list ts) (tree.list us) e = refl
 same_number (tree.map es) (tree.map fs) e = refl
 same_number t u e = absurd (true≢false (sym e))
 
--- Equal values have the same index.
-same_index : (p : Indices) (t u : Tree) → equal t u ≡ true → index p t ≡ index p u
-same_index p t u e =
-    ap (λ (z : Option ℤ). index_by p z (code t)) (same_number t u e)
-    ∙ ap (λ (c : List ℕ). index_by p (number_like u) c) (same_code t u e)
+same_index : (m : BTreeMap (Vec ℕ Global) ℕ) (t u : Tree) → equal t u ≡ true → HasIndex m u → HasIndex m t
+same_index m t u e there none =
+    subst (λ (c : List ℕ). IsSome (at_code m c)) (sym (same_code t u e)) (there (sym (same_number t u e) ∙ none))
 
-covers_more : (p q : Indices) (t : Tree) (ts : Items) → IsSome (index q t)
-    → ((u : Tree) → IsSome (index p u) → IsSome (index q u)) → Covers p ts → Covers q (item t ts)
-covers_more p q t ts there kept known u e =
-    either (equal u t) (has_item u ts) e
-    (λ same. subst (λ (o : Option ℕ). IsSome o) (sym (same_index q u t same)) there)
-    (λ old. kept u (known u old))
+covers_more : (m n : BTreeMap (Vec ℕ Global) ℕ) (t : Tree) (ts : Items) → HasIndex n t
+    → ((u : Tree) → HasIndex m u → HasIndex n u) → Covers m ts → Covers n (item t ts)
+covers_more m n t ts there kept known u e =
+    either (equal u t) (has_item u ts) e (λ same. same_index n u t same there) (λ old. kept u (known u old))
 
 -- The indices cover one more item, the one before them.
-pub covers_next : (vs : List Value) (n i : ℕ) (v : Value) (p q : Indices) → i + 1 ≡ n → i < length vs
-    → v ≡ get_or vs i v
-    → IsSome (index q (view v)) → ((u : Tree) → IsSome (index p u) → IsSome (index q u))
-    → Covers p (items_view (drop n vs)) → Covers q (items_view (drop i vs))
-covers_next vs n i v p q next inside at there kept known =
-    subst (λ (ts : Items). Covers q ts)
+pub covers_next : (vs : List Value) (n i : ℕ) (v : Value) (old new : BTreeMap (Vec ℕ Global) ℕ) → i + 1 ≡ n
+    → i < length vs → v ≡ get_or vs i v
+    → HasIndex new (view v) → ((u : Tree) → HasIndex old u → HasIndex new u)
+    → Covers old (items_view (drop n vs)) → Covers new (items_view (drop i vs))
+covers_next vs n i v old new next inside at there kept known =
+    subst (λ (ts : Items). Covers new ts)
     (ap (λ (x : Value). items_view (x ∷ drop (i + 1) vs)) at
     ∙ sym (at_drop_more (λ (ys : List Value). items_view ys) vs i v inside))
-    (covers_more p q (view v) (items_view (drop (i + 1) vs)) there kept
-    (subst (λ (j : ℕ). Covers p (items_view (drop j vs))) (sym next) known))
+    (covers_more old new (view v) (items_view (drop (i + 1) vs)) there kept
+    (subst (λ (j : ℕ). Covers old (items_view (drop j vs))) (sym next) known))
 
--- The index of a value that equals a number is that of the number.
-pub number_found : (p : Indices) (t : Tree) (z x : ℤ) → x ≡ z → Some z ≡ number_like t
-    → at_number p.numbers x ≡ index p t
-number_found p t z x same is =
-    ap (λ (y : ℤ). at_number p.numbers y) same ∙ ap (λ (o : Option ℤ). index_by p o (code t)) is
+-- A value that has no index equals none of the items.
+pub not_covered : (m : BTreeMap (Vec ℕ Global) ℕ) (t : Tree) (ts : Items) → Covers m ts → number_like t ≡ None
+    → None ≡ at_code m (code t) → false ≡ has_item t ts
+not_covered m t ts known none missing = by (has_item t ts) refl
+  where
+    by : (b : Bool) → has_item t ts ≡ b → false ≡ has_item t ts
+    by false e = sym e
+    by true e = absurd (true≢false (sym (subst (λ (o : Option ℕ). IsSome o) (sym missing) (known t e none))))
+
+-- A value that equals a number needs no index.
+pub numbered : (m : BTreeMap (Vec ℕ Global) ℕ) (t : Tree) (z : ℤ) → Some z ≡ number_like t → HasIndex m t
+numbered m t z is none = absurd (cc)
 
 -- The index at each code, after a code is stored.
 pub code_put : (m n : BTreeMap (Vec ℕ Global) ℕ) (k : Vec ℕ Global) (v : ℕ) (c : List ℕ)
@@ -93,22 +95,33 @@ code_put m n k v c put =
     ∙ lookup-inserted (λ (x : Vec ℕ Global). x.items) k v c m.entries
 
 -- A code that was stored has an index.
-pub code_there : (p q : Indices) (t : Tree) (k : List ℕ) (n : ℕ) → None ≡ number_like t → k ≡ code t
-    → ((c : List ℕ) → at_code q.codes c ≡ cond (is_eq (slice_cmp nat_cmp c k)) (Some n) (at_code p.codes c))
-    → IsSome (index q t)
-code_there p q t k n none is put =
-    subst (λ (o : Option ℤ). IsSome (index_by q o (code t))) none
-    (ap is_some (put (code t))
-    ∙ ap (λ (c : List ℕ). is_some (cond (is_eq (slice_cmp nat_cmp c k)) (Some n) (at_code p.codes (code t)))) (sym is)
-    ∙ ap (λ (b : Bool). is_some (cond b (Some n) (at_code p.codes (code t))))
-    (ap is_eq (tied_itself nat_list_cmp_total k)))
+code_there : (old new : BTreeMap (Vec ℕ Global) ℕ) (t : Tree) (k : List ℕ) (n : ℕ) → k ≡ code t
+    → ((c : List ℕ) → at_code new c ≡ cond (is_eq (slice_cmp nat_cmp c k)) (Some n) (at_code old c))
+    → IsSome (at_code new (code t))
+code_there old new t k n is put =
+    ap is_some (put (code t))
+    ∙ ap (λ (c : List ℕ). is_some (cond (is_eq (slice_cmp nat_cmp c k)) (Some n) (at_code old (code t)))) (sym is)
+    ∙ ap (λ (b : Bool). is_some (cond b (Some n) (at_code old (code t)))) (ap is_eq (tied_itself nat_list_cmp_total k))
 
-pub code_stored : {A E : Type 0} (r : Result A E) (p q : Indices) (t : Tree) (k : List ℕ) (n : ℕ) → None ≡ number_like t
+pub code_stored : {A E : Type 0} (r : Result A E) (old new : BTreeMap (Vec ℕ Global) ℕ) (t : Tree) (k : List ℕ) (n : ℕ)
     → k ≡ code t
-    → OnOk r ((c : List ℕ) → at_code q.codes c ≡ cond (is_eq (slice_cmp nat_cmp c k)) (Some n) (at_code p.codes c))
-    → OnOk r (IsSome (index q t))
-code_stored (Ok a) p q t k n none is put = code_there p q t k n none is put
-code_stored (Err e) p q t k n none is put = tt
+    → OnOk r ((c : List ℕ) → at_code new c ≡ cond (is_eq (slice_cmp nat_cmp c k)) (Some n) (at_code old c))
+    → OnOk r (HasIndex new t)
+code_stored (Ok a) old new t k n is put = λ none. code_there old new t k n is put
+code_stored (Err e) old new t k n is put = tt
+
+some_still : (b : Bool) (n : ℕ) (o : Option ℕ) → IsSome o → IsSome (cond b (Some n) o)
+some_still true n o e = refl
+some_still false n o e = e
+
+-- Each index that was there is there after a code is stored.
+pub code_kept : {A E : Type 0} (r : Result A E) (old new : BTreeMap (Vec ℕ Global) ℕ) (k : List ℕ) (n : ℕ)
+    → OnOk r ((c : List ℕ) → at_code new c ≡ cond (is_eq (slice_cmp nat_cmp c k)) (Some n) (at_code old c))
+    → OnOk r ((t : Tree) → HasIndex old t → HasIndex new t)
+code_kept (Ok a) old new k n put = λ t there none.
+    subst (λ (o : Option ℕ). IsSome o) (sym (put (code t)))
+    (some_still (is_eq (slice_cmp nat_cmp (code t) k)) n (at_code old (code t)) (there none))
+code_kept (Err e) old new k n put = tt
 
 -- Test `in` with a list finds an equal item.
 pub in_list : (t : Tree) (us : Items) → tested test.In (t ∷ tree.list us ∷ []) ≡ Ok (has_item t us)

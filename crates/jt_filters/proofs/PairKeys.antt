@@ -1,5 +1,5 @@
 -- The keys of values that are no pairs.
-use Rattle.std.proofs.Common.{◌≡◌, ℕ, zero, suc, List, [], Some, None, refl, sym, ap, ◌∙◌, arith, rules}
+use Rattle.std.proofs.Common.{◌≡◌, ℕ, zero, suc, [], Some, None, refl, sym, ap, ◌∙◌, arith, rules}
 use Rattle.jt_value.specs.ListItems.{numbers_of}
 use Rattle.jt_value.specs.Numbers.{stepped}
 use Rattle.jt_value.specs.Payload.{items_of_list}

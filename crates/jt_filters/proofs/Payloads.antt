@@ -2,17 +2,23 @@
 use Rattle.jt_op_semantics.specs.ItemOf.{items_count}
 use Rattle.std.proofs.Common.{◌≡◌, ℕ, List, [], ◌∷◌, length}
 use Rattle.std.proofs.Common.{Some, refl, ap, ◌∙◌, arith, rules}
+use Rattle.std.specs.Prelude.{Ok}
 use Rattle.jt_value.proofs.Lists.{Pair}
 use Rattle.jt_value.specs.View.{entries_view}
 use Rattle.jt_ops.proofs.Places.{items_count_view}
-use Rattle.jt_filter_semantics.specs.Listing.{length_of, counted, entries_count}
+use Rattle.jt_filter_semantics.specs.Listing.{length_of, counted, entries_count, on_items, listed}
 use Rattle.jt_value.specs.Tree as tree
 use Rattle.jt_value.specs.Tree.{Tree, Items, Entries}
 use Rattle.jt_value.specs.Iteration.{character_items, key_items}
 use Rattle.jt_value.specs.Payload.{items_of_list, entries_of_map}
+use Rattle.jt_filters.specs.declared.operand.Operand.{Operand}
+use Rattle.jt_filters.specs.internal.Operands.{operand_items}
 
 pub list_is : (t : Tree) (ts : Items) → Some ts ≡ items_of_list t → t ≡ tree.list ts
 list_is a0 a1 a2 = search (arith, rules)
+
+pub list_listed : (t : Tree) (ts : Items) → Some ts ≡ items_of_list t → Ok t ≡ on_items listed t
+list_listed a0 a1 a2 = search (arith, rules)
 
 pub map_is : (t : Tree) (es : Entries) → Some es ≡ entries_of_map t → t ≡ tree.map es
 map_is a0 a1 a2 = search (arith, rules)
@@ -36,4 +42,8 @@ pub keys_count : (es : List Pair) → items_count (key_items (entries_view es)) 
 keys_count [] = refl
 keys_count (e ∷ es) = omega (arith, keys_count es)
 
-pub ruleset item_counts = (items_count_view, characters_count, keys_count)
+pub operands_count : (os : List Operand) → items_count (operand_items os) ≡ length os
+operands_count [] = refl
+operands_count (o ∷ os) = omega (arith, operands_count os)
+
+pub ruleset item_counts = (items_count_view, characters_count, keys_count, operands_count)

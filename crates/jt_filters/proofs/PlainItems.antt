@@ -1,5 +1,5 @@
 -- No character, key or number is markup.
-use Rattle.std.proofs.Common.{◌≡◌, ℕ, zero, suc, ℤ, ◌||◌, false, List, [], ◌∷◌, refl}
+use Rattle.std.proofs.Common.{◌≡◌, ℕ, zero, suc, ℤ, false, List, [], ◌∷◌, refl}
 use Rattle.std.specs.Prelude.{◌+ℤ◌}
 use Rattle.jt_value.specs.Iteration.{character_items, key_items}
 use Rattle.jt_value.specs.ListItems.{numbers_of}

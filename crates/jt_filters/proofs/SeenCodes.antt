@@ -12,9 +12,9 @@ use Rattle.std.specs.declared.alloc.Global.{Global}
 use Rattle.jt_value.specs.Payload.{joined_items}
 use Rattle.jt_value.specs.Tree.{Tree, Items, no_items, item}
 use Rattle.jt_filters.specs.internal.Codes.{item_code}
-use Rattle.jt_filters.specs.internal.Operands.{tree_of, front}
+use Rattle.jt_filters.specs.internal.Operands.{operand_items, tree_of, front}
 use Rattle.jt_filter_semantics.specs.Ordering.{alike, has_alike, unseen}
-use Rattle.jt_filters.specs.internal.Seen.{operand_items, found, number_like, KnowsCodes}
+use Rattle.jt_filters.specs.internal.Seen.{found, number_like, KnowsCodes}
 use Rattle.jt_filters.specs.declared.operand.Operand.{Operand}
 use Rattle.jt_filters.proofs.DistinctItems.{front_next, unseen_kept, values_left}
 use Rattle.jt_filters.proofs.SameCodes.{alike_code}

@@ -50,7 +50,7 @@ any_set p (x ∷ xs) zero y d lt h = absorb (p y) (p x) (list_any p xs) h
 any_set p (x ∷ xs) (suc i) y d lt h =
     ap (λ (b : Bool). p x || b) (any_set p xs i y d (omega (arith, lt)) h) ∙ between (p x) (p y) (list_any p xs)
 
-any_false : {X : Type 0} (p : X → Bool) (xs : List X)
+pub any_false : {X : Type 0} (p : X → Bool) (xs : List X)
     → ((k : ℕ) (d : X) → k < length xs → p (get_or xs k d) ≡ false) → list_any p xs ≡ false
 any_false p [] h = refl
 any_false p (x ∷ xs) h =

@@ -1,64 +1,49 @@
--- The sizes of changed texts.
-use Rattle.std.proofs.Common.{◌≡◌, ℕ, ◌+◌, ◌-◌, ◌^◌, min, true, false, List, length, Some, ap, ◌∙◌, arith, rules}
+-- The sizes and the kinds of changed texts.
+use Rattle.std.proofs.Common.{◌≡◌, ℕ, ◌+◌, ◌-◌, ◌^◌, min, true, false, List, length, Some, refl, ap, ◌∙◌, arith, rules}
 use Rattle.std.specs.Prelude.{Ok, Option}
 use Rattle.std.specs.Char.{to_ascii_lowercase, to_ascii_uppercase}
-use Rattle.std.specs.Str.{str_to_ascii_lowercase, str_to_ascii_uppercase}
 use Rattle.jt_value.specs.Tree as tree
 use Rattle.jt_value.specs.Tree.{Tree, printed}
-use Rattle.jt_escape.specs.Escaping.{escaped}
 use Rattle.jt_escape.specs.Joining.{or_unprintable}
 use Rattle.jt_op_semantics.specs.Testing.{is_markup}
-use Rattle.jt_filter_semantics.specs.Texts.{of_same_kind, keeping_kind, unchanged, capitalized, trimmed, safe}
-use Rattle.jt_filter_semantics.specs.Texts.{escaped_once, escaped_again}
+use Rattle.jt_filter_semantics.specs.Texts.{of_same_kind, escaped_once}
+use Rattle.jt_filters.specs.declared.texts.TextChange.{TextChange}
+use Rattle.jt_filters.specs.declared.texts.TextChange.TheVariants as change
 use Rattle.jt_filters.specs.internal.Operands.{measured}
-use Rattle.jt_filters.proofs.TextTransforms.{capitalized_length, length-map}
+use Rattle.jt_filters.specs.internal.TextChanges.{changed, of_change, texted}
+use Rattle.jt_filters.proofs.TextTransforms.{capitalized_length, length-map, backwards_length}
 
 kept_size : (t : Tree) (s : List ℕ) → measured (Ok (of_same_kind t s)) ≡ Ok (min (1 + length s) (2 ^ 64 - 1), 0)
 kept_size a0 a1 = search (arith, rules)
 
-pub kept_measured : (change : List ℕ → List ℕ) (t : Tree) (s : List ℕ) → printed t ≡ Some s
-    → measured (keeping_kind change t) ≡ Ok (min (1 + length (change s)) (2 ^ 64 - 1), 0)
-kept_measured change t s is =
-    ap (λ (o : Option (List ℕ)). measured (or_unprintable (λ r. of_same_kind t (change r)) o)) is
-    ∙ kept_size t (change s)
+text_size : (c : TextChange) (t : Tree) (s : List ℕ)
+    → measured (Ok (of_change c t s)) ≡ Ok (min (1 + length s) (2 ^ 64 - 1), 0)
+text_size change.Unchanged t s = kept_size t s
+text_size change.Lower t s = kept_size t s
+text_size change.Upper t s = kept_size t s
+text_size change.Capital t s = kept_size t s
+text_size change.Trimmed t s = kept_size t s
+text_size change.Safe t s = refl
+text_size change.Escaped t s = refl
+text_size change.Backwards t s = refl
 
-same_measured : (change : List ℕ → List ℕ) (t : Tree) (s : List ℕ) → length (change s) ≡ length s → printed t ≡ Some s
-    → measured (keeping_kind change t) ≡ Ok (min (1 + length s) (2 ^ 64 - 1), 0)
-same_measured change t s same is = kept_measured change t s is ∙ ap (λ (n : ℕ). Ok (min (1 + n) (2 ^ 64 - 1), 0)) same
+pub changed_measured : (c : TextChange) (t : Tree) (s : List ℕ) → printed t ≡ Some s
+    → measured (texted c t) ≡ Ok (min (1 + length (changed c s)) (2 ^ 64 - 1), 0)
+changed_measured c t s is =
+    ap (λ (o : Option (List ℕ)). measured (or_unprintable (λ r. of_change c t (changed c r)) o)) is
+    ∙ text_size c t (changed c s)
 
-pub unchanged_measured : (t : Tree) (s : List ℕ) → printed t ≡ Some s
-    → measured (keeping_kind unchanged t) ≡ Ok (min (1 + length s) (2 ^ 64 - 1), 0)
-unchanged_measured t s is = kept_measured unchanged t s is
+pub lower_length : (s : List ℕ) → length (changed change.Lower s) ≡ length s
+lower_length s = length-map to_ascii_lowercase s
 
-pub lower_measured : (t : Tree) (s : List ℕ) → printed t ≡ Some s
-    → measured (keeping_kind str_to_ascii_lowercase t) ≡ Ok (min (1 + length s) (2 ^ 64 - 1), 0)
-lower_measured t s is = same_measured str_to_ascii_lowercase t s (length-map to_ascii_lowercase s) is
+pub upper_length : (s : List ℕ) → length (changed change.Upper s) ≡ length s
+upper_length s = length-map to_ascii_uppercase s
 
-pub upper_measured : (t : Tree) (s : List ℕ) → printed t ≡ Some s
-    → measured (keeping_kind str_to_ascii_uppercase t) ≡ Ok (min (1 + length s) (2 ^ 64 - 1), 0)
-upper_measured t s is = same_measured str_to_ascii_uppercase t s (length-map to_ascii_uppercase s) is
+pub escape_markup : (t : Tree) → is_markup t ≡ true → escaped_once t ≡ texted change.Safe t
+escape_markup a0 a1 = search (arith, rules)
 
-pub capitalized_measured : (t : Tree) (s : List ℕ) → printed t ≡ Some s
-    → measured (keeping_kind capitalized t) ≡ Ok (min (1 + length s) (2 ^ 64 - 1), 0)
-capitalized_measured t s is = same_measured capitalized t s (capitalized_length s) is
-
-pub trimmed_measured : (t : Tree) (s : List ℕ) → printed t ≡ Some s
-    → measured (keeping_kind trimmed t) ≡ Ok (min (1 + length (trimmed s)) (2 ^ 64 - 1), 0)
-trimmed_measured t s is = kept_measured trimmed t s is
-
-pub safe_measured : (t : Tree) (s : List ℕ) → printed t ≡ Some s
-    → measured (safe t) ≡ Ok (min (1 + length s) (2 ^ 64 - 1), 0)
-safe_measured t s is = ap (λ (o : Option (List ℕ)). measured (or_unprintable tree.markup o)) is
-
-pub escaped_measured : (t : Tree) (s : List ℕ) → printed t ≡ Some s
-    → measured (escaped_again t) ≡ Ok (min (1 + length (escaped s)) (2 ^ 64 - 1), 0)
-escaped_measured t s is = ap (λ (o : Option (List ℕ)). measured (or_unprintable (λ r. tree.markup (escaped r)) o)) is
-
-pub markup_stays : (t : Tree) → is_markup t ≡ true → escaped_once t ≡ safe t
-markup_stays a0 a1 = search (arith, rules)
-
-pub others_escaped : (t : Tree) → is_markup t ≡ false → escaped_once t ≡ escaped_again t
-others_escaped a0 a1 = search (arith, rules)
+pub escape_others : (t : Tree) → is_markup t ≡ false → escaped_once t ≡ texted change.Escaped t
+escape_others a0 a1 = search (arith, rules)
 
 pub markup_kept : (t : Tree) (s : List ℕ) → is_markup t ≡ true → of_same_kind t s ≡ tree.markup s
 markup_kept a0 a1 a2 = search (arith, rules)
@@ -66,6 +51,6 @@ markup_kept a0 a1 a2 = search (arith, rules)
 pub others_kept : (t : Tree) (s : List ℕ) → is_markup t ≡ false → of_same_kind t s ≡ tree.text s
 others_kept a0 a1 a2 = search (arith, rules)
 
-pub ruleset printed_measures = (unchanged_measured, lower_measured, upper_measured, capitalized_measured, safe_measured)
+pub ruleset escaped_kinds = (escape_markup, escape_others)
 
-pub ruleset escaped_kinds = (markup_stays, others_escaped)
+pub ruleset changed_lengths = (lower_length, upper_length, capitalized_length, backwards_length)

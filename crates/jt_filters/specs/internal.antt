@@ -1,3 +1,4 @@
+pub mod Answers
 pub mod Codes
 pub mod Operands
 pub mod IndicesOf
@@ -6,3 +7,5 @@ pub mod Ranks
 pub mod Rows
 pub mod Seen
 pub mod NumberEntries
+pub mod TextChanges
+pub mod Plans

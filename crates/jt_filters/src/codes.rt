@@ -14,7 +14,7 @@ ghost use Rattle.jt_filters.specs.internal.Operands.{tree_of};
 ghost use Rattle.jt_filter_semantics.specs.Ordering.{fold};
 
 use crate::operand::Operand;
-use jt_value::{ListItems, NoMemory, NumberRange, Value, ValueList};
+use jt_value::{ListItems, NoMemory, NumberRange, Text, Value, ValueList};
 use std::alloc::Global;
 use std::collections::BTreeMap;
 
@@ -167,7 +167,7 @@ fn push_items(alloc: Global, bytes: &mut Vec<u8>, items: &[Value]) -> Result<(),
 /// Returns the keys of a map in order, each with the code of its first value.
 #[cycle(codes)]
 #[inline(never)]
-fn rows_of(alloc: Global, entries: &[(String, Value)]) -> Result<BTreeMap<&str, Vec<u8>>, NoMemory>
+fn rows_of(alloc: Global, entries: &[(Text, Value)]) -> Result<BTreeMap<&str, Vec<u8>>, NoMemory>
     ensures { IfOk result (λ m. rows_in m.entries ≡ rows (entries_view entries.now)) }
 {
     let mut rows = BTreeMap::new(alloc);

@@ -5,30 +5,20 @@ ghost use Rattle.jt_ops.specs.Limited.{limited_by, Answers};
 ghost use Rattle.jt_ids.specs.FilterTable.{least_values, most_values, may_be_inner};
 ghost use Rattle.jt_filter_semantics.specs.Filtering.{filtered};
 ghost use Rattle.jt_filter_semantics.specs.Mapping.{as_list, gathered};
-ghost use Rattle.jt_filters.specs.internal.Operands.{given, items_in, measured, Builds};
+ghost use Rattle.jt_filters.specs.internal.Operands.{items_in};
+ghost use Rattle.jt_filters.specs.internal.Plans.{called};
 ghost use Rattle.jt_filters.specs.internal.Rows.{gives, Gives};
 
-use crate::building::build;
 use crate::inner::ItemAction;
 use crate::item_list::{ItemList, items_of};
-use crate::maker::{Maker, letters_for, lists_items};
+use crate::maker::{Maker, letters_for};
 use crate::mapping::{change_of, row_list_under};
-use crate::measuring::measure;
 use crate::operand::Operand;
-use crate::unique::unique_under;
+use crate::planning::Call;
 use jt_ids::FilterId;
-use jt_ops::{Limits, OpError, allow};
-use jt_value::{Fault, Value, ValueError};
+use jt_ops::{Limits, OpError};
+use jt_value::{Fault, Value};
 use std::alloc::Global;
-
-/// A filter with its input and its arguments.
-#[derive(Clone, Copy)]
-struct Application<'a> {
-    filter: FilterId,
-    operand: Operand<'a>,
-    arguments: &'a [Value],
-    autoescape: bool,
-}
 
 /// Applies a filter to values, the input first, under limits. `autoescape` decides whether `join`
 /// keeps markup. The result's size and nesting are tested before it is built, or just afterwards if
@@ -54,122 +44,80 @@ pub fn apply(
 {
     match values {
         [value, arguments @ ..] => {
-            let application = Application {
+            let call = Call {
                 filter,
-                operand: Operand::Value(value),
                 arguments,
                 autoescape,
             };
-            applied(alloc, application, limits)
+            applied(alloc, call, Operand::Value(value), limits)
         }
         _ => unreachable!(),
     }
 }
 
-/// Returns the result of an application, under limits. `unique` finds its items once, for both the
-/// measure and the value.
-fn applied(alloc: Global, application: Application<'_>, limits: Limits) -> Result<Value, OpError>
-    ensures { Answers result (limited_by limits (given application.entry)) }
+/// Returns the result of a call, under limits.
+fn applied(
+    alloc: Global,
+    call: Call<'_>,
+    operand: Operand<'_>,
+    limits: Limits,
+) -> Result<Value, OpError>
+    ensures { Answers result (limited_by limits (called call.entry operand.entry)) }
 {
-    if !application.filter.may_be_inner() {
-        return mapped_under(alloc, application, limits);
+    if call.filter.may_be_inner() {
+        planned_within(alloc, call, operand, limits)
+    } else {
+        mapped_within(alloc, call, operand, limits)
     }
-    let letters = letters_for(alloc, application.letter_count());
-    let maker = Maker::new(alloc, &letters);
-    match (application.filter, application.arguments) {
-        (FilterId::Unique, []) => unique_under(maker, application.operand, limits),
-        _ => measured_and_built(maker, application, limits),
+}
+
+/// Returns the result of a filter that works on its input as a whole, under limits.
+#[tactic(auto, using(crate::proofs::ApplyCorrect::built_fault))]
+fn planned_within(
+    alloc: Global,
+    call: Call<'_>,
+    operand: Operand<'_>,
+    limits: Limits,
+) -> Result<Value, OpError>
+    requires { may_be_inner call.filter ≡ true }
+    ensures { Answers result (limited_by limits (called call.entry operand.entry)) }
+{
+    match call.plan(operand) {
+        Ok(plan) => {
+            let letters = letters_for(alloc, plan.letter_count());
+            plan.within(Maker::new(alloc, &letters), limits)
+        },
+        Err(fault) => Err(OpError::Fault(fault)),
     }
 }
 
 /// Returns the result of a filter that works on each item, under limits.
 #[tactic(auto, using(crate::proofs::ApplyCorrect::built_fault))]
-fn mapped_under(
+fn mapped_within(
     alloc: Global,
-    application: Application<'_>,
+    call: Call<'_>,
+    operand: Operand<'_>,
     limits: Limits,
 ) -> Result<Value, OpError>
-    requires { may_be_inner application.filter ≡ false }
-    ensures { Answers result (limited_by limits (given application.entry)) }
+    requires { may_be_inner call.filter ≡ false }
+    ensures { Answers result (limited_by limits (called call.entry operand.entry)) }
 {
-    match application.row() {
+    match row_of(call, operand) {
         Ok((items, change)) => row_list_under(alloc, items, change, limits),
         Err(fault) => Err(OpError::Fault(fault)),
     }
 }
 
-/// Returns the result of an application, under limits. The result is measured before it is built.
-#[tactic(auto, using(crate::proofs::ApplyCorrect::refusals))]
-fn measured_and_built(
-    maker: Maker<'_>,
-    application: Application<'_>,
-    limits: Limits,
-) -> Result<Value, OpError>
-    requires { may_be_inner application.filter ≡ true }
-    ensures { Answers result (limited_by limits (given application.entry)) }
+/// Returns the items of a filter that works on each item, and its action on them.
+#[tactic(auto, using(crate::proofs::ItemResults::action_results))]
+fn row_of<'a>(call: Call<'a>, operand: Operand<'a>) -> Result<(ItemList<'a>, ItemAction<'a>), Fault>
+    requires { may_be_inner call.filter ≡ false }
+    ensures gives { IfOk result (λ p. Gives p.1) }
+    ensures ok { IfOk result (λ p.
+        called call.entry operand.entry ≡ as_list (gathered (gives p.1) (items_in p.0))) }
+    ensures fault { IfErr result (λ f. called call.entry operand.entry ≡ Err f) }
 {
-    let (size, nesting) = match application.measure(maker.alloc) {
-        Ok(measure) => measure,
-        Err(fault) => return Err(OpError::Fault(fault)),
-    };
-    if let Err(error) = allow(size, nesting, limits) {
-        return Err(error);
-    }
-    match application.value(maker) {
-        Ok(value) => Ok(value),
-        Err(ValueError::Fault(fault)) => Err(OpError::Fault(fault)),
-        Err(ValueError::NoMemory) => Err(OpError::NoMemory),
-    }
-}
-
-impl<'a> Application<'a> {
-    /// Returns the items of a filter that works on each item, and its action on them.
-    #[tactic(auto, using(crate::proofs::ItemResults::action_results))]
-    fn row(self) -> Result<(ItemList<'a>, ItemAction<'a>), Fault>
-        requires { may_be_inner self.filter ≡ false }
-        ensures gives { IfOk result (λ p. Gives p.1) }
-        ensures ok { IfOk result
-            (λ p. given self.entry ≡ as_list (gathered (gives p.1) (items_in p.0))) }
-        ensures fault { IfErr result (λ f. given self.entry ≡ Err f) }
-    {
-        let items = items_of(self.operand)?;
-        let change = change_of(self.filter, self.arguments, self.autoescape)?;
-        Ok((items, change))
-    }
-
-    /// Returns the number of characters that become items of the result.
-    fn letter_count(self) -> usize {
-        match self.operand.as_text() {
-            Some(text) if lists_items(self.filter) => text.len(),
-            _ => 0,
-        }
-    }
-
-    /// Returns the measure of the result of a filter that works on its input as a whole.
-    fn measure(self, alloc: Global) -> Result<(u64, u32), Fault>
-        requires { may_be_inner self.filter ≡ true }
-        ensures { result ≡ measured (given self.entry) }
-    {
-        measure(
-            alloc,
-            self.filter,
-            self.operand,
-            self.arguments,
-            self.autoescape,
-        )
-    }
-
-    /// Returns the result of a filter that works on its input as a whole.
-    fn value(self, maker: Maker<'_>) -> Result<Value, ValueError>
-        requires { may_be_inner self.filter ≡ true }
-        ensures { Builds (given self.entry) result }
-    {
-        build(
-            maker,
-            self.filter,
-            self.operand,
-            self.arguments,
-            self.autoescape,
-        )
-    }
+    let items = items_of(operand)?;
+    let change = change_of(call)?;
+    Ok((items, change))
 }

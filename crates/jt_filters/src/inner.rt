@@ -7,18 +7,19 @@ ghost use Rattle.jt_value.specs.Tree as tree;
 ghost use Rattle.jt_value.specs.View.{view, items_view};
 ghost use Rattle.jt_ids.specs.TestTable.{test_values};
 ghost use Rattle.jt_op_semantics.specs.Testing as testing;
-ghost use Rattle.jt_filter_semantics.specs.Mapping.{attribute_or_item, if_kept, in_front, alone};
+ghost use Rattle.jt_filter_semantics.specs.Mapping.{attribute_or_item, if_kept, in_front};
 ghost use Rattle.jt_filters.specs.internal.Operands.{tree_of, chosen};
 ghost use Rattle.jt_filters.specs.internal.Rows.{judges, Judges, kept, gives, Gives, row_measured};
 ghost use Rattle.jt_filters.specs.internal.Rows.{RowFault, IsSought, IsJudged};
 
 use crate::attributes::item_of;
-use crate::building::build;
-use crate::joining::{Separator, join, join_measure};
-use crate::maker::{Maker, lists_items};
-use crate::measuring::measure;
+use crate::item_list::items_of;
+use crate::joining::{Separator, join_measure, joined};
+use crate::maker::Maker;
 use crate::members::Members;
 use crate::operand::Operand;
+use crate::planning::Call;
+use crate::plans::Plan;
 use jt_ids::{FilterId, TestId};
 use jt_ops::{test_of, test_of_text};
 use jt_search::TextIndex;
@@ -48,14 +49,6 @@ pub(crate) struct Selection<'a> {
     pub(crate) predicate: Predicate<'a>,
 }
 
-/// A filter that is called on each item.
-#[derive(Clone, Copy)]
-pub(crate) struct InnerCall<'a> {
-    pub(crate) filter: FilterId,
-    pub(crate) autoescape: bool,
-    pub(crate) arguments: &'a [Value],
-}
-
 /// The action on each item.
 #[derive(Clone, Copy)]
 pub(crate) enum ItemAction<'a> {
@@ -64,7 +57,7 @@ pub(crate) enum ItemAction<'a> {
     /// The attribute of the item with this key.
     Attribute(&'a str),
     /// The result of a filter on the item.
-    Filter(InnerCall<'a>),
+    Filter(Call<'a>),
     /// The join of the item's items under autoescaping.
     Join(Separator<'a>),
 }
@@ -72,14 +65,14 @@ pub(crate) enum ItemAction<'a> {
 impl Predicate<'_> {
     /// Returns whether an operand passes.
     #[tactic(auto, using(crate::proofs::ListMembers::in_list, crate::proofs::IndexedTexts::in_text))]
-    fn passes(self, alloc: Global, operand: Operand<'_>) -> Result<bool, Fault>
+    fn passes(self, alloc: Global, operand: Operand<'_>, index: usize) -> Result<bool, Fault>
         requires { Judges self }
         ensures { result ≡ judges self.entry (tree_of operand.entry) }
     {
         match self {
             Predicate::Truth => Ok(operand.truth()),
             Predicate::Test(test, arguments) => test_operand(test, operand, arguments),
-            Predicate::Among(members) => Ok(members.has(alloc, operand)),
+            Predicate::Among(members) => Ok(members.has(alloc, operand, index)),
             Predicate::Within(_, index) => is_within(index, operand),
         }
     }
@@ -112,11 +105,13 @@ fn test_operand(test: TestId, operand: Operand<'_>, arguments: &[Value]) -> Resu
 
 impl<'a> Selection<'a> {
     /// Returns whether an item is kept.
-    fn keeps(self, alloc: Global, item: Operand<'a>) -> Result<bool, Fault>
+    fn keeps(self, alloc: Global, item: Operand<'a>, index: usize) -> Result<bool, Fault>
         requires { Judges self.predicate }
         ensures { result ≡ kept self.entry (tree_of item.entry) }
     {
-        let passes = self.predicate.passes(alloc, self.attribute_or_item(item)?)?;
+        let passes = self
+            .predicate
+            .passes(alloc, self.attribute_or_item(item)?, index)?;
         Ok(passes == self.passes)
     }
 
@@ -132,17 +127,6 @@ impl<'a> Selection<'a> {
     }
 }
 
-impl InnerCall<'_> {
-    /// Returns whether the filter makes texts of one character if the item is a text.
-    pub(crate) fn makes_letters(self) -> bool {
-        lists_items(self.filter)
-            || matches!(
-                self.filter,
-                FilterId::First | FilterId::Last | FilterId::Max | FilterId::Min
-            )
-    }
-}
-
 impl<'a> ItemAction<'a> {
     /// Returns the container in which the action looks up each item by test `in`, if it does.
     pub(crate) fn container(self) -> Option<&'a Value>
@@ -153,6 +137,14 @@ impl<'a> ItemAction<'a> {
                 Predicate::Test(TestId::In, [container]) => Some(container),
                 _ => None,
             },
+            _ => None,
+        }
+    }
+
+    /// Returns the key of the attribute that the action tests, if it tests one.
+    pub(crate) fn key(self) -> Option<&'a str> {
+        match self {
+            ItemAction::Keep(selection) => selection.key,
             _ => None,
         }
     }
@@ -207,38 +199,60 @@ impl<'a> ItemAction<'a> {
             ItemAction::Keep(_) | ItemAction::Attribute(_) => false,
             ItemAction::Filter(call) => {
                 matches!(call.filter, FilterId::Join | FilterId::Replace)
+                    && !call.arguments.is_empty()
             },
             ItemAction::Join(_) => true,
         }
     }
 
+    /// Returns whether the action makes texts of one character if the items are texts.
+    pub(crate) fn makes_letters(self) -> bool {
+        match self {
+            ItemAction::Filter(call) => matches!(
+                call.filter,
+                FilterId::First
+                    | FilterId::Last
+                    | FilterId::List
+                    | FilterId::Max
+                    | FilterId::Min
+                    | FilterId::Sort
+                    | FilterId::Unique
+            ),
+            _ => false,
+        }
+    }
+
     /// Returns the size and the nesting of the action's result on an item, or zeros if it has none.
-    #[tactic(auto, using(crate::proofs::ItemResults::action_measures))]
-    pub(crate) fn measure(self, alloc: Global, item: Operand<'a>) -> Result<(u64, u32), Fault>
+    /// `index` is the index of the item.
+    #[tactic(auto, using(crate::proofs::ItemResults::alone_measured))]
+    pub(crate) fn measure(
+        self,
+        alloc: Global,
+        item: Operand<'a>,
+        index: usize,
+    ) -> Result<(u64, u32), Fault>
         requires { Gives self }
         ensures { result ≡ row_measured (gives self.entry (tree_of item.entry)) }
     {
         match self {
-            ItemAction::Keep(selection) => Ok(measure_if(selection.keeps(alloc, item)?, item)),
-            ItemAction::Attribute(key) => measured(item_of(item, key)),
-            ItemAction::Filter(call) => measure(
-                alloc,
-                call.filter,
+            ItemAction::Keep(selection) => Ok(measure_if(
+                selection.keeps(alloc, item, index)?,
                 item,
-                call.arguments,
-                call.autoescape,
-            ),
-            ItemAction::Join(separator) => join_measure(item, separator, true),
+            )),
+            ItemAction::Attribute(key) => Plan::Operand(item_of(item, key)?).measure(alloc),
+            ItemAction::Filter(call) => call.plan(item)?.measure(alloc),
+            ItemAction::Join(separator) => join_measure(items_of(item)?, separator, true),
         }
     }
 
-    /// Appends the action's result on an item, if it has one.
+    /// Appends the action's result on an item, if it has one. `index` is the index of the item.
     #[tactic(auto, using(crate::proofs::ItemResults::action_values))]
     pub(crate) fn push(
         self,
         maker: Maker<'_>,
         values: &mut Vec<Value>,
         item: Operand<'a>,
+        index: usize,
     ) -> Result<(), ValueError>
         requires { Gives self }
         ensures ok { OnOk result (in_front (Ok (items_view values.old.items))
@@ -246,32 +260,24 @@ impl<'a> ItemAction<'a> {
             ≡ Ok (items_view values.new.items)) }
         ensures fault { IfErr result (RowFault (gives self.entry (tree_of item.entry))) }
     {
-        let value = match self {
+        match self {
             ItemAction::Keep(selection) => {
-                if !selection.keeps(maker.alloc, item)? {
-                    return Ok(());
+                if selection.keeps(maker.alloc, item, index)? {
+                    put(values, item.value(maker)?)?;
                 }
-                item.value(maker)?
+                Ok(())
             },
-            ItemAction::Attribute(key) => item_of(item, key)?.value(maker)?,
-            ItemAction::Filter(call) => {
-                build(maker, call.filter, item, call.arguments, call.autoescape)?
+            ItemAction::Attribute(key) => Ok(put(values, item_of(item, key)?.value(maker)?)?),
+            ItemAction::Filter(call) => Ok(put(values, call.plan(item)?.build(maker)?)?),
+            ItemAction::Join(separator) => {
+                let text = joined(maker, items_of(item)?, separator.operand, true)?;
+                Ok(put(values, text)?)
             },
-            ItemAction::Join(separator) => join(maker, item, separator.operand, true)?,
-        };
-        Ok(put(values, value)?)
+        }
     }
 }
 
-/// Appends a value.
-fn put(values: &mut Vec<Value>, value: Value) -> Result<(), NoMemory>
-    ensures { OnOk result (values.new.items ≡ values.old.items ++ value ∷ []) }
-{
-    values.push(value)?;
-    Ok(())
-}
-
-/// Returns the size and the nesting of an item, or zeros if it is not kept.
+/// Returns the measure of an item that is kept, or zeros.
 fn measure_if(keeps: bool, item: Operand<'_>) -> (u64, u32)
     ensures { Ok result ≡ row_measured (if_kept (tree_of item.entry) (Ok keeps)) }
 {
@@ -282,10 +288,10 @@ fn measure_if(keeps: bool, item: Operand<'_>) -> (u64, u32)
     }
 }
 
-/// Returns the size and the nesting of an operand as the only item, or its fault.
-fn measured(given: Result<Operand<'_>, Fault>) -> Result<(u64, u32), Fault>
-    ensures { result ≡ row_measured (alone (chosen given.entry)) }
+/// Appends a value.
+fn put(values: &mut Vec<Value>, value: Value) -> Result<(), NoMemory>
+    ensures { OnOk result (values.new.items ≡ values.old.items ++ value ∷ []) }
 {
-    let operand = given?;
-    Ok((operand.size(), operand.nesting()))
+    values.push(value)?;
+    Ok(())
 }

@@ -9,15 +9,17 @@ ghost use Rattle.jt_filters.specs.internal.Operands.{tree_of, items_in, has_seco
 
 use crate::operand::Operand;
 use jt_ops::character_count;
-use jt_value::{Fault, ListItems, NumberRange, Value};
+use jt_value::{Fault, ListItems, NumberRange, Text, Value};
 
-/// A list of items: values, the numbers of a range, the characters of a text, or the keys of a map.
+/// A list of items: values, the numbers of a range, the characters of a text, the keys of a map, or
+/// operands.
 #[derive(Clone, Copy)]
 pub(crate) enum ItemList<'a> {
     Values(&'a [Value]),
     Numbers(NumberRange),
     Characters(&'a str),
-    Keys(&'a [(String, Value)]),
+    Keys(&'a [(Text, Value)]),
+    Operands(&'a [Operand<'a>]),
 }
 
 impl<'a> ItemList<'a> {
@@ -31,6 +33,7 @@ impl<'a> ItemList<'a> {
             ItemList::Numbers(numbers) => numbers.len(),
             ItemList::Characters(text) => character_count(text),
             ItemList::Keys(entries) => entries.len(),
+            ItemList::Operands(operands) => operands.len(),
         }
     }
 
@@ -67,6 +70,10 @@ impl<'a> ItemList<'a> {
             ItemList::Keys(entries) => {
                 let (first, rest) = entries.split_first()?;
                 Some((Operand::Text(first.0.as_str()), ItemList::Keys(rest)))
+            }
+            ItemList::Operands(operands) => {
+                let (first, rest) = operands.split_first()?;
+                Some((*first, ItemList::Operands(rest)))
             }
         }
     }

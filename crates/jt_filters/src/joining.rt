@@ -9,11 +9,11 @@ ghost use Rattle.jt_ops.specs.Pieces.{written};
 ghost use Rattle.jt_value.specs.Tree.{printed};
 ghost use Rattle.jt_value.specs.View.{view, items_view};
 ghost use Rattle.jt_filter_semantics.specs.Listing.{joined_by};
-ghost use Rattle.jt_filters.specs.internal.Operands.{tree_of, items_in, joining, measured};
+ghost use Rattle.jt_filters.specs.internal.Operands.{tree_of, items_in, measured};
 ghost use Rattle.jt_filters.specs.internal.Operands.{text_length, led_length};
 ghost use Rattle.jt_filters.specs.internal.JoinedTexts.{led_text, Leaves, MakesText};
 
-use crate::item_list::{ItemList, items_of};
+use crate::item_list::ItemList;
 use crate::maker::Maker;
 use crate::operand::Operand;
 use itoa::Buffer;
@@ -66,13 +66,13 @@ impl<'a> Separator<'a> {
 /// Returns the measure of filter `join`.
 #[tactic(auto, using(crate::proofs::JoinLengths::joined_measured))]
 pub(crate) fn join_measure(
-    operand: Operand<'_>,
+    items: ItemList<'_>,
     separator: Separator<'_>,
     autoescape: bool,
 ) -> Result<(u64, u32), Fault>
-    ensures { result ≡ measured (joining autoescape separator.entry.operand operand.entry) }
+    ensures { result
+        ≡ measured (joined_by autoescape (tree_of separator.entry.operand) (items_in items.entry)) }
 {
-    let items = items_of(operand)?;
     let escaping = escapes(items, separator.operand, autoescape);
     text_measure(joined_len(items, separator, escaping))
 }
@@ -100,25 +100,25 @@ fn has_markup(items: ItemList<'_>) -> bool
     ensures { result ≡ joins.has_markup (items_in items.entry) }
 {
     match items {
-        ItemList::Values(values) => has_markup_value(values),
         ItemList::Numbers(_) => false,
         ItemList::Characters(_) => false,
         ItemList::Keys(_) => false,
+        _ => has_markup_item(items),
     }
 }
 
-/// Returns whether one of the values is markup.
-fn has_markup_value(values: &[Value]) -> bool
-    ensures { result ≡ joins.has_markup (items_view values.now) }
+/// Returns whether one of the items is markup.
+fn has_markup_item(items: ItemList<'_>) -> bool
+    ensures { result ≡ joins.has_markup (items_in items.entry) }
 {
-    values.iter().any(|value| is_markup(value))
-}
-
-/// Returns whether a value is markup.
-fn is_markup(value: &Value) -> bool
-    ensures { result ≡ joins.is_markup (view value.now) }
-{
-    matches!(value, Value::Markup(_))
+    let mut items = items;
+    while let Some((item, behind)) = items.split_first() {
+        if item.is_markup() {
+            return true;
+        }
+        items = behind;
+    }
+    false
 }
 
 /// Returns the length in bytes of the joined text, at most 2^64 - 1. A fault of the separator comes
@@ -175,17 +175,18 @@ fn piece_of<'a>(operand: Operand<'_>, text: &'a str, escaping: bool) -> Piece<'a
 }
 
 /// Applies filter `join`.
-pub(crate) fn join(
+pub(crate) fn joined(
     maker: Maker<'_>,
-    operand: Operand<'_>,
+    items: ItemList<'_>,
     separator: Operand<'_>,
     autoescape: bool,
 ) -> Result<Value, ValueError>
-    ensures { IsAnswer (joining autoescape separator.entry operand.entry) result }
+    ensures { IsAnswer (joined_by autoescape (tree_of separator.entry) (items_in items.entry))
+        result }
 {
-    match items_of(operand)? {
+    match items {
         // For fewer values no separator is made a value, which takes longer than the rest.
-        ItemList::Values(values) if values.len() > 1 => joined(
+        ItemList::Values(values) if values.len() > 1 => joined_values(
             maker.alloc,
             values,
             &separator.value(maker)?,
@@ -274,7 +275,7 @@ fn append_piece(operand: Operand<'_>, escaping: bool, into: &mut String) -> Resu
 }
 
 /// Returns the text of the values with a separator between them.
-fn joined(
+fn joined_values(
     alloc: Global,
     values: &[Value],
     separator: &Value,

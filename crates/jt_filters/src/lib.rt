@@ -1,16 +1,15 @@
 //! Implements filters on values, under limits of size and nesting. Re-exports the operations of
 //! jt_ops and the ids.
 //!
-//! `apply` (`filters`) measures the result of a filter (`measuring`) before it builds it
-//! (`building`). Both use a module per kind of filter: `texts`, `scalars`, `listing`, `sorting`,
-//! `unique`, `replacing`, `joining`, `mapping`. `maker` makes the items of lists, and
-//! `seen_numbers` finds repeated numbers.
-//! jt_filter_semantics defines the results. Read building.rt first, with measuring.rt beside it:
-//! both have one line per filter.
+//! `apply` (`filters`) plans the result of a filter (`planning`, which has one line per filter),
+//! and measures a plan before it builds it (`plans`). Filters that work on each item are in
+//! `mapping`. Both use a module per kind of filter: `texts`, `scalars`, `listing`, `sorting`,
+//! `unique`, `replacing`, `joining`. `maker` makes the items of lists, and `seen_numbers` finds
+//! repeated numbers. jt_filter_semantics defines the results. Read planning.rt first.
 #![tactic(auto)]
 
+mod answers;
 mod attributes;
-mod building;
 mod codes;
 mod digit_sort;
 mod filters;
@@ -19,12 +18,14 @@ mod inner;
 mod item_list;
 mod joining;
 mod kinds;
+mod limiting;
 mod listing;
 mod maker;
 mod mapping;
-mod measuring;
 mod members;
 mod operand;
+mod planning;
+mod plans;
 mod replacing;
 mod scalars;
 mod seen_numbers;

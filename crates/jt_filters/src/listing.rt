@@ -1,23 +1,18 @@
-//! Implements filters whose results are lists: the measure (size and nesting) of each result, and
-//! the result.
-ghost use Rattle.std.specs.Prelude.{◌≡◌, ◌-◌, ◌^◌, min, Bool, IfOk, Ok};
+//! Makes lists of items and of entries, and measures them.
+ghost use Rattle.std.specs.Prelude.{◌≡◌, ◌-◌, ◌^◌, min, IfOk, Ok};
 ghost use Rattle.jt_value.specs.Tree as tree;
-ghost use Rattle.jt_value.specs.Tree.{Tree, items_size, items_nesting};
+ghost use Rattle.jt_value.specs.Tree.{items_size, items_nesting};
 ghost use Rattle.jt_value.specs.View.{view, items_view, entries_view};
-ghost use Rattle.jt_escape.specs.Joining.{IsAnswer};
-ghost use Rattle.jt_filter_semantics.specs.Listing.{on_items, listed, reversed, reversed_items};
-ghost use Rattle.jt_filter_semantics.specs.Listing.{pairs_of, pair_items};
+ghost use Rattle.jt_filter_semantics.specs.Listing.{pair_items};
 ghost use Rattle.jt_filter_semantics.specs.Listing as listing;
-ghost use Rattle.jt_filters.specs.internal.Operands.{tree_of, items_in, measured};
-ghost use Rattle.jt_filter_semantics.specs.Ordering.{sorted_pairs};
-ghost use Rattle.jt_filter_semantics.specs.Ordering as ordering;
+ghost use Rattle.jt_filters.specs.declared.sorting.Arrangement.{Arrangement};
+ghost use Rattle.jt_filters.specs.internal.Operands.{items_in, measured, Lists};
+ghost use Rattle.jt_filters.specs.internal.Ranks.{arranged};
 
-use crate::item_list::{ItemList, items_of};
+use crate::item_list::ItemList;
 use crate::maker::Maker;
-use crate::operand::Operand;
-use crate::sorting::sorted_entries;
-use crate::texts::{backwards, backwards_measure};
-use jt_value::{Fault, NoMemory, Value, ValueError};
+use crate::sorting::{Arrangement, arranged};
+use jt_value::{NoMemory, Text, Value};
 use std::alloc::Global;
 
 /// Returns the size of items, at most 2^64 - 1, and their nesting, at most 2^32 - 1.
@@ -37,16 +32,25 @@ fn items_measure(items: ItemList<'_>) -> (u64, u32)
 }
 
 /// Returns the measure of the list of the items, in any order.
-#[tactic(auto, using(crate::proofs::SortOrders::order_measures))]
+#[tactic(auto, using(crate::proofs::SortOrders::arranged_measures))]
 pub(crate) fn list_measure(items: ItemList<'_>) -> (u64, u32)
     ensures listed { Ok result ≡ measured (Ok (tree.list (items_in items.entry))) }
-    ensures reversed { Ok result
-        ≡ measured (Ok (tree.list (reversed_items (items_in items.entry)))) }
-    ensures sorted { (before : Tree → Tree → Bool)
-        → Ok result ≡ measured (Ok (tree.list (ordering.sorted before (items_in items.entry)))) }
+    ensures arranged { (a : Arrangement)
+        → Ok result ≡ measured (Ok (tree.list (arranged a (items_in items.entry)))) }
 {
     let (size, nesting) = items_measure(items);
     (size.saturating_add(1), nesting.saturating_add(1))
+}
+
+/// Returns the list of the items in an order.
+pub(crate) fn list(
+    maker: Maker<'_>,
+    items: ItemList<'_>,
+    arrangement: Arrangement,
+) -> Result<Value, NoMemory>
+    ensures { Lists (arranged arrangement (items_in items.entry)) result }
+{
+    Value::list(maker.alloc, arranged(values(maker, items)?, arrangement)?)
 }
 
 /// Returns the values of the items.
@@ -63,128 +67,31 @@ pub(crate) fn values(maker: Maker<'_>, items: ItemList<'_>) -> Result<Vec<Value>
     Ok(values)
 }
 
-/// Returns the measure of filter `list`.
-pub(crate) fn listed_measure(operand: Operand<'_>) -> Result<(u64, u32), Fault>
-    ensures { result ≡ measured (on_items listed (tree_of operand.entry)) }
-{
-    Ok(list_measure(items_of(operand)?))
-}
-
-/// Applies filter `list`.
-pub(crate) fn list(maker: Maker<'_>, operand: Operand<'_>) -> Result<Value, ValueError>
-    ensures { IsAnswer (on_items listed (tree_of operand.entry)) result }
-{
-    let items = values(maker, items_of(operand)?)?;
-    Ok(Value::list(maker.alloc, items)?)
-}
-
-/// Returns the measure of filter `reverse`.
-#[tactic(auto, using(crate::proofs::OperandKinds::reversals))]
-pub(crate) fn reversed_measure(operand: Operand<'_>) -> Result<(u64, u32), Fault>
-    ensures { result ≡ measured (reversed (tree_of operand.entry)) }
-{
-    if let Some(text) = operand.as_text() {
-        return Ok(backwards_measure(text));
-    }
-    match items_of(operand) {
-        Ok(items) => Ok(list_measure(items)),
-        Err(_) => Err(operand.operand_fault()),
-    }
-}
-
-/// Applies filter `reverse`.
-#[tactic(auto, using(crate::proofs::OperandKinds::reversals))]
-pub(crate) fn reverse(maker: Maker<'_>, operand: Operand<'_>) -> Result<Value, ValueError>
-    ensures { IsAnswer (reversed (tree_of operand.entry)) result }
-{
-    if let Some(text) = operand.as_text() {
-        return Ok(backwards(maker.alloc, text)?);
-    }
-    match items_of(operand) {
-        Ok(items) => Ok(Value::list(maker.alloc, turned(values(maker, items)?))?),
-        Err(_) => Err(operand.operand_fault().into()),
-    }
-}
-
-/// Returns the items in reverse order.
-#[tactic(auto, using(crate::proofs::Measures::reversed_view))]
-fn turned(items: Vec<Value>) -> Vec<Value>
-    ensures { items_view result.items ≡ reversed_items (items_view items.items) }
-{
-    let mut items = items;
-    items.reverse();
-    items
-}
-
-/// Returns the measure of filter `items`.
-#[tactic(auto, using(crate::proofs::Payloads::map_is, crate::proofs::OperandKinds::others_no_pairs))]
-pub(crate) fn pairs_of_measure(operand: Operand<'_>) -> Result<(u64, u32), Fault>
-    ensures { result ≡ measured (pairs_of (tree_of operand.entry)) }
-{
-    if let Some(map) = operand.as_map() {
-        return Ok(pair_list_measure(map.entries()));
-    }
-    if operand.is_undefined() {
-        Ok((1, 1))
-    } else {
-        Err(operand.operand_fault())
-    }
-}
-
-/// Applies filter `items`.
-#[tactic(auto, using(crate::proofs::Payloads::map_is, crate::proofs::OperandKinds::others_no_pairs))]
-pub(crate) fn items(alloc: Global, operand: Operand<'_>) -> Result<Value, ValueError>
-    ensures { IsAnswer (pairs_of (tree_of operand.entry)) result }
-{
-    if let Some(map) = operand.as_map() {
-        return Ok(Value::list(alloc, pairs(alloc, map.entries())?)?);
-    }
-    if operand.is_undefined() {
-        Ok(Value::list(alloc, Vec::new(alloc))?)
-    } else {
-        Err(operand.operand_fault().into())
-    }
-}
-
-/// Returns the measure of filter `dictsort`.
-#[tactic(auto, using(crate::proofs::Payloads::map_is, crate::proofs::OperandKinds::others_not_sorted))]
-pub(crate) fn dictsort_measure(operand: Operand<'_>) -> Result<(u64, u32), Fault>
-    ensures { result ≡ measured (sorted_pairs (tree_of operand.entry)) }
-{
-    match operand.as_map() {
-        Some(map) => Ok(pair_list_measure(map.entries())),
-        None => Err(operand.operand_fault()),
-    }
-}
-
-/// Applies filter `dictsort`.
-#[tactic(auto, using(crate::proofs::Payloads::map_is, crate::proofs::OperandKinds::others_not_sorted))]
-pub(crate) fn dictsort(alloc: Global, operand: Operand<'_>) -> Result<Value, ValueError>
-    ensures { IsAnswer (sorted_pairs (tree_of operand.entry)) result }
-{
-    match operand.as_map() {
-        Some(map) => Ok(sorted_entries(alloc, map.entries())?),
-        None => Err(operand.operand_fault().into()),
-    }
-}
-
 /// Returns the measure of the list of a map's entries, in any order. Each entry is a list of its
 /// key and its value.
-#[tactic(auto, using(crate::proofs::SortOrders::sorted_measures))]
-fn pair_list_measure(entries: &[(String, Value)]) -> (u64, u32)
-    ensures listed { Ok result ≡ measured (Ok (tree.list (pair_items (entries_view entries.now)))) }
-    ensures sorted { (before : Tree → Tree → Bool)
-        → Ok result
-        ≡ measured
-        (Ok (tree.list (ordering.sorted before (pair_items (entries_view entries.now))))) }
+#[tactic(auto, using(crate::proofs::SortOrders::arranged_measures))]
+pub(crate) fn pair_list_measure(entries: &[(Text, Value)]) -> (u64, u32)
+    ensures { (a : Arrangement) → Ok result
+        ≡ measured (Ok (tree.list (arranged a (pair_items (entries_view entries.now))))) }
 {
     let (size, nesting) = pairs_measure(entries);
     (size.saturating_add(1), nesting.saturating_add(1))
 }
 
+/// Returns the list of a map's entries in an order.
+pub(crate) fn pair_list(
+    alloc: Global,
+    entries: &[(Text, Value)],
+    arrangement: Arrangement,
+) -> Result<Value, NoMemory>
+    ensures { Lists (arranged arrangement (pair_items (entries_view entries.now))) result }
+{
+    Value::list(alloc, arranged(pairs(alloc, entries)?, arrangement)?)
+}
+
 /// Returns the size, at most 2^64 - 1, and the nesting, at most 2^32 - 1, of a map's entries as
 /// lists.
-fn pairs_measure(entries: &[(String, Value)]) -> (u64, u32)
+fn pairs_measure(entries: &[(Text, Value)]) -> (u64, u32)
     ensures size { result.0
         ≡ min (items_size (pair_items (entries_view entries.now))) (2 ^ 64 - 1) }
     ensures nesting { result.1
@@ -203,22 +110,22 @@ fn pairs_measure(entries: &[(String, Value)]) -> (u64, u32)
 }
 
 /// Returns a map's entries, each as a list of its key and its value.
-pub(crate) fn pairs(alloc: Global, entries: &[(String, Value)]) -> Result<Vec<Value>, NoMemory>
+fn pairs(alloc: Global, entries: &[(Text, Value)]) -> Result<Vec<Value>, NoMemory>
     ensures { IfOk result (λ v. items_view v.items ≡ pair_items (entries_view entries.now)) }
 {
-    let mut pairs = Vec::new(alloc);
+    let mut pairs = Vec::with_capacity(alloc, entries.len())?;
     for entry in entries {
         pairs.push(pair(alloc, &entry.0, &entry.1)?)?;
     }
     Ok(pairs)
 }
 
-/// Returns the list of a key and a copy of its value.
-fn pair(alloc: Global, key: &str, value: &Value) -> Result<Value, NoMemory>
+/// Returns the list of copies of a key and of its value.
+fn pair(alloc: Global, key: &Text, value: &Value) -> Result<Value, NoMemory>
     ensures { IfOk result (λ v. view v ≡ listing.pair key.now (view value.now)) }
 {
-    let mut pair = Vec::new(alloc);
-    pair.push(Value::from_text(String::from_str(alloc, key)?)?)?;
+    let mut pair = Vec::with_capacity(alloc, 2)?;
+    pair.push(Value::Text(key.clone()?))?;
     pair.push(value.try_clone(alloc)?)?;
     Value::list(alloc, pair)
 }

@@ -4,7 +4,6 @@ ghost use Rattle.std.specs.Prelude.{◌≡◌, true, IfOk, IfSome};
 ghost use Rattle.jt_value.specs.Tree as tree;
 ghost use Rattle.jt_value.specs.View.{view};
 
-use jt_ids::FilterId;
 use jt_value::{NoMemory, Value};
 use std::alloc::Global;
 
@@ -64,11 +63,6 @@ fn is_text(value: &Value, text: &str) -> bool
         Value::Text(own) => own.as_str() == text,
         _ => false,
     }
-}
-
-/// Returns whether a filter makes a list of the items of a value, so of the characters of a text.
-pub(crate) fn lists_items(filter: FilterId) -> bool {
-    matches!(filter, FilterId::List | FilterId::Sort | FilterId::Unique)
 }
 
 /// Returns the letters for a number of texts. There are none if the number is small, or if memory

@@ -1,6 +1,6 @@
 //! Implements filters that call a filter or a test on each item of their input, or look up its
 //! attribute.
-ghost use Rattle.std.specs.Prelude.{◌≡◌, ◌∷◌, map, Ok, Err, IfOk, IfErr, IfSome, Some, option_map};
+ghost use Rattle.std.specs.Prelude.{◌≡◌, ◌∷◌, map, Ok, IfOk, IfErr, IfSome, Some, option_map};
 ghost use Rattle.jt_value.specs.Payload.{text_of};
 ghost use Rattle.jt_value.specs.Tree as tree;
 ghost use Rattle.jt_value.specs.View.{view, items_view};
@@ -10,18 +10,21 @@ ghost use Rattle.jt_ids.specs.TestTable.{test_of_name};
 ghost use Rattle.jt_filter_semantics.specs.Mapping.{named_by, filter_named, gathered, alone};
 ghost use Rattle.jt_filter_semantics.specs.Single.{single};
 ghost use Rattle.jt_filter_semantics.specs.Mapping.{as_list};
-ghost use Rattle.jt_filters.specs.internal.Operands.{items_in, measured, Builds, HasPayload};
+ghost use Rattle.jt_filters.specs.internal.Operands.{items_in, measured, Builds};
 ghost use Rattle.jt_filters.specs.internal.Rows.{gives, Gives, row_measured, Changes};
 ghost use Rattle.jt_filters.specs.internal.Rows.{MakesPredicate, RowFault, IsSought};
 
-use crate::inner::{InnerCall, ItemAction, Predicate, Selection};
+use crate::inner::{ItemAction, Predicate, Selection};
 use crate::item_list::ItemList;
 use crate::joining::Separator;
+use crate::limiting::{allow_measured, built, refusal};
 use crate::maker::{Maker, letters_for};
 use crate::members::Members;
 use crate::operand::Operand;
+use crate::planning::Call;
+use crate::seen_numbers::occurrences_in;
 use jt_ids::{FilterId, TestId};
-use jt_ops::{Limits, OpError, allow, within};
+use jt_ops::{Limits, OpError, within};
 use jt_search::TextIndex;
 use jt_value::{Fault, ListItems, Value, ValueError};
 use std::alloc::Global;
@@ -130,7 +133,7 @@ fn row_list_among<'a>(
     ensures { Answers result (limited_by limits
         (as_list (gathered (gives change.entry) (items_in items.entry)))) }
 {
-    match members_of(alloc, items, list) {
+    match members_of(alloc, items, change, list) {
         Some(members) => limited_row_list(alloc, items, change.among(&members), limits),
         None => limited_row_list(alloc, items, change, limits),
     }
@@ -138,13 +141,21 @@ fn row_list_among<'a>(
 
 /// Returns the members of a list in which each item is looked up. Returns `None` if a comparison
 /// with each member is faster, or if memory is refused.
-fn members_of<'a>(alloc: Global, items: ItemList<'_>, list: &'a [Value]) -> Option<Members<'a>>
+fn members_of<'a>(
+    alloc: Global,
+    items: ItemList<'_>,
+    change: ItemAction<'_>,
+    list: &'a [Value],
+) -> Option<Members<'a>>
     ensures { IfSome result (λ m. items_view m.items.now ≡ items_view list.now) }
 {
     if list.len() < MANY || items.len() < MANY {
         return None;
     }
-    match Members::new(alloc, list) {
+    let Ok(sought) = occurrences_in(alloc, items, change.key()) else {
+        return None;
+    };
+    match Members::new(alloc, list, sought, items.len()) {
         Ok(members) => Some(members),
         Err(_) => None,
     }
@@ -183,37 +194,14 @@ fn built_row_list<'a>(
     match row_list(alloc, items, change) {
         Ok(list) => within(list, limits),
         Err(ValueError::Fault(fault)) => Err(OpError::Fault(fault)),
-        Err(ValueError::NoMemory) => Err(refused_row_list(alloc, items, change, limits)),
-    }
-}
-
-/// Returns the error if memory for the list of the action's results is refused: the limit that the
-/// list exceeds, else `NoMemory`.
-#[tactic(auto, using(crate::proofs::ApplyCorrect::refusals))]
-fn refused_row_list<'a>(
-    alloc: Global,
-    items: ItemList<'a>,
-    change: ItemAction<'a>,
-    limits: Limits,
-) -> OpError
-    requires gives { Gives change }
-    requires payload { HasPayload (as_list (gathered (gives change) (items_in items))) }
-    ensures { Answers (Err result) (limited_by limits
-        (as_list (gathered (gives change.entry) (items_in items.entry)))) }
-{
-    let (size, nesting) = match row_list_measure(alloc, items, change) {
-        Ok(measure) => measure,
-        Err(fault) => return OpError::Fault(fault),
-    };
-    match allow(size, nesting, limits) {
-        Ok(()) => OpError::NoMemory,
-        Err(error) => error,
+        Err(ValueError::NoMemory) => {
+            Err(refusal(row_list_measure(alloc, items, change), limits))
+        },
     }
 }
 
 /// Returns the list of what the action makes of the items, under limits. It is measured before it
 /// is built.
-#[tactic(auto, using(crate::proofs::ApplyCorrect::refusals))]
 fn measured_row_list<'a>(
     alloc: Global,
     items: ItemList<'a>,
@@ -224,17 +212,9 @@ fn measured_row_list<'a>(
     ensures { Answers result (limited_by limits
         (as_list (gathered (gives change.entry) (items_in items.entry)))) }
 {
-    let (size, nesting) = match row_list_measure(alloc, items, change) {
-        Ok(measure) => measure,
-        Err(fault) => return Err(OpError::Fault(fault)),
-    };
-    if let Err(error) = allow(size, nesting, limits) {
-        return Err(error);
-    }
-    match row_list(alloc, items, change) {
-        Ok(list) => Ok(list),
-        Err(ValueError::Fault(fault)) => Err(OpError::Fault(fault)),
-        Err(ValueError::NoMemory) => Err(OpError::NoMemory),
+    match allow_measured(row_list_measure(alloc, items, change), limits) {
+        Ok(()) => built(row_list(alloc, items, change)),
+        Err(error) => Err(error),
     }
 }
 
@@ -264,15 +244,17 @@ fn row_measure<'a>(
     ensures { result ≡ row_measured (gathered (gives change.entry) (items_in items.entry)) }
 {
     let mut items = items;
+    let mut index = 0usize;
     let mut size = 0u64;
     let mut nesting = 0u32;
     while let Some((item, behind)) = items.split_first() {
-        let (more, deepest) = match change.measure(alloc, item) {
+        let (more, deepest) = match change.measure(alloc, item, index) {
             Ok(measure) => measure,
             Err(fault) => return Err(fault),
         };
         size = size.saturating_add(more);
         nesting = nesting.max(deepest);
+        index = index.wrapping_add(1);
         items = behind;
     }
     Ok((size, nesting))
@@ -308,8 +290,10 @@ fn row_values<'a>(
     let room = if change.keeps_count() { items.len() } else { 0 };
     let mut values = Vec::with_capacity(alloc, room)?;
     let mut items = items;
+    let mut index = 0usize;
     while let Some((item, behind)) = items.split_first() {
-        change.push(maker, &mut values, item)?;
+        change.push(maker, &mut values, item, index)?;
+        index = index.wrapping_add(1);
         items = behind;
     }
     Ok(values)
@@ -318,23 +302,21 @@ fn row_values<'a>(
 /// Returns the least number of texts of one character that the action makes if all items are texts.
 fn letter_count(items: ItemList<'_>, change: ItemAction<'_>) -> usize {
     let makes_letters = match change {
-        ItemAction::Filter(call) => call.makes_letters(),
         ItemAction::Keep(_) => matches!(items, ItemList::Characters(_)),
-        ItemAction::Attribute(_) | ItemAction::Join(_) => false,
+        _ => change.makes_letters(),
     };
     if makes_letters { items.len() } else { 0 }
 }
 
 /// Returns the action of a filter with its arguments on each item.
-pub(crate) fn change_of(
-    filter: FilterId,
-    arguments: &[Value],
-    autoescape: bool,
-) -> Result<ItemAction<'_>, Fault>
-    ensures { Changes (the.giving filter autoescape (map view arguments.now)) result }
+pub(crate) fn change_of(call: Call<'_>) -> Result<ItemAction<'_>, Fault>
+    ensures { Changes
+        (the.giving call.entry.filter call.entry.autoescape (map view call.entry.arguments.now))
+        result }
 {
-    match filter {
-        FilterId::Map => mapping(arguments, autoescape),
+    let arguments = call.arguments;
+    match call.filter {
+        FilterId::Map => mapping(arguments, call.autoescape),
         FilterId::MapAttribute => attributes(arguments),
         FilterId::Select => keeping(true, None, arguments),
         FilterId::Reject => keeping(false, None, arguments),
@@ -425,10 +407,10 @@ fn inner_action(filter: FilterId, arguments: &[Value], autoescape: bool) -> Item
         (FilterId::Join, [separator]) if autoescape => {
             ItemAction::Join(Separator::counted(Operand::Value(separator)))
         },
-        _ => ItemAction::Filter(InnerCall {
+        _ => ItemAction::Filter(Call {
             filter,
-            autoescape,
             arguments,
+            autoescape,
         }),
     }
 }

@@ -3,52 +3,50 @@ ghost use Rattle.std.specs.Prelude.{◌≡◌, ◌<◌, ◌-◌, ◌^◌, min, l
 ghost use Rattle.std.specs.Prelude.{string_bytes};
 ghost use Rattle.jt_value.specs.Tree as tree;
 ghost use Rattle.jt_value.specs.View.{view};
-ghost use Rattle.jt_escape.specs.Joining.{IsAnswer};
-ghost use Rattle.jt_filters.specs.internal.Operands.{tree_of, measured};
+ghost use Rattle.jt_filters.specs.internal.Operands.{tree_of};
 ghost use Rattle.jt_filter_semantics.specs.Texts.{replaced, replaced_behind};
 
 use crate::operand::Operand;
-use jt_value::{Fault, NoMemory, Value, ValueError};
+use jt_value::{Fault, NoMemory, Value};
 use std::alloc::Global;
 
 /// The texts of a replacement: the text to change, the old part and the new part.
-type Replacement<'a> = (&'a str, &'a str, &'a str);
-
-/// Returns the measure of filter `replace`.
-pub(crate) fn replace_measure(
-    operand: Operand<'_>,
-    old: &Value,
-    new: &Value,
-) -> Result<(u64, u32), Fault>
-    ensures { result ≡ measured (replaced (tree_of operand.entry) (view old.now) (view new.now)) }
-{
-    let (text, old, new) = replacement(operand, old, new)?;
-    Ok((replaced_len(text, old, new).saturating_add(1), 0))
+#[derive(Clone, Copy)]
+pub(crate) struct Replacement<'a> {
+    text: &'a str,
+    old: &'a str,
+    new: &'a str,
+    ghost some: { 0 < length old.now },
 }
 
-/// Applies filter `replace`.
-pub(crate) fn replace(
-    alloc: Global,
-    operand: Operand<'_>,
-    old: &Value,
-    new: &Value,
-) -> Result<Value, ValueError>
-    ensures { IsAnswer (replaced (tree_of operand.entry) (view old.now) (view new.now)) result }
-{
-    let (text, old, new) = replacement(operand, old, new)?;
-    Ok(Value::from_text(replaced_text(alloc, text, old, new)?)?)
+impl Replacement<'_> {
+    /// Returns the length in bytes of the replaced text, at most 2^64 - 1.
+    pub(crate) fn len(self) -> u64
+        ensures { let r = self.entry in
+            result ≡ min (length (replaced_behind 0 r.old.now r.new.now r.text.now)) (2 ^ 64 - 1) }
+    {
+        replaced_len(self.text, self.old, self.new)
+    }
+
+    /// Returns the replaced text as a value.
+    pub(crate) fn value(self, alloc: Global) -> Result<Value, NoMemory>
+        ensures { let r = self.entry in
+            IfOk result (λ v.
+            view v ≡ tree.text (replaced_behind 0 r.old.now r.new.now r.text.now)) }
+    {
+        Value::from_text(replaced_text(alloc, self.text, self.old, self.new)?)
+    }
 }
 
 /// Returns the texts of a replacement, or a fault if one is not plain or the old part is empty.
 #[tactic(auto, using(crate::proofs::OperandKinds::plain_is, crate::proofs::OperandKinds::others_not_replaced))]
-fn replacement<'a>(
+pub(crate) fn replacement_of<'a>(
     operand: Operand<'a>,
     old: &'a Value,
     new: &'a Value,
 ) -> Result<Replacement<'a>, Fault>
-    ensures old { IfOk result (λ p. 0 < length p.1.now) }
-    ensures ok { IfOk result (λ p. replaced (tree_of operand.entry) (view old.now) (view new.now)
-        ≡ Ok (tree.text (replaced_behind 0 p.1.now p.2.now p.0.now))) }
+    ensures ok { IfOk result (λ r. replaced (tree_of operand.entry) (view old.now) (view new.now)
+        ≡ Ok (tree.text (replaced_behind 0 r.old.now r.new.now r.text.now))) }
     ensures fault { IfErr result
         (λ f. replaced (tree_of operand.entry) (view old.now) (view new.now) ≡ Err f) }
 {
@@ -60,7 +58,7 @@ fn replacement<'a>(
             if old.is_empty() {
                 return Err(Fault::BadArgument);
             }
-            Ok((text, old, new))
+            Ok(Replacement { text, old, new })
         }
         _ => Err(Fault::BadArgument),
     }

@@ -5,8 +5,10 @@ ghost use Rattle.std.specs.Ordering.{int_eq};
 ghost use Rattle.jt_filters.specs.internal.NumberEntries.{AreDistinct, AreRising, AreUnseen, IsAt};
 ghost use Rattle.jt_filters.specs.internal.NumberEntries.{occurs, was_seen};
 
+use crate::attributes::item_of;
 use crate::digit_sort::sorted;
 use crate::item_list::ItemList;
+use crate::operand::Operand;
 use crate::unique::number_like;
 use jt_value::NoMemory;
 use std::alloc::Global;
@@ -40,7 +42,7 @@ impl SeenNumbers {
     pub(crate) fn new(alloc: Global, items: ItemList<'_>) -> Result<SeenNumbers, NoMemory>
         ensures { IfOk result (λ s. AreUnseen s.entries.items) }
     {
-        let occurrences = sorted(alloc, occurrences_in(alloc, items)?)?;
+        let occurrences = sorted(alloc, occurrences_in(alloc, items, None)?)?;
         let entries = entries_of(alloc, &occurrences)?;
         let indices = indices_of(alloc, &occurrences, items.len())?;
         Ok(SeenNumbers { entries, indices })
@@ -129,13 +131,18 @@ fn search(entries: &[Entry], number: i64) -> Option<usize>
     None
 }
 
-/// Returns the items that equal a number, each with that number.
-fn occurrences_in(alloc: Global, all: ItemList<'_>) -> Result<Vec<Occurrence>, NoMemory> {
+/// Returns the items that equal a number, each with that number. With a key it takes the number
+/// that the item's attribute equals.
+pub(crate) fn occurrences_in(
+    alloc: Global,
+    all: ItemList<'_>,
+    key: Option<&str>,
+) -> Result<Vec<Occurrence>, NoMemory> {
     let mut occurrences = Vec::new(alloc);
     let mut items = all;
     let mut index = 0usize;
     while let Some((item, behind)) = items.split_first() {
-        if let Some(number) = number_like(item) {
+        if let Some(number) = number_at(item, key) {
             occurrences.push(Occurrence {
                 number,
                 item: index,
@@ -145,6 +152,17 @@ fn occurrences_in(alloc: Global, all: ItemList<'_>) -> Result<Vec<Occurrence>, N
         items = behind;
     }
     Ok(occurrences)
+}
+
+/// Returns the number that an item equals, or with a key the one that its attribute equals.
+fn number_at(item: Operand<'_>, key: Option<&str>) -> Option<i64> {
+    match key {
+        Some(key) => match item_of(item, key) {
+            Ok(attribute) => number_like(attribute),
+            Err(_) => None,
+        },
+        None => number_like(item),
+    }
 }
 
 /// Returns an entry for each number that is greater than all before it, so for each one if they are

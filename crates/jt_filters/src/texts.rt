@@ -1,7 +1,7 @@
 //! Implements filters on printed texts: the measure (size and nesting) of each result, and the
 //! result.
-ghost use Rattle.std.specs.Prelude.{◌≡◌, ℕ, List, reverse, IfOk, Ok, string_bytes};
-ghost use Rattle.jt_value.specs.Tree as tree;
+ghost use Rattle.std.specs.Prelude.{◌≡◌, ℕ, ◌-◌, ◌^◌, min, List, reverse, length, IfOk, Ok};
+ghost use Rattle.std.specs.Prelude.{string_bytes};
 ghost use Rattle.std.specs.Str.{chars, str_to_ascii_lowercase as lowercase};
 ghost use Rattle.std.specs.Str.{str_to_ascii_uppercase as uppercase};
 ghost use Rattle.std.specs.List.{list_any};
@@ -9,10 +9,10 @@ ghost use Rattle.std.specs.Option.{is_some};
 ghost use Rattle.jt_value.specs.View.{view};
 ghost use Rattle.jt_escape.specs.Escaping.{escaped, entity};
 ghost use Rattle.jt_escape.specs.Joining.{IsAnswer};
-ghost use Rattle.jt_ops.specs.Pieces.{of_kind, written};
+ghost use Rattle.jt_ops.specs.Pieces.{of_kind};
 ghost use Rattle.jt_filters.specs.internal.Operands.{tree_of, measured};
-ghost use Rattle.jt_filter_semantics.specs.Texts.{keeping_kind, unchanged, of_same_kind};
-ghost use Rattle.jt_filter_semantics.specs.Texts.{escaped_once, escaped_again};
+ghost use Rattle.jt_filters.specs.internal.TextChanges.{changed, of_change, texted};
+ghost use Rattle.jt_filter_semantics.specs.Texts.{of_same_kind};
 ghost use Rattle.jt_filter_semantics.specs.Texts as texts;
 
 use crate::operand::Operand;
@@ -21,61 +21,106 @@ use jt_ops::{Piece, TextKind};
 use jt_value::{Fault, NoMemory, Value, ValueError};
 use std::alloc::Global;
 
-/// Returns the measure of the printed text. A change of letter case or of kind does not affect it.
-#[tactic(auto, using(crate::proofs::TextMeasures::printed_measures))]
-pub(crate) fn printed_measure(operand: Operand<'_>) -> Result<(u64, u32), Fault>
-    ensures same { result ≡ measured (keeping_kind unchanged (tree_of operand.entry)) }
-    ensures lower { result ≡ measured (keeping_kind lowercase (tree_of operand.entry)) }
-    ensures upper { result ≡ measured (keeping_kind uppercase (tree_of operand.entry)) }
-    ensures capital { result ≡ measured (keeping_kind texts.capitalized (tree_of operand.entry)) }
-    ensures safe { result ≡ measured (texts.safe (tree_of operand.entry)) }
+/// The change that a filter makes to the printed text of its input.
+#[derive(Clone, Copy)]
+pub(crate) enum TextChange {
+    /// The text is copied, for `string`.
+    Unchanged,
+    Lower,
+    Upper,
+    /// The first character is put in upper case and the rest in lower case.
+    Capital,
+    /// The whitespace at both ends is dropped.
+    Trimmed,
+    /// The text is copied as markup, for `safe`.
+    Safe,
+    /// The text is escaped, which makes it markup.
+    Escaped,
+    /// The characters are put in reverse order, as a plain text.
+    Backwards,
+}
+
+/// Returns the measure of the changed printed text of an operand.
+#[tactic(auto, using(crate::proofs::TextMeasures::changed_measured))]
+pub(crate) fn text_measure(operand: Operand<'_>, change: TextChange) -> Result<(u64, u32), Fault>
+    ensures { result ≡ measured (texted change (tree_of operand.entry)) }
 {
     let mut buffer = Buffer::new();
     let text = operand.shown(&mut buffer)?;
-    Ok(((text.len() as u64).saturating_add(1), 0))
+    Ok((changed_len(text, change).saturating_add(1), 0))
 }
 
-/// Returns the measure of filter `trim`.
-#[tactic(auto, using(crate::proofs::TextMeasures::trimmed_measured))]
-pub(crate) fn trim_measure(operand: Operand<'_>) -> Result<(u64, u32), Fault>
-    ensures { result ≡ measured (keeping_kind texts.trimmed (tree_of operand.entry)) }
+/// Returns the length in bytes of the changed text, at most 2^64 - 1.
+#[tactic(auto, using(crate::proofs::TextMeasures::changed_lengths))]
+fn changed_len(text: &str, change: TextChange) -> u64
+    ensures { result ≡ min (length (changed change text.now)) (2 ^ 64 - 1) }
 {
-    let mut buffer = Buffer::new();
-    let text = trimmed_back(trimmed_front(operand.shown(&mut buffer)?));
-    Ok(((text.len() as u64).saturating_add(1), 0))
-}
-
-/// Returns the measure of filter `forceescape`.
-#[tactic(auto, using(crate::proofs::TextMeasures::escaped_measured))]
-pub(crate) fn force_escape_measure(operand: Operand<'_>) -> Result<(u64, u32), Fault>
-    ensures { result ≡ measured (escaped_again (tree_of operand.entry)) }
-{
-    let mut buffer = Buffer::new();
-    let text = Piece::Escaped(operand.shown(&mut buffer)?);
-    Ok((text.len().saturating_add(1), 0))
-}
-
-/// Returns the measure of filter `escape`.
-#[tactic(auto, using(crate::proofs::TextMeasures::escaped_kinds))]
-pub(crate) fn escape_measure(operand: Operand<'_>) -> Result<(u64, u32), Fault>
-    ensures { result ≡ measured (escaped_once (tree_of operand.entry)) }
-{
-    if operand.is_markup() {
-        printed_measure(operand)
-    } else {
-        force_escape_measure(operand)
+    match change {
+        TextChange::Trimmed => trimmed(text).len() as u64,
+        TextChange::Escaped => Piece::Escaped(text).len(),
+        _ => text.len() as u64,
     }
 }
 
-/// Returns the kind of the text that a filter makes of an operand: markup for markup, else plain.
+/// Returns the changed printed text of an operand.
+pub(crate) fn changed_text(
+    alloc: Global,
+    operand: Operand<'_>,
+    change: TextChange,
+) -> Result<Value, ValueError>
+    ensures { IsAnswer (texted change (tree_of operand.entry)) result }
+{
+    let mut buffer = Buffer::new();
+    let text = operand.shown(&mut buffer)?;
+    Ok(changed(alloc, text, change, kind_of(operand, change))?)
+}
+
+/// Returns the kind of the text that a change makes of an operand.
+fn kind_of(operand: Operand<'_>, change: TextChange) -> TextKind
+    ensures { (s : List ℕ) → of_kind result s ≡ of_change change (tree_of operand.entry) s }
+{
+    match change {
+        TextChange::Safe | TextChange::Escaped => TextKind::Markup,
+        TextChange::Backwards => TextKind::Plain,
+        TextChange::Unchanged
+        | TextChange::Lower
+        | TextChange::Upper
+        | TextChange::Capital
+        | TextChange::Trimmed => own_kind(operand),
+    }
+}
+
+/// Returns the kind of the text of an operand: markup for markup, else plain.
 #[tactic(auto, using(crate::proofs::TextMeasures::markup_kept, crate::proofs::TextMeasures::others_kept))]
-fn kind_of(operand: Operand<'_>) -> TextKind
+fn own_kind(operand: Operand<'_>) -> TextKind
     ensures { (s : List ℕ) → of_kind result s ≡ of_same_kind (tree_of operand.entry) s }
 {
     if operand.is_markup() {
         TextKind::Markup
     } else {
         TextKind::Plain
+    }
+}
+
+/// Returns the value of this kind with the changed text.
+#[tactic(auto, using(crate::proofs::EscapedTexts::unescaped))]
+fn changed(alloc: Global, text: &str, change: TextChange, kind: TextKind) -> Result<Value, NoMemory>
+    ensures { IfOk result (λ v. view v ≡ of_kind kind (changed change text.now)) }
+{
+    match change {
+        TextChange::Unchanged | TextChange::Safe => copied(alloc, text, kind),
+        TextChange::Lower => kind.value(lowered(alloc, text)?),
+        TextChange::Upper => kind.value(raised(alloc, text)?),
+        TextChange::Capital => kind.value(capitalized(alloc, text)?),
+        TextChange::Trimmed => copied(alloc, trimmed(text), kind),
+        TextChange::Escaped => {
+            if has_special(text.as_bytes()) {
+                kind.value(escaped(alloc, text)?)
+            } else {
+                copied(alloc, text, kind)
+            }
+        },
+        TextChange::Backwards => kind.value(turned(alloc, text)?),
     }
 }
 
@@ -89,25 +134,32 @@ fn copied(alloc: Global, text: &str, kind: TextKind) -> Result<Value, NoMemory>
     }
 }
 
-/// Returns markup of the escaped text. A text without special characters is copied as it is.
-#[tactic(auto, using(crate::proofs::EscapedTexts::unescaped))]
-fn escaped_markup(alloc: Global, text: &str) -> Result<Value, NoMemory>
-    ensures { IfOk result (λ v. view v ≡ tree.markup (escaped text.now)) }
+/// Returns the text in lower case.
+fn lowered(alloc: Global, text: &str) -> Result<String, NoMemory>
+    ensures { IfOk result (λ s. string_bytes s ≡ lowercase text.now) }
 {
-    if has_special(text.as_bytes()) {
-        escaped_piece(alloc, &Piece::Escaped(text))
-    } else {
-        Value::markup(alloc, text)
-    }
+    let mut lowered = String::from_str(alloc, text)?;
+    lowered.make_ascii_lowercase();
+    Ok(lowered)
 }
 
-/// Returns markup of what a piece writes.
-fn escaped_piece(alloc: Global, piece: &Piece<'_>) -> Result<Value, NoMemory>
-    ensures { IfOk result (λ v. view v ≡ tree.markup (written piece.now)) }
+/// Returns the text in upper case.
+fn raised(alloc: Global, text: &str) -> Result<String, NoMemory>
+    ensures { IfOk result (λ s. string_bytes s ≡ uppercase text.now) }
 {
-    let mut text = String::with_capacity(alloc, piece.len() as usize)?;
-    piece.write(&mut text)?;
-    Value::from_markup(text)
+    let mut raised = String::from_str(alloc, text)?;
+    raised.make_ascii_uppercase();
+    Ok(raised)
+}
+
+/// Returns the escaped text.
+fn escaped(alloc: Global, text: &str) -> Result<String, NoMemory>
+    ensures { IfOk result (λ s. string_bytes s ≡ escaped text.now) }
+{
+    let piece = Piece::Escaped(text);
+    let mut escaped = String::with_capacity(alloc, piece.len() as usize)?;
+    piece.write(&mut escaped)?;
+    Ok(escaped)
 }
 
 /// Returns whether one of the bytes of a text is escaped.
@@ -129,99 +181,25 @@ fn is_special(byte: u8) -> bool
     matches!(byte, b'&' | b'<' | b'>' | b'\'' | b'"')
 }
 
-/// Applies filter `string`.
-pub(crate) fn string(alloc: Global, operand: Operand<'_>) -> Result<Value, ValueError>
-    ensures { IsAnswer (keeping_kind unchanged (tree_of operand.entry)) result }
-{
-    let mut buffer = Buffer::new();
-    let text = operand.shown(&mut buffer)?;
-    Ok(copied(alloc, text, kind_of(operand))?)
-}
-
-/// Applies filter `safe`.
-pub(crate) fn safe(alloc: Global, operand: Operand<'_>) -> Result<Value, ValueError>
-    ensures { IsAnswer (texts.safe (tree_of operand.entry)) result }
-{
-    let mut buffer = Buffer::new();
-    let text = operand.shown(&mut buffer)?;
-    Ok(Value::markup(alloc, text)?)
-}
-
-/// Applies filter `escape`.
-#[tactic(auto, using(crate::proofs::TextMeasures::escaped_kinds))]
-pub(crate) fn escape(alloc: Global, operand: Operand<'_>) -> Result<Value, ValueError>
-    ensures { IsAnswer (escaped_once (tree_of operand.entry)) result }
-{
-    if operand.is_markup() {
-        safe(alloc, operand)
-    } else {
-        force_escape(alloc, operand)
-    }
-}
-
-/// Applies filter `forceescape`.
-pub(crate) fn force_escape(alloc: Global, operand: Operand<'_>) -> Result<Value, ValueError>
-    ensures { IsAnswer (escaped_again (tree_of operand.entry)) result }
-{
-    let mut buffer = Buffer::new();
-    let text = operand.shown(&mut buffer)?;
-    Ok(escaped_markup(alloc, text)?)
-}
-
-/// Applies filter `lower`.
-pub(crate) fn lower(alloc: Global, operand: Operand<'_>) -> Result<Value, ValueError>
-    ensures { IsAnswer (keeping_kind lowercase (tree_of operand.entry)) result }
-{
-    let mut buffer = Buffer::new();
-    let mut text = String::from_str(alloc, operand.shown(&mut buffer)?)?;
-    text.make_ascii_lowercase();
-    Ok(kind_of(operand).value(text)?)
-}
-
-/// Applies filter `upper`.
-pub(crate) fn upper(alloc: Global, operand: Operand<'_>) -> Result<Value, ValueError>
-    ensures { IsAnswer (keeping_kind uppercase (tree_of operand.entry)) result }
-{
-    let mut buffer = Buffer::new();
-    let mut text = String::from_str(alloc, operand.shown(&mut buffer)?)?;
-    text.make_ascii_uppercase();
-    Ok(kind_of(operand).value(text)?)
-}
-
-/// Applies filter `capitalize`.
-pub(crate) fn capitalize(alloc: Global, operand: Operand<'_>) -> Result<Value, ValueError>
-    ensures { IsAnswer (keeping_kind texts.capitalized (tree_of operand.entry)) result }
-{
-    let mut buffer = Buffer::new();
-    let text = capitalized(alloc, operand.shown(&mut buffer)?)?;
-    Ok(kind_of(operand).value(text)?)
-}
-
 /// Returns the text with its first character in upper case and the rest in lower case.
 fn capitalized(alloc: Global, text: &str) -> Result<String, NoMemory>
     ensures { IfOk result (λ s. string_bytes s ≡ texts.capitalized text.now) }
 {
     let bytes = text.as_bytes();
     if bytes.is_empty() || bytes[0] >= 128 {
-        let mut lowered = String::from_str(alloc, text)?;
-        lowered.make_ascii_lowercase();
-        return Ok(lowered);
+        return lowered(alloc, text);
     }
     let mut changed = String::new(alloc);
     changed.push(bytes[0].to_ascii_uppercase() as char)?;
-    let mut rest = String::from_str(alloc, &text[1..])?;
-    rest.make_ascii_lowercase();
-    changed.push_str(&rest)?;
+    changed.push_str(&lowered(alloc, &text[1..])?)?;
     Ok(changed)
 }
 
-/// Applies filter `trim`.
-pub(crate) fn trim(alloc: Global, operand: Operand<'_>) -> Result<Value, ValueError>
-    ensures { IsAnswer (keeping_kind texts.trimmed (tree_of operand.entry)) result }
+/// Returns the text without whitespace at both ends.
+fn trimmed(text: &str) -> &str
+    ensures { result.now ≡ texts.trimmed text.now }
 {
-    let mut buffer = Buffer::new();
-    let text = trimmed_back(trimmed_front(operand.shown(&mut buffer)?));
-    Ok(copied(alloc, text, kind_of(operand))?)
+    trimmed_back(trimmed_front(text))
 }
 
 /// Returns whether a byte is whitespace.
@@ -255,21 +233,6 @@ fn trimmed_back(text: &str) -> &str
         end -= 1;
     }
     &text[..end]
-}
-
-/// Returns the measure of a text's characters in reverse order.
-#[tactic(auto, using(crate::proofs::TextTransforms::backwards_length))]
-pub(crate) fn backwards_measure(text: &str) -> (u64, u32)
-    ensures { Ok result ≡ measured (Ok (tree.text (texts.backwards text.now))) }
-{
-    ((text.len() as u64).saturating_add(1), 0)
-}
-
-/// Returns a text's characters in reverse order, as a plain text value.
-pub(crate) fn backwards(alloc: Global, text: &str) -> Result<Value, NoMemory>
-    ensures { IfOk result (λ v. view v ≡ tree.text (texts.backwards text.now)) }
-{
-    Value::from_text(turned(alloc, text)?)
 }
 
 /// Returns a text's characters in reverse order.

@@ -1,125 +1,53 @@
 //! Implements filter `unique`. Each item of a short list is compared with the earlier ones. Each
 //! item of a longer list is looked up among them, numbers by value and other items by their codes.
 //! So a list of n items takes time in proportion to n log n.
-ghost use Rattle.std.specs.Prelude.{◌≡◌, ℤ, ◌+◌, ◌-◌, ◌^◌, ◌||◌, min, max, IfOk, OnOk, Ok, Err};
-ghost use Rattle.std.specs.Prelude.{None};
+ghost use Rattle.std.specs.Prelude.{◌≡◌, ◌+◌, ◌-◌, ◌^◌, ◌||◌, min, max, IfOk, OnOk, Ok, None};
 ghost use Rattle.jt_value.specs.Tree as tree;
 ghost use Rattle.jt_value.specs.Tree.{Items, items_size, items_nesting};
 ghost use Rattle.jt_value.specs.Payload.{joined_items};
 ghost use Rattle.jt_value.specs.Equality.{equal};
 ghost use Rattle.jt_value.specs.View.{view, items_view};
-ghost use Rattle.jt_escape.specs.Joining.{IsAnswer};
-ghost use Rattle.jt_ops.specs.Limited.{limited_by, Answers};
-ghost use Rattle.jt_filter_semantics.specs.Listing.{on_items};
-ghost use Rattle.jt_filters.specs.internal.Operands.{tree_of, items_in, measured, front, Lists};
+ghost use Rattle.jt_filters.specs.internal.Operands.{tree_of, items_in, operand_items};
+ghost use Rattle.jt_filters.specs.internal.Operands.{measured, front, Lists};
 ghost use Rattle.jt_filter_semantics.specs.Ordering.{distinct, unseen};
 ghost use Rattle.jt_filter_semantics.specs.Ordering as ordering;
-ghost use Rattle.jt_filters.specs.internal.Seen.{operand_items, Knows, KnowsCodes};
+ghost use Rattle.jt_filters.specs.internal.Seen.{Knows, KnowsCodes};
 ghost use Rattle.jt_filters.specs.internal.Seen.{CodesKnowNext, KnowsNext, Before};
 ghost use Rattle.jt_filters.specs.internal.Seen as seen;
 
 use crate::codes::code_of;
-use crate::item_list::{ItemList, items_of};
+use crate::item_list::ItemList;
+use crate::listing::{list_measure, values};
 use crate::maker::Maker;
 use crate::operand::Operand;
 use crate::seen_numbers::{SeenNumbers, was_number_seen};
-use jt_ops::{Limits, OpError, allow};
-use jt_value::{Fault, NoMemory, Value, ValueError};
+use jt_value::{NoMemory, Value};
 use std::alloc::Global;
 use std::collections::BTreeMap;
 
 /// The greatest number of items that are compared with each other. To look them up takes more time.
 const FEW: usize = 16;
 
-/// Applies filter `unique`, under limits. The first items are found once, then measured, and then
-/// the list of them is built.
-pub(crate) fn unique_under(
-    maker: Maker<'_>,
-    operand: Operand<'_>,
-    limits: Limits,
-) -> Result<Value, OpError>
-    ensures { Answers result (limited_by limits (on_items distinct (tree_of operand.entry))) }
-{
-    let items = match items_of(operand) {
-        Ok(items) => items,
-        Err(fault) => return Err(OpError::Fault(fault)),
-    };
-    match first_items(maker.alloc, items) {
-        Ok(firsts) => list_under(maker, &firsts, limits),
-        Err(_) => Err(refused(items, limits)),
-    }
-}
-
-/// Returns the list of the operands, under limits.
-fn list_under(maker: Maker<'_>, operands: &[Operand<'_>], limits: Limits) -> Result<Value, OpError>
-    ensures { Answers result (limited_by limits (Ok (tree.list (operand_items operands.now)))) }
-{
-    let (size, nesting) = list_measure(operands);
-    if let Err(error) = allow(size, nesting, limits) {
-        return Err(error);
-    }
-    match operand_list(maker, operands) {
-        Ok(list) => Ok(list),
-        Err(_) => Err(OpError::NoMemory),
-    }
-}
-
-/// Returns the error if memory for the first items is refused: the limit that their list exceeds,
-/// else `NoMemory`.
-fn refused(items: ItemList<'_>, limits: Limits) -> OpError
-    ensures { Answers (Err result)
-        (limited_by limits (Ok (tree.list (unseen tree.no_items (items_in items.entry))))) }
-{
-    let (size, nesting) = unseen_list_measure(items);
-    match allow(size, nesting, limits) {
-        Ok(()) => OpError::NoMemory,
-        Err(error) => error,
-    }
-}
-
 /// Returns the measure of filter `unique`. If there are few items, or if memory is refused, each
 /// item is compared to all earlier ones, which allocates nothing.
-pub(crate) fn unique_measure(alloc: Global, operand: Operand<'_>) -> Result<(u64, u32), Fault>
-    ensures { result ≡ measured (on_items distinct (tree_of operand.entry)) }
+pub(crate) fn unique_measure(alloc: Global, items: ItemList<'_>) -> (u64, u32)
+    ensures { Ok result ≡ measured (distinct (items_in items.entry)) }
 {
-    let items = items_of(operand)?;
     if items.len() <= FEW {
-        return Ok(unseen_list_measure(items));
+        return unseen_list_measure(items);
     }
     match first_items(alloc, items) {
-        Ok(firsts) => Ok(list_measure(&firsts)),
-        Err(_) => Ok(unseen_list_measure(items)),
+        Ok(firsts) => list_measure(ItemList::Operands(&firsts)),
+        Err(_) => unseen_list_measure(items),
     }
-}
-
-/// Returns the measure of the list of the operands.
-fn list_measure(operands: &[Operand<'_>]) -> (u64, u32)
-    ensures { Ok result ≡ measured (Ok (tree.list (operand_items operands.now))) }
-{
-    let (size, nesting) = operands_measure(operands);
-    (size.saturating_add(1), nesting.saturating_add(1))
 }
 
 /// Returns the measure of the list of the items that are like no earlier one. Allocates nothing.
-fn unseen_list_measure(items: ItemList<'_>) -> (u64, u32)
-    ensures { Ok result ≡ measured (Ok (tree.list (unseen tree.no_items (items_in items.entry)))) }
+pub(crate) fn unseen_list_measure(items: ItemList<'_>) -> (u64, u32)
+    ensures { Ok result ≡ measured (distinct (items_in items.entry)) }
 {
     let (size, nesting) = unseen_measure(items);
     (size.saturating_add(1), nesting.saturating_add(1))
-}
-
-/// Returns the size of the operands, at most 2^64 - 1, and their nesting, at most 2^32 - 1.
-fn operands_measure(operands: &[Operand<'_>]) -> (u64, u32)
-    ensures size { result.0 ≡ min (items_size (operand_items operands.now)) (2 ^ 64 - 1) }
-    ensures nesting { result.1 ≡ min (items_nesting (operand_items operands.now)) (2 ^ 32 - 1) }
-{
-    let mut size = 0u64;
-    let mut nesting = 0u32;
-    for operand in operands {
-        size = size.saturating_add(operand.size());
-        nesting = nesting.max(operand.nesting());
-    }
-    (size, nesting)
 }
 
 /// Returns the size, at most 2^64 - 1, and the nesting, at most 2^32 - 1, of the items that are
@@ -163,22 +91,14 @@ fn item_measure(item: Operand<'_>, all: ItemList<'_>, count: usize) -> (u64, u32
 }
 
 /// Applies filter `unique`.
-pub(crate) fn unique(maker: Maker<'_>, operand: Operand<'_>) -> Result<Value, ValueError>
-    ensures { IsAnswer (on_items distinct (tree_of operand.entry)) result }
-{
-    let items = items_of(operand)?;
-    Ok(distinct_list(maker, items)?)
-}
-
-/// Returns the list of the items that are like no earlier one.
-fn distinct_list(maker: Maker<'_>, items: ItemList<'_>) -> Result<Value, NoMemory>
+pub(crate) fn unique_list(maker: Maker<'_>, items: ItemList<'_>) -> Result<Value, NoMemory>
     ensures { Lists (unseen tree.no_items (items_in items.entry)) result }
 {
     if items.len() <= FEW {
         return Value::list(maker.alloc, unseen_values(maker, items)?);
     }
     let firsts = first_items(maker.alloc, items)?;
-    operand_list(maker, &firsts)
+    Value::list(maker.alloc, values(maker, ItemList::Operands(&firsts))?)
 }
 
 /// Returns the values of the items that are like no earlier one. Allocates nothing else.
@@ -216,24 +136,6 @@ fn push_unseen(
     Ok(())
 }
 
-/// Returns the list of the operands.
-fn operand_list(maker: Maker<'_>, operands: &[Operand<'_>]) -> Result<Value, NoMemory>
-    ensures { IfOk result (λ v. view v ≡ tree.list (operand_items operands.now)) }
-{
-    Value::list(maker.alloc, operand_values(maker, operands)?)
-}
-
-/// Returns the values of the operands.
-fn operand_values(maker: Maker<'_>, operands: &[Operand<'_>]) -> Result<Vec<Value>, NoMemory>
-    ensures { IfOk result (λ v. items_view v.items ≡ operand_items operands.now) }
-{
-    let mut values = Vec::with_capacity(maker.alloc, operands.len())?;
-    for operand in operands {
-        values.push(operand.value(maker)?)?;
-    }
-    Ok(values)
-}
-
 /// The keys of the items that were seen. `numbers` has each number that an item equals. `codes`
 /// has, for each code of any other item, the last item with the code.
 #[derive(Drop)]
@@ -250,7 +152,7 @@ struct SeenItems<'a> {
 }
 
 /// Returns the items that are like no earlier one.
-fn first_items(alloc: Global, all: ItemList<'_>) -> Result<Vec<Operand<'_>>, NoMemory>
+pub(crate) fn first_items(alloc: Global, all: ItemList<'_>) -> Result<Vec<Operand<'_>>, NoMemory>
     ensures { IfOk result (λ v. operand_items v.items ≡ unseen tree.no_items (items_in all.entry)) }
 {
     let total = all.len();

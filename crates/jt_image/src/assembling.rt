@@ -326,13 +326,30 @@ fn check(alloc: Global, parts: &Parts) -> Result<(), ImageError>
     Ok(())
 }
 
+// Returns the number of bytes that the image of the parts has.
+fn encoded_len(parts: &Parts) -> usize {
+    let mut instructions: usize = 0;
+    'units: for unit in &parts.units {
+        instructions = instructions.saturating_add(unit.code.len());
+    }
+    names_len(&parts.names)
+        .saturating_add(constants_len(&parts.constants))
+        .saturating_add(places_len(parts))
+        .saturating_add(
+            instructions
+                .saturating_add(parts.units.len())
+                .saturating_mul(8),
+        )
+        .saturating_add(FIXED_BYTES)
+}
+
 // Returns the image of the parts.
 fn image_of(alloc: Global, parts: &Parts) -> Result<Image, ImageError>
     ensures is { IfOk result (λ i. IsCode i × (code_of_parts parts.now ≡ Some i)) }
     ensures refused { IfErr result (λ e. IsRefusal e (code_of_parts parts.now)) }
 {
     check(alloc, parts)?;
-    let bytes = spelled(alloc, parts)?;
+    let bytes = spelled(alloc, parts, encoded_len(parts))?;
     let offsets = read(alloc, &bytes)?;
     Ok(Image { bytes, offsets })
 }

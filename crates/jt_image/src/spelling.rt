@@ -129,10 +129,9 @@ fn put_instr(out: &mut Vec<u8>, instr: Instr) -> Result<(), NoMemory>
     requires { IsSome (instruction_of instr) }
     ensures { Adds out.old out.new result (instruction_bytes (instruction_view instr)) }
 {
-    out.push(instr.op)?;
-    out.push(instr.a)?;
-    out.extend_from_slice(&instr.b.to_le_bytes())?;
-    out.extend_from_slice(&instr.c.to_le_bytes())?;
+    let b = instr.b.to_le_bytes();
+    let c = instr.c.to_le_bytes();
+    out.extend_from_slice(&[instr.op, instr.a, b[0], b[1], c[0], c[1], c[2], c[3]])?;
     Ok(())
 }
 
@@ -171,8 +170,9 @@ fn put_templates(out: &mut Vec<u8>, templates: &[String]) -> Result<(), NoMemory
 fn put_loc(out: &mut Vec<u8>, loc: SourceLoc) -> Result<(), NoMemory>
     ensures { Adds out.old out.new result (loc_bytes (loc_view loc)) }
 {
-    out.extend_from_slice(&loc.template.to_le_bytes())?;
-    out.extend_from_slice(&loc.line.to_le_bytes())?;
+    let template = loc.template.to_le_bytes();
+    let line = loc.line.to_le_bytes();
+    out.extend_from_slice(&[template[0], template[1], line[0], line[1], line[2], line[3]])?;
     Ok(())
 }
 
@@ -219,13 +219,13 @@ fn put_parts(out: &mut Vec<u8>, parts: &Parts) -> Result<(), NoMemory>
     Ok(())
 }
 
-/// Returns the spelling of the code of the parts.
-pub(crate) fn spelled(alloc: Global, parts: &Parts) -> Result<Vec<u8>, NoMemory>
+/// Returns the spelling of the code of the parts. It reserves memory for `expected` bytes at once.
+pub(crate) fn spelled(alloc: Global, parts: &Parts, expected: usize) -> Result<Vec<u8>, NoMemory>
     requires code { IsCode (code_seen parts.now) }
     requires known { AreKnown parts.now.units.items }
     ensures { IfOk result (λ v. v.items ≡ spelling (code_seen parts.now)) }
 {
-    let mut out = Vec::new(alloc);
+    let mut out = Vec::with_capacity(alloc, expected)?;
     put_parts(&mut out, parts)?;
     Ok(out)
 }

@@ -1,42 +1,29 @@
 -- The rules on bodies of blocks, as they are checked one body at a time.
 use Rattle.std.proofs.Common.{◌≡◌, ℕ, zero, suc, ◌+◌, ◌<◌, ◌≤◌, Bool, true, false, not, cond, ◌&&◌, ◌||◌, List, [], ◌∷◌}
 use Rattle.std.proofs.Common.{◌++◌, length, map, take, drop, get_or, refl, sym, ap, subst, ◌∙◌, arith, rules}
-use Rattle.std.specs.Prelude.{slice_get, unwrap_or, option_map}
 use Rattle.std.proofs.Common.{Some}
-use Rattle.std.proofs.lemmas.List.{drop_more, map-append}
-use Rattle.std.proofs.lemmas.Option.{slice_get-get_or}
 use Rattle.std.specs.BTreeSet as set
 use Rattle.std.specs.BTreeSet.{BTreeSet}
 use Rattle.std.specs.Cmp.Lexicographic.{slice_cmp}
-use Rattle.std.specs.List.{list_any}
 use Rattle.std.specs.Ordering.{nat_cmp, is_eq}
-use Rattle.std.specs.Str.{bytes_eq}
 use Rattle.std.proofs.lemmas.Map.Text.{is_eq-slice_cmp}
-use denote.Ref.{Bor}
-use Rattle.jt_ast.specs.Texts.{among, repeated, texts}
-use Rattle.jt_ast.specs.Expressions.{Text}
-use Rattle.jt_ast.specs.Statements.{end}
-use Rattle.std.specs.Option.{option_to_list}
-use Rattle.jt_chains.specs.Along.{body_at, templates_at}
-use Rattle.jt_inherit.specs.internal.RuleTests.{any_double}
-use Rattle.jt_chains.specs.Chain.{Template, BlockBody, from_given, blocks_in}
-use Rattle.jt_inherit.specs.internal.Checks.{named, lacks_body, lacks_next, block_names}
-use Rattle.jt_chains.specs.Parts.{block_view, blocks_view, name_at}
-use Rattle.jt_chains.specs.declared.parts.Block.{Block}
+use Rattle.jt_chains.specs.Along.{body_at}
+use Rattle.jt_chains.specs.Chain.{BlockBody, from_given}
+use Rattle.jt_inherit.specs.internal.Checks.{named}
+use Rattle.jt_chains.specs.Parts.{name_at}
 use Rattle.jt_chains.specs.Rules.{is_required, lacks_super, is_empty}
-use Rattle.jt_chains.specs.Supers.{calls_super}
-use Rattle.jt_inherit.proofs.NameMembership.{of_texts, reflexive, same, symmetric}
-use Rattle.jt_inherit.proofs.Membership.{among_next, both_false, once_more, or_false, or_true}
+use Rattle.jt_inherit.proofs.Vocabulary.{slice_get, unwrap_or, option_map, drop_more, map-append, slice_get-get_or}
+use Rattle.jt_inherit.proofs.Vocabulary.{list_any, bytes_eq, Bor, among, repeated, texts, Text, end, option_to_list}
+use Rattle.jt_inherit.proofs.Vocabulary.{templates_at, any_double, Template, blocks_in, lacks_body, lacks_next}
+use Rattle.jt_inherit.proofs.Vocabulary.{block_names, block_view, blocks_view, Block, calls_super, of_texts, reflexive}
+use Rattle.jt_inherit.proofs.Vocabulary.{same, symmetric, among_next, both_false, once_more, or_false, or_true}
 
 -- ---- a set of texts
 
 pub any_text : (x : Text) (ks : List (Bor Text))
     → list_any (λ k. is_eq (slice_cmp nat_cmp x k.now)) ks ≡ among x (texts ks)
 any_text x [] = refl
-any_text x (k ∷ ks) =
-    ap (λ b. b || list_any (λ (j : Bor Text). is_eq (slice_cmp nat_cmp x j.now)) ks)
-    (is_eq-slice_cmp x k.now ∙ symmetric x k.now)
-    ∙ ap (λ b. bytes_eq k.now x || b) (any_text x ks)
+any_text x (k ∷ ks) = search (arith, rules, is_eq-slice_cmp, symmetric, any_text x ks)
 
 either : (a b : Bool) → cond a true b ≡ (a || b)
 either true b = refl
@@ -99,10 +86,7 @@ all_given bs g = any_none (λ b. is_required (named b.name bs)) (λ b. g b.name)
 
 pub none_given : (bs : List BlockBody) (b : BlockBody) (cs : List BlockBody) → among b.name (names_of bs) ≡ false
     → b.required ≡ true → lacks_body (bs ++ b ∷ cs) ≡ true
-none_given bs b cs n r =
-    any_here (λ c. is_required (named c.name (bs ++ b ∷ cs))) bs b cs
-    (ap is_required (named_new b.name bs (b ∷ cs) n)
-    ∙ ap (λ c. is_required (cond c (b ∷ named b.name cs) (named b.name cs))) (reflexive b.name) ∙ r)
+none_given bs b cs n r = search (arith, rules, any_here, named_new, reflexive)
 
 -- ---- bodies that `super()` can call
 
@@ -186,10 +170,7 @@ among_set ks ms pre n h m y =
 module _ {X : Type 0} (f : X → Text) (xs : List X) (i : ℕ) (x : X) (lt : i < length xs) (is : x ≡ get_or xs i x) where
   pub repeat_found : (ks : List Text) → ((y : Text) → among y ks ≡ among y (map f (take i xs))) → among (f x) ks ≡ true
       → repeated (map f xs) ≡ true
-  repeat_found ks e h =
-      let p = parted xs i x lt is in
-      ap (λ l. repeated (map f l)) p.1 ∙ ap repeated (map-append f (take i xs) (x ∷ p.0))
-      ∙ again (f x) (map f (take i xs)) (map f p.0) (sym (e (f x)) ∙ h)
+  repeat_found ks e h = search (arith, rules, parted, map-append, again)
 
   pub repeat_goes : (ks ms : List Text) (b : Bool) → ((y : Text) → among y ks ≡ among y (map f (take i xs)))
       → repeated (map f (take i xs)) ≡ false → b ≡ among (f x) ks

@@ -2,49 +2,31 @@
 -- comes before those that it leads to.
 use Rattle.std.proofs.Common.{◌≡◌, ◌≢◌, ◌↔◌, ℕ, zero, suc, ◌+◌, ◌*◌, ◌<◌, ◌≤◌, ◌==◌, Bool, true, false, not, ◌&&◌}
 use Rattle.std.proofs.Common.{nat_lt, List, [], ◌∷◌, ◌++◌, length, map, refl, sym, ap, subst, ◌∙◌, arith, inl, inr, ◌⊎◌}
-use Rattle.std.proofs.Common.{⊎_elim, Some, None, Vec, Global, rules}
-use Rattle.std.proofs.lemmas.List.{length-map, append-nil}
-use Rattle.std.specs.Prelude.{slice_get, unwrap_or}
-use Rattle.std.specs.List.{AllByRecursion, list_any}
-use Rattle.std.specs.Option.{is_some, is_none}
-use Rattle.std.specs.Str.{bytes_eq}
-use Rattle.std.proofs.lemmas.Bool.{cases_lt}
-use Rattle.std.proofs.lemmas.Bool.Decides.{nat_tests}
+use Rattle.std.proofs.Common.{⊎_elim, Some, None, Vec, Global, get_or, rules}
 use Rattle.jt_graph.specs.Graph as graph
-use Rattle.jt_graph.specs.Graph.{Graph, next_of, IsClosed, HasCycle, IsOrder}
-use Rattle.jt_graph.specs.View.{graph_of}
-use Rattle.jt_scan.specs.declared.options.Options.{Options}
-use Rattle.jt_ast.specs.Texts.{among, repeated}
-use Rattle.jt_ast.specs.Expressions.{Text}
-use Rattle.jt_chains.specs.Along.{AreIndices, templates_at}
-use Rattle.jt_inherit.specs.internal.Along.{needs_along}
-use Rattle.jt_chains.specs.Chain.{Namespace, a_chain, listed, is_a_library, Template, templates, sources_in, all_bodies}
+use Rattle.jt_graph.specs.Graph.{IsClosed, IsOrder}
+use Rattle.jt_chains.specs.Chain.{all_bodies}
 use Rattle.jt_chains.specs.Chain.{given as given_in}
-use Rattle.jt_inherit.specs.Chains.{SourceTexts, IsChain}
-use Rattle.jt_inherit.specs.internal.Checks.{lacks_body, lacks_next}
-use Rattle.jt_inherit.specs.internal.Found.{chains_of, AreFound, IsFound, found_templates, found_namespaces, root_of}
-use Rattle.jt_inherit.specs.internal.Found.{IsFollowed, AreFollowed, IsMet, BreaksAt, HasNamespaces, chosen}
-use Rattle.jt_chains.specs.Includes.{included, InOrder}
-use Rattle.jt_inherit.specs.internal.RuleTests.{KeepAll, BreakOne, their_blocks, their_names, any_double}
-use Rattle.jt_inherit.specs.internal.RuleTests.{any_lacks_macros}
-use Rattle.jt_chains.specs.Names.{IsName}
-use Rattle.jt_chains.specs.Needs.{Need, needed}
+use Rattle.jt_inherit.specs.internal.Found.{AllKeep, IsDone}
+use Rattle.jt_chains.specs.Includes.{begins_with_chain}
 use Rattle.jt_chains.specs.TemplateFiles.{namespace_view, AreWhole}
-use Rattle.jt_chains.specs.Indices.{namespace_at}
-use Rattle.jt_inherit.specs.Findings.{IsFinding}
-use Rattle.jt_inherit.specs.Refusals.{Breaks}
 use Rattle.jt_inherit.specs.internal.FindsAt.{FindsAt}
-use Rattle.jt_inherit.specs.declared.finding.ChainFinding.{ChainFinding}
+use Rattle.jt_inherit.proofs.Vocabulary.{length-map, append-nil, map-map, slice_get, unwrap_or, AllByRecursion}
+use Rattle.jt_inherit.proofs.Vocabulary.{list_any, is_some, is_none, bytes_eq, cases_lt, nat_tests, Graph, next_of}
+use Rattle.jt_inherit.proofs.Vocabulary.{HasCycle, graph_of, Options, among, repeated, Text, AreIndices, templates_at}
+use Rattle.jt_inherit.proofs.Vocabulary.{needs_along, Namespace, a_chain, listed, is_a_library, Template, templates}
+use Rattle.jt_inherit.proofs.Vocabulary.{sources_in, SourceTexts, IsChain, lacks_body, lacks_next, chains_of, AreFound}
+use Rattle.jt_inherit.proofs.Vocabulary.{IsFound, found_templates, found_namespaces, root_of, IsFollowed, AreFollowed}
+use Rattle.jt_inherit.proofs.Vocabulary.{IsMet, chosen, found_paths, listed_at, listed_view, included, InOrder, KeepAll}
+use Rattle.jt_inherit.proofs.Vocabulary.{BreakOne, their_blocks, their_names, any_double, any_lacks_macros, IsName}
+use Rattle.jt_inherit.proofs.Vocabulary.{Need, needed, namespace_at, IsFinding, Breaks, ChainFinding, Asks, Reaches}
+use Rattle.jt_inherit.proofs.Vocabulary.{here, asked, extends_path, is_whole, KeepsRules, templates_weight}
+use Rattle.jt_inherit.proofs.Vocabulary.{chains_weight, templates_len, chains_len, Seen, AreKnown, IsExtendsPath}
+use Rattle.jt_inherit.proofs.Vocabulary.{names_view, Discovery, ChainError, map_at, of_texts, same}
+use Rattle.jt_inherit.proofs.Vocabulary.{chain_among, of_namespaces, among_cases, both_false, no_more, or_false}
+use Rattle.jt_inherit.proofs.Vocabulary.{or_true, indexed_among}
 use Rattle.jt_inherit.proofs.FindingsHold.{rule_bare, rule_said}
 use Rattle.jt_chains.specs.Rules as rules
-use Rattle.jt_chains.specs.Rules.{Asks, Reaches, here, asked, extends_path, is_whole, KeepsRules}
-use Rattle.jt_chains.specs.Weights.{templates_weight, chains_weight}
-use Rattle.jt_inherit.specs.Small.{templates_len, chains_len}
-use Rattle.jt_chains.specs.View.{Seen}
-use Rattle.jt_inherit.specs.internal.ExtendsPaths.{AreKnown, IsExtendsPath, IsWithin}
-use Rattle.jt_inherit.specs.internal.Sets.{names_view}
-use Rattle.jt_inherit.specs.declared.discovery.Discovery.{Discovery}
-use Rattle.jt_inherit.specs.declared.error.ChainError.{ChainError}
 use Rattle.jt_inherit.specs.declared.error.ChainError.TheVariants as error
 use Rattle.jt_chains.specs.declared.chain.Namespace as linked
 use Rattle.jt_inherit.proofs.RulesCarryOver.{given_names}
@@ -53,16 +35,13 @@ use Rattle.jt_inherit.proofs.DiscoveryInvariant.{none_read, few_way, way_names, 
 use Rattle.jt_inherit.proofs.DiscoveryInvariant.{followed_number}
 use Rattle.jt_inherit.proofs.DiscoveryInvariant.{included_is, whole_path, some_source}
 use Rattle.jt_inherit.proofs.ImportCollection.{all_imported, none_given, none_lacking}
-use Rattle.jt_inherit.proofs.PathsGrow.{names, few_templates, all_at_indices}
+use Rattle.jt_inherit.proofs.PathsGrow.{shows, names, few_templates, all_at_indices}
 use Rattle.jt_inherit.proofs.PathTemplates.{never, and_false, and_true, too_few, few_names, all_named, have_sources}
 use Rattle.jt_inherit.proofs.PathTemplates.{all_among, repeated_up, weigh, names_indexed}
 use Rattle.jt_inherit.proofs.TopologicalOrder.{namespace_among, number_of, names_in_order, reached_in_order, no_cycle}
 use Rattle.jt_inherit.proofs.TopologicalOrder.{first_in_order, named_among}
 use Rattle.jt_inherit.proofs.TreeWeights.{all_weigh}
 use Rattle.jt_chains.proofs.TemplatesByIndex.{given_templates}
-use Rattle.jt_inherit.proofs.NameMembership.{of_texts, same}
-use Rattle.jt_inherit.proofs.NamespaceMembership.{chain_among, of_namespaces}
-use Rattle.jt_inherit.proofs.Membership.{among_cases, both_false, no_more, or_false, or_true, indexed_among}
 
 -- ---- chains by their numbers
 
@@ -70,6 +49,11 @@ pub at_number : (P : List ℕ → Type 0) (ws : Graph) (i : ℕ) → i < length 
 at_number P [] i lt a = absurd (omega arith)
 at_number P (w ∷ ws) zero lt a = a.0
 at_number P (w ∷ ws) (suc i) lt a = at_number P ws i (omega arith) a.1
+
+-- The path at a number, and the number is one of a path.
+pub way_at : (vs us : List (Vec ℕ Global)) (i : ℕ) (v : Vec ℕ Global) (is : List ℕ) → us ≡ vs → i < length us
+    → v ≡ get_or us i v → is ≡ v.items → (i < length (graph_of vs)) × (next_of (graph_of vs) i ≡ is)
+way_at vs us i v is e lt at items = search (arith, rules, length-map, map_at)
 
 pub next_len : (given : SourceTexts) (ts : List Template) (hs gs : List Namespace) (ws ns : Graph)
     → AreFollowed given ts hs gs ws ns → length ns ≡ length ws
@@ -179,58 +163,33 @@ module _ (given : SourceTexts) (options : Options) (ts : List Template) {ks : Li
   pub one_breaks : (root : Text) → Reaches (sources_in ts) options.autoescape (a_chain root) h → (e : ChainError)
       → BreakOne (sources_in ts) options.autoescape (templates_at ts is) e → Breaks e given root options
   one_breaks root r error.DoubleBlock b =
-      record {
-        templates = ts;
-        read = known.read;
-        only = known.only;
-        holds = (h, r, subst (λ us. any_double options.autoescape us ≡ true) (sym (whole_path ts h is w)) b);
-      }
+      shows known (h, r, subst (λ us. any_double options.autoescape us ≡ true) (sym (whole_path ts h is w)) b)
   one_breaks root r error.RequiredNotGiven b =
-      record {
-        templates = ts;
-        read = known.read;
-        only = known.only;
-        holds = (
-          h,
-          r,
-          and_true (is_whole (sources_in ts) options.autoescape h)
-              (lacks_body (all_bodies (sources_in ts) options.autoescape h)) is_one
-              (subst (λ us. lacks_body (their_blocks options.autoescape us) ≡ true) (sym (whole_path ts h is w)) b),
-        );
-      }
+      shows known (
+        h,
+        r,
+        and_true (is_whole (sources_in ts) options.autoescape h)
+            (lacks_body (all_bodies (sources_in ts) options.autoescape h)) is_one
+            (subst (λ us. lacks_body (their_blocks options.autoescape us) ≡ true) (sym (whole_path ts h is w)) b),
+      )
   one_breaks root r error.NoSuper b =
-      record {
-        templates = ts;
-        read = known.read;
-        only = known.only;
-        holds = (
-          h,
-          r,
-          and_true (is_whole (sources_in ts) options.autoescape h)
-              (lacks_next (all_bodies (sources_in ts) options.autoescape h)) is_one
-              (subst (λ us. lacks_next (their_blocks options.autoescape us) ≡ true) (sym (whole_path ts h is w)) b),
-        );
-      }
+      shows known (
+        h,
+        r,
+        and_true (is_whole (sources_in ts) options.autoescape h)
+            (lacks_next (all_bodies (sources_in ts) options.autoescape h)) is_one
+            (subst (λ us. lacks_next (their_blocks options.autoescape us) ≡ true) (sym (whole_path ts h is w)) b),
+      )
   one_breaks root r error.MacroTwice b =
-      record {
-        templates = ts;
-        read = known.read;
-        only = known.only;
-        holds = (
-          h,
-          r,
-          and_true (is_whole (sources_in ts) options.autoescape h)
-              (repeated (map (λ g. g.0) (given_in (sources_in ts) h))) is_one (ap repeated names_told ∙ b),
-        );
-      }
+      shows known (
+        h,
+        r,
+        and_true (is_whole (sources_in ts) options.autoescape h)
+            (repeated (map (λ g. g.0) (given_in (sources_in ts) h))) is_one (ap repeated names_told ∙ b),
+      )
   one_breaks root r error.NoMacro b =
       let k = chain_alone b in
-      record {
-        templates = ts;
-        read = known.read;
-        only = known.only;
-        holds = (h, r, (k.0, k.1, ap (any_lacks_macros (sources_in ts)) (whole_path ts h is w) ∙ b));
-      }
+      shows known (h, r, (k.0, k.1, ap (any_lacks_macros (sources_in ts)) (whole_path ts h is w) ∙ b))
   one_breaks root r error.NoMemory b = tt
   one_breaks root r error.Missing b = absurd b
   one_breaks root r error.BadName b = absurd b
@@ -288,34 +247,26 @@ module _ {given : SourceTexts} {options : Options} {entry : Text} {ts : List Tem
   includes_next i lt =
       (number i lt).numbered ∙ ap (map Some) (sym (included_is ts (namespace_at hs i) (next_of ws i) (number i lt).led))
 
-  pub chain_breaks : (e : ChainError) → BreaksAt options.autoescape ts ws e → Breaks e given entry options
-  chain_breaks e b =
-      let i = b.number in
-      let lt : i < length hs = omega (arith, b.within, all) in
-      one_breaks given options ts f.known (namespace_at hs i) (next_of ws i) (number i lt).led entry
-      (reached (namespace_at hs i) (namespace_among hs i lt)) e b.broken
-
   pub chain_finds : (x : ChainFinding) → FindsAt options.autoescape ts ws x → IsFinding given entry options x
   chain_finds x b =
       let i = b.number in
       let lt : i < length hs = omega (arith, b.within, all) in
+      let h = namespace_at hs i in
+      let w = next_of ws i in
+      let here = reached h (namespace_among hs i lt) in
       record {
-        broken = chain_breaks x.error (record { number = i; within = b.within; broken = b.broken });
+        broken = one_breaks given options ts f.known h w (number i lt).led entry here x.error b.found.broken;
         says =
-            rule_said f.known (reached (namespace_at hs i) (namespace_among hs i lt)) (number i lt).led
-            (is_one given options ts f.known (namespace_at hs i) (next_of ws i) (number i lt).led) x.error
-            (rule_bare (sources_in ts) options.autoescape (templates_at ts (next_of ws i)) x.error b.broken) x.place
-            x.subject b.said;
+            rule_said f.known here (number i lt).led (is_one given options ts f.known h w (number i lt).led) x.error
+            (rule_bare (sources_in ts) options.autoescape (templates_at ts w) x.error b.found.broken) x.place x.subject
+            b.found.said;
       }
 
   -- ---- a cycle of numbers is a cycle of chains
 
   pub edge : (i j : ℕ) → graph.among j (next_of ns i) ≡ true
       → (i < length hs) × (listed (namespace_at hs j) (included (sources_in ts) (namespace_at hs i)) ≡ true)
-  edge i j a =
-      ⊎_elim (λ (lt : i < length hs).
-      (lt, numbered_among hs j (next_of ns i) (included (sources_in ts) (namespace_at hs i)) (includes_next i lt) a))
-      (λ (le : length hs ≤ i). absurd (none_next ns i j (omega (arith, lens, le)) a)) (cases_lt i (length hs))
+  edge i j a = search (arith, rules, numbered_among, includes_next, none_next, lens, cases_lt)
 
   along : {i j : ℕ} → graph.Reaches ns i j → (m : Namespace)
       × (listed m (included (sources_in ts) (namespace_at hs i)) ≡ true)
@@ -517,10 +468,7 @@ module _ {given : SourceTexts} {options : Options} {entry : Text} {ts : List Tem
     -- The templates of a namespace weigh no more than their sources.
     one_weighs : (h : Namespace) → listed h hs ≡ true
         → templates_weight (templates (sources_in ts) h) ≤ templates_len given (templates (sources_in ts) h)
-    one_weighs h a =
-        let k = way_of h a in
-        subst (λ us. templates_weight us ≤ templates_len given us) (sym (whole_path ts h k.0 k.1))
-        (weigh given (templates_at ts k.0) (all_at_indices (IsWithin given) ts k.0 f.known.within))
+    one_weighs h a = search (arith, rules, way_of, whole_path, weigh, all_at_indices, within)
 
     pub weighs : chains_weight (sources_in ts) (map (namespace_at hs) is)
         ≤ chains_len given (sources_in ts) (map (namespace_at hs) is)
@@ -548,57 +496,82 @@ module _ {given : SourceTexts} {options : Options} {entry : Text} {ts : List Tem
         from (j ∷ js) a = omega arith
 
     whole_along : (js : List ℕ) (namespaces : List linked.Namespace) → AllByRecursion (λ i. i < length hs) js
-        → HasNamespaces hs ws js namespaces → AreWhole ts namespaces
+        → map listed_view namespaces ≡ map (λ i. (namespace_at hs i, next_of ws i)) js → AreWhole ts namespaces
     whole_along [] [] w a = tt
-    whole_along [] (k ∷ namespaces) w a = absurd a
-    whole_along (j ∷ js) [] w a = absurd a
+    whole_along [] (k ∷ namespaces) w a = absurd (cc)
+    whole_along (j ∷ js) [] w a = absurd (cc)
     whole_along (j ∷ js) (k ∷ namespaces) w a =
-        search (arith, rules, number, names_indexed, indexed_templates, whole_path, whole_along js namespaces w.1 a.1)
+        search (arith, rules, number, names_indexed, indexed_templates, whole_path, whole_along js namespaces w.1)
 
-    pub all_whole : (namespaces : List linked.Namespace) → HasNamespaces hs ws is namespaces → AreWhole ts namespaces
-    all_whole namespaces a = whole_along is namespaces within a
+-- A search whose paths are those of all chains and libraries is done.
+pub search_done : {given : SourceTexts} {options : Options} {entry : Text} (f : Discovery) → root_of f ≡ entry
+    → IsFound given options f → length (found_paths f) ≡ length (found_namespaces f) → IsDone given options entry f
+search_done {given} {options} {entry} f root is all =
+    let found : AreFound given options entry (found_templates f) (names_view f.names) (found_namespaces f)
+    (found_paths f) (graph_of f.next.items) = subst (λ z. AreFound given options z (found_templates f)
+    (names_view f.names) (found_namespaces f) (found_paths f) (graph_of f.next.items)) root is in
+    record {
+      found = found;
+      named = (is.known.named, ap repeated is.known.named ∙ is.known.read.once);
+      indices =
+          ways_indexed given (found_templates f) (found_namespaces f) (found_namespaces f) (found_paths f)
+          (graph_of f.next.items) is.followed;
+      paths = sym (length-map f.extends_paths.items (λ (v : Vec ℕ Global). v.items)) ∙ all;
+      next = sym (length-map f.next.items (λ (v : Vec ℕ Global). v.items)) ∙ lens found all;
+      closed = closed found all;
+    }
 
-pub namespaces_named : (hs : List Namespace) (ws : Graph) (is : List ℕ) (namespaces : List linked.Namespace)
-    → HasNamespaces hs ws is namespaces → map namespace_view namespaces ≡ map (namespace_at hs) is
-namespaces_named hs ws [] [] a = refl
-namespaces_named hs ws [] (k ∷ namespaces) a = absurd a
-namespaces_named hs ws (i ∷ is) [] a = absurd a
-namespaces_named hs ws (i ∷ is) (k ∷ namespaces) a =
-    ap (λ x. x ∷ map namespace_view namespaces) a.0.0
-    ∙ ap (λ l. namespace_at hs i ∷ l) (namespaces_named hs ws is namespaces a.1)
+-- A search from an entry that is done, with the chain of an order of its numbers.
+module _ {given : SourceTexts} {options : Options} {entry : Text} {f : Discovery}
+    (d : IsDone given options entry f) where
+  pub all : length (found_paths f) ≡ length (found_namespaces f)
+  all = length-map f.extends_paths.items (λ (v : Vec ℕ Global). v.items) ∙ d.paths
 
--- The result of a search from an entry, and an order of its numbers.
-module _ {given : SourceTexts} {options : Options} {entry : Text} (f : Discovery) (is : IsFound given options f)
-    (root : root_of f ≡ entry) (lens : length f.extends_paths.items ≡ length (found_namespaces f)) where
-  pub its_found : AreFound given options entry (found_templates f) (names_view f.names) (found_namespaces f)
-      (graph_of f.extends_paths.items) (graph_of f.next.items)
-  its_found =
-      subst (λ z. AreFound given options z (found_templates f) (names_view f.names) (found_namespaces f)
-      (graph_of f.extends_paths.items) (graph_of f.next.items)) root is
+  pub its_findings : (x : ChainFinding) → FindsAt options.autoescape (found_templates f) (found_paths f) x
+      → IsFinding given entry options x
+  its_findings = chain_finds d.found all
 
-  pub its_paths : length (graph_of f.extends_paths.items) ≡ length (found_namespaces f)
-  its_paths = length-map f.extends_paths.items (λ (v : Vec ℕ Global). v.items) ∙ lens
+  module _ (kept : AllKeep options.autoescape f) {is : List ℕ} (o : IsOrder (graph_of f.next.items) is)
+      (namespaces : List linked.Namespace) (made : map listed_view namespaces ≡ map (listed_at f) is) where
+    named : map namespace_view namespaces ≡ map (namespace_at (found_namespaces f)) is
+    named =
+        sym (map-map (λ q. q.0) listed_view namespaces) ∙ ap (map (λ q. q.0)) made
+        ∙ map-map (λ q. q.0) (listed_at f) is
 
-  pub its_next : length f.next.items ≡ length (found_namespaces f)
-  its_next =
-      sym (length-map f.next.items (λ (v : Vec ℕ Global). v.items))
-      ∙ next_len given (found_templates f) (found_namespaces f) (found_namespaces f) (graph_of f.extends_paths.items)
-      (graph_of f.next.items) its_found.followed
-      ∙ its_paths
+    pub its_some : 0 < length namespaces
+    its_some =
+        omega (
+          arith,
+          ap length made,
+          length-map namespaces listed_view,
+          length-map is (listed_at f),
+          some_namespaces d.found all kept o,
+        )
 
-  pub its_order : (order : List ℕ) → (IsClosed (graph_of f.next.items) → IsOrder (graph_of f.next.items) order)
-      → IsOrder (graph_of f.next.items) order
-  its_order order h = h (closed its_found its_paths)
+    pub its_begins : begins_with_chain (map namespace_view namespaces) ≡ true
+    its_begins = ap begins_with_chain (named ∙ (begins d.found all kept o).1)
 
-pub its_namespaces : (f : Discovery) (is js : List ℕ) (namespaces : List linked.Namespace) → js ≡ is
-    → HasNamespaces (found_namespaces f) (graph_of f.extends_paths.items) js namespaces
-    → HasNamespaces (found_namespaces f) (graph_of f.extends_paths.items) is namespaces
-its_namespaces f is js namespaces e has =
-    subst (λ z. HasNamespaces (found_namespaces f) (graph_of f.extends_paths.items) z namespaces) e has
+    pub its_order : InOrder (sources_in (found_templates f)) (map namespace_view namespaces)
+    its_order = subst (InOrder (sources_in (found_templates f))) (sym named) (in_order d.found all kept o)
 
-pub its_names : (f : Discovery) (is js : List ℕ) (namespaces : List linked.Namespace) → js ≡ is
-    → HasNamespaces (found_namespaces f) (graph_of f.extends_paths.items) js namespaces
-    → map namespace_view namespaces ≡ map (namespace_at (found_namespaces f)) is
-its_names f is js namespaces e has =
-    namespaces_named (found_namespaces f) (graph_of f.extends_paths.items) is namespaces
-    (its_namespaces f is js namespaces e has)
+    pub its_whole : AreWhole (found_templates f) namespaces
+    its_whole = whole_along d.found all kept o is namespaces (within d.found all kept o) made
+
+    pub its_chain : IsChain given entry options (record {
+      templates = found_templates f;
+      order = map namespace_view namespaces;
+      escaping = options.autoescape;
+    })
+    its_chain = search (arith, rules, named, chained, all)
+
+    pub its_weight : chains_weight (sources_in (found_templates f)) (map namespace_view namespaces)
+        ≤ chains_len given (sources_in (found_templates f)) (map namespace_view namespaces)
+    its_weight =
+        subst (λ z. chains_weight (sources_in (found_templates f)) z
+        ≤ chains_len given (sources_in (found_templates f)) z) (sym named) (weighs d.found all kept o)
+
+    pub its_count : 7 * length (map namespace_view namespaces)
+        ≤ chains_weight (sources_in (found_templates f)) (map namespace_view namespaces) + 7
+    its_count =
+        subst (λ z. 7 * length z ≤ chains_weight (sources_in (found_templates f)) z + 7) (sym named)
+        (few_namespaces d.found all kept o)

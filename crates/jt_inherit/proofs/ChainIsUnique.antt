@@ -1,26 +1,16 @@
 -- An entry has one chain, up to the order of its parts, and none if a rule is broken.
 use Rattle.std.proofs.Common.{◌≡◌, ◌≢◌, ◌↔◌, Bool, true, false, List, [], ◌∷◌, refl, sym, ap, subst, ◌∙◌, ⊎_elim}
 use Rattle.std.proofs.Common.{Option, Some, None, string_bytes, arith, rules}
-use Rattle.std.specs.List.{AllByRecursion, list_any}
-use Rattle.std.specs.Option.{is_some, is_none}
-use Rattle.jt_scan.specs.declared.options.Options.{Options}
-use Rattle.jt_ast.specs.Texts.{among}
-use Rattle.jt_ast.specs.Expressions.{Text}
-use Rattle.jt_ast.specs.Statements.{Body}
-use Rattle.jt_chains.specs.Chain.{Sources, a_chain, Template, sources_in}
-use Rattle.jt_inherit.specs.Chains.{SourceTexts, IsTree, IsRead, IsOnly, IsChain}
-use Rattle.jt_inherit.specs.Refusals.{Breaks, Shows, HasFault, IsUncut, IsUnspelled}
-use Rattle.jt_chains.specs.Rules as rules
-use Rattle.jt_chains.specs.Rules.{Asks, here, asked, KeepsRules}
-use Rattle.jt_chains.specs.View.{Seen, sources_of}
-use Rattle.jt_inherit.specs.declared.error.ChainError.{ChainError}
+use Rattle.jt_chains.specs.View.{sources_of}
 use Rattle.jt_inherit.specs.declared.error.ChainError.TheVariants as error
+use Rattle.jt_inherit.proofs.Vocabulary.{AllByRecursion, list_any, is_some, is_none, Options, among, Text, Body}
+use Rattle.jt_inherit.proofs.Vocabulary.{Sources, a_chain, Template, sources_in, SourceTexts, IsTree, IsRead, IsOnly}
+use Rattle.jt_inherit.proofs.Vocabulary.{IsChain, Breaks, Shows, HasFault, IsUncut, IsUnspelled, Asks, here, asked}
+use Rattle.jt_inherit.proofs.Vocabulary.{KeepsRules, Seen, ChainError, same, or_true}
 use Rattle.jt_inherit.proofs.RulesCarryOver as carried
 use Rattle.jt_inherit.proofs.DiscoveryInvariant.{some_source}
 use Rattle.jt_inherit.proofs.SourcesGrow.{asks_more, asked_more, reaches_more}
 use Rattle.jt_inherit.proofs.PathsGrow.{names}
-use Rattle.jt_inherit.proofs.NameMembership.{same}
-use Rattle.jt_inherit.proofs.Membership.{or_true}
 
 pub any_at : (p : Text → Bool) (x : Text) (xs : List Text) → among x xs ≡ true → p x ≡ true → list_any p xs ≡ true
 any_at p x [] a t = absurd (cc)
@@ -74,11 +64,11 @@ module _ (given : SourceTexts) (options : Options) where
     -- ---- a broken rule
 
     -- A property that the templates read so far show holds of the chain.
-    shown : (P : Sources → Type 0) → ((s : Sources)
+    shown : {P : Sources → Type 0} → Shows given options P → ((s : Sources)
         → ((n : Text) (b : Body) → Asks (sources_of d) options.autoescape (a_chain entry) n → s n ≡ Some b
         → sources_of d n ≡ Some b) → P s → ⊥)
-        → Shows given options P → ⊥
-    shown P none x = none (sources_in x.templates) (into x.templates x.read.each x.only) x.holds
+        → ⊥
+    shown x none = none (sources_in x.templates) (into x.templates x.read.each x.only) x.holds
 
     -- A requested name has a tree or no source.
     no_fault : (n : Text) (P : Text → Type 0) → HasFault given entry options n P → ⊥
@@ -113,42 +103,20 @@ module _ (given : SourceTexts) (options : Options) where
             by : (o : Option Body) → sources_of d n ≡ o → is_none o ≡ true
             by None e = refl
             by (Some b) e = absurd (has_source d.templates n b is.read.each e none)
-    no_chain error.BadName x =
-        absurd (shown (λ s. rules.BadName s options.autoescape (a_chain entry))
-        (λ s g b. d_keeps.bad_name (carried.bad_name s (sources_of d) options.autoescape (a_chain entry) g b)) x)
+    no_chain error.BadName x = absurd (shown x (λ s g b. d_keeps.bad_name (carried.bad_name s _ _ _ g b)))
     no_chain error.ExtendsCycle x =
-        absurd (shown (λ s. rules.ExtendsCycle s options.autoescape (a_chain entry))
-        (λ s g b. ⊎_elim d_keeps.extends_cycle d_keeps.too_long
-        (carried.extends_cycle s (sources_of d) options.autoescape (a_chain entry) g b)) x)
-    no_chain error.ChainTooLong x =
-        absurd (shown (λ s. rules.ChainTooLong s options.autoescape (a_chain entry))
-        (λ s g b. d_keeps.too_long (carried.too_long s (sources_of d) options.autoescape (a_chain entry) g b)) x)
-    no_chain error.DoubleBlock x =
-        absurd (shown (λ s. rules.DoubleBlock s options.autoescape (a_chain entry))
-        (λ s g b. d_keeps.double_block (carried.double_block s (sources_of d) options.autoescape (a_chain entry) g b))
-        x)
+        absurd (shown x (λ s g b. ⊎_elim d_keeps.extends_cycle d_keeps.too_long
+        (carried.extends_cycle s (sources_of d) options.autoescape (a_chain entry) g b)))
+    no_chain error.ChainTooLong x = absurd (shown x (λ s g b. d_keeps.too_long (carried.too_long s _ _ _ g b)))
+    no_chain error.DoubleBlock x = absurd (shown x (λ s g b. d_keeps.double_block (carried.double_block s _ _ _ g b)))
     no_chain error.RequiredNotGiven x =
-        absurd (shown (λ s. rules.RequiredNotGiven s options.autoescape (a_chain entry))
-        (λ s g b.
-        d_keeps.required_not_given (carried.required_not_given s (sources_of d) options.autoescape (a_chain entry) g b))
-        x)
-    no_chain error.NoSuper x =
-        absurd (shown (λ s. rules.NoSuper s options.autoescape (a_chain entry))
-        (λ s g b. d_keeps.no_super (carried.no_super s (sources_of d) options.autoescape (a_chain entry) g b)) x)
+        absurd (shown x (λ s g b. d_keeps.required_not_given (carried.required_not_given s _ _ _ g b)))
+    no_chain error.NoSuper x = absurd (shown x (λ s g b. d_keeps.no_super (carried.no_super s _ _ _ g b)))
     no_chain error.IncludeCycle x =
-        absurd (shown (λ s. rules.IncludeCycle s options.autoescape (a_chain entry))
-        (λ s g b. d_keeps.include_cycle (carried.include_cycle s (sources_of d) options.autoescape (a_chain entry) g b))
-        x)
-    no_chain error.MacroTwice x =
-        absurd (shown (λ s. rules.MacroTwice s options.autoescape (a_chain entry))
-        (λ s g b. d_keeps.macro_twice (carried.macro_twice s (sources_of d) options.autoescape (a_chain entry) g b)) x)
-    no_chain error.NoMacro x =
-        absurd (shown (λ s. rules.NoMacro s options.autoescape (a_chain entry))
-        (λ s g b. d_keeps.no_macro (carried.no_macro s (sources_of d) options.autoescape (a_chain entry) g b)) x)
-    no_chain error.NotALibrary x =
-        absurd (shown (λ s. rules.NotALibrary s options.autoescape (a_chain entry))
-        (λ s g b. d_keeps.not_a_library (carried.not_a_library s (sources_of d) options.autoescape (a_chain entry) g b))
-        x)
+        absurd (shown x (λ s g b. d_keeps.include_cycle (carried.include_cycle s _ _ _ g b)))
+    no_chain error.MacroTwice x = absurd (shown x (λ s g b. d_keeps.macro_twice (carried.macro_twice s _ _ _ g b)))
+    no_chain error.NoMacro x = absurd (shown x (λ s g b. d_keeps.no_macro (carried.no_macro s _ _ _ g b)))
+    no_chain error.NotALibrary x = absurd (shown x (λ s g b. d_keeps.not_a_library (carried.not_a_library s _ _ _ g b)))
     no_chain error.NoMemory x = refl
     no_chain (error.Scan n e) x = absurd (no_fault (string_bytes n) (IsUncut e options) x)
     no_chain (error.Parse n e) x = absurd (no_fault (string_bytes n) (IsUnspelled e options) x)

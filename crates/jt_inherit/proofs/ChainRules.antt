@@ -1,14 +1,11 @@
 -- The rules on the templates of a chain or a library, by the templates at its indices.
 use Rattle.std.proofs.Common.{◌≡◌, ℕ, Bool, List, [], ◌∷◌, ◌++◌, map, refl, sym, ap, ◌∙◌, Some}
-use Rattle.std.specs.Prelude.{slice_get}
-use Rattle.jt_chains.specs.Along.{macros_along, blocks_along, along}
-use Rattle.jt_chains.specs.Chain.{Sources, Template, MacroBody, macros_in, blocks_in}
-use Rattle.jt_inherit.specs.internal.Checks.{lacks_body, lacks_next}
-use Rattle.jt_inherit.specs.internal.RuleTests.{their_blocks, their_macros, their_names, imported_names}
-use Rattle.jt_chains.specs.Parts.{macros_view, blocks_view}
-use Rattle.jt_chains.specs.declared.parts.Block.{Block}
+use Rattle.jt_chains.specs.Along.{macros_along, blocks_along}
+use Rattle.jt_chains.specs.Parts.{macros_view}
 use Rattle.jt_chains.specs.declared.parts.Macro.{Macro}
-use Rattle.jt_chains.proofs.TemplatesByIndex.{along_templates}
+use Rattle.jt_inherit.proofs.Vocabulary.{slice_get, along, Sources, Template, MacroBody, macros_in, blocks_in}
+use Rattle.jt_inherit.proofs.Vocabulary.{lacks_body, lacks_next, their_blocks, their_macros, their_names}
+use Rattle.jt_inherit.proofs.Vocabulary.{imported_names, blocks_view, Block, along_templates}
 
 macros_seen : (ts : List Template) (ms : List Macro)
     → map (λ (m : MacroBody). m.name) (macros_view ts ms) ≡ map (λ m. m.name.now) ms

@@ -2,40 +2,24 @@
 use Rattle.std.proofs.Common.{◌≡◌, ℕ, zero, suc, ◌<◌, ◌≤◌, Bool, true, false, cond, List, [], ◌∷◌, ◌++◌, length, map}
 use Rattle.std.proofs.Common.{refl, sym, ap, subst, ◌∙◌, arith, ◌⊎◌, ⊎_elim, inl, inr, Option, Some, None, Vec, Global}
 use Rattle.std.proofs.Common.{length-append, rules}
-use Rattle.std.specs.Prelude.{slice_get, flat_map, filter, unwrap_or}
-use Rattle.std.specs.List.{AllByRecursion}
-use Rattle.std.specs.Option.{is_some, option_to_list}
-use Rattle.std.proofs.lemmas.List.{append-nil, append_assoc, length-map, map-append}
-use Rattle.jt_scan.specs.declared.options.Options.{Options}
-use Rattle.jt_ast.specs.Texts.{among}
-use Rattle.jt_ast.specs.Expressions.{Text}
-use Rattle.jt_chains.specs.Along.{AreIndices, templates_at}
-use Rattle.jt_inherit.specs.internal.Along.{imports_along, needs_along}
-use Rattle.jt_chains.specs.Chain.{Namespace, a_chain, a_library, namespace_name, listed, Template, templates, libraries}
-use Rattle.jt_chains.specs.Chain.{libraries_in, sources_in}
-use Rattle.jt_inherit.specs.Chains.{SourceTexts, IsRead}
-use Rattle.jt_inherit.specs.internal.Found.{AreNext, IsMet, IsFollowed, IsLedTo, AreFollowed, AreFound}
-use Rattle.jt_inherit.specs.internal.Found.{chosen}
-use Rattle.jt_chains.specs.Includes.{included, includes_in, needs_in}
-use Rattle.jt_chains.specs.Needs.{Need, include_need, library_need, needed}
-use Rattle.jt_chains.specs.Indices.{namespace_at}
-use Rattle.jt_chains.specs.Rules.{Asks, Reaches, here, asked, extends_path}
-use Rattle.jt_inherit.specs.internal.ExtendsPaths.{AreKnown, IsExtendsPath}
+use Rattle.jt_inherit.specs.internal.Found.{IsLedTo}
+use Rattle.jt_inherit.proofs.Vocabulary.{slice_get, flat_map, filter, unwrap_or, AllByRecursion, is_some}
+use Rattle.jt_inherit.proofs.Vocabulary.{option_to_list, append-nil, append_assoc, length-map, map-append, Options}
+use Rattle.jt_inherit.proofs.Vocabulary.{among, Text, AreIndices, templates_at, imports_along, needs_along, Namespace}
+use Rattle.jt_inherit.proofs.Vocabulary.{a_chain, a_library, namespace_name, listed, Template, templates, libraries}
+use Rattle.jt_inherit.proofs.Vocabulary.{libraries_in, sources_in, SourceTexts, IsRead, AreNext, IsMet, IsFollowed}
+use Rattle.jt_inherit.proofs.Vocabulary.{AreFollowed, AreFound, chosen, included, includes_in, Need}
+use Rattle.jt_inherit.proofs.Vocabulary.{include_need, library_need, needed, namespace_at, Asks, Reaches, here, asked}
+use Rattle.jt_inherit.proofs.Vocabulary.{extends_path, AreKnown, IsExtendsPath, by_templates, needed-append}
+use Rattle.jt_inherit.proofs.Vocabulary.{along_templates, Graph, next_of, graph_of, file_view, files_view, TemplateFile}
+use Rattle.jt_inherit.proofs.Vocabulary.{of_texts, same, of_namespaces, among_behind, among_front, both_false}
+use Rattle.jt_inherit.proofs.Vocabulary.{only_among, indexed_among}
 use Rattle.jt_inherit.proofs.ImportCollection.{all_imports, imports_needed, imports_chosen, all_includes}
 use Rattle.jt_inherit.proofs.ImportCollection.{includes_chosen, none_imported}
 use Rattle.jt_inherit.proofs.FollowStep.{at_front, met_grows, numbers_grow, chosen-append}
 use Rattle.jt_inherit.proofs.SourcesGrow.{reach_more, ask_more, reaches_next}
 use Rattle.jt_inherit.proofs.PathsGrow.{names, names_to_root, templates_grow, way_grows, few_templates, last_at}
 use Rattle.jt_inherit.proofs.PathsGrow.{templates_to_root}
-use Rattle.jt_chains.proofs.IncludeCollection.{by_templates, needed-append}
-use Rattle.jt_chains.proofs.TemplatesByIndex.{along_templates}
-use Rattle.jt_graph.specs.Graph.{Graph, next_of}
-use Rattle.jt_graph.specs.View.{graph_of}
-use Rattle.jt_chains.specs.TemplateFiles.{file_view, files_view}
-use Rattle.jt_chains.specs.declared.files.TemplateFile.{TemplateFile}
-use Rattle.jt_inherit.proofs.NameMembership.{of_texts, same}
-use Rattle.jt_inherit.proofs.NamespaceMembership.{of_namespaces}
-use Rattle.jt_inherit.proofs.Membership.{among_behind, among_front, both_false, only_among, indexed_among}
 
 -- ---- templates at indices
 
@@ -65,11 +49,7 @@ includes_told ts is a =
 
 pub includes_grow : (ts us : List Template) (is : List ℕ) → AreIndices ts is → AreIndices (ts ++ us) is
     → needs_along (ts ++ us) is ≡ needs_along ts is
-includes_grow ts us is a b =
-    includes_told (ts ++ us) is b ∙ ap (λ vs. flat_map (λ (t : Template). includes_in include_need t.body) vs
-    ++ map library_need (flat_map (λ (t : Template). libraries_in t.body) vs))
-    (templates_grow ts us is a)
-    ∙ sym (includes_told ts is a)
+includes_grow ts us is a b = search (arith, rules, includes_told, templates_grow)
 
 -- ---- names with a source
 
@@ -95,24 +75,21 @@ libraries_way ts a1 is w = search (arith, rules, whole_path, append-nil, none_im
 pub included_is : (ts : List Template) (h : Namespace) (is : List ℕ) → IsExtendsPath ts h is None
     → included (sources_in ts) h ≡ chosen (names ts) (needs_along ts is)
 included_is ts h is w =
-    let s = sources_in ts in
-    let us = templates_at ts is in
-    let ks = names ts in
-    let ns = flat_map (λ (t : Template). includes_in include_need t.body) us in
-    let ls = flat_map (λ (t : Template). libraries_in t.body) us in
-    let chains : filter (λ m. is_some (s m)) (flat_map (λ t. needs_in true t.body) (templates s h))
-    ≡ filter (λ m. among m ks) (needed true ns) =
-    ap (λ vs. filter (λ m. is_some (s m)) (flat_map (λ (t : Template). needs_in true t.body) vs)) (whole_path ts h is w)
-    ∙ ap (filter (λ m. is_some (s m))) (sym (by_templates true us))
-    ∙ filter_same (λ m. is_some (s m)) (λ m. among m ks) (some_source ts) (needed true ns) in
-    let theirs : filter (λ m. is_some (s m)) (libraries s h) ≡ filter (λ m. among m ks) ls =
-    ap (filter (λ m. is_some (s m))) (libraries_way ts h is w)
-    ∙ filter_same (λ m. is_some (s m)) (λ m. among m ks) (some_source ts) ls in
-    ap (λ l. map a_chain l ++ map a_library (filter (λ m. is_some (s m)) (libraries s h))) chains
-    ∙ ap (λ l. map a_chain (filter (λ m. among m ks) (needed true ns)) ++ map a_library l) theirs
-    ∙ sym (ap (chosen ks) (includes_told ts is w.indices) ∙ chosen-append ks ns (map library_need ls)
-    ∙ ap (λ l. l ++ chosen ks (map library_need ls)) (includes_chosen ks ns (all_includes us))
-    ∙ ap (λ l. map a_chain (filter (λ m. among m ks) (needed true ns)) ++ l) (imports_chosen ks ls))
+    search (
+      arith,
+      rules,
+      names,
+      whole_path,
+      by_templates,
+      filter_same,
+      some_source,
+      libraries_way,
+      includes_told,
+      chosen-append,
+      includes_chosen,
+      all_includes,
+      imports_chosen,
+    )
 
 -- The path of a chain or a library, and the names that it requests.
 module _ (ts : List Template) (e : Bool) (h : Namespace) (is : List ℕ) (w : IsExtendsPath ts h is None) where
@@ -278,10 +255,7 @@ module _ {given : SourceTexts} {options : Options} {root : Text} {ts0 : List Tem
 
     pub reached_from : (x : Namespace) → (listed x hs ≡ true) ⊎ (listed x (chosen ks2 (needs_along ts2 is)) ≡ true)
         → Reaches (sources_in ts2) options.autoescape (a_chain root) x
-    reached_from x c = ⊎_elim
-        (λ a. reach_more ts0 ts2 (more.0 ++ m2) options.autoescape (a_chain root) x all_more (f.reached x a))
-        (λ a. reaches_next reached_there (ap (listed x) chosen_there ∙ a))
-        c
+    reached_from x c = search (arith, rules, reach_more, all_more, reaches_next, reached_there, chosen_there)
 
     -- Each known name is requested.
     asks_more : (ks1 : List Text)

@@ -1,12 +1,13 @@
 -- The spelling of a text between quotes is no shorter than the text.
+use Rattle.std.proofs.Common.{rules}
 use Rattle.std.proofs.Common.{◌≡◌, ℕ, ◌+◌, ◌<◌, ◌≤◌, Bool, true, false, ◌==◌, ◌||◌, [], ◌∷◌, ◌++◌, length, refl, ap}
 use Rattle.std.proofs.Common.{subst, ◌∙◌, arith, encode_utf8_all, length-append, if◌then◌else◌}
-use Rattle.std.proofs.lemmas.Bool.Decides.{nat_tests}
-use Rattle.std.proofs.lemmas.Str.{encodes-append, length-encode, len_utf8_bounds, len_utf8_ascii, length-le-encodes}
+use Rattle.std.proofs.lemmas.Str.{encodes-append, length-encode, len_utf8_bounds, len_utf8_ascii}
 use lib.Utf8.{encode}
 use Rattle.jt_scan.specs.Literals as literal
 use Rattle.jt_scan.specs.Literals.{Text, digit_value, is_digit, AllDigits, number_of, Escape, drops, gives, octal}
 use Rattle.jt_scan.specs.Literals.{hexadecimal, refused, stays, escape, Means}
+use Rattle.jt_inherit.proofs.Vocabulary.{nat_tests, length-le-encodes}
 
 -- The number of bytes of the characters.
 abbrev pub bytes : Text → ℕ
@@ -52,21 +53,7 @@ below_eight c h = grind (arith, nat_tests)
 
 escape_fits : (c : ℕ) → Fits c (escape c)
 unfolding escape
-escape_fits c =
-    either c (is_digit 8 c) _ _ (λ h. below_eight c h)
-    (either c (c == 10) _ _ (λ h. tt)
-    (either c (c == 92 || c == 39 || c == 34) _ _ (λ h. quoted c h)
-    (either c (c == 97) _ _ (λ h. omega arith)
-    (either c (c == 98) _ _ (λ h. omega arith)
-    (either c (c == 116) _ _ (λ h. omega arith)
-    (either c (c == 110) _ _ (λ h. omega arith)
-    (either c (c == 118) _ _ (λ h. omega arith)
-    (either c (c == 102) _ _ (λ h. omega arith)
-    (either c (c == 114) _ _ (λ h. omega arith)
-    (either c (c == 120) _ _ (λ h. omega arith)
-    (either c (c == 117) _ _ (λ h. omega arith)
-    (either c (c == 85) _ _ (λ h. omega arith)
-    (either c (c == 78) _ _ (λ h. tt) tt)))))))))))))
+escape_fits c = search (arith, rules, either, below_eight, quoted)
 
 fits_as : (c : ℕ) (e : Escape) → escape c ≡ e → Fits c e
 fits_as c e h = subst (Fits c) h (escape_fits c)

@@ -1,27 +1,16 @@
 -- Findings that have no place, and those of included and imported templates.
-use Rattle.std.proofs.Common.{◌≡◌, Bool, true, false, ℕ, List, [], refl, sym, subst, ⊎_elim, Option, Some, None}
-use Rattle.std.proofs.Common.{◌∷◌, string_bytes}
-use Rattle.jt_scan.specs.declared.options.Options.{Options}
-use Rattle.jt_ast.specs.Expressions.{Text}
-use Rattle.jt_chains.specs.Along.{AreIndices, templates_at}
-use Rattle.jt_chains.specs.Chain.{Sources, Namespace, a_chain, Template, sources_in}
-use Rattle.jt_chains.specs.Rules.{Reaches, is_whole}
-use Rattle.jt_chains.specs.TemplateFiles.{files_view}
-use Rattle.jt_chains.specs.declared.files.TemplateFile.{TemplateFile}
-use Rattle.jt_inherit.specs.Chains.{SourceTexts}
-use Rattle.jt_inherit.specs.Findings.{IsFinding, IsNoMemory, Says, ForSome, HasTag, HasTwoTags, binds_macro, defines}
-use Rattle.jt_inherit.specs.Findings.{IsNotGiven, HasNoSuper, all_uses, is_block, may_be_bare}
-use Rattle.jt_inherit.specs.internal.ExtendsPaths.{AreKnown, IsExtendsPath}
-use Rattle.jt_inherit.specs.internal.Breaking.{BrokenIn, RuleAt}
-use Rattle.jt_inherit.specs.internal.RuleTests.{BreakOne}
-use Rattle.jt_inherit.specs.internal.Unmet.{IsUnmet, IsUnmetNeed}
-use Rattle.jt_inherit.specs.internal.Placing.{need_test}
-use Rattle.jt_inherit.specs.declared.error.ChainError.{ChainError}
+use Rattle.std.proofs.Common.{arith, rules}
+use Rattle.std.proofs.Common.{◌≡◌, Bool, true, false, ℕ, List, refl, sym, subst, ⊎_elim, Option, Some, None}
+use Rattle.jt_inherit.specs.internal.Breaking.{BrokenIn}
+use Rattle.jt_inherit.specs.internal.Unmet.{IsUnmetNeed}
 use Rattle.jt_inherit.specs.declared.error.ChainError.TheVariants as error
-use Rattle.jt_inherit.specs.declared.finding.ChainFinding.{ChainFinding}
-use Rattle.jt_inherit.specs.declared.finding.ChainSubject.{ChainSubject}
 use Rattle.jt_inherit.specs.declared.finding.ChainSubject.TheVariants as v
-use Rattle.jt_inherit.specs.declared.finding.TagPlace.{TagPlace}
+use Rattle.jt_inherit.proofs.Vocabulary.{Options, Text, AreIndices, templates_at, Sources, Namespace, a_chain, Template}
+use Rattle.jt_inherit.proofs.Vocabulary.{sources_in, Reaches, is_whole, files_view, TemplateFile, SourceTexts}
+use Rattle.jt_inherit.proofs.Vocabulary.{IsFinding, IsNoMemory, Says}
+use Rattle.jt_inherit.proofs.Vocabulary.{all_uses, may_be_bare, AreKnown}
+use Rattle.jt_inherit.proofs.Vocabulary.{IsExtendsPath, IsOfRule, RuleAt, BreakOne, IsBroken, IsUnmet, need_test}
+use Rattle.jt_inherit.proofs.Vocabulary.{ChainError, ChainFinding, ChainSubject, TagPlace}
 use Rattle.jt_inherit.proofs.DiscoveryInvariant.{asks_needed, whole_path}
 use Rattle.jt_inherit.proofs.PathsGrow.{asked_breaks}
 use Rattle.jt_inherit.proofs.PlacedErrors.{need_said, shown}
@@ -61,6 +50,15 @@ module _ {given : SourceTexts} {root : Text} {options : Options} where
       })
       unmet
 
+-- The finding of a rule that the templates break, or lack of memory.
+pub rule_broken : {s : Sources} {escaping : Bool} {ts : List Template} {e : ChainError} {f : ChainFinding}
+    → BreakOne s escaping ts e → IsOfRule s ts e f → IsBroken s escaping ts f
+rule_broken {s} {escaping} {ts} {e} {f} b r = search (arith, rules)
+
+pub memory_broken : {s : Sources} {escaping : Bool} {ts : List Template} {f : ChainFinding} → IsNoMemory f
+    → IsBroken s escaping ts f
+memory_broken {s} {escaping} {ts} m = subst (IsBroken s escaping ts) (sym m) (record { broken = tt; said = tt })
+
 -- A broken rule on the blocks, macros and imports of a chain or library.
 module _ {given : SourceTexts} {root : Text} {options : Options} {ts : List Template} {ks : List Text}
     (known : AreKnown given options ts ks) {h : Namespace}
@@ -68,28 +66,11 @@ module _ {given : SourceTexts} {root : Text} {options : Options} {ts : List Temp
     (w : IsExtendsPath ts h is None) (whole : is_whole (sources_in ts) options.autoescape h ≡ true) where
   broken_said : (e : ChainError) (p : TagPlace) (x : ChainSubject)
       → BrokenIn (sources_in ts) (templates_at ts is) x e p → Says given root options (Some p) (Some x) e
-  broken_said e p (v.Macro library x) q =
-      subst (λ z. Says given root options (Some p) (Some (v.Macro library x)) z) (sym q.0)
-      (shown known r error.NoMacro p (v.Macro library x) (
-        subst (λ l. HasTag (binds_macro (string_bytes library) (string_bytes x)) l p) (sym (whole_path ts h is w)) q.1,
-        q.2,
-      ))
-  broken_said e p (v.NameTwice x first) q =
-      subst (λ z. Says given root options (Some p) (Some (v.NameTwice x first)) z) (sym q.0)
-      (shown known r error.MacroTwice p (v.NameTwice x first)
-      (subst (λ l. HasTwoTags (defines (string_bytes x)) l first p) (sym (whole_path ts h is w)) q.1))
-  broken_said e p (v.BlockTwice x first) q =
-      subst (λ z. Says given root options (Some p) (Some (v.BlockTwice x first)) z) (sym q.0)
-      (shown known r error.DoubleBlock p (v.BlockTwice x first)
-      (subst (ForSome (λ t. HasTwoTags (is_block (string_bytes x)) (t ∷ []) first p)) (sym (whole_path ts h is w)) q.1))
-  broken_said e p (v.Block x) q =
-      subst (λ z. Says given root options (Some p) (Some (v.Block x)) z) (sym q.0)
-      (shown known r error.RequiredNotGiven p (v.Block x)
-      (subst (λ l. IsNotGiven l (string_bytes x) p) (sym (whole_path ts h is w)) q.1))
-  broken_said e p (v.Super x opened) q =
-      subst (λ z. Says given root options (Some p) (Some (v.Super x opened)) z) (sym q.0)
-      (shown known r error.NoSuper p (v.Super x opened)
-      (whole, subst (λ l. HasNoSuper l (string_bytes x) opened p) (sym (whole_path ts h is w)) q.1))
+  broken_said e p (v.Macro library x) q = search (arith, rules, shown, whole_path)
+  broken_said e p (v.NameTwice x first) q = search (arith, rules, shown, whole_path)
+  broken_said e p (v.BlockTwice x first) q = search (arith, rules, shown, whole_path)
+  broken_said e p (v.Block x) q = search (arith, rules, shown, whole_path)
+  broken_said e p (v.Super x opened) q = search (arith, rules, shown, whole_path)
   broken_said e p x q = absurd q
 
   pub rule_said : (e : ChainError) → may_be_bare e ≡ true → (p : Option TagPlace) (x : Option ChainSubject)

@@ -2,25 +2,17 @@
 use Rattle.std.proofs.Common.{◌≡◌, ℕ, zero, suc, ◌+◌, ◌<◌, ◌≤◌, Bool, true, false, not, cond, ◌||◌, if◌then◌else◌, List}
 use Rattle.std.proofs.Common.{[], ◌∷◌, ◌++◌, length, map, take, drop, get_or, refl, sym, ap, subst, ◌∙◌, arith, inl}
 use Rattle.std.proofs.Common.{inr, ◌⊎◌, ⊎_elim, Some, length-append, rules}
-use Rattle.std.specs.Prelude.{slice_get}
-use Rattle.std.specs.List.{AllByRecursion}
-use Rattle.std.specs.Str.{bytes_eq}
-use Rattle.std.proofs.lemmas.List.{append-nil, append_assoc, take_more, drop_more, map-append}
-use Rattle.jt_ast.specs.Texts.{among, repeated}
-use Rattle.jt_ast.specs.Expressions.{Text}
-use Rattle.jt_inherit.specs.Chains.{SourceTexts}
-use Rattle.jt_chains.specs.Chain.{Namespace, a_chain, a_library, listed}
-use Rattle.jt_inherit.specs.internal.Found.{AreNext, AddsNext, TooMany, IsNextFault, IsMet}
-use Rattle.jt_inherit.specs.internal.Found.{known_of, chosen, chains_of, twice}
-use Rattle.jt_chains.specs.Needs.{Need, needed, need_namespace, need_view, needs_view}
-use Rattle.jt_inherit.specs.declared.error.ChainError.{ChainError}
+use Rattle.std.proofs.lemmas.List.{take_more}
+use Rattle.jt_inherit.specs.internal.Found.{AddsNext}
+use Rattle.jt_inherit.specs.internal.Found.{known_of}
 use Rattle.jt_inherit.specs.declared.error.ChainError.TheVariants as error
-use Rattle.jt_chains.specs.declared.include_tags.NeededTemplate.{NeededTemplate}
-use Rattle.jt_inherit.proofs.NameMembership.{of_texts, reflexive}
+use Rattle.jt_inherit.proofs.Vocabulary.{slice_get, AllByRecursion, bytes_eq, append-nil, append_assoc, drop_more}
+use Rattle.jt_inherit.proofs.Vocabulary.{map-append, among, repeated, Text, SourceTexts, Namespace, a_chain, a_library}
+use Rattle.jt_inherit.proofs.Vocabulary.{listed, AreNext, TooMany, IsNextFault, IsMet, chosen, chains_of, twice, Need}
+use Rattle.jt_inherit.proofs.Vocabulary.{needed, need_namespace, need_view, needs_view, ChainError, NeededTemplate}
+use Rattle.jt_inherit.proofs.Vocabulary.{of_texts, reflexive, chain_among, of_namespaces, among_behind, among_cases}
+use Rattle.jt_inherit.proofs.Vocabulary.{among_front, among_next, both_false, once_more, only_among, or_false}
 use Rattle.jt_inherit.proofs.PathsGrow.{last_at}
-use Rattle.jt_inherit.proofs.NamespaceMembership.{chain_among, of_namespaces}
-use Rattle.jt_inherit.proofs.Membership.{among_behind, among_cases, among_front, among_next, both_false, once_more}
-use Rattle.jt_inherit.proofs.Membership.{only_among, or_false}
 
 -- ---- known includes and imports
 
@@ -36,14 +28,7 @@ one_known ks n e = ap (λ b. map need_namespace (cond b (n ∷ []) [])) e
 -- A namespace that has a number.
 pub next_there : (hs : List Namespace) (x : Namespace) (i : ℕ) → twice hs ≡ false → length (chains_of hs) ≤ 1024
     → slice_get hs i ≡ Some x → AreNext hs hs (x ∷ []) (i ∷ [])
-next_there hs x i once few at = record {
-  more = [];
-  grown = sym (append-nil hs);
-  once = once;
-  few = few;
-  from = λ h a. inl a;
-  numbered = ap (λ o. o ∷ []) at;
-}
+next_there hs x i once few at = search (arith, rules, append-nil)
 
 -- A namespace that is new.
 pub next_new : (old new : List Namespace) (x : Namespace) (i : ℕ) → new ≡ old ++ x ∷ [] → twice old ≡ false
@@ -113,11 +98,7 @@ pub put_fault : (old : List Namespace) (x : Namespace) (n : Text) (e : ChainErro
     → listed x old ≡ false
     → (e ≡ error.NoMemory) ⊎ ((e ≡ error.ChainTooLong) × (length (chains_of old) ≡ 1024) × (x ≡ a_chain n))
     → IsNextFault old (x ∷ []) n e
-put_fault old x n e once new f = ⊎_elim (λ m. inl m)
-    (λ t. inr (
-      t.0,
-      subst (λ y. TooMany old (y ∷ []) n) (sym t.2) (too_many old n once t.1 (ap (λ y. listed y old) (sym t.2) ∙ new)),
-    )) f
+put_fault old x n e once new f = search (arith, rules, too_many)
 
 -- ---- includes and imports, in order
 

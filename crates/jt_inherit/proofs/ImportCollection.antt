@@ -1,19 +1,13 @@
 -- The imports of templates; libraries import nothing.
 use Rattle.std.proofs.Common.{◌≡◌, Bool, true, false, ◌&&◌, List, [], ◌∷◌, ◌++◌, map, refl, sym, ap, ◌∙◌, arith, rules}
-use Rattle.std.specs.Prelude.{flat_map, filter}
-use Rattle.std.specs.List.{AllByRecursion}
-use Rattle.std.proofs.lemmas.List.{map-append}
 use Rattle.jt_ast.specs.Statements as trees
-use Rattle.jt_ast.specs.Expressions.{Text}
-use Rattle.jt_ast.specs.Statements.{Body, Branches}
-use Rattle.jt_ast.specs.Texts.{among}
-use Rattle.jt_chains.specs.Chain.{Sources, Namespace, a_chain, a_library, Template, holds_macros, of_a_library}
-use Rattle.jt_chains.specs.Chain.{libraries_in, imports_in, all_given_from, macros, MacroBody, Definition, own}
-use Rattle.jt_chains.specs.Rules.{lacks_macros}
-use Rattle.jt_inherit.specs.internal.Found.{chosen}
-use Rattle.jt_inherit.specs.internal.RuleTests.{names_from, imported_names}
-use Rattle.jt_chains.specs.Includes.{includes_by, includes_in, includes_under}
-use Rattle.jt_chains.specs.Needs.{Need, include_need, library_need, needed}
+use Rattle.jt_chains.specs.Chain.{of_a_library}
+use Rattle.jt_chains.specs.Chain.{imports_in, all_given_from}
+use Rattle.jt_chains.specs.Includes.{includes_by, includes_under}
+use Rattle.jt_inherit.proofs.Vocabulary.{flat_map, filter, AllByRecursion, map-append, Text, Body, Branches, among}
+use Rattle.jt_inherit.proofs.Vocabulary.{Sources, Namespace, a_chain, a_library, Template, holds_macros, libraries_in}
+use Rattle.jt_inherit.proofs.Vocabulary.{macros, MacroBody, own, lacks_macros, chosen, names_from}
+use Rattle.jt_inherit.proofs.Vocabulary.{imported_names, includes_in, Need, include_need, library_need, needed}
 
 -- ---- the imports of a template
 
@@ -113,33 +107,13 @@ pub imports_named : (s : Sources) (b : Body) → map (λ g. g.0) (imports_in s b
 imports_named s trees.end = refl
 imports_named s (trees.stmt (trees.import_as line n x) rest) = ap (λ l. x ∷ l) (imports_named s rest)
 imports_named s (trees.stmt (trees.import_from line n xs) rest) =
-    map-append (λ (g : Text × Definition). g.0) (all_given_from s n xs) (imports_in s rest)
-    ∙ ap (λ l. l ++ map (λ (g : Text × Definition). g.0) (imports_in s rest))
-    (from_named n (macros s (a_library n)) xs s refl)
-    ∙ ap (λ l. names_from (macros s (a_library n)) xs ++ l) (imports_named s rest)
-imports_named s (trees.stmt (trees.data_of t) rest) = imports_named s rest
-imports_named s (trees.stmt (trees.print line e) rest) = imports_named s rest
-imports_named s (trees.stmt (trees.choose bs other) rest) = imports_named s rest
-imports_named s (trees.stmt (trees.for_each line xs e c body other) rest) = imports_named s rest
-imports_named s (trees.stmt (trees.set line xs e) rest) = imports_named s rest
-imports_named s (trees.stmt (trees.set_block line x body) rest) = imports_named s rest
-imports_named s (trees.stmt (trees.with_values line ps body) rest) = imports_named s rest
-imports_named s (trees.stmt (trees.filter_block line fs body) rest) = imports_named s rest
-imports_named s (trees.stmt (trees.autoescape line on body) rest) = imports_named s rest
-imports_named s (trees.stmt (trees.macro line x ps body) rest) = imports_named s rest
-imports_named s (trees.stmt (trees.include line n i c) rest) = imports_named s rest
-imports_named s (trees.stmt (trees.extends line x) rest) = imports_named s rest
-imports_named s (trees.stmt (trees.block line x scoped required body) rest) = imports_named s rest
+    search (arith, rules, map-append, from_named, imports_named s rest)
+imports_named s (trees.stmt t rest) = imports_named s rest
 
 pub all_imported : (s : Sources) (ts : List Template)
     → map (λ g. g.0) (flat_map (λ t. imports_in s t.body) ts) ≡ flat_map (λ t. imported_names s t.body) ts
 all_imported s [] = refl
-all_imported s (t ∷ ts) =
-    map-append (λ (g : Text × Definition). g.0) (imports_in s t.body)
-    (flat_map (λ (u : Template). imports_in s u.body) ts)
-    ∙ ap (λ l. l ++ map (λ (g : Text × Definition). g.0) (flat_map (λ (u : Template). imports_in s u.body) ts))
-    (imports_named s t.body)
-    ∙ ap (λ l. imported_names s t.body ++ l) (all_imported s ts)
+all_imported s (t ∷ ts) = search (arith, rules, map-append, imports_named, all_imported s ts)
 
 pub own_named : (h : Namespace) (ms : List MacroBody) → map (λ g. g.0) (own h ms) ≡ map (λ m. m.name) ms
 own_named h [] = refl

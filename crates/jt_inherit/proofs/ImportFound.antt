@@ -1,27 +1,18 @@
 -- The finding of an imported template that holds something other than macros.
 use Rattle.std.proofs.Common.{◌≡◌, ◌<◌, ℕ, true, not, List, length, refl, sym, ap, subst, ◌∙◌, arith, ⊎_elim, Option}
 use Rattle.std.proofs.Common.{Some, None}
-use Rattle.std.specs.Option.{is_some}
-use Rattle.jt_graph.specs.Graph.{Graph, next_of}
-use Rattle.jt_scan.specs.declared.options.Options.{Options}
-use Rattle.jt_ast.specs.Expressions.{Text}
-use Rattle.jt_chains.specs.Chain.{Namespace, a_chain, a_library, listed, Template, is_a_library, sources_in, templates}
-use Rattle.jt_chains.specs.Indices.{namespace_at}
-use Rattle.jt_chains.specs.Along.{templates_at}
 use Rattle.std.specs.Prelude.{◌&&◌}
-use Rattle.jt_inherit.specs.Chains.{SourceTexts}
-use Rattle.jt_inherit.specs.Findings.{HasTag, IsFinding, Says, all_uses, is_import, leads_to}
-use Rattle.jt_inherit.specs.Refusals.{Breaks}
-use Rattle.jt_inherit.specs.internal.Found.{AreFound}
-use Rattle.jt_inherit.specs.internal.Imported.{IsItsName, IsNoLibrary, IsOfImport, LeadsAt, is_no_library}
+use Rattle.jt_inherit.specs.internal.Imported.{IsItsName, IsNoLibrary, IsOfImport, LeadsAt}
 use Rattle.jt_inherit.specs.declared.error.ChainError.TheVariants as error
-use Rattle.jt_inherit.specs.declared.finding.ChainFinding.{ChainFinding}
-use Rattle.jt_inherit.specs.declared.finding.ChainSubject.{ChainSubject}
 use Rattle.jt_inherit.specs.declared.finding.ChainSubject.TheVariants as v
-use Rattle.jt_inherit.specs.declared.finding.TagPlace.{TagPlace}
+use Rattle.jt_inherit.proofs.Vocabulary.{is_some, Graph, next_of, Options, Text, Namespace, a_chain, a_library, listed}
+use Rattle.jt_inherit.proofs.Vocabulary.{Template, is_a_library, sources_in, templates, namespace_at, templates_at}
+use Rattle.jt_inherit.proofs.Vocabulary.{SourceTexts, HasTag, IsFinding, Says, all_uses, is_import, leads_to, Breaks}
+use Rattle.jt_inherit.proofs.Vocabulary.{AreFound, is_no_library, ChainFinding, ChainSubject, TagPlace}
 use Rattle.jt_inherit.proofs.DiscoveryInvariant.{followed_len, followed_number, included_is, whole_path}
 use Rattle.jt_inherit.proofs.FindingsHold.{no_memory}
 use Rattle.jt_inherit.proofs.PathTemplates.{and_true}
+use Rattle.jt_inherit.proofs.PathsGrow.{shows}
 use Rattle.jt_inherit.proofs.PlacedErrors.{reached_source, shown}
 use Rattle.jt_inherit.proofs.TagPlaces.{HasUse, placed}
 use Rattle.jt_inherit.proofs.TopologicalOrder.{namespace_among}
@@ -80,12 +71,7 @@ module _ {given : SourceTexts} {options : Options} {entry : Text} {ts : List Tem
       record {
         broken =
             subst (λ z. Breaks z given entry options) (sym told.error)
-            (record {
-              templates = ts;
-              read = f.known.read;
-              only = f.known.only;
-              holds = (a_library n, here, (n, refl, other));
-            });
+            (shows f.known (a_library n, here, (n, refl, other)));
         says =
             subst (λ z. Says given entry options x.place x.subject z) (sym told.error)
             (import_said n a other x.place told.place x.subject told.subject);

@@ -1,11 +1,8 @@
 -- The last of some blocks that calls `super()`, if each further one is required.
 use Rattle.std.proofs.Common.{◌≡◌, ℕ, suc, true, ◌+◌, List, [], ◌∷◌, ◌++◌, length, drop, refl, sym, ap, subst, ◌∙◌}
 use Rattle.std.proofs.Common.{Some, add-one}
-use Rattle.std.specs.Prelude.{slice_get}
-use Rattle.std.specs.List.{AllByRecursion}
-use Rattle.jt_inherit.specs.Findings.{calls_super_at, is_required}
-use Rattle.jt_inherit.specs.internal.Tags.{IsLastCall, tag_view, tags_view}
-use Rattle.jt_inherit.specs.declared.tags.FoundTag.{FoundTag}
+use Rattle.jt_inherit.proofs.Vocabulary.{slice_get, AllByRecursion, calls_super_at, is_required, IsLastCall, tag_view}
+use Rattle.jt_inherit.proofs.Vocabulary.{tags_view, FoundTag}
 
 there : (qs : List FoundTag) (b : FoundTag) (rest : List FoundTag)
     → slice_get (tags_view (qs ++ b ∷ rest)) (length qs) ≡ Some (tag_view b)

@@ -1,3 +1,4 @@
+pub mod Vocabulary
 pub mod LibraryTemplate
 pub mod NameMembership
 pub mod TestsAtIndices
@@ -15,7 +16,6 @@ pub mod ImportCollection
 pub mod RefusalsPersist
 pub mod PathsGrow
 pub mod TreeLengths
-pub mod NamespaceListing
 pub mod Membership
 pub mod NameSets
 pub mod ValidNames
@@ -26,7 +26,6 @@ pub mod RawLengths
 pub mod ChainRules
 pub mod ChainIsUnique
 pub mod StoreLookup
-pub mod SuperInBranches
 pub mod TreeWeights
 pub mod ChainComplete
 pub mod PlacedErrors

@@ -1,24 +1,11 @@
 -- The path of a library, by the index of its template.
-use Rattle.std.proofs.Common.{◌≡◌, ℕ, zero, suc, true, false, not, Bool, List, [], ◌∷◌, ◌++◌, refl, sym, ap, subst}
-use Rattle.std.proofs.Common.{◌∙◌, arith, inl, Option, Some, None}
-use Rattle.std.specs.Prelude.{slice_get}
-use Rattle.std.specs.Option.{is_some, option_to_list}
-use Rattle.std.proofs.lemmas.List.{append-nil}
-use Rattle.std.proofs.lemmas.Option.{slice_get_within}
-use Rattle.jt_scan.specs.declared.options.Options.{Options}
-use Rattle.jt_ast.specs.Texts.{among, repeated}
-use Rattle.jt_ast.specs.Expressions.{Text}
-use Rattle.jt_ast.specs.Statements.{Body}
-use Rattle.jt_chains.specs.Along.{templates_at}
-use Rattle.jt_chains.specs.Chain.{a_library, Template, is_a_library, sources_in}
-use Rattle.jt_chains.specs.TemplateFiles.{files_view}
-use Rattle.jt_chains.specs.declared.files.TemplateFile.{TemplateFile}
-use Rattle.jt_chains.proofs.TemplatesByIndex.{only_one}
-use Rattle.jt_inherit.specs.Chains.{SourceTexts}
-use Rattle.jt_inherit.specs.internal.ExtendsPaths.{AreKnown, HasRead, IsAt, IsExtendsPath}
-use Rattle.jt_inherit.specs.internal.Imported.{is_no_library}
-use Rattle.jt_inherit.specs.internal.Sets.{names_view}
-use Rattle.jt_inherit.specs.declared.sets.Names.{Names}
+use Rattle.std.proofs.Common.{rules}
+use Rattle.std.proofs.Common.{◌≡◌, ℕ, zero, suc, true, false, not, Bool, List, [], ◌∷◌, refl, sym, ap}
+use Rattle.std.proofs.Common.{◌∙◌, arith, Option, Some, None}
+use Rattle.jt_inherit.proofs.Vocabulary.{slice_get, is_some, append-nil, slice_get_within, Options}
+use Rattle.jt_inherit.proofs.Vocabulary.{among, Text, Body, a_library, Template, is_a_library}
+use Rattle.jt_inherit.proofs.Vocabulary.{sources_in, files_view, TemplateFile, only_one, SourceTexts, AreKnown, HasRead}
+use Rattle.jt_inherit.proofs.Vocabulary.{is_no_library, names_view, Names}
 use Rattle.jt_inherit.proofs.DiscoveryInvariant.{some_source}
 use Rattle.jt_inherit.proofs.PathsGrow.{names}
 
@@ -50,29 +37,4 @@ pub library_read : {given : SourceTexts} {options : Options} (ps : List Template
     → {is : List ℕ} (i : ℕ) → is ≡ i ∷ [] → slice_get (names_view ks) i ≡ Some n
     → HasRead given options ps ps ks ks (a_library n) is
 library_read {given} {options} ps ks known n library {is} i e at =
-    let ts = files_view ps in
-    let there = of_name ts i n (sym (ap (λ l. slice_get l i) known.named) ∙ at) in
-    let t = there.0 in
-    let source : sources_in ts n ≡ Some t.body = subst (λ m. sources_in ts m ≡ Some t.body) there.2
-    (only_one ts i t known.read.once there.1) in
-    let alone : templates_at ts (i ∷ []) ≡ t ∷ [] = ap (λ o. option_to_list o ++ []) there.1 in
-    record {
-      known = known;
-      grown = ([], sym (append-nil ts));
-      from = λ x a. inl a;
-      extends_path =
-          subst (λ z. IsExtendsPath ts (a_library n) z None) (sym e) (record {
-            indices = (slice_get_within ts i t there.1, tt);
-            leads =
-                record {
-                  template = t;
-                  only = alone;
-                  named = there.2;
-                  source = source;
-                  holds = sym (ap is_a_library source) ∙ not_not (is_a_library (sources_in ts n)) library;
-                  last = refl;
-                };
-            once = ap (λ us. repeated (names us)) alone;
-            few = omega arith;
-          });
-    }
+    search (arith, rules, of_name, only_one, append-nil, slice_get_within, not_not, names)

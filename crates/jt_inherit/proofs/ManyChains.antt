@@ -1,24 +1,16 @@
 -- The finding of a chain that is one too many.
 use Rattle.std.proofs.Common.{◌≡◌, ◌⊎◌, ℕ, true, List, not, ap, sym, subst, ⊎_elim, inr, Option, Some, None, ◌∙◌}
-use Rattle.jt_ast.specs.Expressions.{Text}
-use Rattle.jt_scan.specs.declared.options.Options.{Options}
-use Rattle.jt_chains.specs.Along.{templates_at}
-use Rattle.jt_chains.specs.Chain.{Namespace, a_chain, listed, Template, sources_in, templates}
-use Rattle.jt_chains.specs.Includes.{included}
-use Rattle.jt_chains.specs.Rules.{Reaches}
-use Rattle.jt_inherit.specs.Chains.{SourceTexts}
-use Rattle.jt_inherit.specs.Findings.{HasTag, IsFinding, ReachesTooMany, Says, all_uses, is_include}
-use Rattle.jt_inherit.specs.Refusals.{Breaks}
-use Rattle.jt_inherit.specs.internal.Along.{needs_along}
-use Rattle.jt_inherit.specs.internal.ExtendsPaths.{AreKnown, IsExtendsPath}
-use Rattle.jt_inherit.specs.internal.Found.{IsNextFinding, TooMany, chosen}
-use Rattle.jt_inherit.specs.internal.Placing.{IsIncludedMore, IsOneChainMore}
+use Rattle.jt_inherit.specs.Findings.{ReachesTooMany}
+use Rattle.jt_inherit.specs.internal.Placing.{IsOneChainMore}
 use Rattle.jt_inherit.specs.declared.error.ChainError.TheVariants as error
-use Rattle.jt_inherit.specs.declared.finding.ChainFinding.{ChainFinding}
-use Rattle.jt_inherit.specs.declared.finding.ChainSubject.{ChainSubject}
 use Rattle.jt_inherit.specs.declared.finding.ChainSubject.TheVariants as v
+use Rattle.jt_inherit.proofs.Vocabulary.{Text, Options, templates_at, Namespace, a_chain, listed, Template, sources_in}
+use Rattle.jt_inherit.proofs.Vocabulary.{templates, included, Reaches, SourceTexts, HasTag, IsFinding, Says, all_uses}
+use Rattle.jt_inherit.proofs.Vocabulary.{is_include, Breaks, needs_along, AreKnown, IsExtendsPath, IsNextFinding}
+use Rattle.jt_inherit.proofs.Vocabulary.{TooMany, chosen, IsIncludedMore, ChainFinding, ChainSubject}
 use Rattle.jt_inherit.proofs.DiscoveryInvariant.{whole_path}
 use Rattle.jt_inherit.proofs.FindingsHold.{no_memory}
+use Rattle.jt_inherit.proofs.PathsGrow.{shows}
 use Rattle.jt_inherit.proofs.PlacedErrors.{said_at, shown}
 use Rattle.jt_inherit.proofs.TagPlaces.{HasUse}
 use Rattle.jt_inherit.proofs.UsesFound.{leads_used}
@@ -33,12 +25,7 @@ module _ {given : SourceTexts} {options : Options} {root : Text} {ts : List Temp
   many_broken : {n : Text} → TooMany old (chosen ks (needs_along ts is)) n
       → Breaks error.ChainTooLong given root options
   many_broken t =
-      record {
-        templates = ts;
-        read = known.read;
-        only = known.only;
-        holds = inr (t.chains, t.many, ap not t.once, λ m a. reached (a_chain m) (t.from m a));
-      }
+      shows known (inr (t.chains, t.many, ap not t.once, λ m a. reached (a_chain m) (t.from m a)))
 
   many_said : {n : Text} → TooMany old (chosen ks (needs_along ts is)) n
       → HasUse (is_include n) (all_uses (templates_at ts is)) → (f : ChainFinding)

@@ -1,18 +1,9 @@
 -- Sets of names: lookup, and the numbers after an insertion.
 use Rattle.std.proofs.Common.{◌≡◌, ℕ, false, cond, ◌||◌, List, [], ◌∷◌, ◌++◌, length, refl, ap, ◌∙◌, arith, Option}
 use Rattle.std.proofs.Common.{Some, String, Global, string_bytes, MatchOption, rules}
-use Rattle.std.specs.Prelude.{slice_get}
-use Rattle.std.specs.BTreeMap.{get_by_text}
-use Rattle.std.specs.List.{list_any}
-use Rattle.std.specs.Str.{bytes_eq}
-use Rattle.std.proofs.lemmas.Option.{slice_get-map}
-use Rattle.jt_ast.specs.Texts.{among}
-use Rattle.jt_ast.specs.Expressions.{Text}
-use Rattle.jt_chains.specs.Tables.{Table}
-use Rattle.jt_inherit.specs.internal.Numbers.{AreNumbers, is_text}
-use Rattle.jt_inherit.specs.internal.SetView.{strings}
+use Rattle.jt_inherit.proofs.Vocabulary.{slice_get, get_by_text, list_any, bytes_eq, slice_get-map, among, Text, Table}
+use Rattle.jt_inherit.proofs.Vocabulary.{AreNumbers, is_text, strings, same, symmetric}
 use Rattle.jt_inherit.proofs.NumberTables.{first_none, first_found, numbers_more}
-use Rattle.jt_inherit.proofs.NameMembership.{same, symmetric}
 
 any_string : (x : Text) (ks : List (String Global)) → list_any (is_text x) ks ≡ among x (strings ks)
 any_string x [] = refl

@@ -2,20 +2,17 @@
 -- chain has its own tag, an include or an import, which weighs at least 7.
 use Rattle.std.proofs.Common.{◌≡◌, ◌+◌, ◌*◌, ◌≤◌, Bool, true, false, ◌||◌, ◌⊎◌, inl, inr, List, [], ◌∷◌, ◌++◌, length}
 use Rattle.std.proofs.Common.{refl, sym, ap, ◌∙◌, subst, arith, length-append, rules}
-use Rattle.std.specs.Prelude.{not, flat_map, filter, IsTrue}
-use Rattle.std.proofs.lemmas.List.{length-map}
-use Rattle.jt_ast.specs.Expressions.{Text}
-use Rattle.jt_ast.specs.Statements.{Stmt, data_of, print, choose, for_each, set, set_block, with_values, filter_block}
-use Rattle.jt_ast.specs.Statements.{autoescape, macro, include, import_as, import_from, extends, block, Body, end, stmt}
-use Rattle.jt_ast.specs.Statements.{Branches, no_branches, branch, stmt_weight, body_weight, branch_weight}
-use Rattle.jt_chains.specs.Chain.{Sources, Namespace, a_chain, a_library, same_namespace, listed, Template, templates}
-use Rattle.jt_chains.specs.Chain.{libraries, libraries_in}
-use Rattle.jt_chains.specs.Includes.{needs_by, needs_in, needs_under, included, AllIn, InOrder}
-use Rattle.jt_chains.specs.Rules.{Reaches, here, through}
-use Rattle.jt_chains.specs.Weights.{templates_weight, chains_weight}
-use Rattle.jt_inherit.specs.internal.Found.{twice}
-use Rattle.jt_inherit.proofs.NamespaceMembership.{of_namespaces, reflexive, same}
-use Rattle.jt_inherit.proofs.Membership.{among_behind, among_front, both_false, no_more}
+use Rattle.std.specs.Prelude.{not, IsTrue}
+use Rattle.jt_ast.specs.Statements.{macro, import_as, import_from, block}
+use Rattle.jt_ast.specs.Statements.{stmt_weight, body_weight, branch_weight}
+use Rattle.jt_inherit.proofs.Vocabulary.{flat_map, filter, length-map, Text, Stmt, choose, for_each, set_block}
+use Rattle.jt_inherit.proofs.Vocabulary.{with_values, filter_block, autoescape, Body, end, stmt, Branches, no_branches}
+use Rattle.jt_inherit.proofs.Vocabulary.{branch, Sources, Namespace, a_chain, a_library, same_namespace, listed}
+use Rattle.jt_inherit.proofs.Vocabulary.{Template, templates, libraries, libraries_in, needs_by, needs_in, needs_under}
+use Rattle.jt_inherit.proofs.Vocabulary.{included, AllIn, InOrder, Reaches, here, through, templates_weight}
+use Rattle.jt_inherit.proofs.Vocabulary.{chains_weight, twice, of_namespaces, among_behind, among_front, both_false}
+use Rattle.jt_inherit.proofs.Vocabulary.{no_more}
+use Rattle.jt_inherit.proofs.NamespaceMembership.{reflexive, same}
 
 -- ---- tags
 
@@ -49,93 +46,8 @@ body_leads : (b : Body) → 7 * (length (needs_in true b) + length (libraries_in
 body_leads end = omega arith
 body_leads (stmt (import_as line n x) rest) = omega (arith, body_leads rest)
 body_leads (stmt (import_from line n xs) rest) = omega (arith, body_leads rest)
-body_leads (stmt (data_of t) rest) =
-    omega
-    (arith, length-append (needs_by true (data_of t)) (needs_in true rest), stmt_needs (data_of t), body_leads rest)
-body_leads (stmt (print line e) rest) =
-    omega (
-      arith,
-      length-append (needs_by true (print line e)) (needs_in true rest),
-      stmt_needs (print line e),
-      body_leads rest,
-    )
-body_leads (stmt (choose bs other) rest) =
-    omega (
-      arith,
-      length-append (needs_by true (choose bs other)) (needs_in true rest),
-      stmt_needs (choose bs other),
-      body_leads rest,
-    )
-body_leads (stmt (for_each line xs e c body other) rest) =
-    omega (
-      arith,
-      length-append (needs_by true (for_each line xs e c body other)) (needs_in true rest),
-      stmt_needs (for_each line xs e c body other),
-      body_leads rest,
-    )
-body_leads (stmt (set line xs e) rest) =
-    omega (
-      arith,
-      length-append (needs_by true (set line xs e)) (needs_in true rest),
-      stmt_needs (set line xs e),
-      body_leads rest,
-    )
-body_leads (stmt (set_block line x body) rest) =
-    omega (
-      arith,
-      length-append (needs_by true (set_block line x body)) (needs_in true rest),
-      stmt_needs (set_block line x body),
-      body_leads rest,
-    )
-body_leads (stmt (with_values line ps body) rest) =
-    omega (
-      arith,
-      length-append (needs_by true (with_values line ps body)) (needs_in true rest),
-      stmt_needs (with_values line ps body),
-      body_leads rest,
-    )
-body_leads (stmt (filter_block line fs body) rest) =
-    omega (
-      arith,
-      length-append (needs_by true (filter_block line fs body)) (needs_in true rest),
-      stmt_needs (filter_block line fs body),
-      body_leads rest,
-    )
-body_leads (stmt (autoescape line on body) rest) =
-    omega (
-      arith,
-      length-append (needs_by true (autoescape line on body)) (needs_in true rest),
-      stmt_needs (autoescape line on body),
-      body_leads rest,
-    )
-body_leads (stmt (macro line x ps body) rest) =
-    omega (
-      arith,
-      length-append (needs_by true (macro line x ps body)) (needs_in true rest),
-      stmt_needs (macro line x ps body),
-      body_leads rest,
-    )
-body_leads (stmt (include line n i c) rest) =
-    omega (
-      arith,
-      length-append (needs_by true (include line n i c)) (needs_in true rest),
-      stmt_needs (include line n i c),
-      body_leads rest,
-    )
-body_leads (stmt (extends line x) rest) =
-    omega (
-      arith,
-      length-append (needs_by true (extends line x)) (needs_in true rest),
-      stmt_needs (extends line x),
-      body_leads rest,
-    )
-body_leads (stmt (block line x scoped required body) rest) =
-    omega (
-      arith,
-      length-append (needs_by true (block line x scoped required body)) (needs_in true rest),
-      stmt_needs (block line x scoped required body),
-      body_leads rest,
-    )
+body_leads (stmt s rest) =
+    omega (arith, length-append (needs_by true s) (needs_in true rest), stmt_needs s, body_leads rest)
 
 -- ---- chains and libraries
 

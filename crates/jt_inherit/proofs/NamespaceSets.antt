@@ -2,20 +2,11 @@
 use Rattle.std.proofs.Common.{◌≡◌, ℕ, ◌+◌, ◌<◌, ◌≤◌, Bool, true, false, cond, ◌||◌, if◌then◌else◌, List, [], ◌∷◌, ◌++◌}
 use Rattle.std.proofs.Common.{length, drop, get_or, refl, sym, ap, ◌∙◌, arith, Option, Some, string_bytes, MatchOption}
 use Rattle.std.proofs.Common.{length-append, rules}
-use Rattle.std.specs.Prelude.{slice_get}
-use Rattle.std.specs.List.{list_any, position_from}
-use Rattle.std.proofs.lemmas.List.{append-nil, drop_more}
-use Rattle.std.proofs.lemmas.Option.{slice_get-map}
-use Rattle.std.specs.BTreeMap.{get_by_text}
-use Rattle.std.specs.Str.{bytes_eq}
-use Rattle.jt_ast.specs.Expressions.{Text}
-use Rattle.jt_chains.specs.Tables.{Table}
-use Rattle.jt_chains.specs.Chain.{Namespace, a_chain, a_library, same_namespace, listed}
-use Rattle.jt_inherit.specs.internal.Found.{chains_of}
 use Rattle.jt_inherit.specs.internal.Numbers as numbers
-use Rattle.jt_inherit.specs.internal.Numbers.{AreNumbers}
-use Rattle.jt_inherit.specs.internal.SetView.{key_view, keys_view}
-use Rattle.jt_inherit.specs.declared.sets.NamespaceKey.{NamespaceKey}
+use Rattle.jt_inherit.proofs.Vocabulary.{slice_get, list_any, position_from, append-nil, drop_more, slice_get-map}
+use Rattle.jt_inherit.proofs.Vocabulary.{get_by_text, bytes_eq, Text, Table, Namespace, a_chain, a_library}
+use Rattle.jt_inherit.proofs.Vocabulary.{same_namespace, listed, chains_of, AreNumbers, key_view, keys_view}
+use Rattle.jt_inherit.proofs.Vocabulary.{NamespaceKey}
 use Rattle.jt_inherit.proofs.NumberTables.{first_none, first_found, numbers_more, numbers_same}
 use Rattle.jt_inherit.proofs.NamespaceMembership.{chains_both, same, symmetric}
 

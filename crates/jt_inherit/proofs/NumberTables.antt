@@ -1,16 +1,10 @@
 -- Tables of numbers: lookup, and the effect of appending an item.
 use Rattle.std.proofs.Common.{◌≡◌, ℕ, suc, ◌+◌, Bool, true, false, cond, if◌then◌else◌, List, [], ◌∷◌, ◌++◌, length}
 use Rattle.std.proofs.Common.{refl, sym, ap, ◌∙◌, arith, Some, None, rules}
-use Rattle.std.specs.Prelude.{slice_get}
-use Rattle.std.specs.BTreeMap.{get_by_text}
-use Rattle.std.specs.List.{list_any, position_from}
 use Rattle.std.specs.Result.{is_ok, IsOk}
 use Rattle.std.specs.declared.result.Result.{Result}
-use Rattle.std.specs.Str.{bytes_eq}
-use Rattle.jt_ast.specs.Expressions.{Text}
-use Rattle.jt_chains.specs.Tables.{Table}
-use Rattle.jt_inherit.specs.internal.Numbers.{AreNumbers}
-use Rattle.jt_inherit.proofs.NameMembership.{same}
+use Rattle.jt_inherit.proofs.Vocabulary.{slice_get, get_by_text, list_any, position_from, bytes_eq, Text, Table}
+use Rattle.jt_inherit.proofs.Vocabulary.{AreNumbers, same}
 
 -- A push that succeeds appends the item.
 pub pushed : {A T E : Type 0} (r : Result T E) (now xs new : List A) (x : A)

@@ -1,24 +1,14 @@
 -- The templates on the path of a chain: their names, sources and weights.
 use Rattle.std.proofs.Common.{◌≡◌, ℕ, zero, suc, ◌≤◌, ◌==◌, Bool, true, false, ◌&&◌, nat_lt, List, [], ◌∷◌, map, refl}
 use Rattle.std.proofs.Common.{sym, ap, ◌∙◌, arith, Option, Some, None, rules}
-use Rattle.std.specs.Prelude.{slice_get}
-use Rattle.std.specs.List.{AllByRecursion, list_any}
-use Rattle.std.specs.Option.{is_none}
-use Rattle.std.proofs.lemmas.Bool.Decides.{nat_tests}
-use Rattle.jt_scan.specs.declared.options.Options.{Options}
 use Rattle.jt_ast.specs.Sizes.{body_bytes}
-use Rattle.jt_ast.specs.Texts.{among, repeated}
-use Rattle.jt_ast.specs.Expressions.{Text}
-use Rattle.jt_chains.specs.Chain.{Sources, Template, extends_of, parent_of, names_up}
-use Rattle.jt_inherit.specs.Chains.{SourceTexts, IsRead}
-use Rattle.jt_chains.specs.Names.{IsName}
 use Rattle.jt_chains.specs.TemplateFiles.{names_at}
-use Rattle.jt_chains.specs.Weights.{templates_weight}
-use Rattle.jt_inherit.specs.Small.{templates_len, source_len}
-use Rattle.jt_inherit.specs.internal.ExtendsPaths.{Leads, IsWithin}
+use Rattle.jt_inherit.specs.Small.{source_len}
+use Rattle.jt_inherit.proofs.Vocabulary.{slice_get, AllByRecursion, list_any, is_none, nat_tests, Options, among}
+use Rattle.jt_inherit.proofs.Vocabulary.{repeated, Text, Sources, Template, extends_of, parent_of, names_up}
+use Rattle.jt_inherit.proofs.Vocabulary.{SourceTexts, IsRead, IsName, templates_weight, templates_len, Leads, IsWithin}
+use Rattle.jt_inherit.proofs.Vocabulary.{same, both_false, or_true}
 use Rattle.jt_inherit.proofs.PathsGrow.{names}
-use Rattle.jt_inherit.proofs.NameMembership.{same}
-use Rattle.jt_inherit.proofs.Membership.{both_false, or_true}
 
 -- ---- names on the path
 

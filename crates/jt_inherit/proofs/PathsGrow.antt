@@ -1,37 +1,21 @@
 -- Paths that are extended, and the facts about them that stay true.
 use Rattle.std.proofs.Common.{◌≡◌, ℕ, zero, suc, ◌+◌, ◌-◌, ◌<◌, ◌≤◌, ◌==◌, Bool, true, false, not, ◌&&◌, List, [], ◌∷◌}
-use Rattle.std.proofs.Common.{◌||◌, ◌++◌, length, map, drop, get_or, refl, sym, ap, subst, ◌∙◌, arith, inl, inr, ◌⊎◌}
+use Rattle.std.proofs.Common.{◌++◌, length, map, drop, get_or, refl, sym, ap, subst, ◌∙◌, arith, inl, inr, ◌⊎◌}
 use Rattle.std.proofs.Common.{⊎_elim, Option, Some, None, length-append, string_bytes, rules}
-use Rattle.std.specs.Prelude.{flat_map, option_map, slice_get}
-use Rattle.std.specs.Str.{bytes_eq}
-use Rattle.std.specs.Option.{option_to_list}
-use Rattle.std.proofs.lemmas.Option.{slice_get_within, slice_get-get_or}
-use Rattle.std.specs.List.{AllByRecursion}
-use Rattle.std.proofs.lemmas.List.{append-nil, append_assoc, drop_more, length-map}
-use Rattle.jt_scan.specs.declared.options.Options.{Options}
-use Rattle.jt_ast.specs.Texts.{among, repeated}
-use Rattle.jt_ast.specs.Expressions.{Text}
-use Rattle.jt_ast.specs.Statements.{Body, end}
-use Rattle.jt_ast.specs.StatementView.{body_of}
-use Rattle.jt_chains.specs.Along.{AreIndices, templates_at}
-use Rattle.jt_chains.specs.Chain.{Sources, Namespace, a_chain, a_library, Template, template, templates, libraries}
-use Rattle.jt_chains.specs.Chain.{extends_of, parent_of, names_up, sources_in}
-use Rattle.jt_inherit.specs.Chains.{SourceTexts, IsRead, IsOnly}
-use Rattle.jt_inherit.specs.internal.Faults.{IsFaultOf}
-use Rattle.jt_chains.specs.Includes.{needs_in}
-use Rattle.jt_chains.specs.TemplateFiles.{file_view, files_view}
-use Rattle.jt_chains.specs.declared.files.TemplateFile.{TemplateFile}
-use Rattle.jt_inherit.specs.Refusals.{Breaks}
-use Rattle.jt_inherit.specs.internal.Sets.{names_view}
-use Rattle.jt_inherit.specs.declared.sets.Names.{Names}
-use Rattle.jt_chains.specs.Rules.{Reaches, asked, extends_path}
-use Rattle.jt_inherit.specs.internal.ExtendsPaths.{Leads, LeadsFrom, AreKnown, IsExtendsPath, IsWithin, AddsName, Grow}
-use Rattle.jt_inherit.specs.declared.error.ChainError.{ChainError}
+use Rattle.jt_inherit.specs.internal.Faults.{HasFaulty}
+use Rattle.jt_inherit.specs.internal.ExtendsPaths.{LeadsFrom, AddsName}
 use Rattle.jt_inherit.specs.declared.error.ChainError.TheVariants as error
-use Rattle.jt_chains.proofs.TemplatesByIndex.{only_one, map_at}
-use Rattle.jt_inherit.specs.internal.Placing.{IsNamedOn}
-use Rattle.jt_inherit.proofs.NameMembership.{all_more, map_more, of_texts, same}
-use Rattle.jt_inherit.proofs.Membership.{among_front, among_next, comes_again, once_more}
+use Rattle.jt_inherit.proofs.Vocabulary.{flat_map, slice_get, bytes_eq, option_to_list, slice_get_within}
+use Rattle.jt_inherit.proofs.Vocabulary.{slice_get-get_or, AllByRecursion, append-nil, append_assoc, drop_more}
+use Rattle.jt_inherit.proofs.Vocabulary.{length-map, Options, among, repeated, Text, Body, end, body_of, AreIndices}
+use Rattle.jt_inherit.proofs.Vocabulary.{templates_at, Sources, Namespace, a_chain, a_library, Template, template}
+use Rattle.jt_inherit.proofs.Vocabulary.{templates, libraries, extends_of, parent_of, names_up, sources_in, SourceTexts}
+use Rattle.jt_inherit.proofs.Vocabulary.{IsRead, IsOnly, IsFaultOf, needs_in, file_view, files_view, TemplateFile}
+use Rattle.jt_inherit.proofs.Vocabulary.{Breaks, HasFault, Shows, names_view, Names, Reaches, asked, extends_path}
+use Rattle.jt_inherit.proofs.Vocabulary.{Leads, AreKnown, IsExtendsPath, IsWithin, Grow, ChainError, only_one, map_at}
+use Rattle.jt_inherit.proofs.Vocabulary.{IsNamedOn, map_more, of_texts, same, among_front, among_next, once_more}
+use Rattle.jt_inherit.proofs.NameMembership.{all_more}
+use Rattle.jt_inherit.proofs.Membership.{comes_again}
 
 abbrev pub names : List Template → List Text
 names = map (λ t. t.name)
@@ -63,7 +47,7 @@ leads_more s (Some n) (u ∷ ts) t l e = (l.0, l.1, leads_more s (extends_of u.b
 
 -- ---- the names on a path
 
-none_up : (s : Sources) (k : ℕ) → names_up s k None ≡ []
+pub none_up : (s : Sources) (k : ℕ) → names_up s k None ≡ []
 none_up s zero = refl
 none_up s (suc k) = refl
 
@@ -137,29 +121,19 @@ templates_more ts (j ∷ is) i t e =
 pub templates_turn : (ps : List TemplateFile) (is : List ℕ) (k : ℕ) (p : TemplateFile) → k < length is
     → get_or is k 0 < length ps → p ≡ get_or ps (get_or is k 0) p
     → templates_at (files_view ps) (drop k is) ≡ file_view p ∷ templates_at (files_view ps) (drop (k + 1) is)
-templates_turn ps is k p lt within at =
-    ap (templates_at (files_view ps)) (drop_more is k 0 lt)
-    ∙ ap (λ o. option_to_list o ++ templates_at (files_view ps) (drop (k + 1) is))
-    (map_at file_view ps (get_or is k 0) p within at)
+templates_turn ps is k p lt within at = search (arith, rules, drop_more, map_at)
 
 -- The template file at a number on a path has the name, or another one.
 pub named_here : (ps : List TemplateFile) (is : List ℕ) (k : ℕ) (p : TemplateFile) (n : Text) → k < length is
     → get_or is k 0 < length ps → p ≡ get_or ps (get_or is k 0) p → bytes_eq (string_bytes p.name) n ≡ true
     → IsNamedOn (files_view ps) is n k
-named_here ps is k p n lt within at e = (
-  lt,
-  ap (option_map (λ (t : Template). t.name)) (map_at file_view ps (get_or is k 0) p within at)
-      ∙ ap Some (same (string_bytes p.name) n e),
-)
+named_here ps is k p n lt within at e = search (arith, rules, map_at, same)
 
 pub passed_by : (ps : List TemplateFile) (is : List ℕ) (k : ℕ) (p : TemplateFile) (n : Text) (b : Bool) → k < length is
     → get_or is k 0 < length ps → p ≡ get_or ps (get_or is k 0) p → bytes_eq (string_bytes p.name) n ≡ false
     → among n (names (templates_at (files_view ps) (drop k is))) ≡ b
     → among n (names (templates_at (files_view ps) (drop (k + 1) is))) ≡ b
-passed_by ps is k p n b lt within at e before =
-    sym (ap (λ us. among n (names us)) (templates_turn ps is k p lt within at)
-    ∙ ap (λ d. d || among n (names (templates_at (files_view ps) (drop (k + 1) is)))) e)
-    ∙ before
+passed_by ps is k p n b lt within at e before = search (arith, rules, templates_turn)
 
 pub few_templates : (ts : List Template) (is : List ℕ) → length (templates_at ts is) ≤ length is
 few_templates ts [] = omega arith
@@ -212,14 +186,7 @@ length_names (t ∷ ts) = ap suc (length_names ts)
 from_grows : (s r : Sources) → Grows s r → (h : Namespace) (ts : List Template) (p : Option Text) → LeadsFrom s h ts p
     → LeadsFrom r h ts p
 from_grows s r g (a_chain n) ts p l = leads_grow s r g (Some n) ts p l
-from_grows s r g (a_library n) ts p l = record {
-  template = l.template;
-  only = l.only;
-  named = l.named;
-  source = g n l.template.body l.source;
-  holds = l.holds;
-  last = l.last;
-}
+from_grows s r g (a_library n) ts p l = search (arith, rules)
 
 pub way_grows : (ts us : List Template) (h : Namespace) (is : List ℕ) (p : Option Text) → IsExtendsPath ts h is p
     → IsExtendsPath (ts ++ us) h is p
@@ -245,62 +212,29 @@ way_next ts h is i t n w at is_named new once lt =
 
 -- ---- a reached chain, and the errors on its path
 
+-- What holds of the templates that were read is shown.
+pub shows : {given : SourceTexts} {options : Options} {ts : List Template} {ks : List Text} {P : Sources → Type 0}
+    → AreKnown given options ts ks → P (sources_in ts) → Shows given options P
+shows {ts = ts} known holds = record { templates = ts; read = known.read; only = known.only; holds = holds }
+
 module _ {given : SourceTexts} {options : Options} {root : Text} {ts : List Template} {ks : List Text}
     (known : AreKnown given options ts ks) {h : Namespace}
     (r : Reaches (sources_in ts) options.autoescape (a_chain root) h) where
+  fault_asked : {m : Text} {P : Text → Type 0} (n : Text)
+      → among n (asked (sources_in ts) options.autoescape true h) ≡ true → HasFaulty m given n options P
+      → HasFault given root options m P
+  fault_asked n a f = search (arith, rules, shows)
+
   -- An error of a requested template breaks each chain that reaches the requester.
   pub asked_breaks : (n : Text) (e : ChainError) → among n (asked (sources_in ts) options.autoescape true h) ≡ true
       → (e ≡ error.Missing → among n (asked (sources_in ts) options.autoescape false h) ≡ true)
       → IsFaultOf e given n options → Breaks e given root options
-  asked_breaks n error.Missing a must f = record {
-    name = n;
-    reached = record { templates = ts; read = known.read; only = known.only; holds = (h, r, must refl) };
-    found = f;
-  }
-  asked_breaks n error.BadName a must f = record {
-    templates = ts;
-    read = known.read;
-    only = known.only;
-    holds = (h, r, (n, a, f));
-  }
-  asked_breaks n (error.Scan m e) a must f =
-      record {
-        reached =
-            record {
-              templates = ts;
-              read = known.read;
-              only = known.only;
-              holds = (h, r, ap (λ x. among x (asked (sources_in ts) options.autoescape true h)) f.0 ∙ a);
-            };
-        source = f.1.0;
-        found = ap given f.0 ∙ f.1.1;
-        fault = f.1.2;
-        none = f.1.3;
-      }
-  asked_breaks n (error.Parse m e) a must f =
-      record {
-        reached =
-            record {
-              templates = ts;
-              read = known.read;
-              only = known.only;
-              holds = (h, r, ap (λ x. among x (asked (sources_in ts) options.autoescape true h)) f.0 ∙ a);
-            };
-        source = f.1.0;
-        found = ap given f.0 ∙ f.1.1;
-        fault = f.1.2;
-        none = f.1.3;
-      }
+  asked_breaks n error.Missing a must f = record { name = n; reached = shows known (h, r, must refl); found = f }
+  asked_breaks n error.BadName a must f = shows known (h, r, (n, a, f))
+  asked_breaks n (error.Scan m e) a must f = fault_asked n a f
+  asked_breaks n (error.Parse m e) a must f = fault_asked n a f
   asked_breaks n error.NoMemory a must f = tt
-  asked_breaks n error.ExtendsCycle a must f = absurd f
-  asked_breaks n error.ChainTooLong a must f = absurd f
-  asked_breaks n error.DoubleBlock a must f = absurd f
-  asked_breaks n error.RequiredNotGiven a must f = absurd f
-  asked_breaks n error.NoSuper a must f = absurd f
-  asked_breaks n error.IncludeCycle a must f = absurd f
-  asked_breaks n error.MacroTwice a must f = absurd f
-  asked_breaks n error.NoMacro a must f = absurd f
-  asked_breaks n error.NotALibrary a must f = absurd f
+  asked_breaks n e a must f = absurd f
 
 module _ {given : SourceTexts} {options : Options} {root : Text} {ts : List Template} {ks : List Text}
     (known : AreKnown given options ts ks) {h : Text}
@@ -312,12 +246,7 @@ module _ {given : SourceTexts} {options : Options} {root : Text} {ts : List Temp
       let us = templates_at ts is in
       let up : names_up s (length us + 1) (Some h) ≡ names us ++ n ∷ [] =
       names_lead s (length us + 1) 1 (Some h) us (Some n) refl w.leads in
-      record {
-        templates = ts;
-        read = known.read;
-        only = known.only;
-        holds = (a_chain h, r, (h, refl, length us + 1, ap repeated up ∙ comes_again of_texts n (names us) there));
-      }
+      shows known (a_chain h, r, (h, refl, length us + 1, ap repeated up ∙ comes_again of_texts n (names us) there))
 
   pub long_breaks : {is : List ℕ} {n : Text} → IsExtendsPath ts (a_chain h) is (Some n) → length is ≡ 64
       → among n (names (templates_at ts is)) ≡ false → Breaks error.ChainTooLong given root options
@@ -327,18 +256,12 @@ module _ {given : SourceTexts} {options : Options} {root : Text} {ts : List Temp
       let len : length us ≡ 64 = all_templates ts is w.indices ∙ full in
       let up : extends_path s options.autoescape (a_chain h) ≡ names us ++ n ∷ [] =
       names_lead s 65 1 (Some h) us (Some n) (omega (arith, len)) w.leads in
-      record {
-        templates = ts;
-        read = known.read;
-        only = known.only;
-        holds =
-            inl (
-              a_chain h,
-              r,
-              subst (λ xs. ((length xs == 65) && not (repeated xs)) ≡ true) (sym up)
-                  (sixty_five n us len (once_more of_texts n (names us) w.once new)),
-            );
-      }
+      shows known (inl (
+        a_chain h,
+        r,
+        subst (λ xs. ((length xs == 65) && not (repeated xs)) ≡ true) (sym up)
+            (sixty_five n us len (once_more of_texts n (names us) w.once new)),
+      ))
     where
       sixty_five : (n : Text) (us : List Template) → length us ≡ 64 → repeated (names us ++ n ∷ []) ≡ false
           → ((length (names us ++ n ∷ []) == 65) && not (repeated (names us ++ n ∷ []))) ≡ true

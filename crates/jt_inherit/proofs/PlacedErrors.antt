@@ -1,53 +1,34 @@
 -- What the place of an error at the name of a template shows in each chain that reaches the tag.
-use Rattle.std.proofs.Common.{◌≡◌, ℕ, suc, ◌+◌, ◌-◌, ◌<◌, ◌≤◌, Bool, true, false, not, ◌||◌, List, [], ◌∷◌, ◌++◌}
+use Rattle.std.proofs.Common.{rules}
+use Rattle.std.proofs.Common.{◌≡◌, ℕ, suc, ◌+◌, ◌-◌, ◌<◌, ◌≤◌, Bool, true, false, List, [], ◌∷◌, ◌++◌}
 use Rattle.std.proofs.Common.{length}
 use Rattle.std.proofs.Common.{String, Global, drop, get_or, map, zero, refl, sym, ap, subst, ◌∙◌, arith, inl, inr}
 use Rattle.std.proofs.Common.{◌⊎◌, ⊎_elim, Option, Some, None, string_bytes}
-use Rattle.std.specs.Prelude.{flat_map, slice_get, option_map}
-use Rattle.std.specs.Option.{is_some, option_to_list}
-use Rattle.std.proofs.lemmas.List.{append_assoc, append-nil, length-map, map-append}
-use Rattle.std.proofs.lemmas.Option.{slice_get-get_or}
-use Rattle.jt_scan.specs.declared.options.Options.{Options}
-use Rattle.jt_ast.specs.Texts.{among, repeated}
-use Rattle.jt_ast.specs.Expressions.{Text}
-use Rattle.jt_ast.specs.Statements.{end}
-use Rattle.jt_uses.specs.Uses.{Use, Site, body_uses, outside}
-use Rattle.jt_chains.specs.Along.{AreIndices, templates_at}
-use Rattle.jt_chains.specs.Chain.{Sources, Namespace, namespace_name, a_chain, a_library, listed, Template, template}
-use Rattle.jt_chains.specs.Chain.{templates, libraries, extends_of, names_up, sources_in}
-use Rattle.jt_chains.specs.Includes.{included, needs_in, with_source}
-use Rattle.jt_chains.specs.Names.{IsName}
-use Rattle.jt_chains.specs.Rules.{Reaches, here, through, extends_path}
-use Rattle.jt_chains.specs.TemplateFiles.{files_view}
-use Rattle.jt_chains.specs.declared.files.TemplateFile.{TemplateFile}
 use Rattle.jt_chains.proofs.TemplatesByIndex.{number_at}
-use Rattle.jt_inherit.specs.Chains.{SourceTexts}
-use Rattle.jt_inherit.specs.Findings.{ForSome, IsAt, HasTag, all_uses, uses_in, asks, is_extends, IsBrokenAt, Says}
-use Rattle.jt_inherit.specs.Findings.{last_of, may_be_bare}
-use Rattle.jt_inherit.specs.internal.ExtendsPaths.{AreKnown, BreaksAll, Grow, IsExtendsPath, Leads, SaysAll}
-use Rattle.jt_inherit.specs.internal.Faults.{IsFaultOf}
-use Rattle.jt_inherit.specs.internal.Placing.{IsCycle, IsLong, IsNamed, IsNamedOn, IsNameless, IsOfName, IsOfNeed}
-use Rattle.jt_inherit.specs.internal.Placing.{IsOneMore, IsRound, NamedAt, need_test, parent_at, uses_at, uses_of}
-use Rattle.jt_chains.specs.Needs.{Need, need_view, needed, needs_view}
-use Rattle.jt_chains.specs.declared.include_tags.NeededTemplate.{NeededTemplate}
+use Rattle.jt_inherit.specs.Findings.{IsBrokenAt}
+use Rattle.jt_inherit.specs.Findings.{last_of}
+use Rattle.jt_inherit.specs.internal.ExtendsPaths.{SaysAll}
+use Rattle.jt_inherit.specs.internal.Placing.{IsNameless, IsOfName, IsOfNeed}
+use Rattle.jt_inherit.specs.internal.Placing.{IsOneMore, IsRound, NamedAt}
 use Rattle.jt_inherit.specs.internal.Along.{needs_of}
 use Rattle.jt_inherit.specs.internal.Found.{IsFaultAt}
-use Rattle.jt_inherit.specs.internal.Unmet.{IsUnmet}
-use Rattle.jt_inherit.specs.internal.Tags.{tags, place_in, place_view}
-use Rattle.jt_inherit.specs.declared.error.ChainError.{ChainError}
 use Rattle.jt_inherit.specs.declared.error.ChainError.TheVariants as error
-use Rattle.jt_inherit.specs.declared.finding.ChainSubject.{ChainSubject}
 use Rattle.jt_inherit.specs.declared.finding.ChainSubject.TheVariants as v
-use Rattle.jt_inherit.specs.declared.finding.TagPlace.{TagPlace}
+use Rattle.jt_inherit.proofs.Vocabulary.{flat_map, slice_get, option_map, is_some, option_to_list, append_assoc}
+use Rattle.jt_inherit.proofs.Vocabulary.{append-nil, length-map, map-append, slice_get-get_or, Options, among, repeated}
+use Rattle.jt_inherit.proofs.Vocabulary.{Text, end, Use, Site, body_uses, outside, AreIndices, templates_at, Sources}
+use Rattle.jt_inherit.proofs.Vocabulary.{Namespace, namespace_name, a_chain, a_library, listed, Template, template}
+use Rattle.jt_inherit.proofs.Vocabulary.{templates, extends_of, names_up, sources_in, included}
+use Rattle.jt_inherit.proofs.Vocabulary.{IsName, Reaches, here, through, extends_path, files_view}
+use Rattle.jt_inherit.proofs.Vocabulary.{TemplateFile, SourceTexts, ForSome, IsAt, HasTag, all_uses, uses_in, asks}
+use Rattle.jt_inherit.proofs.Vocabulary.{is_extends, Says, may_be_bare, AreKnown, BreaksAll, Grow, IsExtendsPath, Leads}
+use Rattle.jt_inherit.proofs.Vocabulary.{IsFaultOf, IsCycle, IsLong, IsNamedOn, need_test, parent_at, uses_at, uses_of}
+use Rattle.jt_inherit.proofs.Vocabulary.{need_view, needs_view, NeededTemplate, IsUnmet, tags, place_in}
+use Rattle.jt_inherit.proofs.Vocabulary.{place_view, ChainError, ChainSubject, TagPlace, among_next, once_more}
+use Rattle.jt_inherit.proofs.Vocabulary.{of_texts, key_view, ChainFinding, NamespaceKey}
 use Rattle.jt_inherit.proofs.DiscoveryInvariant.{some_source, none_read}
-use Rattle.jt_inherit.proofs.Membership.{among_next, once_more}
-use Rattle.jt_inherit.proofs.NameMembership.{of_texts}
 use Rattle.jt_inherit.proofs.PathTemplates.{all_among, all_named, never}
-use Rattle.jt_inherit.proofs.PathsGrow.{names, names_lead, templates_lead, few_templates, all_templates, last_at}
-use Rattle.jt_inherit.specs.Refusals.{Breaks}
-use Rattle.jt_inherit.specs.internal.SetView.{key_view}
-use Rattle.jt_inherit.specs.declared.finding.ChainFinding.{ChainFinding}
-use Rattle.jt_inherit.specs.declared.sets.NamespaceKey.{NamespaceKey}
+use Rattle.jt_inherit.proofs.PathsGrow.{shows, names, names_lead, templates_lead, few_templates, all_templates, last_at}
 use Rattle.jt_inherit.proofs.FollowStep.{asked_at}
 use Rattle.jt_inherit.proofs.NamespaceSets.{is_chain}
 use Rattle.jt_inherit.proofs.SourcesGrow.{among_passes, chains_listed, chain_breaks, libraries_listed, flat-append}
@@ -59,14 +40,8 @@ use Rattle.jt_inherit.proofs.UsesFound.{extends_used}
 
 listed_source : (s : Sources) (h m : Namespace) → listed m (included s h) ≡ true
     → is_some (s (namespace_name m)) ≡ true
-listed_source s h (a_chain n) a =
-    let xs = flat_map (λ (t : Template). needs_in true t.body) (templates s h) in
-    (among_passes (λ m. is_some (s m)) n xs
-    (sym (chains_listed n (with_source s xs) (with_source s (libraries s h))) ∙ a)).1
-listed_source s h (a_library n) a =
-    let xs = flat_map (λ (t : Template). needs_in true t.body) (templates s h) in
-    (among_passes (λ m. is_some (s m)) n (libraries s h)
-    (sym (libraries_listed n (with_source s xs) (with_source s (libraries s h))) ∙ a)).1
+listed_source s h (a_chain n) a = search (arith, rules, among_passes, chains_listed)
+listed_source s h (a_library n) a = search (arith, rules, among_passes, libraries_listed)
 
 pub reached_source : {s : Sources} {e : Bool} {h k : Namespace} → Reaches s e h k
     → (k ≡ h) ⊎ (is_some (s (namespace_name k)) ≡ true)
@@ -108,10 +83,7 @@ last_none (j ∷ is) e =
 last_template : (ts : List Template) (is : List ℕ) (i : ℕ) (t : Template) → slice_get is (length is - 1) ≡ Some i
     → slice_get ts i ≡ Some t → (us : List Template) × (templates_at ts is ≡ us ++ t ∷ [])
 last_template ts [] i t e at = absurd (cc)
-last_template ts (j ∷ []) i t e at =
-    let told : Some j ≡ Some i = e in
-    let same_index : j ≡ i = cc in
-    ([], ap (λ o. option_to_list o ++ []) (ap (slice_get ts) same_index ∙ at))
+last_template ts (j ∷ []) i t e at = search (arith, rules)
 last_template ts (j ∷ (k ∷ is)) i t e at =
     let a : length (j ∷ (k ∷ is)) - 1 ≡ suc (length is) = omega arith in
     let b : length is ≡ length (k ∷ is) - 1 = omega arith in
@@ -225,14 +197,10 @@ module _ {given : SourceTexts} {options : Options} {root : Text} {ts : List Temp
   pub shown : (e : ChainError) (p : TagPlace) (x : ChainSubject)
       → IsBrokenAt given (sources_in ts) options.autoescape (a_chain root) h e p x
       → Says given root options (Some p) (Some x) e
-  shown e p x b = record { templates = ts; read = known.read; only = known.only; holds = (h, r, b) }
+  shown e p x b = shows known (h, r, b)
 
   unread_root : (n : Text) → namespace_name h ≡ n → is_some (sources_in ts n) ≡ false → n ≡ root
-  unread_root n e none =
-      ⊎_elim (λ q. sym e ∙ ap namespace_name q)
-      (λ q.
-      absurd (never (is_some (sources_in ts n)) none (ap (λ m. is_some (sources_in ts m)) (sym e) ∙ q)))
-      (reached_source r)
+  unread_root n e none = search (arith, rules, never, reached_source)
 
   missing_unread : (n : Text) → given n ≡ None → is_some (sources_in ts n) ≡ false
   missing_unread n f = some_source ts n ∙ none_read given options ts n known.read.each f
@@ -449,13 +417,7 @@ pub refused_all : (given : SourceTexts) (options : Options) (ps qs : List Templa
     → Reaches (sources_in (files_view qs)) options.autoescape (a_chain root) (a_chain (string_bytes k.name))
     → Says given root options f.place f.subject e)
     → BreaksAll given options ps (key_view k) f.error × SaysAll given options ps (key_view k) f
-refused_all given options ps qs more k is e f told b s = (
-  subst (λ z. BreaksAll given options ps (key_view k) z) (sym told) (chain_breaks given options ps qs more k is e b),
-  λ root r. subst (λ z. Says given root options f.place f.subject z) (sym told)
-      (s root (reach_more (files_view ps) (files_view qs) more.0 options.autoescape (a_chain root)
-      (a_chain (string_bytes k.name)) more.1
-      (subst (λ h. Reaches (sources_in (files_view ps)) options.autoescape (a_chain root) h) (is_chain k is) r))),
-)
+refused_all given options ps qs more k is e f told b s = search (arith, rules, chain_breaks, reach_more, is_chain)
 
 -- A fact about the templates of a path and a name, by equal templates, path and name.
 pub same_path : (P : List TemplateFile → List ℕ → Text → Type 0) {ps qs : List TemplateFile} {is js : List ℕ}
@@ -470,14 +432,4 @@ pub unmet_need : (given : SourceTexts) (options : Options) (ps : List TemplateFi
     (ns : List NeededTemplate) (k : ℕ) (d : NeededTemplate) (e : ChainError) (f : ChainFinding)
     → needs_view ns ≡ needs_of ps is → k < length ns → IsFaultAt given options (need_view (get_or ns k d)) e
     → IsOfNeed (templates_at (files_view ps) is) (get_or ns k d).name.now e f → IsUnmet given options ps is f
-unmet_need given options ps is ns k d e f same_needs lt fault told =
-    let n = (get_or ns k d).name.now in
-    inr (record {
-      name = n;
-      asked = subst (λ (ms : List Need). among n (needed true ms) ≡ true) same_needs (asked_at true ns k d lt refl);
-      must =
-          λ q. subst (λ (ms : List Need). among n (needed false ms) ≡ true) same_needs
-          (asked_at false ns k d lt (ap not (fault.1 (sym told.0 ∙ q))));
-      fault = subst (λ z. IsFaultOf z given n options) (sym told.0) fault.0;
-      placed = subst (λ z. IsOfNeed (templates_at (files_view ps) is) n z f) (sym told.0) told;
-    })
+unmet_need given options ps is ns k d e f same_needs lt fault told = search (arith, rules, asked_at, placed)

@@ -1,24 +1,17 @@
 -- The rest of a text after a mark, a closer or an `endraw` tag has no more bytes than the text.
 use Rattle.std.proofs.Common.{◌≡◌, ◌≤◌, ◌==◌, Bool, true, false, [], ◌∷◌, drop, codes, refl, ap, arith, Option, Some}
 use Rattle.std.proofs.Common.{None, rules}
-use Rattle.jt_scan.specs.Cut.{Text, closer, closing_text, mark_text, behind_mark, is_space, after_space, after_word}
+use Rattle.jt_scan.specs.Cut.{Text, closing_text, behind_mark, is_space, after_space, after_word}
 use Rattle.jt_scan.specs.Cut.{closer_at, first_mark, marks, endraw_closed, endraw_named, endraw_at, begins}
-use Rattle.jt_scan.specs.declared.segment.TagKind.{TagKind}
 use Rattle.jt_scan.specs.declared.segment.TagKind.TheVariants as kind
-use Rattle.jt_scan.specs.declared.segment.Mark.{Mark}
 use Rattle.jt_scan.specs.declared.segment.Marks.{Marks}
 use Rattle.jt_scan.proofs.ParseResultSteps.{by_test}
 use Rattle.jt_scan.proofs.Tables.{closer_says}
+use Rattle.jt_inherit.proofs.Vocabulary.{TagKind, Mark}
 use Rattle.jt_inherit.proofs.EscapeLengths.{bytes, bytes-cons, bytes-append}
 
 pub closing_long : (k : TagKind) (mark : Mark) (rest : Text) → bytes rest ≤ bytes (closing_text k mark rest)
-closing_long k mark rest =
-    omega (
-      arith,
-      bytes-append (mark_text mark) (closer k ∷ 125 ∷ rest),
-      bytes-cons (closer k) (125 ∷ rest),
-      bytes-cons 125 rest,
-    )
+closing_long k mark rest = search (arith, rules, bytes-append, bytes-cons)
 
 pub behind_short : (x : Text) → bytes (behind_mark x) ≤ bytes x
 behind_short a0 = search (arith, rules, bytes, bytes-cons)

@@ -1,17 +1,11 @@
 -- A rule that the templates read so far break is broken in each reading.
 use Rattle.std.proofs.Common.{◌≡◌, Bool, true, false, List, refl, sym, ap, ◌∙◌, Option, Some, None}
-use Rattle.std.specs.List.{AllByRecursion}
-use Rattle.std.specs.Option.{is_none}
-use Rattle.jt_scan.specs.declared.options.Options.{Options}
-use Rattle.jt_ast.specs.Expressions.{Text}
-use Rattle.jt_ast.specs.Statements.{Body}
-use Rattle.jt_ast.specs.Texts.{repeated}
-use Rattle.jt_chains.specs.Chain.{Sources, Namespace, a_chain, Template, names_up, sources_in}
 use Rattle.jt_chains.specs.Rules as rules
-use Rattle.jt_chains.specs.Rules.{Asks, Reaches, here, asked}
-use Rattle.jt_inherit.specs.Chains.{SourceTexts, IsRead, IsOnly}
 use Rattle.jt_inherit.specs.Refusals.{IsMissing}
 use Rattle.jt_inherit.specs.Laws.{IsReading, IsLasting, RefusalLaws}
+use Rattle.jt_inherit.proofs.Vocabulary.{AllByRecursion, is_none, Options, Text, Body, repeated, Sources, Namespace}
+use Rattle.jt_inherit.proofs.Vocabulary.{a_chain, Template, names_up, sources_in, here, asked}
+use Rattle.jt_inherit.proofs.Vocabulary.{SourceTexts, IsRead, IsOnly}
 use Rattle.jt_inherit.proofs.RulesCarryOver as carried
 use Rattle.jt_inherit.proofs.RulesCarryOver.{repeated_front}
 use Rattle.jt_inherit.proofs.SourcesGrow.{asked_more, names_more, reaches_more}

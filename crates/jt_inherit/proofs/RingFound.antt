@@ -1,27 +1,16 @@
 -- A ring of the numbers of chains and libraries is one of the chains and libraries.
 use Rattle.std.proofs.Common.{◌≡◌, ◌⊎◌, ℕ, true, List, [], ◌∷◌, ◌<◌, ◌≤◌, length, map, refl, sym, subst, ◌∙◌, ⊎_elim}
 use Rattle.std.proofs.Common.{Option, Some, None, ◌==◌, ◌||◌, zero, suc, ap, arith, Vec, Global}
-use Rattle.std.proofs.lemmas.Bool.{cases_lt}
-use Rattle.std.proofs.lemmas.Simd.{map-map}
-use Rattle.std.specs.List.{AllByRecursion, list_any}
 use Rattle.jt_graph.specs.Graph as graph
-use Rattle.jt_graph.specs.Graph.{Graph, HasCycle, next_of}
-use Rattle.jt_graph.specs.View.{graph_of}
-use Rattle.jt_scan.specs.declared.options.Options.{Options}
-use Rattle.jt_ast.specs.Expressions.{Text}
-use Rattle.jt_chains.specs.Along.{templates_at}
-use Rattle.jt_chains.specs.Chain.{Namespace, namespace_name, Template, sources_in}
-use Rattle.jt_chains.specs.Indices.{namespace_at}
-use Rattle.jt_inherit.specs.Chains.{SourceTexts}
-use Rattle.jt_inherit.specs.Findings.{HasTag, IsFinding, IsNoMemory, LeadsTo, Says, all_uses, leads_to}
-use Rattle.jt_inherit.specs.Refusals.{Breaks}
-use Rattle.jt_inherit.specs.internal.Found.{AreFound}
-use Rattle.jt_inherit.specs.internal.Rings.{IsOfRing, RingAt, last_number, leads_round}
+use Rattle.jt_inherit.specs.Findings.{LeadsTo}
+use Rattle.jt_inherit.specs.internal.Rings.{IsOfRing, RingAt}
 use Rattle.jt_inherit.specs.declared.error.ChainError.TheVariants as error
-use Rattle.jt_inherit.specs.declared.finding.ChainFinding.{ChainFinding}
-use Rattle.jt_inherit.specs.declared.finding.ChainSubject.{ChainSubject}
 use Rattle.jt_inherit.specs.declared.finding.ChainSubject.TheVariants as v
-use Rattle.jt_inherit.specs.declared.finding.TagPlace.{TagPlace}
+use Rattle.jt_inherit.proofs.Vocabulary.{cases_lt, map-map, AllByRecursion, list_any, Graph, HasCycle, next_of}
+use Rattle.jt_inherit.proofs.Vocabulary.{graph_of, Options, Text, templates_at, Namespace, namespace_name, Template}
+use Rattle.jt_inherit.proofs.Vocabulary.{sources_in, namespace_at, SourceTexts, HasTag, IsFinding, IsNoMemory, Says}
+use Rattle.jt_inherit.proofs.Vocabulary.{all_uses, leads_to, Breaks, AreFound, last_number, leads_round, ChainFinding}
+use Rattle.jt_inherit.proofs.Vocabulary.{ChainSubject, TagPlace}
 use Rattle.jt_inherit.proofs.ChainComplete.{cycle_breaks, edge, none_next, number, reached}
 use Rattle.jt_inherit.proofs.DiscoveryInvariant.{whole_path}
 use Rattle.jt_inherit.proofs.FindingsHold.{no_memory}

@@ -2,34 +2,26 @@
 use Rattle.std.proofs.Common.{◌≡◌, ℕ, zero, suc, ◌<◌, ◌≤◌, ◌==◌, Bool, true, false, not, ◌&&◌, ◌||◌, nat_lt, List, []}
 use Rattle.std.proofs.Common.{◌∷◌, ◌++◌, length, map, refl, sym, ap, subst, ◌∙◌, arith, inl, inr, ◌⊎◌, ⊎_elim, Option}
 use Rattle.std.proofs.Common.{Some, None, length-append, rules}
-use Rattle.std.specs.Prelude.{flat_map}
-use Rattle.std.specs.List.{list_any}
-use Rattle.std.specs.Option.{is_none}
-use Rattle.std.specs.Str.{bytes_eq}
-use Rattle.std.proofs.lemmas.List.{append-nil, map-append}
-use Rattle.std.proofs.lemmas.Bool.{cases_lt}
-use Rattle.std.proofs.lemmas.Bool.Decides.{nat_tests}
-use Rattle.jt_ast.specs.Texts.{among, repeated}
-use Rattle.jt_ast.specs.Expressions.{Text}
 use Rattle.jt_ast.specs.Statements as trees
-use Rattle.jt_ast.specs.Statements.{Body}
-use Rattle.jt_chains.specs.Chain.{Sources, Namespace, a_chain, a_library, Template, template, templates}
-use Rattle.jt_chains.specs.Chain.{library_template, is_a_library, extends_of, parent_of, names_up, blocks_in, MacroBody}
-use Rattle.jt_chains.specs.Chain.{Definition, macros, macros_in, public_macro, given, own, imports, libraries_in}
-use Rattle.jt_inherit.specs.internal.Checks.{lacks_body, lacks_next}
-use Rattle.jt_inherit.specs.internal.RuleTests.{their_blocks, their_macros, any_double, any_lacks_macros, names_from}
-use Rattle.jt_inherit.specs.internal.RuleTests.{imported_names}
+use Rattle.jt_chains.specs.Chain.{given, imports}
 use Rattle.jt_chains.specs.Rules as rules
-use Rattle.jt_chains.specs.Rules.{Asks, Reaches, here, InSomeChain, is_whole, extends_path, BadName, ExtendsCycle}
+use Rattle.jt_chains.specs.Rules.{InSomeChain, BadName, ExtendsCycle}
 use Rattle.jt_chains.specs.Rules.{ChainTooLong, DoubleBlock, RequiredNotGiven, NoSuper, IncludeCycle, MacroTwice}
 use Rattle.jt_chains.specs.Rules.{NoMacro, NotALibrary}
+use Rattle.jt_inherit.proofs.Vocabulary.{flat_map, list_any, is_none, bytes_eq, append-nil, map-append, cases_lt}
+use Rattle.jt_inherit.proofs.Vocabulary.{nat_tests, among, repeated, Text, Body, Sources, Namespace, a_chain, a_library}
+use Rattle.jt_inherit.proofs.Vocabulary.{Template, template, templates, library_template, is_a_library, extends_of}
+use Rattle.jt_inherit.proofs.Vocabulary.{parent_of, names_up, blocks_in, MacroBody, Definition, macros, own}
+use Rattle.jt_inherit.proofs.Vocabulary.{libraries_in, lacks_body, lacks_next, their_blocks, their_macros, any_double}
+use Rattle.jt_inherit.proofs.Vocabulary.{any_lacks_macros, names_from, imported_names, Asks, Reaches, here, is_whole}
+use Rattle.jt_inherit.proofs.Vocabulary.{extends_path, of_texts, reflexive, among_behind, among_front, both_false}
+use Rattle.jt_inherit.proofs.Vocabulary.{or_false, or_true}
 use Rattle.jt_inherit.proofs.SourcesGrow.{Carries, carries_up, front_carried, up_more, up_some, flat-append, on_path}
 use Rattle.jt_inherit.proofs.SourcesGrow.{on_first, on_libraries, way_more, namespace_more, included_more, reaches_more}
 use Rattle.jt_inherit.proofs.SourcesGrow.{reaches_next, asked_more}
 use Rattle.jt_inherit.proofs.ImportCollection.{all_imported, own_named}
+use Rattle.jt_inherit.proofs.StoreLookup.{none_from, nothing_lacks, lacks_same}
 use Rattle.jt_inherit.proofs.PathTemplates.{and_true}
-use Rattle.jt_inherit.proofs.NameMembership.{of_texts, reflexive}
-use Rattle.jt_inherit.proofs.Membership.{among_behind, among_front, both_false, or_false, or_true}
 
 -- ---- tests of the first elements
 
@@ -144,35 +136,20 @@ repeated_within (skip {y} {xs} {ys} r) h = or_true (among y ys) (repeated ys) (r
 
 -- ---- the macros of libraries, if the imported ones keep their source
 
-names_none : (xs : List (Text × Text)) → names_from [] xs ≡ []
-names_none [] = refl
-names_none (x ∷ xs) = search (arith, rules, names_none xs)
-
 module _ (s r : Sources) where
   in_from : (n : Text) (xs : List (Text × Text)) → ((b : Body) → s n ≡ Some b → r n ≡ Some b)
       → Within (names_from (macros s (a_library n)) xs) (names_from (macros r (a_library n)) xs)
-  in_from n xs g = search (arith, rules, names_none, within_any, within_same)
+  in_from n xs g = search (arith, rules, none_from, within_any, within_same)
 
   lacking_from : (n : Text) (xs : List (Text × Text)) → ((b : Body) → s n ≡ Some b → r n ≡ Some b)
       → rules.lacks_one s n xs ≡ true → rules.lacks_one r n xs ≡ true
   lacking_from n xs g h = by (s n) refl
     where
-      never_one : (ys : List (Text × Text)) → s n ≡ None → rules.lacks_one s n ys ≡ false
-      never_one [] e = refl
-      never_one (y ∷ ys) e =
-          ap (λ o. (is_a_library o && is_none (public_macro y.0 (macros s (a_library n)))) || rules.lacks_one s n ys) e
-          ∙ never_one ys e
-
-      one : (ys : List (Text × Text)) → s n ≡ r n → rules.lacks_one r n ys ≡ rules.lacks_one s n ys
-      one [] e = refl
-      one (y ∷ ys) e =
-          ap (λ o. (is_a_library o
-          && is_none (public_macro y.0 (flat_map (λ (t : Template). macros_in t.name t.body) (library_template n o))))
-          || rules.lacks_one r n ys) (sym e)
-          ∙ ap (λ b. (is_a_library (s n) && is_none (public_macro y.0 (macros s (a_library n)))) || b) (one ys e)
-
       by : (o : Option Body) → s n ≡ o → rules.lacks_one r n xs ≡ true
-      by a0 e = search (arith, rules, never_one, one)
+      by None e = let no : false ≡ true = sym (nothing_lacks s n xs (ap is_a_library e)) ∙ h in absurd (cc)
+      by (Some b) e =
+          let kept : r n ≡ s n = g b e ∙ sym e in
+          lacks_same r s n xs kept ∙ h
 
   in_imports : (b : Body) → Carries s r (libraries_in b) → Within (imported_names s b) (imported_names r b)
   in_imports trees.end g = none
@@ -181,19 +158,7 @@ module _ (s r : Sources) where
   in_imports (trees.stmt (trees.import_from line n xs) rest) g =
       within_both (in_from n xs (g n (ap (λ c. c || among n (libraries_in rest)) (reflexive n))))
       (in_imports rest (λ m a. g m (or_true (bytes_eq n m) (among m (libraries_in rest)) a)))
-  in_imports (trees.stmt (trees.data_of t) rest) g = in_imports rest g
-  in_imports (trees.stmt (trees.print line e) rest) g = in_imports rest g
-  in_imports (trees.stmt (trees.choose bs other) rest) g = in_imports rest g
-  in_imports (trees.stmt (trees.for_each line xs e c body other) rest) g = in_imports rest g
-  in_imports (trees.stmt (trees.set line xs e) rest) g = in_imports rest g
-  in_imports (trees.stmt (trees.set_block line x body) rest) g = in_imports rest g
-  in_imports (trees.stmt (trees.with_values line ps body) rest) g = in_imports rest g
-  in_imports (trees.stmt (trees.filter_block line fs body) rest) g = in_imports rest g
-  in_imports (trees.stmt (trees.autoescape line on body) rest) g = in_imports rest g
-  in_imports (trees.stmt (trees.macro line x ps body) rest) g = in_imports rest g
-  in_imports (trees.stmt (trees.include line n i c) rest) g = in_imports rest g
-  in_imports (trees.stmt (trees.extends line x) rest) g = in_imports rest g
-  in_imports (trees.stmt (trees.block line x scoped required body) rest) g = in_imports rest g
+  in_imports (trees.stmt t rest) g = in_imports rest g
 
   lacking : (b : Body) → Carries s r (libraries_in b) → rules.lacks_macros s b ≡ true → rules.lacks_macros r b ≡ true
   lacking trees.end g h = h
@@ -212,19 +177,7 @@ module _ (s r : Sources) where
           (f (sym (ap (λ c. c || rules.lacks_macros s rest) e) ∙ h))
   lacking (trees.stmt (trees.import_as line n x) rest) g h =
       lacking rest (λ m a. g m (or_true (bytes_eq n m) (among m (libraries_in rest)) a)) h
-  lacking (trees.stmt (trees.data_of t) rest) g h = lacking rest g h
-  lacking (trees.stmt (trees.print line e) rest) g h = lacking rest g h
-  lacking (trees.stmt (trees.choose bs other) rest) g h = lacking rest g h
-  lacking (trees.stmt (trees.for_each line xs e c body other) rest) g h = lacking rest g h
-  lacking (trees.stmt (trees.set line xs e) rest) g h = lacking rest g h
-  lacking (trees.stmt (trees.set_block line x body) rest) g h = lacking rest g h
-  lacking (trees.stmt (trees.with_values line ps body) rest) g h = lacking rest g h
-  lacking (trees.stmt (trees.filter_block line fs body) rest) g h = lacking rest g h
-  lacking (trees.stmt (trees.autoescape line on body) rest) g h = lacking rest g h
-  lacking (trees.stmt (trees.macro line x ps body) rest) g h = lacking rest g h
-  lacking (trees.stmt (trees.include line n i c) rest) g h = lacking rest g h
-  lacking (trees.stmt (trees.extends line x) rest) g h = lacking rest g h
-  lacking (trees.stmt (trees.block line x scoped required body) rest) g h = lacking rest g h
+  lacking (trees.stmt t rest) g h = lacking rest g h
 
   all_imports : (ts : List Template) → Carries s r (flat_map (λ t. libraries_in t.body) ts)
       → Within (flat_map (λ t. imported_names s t.body) ts) (flat_map (λ t. imported_names r t.body) ts)

@@ -1,32 +1,23 @@
 -- Errors of a source: its segments with their options, and the trees that they spell.
 use Rattle.std.proofs.Common.{◌≡◌, ◌<◌, ◌≤◌, List, [], ◌∷◌, length, map, refl, sym, ap, subst, ◌∙◌, chars, ⊎_elim, Some}
 use Rattle.std.proofs.Common.{None, arith, rules}
-use Rattle.std.proofs.lemmas.Bool.{cases_lt}
 use Rattle.jt_scan.specs.Cut as cut
 use Rattle.jt_scan.specs.Cut.{Text, IsCut}
-use Rattle.jt_scan.specs.LineEnds.{normalized}
-use Rattle.jt_scan.specs.SourceView.{Held, max_source_len}
-use Rattle.jt_scan.specs.View.{cut_of, segment_view, HaveOptions}
+use Rattle.jt_scan.specs.View.{segment_view, HaveOptions}
 use Rattle.jt_scan.specs.Refused as scanner
 use Rattle.jt_scan.specs.declared.error.ScanError.{ScanError}
 use Rattle.jt_scan.specs.declared.error.ScanError.TheVariants as scan_error
-use Rattle.jt_scan.specs.declared.options.Options.{Options}
 use Rattle.jt_scan.specs.declared.segment.Segment.{Segment}
-use Rattle.jt_parse.specs.Grammar.{Spelled}
-use Rattle.jt_parse.specs.Kept.{Read, pieces}
-use Rattle.jt_parse.specs.Names.{body_unknown}
-use Rattle.jt_parse.specs.Refusals.{IsRefusal}
-use Rattle.jt_ast.specs.Statements.{Body, body_levels}
-use Rattle.jt_ast.specs.StatementView.{body_of}
-use Rattle.jt_parse.specs.View.{reads_of}
+use Rattle.jt_parse.specs.Kept.{Read}
 use Rattle.jt_parse.specs.declared.error.ParseError.{ParseError}
 use Rattle.jt_parse.specs.declared.error.ParseError.TheVariants as parse_error
 use Rattle.jt_ast.specs.declared.statement.Template.{Template}
-use Rattle.jt_inherit.specs.Chains.{SourceTexts, IsTree, HasNoTree, IsOnly}
+use Rattle.jt_inherit.specs.Chains.{HasNoTree}
 use Rattle.jt_inherit.specs.internal.Faults.{IsFault, IsScan, IsParse}
-use Rattle.jt_inherit.specs.Refusals.{IsUncut, IsUnspelled}
-use Rattle.jt_inherit.specs.declared.error.ChainError.{ChainError}
 use Rattle.jt_inherit.specs.declared.error.ChainError.TheVariants as error
+use Rattle.jt_inherit.proofs.Vocabulary.{cases_lt, normalized, Held, max_source_len, cut_of, Options, Spelled, pieces}
+use Rattle.jt_inherit.proofs.Vocabulary.{body_unknown, IsRefusal, Body, body_levels, body_of, reads_of, SourceTexts}
+use Rattle.jt_inherit.proofs.Vocabulary.{IsTree, IsOnly, IsUncut, IsUnspelled, ChainError}
 
 -- If each segment has the options, the segments as read are the cut with these options.
 pub read_cut : (options : Options) (ss : List Segment) → HaveOptions options ss
@@ -83,12 +74,7 @@ module _ (options : Options) (given : Text) (s : Held)
 
   refused_as : (e : ParseError) → (e ≡ parse_error.NoMemory → ⊥) → IsCut (cut_of ss) (chars s.text)
       → HaveOptions s.options ss → IsRefusal e (pieces (reads_of ss)) → IsUnspelled e options given
-  refused_as e f c h r = record {
-    fault = f;
-    segments = cut_of ss;
-    cut = its_cut c;
-    refused = subst (λ rs. IsRefusal e (pieces rs)) (its_reads h) r;
-  }
+  refused_as e f c h r = search (arith, rules, its_cut, its_reads)
 
   pub unspelled : (name : Text) (e : ParseError) (x : ChainError) → IsCut (cut_of ss) (chars s.text)
       → HaveOptions s.options ss → IsRefusal e (pieces (reads_of ss))
@@ -97,18 +83,7 @@ module _ (options : Options) (given : Text) (s : Held)
   unspelled name e (error.Parse n f) c h r none p =
       (p.0, subst (λ z. IsUnspelled z options given) (sym p.1) (refused_as e p.2 c h r), none p.2)
   unspelled name e error.NoMemory c h r none p = tt
-  unspelled name e (error.Scan n f) c h r none p = absurd p
-  unspelled name e error.Missing c h r none p = absurd p
-  unspelled name e error.BadName c h r none p = absurd p
-  unspelled name e error.ExtendsCycle c h r none p = absurd p
-  unspelled name e error.ChainTooLong c h r none p = absurd p
-  unspelled name e error.DoubleBlock c h r none p = absurd p
-  unspelled name e error.RequiredNotGiven c h r none p = absurd p
-  unspelled name e error.NoSuper c h r none p = absurd p
-  unspelled name e error.IncludeCycle c h r none p = absurd p
-  unspelled name e error.MacroTwice c h r none p = absurd p
-  unspelled name e error.NoMacro c h r none p = absurd p
-  unspelled name e error.NotALibrary c h r none p = absurd p
+  unspelled name e x c h r none p = absurd p
 
 -- ---- a source that cannot be cut
 

@@ -1,30 +1,15 @@
 -- Reachability and requests of names stay true when more is read.
 use Rattle.std.proofs.Common.{◌≡◌, ℕ, zero, suc, ◌≤◌, arith, map, Bool, true, false, ◌||◌, List, [], ◌∷◌, ◌++◌, refl}
 use Rattle.std.proofs.Common.{sym, ap, subst, ◌∙◌, Option, Some, None, string_bytes, rules}
-use Rattle.std.specs.Prelude.{flat_map, filter}
-use Rattle.std.specs.Option.{is_some}
-use Rattle.std.specs.Str.{bytes_eq}
-use Rattle.std.proofs.lemmas.List.{append-nil, append_assoc}
-use Rattle.jt_ast.specs.Texts.{among}
-use Rattle.jt_ast.specs.Expressions.{Text}
-use Rattle.jt_ast.specs.Statements.{Body}
-use Rattle.jt_chains.specs.Chain.{Sources, Namespace, a_chain, a_library, listed, Template, template, templates}
-use Rattle.jt_chains.specs.Chain.{library_template, libraries, libraries_in, extends_of, parent_of, names_up}
-use Rattle.jt_chains.specs.Chain.{sources_in}
-use Rattle.jt_chains.specs.Includes.{included, needs_in, with_source}
-use Rattle.jt_chains.specs.Rules.{Asks, Reaches, here, through, asked, extends_path}
-use Rattle.jt_chains.specs.TemplateFiles.{files_view}
-use Rattle.jt_chains.specs.declared.files.TemplateFile.{TemplateFile}
-use Rattle.jt_scan.specs.declared.options.Options.{Options}
-use Rattle.jt_inherit.specs.Chains.{SourceTexts}
-use Rattle.jt_inherit.specs.internal.ExtendsPaths.{BreaksAll, Grow}
-use Rattle.jt_inherit.specs.internal.SetView.{key_view}
-use Rattle.jt_inherit.specs.declared.error.ChainError.{ChainError}
-use Rattle.jt_inherit.specs.declared.sets.NamespaceKey.{NamespaceKey}
-use Rattle.jt_inherit.proofs.PathsGrow.{more_sources}
-use Rattle.jt_inherit.proofs.NameMembership.{of_texts, reflexive, same}
+use Rattle.jt_inherit.proofs.Vocabulary.{flat_map, filter, is_some, bytes_eq, append-nil, append_assoc, among, Text}
+use Rattle.jt_inherit.proofs.Vocabulary.{Body, Sources, Namespace, a_chain, a_library, listed, Template, template}
+use Rattle.jt_inherit.proofs.Vocabulary.{templates, library_template, libraries, libraries_in, extends_of, parent_of}
+use Rattle.jt_inherit.proofs.Vocabulary.{names_up, sources_in, included, needs_in, with_source, Asks, Reaches, here}
+use Rattle.jt_inherit.proofs.Vocabulary.{through, asked, extends_path, files_view, TemplateFile, Options, SourceTexts}
+use Rattle.jt_inherit.proofs.Vocabulary.{BreaksAll, Grow, key_view, ChainError, NamespaceKey, of_texts, reflexive, same}
+use Rattle.jt_inherit.proofs.Vocabulary.{among_behind, among_cases, among_front, or_true}
+use Rattle.jt_inherit.proofs.PathsGrow.{more_sources, none_up}
 use Rattle.jt_inherit.proofs.NamespaceSets.{is_chain}
-use Rattle.jt_inherit.proofs.Membership.{among_behind, among_cases, among_front, or_true}
 
 -- ---- the members that pass a test
 
@@ -39,10 +24,6 @@ passes_among p x [] h t = absurd (cc)
 passes_among p x (y ∷ xs) h t = search (arith, rules, passes_among p x xs, or_true, same)
 
 -- ---- the templates of a chain when sources grow
-
-none_up : (s : Sources) (k : ℕ) → names_up s k None ≡ []
-none_up s zero = refl
-none_up s (suc k) = refl
 
 pub up_some : (s : Sources) (k : ℕ) (n : Text) (b : Body) → s n ≡ Some b
     → flat_map (λ m. template m (s m)) (names_up s (suc k) (Some n))
@@ -85,12 +66,7 @@ names_more s r (suc k) (Some n) g =
       sym (ap (λ o. n ∷ names_up s k (parent_of o) ++ names_up r k (parent_of (r n))) e
           ∙ ap (λ l. n ∷ l ++ names_up r k (parent_of (r n))) (none_up s k)),
     )
-    by (Some b) e f =
-        let more = f b e in (
-          more.0,
-          ap (λ o. n ∷ names_up r k (parent_of o)) (front_carried s r k n g b e) ∙ ap (λ l. n ∷ l) more.1
-              ∙ sym (ap (λ o. n ∷ names_up s k (parent_of o) ++ more.0) e),
-        )
+    by (Some b) e f = search (arith, rules, front_carried)
 
 pub templates_more : (s r : Sources) (k : ℕ) (o : Option Text) → Carries s r (names_up r k o)
     → (rest : List Template)
@@ -110,12 +86,7 @@ templates_more s r (suc k) (Some n) g =
       flat_map (λ m. template m (r m)) (names_up r (suc k) (Some n)),
       sym (ap (λ l. l ++ flat_map (λ m. template m (r m)) (names_up r (suc k) (Some n))) (up_none s k n e)),
     )
-    by (Some b) e f =
-        let more = f b e in (
-          more.0,
-          up_some r k n b (front_carried s r k n g b e) ∙ ap (λ l. template n (Some b) ++ l) more.1
-              ∙ sym (ap (λ l. l ++ more.0) (up_some s k n b e)),
-        )
+    by (Some b) e f = search (arith, rules, up_some, front_carried)
 
 -- The first m names on the path begin with the first k.
 pub up_more : (s : Sources) (m k : ℕ) (o : Option Text) → k ≤ m
@@ -176,11 +147,7 @@ library_more s r n g = by (s n) refl
     by : (o : Option Body) → s n ≡ o
         → (rest : List Template) × (library_template n (r n) ≡ library_template n (s n) ++ rest)
     by None e = (library_template n (r n), sym (ap (λ o. library_template n o ++ library_template n (r n)) e))
-    by (Some b) e = (
-      [],
-      ap (library_template n) (g n (ap (λ c. c || false) (reflexive n)) b e) ∙ sym (ap (library_template n) e)
-          ∙ sym (append-nil (library_template n (s n))),
-    )
+    by (Some b) e = search (arith, rules, reflexive, append-nil)
 
 module _ (s r : Sources) (e : Bool) (entry : Namespace)
     (g : (n : Text) (b : Body) → Asks r e entry n → s n ≡ Some b → r n ≡ Some b) where

@@ -1,26 +1,15 @@
 -- The library of a name in a store: its macros, and the names that are imported from it.
 use Rattle.std.proofs.Common.{◌≡◌, ℕ, ◌<◌, length, get_or, arith, string_bytes, Bool, true, false, ◌&&◌, ◌||◌}
 use Rattle.std.proofs.Common.{if◌then◌else◌, List, [], ◌∷◌, ◌++◌, refl, sym, ap, ◌∙◌, Option, Some, None, rules}
-use Rattle.std.specs.Prelude.{slice_get, flat_map}
-use Rattle.std.specs.Option.{is_some, is_none}
-use Rattle.std.proofs.lemmas.List.{length-map, append-nil}
-use Rattle.std.proofs.lemmas.Option.{slice_get_within}
-use Rattle.jt_ast.specs.Expressions.{Text}
-use Rattle.jt_ast.specs.Statements.{Body}
-use Rattle.jt_ast.specs.StatementView.{body_of}
-use Rattle.jt_ast.specs.Texts.{among, repeated}
 use Rattle.jt_chains.specs.Tables.{library_macros}
-use Rattle.jt_chains.specs.Chain.{Sources, a_library, Template, library_template, holds_macros, is_a_library, MacroBody}
-use Rattle.jt_chains.specs.Chain.{macros, macros_in, public_macro, sources_in}
-use Rattle.jt_chains.specs.TemplateFiles.{file_view, files_view}
 use Rattle.jt_chains.specs.Rules.{lacks_one}
-use Rattle.jt_chains.specs.declared.files.TemplateFile.{TemplateFile}
-use Rattle.jt_chains.proofs.TemplatesByIndex.{map_at, only_one}
-use Rattle.jt_inherit.specs.internal.Given.{macros_held}
-use Rattle.jt_inherit.specs.internal.RuleTests.{has_not, names_from}
+use Rattle.jt_inherit.proofs.Vocabulary.{slice_get, flat_map, is_some, is_none, length-map, append-nil}
+use Rattle.jt_inherit.proofs.Vocabulary.{slice_get_within, Text, Body, body_of, among, repeated, Sources, a_library}
+use Rattle.jt_inherit.proofs.Vocabulary.{Template, library_template, holds_macros, is_a_library, MacroBody, macros}
+use Rattle.jt_inherit.proofs.Vocabulary.{macros_in, public_macro, sources_in, file_view, files_view, TemplateFile}
+use Rattle.jt_inherit.proofs.Vocabulary.{map_at, only_one, macros_held, has_not, names_from, AreNamed}
 use Rattle.jt_inherit.proofs.DiscoveryInvariant.{some_source}
 use Rattle.jt_inherit.proofs.PathsGrow.{names, length_names, name_of_slice}
-use Rattle.jt_inherit.specs.internal.ExtendsPaths.{AreNamed}
 
 pub unread : (ts : List Template) (n : Text) → among n (names ts) ≡ false → is_a_library (sources_in ts n) ≡ false
 unread ts n h = by (sources_in ts n) (some_source ts n ∙ h)
@@ -42,23 +31,14 @@ module _ (ps : List TemplateFile) (ks : List Text) (k : AreNamed (files_view ps)
   named_at = ap (λ l. slice_get l i) (sym k.0) ∙ at
 
   pub index_read : i < length ps
-  index_read =
-      omega (
-        arith,
-        slice_get_within (names (files_view ps)) i n named_at,
-        length_names (files_view ps),
-        length-map ps file_view,
-      )
+  index_read = search (arith, rules, slice_get_within, names, named_at, length_names, length-map)
 
   module _ (p : TemplateFile) (is : p ≡ get_or ps i p) where
     there : slice_get (files_view ps) i ≡ Some (file_view p)
     there = map_at file_view ps i p index_read is
 
     name_is : string_bytes p.name ≡ n
-    name_is =
-        let told : Some (string_bytes p.name) ≡ Some n =
-        sym (name_of_slice (files_view ps) i (file_view p) there) ∙ named_at in
-        cc
+    name_is = search (arith, rules, name_of_slice, there, named_at)
 
     source_is : sources_in (files_view ps) n ≡ Some (body_of p.template)
     source_is =
@@ -80,7 +60,7 @@ no_macros s n e = search (arith, rules)
 no_macro : (x : Text) → public_macro x [] ≡ None
 no_macro x = search (arith, rules)
 
-none_from : (xs : List (Text × Text)) → names_from [] xs ≡ []
+pub none_from : (xs : List (Text × Text)) → names_from [] xs ≡ []
 none_from [] = refl
 none_from (x ∷ xs) =
     ap (λ (o : Option MacroBody). (if is_some o then x.1 ∷ [] else []) ++ names_from [] xs) (no_macro x.0)
@@ -96,6 +76,11 @@ pub nothing_lacks : (s : Sources) (n : Text) (xs : List (Text × Text)) → is_a
 nothing_lacks s n [] e = refl
 nothing_lacks s n (x ∷ xs) e =
     ap (λ b. (b && is_none (public_macro x.0 (macros s (a_library n)))) || lacks_one s n xs) e ∙ nothing_lacks s n xs e
+
+-- A library with the same tree lacks the same macros.
+pub lacks_same : (s r : Sources) (n : Text) (xs : List (Text × Text)) → s n ≡ r n → lacks_one s n xs ≡ lacks_one r n xs
+lacks_same s r n [] e = refl
+lacks_same s r n (x ∷ xs) e = search (arith, rules, lacks_same s r n xs e)
 
 pub library_lacks : (s : Sources) (n : Text) (xs : List (Text × Text)) → is_a_library (s n) ≡ true
     → lacks_one s n xs ≡ has_not (macros s (a_library n)) xs

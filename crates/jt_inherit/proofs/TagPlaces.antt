@@ -1,28 +1,20 @@
 -- The places of tags: what the first ones show.
+use Rattle.std.proofs.Common.{rules}
 use Rattle.std.proofs.Common.{◌≡◌, ℕ, zero, suc, ◌+◌, ◌<◌, Bool, true, false, cond, List, [], ◌∷◌, ◌++◌, length}
 use Rattle.std.proofs.Common.{drop, get_or, refl, sym, ap, subst, ◌∙◌, arith, inl, inr, ⊎_elim, Option, Some}
-use Rattle.std.specs.Prelude.{option_map, slice_get, string_bytes, None}
-use Rattle.std.specs.Option.{option_to_list}
+use Rattle.std.specs.Prelude.{None}
 use Rattle.std.proofs.lemmas.List.Elements.{filter-append}
-use Rattle.std.proofs.lemmas.List.{append_assoc}
-use Rattle.jt_ast.specs.Expressions.{Text}
 use Rattle.jt_uses.specs.Uses as uses
-use Rattle.jt_uses.specs.Uses.{Use, Site}
-use Rattle.jt_chains.specs.Along.{templates_at}
-use Rattle.jt_chains.specs.Chain.{Sources, Template}
-use Rattle.jt_chains.specs.TemplateFiles.{file_view, files_view}
-use Rattle.jt_chains.specs.declared.files.TemplateFile.{TemplateFile}
-use Rattle.jt_chains.proofs.TemplatesByIndex.{map_at}
-use Rattle.jt_inherit.specs.Findings.{ForSome, InTurn, IsAt, HasTag, HasTwoTags, all_uses, uses_in, asks, binds_macro}
-use Rattle.jt_inherit.specs.Findings.{is_block, is_extends}
-use Rattle.jt_inherit.specs.internal.Breaking.{IsOfRule, IsTwiceIn, RuleAt, TwiceAt, lacks}
+use Rattle.jt_inherit.specs.internal.Breaking.{TwiceAt, lacks}
 use Rattle.jt_inherit.specs.declared.error.ChainError.TheVariants as error
-use Rattle.jt_inherit.specs.declared.finding.ChainFinding.{ChainFinding}
-use Rattle.jt_inherit.specs.declared.finding.ChainSubject.{ChainSubject}
 use Rattle.jt_inherit.specs.declared.finding.ChainSubject.TheVariants as v
-use Rattle.jt_inherit.specs.internal.Tags.{tags, place_in, place_of, place_view, tag_view, tags_view}
-use Rattle.jt_inherit.specs.declared.tags.FoundTag.{FoundTag}
-use Rattle.jt_inherit.specs.declared.finding.TagPlace.{TagPlace}
+use Rattle.jt_inherit.specs.internal.Tags.{place_of}
+use Rattle.jt_inherit.proofs.Vocabulary.{option_map, slice_get, option_to_list, append_assoc, Text, Use, Site}
+use Rattle.jt_inherit.proofs.Vocabulary.{templates_at, Sources, Template, file_view, files_view, TemplateFile, map_at}
+use Rattle.jt_inherit.proofs.Vocabulary.{ForSome, InTurn, IsAt, HasTag, all_uses, uses_in, asks}
+use Rattle.jt_inherit.proofs.Vocabulary.{binds_macro, is_extends, IsOfRule, IsTwiceIn, RuleAt, ChainFinding}
+use Rattle.jt_inherit.proofs.Vocabulary.{ChainSubject, tags, place_in, place_view, tag_view, tags_view, FoundTag}
+use Rattle.jt_inherit.proofs.Vocabulary.{TagPlace}
 use Rattle.jt_inherit.proofs.PathsGrow.{templates_turn}
 
 -- ---- tags of several templates
@@ -38,14 +30,7 @@ pub tags_turn : (test : Use → Bool) (ps : List TemplateFile) (is : List ℕ) (
     → old ++ tags test (all_uses (templates_at (files_view ps) (drop k is))) ≡ all
     → new ++ tags test (all_uses (templates_at (files_view ps) (drop (k + 1) is))) ≡ all
 tags_turn test ps is k p old more new all lt within at theirs longer before =
-    let us = templates_at (files_view ps) (drop (k + 1) is) in
-    let rest = tags test (all_uses us) in
-    let here = templates_turn ps is k p lt within at in
-    let split : tags test (all_uses (templates_at (files_view ps) (drop k is)))
-    ≡ tags test (uses_in (file_view p)) ++ rest =
-    ap (λ l. tags test (all_uses l)) here ∙ tags-append test (uses_in (file_view p)) (all_uses us) in
-    ap (λ l. l ++ rest) longer ∙ append_assoc old more rest ∙ ap (λ l. old ++ (l ++ rest)) theirs
-    ∙ ap (λ l. old ++ l) (sym split) ∙ before
+    search (arith, rules, templates_turn, tags-append, append_assoc)
 
 -- ---- what the first tags show
 
@@ -85,11 +70,7 @@ second_shows test p q (x ∷ xs) e f = by (test x.1.made) refl (λ g h. second_s
         → (place_in 0 (tags test xs) ≡ Some (place_view p) → place_in 1 (tags test xs) ≡ Some (place_view q)
         → InTurn (IsAt test p) (IsAt test q) xs)
         → InTurn (IsAt test p) (IsAt test q) (x ∷ xs)
-    by true h go =
-        inl (
-          at_head test p x xs h e,
-          first_shows test q xs (sym (ap (place_in 1) (begin test x xs true h)) ∙ f),
-        )
+    by true h go = search (arith, rules, at_head, first_shows, begin)
     by false h go =
         inr (go (sym (ap (place_in 0) (begin test x xs false h)) ∙ e)
         (sym (ap (place_in 1) (begin test x xs false h)) ∙ f))
@@ -108,18 +89,12 @@ tag_found test (x ∷ xs) h = by (test x.1.made) refl h (λ k. tag_found test xs
         → (HasUse test xs → (q : Text × ℕ) × (place_in 0 (tags test xs) ≡ Some q))
         → (q : Text × ℕ) × (place_in 0 (tags test (x ∷ xs)) ≡ Some q)
     by true e k go = (place_of x, ap (place_in 0) (begin test x xs true e))
-    by false e k go =
-        let there : HasUse test xs = ⊎_elim (λ (q : test x.1.made ≡ true). absurd (cc)) (λ q. q) k in
-        let rest = go there in
-        (rest.0, ap (place_in 0) (begin test x xs false e) ∙ rest.1)
+    by false e k go = search (arith, rules, begin)
 
 -- If a use passes, the place of the first tag is known.
 pub placed : (test : Use → Bool) (xs : List (Text × Site)) → HasUse test xs → (p : Option TagPlace)
     → option_map place_view p ≡ place_in 0 (tags test xs) → (q : TagPlace) × (p ≡ Some q) × ForSome (IsAt test q) xs
-placed test xs h None e =
-    let f = tag_found test xs h in
-    let no : None ≡ Some f.0 = e ∙ f.1 in
-    absurd (cc)
+placed test xs h None e = search (arith, rules, tag_found)
 placed test xs h (Some q) e = (q, refl, first_shows test q xs (sym e))
 
 -- The first one of some tags, by its view.
@@ -200,8 +175,5 @@ twice_rule s ps is k p f lt within at told = (told.0, by f.place f.subject told.
   where
     by : (q : Option TagPlace) (x : Option ChainSubject) → TwiceAt (file_view p) q x
         → RuleAt s (templates_at (files_view ps) is) q x error.DoubleBlock
-    by (Some q) (Some (v.BlockTwice x first)) h = (
-      refl,
-      some_template (λ t. HasTwoTags (is_block (string_bytes x)) (t ∷ []) first q) ps is k p lt within at h,
-    )
+    by (Some q) (Some (v.BlockTwice x first)) h = search (arith, rules, some_template)
     by q x h = absurd h

@@ -1,16 +1,11 @@
 -- Tests of the templates at some indices.
 use Rattle.std.proofs.Common.{◌≡◌, ℕ, ◌<◌, Bool, true, false, ◌||◌, MatchBool, List, [], ◌∷◌, ◌++◌, length, get_or}
 use Rattle.std.proofs.Common.{refl, sym, ap, ◌∙◌, arith, Option, Some, None}
-use Rattle.std.specs.Prelude.{slice_get, unwrap_or, option_map}
-use Rattle.std.specs.List.{AllWithin, HoldsAt, list_any}
-use Rattle.std.specs.Option.{option_to_list}
 use Rattle.std.proofs.lemmas.List.{get_or_read}
 use Rattle.std.proofs.lemmas.List.Recursion.{or_is}
-use Rattle.jt_chains.specs.Along.{AreIndices, templates_at}
-use Rattle.jt_chains.specs.Chain.{Template}
-use Rattle.jt_chains.specs.TemplateFiles.{file_view, files_view}
-use Rattle.jt_chains.specs.declared.files.TemplateFile.{TemplateFile}
-use Rattle.jt_chains.proofs.TemplatesByIndex.{map_at, index_within}
+use Rattle.jt_inherit.proofs.Vocabulary.{slice_get, unwrap_or, option_map, AllWithin, HoldsAt, list_any, option_to_list}
+use Rattle.jt_inherit.proofs.Vocabulary.{AreIndices, templates_at, Template, file_view, files_view, TemplateFile}
+use Rattle.jt_inherit.proofs.Vocabulary.{map_at, index_within}
 
 pub index_at : (ps : List TemplateFile) (is : List ℕ) (k i : ℕ) → k < length is → AreIndices (files_view ps) is
     → i ≡ get_or is k i → i < length ps

@@ -1,18 +1,12 @@
 -- An order of numbers determines an order of namespaces, each before those that it leads to.
 use Rattle.std.proofs.Common.{◌≡◌, ℕ, zero, suc, ◌<◌, ◌==◌, Bool, true, false, not, ◌||◌, List, [], ◌∷◌, length, map}
 use Rattle.std.proofs.Common.{refl, sym, ap, ◌∙◌, arith, Some, rules}
-use Rattle.std.specs.Prelude.{slice_get, unwrap_or}
-use Rattle.std.specs.List.{AllByRecursion}
-use Rattle.std.proofs.lemmas.Bool.Decides.{nat_tests}
 use Rattle.jt_graph.specs.Graph as graph
-use Rattle.jt_graph.specs.Graph.{Graph, next_of, AreOrdered}
-use Rattle.jt_chains.specs.Chain.{Sources, Namespace, a_chain, same_namespace, listed}
-use Rattle.jt_chains.specs.Includes.{included, AllIn, InOrder}
-use Rattle.jt_chains.specs.Indices.{namespace_at}
-use Rattle.jt_chains.specs.Rules.{Reaches, here, through}
-use Rattle.jt_inherit.specs.internal.Found.{twice}
+use Rattle.jt_graph.specs.Graph.{AreOrdered}
+use Rattle.jt_inherit.proofs.Vocabulary.{slice_get, unwrap_or, AllByRecursion, nat_tests, Graph, next_of, Sources}
+use Rattle.jt_inherit.proofs.Vocabulary.{Namespace, a_chain, same_namespace, listed, included, AllIn, InOrder}
+use Rattle.jt_inherit.proofs.Vocabulary.{namespace_at, Reaches, here, through, twice, both_false, or_false, or_true}
 use Rattle.jt_inherit.proofs.NamespaceMembership.{reflexive, same}
-use Rattle.jt_inherit.proofs.Membership.{both_false, or_false, or_true}
 
 equal : (i j : ℕ) → (i == j) ≡ true → i ≡ j
 equal i j e = grind (arith, nat_tests)

@@ -1,19 +1,15 @@
 -- A tree is no longer than its source.
 use Rattle.std.proofs.Common.{◌≡◌, ℕ, ◌+◌, ◌<◌, ◌≤◌, Bool, List, ◌∷◌, ◌++◌, length, ap, arith, chars, IsUtf8, ⊎_elim}
 use Rattle.std.proofs.Common.{rules}
-use Rattle.std.proofs.lemmas.Bool.{cases_lt}
-use Rattle.std.proofs.lemmas.Str.{encodes-chars, length-le-encodes}
-use Rattle.jt_scan.specs.declared.segment.TagKind.{TagKind}
+use Rattle.std.proofs.lemmas.Str.{encodes-chars}
 use Rattle.jt_scan.specs.Cut.{Text, Token, Segment, Spelled, Inside, closed, space, token, Cuts, no_more, more}
 use Rattle.jt_scan.specs.Cut.{IsSegment, some_data, a_tag, a_comment, a_raw, second}
-use Rattle.jt_scan.specs.declared.segment.Mark.{Mark}
+use Rattle.jt_inherit.proofs.Vocabulary.{cases_lt, length-le-encodes, TagKind, Mark, normalized, Held, max_source_len}
+use Rattle.jt_inherit.proofs.Vocabulary.{Options, bytes_of}
 use Rattle.jt_inherit.proofs.RawLengths.{closing_long, behind_short, endraw_short}
-use Rattle.jt_scan.specs.LineEnds.{normalized}
-use Rattle.jt_scan.specs.SourceView.{Held, max_source_len}
-use Rattle.jt_scan.specs.declared.options.Options.{Options}
 use Rattle.jt_scan.proofs.EndsLaws.{never_longer}
 use Rattle.jt_expr.specs.Sizes.{token_bytes, tokens_bytes}
-use Rattle.jt_parse.specs.Bytes.{segment_bytes, bytes_of}
+use Rattle.jt_parse.specs.Bytes.{segment_bytes}
 use Rattle.jt_inherit.proofs.EscapeLengths.{bytes, bytes-append, bytes-cons, means_short}
 
 -- The spelling of a token is no shorter than the token's text.

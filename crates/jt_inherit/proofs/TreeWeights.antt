@@ -2,20 +2,16 @@
 -- source counts for each chain that imports it.
 use Rattle.std.proofs.Common.{◌≡◌, ℕ, ◌+◌, ◌≤◌, Bool, true, false, ◌||◌, ◌⊎◌, inl, inr, List, [], ◌∷◌, ◌++◌, refl, sym}
 use Rattle.std.proofs.Common.{ap, ◌∙◌, arith, rules}
-use Rattle.std.specs.Option.{is_some}
-use Rattle.std.specs.Str.{bytes_eq}
-use Rattle.jt_ast.specs.Texts.{among, repeated, inserted, all_inserted, ascending}
-use Rattle.jt_ast.specs.Expressions.{Text}
-use Rattle.jt_chains.specs.Chain.{Sources, Namespace, a_chain, a_library, same_namespace, listed, templates, libraries}
-use Rattle.jt_chains.specs.Includes.{with_source, included, InOrder}
-use Rattle.jt_chains.specs.Rules.{Reaches}
-use Rattle.jt_chains.specs.Weights.{templates_weight, chains_weight}
-use Rattle.jt_inherit.specs.Chains.{SourceTexts}
-use Rattle.jt_inherit.specs.Small.{templates_len, libraries_len, chains_len}
+use Rattle.jt_ast.specs.Texts.{inserted, all_inserted, ascending}
+use Rattle.jt_inherit.specs.Small.{libraries_len}
+use Rattle.jt_inherit.proofs.Vocabulary.{is_some, bytes_eq, among, repeated, Text, Sources, Namespace, a_chain}
+use Rattle.jt_inherit.proofs.Vocabulary.{a_library, same_namespace, listed, templates, libraries, with_source, included}
+use Rattle.jt_inherit.proofs.Vocabulary.{InOrder, Reaches, templates_weight, chains_weight, SourceTexts, templates_len}
+use Rattle.jt_inherit.proofs.Vocabulary.{chains_len, of_texts, reflexive, same, among_behind, among_front, both_false}
+use Rattle.jt_inherit.proofs.Vocabulary.{or_false, or_true}
 use Rattle.jt_inherit.proofs.NamespaceCount.{HasTag, tagged, needed, not_false}
 use Rattle.jt_inherit.proofs.SourcesGrow.{among_passes, libraries_listed}
-use Rattle.jt_inherit.proofs.NameMembership.{of_texts, reflexive, same}
-use Rattle.jt_inherit.proofs.Membership.{among_behind, among_front, both_false, or_false, or_true, still_among, without}
+use Rattle.jt_inherit.proofs.Membership.{still_among, without}
 
 -- ---- the members of an ascending list
 

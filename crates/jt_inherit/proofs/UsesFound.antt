@@ -1,30 +1,22 @@
 -- What the statements of templates name has a use with the name.
-use Rattle.std.proofs.Common.{◌≡◌, Bool, true, false, not, ◌||◌, ◌&&◌, List, [], ◌∷◌, ◌++◌, map, refl, sym, ap, subst}
+use Rattle.std.proofs.Common.{◌≡◌, Bool, true, false, not, ◌||◌, ◌&&◌, List, [], ◌∷◌, ◌++◌, map, sym, ap, subst}
 use Rattle.std.proofs.Common.{◌∙◌, inl, inr, ⊎_elim, Some, ℕ, if◌then◌else◌}
-use Rattle.std.specs.Prelude.{flat_map}
-use Rattle.std.specs.Option.{is_some}
-use Rattle.std.specs.Str.{bytes_eq}
-use Rattle.jt_ast.specs.Expressions.{Text}
 use Rattle.jt_ast.specs.Statements as trees
-use Rattle.jt_ast.specs.Statements.{Stmt, Body, Branches}
-use Rattle.jt_ast.specs.Texts.{among}
 use Rattle.jt_uses.specs.Uses as uses
-use Rattle.jt_uses.specs.Uses.{Use, Site, body_uses, branch_uses, stmt_uses, expr_uses, pair_uses, keys_bound, bound}
-use Rattle.jt_uses.specs.Uses.{filter_call_uses, parameters_bound, macros_bound, condition_uses, place_at, outside}
+use Rattle.jt_uses.specs.Uses.{branch_uses, stmt_uses, expr_uses, pair_uses, keys_bound, bound}
+use Rattle.jt_uses.specs.Uses.{filter_call_uses, parameters_bound, macros_bound, condition_uses, place_at}
 use Rattle.jt_uses.specs.Uses.{inside_scope, inside_loop, inside_block, inside_macro}
 use Rattle.jt_uses.specs.declared.site.Enclosing.{Enclosing}
-use Rattle.jt_chains.specs.Along.{AreIndices, templates_at}
-use Rattle.jt_chains.specs.Chain.{Sources, Namespace, a_chain, a_library, listed, Template, templates, extends_of}
-use Rattle.jt_chains.specs.Chain.{libraries, libraries_in}
-use Rattle.jt_chains.specs.Includes.{included, includes_in, need, needs_by, needs_in, needs_under, with_source}
-use Rattle.jt_chains.specs.Needs.{include_need, library_need, needed}
-use Rattle.jt_chains.proofs.IncludeCollection.{by_templates, needed-append}
-use Rattle.jt_inherit.specs.Findings.{ForSome, all_uses, uses_in, asks, is_extends, is_import, is_include, leads_to}
-use Rattle.jt_inherit.specs.internal.Along.{needs_along}
+use Rattle.jt_chains.specs.Includes.{need}
+use Rattle.jt_inherit.proofs.Vocabulary.{flat_map, is_some, bytes_eq, Text, Stmt, Body, Branches, among, Use, Site}
+use Rattle.jt_inherit.proofs.Vocabulary.{body_uses, outside, AreIndices, templates_at, Sources, Namespace, a_chain}
+use Rattle.jt_inherit.proofs.Vocabulary.{a_library, listed, Template, templates, extends_of, libraries, libraries_in}
+use Rattle.jt_inherit.proofs.Vocabulary.{included, includes_in, needs_by, needs_in, needs_under, with_source}
+use Rattle.jt_inherit.proofs.Vocabulary.{include_need, library_need, needed, by_templates, needed-append, ForSome}
+use Rattle.jt_inherit.proofs.Vocabulary.{all_uses, uses_in, asks, is_extends, is_import, is_include, leads_to}
+use Rattle.jt_inherit.proofs.Vocabulary.{needs_along, among_cases, only_among, of_texts, reflexive}
 use Rattle.jt_inherit.proofs.DiscoveryInvariant.{includes_told}
 use Rattle.jt_inherit.proofs.ImportCollection.{imports_needed}
-use Rattle.jt_inherit.proofs.Membership.{among_cases, only_among}
-use Rattle.jt_inherit.proofs.NameMembership.{of_texts, reflexive, same}
 use Rattle.jt_inherit.proofs.SourcesGrow.{among_passes, chains_listed, libraries_listed}
 use Rattle.jt_inherit.proofs.TagPlaces.{HasUse, some_front, some_behind}
 

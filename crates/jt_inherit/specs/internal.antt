@@ -13,5 +13,6 @@ pub mod Rings
 pub mod RuleTests
 pub mod SetView
 pub mod Sets
+pub mod SuperLines
 pub mod Tags
 pub mod Unmet

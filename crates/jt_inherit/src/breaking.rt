@@ -6,12 +6,11 @@ ghost use Rattle.jt_chains.specs.TemplateFiles.{file_view, files_view};
 ghost use Rattle.jt_inherit.specs.internal.Breaking.{IsOfRule, IsTwiceIn, lacks};
 ghost use Rattle.jt_inherit.specs.internal.Given.{its_sources, its_templates};
 
-use crate::bodies::{no_super, not_given};
 use crate::error::ChainError;
 use crate::finding::{ChainFinding, ChainSubject};
 use crate::importing::{library_file, names_at};
 use crate::store::TemplateStore;
-use crate::tags::{Wanted, first_place, second_place, tags_at, tags_of};
+use crate::tags::{Wanted, first_at, first_place, second_place, tags_at, tags_of};
 use jt_ast::Stmt;
 use jt_chains::TemplateFile;
 use jt_uses::{Use, UseSite, uses_of};
@@ -87,7 +86,7 @@ fn missing_at<'a>(store: TemplateStore<'a>, indices: &[usize]) -> Option<Missing
 }
 
 /// Returns the finding of an imported macro that its library does not offer.
-fn missing_finding(
+pub(crate) fn missing_finding(
     alloc: Global,
     store: TemplateStore<'_>,
     indices: &[usize],
@@ -103,8 +102,7 @@ fn missing_finding(
         library: missing.library,
         name: missing.name,
     };
-    let tags = tags_at(alloc, store.files, indices, wanted)?;
-    let Some(place) = first_place(alloc, &tags)? else {
+    let Some(place) = first_at(alloc, store.files, indices, wanted)? else {
         return Ok(ChainFinding::without_place(ChainError::NoMacro));
     };
     let library = String::from_str(alloc, missing.library)?;
@@ -128,7 +126,7 @@ fn repeated<'a>(alloc: Global, names: &[&'a str]) -> Result<Option<&'a str>, All
 }
 
 /// Returns the finding of a name that two tags define.
-fn name_twice(
+pub(crate) fn name_twice(
     alloc: Global,
     store: TemplateStore<'_>,
     indices: &[usize],
@@ -192,7 +190,7 @@ fn block_twice_in(alloc: Global, file: &TemplateFile) -> Result<Option<ChainFind
 }
 
 /// Returns the finding of two blocks of one name in a template.
-fn block_twice(
+pub(crate) fn block_twice(
     alloc: Global,
     store: TemplateStore<'_>,
     indices: &[usize],
@@ -207,25 +205,4 @@ fn block_twice(
         }
     }
     Ok(ChainFinding::without_place(ChainError::DoubleBlock))
-}
-
-/// Returns the finding of a broken rule of a chain or library, whose templates are at `indices`.
-pub(crate) fn rule_finding(
-    alloc: Global,
-    store: TemplateStore<'_>,
-    indices: &[usize],
-    error: ChainError,
-) -> Result<ChainFinding, AllocError>
-    requires { AreIndices (files_view store.files.now) indices.now }
-    ensures { IfOk result (IsOfRule (its_sources store.entry)
-        (its_templates store.entry indices.now) error) }
-{
-    match error {
-        ChainError::NoMacro => missing_finding(alloc, store, indices),
-        ChainError::MacroTwice => name_twice(alloc, store, indices),
-        ChainError::DoubleBlock => block_twice(alloc, store, indices),
-        ChainError::RequiredNotGiven => not_given(alloc, store, indices),
-        ChainError::NoSuper => no_super(alloc, store, indices),
-        _ => Ok(ChainFinding::without_place(error)),
-    }
 }

@@ -1,19 +1,16 @@
 //! Builds the chain of an entry.
 
-ghost use Rattle.std.specs.Prelude.{◌≡◌, ◌+◌, ◌*◌, ◌<◌, ◌≤◌, length, OnOk, IfOk, IfErr};
+ghost use Rattle.std.specs.Prelude.{◌≡◌, ◌+◌, ◌*◌, ◌<◌, ◌≤◌, length, map, OnOk, IfOk, IfErr};
 ghost use Rattle.std.specs.Prelude.{MatchResult};
 ghost use Rattle.std.specs.List.{AllByRecursion};
-ghost use Rattle.jt_graph.specs.Graph.{next_of};
 ghost use Rattle.jt_ast.specs.Sizes.{body_bytes};
 ghost use Rattle.jt_ast.specs.Expressions.{Text};
 ghost use Rattle.jt_chains.specs.Along.{AreIndices};
 ghost use Rattle.jt_inherit.specs.Chains.{IsChain};
-ghost use Rattle.jt_inherit.specs.internal.Found.{AllKeep, HasNamespaces};
+ghost use Rattle.jt_inherit.specs.internal.Found.{AllKeep, listed_at, listed_view};
 ghost use Rattle.jt_inherit.specs.internal.FindsAt.{FindsAt};
 ghost use Rattle.jt_inherit.specs.internal.Found.{found_namespaces};
 ghost use Rattle.jt_inherit.specs.internal.Found.{found_templates, found_paths};
-ghost use Rattle.jt_chains.specs.TemplateFiles.{namespace_view};
-ghost use Rattle.jt_chains.specs.Indices.{namespace_at};
 ghost use Rattle.jt_inherit.specs.Findings.{IsFinding};
 ghost use Rattle.jt_inherit.specs.Refusals.{Breaks};
 ghost use Rattle.jt_chains.specs.Weights.{chains_weight};
@@ -22,7 +19,6 @@ ghost use Rattle.jt_inherit.specs.internal.ExtendsPaths.{AreNamed};
 ghost use Rattle.jt_inherit.specs.Small.{chains_len, source_len};
 ghost use Rattle.jt_chains.specs.View.{Seen, chain_view, sources_of};
 
-use crate::breaking::rule_finding;
 use crate::discovery::{Discovery, discover};
 use crate::error::ChainError;
 use crate::finding::ChainFinding;
@@ -125,7 +121,7 @@ pub fn chain_or_finding<L: Library>(
     let found = discover(alloc, entry, &Loader { library, options })?;
     check_chains(alloc, &found, options.autoescape)?;
     let order = order_of(alloc, &found)?;
-    let namespaces = namespaces_in(alloc, &found, &order)?;
+    let namespaces = namespaces_in(alloc, &found, order)?;
     let indices = indices_by_name(alloc, &found.files)?;
     Ok(Chain {
         templates: found.files,
@@ -144,15 +140,12 @@ fn check_chains(alloc: Global, found: &Discovery, escaping: bool) -> Result<(), 
     ensures broken { IfErr result
         (FindsAt escaping (found_templates found.now) (found_paths found.now)) }
 {
+    let store = TemplateStore {
+        names: &found.names,
+        files: &found.files,
+    };
     for extends_path in &found.extends_paths {
-        let store = TemplateStore {
-            names: &found.names,
-            files: &found.files,
-        };
-        match check_rules(alloc, store, extends_path, escaping) {
-            Ok(()) => {}
-            Err(error) => return Err(rule_finding(alloc, store, extends_path, error)?),
-        }
+        check_rules(alloc, store, extends_path, escaping)?;
     }
     Ok(())
 }
@@ -161,16 +154,15 @@ fn check_chains(alloc: Global, found: &Discovery, escaping: bool) -> Result<(), 
 fn namespaces_in(
     alloc: Global,
     found: &Discovery,
-    order: &[usize],
+    order: Vec<usize>,
 ) -> Result<Vec<Namespace>, AllocError>
     requires all { length found.now.extends_paths.items ≡ length (found_namespaces found.now) }
-    requires within { AllByRecursion (λ i. i < length found.now.extends_paths.items) order.now }
+    requires within { AllByRecursion (λ i. i < length found.now.extends_paths.items) order.items }
     ensures { IfOk result (λ namespaces.
-        HasNamespaces (found_namespaces found.now) (found_paths found.now) order.now
-        namespaces.items) }
+        map listed_view namespaces.items ≡ map (listed_at found.now) order.items) }
 {
     let mut namespaces = Vec::with_capacity(alloc, order.len())?;
-    for number in order {
+    for number in &order {
         namespaces.push(namespace_of(alloc, found, *number)?)?;
     }
     Ok(namespaces)
@@ -180,10 +172,7 @@ fn namespaces_in(
 fn namespace_of(alloc: Global, found: &Discovery, number: usize) -> Result<Namespace, AllocError>
     requires all { length found.now.extends_paths.items ≡ length (found_namespaces found.now) }
     requires within { number < length found.now.extends_paths.items }
-    ensures namespace { IfOk result
-        (λ h. namespace_view h ≡ namespace_at (found_namespaces found.now) number) }
-    ensures templates { IfOk result
-        (λ h. h.templates.items ≡ next_of (found_paths found.now) number) }
+    ensures { IfOk result (λ h. listed_view h ≡ listed_at found.now number) }
 {
     let namespace = found.namespaces.get(number);
     Ok(Namespace {

@@ -4,7 +4,8 @@ ghost use Rattle.std.specs.Prelude.{◌≡◌, ◌+◌, ◌<◌, false, length, 
 ghost use Rattle.std.specs.List.{AllByRecursion};
 ghost use Rattle.jt_chains.specs.Along.{AreIndices};
 ghost use Rattle.jt_chains.specs.Indices.{namespace_at};
-ghost use Rattle.jt_inherit.specs.internal.Found.{IsFirst, IsFound, found_namespaces, root_of};
+ghost use Rattle.jt_inherit.specs.internal.Found.{IsDone, IsFirst, IsFound, found_namespaces};
+ghost use Rattle.jt_inherit.specs.internal.Found.{root_of};
 ghost use Rattle.jt_inherit.specs.Findings.{IsFinding};
 ghost use Rattle.jt_inherit.specs.internal.ExtendsPaths.{AreNamed};
 ghost use Rattle.jt_inherit.specs.internal.Found.{found_paths, found_templates};
@@ -188,9 +189,8 @@ pub(crate) fn discover<L: Library>(
     entry: &str,
     loader: &Loader<'_, L>,
 ) -> Result<Discovery, ChainFinding>
-    ensures found { IfOk result (IsFound (L.sources loader.now.library.now) loader.now.options) }
-    ensures all { IfOk result (λ f. length f.extends_paths.items ≡ length (found_namespaces f)) }
-    ensures root { IfOk result (λ f. root_of f ≡ entry.now) }
+    ensures done { IfOk result
+        (IsDone (L.sources loader.now.library.now) loader.now.options entry.now) }
     ensures refused { IfErr result
         (IsFinding (L.sources loader.now.library.now) entry.now loader.now.options) }
 {

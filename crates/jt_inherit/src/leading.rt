@@ -14,7 +14,7 @@ ghost use Rattle.jt_inherit.specs.internal.Tags.{place_view, test_of};
 use crate::discovery::Discovery;
 use crate::finding::TagPlace;
 use crate::sets::NamespaceKey;
-use crate::tags::{Wanted, first_place, tags_at};
+use crate::tags::{Wanted, first_at};
 use std::alloc::{AllocError, Global};
 
 /// Returns the name of the chain or library of a number.
@@ -52,6 +52,5 @@ pub(crate) fn leading_tag(
         (found_paths found.now) (namespace_at (found_namespaces found.now) to) from) }
 {
     let wanted = wanted_for(found.namespaces.get(to));
-    let tags = tags_at(alloc, &found.files, &found.extends_paths[from], wanted)?;
-    first_place(alloc, &tags)
+    first_at(alloc, &found.files, &found.extends_paths[from], wanted)
 }

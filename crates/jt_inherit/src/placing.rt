@@ -9,7 +9,7 @@ ghost use Rattle.jt_inherit.specs.internal.Tags.{place_view, test_of};
 
 use crate::error::ChainError;
 use crate::finding::{ChainFinding, ChainSubject, TagPlace};
-use crate::tags::{Wanted, first_place, tags_at, tags_of};
+use crate::tags::{Wanted, first_at, first_place, tags_of};
 use jt_chains::TemplateFile;
 use std::alloc::{AllocError, Global};
 
@@ -152,8 +152,7 @@ pub(crate) fn need_finding(
     ensures { IfOk result (IsOfNeed (templates_at (files_view files.now) indices.now)
         name.now error) }
 {
-    let tags = tags_at(alloc, files, indices, wanted_need(name, &error))?;
-    let place = first_place(alloc, &tags)?;
+    let place = first_at(alloc, files, indices, wanted_need(name, &error))?;
     name_finding(alloc, place, name, error)
 }
 
@@ -168,8 +167,7 @@ pub(crate) fn included_finding(
     ensures { IfOk result
         (IsIncludedMore (templates_at (files_view files.now) indices.now) name.now) }
 {
-    let tags = tags_at(alloc, files, indices, Wanted::Includes(name))?;
-    let place = first_place(alloc, &tags)?;
+    let place = first_at(alloc, files, indices, Wanted::Includes(name))?;
     let name = String::from_str(alloc, name)?;
     Ok(ChainFinding {
         error: ChainError::ChainTooLong,

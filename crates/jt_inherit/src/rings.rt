@@ -196,12 +196,12 @@ fn ring_finding(alloc: Global, found: &Discovery) -> Result<ChainFinding, AllocE
 /// - The finding of a ring, if there is no order.
 /// - That of `NoMemory` if a growth is refused.
 pub(crate) fn order_of(alloc: Global, found: &Discovery) -> Result<Vec<usize>, ChainFinding>
+    requires closed { IsClosed (graph_of found.now.next.items) }
     requires paths { length found.now.extends_paths.items ≡ length (found_namespaces found.now) }
     requires next { length found.now.next.items ≡ length (found_namespaces found.now) }
     requires indices { AllByRecursion (AreIndices (found_templates found.now))
         (found_paths found.now) }
-    ensures ordered { IsClosed (graph_of found.now.next.items)
-        → IfOk result (λ nodes. IsOrder (graph_of found.now.next.items) nodes.items) }
+    ensures ordered { IfOk result (λ nodes. IsOrder (graph_of found.now.next.items) nodes.items) }
     ensures refused { IfErr result (λ f. IsNoMemory f ⊎ (HasCycle (graph_of found.now.next.items)
         × IsOfRing (found_templates found.now) (found_namespaces found.now)
         (found_paths found.now) (graph_of found.now.next.items) f)) }

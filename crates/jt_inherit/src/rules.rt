@@ -11,9 +11,12 @@ ghost use Rattle.jt_inherit.specs.internal.Checks.{lacks_body, lacks_next, block
 ghost use Rattle.jt_inherit.specs.internal.RuleTests as spec;
 ghost use Rattle.jt_chains.specs.TemplateFiles.{files_view};
 ghost use Rattle.jt_chains.specs.Parts.{blocks_view};
+ghost use Rattle.jt_inherit.specs.internal.FindsAt.{IsBroken};
 ghost use Rattle.jt_inherit.specs.internal.Given.{its_sources, its_templates};
 
-use crate::error::ChainError;
+use crate::bodies::{no_super, not_given};
+use crate::breaking::{block_twice, missing_finding, name_twice};
+use crate::finding::ChainFinding;
 use crate::importing::{any_lacks_macros, names_at};
 use crate::store::TemplateStore;
 use crate::supers::calls_super;
@@ -128,35 +131,36 @@ fn any_double(
     Ok(false)
 }
 
-/// Refuses a chain or library whose blocks, macros or imports break a rule. `indices` are its
-/// templates.
+/// Refuses a chain or library whose blocks, macros or imports break a rule, with the tag that
+/// breaks it. `indices` are its templates.
+#[tactic(auto, using(crate::proofs::FindingsHold::memory_broken, crate::proofs::FindingsHold::rule_broken))]
 pub(crate) fn check_rules(
     alloc: Global,
     store: TemplateStore<'_>,
     indices: &[usize],
     escaping: bool,
-) -> Result<(), ChainError>
+) -> Result<(), ChainFinding>
     requires { AreIndices (files_view store.files.now) indices.now }
     ensures kept { OnOk result (spec.KeepAll (its_sources store.entry) escaping
         (its_templates store.entry indices.now)) }
-    ensures broken { IfErr result (spec.BreakOne (its_sources store.entry) escaping
+    ensures broken { IfErr result (IsBroken (its_sources store.entry) escaping
         (its_templates store.entry indices.now)) }
 {
     if any_double(alloc, store.files, indices, escaping)? {
-        return Err(ChainError::DoubleBlock);
+        return Err(block_twice(alloc, store, indices)?);
     }
     if any_lacks_macros(store, indices) {
-        return Err(ChainError::NoMacro);
+        return Err(missing_finding(alloc, store, indices)?);
     }
     if names_repeat(alloc, &names_at(alloc, store, indices)?)? {
-        return Err(ChainError::MacroTwice);
+        return Err(name_twice(alloc, store, indices)?);
     }
     let blocks = blocks_at(alloc, store.files, indices, escaping)?;
     if any_lacks_body(alloc, &blocks)? {
-        return Err(ChainError::RequiredNotGiven);
+        return Err(not_given(alloc, store, indices)?);
     }
     if any_lacks_next(alloc, blocks)? {
-        return Err(ChainError::NoSuper);
+        return Err(no_super(alloc, store, indices)?);
     }
     Ok(())
 }

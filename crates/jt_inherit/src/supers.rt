@@ -1,11 +1,11 @@
 //! Finds calls of `super()` in the body of a block, nested blocks excluded.
 
-ghost use Rattle.std.specs.Prelude.{◌≡◌, ◌||◌, true, option_map, IfSome};
+ghost use Rattle.std.specs.Prelude.{◌≡◌, option_map};
 ghost use Rattle.jt_ast.specs.ExpressionView.{expr_view, exprs_view, pairs_view};
 ghost use Rattle.jt_chains.specs.Supers as spec;
 ghost use Rattle.jt_ast.specs.StatementView.{stmt_view, body_view, branches_view, filter_call_view};
 ghost use Rattle.jt_ast.specs.StatementView.{filter_calls_view};
-ghost use Rattle.jt_inherit.specs.SuperTags.{stmt_super_at, super_at};
+ghost use Rattle.jt_inherit.specs.internal.SuperLines.{line_if, first_of, first_in, first_under};
 
 use jt_ast::{Branch, Expr, FilterCall, Stmt};
 
@@ -105,66 +105,17 @@ fn filters_super(filters: &[FilterCall]) -> bool
 }
 
 /// Returns whether statements call `super()`, nested blocks excluded.
-#[cycle(statements)]
+#[tactic(auto, using(crate::proofs::SuperTagLines::body_called))]
 pub(crate) fn calls_super(body: &[Stmt]) -> bool
     ensures { result ≡ spec.calls_super (body_view body.now) }
 {
-    for statement in body {
-        if statement_super(statement) {
-            return true;
-        }
-    }
-    false
-}
-
-/// Returns whether a statement calls `super()`, nested blocks excluded.
-#[cycle(statements)]
-fn statement_super(statement: &Stmt) -> bool
-    ensures { result ≡ spec.stmt_super (stmt_view statement.now) }
-{
-    match statement {
-        Stmt::Data(_)
-        | Stmt::Macro { .. }
-        | Stmt::Include { .. }
-        | Stmt::Import { .. }
-        | Stmt::From { .. }
-        | Stmt::Extends(_, _)
-        | Stmt::Block { .. } => false,
-        Stmt::Print(_, value) | Stmt::Set { value, .. } => has_super(value),
-        Stmt::If(branches, other) => {
-            for Branch {
-                condition,
-                body,
-                ..
-            } in branches {
-                if has_super(condition) {
-                    return true;
-                }
-                if calls_super(body) {
-                    return true;
-                }
-            }
-            calls_super(other)
-        }
-        Stmt::For {
-            over,
-            condition,
-            body,
-            other,
-            ..
-        } => {
-            has_super(over) || condition_super(condition) || calls_super(body) || calls_super(other)
-        }
-        Stmt::SetBlock { body, .. } | Stmt::Autoescape { body, .. } => calls_super(body),
-        Stmt::With { values, body, .. } => any_super_pair(values) || calls_super(body),
-        Stmt::FilterBlock { filters, body, .. } => calls_super(body) || filters_super(filters),
-    }
+    super_line(body).is_some()
 }
 
 /// Returns the line of the first tag that calls `super()`, nested blocks excluded.
 #[cycle(lines)]
 pub(crate) fn super_line(body: &[Stmt]) -> Option<u32>
-    ensures { IfSome result (λ n. super_at n (body_view body.now) ≡ true) }
+    ensures { result ≡ first_in (body_view body.now) }
 {
     for statement in body {
         if let Some(line) = statement_line(statement) {
@@ -177,7 +128,7 @@ pub(crate) fn super_line(body: &[Stmt]) -> Option<u32>
 /// Returns the line of the first tag of a statement that calls `super()`, nested blocks excluded.
 #[cycle(lines)]
 fn statement_line(statement: &Stmt) -> Option<u32>
-    ensures { IfSome result (λ n. stmt_super_at n (stmt_view statement.now) ≡ true) }
+    ensures { result ≡ first_of (stmt_view statement.now) }
 {
     match statement {
         Stmt::Data(_)
@@ -187,23 +138,10 @@ fn statement_line(statement: &Stmt) -> Option<u32>
         | Stmt::From { .. }
         | Stmt::Extends(_, _)
         | Stmt::Block { .. } => None,
-        Stmt::Print(line, value) => line_if(has_super(value), *line),
-        Stmt::Set { line, value, .. } => line_if(has_super(value), *line),
-        Stmt::If(branches, other) => {
-            for Branch {
-                line,
-                condition,
-                body,
-            } in branches {
-                if has_super(condition) {
-                    return Some(*line);
-                }
-                if let Some(line) = super_line(body) {
-                    return Some(line);
-                }
-            }
-            super_line(other)
+        Stmt::Print(line, value) | Stmt::Set { line, value, .. } => {
+            line_if(has_super(value), *line)
         }
+        Stmt::If(branches, other) => branch_line(branches).or(super_line(other)),
         Stmt::For {
             line,
             over,
@@ -212,45 +150,44 @@ fn statement_line(statement: &Stmt) -> Option<u32>
             other,
             ..
         } => {
-            if head_super(over, condition) {
-                return Some(*line);
-            }
-            match super_line(body) {
-                Some(line) => Some(line),
-                None => super_line(other),
-            }
+            let inside = super_line(body).or(super_line(other));
+            line_if(has_super(over) || condition_super(condition), *line).or(inside)
         }
         Stmt::SetBlock { body, .. } | Stmt::Autoescape { body, .. } => super_line(body),
         Stmt::With { line, values, body } => {
-            if any_super_pair(values) {
-                return Some(*line);
-            }
-            super_line(body)
+            line_if(any_super_pair(values), *line).or(super_line(body))
         }
         Stmt::FilterBlock {
             line,
             filters,
             body,
-        } => {
-            if filters_super(filters) {
-                return Some(*line);
-            }
-            super_line(body)
+        } => line_if(filters_super(filters), *line).or(super_line(body)),
+    }
+}
+
+/// Returns the line of the first tag of branches that calls `super()`, nested blocks excluded.
+#[cycle(lines)]
+fn branch_line(branches: &[Branch<Stmt>]) -> Option<u32>
+    ensures { result ≡ first_under (branches_view branches.now) }
+{
+    for Branch {
+        line,
+        condition,
+        body,
+    } in branches {
+        if has_super(condition) {
+            return Some(*line);
+        }
+        if let Some(line) = super_line(body) {
+            return Some(line);
         }
     }
+    None
 }
 
 /// Returns the line if the condition is true.
 fn line_if(condition: bool, line: u32) -> Option<u32>
-    ensures { IfSome result (λ n. (n ≡ line) × (condition ≡ true)) }
+    ensures { result ≡ line_if condition line }
 {
     if condition { Some(line) } else { None }
-}
-
-/// Returns whether the head of a `for` calls `super()`.
-fn head_super(over: &Expr, condition: &Option<Expr>) -> bool
-    ensures { result ≡ (spec.has_super (expr_view over.now)
-        || spec.condition_super (option_map expr_view condition.now)) }
-{
-    has_super(over) || condition_super(condition)
 }

@@ -5,8 +5,8 @@ ghost use Rattle.jt_chains.specs.Along.{AreIndices, templates_at};
 ghost use Rattle.jt_chains.specs.TemplateFiles.{file_view, files_view};
 ghost use Rattle.jt_inherit.specs.Findings as findings;
 ghost use Rattle.jt_inherit.specs.Findings.{all_uses, uses_in};
-ghost use Rattle.jt_inherit.specs.internal.Tags as spec;
 ghost use Rattle.jt_inherit.specs.internal.Tags.{test_of, tags, tags_view, tag_view, place_view};
+ghost use Rattle.jt_inherit.specs.internal.Tags.{place_in};
 ghost use Rattle.jt_inherit.specs.internal.Tags.{with_name, place_of};
 ghost use Rattle.jt_uses.specs.UseView.{use_view, sites_view};
 
@@ -95,105 +95,34 @@ impl<'a> FoundTag<'a> {
     }
 }
 
-/// Returns whether a use asks for the template. An include that ignores a missing template counts
-/// only if `all` is true.
-fn asks(all: bool, wanted: &str, made: Use<'_>) -> bool
-    ensures { result ≡ findings.asks all wanted.now (use_view made.entry) }
-{
-    match made {
-        Use::Extends(name) | Use::Imports(name) => name == wanted,
-        Use::Includes { name, missing, .. } => (all || !missing.is_ignored()) && name == wanted,
-        _ => false,
-    }
-}
-
-/// Returns whether a use extends the template.
-fn is_extends(wanted: &str, made: Use<'_>) -> bool
-    ensures { result ≡ findings.is_extends wanted.now (use_view made.entry) }
-{
-    match made {
-        Use::Extends(name) => name == wanted,
-        _ => false,
-    }
-}
-
-/// Returns whether a use includes the template.
-fn is_include(wanted: &str, made: Use<'_>) -> bool
-    ensures { result ≡ findings.is_include wanted.now (use_view made.entry) }
-{
-    match made {
-        Use::Includes { name, .. } => name == wanted,
-        _ => false,
-    }
-}
-
-/// Returns whether a use imports the library.
-fn is_import(wanted: &str, made: Use<'_>) -> bool
-    ensures { result ≡ findings.is_import wanted.now (use_view made.entry) }
-{
-    match made {
-        Use::Imports(name) => name == wanted,
-        _ => false,
-    }
-}
-
-/// Returns whether a use binds a name to the macro of the library.
-fn binds_macro(wanted: &str, one: &str, made: Use<'_>) -> bool
-    ensures { result ≡ findings.binds_macro wanted.now one.now (use_view made.entry) }
-{
-    match made {
-        Use::BindsMacro {
-            library,
-            called,
-            ..
-        } => library == wanted && called == one,
-        _ => false,
-    }
-}
-
-/// Returns whether a use is a block of the name.
-fn is_block(wanted: &str, made: Use<'_>) -> bool
-    ensures { result ≡ findings.is_block wanted.now (use_view made.entry) }
-{
-    match made {
-        Use::DeclaresBlock { name, .. } => name == wanted,
-        _ => false,
-    }
-}
-
-/// Returns whether a use is a block.
-fn is_any_block(made: Use<'_>) -> bool
-    ensures { result ≡ spec.is_any_block (use_view made.entry) }
-{
-    matches!(made, Use::DeclaresBlock { .. })
-}
-
-/// Returns whether a use defines the name as a macro or by an import.
-fn defines(wanted: &str, made: Use<'_>) -> bool
-    ensures { result ≡ findings.defines wanted.now (use_view made.entry) }
-{
-    match made {
-        Use::DeclaresMacro { name, .. }
-        | Use::BindsLibrary { name, .. }
-        | Use::BindsMacro { name, .. } => name == wanted,
-        _ => false,
-    }
-}
-
 /// Returns whether a use is a wanted one.
 fn is_wanted(wanted: Wanted<'_>, made: Use<'_>) -> bool
     ensures { result ≡ test_of wanted.entry (use_view made.entry) }
 {
-    match wanted {
-        Wanted::Asks(name) => asks(true, name, made),
-        Wanted::Needs(name) => asks(false, name, made),
-        Wanted::Extends(name) => is_extends(name, made),
-        Wanted::Includes(name) => is_include(name, made),
-        Wanted::Imports(name) => is_import(name, made),
-        Wanted::BindsMacro { library, name } => binds_macro(library, name, made),
-        Wanted::Block(name) => is_block(name, made),
-        Wanted::Blocks => is_any_block(made),
-        Wanted::Defines(name) => defines(name, made),
+    match (wanted, made) {
+        (Wanted::Asks(one) | Wanted::Needs(one) | Wanted::Extends(one), Use::Extends(name))
+        | (Wanted::Asks(one) | Wanted::Needs(one) | Wanted::Imports(one), Use::Imports(name))
+        | (Wanted::Asks(one) | Wanted::Includes(one), Use::Includes { name, .. })
+        | (Wanted::Block(one), Use::DeclaresBlock { name, .. })
+        | (
+            Wanted::Defines(one),
+            Use::DeclaresMacro { name, .. }
+            | Use::BindsLibrary { name, .. }
+            | Use::BindsMacro { name, .. },
+        ) => name == one,
+        (Wanted::Needs(one), Use::Includes { name, missing, .. }) => {
+            !missing.is_ignored() && name == one
+        }
+        (
+            Wanted::BindsMacro { library: one, name },
+            Use::BindsMacro {
+                library,
+                called,
+                ..
+            },
+        ) => library == one && called == name,
+        (Wanted::Blocks, Use::DeclaresBlock { .. }) => true,
+        _ => false,
     }
 }
 
@@ -264,6 +193,21 @@ pub(crate) fn first_place(
         Some(tag) => Ok(Some(tag.place(alloc)?)),
         None => Ok(None),
     }
+}
+
+/// Returns the place of the first wanted use of the templates at `indices`.
+pub(crate) fn first_at(
+    alloc: Global,
+    files: &[TemplateFile],
+    indices: &[usize],
+    wanted: Wanted<'_>,
+) -> Result<Option<TagPlace>, AllocError>
+    requires { AreIndices (files_view files.now) indices.now }
+    ensures { IfOk result (λ p. option_map place_view p ≡ place_in 0 (tags (test_of wanted.entry)
+        (all_uses (templates_at (files_view files.now) indices.now)))) }
+{
+    let found = tags_at(alloc, files, indices, wanted)?;
+    first_place(alloc, &found)
 }
 
 /// Returns the place of the second of some tags.

@@ -7,6 +7,9 @@ use jt_image::{Instr, Instruction};
 use jt_ir::Place;
 use std::alloc::{AllocError, Global};
 
+/// The number of instructions for which there is room in a unit at first.
+const USUAL_INSTRUCTIONS: usize = 32;
+
 /// The code of a unit under construction.
 #[derive(Drop)]
 pub struct Emitter {
@@ -32,18 +35,22 @@ impl Emitter {
     ghost use Rattle.jt_lower.specs.Emission.{EndsTurns};
 
     /// Returns an emitter without instructions that takes at most `limit` of them.
-    pub fn new(alloc: Global, limit: usize) -> Emitter
-        ensures empty { result.code.items ≡ [] }
-        ensures nowhere { result.places.items ≡ [] }
-        ensures limited { result.limit ≡ limit }
-        ensures whole { result.overflowed ≡ false }
+    ///
+    /// # Errors
+    ///
+    /// `AllocError` if a growth is refused.
+    pub fn new(alloc: Global, limit: usize) -> Result<Emitter, AllocError>
+        ensures empty { IfOk result (λ e. e.code.items ≡ []) }
+        ensures nowhere { IfOk result (λ e. e.places.items ≡ []) }
+        ensures limited { IfOk result (λ e. e.limit ≡ limit) }
+        ensures whole { IfOk result (λ e. e.overflowed ≡ false) }
     {
-        Emitter {
-            code: Vec::new(alloc),
-            places: Vec::new(alloc),
+        Ok(Emitter {
+            code: Vec::with_capacity(alloc, USUAL_INSTRUCTIONS)?,
+            places: Vec::with_capacity(alloc, USUAL_INSTRUCTIONS)?,
             limit,
             overflowed: false,
-        }
+        })
     }
 
     /// Appends an instruction of a tag. `None` represents an instruction with an operand that does

@@ -19,5 +19,6 @@ pub mod TopValues
 pub mod MapSize
 pub mod AllocationPoints
 mod CacheCorrect
+mod LoadedMember
 mod MemberCorrect
 mod MemberFound

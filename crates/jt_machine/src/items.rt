@@ -7,7 +7,7 @@ ghost use Rattle.jt_value.specs.View.{view, items_view, entries_view};
 ghost use Rattle.jt_machine.specs.internal.Iterating.{counted, AreItems};
 
 use jt_ops::character_count;
-use jt_value::{Fault, NoMemory, Value, ValueError, ValueList};
+use jt_value::{Fault, NoMemory, Text, Value, ValueError, ValueList};
 use std::alloc::Global;
 use std::rc::Rc;
 
@@ -50,13 +50,13 @@ fn list_items(list: Rc<ValueList>) -> Result<Vec<Value>, NoMemory>
     Ok(Rc::unwrap_or_clone(list)?.into_items()?)
 }
 
-// Returns the keys of a map as texts.
-fn keys(alloc: Global, entries: &[(String, Value)]) -> Result<Vec<Value>, NoMemory>
+// Returns the keys of a map as texts. They share the characters of the keys.
+fn keys(alloc: Global, entries: &[(Text, Value)]) -> Result<Vec<Value>, NoMemory>
     ensures { IfOk result (λ vs. items_view vs.items ≡ key_items (entries_view entries.now)) }
 {
     let mut keys = Vec::new(alloc);
     'entries: for entry in entries {
-        keys.push(Value::text(alloc, entry.0.as_str())?)?;
+        keys.push(Value::Text(entry.0.clone()?))?;
     }
     Ok(keys)
 }

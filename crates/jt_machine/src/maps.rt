@@ -2,7 +2,7 @@
 ghost use Rattle.std.specs.Prelude.{◌≡◌, ◌<◌, ◌∷◌, [], true, length, map, reverse, Ok, IfOk};
 ghost use Rattle.std.specs.Prelude.{IfSome, IfNone, OnOk};
 ghost use Rattle.std.specs.List.{list_all};
-ghost use Rattle.jt_value.specs.Tree.{Tree, Entries, no_entries};
+ghost use Rattle.jt_value.specs.Tree.{Entries, no_entries};
 ghost use Rattle.jt_value.specs.View.{view, entries_view};
 ghost use Rattle.jt_op_semantics.specs.Testing.{is_text};
 ghost use Rattle.jt_image.specs.Config.{Config};
@@ -18,11 +18,10 @@ ghost use Rattle.jt_machine.specs.View.{budget_view, outcome_view};
 
 use crate::entries::StackEntry;
 use crate::limits::map_limit;
-use crate::measure::text_of;
 use crate::outcome::Outcome;
 use indexmap::IndexMap;
 use jt_budget::Budget;
-use jt_value::{Fault, NoMemory, Value};
+use jt_value::{Fault, NoMemory, Text, Value};
 use std::alloc::Global;
 
 /// Returns the map of alternating keys and values; each key is a text. A repeated key keeps its
@@ -32,7 +31,7 @@ pub(crate) fn map_of(alloc: Global, values: Vec<Value>) -> Result<Value, NoMemor
     ensures { IfOk result (λ v. mapped (map view values.items) ≡ Ok (view v)) }
 {
     let entries = entries_of(alloc, values)?;
-    Value::map(alloc, entries)
+    Value::from_entries(alloc, entries.into_iter().collect(alloc)?)
 }
 
 /// Returns how the run ends if alternating keys and values make no map within the limits. Nothing
@@ -106,40 +105,44 @@ pub(crate) fn pop_last(values: &mut Vec<Value>) -> Option<Value>
     values.pop()
 }
 
+// Returns the characters of a key.
+fn text_of_key(key: Value) -> Text
+    requires { is_text (view key) ≡ true }
+    ensures { result ≡ key_bytes (view key) }
+{
+    match key {
+        Value::Text(text) | Value::Markup(text) => text,
+        _ => unreachable!(),
+    }
+}
+
 // Pops the last key and its value. Keys and values alternate from the end.
-fn pop_pair(values: &mut Vec<Value>) -> Option<(Value, Value)>
+fn pop_pair(values: &mut Vec<Value>) -> Option<(Text, Value)>
     requires { HasTextKeys values.old.items }
     ensures some { IfSome result (λ p. (es : Entries)
         → put_entries es (upward values.old.items)
-        ≡ put_entries (put_entry (key_bytes (view p.0)) (view p.1) es) (upward values.new.items)) }
-    ensures text { IfSome result (λ p. is_text (view p.0) ≡ true) }
+        ≡ put_entries (put_entry p.0 (view p.1) es) (upward values.new.items)) }
     ensures none { IfNone result ((es : Entries) → put_entries es (upward values.old.items) ≡ es) }
     ensures texts { IfSome result (λ _. HasTextKeys values.new.items) }
     ensures fewer { IfSome result (λ _. length values.new.items < length values.old.items) }
 {
     let key = pop_last(values)?;
     let value = pop_last(values)?;
-    Some((key, value))
+    Some((text_of_key(key), value))
 }
 
 // Sets the value of a key. A key that exists keeps its index.
-fn put_pair(
-    alloc: Global,
-    entries: &mut IndexMap<String, Value>,
-    key: &Value,
-    value: Value,
-) -> Result<(), NoMemory>
+fn put_pair(entries: &mut IndexMap<Text, Value>, key: Text, value: Value) -> Result<(), NoMemory>
     ensures { OnOk result (entries_view entries.new.entries
-        ≡ put_entry (key_bytes (view key.now)) (view value) (entries_view entries.old.entries)) }
+        ≡ put_entry key (view value) (entries_view entries.old.entries)) }
 {
-    let name = String::from_str(alloc, text_of(key))?;
-    let _earlier = entries.insert(name, value)?;
+    let _earlier = entries.insert(key, value)?;
     Ok(())
 }
 
 // Returns the entries of alternating keys and values. A stack has at most 1,024 entries, so a map
 // has at most 512 keys: keys with colliding hashes cost no more than a search through all keys.
-fn entries_of(alloc: Global, mut values: Vec<Value>) -> Result<IndexMap<String, Value>, NoMemory>
+fn entries_of(alloc: Global, mut values: Vec<Value>) -> Result<IndexMap<Text, Value>, NoMemory>
     requires { list_all is_text (keys_of (map view values.items)) ≡ true }
     ensures { IfOk result
         (λ es. entries_view es.entries ≡ put_entries no_entries (map view values.items)) }
@@ -147,7 +150,7 @@ fn entries_of(alloc: Global, mut values: Vec<Value>) -> Result<IndexMap<String, 
     values.reverse();
     let mut entries = IndexMap::new(alloc);
     'pairs: while let Some((key, value)) = pop_pair(&mut values) {
-        put_pair(alloc, &mut entries, &key, value)?;
+        put_pair(&mut entries, key, value)?;
     }
     Ok(entries)
 }

@@ -55,8 +55,8 @@ pub(crate) fn deepest(entries: &[StackEntry]) -> u32
     most
 }
 
-/// Returns the text of a key.
-pub(crate) fn text_of(value: &Value) -> &str
+// Returns the text of a key.
+fn text_of(value: &Value) -> &str
     ensures { result.now ≡ key_bytes (view value.now) }
 {
     match value {

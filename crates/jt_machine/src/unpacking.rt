@@ -25,7 +25,7 @@ use crate::outcome::Outcome;
 use crate::stack::Stack;
 use crate::state::State;
 use jt_budget::Budget;
-use jt_value::{Fault, ListItems, NoMemory, Value, ValueError};
+use jt_value::{Fault, ListItems, NoMemory, Text, Value, ValueError};
 use std::alloc::Global;
 
 // Returns the greatest size of the values.
@@ -98,7 +98,7 @@ fn greatest_character(text: &str) -> u64
 }
 
 // Returns the greatest size of the keys of a map, each as a text.
-fn greatest_key(entries: &[(String, Value)]) -> u64
+fn greatest_key(entries: &[(Text, Value)]) -> u64
     ensures { result ≡ greatest tree.size (trees_of (key_items (entries_view entries.now))) }
 {
     let mut most = 0u64;

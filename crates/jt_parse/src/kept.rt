@@ -158,13 +158,9 @@ fn removed_right(text: &str, options: Options, start: bool, right: Neighbour) ->
             TrimmedChars::All,
             start,
         ).0,
-        Neighbour::Block(Mark::Absent) => {
+        Neighbour::Block(Mark::Absent) if options.lstrip_blocks => {
             let (run, starts) = ending(text, TrimmedChars::Blank, start);
-            if options.lstrip_blocks && starts {
-                run
-            } else {
-                no_end()
-            }
+            if starts { run } else { no_end() }
         }
         _ => no_end(),
     }

@@ -3,7 +3,7 @@
 use crate::end::End;
 use crate::machine::{ReferenceMachine, StackEntry, UNDEFINED};
 use jt_image::LoopField;
-use jt_value::{Fault, ListItems, Value};
+use jt_value::{Fault, ListItems, Text, Value};
 use std::alloc::Global;
 use std::mem::replace;
 
@@ -48,9 +48,9 @@ fn put_characters(alloc: Global, text: &str, into: &mut Vec<Value>) -> Result<()
     Ok(())
 }
 
-fn put_keys(alloc: Global, entries: &[(String, Value)], into: &mut Vec<Value>) -> Result<(), End> {
+fn put_keys(alloc: Global, entries: &[(Text, Value)], into: &mut Vec<Value>) -> Result<(), End> {
     for entry in entries {
-        into.push(Value::text(alloc, &entry.0)?)?;
+        into.push(Value::text(alloc, entry.0.as_str())?)?;
     }
     Ok(())
 }

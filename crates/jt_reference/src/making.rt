@@ -4,7 +4,7 @@ use crate::end::End;
 use crate::machine::ReferenceMachine;
 use jt_budget::Spent;
 use jt_filters::{FilterId, Limits, OpError, OpId, TestId, apply, binary, range, test, unary};
-use jt_value::{Fault, Value};
+use jt_value::{Fault, Text, Value};
 use std::alloc::Global;
 
 // Returns the result of an operator on its operands, the left one first.
@@ -50,7 +50,7 @@ fn map_of(alloc: Global, values: &[Value]) -> Result<Value, End> {
 // Appends an entry. A key that exists keeps its index and takes the new value.
 fn put_entry(
     alloc: Global,
-    entries: &mut Vec<(String, Value)>,
+    entries: &mut Vec<(Text, Value)>,
     name: &str,
     value: Value,
 ) -> Result<(), End> {
@@ -60,7 +60,7 @@ fn put_entry(
             return Ok(());
         }
     }
-    entries.push((String::from_str(alloc, name)?, value))?;
+    entries.push((Text::from_str(alloc, name)?, value))?;
     Ok(())
 }
 

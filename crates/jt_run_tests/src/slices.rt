@@ -6,7 +6,7 @@ use jt_args::DEFAULT;
 use jt_budget::Budget;
 use jt_image::decode;
 use jt_machine::Machine;
-use jt_value::{Context, Value};
+use jt_value::{Context, Text, Value};
 use jt_verify::verify;
 use std::alloc::Global;
 use std::test::Fail;
@@ -22,7 +22,7 @@ const N: [u8; 67] = [
 
 // Returns the context in which `n` is the text ab.
 fn context(alloc: Global) -> Result<Context, Fail> {
-    let name = String::from_str(alloc, "n")?;
+    let name = Text::from_str(alloc, "n")?;
     let value = Value::text(alloc, "ab")?;
     let mut context = Context::new(alloc);
     match context.insert(name, value) {

@@ -1,13 +1,13 @@
 -- Texts and their characters.
 use Rattle.std.proofs.Common.{◌≡◌, ℕ, zero, suc, ◌<◌, Bool, true, false, ◌&&◌, List, [], ◌∷◌, slice_index, refl, sym}
-use Rattle.std.proofs.Common.{ap, ◌∙◌, arith, chars, bytes_eq, encode_utf8_all, IsUtf8, if◌then◌else◌}
+use Rattle.std.proofs.Common.{nat_eq, length, ap, ◌∙◌, arith, chars, bytes_eq, encode_utf8_all, IsUtf8, if◌then◌else◌}
 use Rattle.std.specs.Bool.{one_answer}
 use lib.Utf8.{scalars}
 use Rattle.std.specs.Str.{is_utf8}
 use Rattle.std.proofs.lemmas.Bool.Decides.{nat_tests}
 use Rattle.std.proofs.lemmas.Slice.Eq.{bytes_eq-Decides}
 use Rattle.std.proofs.lemmas.Str.{chars-IsAscii, is_utf8-from_IsUtf8, IsUtf8-from_ascii}
-use Rattle.std.proofs.lemmas.Bool.{and_parts}
+use Rattle.std.proofs.lemmas.Bool.{and_parts, false_from_ne_true}
 use Rattle.jt_scan.specs.Words.{is_plain, letters_of}
 
 -- The encoding of the characters of a text is the text.
@@ -26,6 +26,15 @@ plain_ascii (c ∷ cs) e (suc i) = plain_ascii cs (and_parts _ (is_plain cs) e).
 letters_are_chars : (w : List ℕ) (b : Bool) → is_plain w ≡ b → (if b then w else chars w) ≡ chars w
 letters_are_chars w true e = sym (chars-IsAscii w (plain_ascii w e))
 letters_are_chars w false e = refl
+
+-- Lists of different lengths differ.
+pub other_length : (t w : List ℕ) → (length t ≡ length w → ⊥) → nat_eq (length t) (length w) ≡ bytes_eq t w
+other_length t w h =
+    false_from_ne_true (nat_eq (length t) (length w)) (λ e. h (nat_same (length t) (length w) e))
+    ∙ sym (false_from_ne_true (bytes_eq t w) (λ e. h (ap length ((bytes_eq-Decides t w).0 e))))
+  where
+    nat_same : (a b : ℕ) → nat_eq a b ≡ true → a ≡ b
+    nat_same a b e = grind (arith, nat_tests)
 
 -- A text equals a word if and only if its characters are the letters of the word.
 pub same_word : (t w : List ℕ) → IsUtf8 t → IsUtf8 w → bytes_eq t w ≡ bytes_eq (chars t) (letters_of w)

@@ -79,11 +79,8 @@ fn may_close(kind: TagKind, mark: Mark) -> bool
 pub(crate) fn read_closer(text: &str, kind: TagKind) -> Option<(Mark, &str)>
     ensures { IsFound (λ a. a) (cut.closer_at kind (chars text.now)) result }
 {
-    if let Some(rest) = behind_pair(text, closer(kind), '}') {
-        return Some((Mark::Absent, rest));
-    }
     let (mark, behind) = read_mark(text);
-    if mark == Mark::Absent || !may_close(kind, mark) {
+    if !may_close(kind, mark) {
         return None;
     }
     let rest = behind_pair(behind, closer(kind), '}')?;

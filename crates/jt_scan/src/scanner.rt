@@ -22,6 +22,9 @@ use crate::text::{before, behind_pair, is_word, lines};
 use crate::tokens::read_tokens;
 use std::alloc::{AllocError, Global};
 
+/// The number of bytes of a segment by which the room for segments is estimated.
+const SEGMENT_BYTES: usize = 16;
+
 /// Returns whether a tag is a block tag whose only token is the word `raw`.
 fn is_raw(kind: TagKind, tokens: &[Token<'_>]) -> bool
     ensures { result ≡ cut.is_raw kind (map token_view tokens.now) }
@@ -126,7 +129,7 @@ fn read_segments<'a>(
     ensures cut { IsParseResult (λ v. cut_of v.items) (spec.cut_whole (chars text.now)) result }
     ensures options { IfOk result (λ v. HaveOptions options v.items) }
 {
-    let mut segments = Vec::new(alloc);
+    let mut segments = Vec::with_capacity(alloc, text.len() / SEGMENT_BYTES + 1)?;
     let mut rest = text;
     let mut line = 1;
     'segments: while !rest.is_empty() {

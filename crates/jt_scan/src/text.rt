@@ -100,5 +100,6 @@ pub(crate) fn lines(text: &str) -> usize
 pub fn is_word(word: &str, known: &str) -> bool
     ensures { result ≡ bytes_eq (chars word.now) (letters_of known.now) }
 {
-    word == known
+    // The lengths differ most often, and are compared without a call.
+    word.len() == known.len() && word == known
 }

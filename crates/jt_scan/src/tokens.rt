@@ -17,6 +17,9 @@ use crate::signs::read_sign;
 use crate::text::{before, behind_name, behind_space, first, starts_name};
 use std::alloc::Global;
 
+/// The number of tokens for which there is room in a tag at first.
+const USUAL_TOKENS: usize = 8;
+
 /// The next item of a tag after whitespace.
 #[derive(Clone, Copy)]
 pub enum NextItem<'a> {
@@ -122,7 +125,7 @@ pub(crate) fn read_tokens<'a>(
     ensures { IsParseResult (λ p. ((map token_view p.0.items, p.1), chars p.2.now))
         (spec.inside kind line (length (chars text.now) + 1) 0 (chars text.now)) result }
 {
-    let mut tokens = Vec::new(alloc);
+    let mut tokens = Vec::with_capacity(alloc, USUAL_TOKENS)?;
     let mut rest = text;
     let mut depth = 0;
     'tokens: loop {

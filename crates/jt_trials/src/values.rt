@@ -6,7 +6,7 @@ use jt_escape::escape_into;
 use jt_image::{
     Code, Constant, Image, ImageError, Instruction, Parts, Unit, Version, assemble, upgrade,
 };
-use jt_value::{Context, Value};
+use jt_value::{Context, Text, Value};
 use std::alloc::Global;
 
 /// Names that are inserted into a context in order.
@@ -39,7 +39,7 @@ fn known(context: &Context) -> usize {
 }
 
 fn inserted(rt: &HostRuntime, context: &mut Context, name: &str) -> Result<(), Stop> {
-    let owned = String::from_str(rt.alloc(), name)?;
+    let owned = Text::from_str(rt.alloc(), name)?;
     let answer = context.insert(owned, Value::Bool(true));
     print!(rt; "insert: ")?;
     // The returned pair is inserted again.

@@ -16,7 +16,7 @@ use Rattle.jt_value.specs.ContextTable.{room}
 use Rattle.jt_value.specs.Tree.{Tree, entry}
 use Rattle.jt_value.specs.Entries.{entry_of, index_of, stands_before, ascends}
 use Rattle.jt_value.specs.KeySearch.{Finds}
-use Rattle.jt_value.specs.View.{view, entries_view}
+use Rattle.jt_value.specs.View.{view, entries_view, text_keyed}
 use Rattle.jt_value.specs.Pairs.{Pairs, pairs, look, put, HasDistinctNames}
 use Rattle.jt_value.specs.internal.MoreEntries.{more_entries, IsLinear}
 use Rattle.jt_value.specs.declared.key_search.KeySearch.{KeySearch}
@@ -33,7 +33,7 @@ same_key n k = is_eq-slice_cmp n k ∙ nat_list_eq_equiv.symm n k
 pub look-entries : (n : List ℕ) (es : List Pair) → entry_of n (entries_view es) ≡ look n (pairs es)
 look-entries n [] = refl
 look-entries n (e ∷ es) =
-    ap (λ o. cond (bytes_eq (string_bytes e.0) n) (Some (view e.1)) o) (look-entries n es)
+    ap (λ o. cond (bytes_eq e.0 n) (Some (view e.1)) o) (look-entries n es)
 
 -- The index of a name among entries, for an equal name and equal entries.
 pub moved : (o : Option ℕ) (k n : List ℕ) (xs es : List Pair) → o ≡ index_of k (entries_view xs) → k ≡ n → xs ≡ es
@@ -56,49 +56,49 @@ pub put_at : (n : List ℕ) (es : List Pair) (i : ℕ) (v : Value) (d : Pair) �
     → d ≡ get_or es i d → pairs (set es i (d.0, v)) ≡ put n (view v) (pairs es)
 put_at n [] i v d at is = absurd (true≢false (ap is_some at))
 put_at n (x ∷ es) i v d at is =
-    by (bytes_eq (string_bytes x.0) n) at (λ j. put_at n es j v d)
+    by (bytes_eq x.0 n) at (λ j. put_at n es j v d)
   where
     by : (b : Bool) → Some i ≡ cond b (Some 0) (option_map suc (index_of n (entries_view es)))
         → ((j : ℕ) → Some j ≡ index_of n (entries_view es) → d ≡ get_or es j d
         → pairs (set es j (d.0, v)) ≡ put n (view v) (pairs es))
         → pairs (set (x ∷ es) i (d.0, v))
-        ≡ cond b ((string_bytes x.0, view v) ∷ pairs es)
-        ((string_bytes x.0, view x.1) ∷ put n (view v) (pairs es))
+        ≡ cond b ((x.0, view v) ∷ pairs es)
+        ((x.0, view x.1) ∷ put n (view v) (pairs es))
     by true h rest =
         let zeroth = at_first (index_of n (entries_view es)) i h in
         let first : d ≡ x = subst (λ j. d ≡ get_or (x ∷ es) j d) (sym zeroth) is in
-        subst (λ j. pairs (set (x ∷ es) j (d.0, v)) ≡ (string_bytes x.0, view v) ∷ pairs es) zeroth
-        (ap (λ (y : Pair). (string_bytes y.0, view v) ∷ pairs es) first)
+        subst (λ j. pairs (set (x ∷ es) j (d.0, v)) ≡ (x.0, view v) ∷ pairs es) zeroth
+        (ap (λ (y : Pair). (y.0, view v) ∷ pairs es) first)
     by false h rest =
         let next = at_later (index_of n (entries_view es)) i h in
         let later : d ≡ get_or es next.0 d = subst (λ j. d ≡ get_or (x ∷ es) j d) (sym next.2) is in
         subst (λ j. pairs (set (x ∷ es) j (d.0, v))
-        ≡ (string_bytes x.0, view x.1) ∷ put n (view v) (pairs es)) next.2
-        (ap (λ ps. (string_bytes x.0, view x.1) ∷ ps) (rest next.0 next.1 later))
+        ≡ (x.0, view x.1) ∷ put n (view v) (pairs es)) next.2
+        (ap (λ ps. (x.0, view x.1) ∷ ps) (rest next.0 next.1 later))
 
 -- A written value changes no key, so the search still finds each.
 same_indices : (k : List ℕ) (es : List Pair) (i : ℕ) (v : Value) (d : Pair) → d ≡ get_or es i d
     → index_of k (entries_view (set es i (d.0, v))) ≡ index_of k (entries_view es)
 same_indices k [] i v d is = refl
 same_indices k (x ∷ es) zero v d is =
-    ap (λ (y : Pair). cond (bytes_eq (string_bytes y.0) k) (Some 0) (option_map suc (index_of k (entries_view es)))) is
+    ap (λ (y : Pair). cond (bytes_eq y.0 k) (Some 0) (option_map suc (index_of k (entries_view es)))) is
 same_indices k (x ∷ es) (suc i) v d is =
-    ap (λ o. cond (bytes_eq (string_bytes x.0) k) (Some 0) (option_map suc o)) (same_indices k es i v d is)
+    ap (λ o. cond (bytes_eq x.0 k) (Some 0) (option_map suc o)) (same_indices k es i v d is)
 
 same_first : (k : List ℕ) (es : List Pair) (i : ℕ) (v : Value) (d : Pair) → d ≡ get_or es i d
     → stands_before k (entries_view (set es i (d.0, v))) ≡ stands_before k (entries_view es)
 same_first k [] i v d is = refl
-same_first k (x ∷ es) zero v d is = ap (λ (y : Pair). is_lt (slice_cmp nat_cmp k (string_bytes y.0))) is
+same_first k (x ∷ es) zero v d is = ap (λ (y : Pair). is_lt (slice_cmp nat_cmp k y.0)) is
 same_first k (x ∷ es) (suc i) v d is = refl
 
 same_ascends : (es : List Pair) (i : ℕ) (v : Value) (d : Pair) → d ≡ get_or es i d
     → ascends (entries_view (set es i (d.0, v))) ≡ ascends (entries_view es)
 same_ascends [] i v d is = refl
 same_ascends (x ∷ es) zero v d is =
-    ap (λ (y : Pair). ascends (entry (string_bytes y.0) (view v) (entries_view es))) is
+    ap (λ (y : Pair). ascends (entry y.0 (view v) (entries_view es))) is
 same_ascends (x ∷ es) (suc i) v d is =
-    ap (λ b. b && ascends (entries_view (set es i (d.0, v)))) (same_first (string_bytes x.0) es i v d is)
-    ∙ ap (λ b. stands_before (string_bytes x.0) (entries_view es) && b) (same_ascends es i v d is)
+    ap (λ b. b && ascends (entries_view (set es i (d.0, v)))) (same_first x.0 es i v d is)
+    ∙ ap (λ b. stands_before x.0 (entries_view es) && b) (same_ascends es i v d is)
 
 pub still_finds : (s : KeySearch) (es : List Pair) (i : ℕ) (v : Value) (d : Pair) → d ≡ get_or es i d
     → Finds s (entries_view es) → Finds s (entries_view (set es i (d.0, v)))
@@ -112,25 +112,25 @@ still_finds (search.Indexed indices) es i v d is h = λ k. h k ∙ sym (same_ind
 put_last : (n : List ℕ) (t : Tree) (es : List Pair) → index_of n (entries_view es) ≡ None
     → put n t (pairs es) ≡ pairs es ++ (n, t) ∷ []
 put_last n t [] h = refl
-put_last n t (x ∷ es) h = by (bytes_eq (string_bytes x.0) n) (index_of n (entries_view es)) (put_last n t es) refl h
+put_last n t (x ∷ es) h = by (bytes_eq x.0 n) (index_of n (entries_view es)) (put_last n t es) refl h
   where
     by : (b : Bool) (o : Option ℕ)
         → (index_of n (entries_view es) ≡ None → put n t (pairs es) ≡ pairs es ++ (n, t) ∷ [])
         → index_of n (entries_view es) ≡ o → cond b (Some 0) (option_map suc o) ≡ None
-        → cond b ((string_bytes x.0, t) ∷ pairs es) ((string_bytes x.0, view x.1) ∷ put n t (pairs es))
-        ≡ (string_bytes x.0, view x.1) ∷ pairs es ++ (n, t) ∷ []
+        → cond b ((x.0, t) ∷ pairs es) ((x.0, view x.1) ∷ put n t (pairs es))
+        ≡ (x.0, view x.1) ∷ pairs es ++ (n, t) ∷ []
     by true o rest e h = absurd (true≢false (ap is_some h))
-    by false None rest e h = ap (λ ps. (string_bytes x.0, view x.1) ∷ ps) (rest e)
+    by false None rest e h = ap (λ ps. (x.0, view x.1) ∷ ps) (rest e)
     by false (Some p) rest e h = absurd (true≢false (ap is_some h))
 
-pub put_new : (k : String Global) (v : Value) (es : List Pair) → index_of (string_bytes k) (entries_view es) ≡ None
-    → pairs (es ++ (k, v) ∷ []) ≡ put (string_bytes k) (view v) (pairs es)
+pub put_new : (k : List ℕ) (v : Value) (es : List Pair) → index_of k (entries_view es) ≡ None
+    → pairs (es ++ (k, v) ∷ []) ≡ put k (view v) (pairs es)
 put_new k v es h =
-    map-append (λ (e : Pair). (string_bytes e.0, view e.1)) es ((k, v) ∷ [])
-    ∙ sym (put_last (string_bytes k) (view v) es h)
+    map-append (λ (e : Pair). (e.0, view e.1)) es ((k, v) ∷ [])
+    ∙ sym (put_last k (view v) es h)
 
-pub finds_new : (s : KeySearch) (k : String Global) (v : Value) (es xs : List Pair) (n : List ℕ) → xs ≡ es
-    → n ≡ string_bytes k → ((t : Tree) → Finds s (more_entries (entries_view xs) n t))
+pub finds_new : (s : KeySearch) (k : List ℕ) (v : Value) (es xs : List Pair) (n : List ℕ) → xs ≡ es
+    → n ≡ k → ((t : Tree) → Finds s (more_entries (entries_view xs) n t))
     → Finds s (entries_view (es ++ (k, v) ∷ []))
 finds_new s k v es xs n same name h =
     subst (Finds s)
@@ -203,12 +203,14 @@ unfolding IsDistinct
 distinct-none = tt
 
 -- Distinct keys of a map are distinct names.
-apart : (k : String Global) (es : List Pair) → AllByRecursion (λ y. string_eq k y ≡ false) (keys_of es)
-    → AllByRecursion (λ y. bytes_eq (string_bytes k) y ≡ false) (map (λ p. p.0) (pairs es))
+apart : (k : String Global) (es : List (String Global × Value))
+    → AllByRecursion (λ y. string_eq k y ≡ false) (keys_of es)
+    → AllByRecursion (λ y. bytes_eq (string_bytes k) y ≡ false) (map (λ p. p.0) (pairs (text_keyed es)))
 apart k [] h = h
 apart k (e ∷ es) h = (h.0, apart k es h.1)
 
-pub distinct-pairs : (es : List Pair) → IsDistinct string_eq (keys_of es) → HasDistinctNames (pairs es)
+pub distinct-pairs : (es : List (String Global × Value)) → IsDistinct string_eq (keys_of es)
+    → HasDistinctNames (pairs (text_keyed es))
 unfolding IsDistinct
 distinct-pairs [] h = h
 distinct-pairs (e ∷ es) h = (apart e.0 es h.0, distinct-pairs es h.1)

@@ -1,6 +1,6 @@
 -- The equality of lists, item by item, and of maps, key by key.
 use Rattle.std.proofs.Common.{◌≡◌, ◌≢◌, ℕ, zero, suc, ◌+◌, ◌<◌, Bool, true, false, cond, ◌&&◌, List, [], ◌∷◌, length}
-use Rattle.std.proofs.Common.{take, get_or, Option, Some, string_bytes, refl, sym, ap, ◌∙◌, subst, true≢false, arith}
+use Rattle.std.proofs.Common.{take, get_or, Option, Some, refl, sym, ap, ◌∙◌, subst, true≢false, arith}
 use Rattle.std.specs.Option.{option_map_or}
 use Rattle.std.specs.Str.{bytes_eq}
 use Rattle.std.specs.Cmp.Lexicographic.{nat_list_eq_equiv, same_text}
@@ -85,51 +85,51 @@ all_of test (entry l t es) h =
 -- A test of the first keys extends to one more key, if that key occurs before or passes the test.
 pub passes : (test : List ℕ → Bool) (xs : List Pair) (i : ℕ) (e : Pair) → i < length xs → e ≡ get_or xs i e
     → all_keys test (entries_view (take i xs)) ≡ true
-    → (has_key (string_bytes e.0) (entries_view (take i xs)) ≡ false → test (string_bytes e.0) ≡ true)
+    → (has_key e.0 (entries_view (take i xs)) ≡ false → test e.0 ≡ true)
     → all_keys test (entries_view (take (i + 1) xs)) ≡ true
 passes test xs i e lt is before new =
     ap (all_keys test) (entries_view-take_more xs i e lt is)
-    ∙ all_keys-more test (entries_view (take i xs)) (string_bytes e.0) (view e.1) before
-    (by (has_key (string_bytes e.0) (entries_view (take i xs))) refl)
+    ∙ all_keys-more test (entries_view (take i xs)) e.0 (view e.1) before
+    (by (has_key e.0 (entries_view (take i xs))) refl)
   where
-    by : (b : Bool) → has_key (string_bytes e.0) (entries_view (take i xs)) ≡ b → test (string_bytes e.0) ≡ true
-    by true p = holds_of test (entries_view (take i xs)) (string_bytes e.0) before p
+    by : (b : Bool) → has_key e.0 (entries_view (take i xs)) ≡ b → test e.0 ≡ true
+    by true p = holds_of test (entries_view (take i xs)) e.0 before p
     by false p = new p
 
 -- A key that fails the test makes the test of all keys fail.
 pub fails : (test : List ℕ → Bool) (xs : List Pair) (i : ℕ) (e : Pair) → i < length xs → e ≡ get_or xs i e
-    → test (string_bytes e.0) ≡ false → all_keys test (entries_view xs) ≡ false
+    → test e.0 ≡ false → all_keys test (entries_view xs) ≡ false
 fails test [] i e lt is p = absurd (omega arith)
 fails test (x ∷ xs) zero e lt is p =
-    ap (λ b. b && all_keys test (entries_view xs)) (ap (λ (y : Pair). test (string_bytes y.0)) (sym is) ∙ p)
+    ap (λ b. b && all_keys test (entries_view xs)) (ap (λ (y : Pair). test y.0) (sym is) ∙ p)
 fails test (x ∷ xs) (suc i) e lt is p =
-    ap (λ b. test (string_bytes x.0) && b) (fails test xs i e (omega arith) is p) ∙ and_false (test (string_bytes x.0))
+    ap (λ b. test x.0 && b) (fails test xs i e (omega arith) is p) ∙ and_false (test x.0)
 
 -- The first entry of a key has the key's value.
 pub entry_of-first : (xs : List Pair) (i : ℕ) (e : Pair) → i < length xs → e ≡ get_or xs i e
-    → has_key (string_bytes e.0) (entries_view (take i xs)) ≡ false
-    → entry_of (string_bytes e.0) (entries_view xs) ≡ Some (view e.1)
+    → has_key e.0 (entries_view (take i xs)) ≡ false
+    → entry_of e.0 (entries_view xs) ≡ Some (view e.1)
 entry_of-first [] i e lt is p = absurd (omega arith)
 entry_of-first (x ∷ xs) zero e lt is p =
-    subst (λ (y : Pair). entry_of (string_bytes y.0) (entries_view (x ∷ xs)) ≡ Some (view y.1)) (sym is)
-    (ap (λ b. cond b (Some (view x.1)) (entry_of (string_bytes x.0) (entries_view xs))) (reflexive (string_bytes x.0)))
+    subst (λ (y : Pair). entry_of y.0 (entries_view (x ∷ xs)) ≡ Some (view y.1)) (sym is)
+    (ap (λ b. cond b (Some (view x.1)) (entry_of x.0 (entries_view xs))) (reflexive x.0))
 entry_of-first (x ∷ xs) (suc i) e lt is p =
-    by (bytes_eq (string_bytes x.0) (string_bytes e.0)) p (entry_of-first xs i e (omega arith) is)
+    by (bytes_eq x.0 e.0) p (entry_of-first xs i e (omega arith) is)
   where
-    by : (b : Bool) → cond b true (has_key (string_bytes e.0) (entries_view (take i xs))) ≡ false
-        → (has_key (string_bytes e.0) (entries_view (take i xs)) ≡ false
-        → entry_of (string_bytes e.0) (entries_view xs) ≡ Some (view e.1))
-        → cond b (Some (view x.1)) (entry_of (string_bytes e.0) (entries_view xs)) ≡ Some (view e.1)
+    by : (b : Bool) → cond b true (has_key e.0 (entries_view (take i xs))) ≡ false
+        → (has_key e.0 (entries_view (take i xs)) ≡ false
+        → entry_of e.0 (entries_view xs) ≡ Some (view e.1))
+        → cond b (Some (view x.1)) (entry_of e.0 (entries_view xs)) ≡ Some (view e.1)
     by true q rest = absurd (true≢false q)
     by false q rest = rest q
 
 -- At the first entry of a key, `equal_at` compares the entry's value.
 pub equal_at-first : (xs : List Pair) (es : Entries) → entries_view xs ≡ es → (i : ℕ) (e : Pair) → i < length xs
-    → e ≡ get_or xs i e → has_key (string_bytes e.0) (entries_view (take i xs)) ≡ false
-    → (other : Option Tree) → equal_at es (string_bytes e.0) other ≡ option_map_or (equal (view e.1)) other false
+    → e ≡ get_or xs i e → has_key e.0 (entries_view (take i xs)) ≡ false
+    → (other : Option Tree) → equal_at es e.0 other ≡ option_map_or (equal (view e.1)) other false
 equal_at-first xs es same i e lt is p other =
-    ap (λ fs. equal_at fs (string_bytes e.0) other) (sym same)
-    ∙ equal_at-entry_of (entries_view xs) (string_bytes e.0) other
+    ap (λ fs. equal_at fs e.0 other) (sym same)
+    ∙ equal_at-entry_of (entries_view xs) e.0 other
     ∙ ap (λ o. option_map_or (λ t. option_map_or (equal t) other false) o false) (entry_of-first xs i e lt is p)
 
 -- ---- Maps with equal keys at equal indices
@@ -139,7 +139,7 @@ same_length [] (y ∷ ys) h = absurd (true≢false (sym h))
 same_length (x ∷ xs) [] h = absurd (true≢false (sym h))
 same_length (x ∷ xs) (y ∷ ys) h =
     ap suc (same_length xs ys
-    (right_true (bytes_eq (string_bytes x.0) (string_bytes y.0)) (same_keys (entries_view xs) (entries_view ys)) h))
+    (right_true (bytes_eq x.0 y.0) (same_keys (entries_view xs) (entries_view ys)) h))
 
 pub other_length : (xs ys : List Pair) → length xs ≢ length ys → same_keys (entries_view xs) (entries_view ys) ≡ false
 other_length xs ys ne = by (same_keys (entries_view xs) (entries_view ys)) refl
@@ -164,43 +164,43 @@ same_keys-all es fs h = all_of (λ k. has_key k es) fs (λ k there. same_has es 
 -- key, so is the entry of the second map at that index.
 pub same_first : (xs ys : List Pair) (i : ℕ) (e f : Pair) → same_keys (entries_view xs) (entries_view ys) ≡ true
     → i < length xs → e ≡ get_or xs i e → f ≡ get_or ys i f
-    → has_key (string_bytes e.0) (entries_view (take i xs)) ≡ false
-    → entry_of (string_bytes e.0) (entries_view ys) ≡ Some (view f.1)
+    → has_key e.0 (entries_view (take i xs)) ≡ false
+    → entry_of e.0 (entries_view ys) ≡ Some (view f.1)
 same_first [] ys i e f h lt is at p = absurd (omega arith)
 same_first (x ∷ xs) [] i e f h lt is at p = absurd (true≢false (sym h))
 same_first (x ∷ xs) (y ∷ ys) zero e f h lt is at p =
-    let same : bytes_eq (string_bytes y.0) (string_bytes e.0) ≡ true =
-    subst (λ (z : Pair). bytes_eq (string_bytes y.0) (string_bytes z.0) ≡ true) (sym is)
-    (nat_list_eq_equiv.symm (string_bytes y.0) (string_bytes x.0)
-    ∙ left_true (bytes_eq (string_bytes x.0) (string_bytes y.0)) (same_keys (entries_view xs) (entries_view ys)) h) in
-    ap (λ b. cond b (Some (view y.1)) (entry_of (string_bytes e.0) (entries_view ys))) same
+    let same : bytes_eq y.0 e.0 ≡ true =
+    subst (λ (z : Pair). bytes_eq y.0 z.0 ≡ true) (sym is)
+    (nat_list_eq_equiv.symm y.0 x.0
+    ∙ left_true (bytes_eq x.0 y.0) (same_keys (entries_view xs) (entries_view ys)) h) in
+    ap (λ b. cond b (Some (view y.1)) (entry_of e.0 (entries_view ys))) same
     ∙ ap (λ (z : Pair). Some (view z.1)) (sym at)
 same_first (x ∷ xs) (y ∷ ys) (suc i) e f h lt is at p =
-    let same = same_text (string_bytes x.0) (string_bytes y.0)
+    let same = same_text x.0 y.0
     (sym
-    (left_true (bytes_eq (string_bytes x.0) (string_bytes y.0)) (same_keys (entries_view xs) (entries_view ys)) h)) in
-    by (bytes_eq (string_bytes y.0) (string_bytes e.0))
+    (left_true (bytes_eq x.0 y.0) (same_keys (entries_view xs) (entries_view ys)) h)) in
+    by (bytes_eq y.0 e.0)
     (subst
-    (λ n. cond (bytes_eq n (string_bytes e.0)) true (has_key (string_bytes e.0) (entries_view (take i xs))) ≡ false)
+    (λ n. cond (bytes_eq n e.0) true (has_key e.0 (entries_view (take i xs))) ≡ false)
     same p)
     (same_first xs ys i e f
-    (right_true (bytes_eq (string_bytes x.0) (string_bytes y.0)) (same_keys (entries_view xs) (entries_view ys)) h)
+    (right_true (bytes_eq x.0 y.0) (same_keys (entries_view xs) (entries_view ys)) h)
     (omega arith) is at)
   where
-    by : (b : Bool) → cond b true (has_key (string_bytes e.0) (entries_view (take i xs))) ≡ false
-        → (has_key (string_bytes e.0) (entries_view (take i xs)) ≡ false
-        → entry_of (string_bytes e.0) (entries_view ys) ≡ Some (view f.1))
-        → cond b (Some (view y.1)) (entry_of (string_bytes e.0) (entries_view ys)) ≡ Some (view f.1)
+    by : (b : Bool) → cond b true (has_key e.0 (entries_view (take i xs))) ≡ false
+        → (has_key e.0 (entries_view (take i xs)) ≡ false
+        → entry_of e.0 (entries_view ys) ≡ Some (view f.1))
+        → cond b (Some (view y.1)) (entry_of e.0 (entries_view ys)) ≡ Some (view f.1)
     by true q rest = absurd (true≢false q)
     by false q rest = rest q
 
 -- At the index of a key's first entry in both maps, `equal_at` compares the two values.
 pub equal_at-same : (xs ys : List Pair) (es : Entries) → entries_view xs ≡ es → (i : ℕ) (e f : Pair)
     → same_keys es (entries_view ys) ≡ true → i < length xs → e ≡ get_or xs i e → f ≡ get_or ys i f
-    → has_key (string_bytes e.0) (entries_view (take i xs)) ≡ false
-    → equal_at es (string_bytes e.0) (entry_of (string_bytes e.0) (entries_view ys)) ≡ equal (view e.1) (view f.1)
+    → has_key e.0 (entries_view (take i xs)) ≡ false
+    → equal_at es e.0 (entry_of e.0 (entries_view ys)) ≡ equal (view e.1) (view f.1)
 equal_at-same xs ys es same i e f h lt is at p =
-    equal_at-first xs es same i e lt is p (entry_of (string_bytes e.0) (entries_view ys))
+    equal_at-first xs es same i e lt is p (entry_of e.0 (entries_view ys))
     ∙ ap (λ o. option_map_or (equal (view e.1)) o false)
     (same_first xs ys i e f (ap (λ gs. same_keys gs (entries_view ys)) same ∙ h) lt is at p)
 

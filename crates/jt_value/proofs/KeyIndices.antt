@@ -1,14 +1,12 @@
 -- The index of a key's first value, and the value there.
 use Rattle.std.proofs.Common.{◌≡◌, ℕ, zero, suc, ◌+◌, ◌<◌, Bool, true, false, cond, List, [], ◌∷◌, length, take, drop}
-use Rattle.std.proofs.Common.{get_or, Option, Some, None, String, Global, string_bytes, nat_lt, nat_cmp, refl, sym, ap}
+use Rattle.std.proofs.Common.{get_or, Option, Some, None, String, Global, nat_lt, refl, sym, ap}
 use Rattle.std.proofs.Common.{◌∙◌, subst, arith}
 use Rattle.std.specs.Prelude.{option_map, is_some}
 use Rattle.std.specs.Option.{option_map_or}
 use Rattle.std.specs.Str.{bytes_eq}
-use Rattle.std.specs.Map.{lookup, update}
-use Rattle.std.specs.Cmp.Lexicographic.{slice_cmp}
-use Rattle.std.specs.BTreeMap.{BTreeMap, get_by_text, is_at}
-use Rattle.std.proofs.Math.Seq.{drop-length}
+use Rattle.std.specs.Map.{update}
+use Rattle.std.specs.BTreeMap.{BTreeMap, get_by_text}
 use Rattle.std.proofs.lemmas.List.{drop_more}
 use Rattle.std.proofs.lemmas.Bool.Decides.{nat_tests}
 use Rattle.jt_value.specs.Tree.{Entries, no_entries, entry, size, entries_size}
@@ -38,9 +36,9 @@ At xs k (Some i) = (i < length xs) × ((d : Pair) → entry_of k (entries_view x
 
 pub at_index : (xs : List Pair) (k : List ℕ) → At xs k (index_of k (entries_view xs))
 at_index [] k = refl
-at_index (x ∷ xs) k = by (bytes_eq (string_bytes x.0) k) refl (index_of k (entries_view xs)) (at_index xs k)
+at_index (x ∷ xs) k = by (bytes_eq x.0 k) refl (index_of k (entries_view xs)) (at_index xs k)
   where
-    by : (b : Bool) → bytes_eq (string_bytes x.0) k ≡ b → (o : Option ℕ) → At xs k o
+    by : (b : Bool) → bytes_eq x.0 k ≡ b → (o : Option ℕ) → At xs k o
         → At (x ∷ xs) k (cond b (Some 0) (option_map suc o))
     by true e o rest = (omega arith, λ d. ap (λ b. cond b (Some (view x.1)) (entry_of k (entries_view xs))) e)
     by false e None rest = ap (λ b. cond b (Some (view x.1)) (entry_of k (entries_view xs))) e ∙ rest
@@ -64,7 +62,7 @@ stands_among (x ∷ xs) k zero = none (index_of k (entries_view (x ∷ xs)))
     none None = refl
     none (Some p) = grind (arith, nat_tests)
 stands_among (x ∷ xs) k (suc i) =
-    by (bytes_eq (string_bytes x.0) k) (index_of k (entries_view xs)) (stands_among xs k i)
+    by (bytes_eq x.0 k) (index_of k (entries_view xs)) (stands_among xs k i)
   where
     by : (b : Bool) (o : Option ℕ) → has_key k (entries_view (take i xs)) ≡ option_map_or (λ p. nat_lt p i) o false
         → cond b true (has_key k (entries_view (take i xs)))
@@ -100,12 +98,12 @@ IsKept xs i indices =
     (k : List ℕ) → get_by_text indices k ≡ option_map (λ p. i + p) (index_of k (entries_view (drop i xs)))
 
 pub kept_more : (xs : List Pair) (i j : ℕ) (e : Pair) (n : List ℕ) (old new : BTreeMap (String Global) ℕ) → j ≡ i + 1
-    → i < length xs → e ≡ get_or xs i e → n ≡ string_bytes e.0 → IsKept xs j old
+    → i < length xs → e ≡ get_or xs i e → n ≡ e.0 → IsKept xs j old
     → ((k : List ℕ) → get_by_text new k ≡ update bytes_eq (get_by_text old) n (Some i) k) → IsKept xs i new
 kept_more xs i j e n old new is lt at name before put k =
     put k
     ∙ ap (λ (m : List ℕ). cond (bytes_eq m k) (Some i) (get_by_text old k)) name
-    ∙ by (bytes_eq (string_bytes e.0) k) (index_of k (entries_view (drop j xs))) (before k)
+    ∙ by (bytes_eq e.0 k) (index_of k (entries_view (drop j xs))) (before k)
     ∙ sym (ap (λ (l : List Pair). option_map (λ p. i + p) (index_of k (entries_view l)))
     (drop_more xs i e lt ∙ ap (λ (y : Pair). y ∷ drop (i + 1) xs) (sym at) ∙ ap (λ m. e ∷ drop m xs) (sym is)))
   where

@@ -12,7 +12,7 @@ use Rattle.std.specs.BTreeMap.{BTreeMap, get_by_text, is_at, values, IsOrdered}
 use Rattle.std.specs.declared.cmp.Ordering.TheVariants.{Less}
 use Rattle.std.specs.Ordering.{nat_cmp, is_lt}
 use Rattle.std.specs.Cmp.Lexicographic.{slice_cmp, same_text}
-use Rattle.std.specs.String.{string_eq, string_cmp_total}
+use Rattle.std.specs.String.{string_cmp_total}
 use Rattle.std.proofs.lemmas.Map.Views.{All-found}
 use Rattle.std.proofs.lemmas.Bool.{and_from}
 use Rattle.jt_value.specs.Tree as tree
@@ -35,12 +35,12 @@ alike (entry k t es) (entry l u fs) = bytes_eq k l && (equal t u && alike es fs)
 alike es fs = false
 
 -- Entries that follow an equal key and an equal value are alike exactly if the whole lists are.
-pub alike_behind : {es fs gs hs : Entries} (e f : Pair) → es ≡ entry (string_bytes e.0) (view e.1) gs
-    → fs ≡ entry (string_bytes f.0) (view f.1) hs → false ≡ not (string_eq e.0 f.0) → true ≡ equal (view e.1) (view f.1)
+pub alike_behind : {es fs gs hs : Entries} (e f : Pair) → es ≡ entry e.0 (view e.1) gs
+    → fs ≡ entry f.0 (view f.1) hs → false ≡ not (bytes_eq e.0 f.0) → true ≡ equal (view e.1) (view f.1)
     → alike gs hs ≡ alike es fs
 alike_behind {es} {fs} {gs} {hs} e f first second keys values =
-    sym (ap (λ cs. alike cs fs) first ∙ ap (alike (entry (string_bytes e.0) (view e.1) gs)) second
-    ∙ ap (λ b. b && (equal (view e.1) (view f.1) && alike gs hs)) (same (string_eq e.0 f.0) keys)
+    sym (ap (λ cs. alike cs fs) first ∙ ap (alike (entry e.0 (view e.1) gs)) second
+    ∙ ap (λ b. b && (equal (view e.1) (view f.1) && alike gs hs)) (same (bytes_eq e.0 f.0) keys)
     ∙ ap (λ b. b && alike gs hs) (sym values))
   where
     same : (b : Bool) → false ≡ not b → b ≡ true
@@ -152,15 +152,15 @@ IsFirst xs k p =
 
 first_at : (xs : List Pair) (k : List ℕ) (p : ℕ) → index_of k (entries_view xs) ≡ Some p → IsFirst xs k p
 first_at [] k p h = absurd (true≢false (sym (ap is_some h)))
-first_at (x ∷ xs) k p h = by (bytes_eq (string_bytes x.0) k) refl (index_of k (entries_view xs)) h (first_at xs k)
+first_at (x ∷ xs) k p h = by (bytes_eq x.0 k) refl (index_of k (entries_view xs)) h (first_at xs k)
   where
-    by : (b : Bool) → bytes_eq (string_bytes x.0) k ≡ b → (o : Option ℕ) → cond b (Some 0) (option_map suc o) ≡ Some p
+    by : (b : Bool) → bytes_eq x.0 k ≡ b → (o : Option ℕ) → cond b (Some 0) (option_map suc o) ≡ Some p
         → ((q : ℕ) → o ≡ Some q → IsFirst xs k q) → IsFirst (x ∷ xs) k p
     by true e o h rest =
         let zeroth : 0 ≡ p = cc in
         subst (IsFirst (x ∷ xs) k) zeroth (
           view x.1,
-          λ r. ap (λ n. entry n (view x.1) r) (same_text (string_bytes x.0) k (sym e)),
+          λ r. ap (λ n. entry n (view x.1) r) (same_text x.0 k (sym e)),
           ap (λ b. cond b (Some (view x.1)) (entry_of k (entries_view xs))) e,
         )
     by false e None h rest = absurd (true≢false (sym (ap is_some h)))

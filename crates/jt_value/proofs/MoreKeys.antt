@@ -1,6 +1,6 @@
 -- One more entry, whose key is new: the indices of keys, and ascending keys.
 use Rattle.std.proofs.Common.{◌≡◌, ℕ, zero, suc, ◌+◌, Bool, true, false, cond, List, [], ◌∷◌, length}
-use Rattle.std.proofs.Common.{get_or, Option, Some, None, String, Global, string_bytes, nat_cmp, refl, sym, ap, ◌∙◌}
+use Rattle.std.proofs.Common.{get_or, Option, Some, None, String, Global, nat_cmp, refl, sym, ap, ◌∙◌}
 use Rattle.std.proofs.Common.{true≢false, arith}
 use Rattle.std.specs.Prelude.{option_map, is_some}
 use Rattle.std.specs.Str.{bytes_eq}
@@ -22,7 +22,7 @@ pub index_of-more : (xs : List Pair) (l : List ℕ) (u : Tree) (k : List ℕ) �
     ≡ cond (bytes_eq l k) (Some (length xs)) (index_of k (entries_view xs))
 index_of-more [] l u k new = refl
 index_of-more (x ∷ xs) l u k new =
-    by (bytes_eq (string_bytes x.0) k) refl (bytes_eq l k) refl (index_of-more xs l u k later)
+    by (bytes_eq x.0 k) refl (bytes_eq l k) refl (index_of-more xs l u k later)
   where
     other : (b : Bool) (o : Option ℕ) → cond b (Some 0) (option_map suc o) ≡ None → b ≡ false
     other true o h = absurd (true≢false (ap is_some h))
@@ -34,15 +34,15 @@ index_of-more (x ∷ xs) l u k new =
     rest false (Some p) h = absurd (true≢false (ap is_some h))
 
     later : index_of l (entries_view xs) ≡ None
-    later = rest (bytes_eq (string_bytes x.0) l) (index_of l (entries_view xs)) new
+    later = rest (bytes_eq x.0 l) (index_of l (entries_view xs)) new
 
-    by : (b : Bool) → bytes_eq (string_bytes x.0) k ≡ b → (c : Bool) → bytes_eq l k ≡ c
+    by : (b : Bool) → bytes_eq x.0 k ≡ b → (c : Bool) → bytes_eq l k ≡ c
         → index_of k (more_entries (entries_view xs) l u) ≡ cond c (Some (length xs)) (index_of k (entries_view xs))
         → cond b (Some 0) (option_map suc (index_of k (more_entries (entries_view xs) l u)))
         ≡ cond c (Some (suc (length xs))) (cond b (Some 0) (option_map suc (index_of k (entries_view xs))))
     by true e true d h =
-        absurd (true≢false (sym e ∙ ap (bytes_eq (string_bytes x.0)) (sym (same_text l k (sym d)))
-        ∙ other (bytes_eq (string_bytes x.0) l) (index_of l (entries_view xs)) new))
+        absurd (true≢false (sym e ∙ ap (bytes_eq x.0) (sym (same_text l k (sym d)))
+        ∙ other (bytes_eq x.0 l) (index_of l (entries_view xs)) new))
     by true e false d h = refl
     by false e true d h = ap (option_map suc) h
     by false e false d h = ap (option_map suc) h
@@ -60,18 +60,18 @@ kept_one_more xs l u i old new at free before put k =
 
 -- If keys ascend, they still ascend with a key at the end that follows the last one.
 pub ascends-more : (xs : List Pair) (i : ℕ) (e : Pair) (l : List ℕ) (u : Tree) → length xs ≡ i + 1
-    → e ≡ get_or xs i e → is_lt (slice_cmp nat_cmp (string_bytes e.0) l) ≡ true
+    → e ≡ get_or xs i e → is_lt (slice_cmp nat_cmp e.0 l) ≡ true
     → ascends (entries_view xs) ≡ true → ascends (more_entries (entries_view xs) l u) ≡ true
 ascends-more [] i e l u last is less up = absurd (omega (arith, last))
 ascends-more (x ∷ []) zero e l u last is less up =
-    and_from (is_lt (slice_cmp nat_cmp (string_bytes x.0) l)) true
-    (ap (λ (y : Pair). is_lt (slice_cmp nat_cmp (string_bytes y.0) l)) (sym is) ∙ less) refl
+    and_from (is_lt (slice_cmp nat_cmp x.0 l)) true
+    (ap (λ (y : Pair). is_lt (slice_cmp nat_cmp y.0 l)) (sym is) ∙ less) refl
 ascends-more (x ∷ []) (suc i) e l u last is less up = absurd (omega (arith, last))
 ascends-more (x ∷ y ∷ xs) zero e l u last is less up = absurd (omega (arith, last))
 ascends-more (x ∷ y ∷ xs) (suc i) e l u last is less up =
-    and_from (is_lt (slice_cmp nat_cmp (string_bytes x.0) (string_bytes y.0)))
+    and_from (is_lt (slice_cmp nat_cmp x.0 y.0))
     (ascends (more_entries (entries_view (y ∷ xs)) l u))
-    (left_true (is_lt (slice_cmp nat_cmp (string_bytes x.0) (string_bytes y.0))) (ascends (entries_view (y ∷ xs))) up)
+    (left_true (is_lt (slice_cmp nat_cmp x.0 y.0)) (ascends (entries_view (y ∷ xs))) up)
     (ascends-more (y ∷ xs) i e l u (omega (arith, last)) is less
-    (right_true (is_lt (slice_cmp nat_cmp (string_bytes x.0) (string_bytes y.0))) (ascends (entries_view (y ∷ xs)))
+    (right_true (is_lt (slice_cmp nat_cmp x.0 y.0)) (ascends (entries_view (y ∷ xs)))
     up))

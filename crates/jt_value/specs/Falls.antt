@@ -1,14 +1,14 @@
 -- The items of a list and the values of a map are smaller than it. The models of lists and maps
 -- cite these lemmas.
-use Rattle.std.specs.Prelude.{◌+◌, ◌*◌, ◌≤◌, max, List, [], ◌∷◌, String}
+use Rattle.std.specs.Prelude.{◌+◌, ◌*◌, ◌≤◌, max, List, [], ◌∷◌}
 use Rattle.std.proofs.Common.{arith}
-use Rattle.std.specs.declared.alloc.Global.{Global}
 use denote.Param.Weighed.{most}
 use Rattle.jt_value.specs.Tree.{size, items_size, entries_size}
 use Rattle.jt_value.specs.ListItems.{numbers_of}
 use Rattle.jt_value.specs.Payload.{joined_items}
 use Rattle.jt_value.specs.View.{view, items_view, entries_view}
 use Rattle.jt_value.specs.declared.number_range.NumberRange.{NumberRange}
+use Rattle.jt_value.specs.declared.text.Text.{Text}
 use Rattle.jt_value.specs.declared.value.Value.{Value}
 use Rattle.jt_value.specs.declared.value.Value.TheVariants as value
 use Rattle.jt_value.specs.declared.payload.ValueList.TheDeep.{deep-Value, size-Value}
@@ -28,7 +28,7 @@ pub most-list : (vs : List Value) (range : NumberRange)
 most-list [] range = omega arith
 most-list (v ∷ vs) range = omega (arith, deep_le v, most-list vs range)
 
-pub most-entries : (es : List (String Global × Value))
+pub most-entries : (es : List (Text × Value))
     → max (most (λ e. max 0 (max (deep-Value e.1) 0)) es) 0 ≤ entries_size (entries_view es)
 most-entries [] = omega arith
 most-entries (e ∷ es) = omega (arith, deep_le e.1, most-entries es)
@@ -41,7 +41,7 @@ pub sizes-items : (vs : List Value) → most size-Value vs ≤ 2 * items_size (i
 sizes-items [] = omega arith
 sizes-items (v ∷ vs) = omega (arith, size_le v, sizes-items vs)
 
-pub sizes-entries : (es : List (String Global × Value))
+pub sizes-entries : (es : List (Text × Value))
     → max (most (λ e. max 0 (max (size-Value e.1) 0)) es) 0 ≤ 2 * entries_size (entries_view es) + 1
 sizes-entries [] = omega arith
 sizes-entries (e ∷ es) = omega (arith, size_le e.1, sizes-entries es)

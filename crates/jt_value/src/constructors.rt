@@ -3,17 +3,19 @@ ghost use Rattle.std.specs.Prelude.{◌≡◌, IfOk, option_map, string_bytes};
 ghost use Rattle.jt_value.specs.ListItems.{listed, numbers_of};
 ghost use Rattle.jt_value.specs.Payload.{text_of, items_of_list, entries_of_map};
 ghost use Rattle.jt_value.specs.Tree as tree;
-ghost use Rattle.jt_value.specs.View.{view, items_view, entries_view};
+ghost use Rattle.jt_value.specs.View.{view, items_view, entries_view, text_keyed};
 
+use crate::entries::with_text_keys;
 use crate::fault::NoMemory;
 use crate::list_items::ListItems;
 use crate::number_range::NumberRange;
 use crate::payload::{ValueList, ValueMap};
+use crate::text::Text;
 use crate::value::Value;
 use indexmap::IndexMap;
 use std::alloc::Global;
 use std::hash::BuildHasher;
-use std::rc::{Rc, RcStr};
+use std::rc::Rc;
 
 impl Value {
     /// Returns a plain text.
@@ -24,7 +26,7 @@ impl Value {
     pub fn text(alloc: Global, text: &str) -> Result<Value, NoMemory>
         ensures { IfOk result (λ v. view v ≡ tree.text text.now) }
     {
-        Ok(Value::Text(RcStr::from_str(alloc, text)?))
+        Ok(Value::Text(Text::from_str(alloc, text)?))
     }
 
     /// Returns a markup text: one that is safe to print without escaping.
@@ -35,7 +37,7 @@ impl Value {
     pub fn markup(alloc: Global, text: &str) -> Result<Value, NoMemory>
         ensures { IfOk result (λ v. view v ≡ tree.markup text.now) }
     {
-        Ok(Value::Markup(RcStr::from_str(alloc, text)?))
+        Ok(Value::Markup(Text::from_str(alloc, text)?))
     }
 
     /// Returns a plain text that takes the string without copying it.
@@ -46,7 +48,7 @@ impl Value {
     pub fn from_text(text: String) -> Result<Value, NoMemory>
         ensures { IfOk result (λ v. view v ≡ tree.text (string_bytes text)) }
     {
-        Ok(Value::Text(RcStr::from_string(text)?))
+        Ok(Value::Text(Text::from_string(text)?))
     }
 
     /// Returns a markup text that takes the string without copying it.
@@ -57,7 +59,7 @@ impl Value {
     pub fn from_markup(text: String) -> Result<Value, NoMemory>
         ensures { IfOk result (λ v. view v ≡ tree.markup (string_bytes text)) }
     {
-        Ok(Value::Markup(RcStr::from_string(text)?))
+        Ok(Value::Markup(Text::from_string(text)?))
     }
 
     /// Returns a list that takes the items without copying them.
@@ -88,13 +90,13 @@ impl Value {
     /// # Errors
     ///
     /// `NoMemory` if a growth is refused. The entries are then dropped.
-    pub fn from_entries(alloc: Global, entries: Vec<(String, Value)>) -> Result<Value, NoMemory>
+    pub fn from_entries(alloc: Global, entries: Vec<(Text, Value)>) -> Result<Value, NoMemory>
         ensures { IfOk result (λ v. view v ≡ tree.map (entries_view entries.items)) }
     {
         Ok(Value::Map(Rc::new(alloc, ValueMap::new(alloc, entries)?)?))
     }
 
-    /// Returns a map that takes the entries of an `IndexMap` without copying them, in their order.
+    /// Returns a map of the entries of an `IndexMap`, in their order. No value is copied.
     ///
     /// # Errors
     ///
@@ -103,9 +105,12 @@ impl Value {
         alloc: Global,
         entries: IndexMap<String, Value, S>,
     ) -> Result<Value, NoMemory>
-        ensures { IfOk result (λ v. view v ≡ tree.map (entries_view entries.entries)) }
+        ensures { IfOk result (λ v. view v ≡ tree.map (entries_view (text_keyed entries.entries))) }
     {
-        Value::from_entries(alloc, entries.into_iter().collect(alloc)?)
+        Value::from_entries(
+            alloc,
+            with_text_keys(alloc, entries.into_iter().collect(alloc)?)?,
+        )
     }
 
     /// Returns the characters of a text, plain or markup, or `None` for any other value.
@@ -130,7 +135,7 @@ impl Value {
     }
 
     /// Returns the entries of a map, or `None` for any other value.
-    pub fn as_map(&self) -> Option<&[(String, Value)]>
+    pub fn as_map(&self) -> Option<&[(Text, Value)]>
         ensures { option_map (λ s. entries_view s.now) result ≡ entries_of_map (view self.now) }
     {
         match self {

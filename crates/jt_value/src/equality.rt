@@ -13,6 +13,7 @@ use crate::entries::have_same_keys;
 use crate::list_items::ListItems;
 use crate::number_range::NumberRange;
 use crate::payload::{ValueList, ValueMap};
+use crate::text::Text;
 use crate::value::Value;
 
 impl Value {
@@ -194,7 +195,7 @@ fn differ_in_number(map: &ValueMap, other: &ValueMap) -> bool
 }
 
 /// Returns whether the map is known to have more different keys than `others` are.
-fn has_more_keys(map: &ValueMap, others: &[(String, Value)]) -> bool
+fn has_more_keys(map: &ValueMap, others: &[(Text, Value)]) -> bool
     ensures more { IsTrue result
         → equal (tree.map map.now) (tree.map (entries_view others.now)) ≡ false }
     ensures fewer { IsTrue result
@@ -207,7 +208,7 @@ fn has_more_keys(map: &ValueMap, others: &[(String, Value)]) -> bool
 }
 
 /// Returns whether a map has each key of the entries `others`.
-fn has_all_keys(map: &ValueMap, others: &[(String, Value)]) -> bool
+fn has_all_keys(map: &ValueMap, others: &[(Text, Value)]) -> bool
     ensures { result ≡ all_keys (λ k. has_key k map.now) (entries_view others.now) }
 {
     for other in others {
@@ -221,7 +222,7 @@ fn has_all_keys(map: &ValueMap, others: &[(String, Value)]) -> bool
 /// Returns whether the first value of each key of `map` equals the key's first value in `others`.
 /// The keys at each index are equal, so one pass suffices.
 #[cycle(equality)]
-fn are_values_equal_in_place(map: &ValueMap, others: &[(String, Value)]) -> bool
+fn are_values_equal_in_place(map: &ValueMap, others: &[(Text, Value)]) -> bool
     requires { same_keys map.now (entries_view others.now) ≡ true }
     ensures { result
         ≡ all_keys (λ k. equal_at map.now k (entry_of k (entries_view others.now))) map.now }

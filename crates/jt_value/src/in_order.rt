@@ -1,11 +1,12 @@
 //! Iterates over the entries of a map in byte order of their keys: the first entry of each key.
-ghost use Rattle.std.specs.Prelude.{◌≡◌, ◌<◌, IfSome, MatchOption, string_bytes};
+ghost use Rattle.std.specs.Prelude.{◌≡◌, ◌<◌, IfSome, MatchOption};
 ghost use Rattle.jt_value.specs.internal.InOrder.{to_come, IsInOrder};
 ghost use Rattle.jt_value.specs.KeySearch.{Finds};
 ghost use Rattle.jt_value.specs.Tree.{no_entries, entry, size, entries_size};
 ghost use Rattle.jt_value.specs.View.{view, entries_view};
 
 use crate::key_search::KeySearch;
+use crate::text::Text;
 use crate::value::Value;
 use std::collections::btree_map::Values;
 
@@ -21,14 +22,14 @@ enum Rest<'a> {
 /// An iterator over the first entry of each key of a map, in byte order. It allocates nothing.
 #[derive(Drop)]
 pub(crate) struct InOrder<'a> {
-    entries: &'a [(String, Value)],
+    entries: &'a [(Text, Value)],
     rest: Rest<'a>,
 }
 
 impl<'a> InOrder<'a> {
     /// Returns an iterator that starts at the first key. Returns `None` for a map with few entries,
     /// whose key order is unknown.
-    pub(crate) fn new(entries: &'a [(String, Value)], search: &'a KeySearch) -> Option<InOrder<'a>>
+    pub(crate) fn new(entries: &'a [(Text, Value)], search: &'a KeySearch) -> Option<InOrder<'a>>
         requires { Finds search.now (entries_view entries.now) }
         ensures entries { IfSome result (λ order. order.entries.now ≡ entries.now) }
         ensures in_order { IfSome result
@@ -44,11 +45,11 @@ impl<'a> InOrder<'a> {
 
     /// Returns the next entry. Its value is smaller than the map, so a recursion into it
     /// terminates.
-    pub(crate) fn next(&mut self) -> Option<&'a (String, Value)>
+    pub(crate) fn next(&mut self) -> Option<&'a (Text, Value)>
         ensures entries { self.new.entries ≡ self.old.entries }
         ensures step { MatchOption result (to_come self.old ≡ no_entries)
             (λ e. to_come self.old
-            ≡ entry (string_bytes e.now.0) (view e.now.1) (to_come self.new)) }
+            ≡ entry e.now.0 (view e.now.1) (to_come self.new)) }
         ensures smaller { IfSome result
             (λ e. size (view e.now.1) < entries_size (entries_view self.old.entries.now)) }
     {

@@ -10,6 +10,7 @@ ghost use Rattle.jt_value.specs.internal.InOrder.{HasKeyCount};
 ghost use Rattle.jt_value.specs.internal.MoreEntries.{more_entries, IsLinear};
 
 use crate::entries::{ascend, first_index, stays_ascending};
+use crate::text::Text;
 use crate::value::Value;
 use std::alloc::{AllocError, Global};
 use std::collections::BTreeMap;
@@ -32,7 +33,7 @@ pub(crate) enum KeySearch {
 impl KeySearch {
     /// Returns the search for these entries. Allocates only if they are many and their keys do not
     /// ascend.
-    pub(crate) fn new(alloc: Global, entries: &[(String, Value)]) -> Result<KeySearch, AllocError>
+    pub(crate) fn new(alloc: Global, entries: &[(Text, Value)]) -> Result<KeySearch, AllocError>
         ensures { IfOk result (λ search. Finds search (entries_view entries.now)) }
     {
         if entries.len() <= FEW {
@@ -45,7 +46,7 @@ impl KeySearch {
     }
 
     /// Returns the index of a key's first entry, or `None` if the key does not occur.
-    pub(crate) fn index_of(&self, entries: &[(String, Value)], key: &str) -> Option<usize>
+    pub(crate) fn index_of(&self, entries: &[(Text, Value)], key: &str) -> Option<usize>
         requires { Finds self.now (entries_view entries.now) }
         ensures { result ≡ index_of key.now (entries_view entries.now) }
     {
@@ -57,7 +58,7 @@ impl KeySearch {
     }
 
     /// Returns the first value of a key, or `None` if the key does not occur.
-    pub(crate) fn get<'a>(&self, entries: &'a [(String, Value)], key: &str) -> Option<&'a Value>
+    pub(crate) fn get<'a>(&self, entries: &'a [(Text, Value)], key: &str) -> Option<&'a Value>
         requires { Finds self.now (entries_view entries.now) }
         ensures { option_map view (option_copied result)
             ≡ entry_of key.now (entries_view entries.now) }
@@ -69,7 +70,7 @@ impl KeySearch {
     }
 
     /// Returns the number of different keys, or `None` if a linear search serves the entries.
-    pub(crate) fn key_count(&self, entries: &[(String, Value)]) -> Option<usize>
+    pub(crate) fn key_count(&self, entries: &[(Text, Value)]) -> Option<usize>
         requires { Finds self.now (entries_view entries.now) }
         ensures { IfSome result (λ count. HasKeyCount count (entries_view entries.now)) }
     {
@@ -84,7 +85,7 @@ impl KeySearch {
     pub(crate) fn add(
         &mut self,
         alloc: Global,
-        entries: &[(String, Value)],
+        entries: &[(Text, Value)],
         key: &str,
     ) -> Result<(), AllocError>
         requires finds { Finds self.old (entries_view entries.now) }
@@ -107,7 +108,7 @@ impl KeySearch {
 /// Returns the search for the entries and one more, whose key is new.
 fn longer_search(
     alloc: Global,
-    entries: &[(String, Value)],
+    entries: &[(Text, Value)],
     key: &str,
 ) -> Result<KeySearch, AllocError>
     requires { index_of key.now (entries_view entries.now) ≡ None }
@@ -126,7 +127,7 @@ fn longer_search(
 fn add_index(
     indices: &mut BTreeMap<String, usize>,
     alloc: Global,
-    entries: &[(String, Value)],
+    entries: &[(Text, Value)],
     key: &str,
 ) -> Result<(), AllocError>
     requires finds { (k : List ℕ)
@@ -147,7 +148,7 @@ fn add_index(
 /// so the first entry of a repeated key overwrites the later ones.
 fn first_indices(
     alloc: Global,
-    entries: &[(String, Value)],
+    entries: &[(Text, Value)],
 ) -> Result<BTreeMap<String, usize>, AllocError>
     ensures { IfOk result (λ indices. (k : List ℕ)
         → get_by_text indices k ≡ index_of k (entries_view entries.now)) }
@@ -156,13 +157,14 @@ fn first_indices(
     let mut left = entries.len();
     while left > 0 {
         left -= 1;
-        let _behind = indices.insert(entries[left].0.clone()?, left)?;
+        let name = String::from_str(alloc, entries[left].0.as_str())?;
+        let _behind = indices.insert(name, left)?;
     }
     Ok(indices)
 }
 
 /// Returns the index of a key in entries whose keys ascend, or `None` if the key does not occur.
-fn ascending_index(entries: &[(String, Value)], key: &str) -> Option<usize>
+fn ascending_index(entries: &[(Text, Value)], key: &str) -> Option<usize>
     requires { ascends (entries_view entries.now) ≡ true }
     ensures { result ≡ index_of key.now (entries_view entries.now) }
 {

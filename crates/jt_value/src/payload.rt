@@ -15,6 +15,7 @@ use crate::in_order::InOrder;
 use crate::key_search::KeySearch;
 use crate::list_items::ListItems;
 use crate::number_range::NumberRange;
+use crate::text::Text;
 use crate::value::Value;
 use std::alloc::{AllocError, Global};
 use std::marker::Model;
@@ -35,7 +36,7 @@ pub struct ValueList {
 #[cycle(value)]
 #[derive(Drop)]
 pub struct ValueMap {
-    entries: Vec<(String, Value)>,
+    entries: Vec<(Text, Value)>,
     search: KeySearch,
     size: u64,
     nesting: u32,
@@ -251,7 +252,7 @@ impl Clone for ValueList {
 
 impl ValueMap {
     /// Returns the map of the entries.
-    pub(crate) fn new(alloc: Global, entries: Vec<(String, Value)>) -> Result<ValueMap, AllocError>
+    pub(crate) fn new(alloc: Global, entries: Vec<(Text, Value)>) -> Result<ValueMap, AllocError>
         ensures { IfOk result (λ map. map ≡ entries_view entries.items) }
     {
         let search = KeySearch::new(alloc, &entries)?;
@@ -273,7 +274,7 @@ impl ValueMap {
     }
 
     /// Returns the entries.
-    pub fn entries(&self) -> &[(String, Value)]
+    pub fn entries(&self) -> &[(Text, Value)]
         ensures { entries_view result.now ≡ self.now }
     {
         self.entries.as_slice()

@@ -2,7 +2,7 @@
 
 use indexmap::IndexMap;
 use jt_ops::{Limits, OpId, binary, binary_owned, range};
-use jt_value::{Context, Fault, ListItems, NoMemory, Value, ValueError};
+use jt_value::{Context, Fault, ListItems, NoMemory, Text, Value, ValueError};
 use std::alloc::Global;
 use std::test::Fail;
 
@@ -31,7 +31,7 @@ fn values_print(rt: HostRuntime) -> Result<(), Fail> {
 
 /// Adds a number to a context and returns whether that succeeded.
 fn is_added(alloc: Global, context: &mut Context, name: &str, number: i64) -> bool {
-    match String::from_str(alloc, name) {
+    match Text::from_str(alloc, name) {
         Ok(name) => context.insert(name, Value::Int(number)).is_ok(),
         Err(_) => false,
     }
@@ -54,7 +54,7 @@ fn a_name_keeps_its_last_value(rt: HostRuntime) {
 }
 
 /// Returns the keys of entries in their order, each followed by a space.
-fn keys_of(alloc: Global, entries: &[(String, Value)]) -> Result<String, Fail> {
+fn keys_of(alloc: Global, entries: &[(Text, Value)]) -> Result<String, Fail> {
     let mut keys = String::new(alloc);
     for entry in entries {
         keys.push_str(entry.0.as_str())?;
@@ -179,11 +179,10 @@ fn a_range_takes_another_item(rt: HostRuntime) -> Result<(), Fail> {
     };
     let numbers = range(alloc, &[Value::Int(2)], limits)?;
     let sum = binary_owned(alloc, OpId::Add, numbers, list_of(alloc, 7)?, limits)?;
-    let [zero, one, seven] = [Value::Int(0), Value::Int(1), Value::Int(7)];
     let mut items = Vec::new(alloc);
-    items.push(zero)?;
-    items.push(one)?;
-    items.push(seven)?;
+    for number in [0, 1, 7] {
+        items.push(Value::Int(number))?;
+    }
     assert!(rt; sum.equals(&Value::list(alloc, items)?));
     Ok(())
 }

@@ -6,3 +6,5 @@
 mod calls;
 #[cfg(test)]
 mod maps;
+#[cfg(test)]
+mod texts;

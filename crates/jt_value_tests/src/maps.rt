@@ -1,17 +1,18 @@
 //! Tests maps with many keys: equality in different orders, and lookup by key.
 
-use jt_value::Value;
+use jt_value::{Text, Value};
 use std::alloc::Global;
 use std::test::Fail;
 
 /// Returns an entry whose key is the number in decimal.
-fn entry_of(alloc: Global, number: u32, value: i64) -> Result<(String, Value), Fail> {
-    Ok((format!(in alloc; "{number}")?, Value::Int(value)))
+fn entry_of(alloc: Global, number: u32, value: i64) -> Result<(Text, Value), Fail> {
+    let key = Text::from_string(format!(in alloc; "{number}")?)?;
+    Ok((key, Value::Int(value)))
 }
 
 /// Returns twenty entries whose keys are the numbers from 10 to 29, each with its number as the
 /// value. The keys advance by `step`, modulo 20.
-fn entries_of(alloc: Global, step: u8) -> Result<Vec<(String, Value)>, Fail> {
+fn entries_of(alloc: Global, step: u8) -> Result<Vec<(Text, Value)>, Fail> {
     let mut entries = Vec::new(alloc);
     for turn in 0..20u8 {
         let number = 10 + turn as u32 * step as u32 % 20;

@@ -30,7 +30,7 @@ use Rattle.jt_bind.specs.declared.resolver.Arguments.{Arguments}
 use Rattle.jt_bind.specs.declared.resolver.Resolver.{Resolver}
 use Rattle.jt_bind.specs.internal.Scoped.{values, IsAdded, PutsNone, RowLeads, cenv_in, order_in, senv_in, templates_in}
 use Rattle.jt_bind.specs.internal.Scoped.{expr_in, row_in, asides_in, entries_in, filter_row_in, filtered_in}
-use Rattle.jt_bind.specs.internal.Stated.{IsBody, IsBranch, AreTurns, Puts, BodyLed, line_in, stmt_in, body_in}
+use Rattle.jt_bind.specs.internal.Stated.{IsBranch, AreTurns, line_in, stmt_in, body_in}
 use Rattle.jt_bind.specs.internal.Stated.{scoped_in, layer_at, values_in, condition_in}
 
 -- A part of a list is appended, and its values to a pool; the part `left` remains.
@@ -122,18 +122,14 @@ module _ (r : Resolver) where
   super_of =
       resolve.invoked_super (cenv_in r.tables.now) (order_in r.tables.now) senv_of senv_of.part
 
-  abbrev pub filtered_of : Option ℕ → slots.SlotExpr Constant → expressions.Exprs
-      → expressions.Pairs → slots.SlotExpr Constant
-  filtered_of f c ts ps = filtered_in r.tables.now f c ts ps r.senv
-
   abbrev pub filter_row_of : Option ℕ → expressions.Exprs → expressions.Pairs → SRow Constant
   filter_row_of f ts ps = filter_row_in r.tables.now f ts ps r.senv
 
   -- One filter of a filter tag, and all of them.
   abbrev pub filter_call_of : trees.FilterCall → slots.SlotExpr Constant → slots.SlotExpr Constant
   filter_call_of f c =
-      filtered_of ((cenv_in r.tables.now).filters.named f.name f.arguments f.keywords) c
-      f.arguments f.keywords
+      filtered_in r.tables.now ((cenv_in r.tables.now).filters.named f.name f.arguments f.keywords) c
+      f.arguments f.keywords r.senv
 
   abbrev pub filter_calls_of : List trees.FilterCall → slots.SlotExpr Constant
       → slots.SlotExpr Constant
@@ -176,11 +172,6 @@ module _ (r : Resolver) where
   abbrev pub values_of : expressions.Pairs → ℕ → SBody Constant → SBody Constant
   values_of ps line behind = values_in r.tables.now ps r.senv line behind
 
-  -- The statements of a body, and the values that they append to a pool.
-  abbrev pub BodyIs : SBody Constant → Vec SlotStmt Global → Vec Value Global → Vec Value Global
-      → Type 0
-  BodyIs whole made old new = IsBody templates_of whole made.items (values old) (values new)
-
   -- A branch of an `if`.
   abbrev pub BranchIs : Branch Stmt → SlotBranch SlotStmt → Vec Value Global → Vec Value Global
       → Type 0
@@ -194,18 +185,3 @@ module _ (r : Resolver) where
   TurnsAre xs e k b made old new =
       AreTurns r.tables.now (resolve.fresh_targets r.senv.free xs) (expr_of e)
       (condition_of k (inside_of xs)) (scoped_of b (inside_of xs)) made (values old) (values new)
-
-  -- All statements of a body are appended, and its values to a pool.
-  abbrev pub BodyAdds : SBody Constant → Vec SlotStmt Global → Vec SlotStmt Global
-      → Vec Value Global → Vec Value Global → Type 0
-  BodyAdds whole before after old new = BodyLed r.tables.now whole before after old new
-
-  -- The resolved statement is appended, and its values to a pool.
-  abbrev pub StmtAdds : trees.Stmt → Vec SlotStmt Global → Vec SlotStmt Global → Vec Value Global
-      → Vec Value Global → Type 0
-  StmtAdds t before after old new = BodyAdds (stmt_of t) before after old new
-
-  -- The resolved statement is appended, and its values to a list.
-  abbrev pub StmtLeads : trees.Stmt → Vec SlotStmt Global → Vec SlotStmt Global → List Tree
-      → List Tree → Type 0
-  StmtLeads t before after p q = Puts r.tables.now (stmt_of t) before after p q

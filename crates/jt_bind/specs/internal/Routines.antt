@@ -38,13 +38,6 @@ pub record RoutinesLead (templates : List Text) (whole left : List (slots.Routin
       ≡ map (routine_view templates) before ++ placed_routines whole (length old)
   pub pooled : new ++ routines_values left ≡ old ++ routines_values whole
 
--- All of these routines are appended, whatever follows them.
-abbrev pub AllLed : List Text → List (slots.Routine Constant) → List Routine → List Routine
-    → List Tree → List Tree → Type 0
-AllLed templates cs before after old new =
-    (left : List (slots.Routine Constant))
-    → RoutinesLead templates (cs ++ left) left before after old new
-
 module _ (s : Chains) where
   -- The routine of a chain, which a library lacks; the routines of macros; the routines of the
   -- bodies of blocks; and all of them.
@@ -68,15 +61,3 @@ module _ (s : Chains) where
   abbrev pub RoutineIs : slots.Routine Constant → Routine → Vec Value Global → Vec Value Global
       → Type 0
   RoutineIs c r old new = IsRoutine (templates_in s) c r (values old) (values new)
-
-  -- Routines of a chain or a library are appended, whatever follows them.
-  abbrev pub PutsAll : List (slots.Routine Constant) → Vec Routine Global → Vec Routine Global
-      → Vec Value Global → Vec Value Global → Type 0
-  PutsAll cs before after old new =
-      AllLed (templates_in s) cs before.items after.items (values old) (values new)
-
-  -- Routines are appended to others, and their values to a pool.
-  abbrev pub AddsAll : List (slots.Routine Constant) → Vec Routine Global → Vec Routine Global
-      → Vec Value Global → Vec Value Global → Type 0
-  AddsAll cs before after old new =
-      AreRoutines (templates_in s) cs before.items after.items (values old) (values new)

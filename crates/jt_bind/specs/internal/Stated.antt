@@ -19,6 +19,7 @@ use Rattle.jt_ir.specs.Pool.{Constant, condition_values, body_values, placed_con
 use Rattle.jt_ir.specs.Slots as slots
 use Rattle.jt_ir.specs.Slots.{SBody}
 use Rattle.jt_ir.specs.View.{Front, place_view, targets_view, expr_view, choice_view}
+use Rattle.jt_ir.specs.declared.program.Place.{Place}
 use Rattle.jt_ir.specs.declared.program.SlotExpr.{SlotExpr}
 use Rattle.jt_ir.specs.declared.program.SlotBranch.{SlotBranch}
 use Rattle.jt_ir.specs.declared.program.SlotStmt.{SlotStmt}
@@ -33,15 +34,12 @@ use Rattle.jt_bind.specs.internal.Scoped.{templates_in}
 
 -- ---- the values at the end of a pool that grows from one list of values to another
 
--- All statements of a body are appended, whatever follows them.
-abbrev pub Led : List Text → SBody Constant → List SlotStmt → List SlotStmt → List Tree → List Tree
-    → Type 0
-Led templates whole before after old new =
+-- The statements `whole` are emitted: `after` is `before` followed by them, and the pool grows by
+-- their values, whatever is left to come after them.
+abbrev pub Emits : List Text → SBody Constant → List SlotStmt → List SlotStmt → List Tree
+    → List Tree → Type 0
+Emits templates whole before after old new =
     (left : SBody Constant) → BodyLeads templates (followed whole left) left before after old new
-
--- The statements of a body.
-abbrev pub IsBody : List Text → SBody Constant → List SlotStmt → List Tree → List Tree → Type 0
-IsBody templates whole = Led templates whole []
 
 -- A condition, if there is one.
 pub record IsAsked (k : Option (slots.SlotExpr Constant)) (condition : Option SlotExpr) (old new : List Tree) : Type
@@ -69,7 +67,7 @@ pub record IsBranch (templates : List Text) (at : place.Place) (c : slots.SlotEx
   pub between : List Tree
   pub stands : place_view templates b.place ≡ at
   pub asked : IsPlaced c (expr_view b.condition) old between
-  pub taken : IsBody templates whole b.body.items between new
+  pub taken : Emits templates whole [] b.body.items between new
 
 -- Branches are resolved; of the `if`, only the `else` part remains.
 pub record ChoiceLeads (templates : List Text) (whole other : SBody Constant) (branches : List (SlotBranch SlotStmt))
@@ -84,6 +82,10 @@ abbrev pub slot_if : Option ℕ → ℕ → Option slots.Slot → Option slots.S
 slot_if None i s = None
 slot_if (Some j) i s = if j == i then s else None
 
+-- The place of a tag in the code.
+abbrev pub place_of : StaticEnv → ℕ → Place
+place_of p line = record { template = p.template; line = line }
+
 -- ---- the parts of a chain
 
 module _ (s : Chains) where
@@ -92,16 +94,6 @@ module _ (s : Chains) where
 
   abbrev pub stmt_in : trees.Stmt → StaticEnv → SBody Constant
   stmt_in t p = resolve.resolved_stmt (cenv_in s) (order_in s) t (senv_in s p)
-
-  -- All statements of a body are appended to others.
-  abbrev pub Puts : SBody Constant → Vec SlotStmt Global → Vec SlotStmt Global → List Tree
-      → List Tree → Type 0
-  Puts whole before after old new = Led (templates_in s) whole before.items after.items old new
-
-  -- All statements of a body are appended to others, and its values to a pool.
-  abbrev pub BodyLed : SBody Constant → Vec SlotStmt Global → Vec SlotStmt Global → Vec Value Global
-      → Vec Value Global → Type 0
-  BodyLed whole before after old new = Puts whole before after (values old) (values new)
 
   abbrev pub condition_in : Option expressions.Expr → resolve.StaticEnv
       → Option (slots.SlotExpr Constant)
@@ -144,4 +136,4 @@ module _ (s : Chains) where
       (whole : SBody Constant) (t : Turns) (old new : List Tree) : Type 0 where
     pub between : List Tree
     pub headed : IsHead xs c k t.head.value old between
-    pub taken : IsBody (templates_in s) whole t.body.items between new
+    pub taken : Emits (templates_in s) whole [] t.body.items between new

@@ -1,6 +1,5 @@
 -- The values that tokens spell, read in order. Only private clauses cite this.
-use Rattle.std.specs.Prelude.{◌≡◌, ℕ, List, length, Some, String}
-use Rattle.std.specs.declared.alloc.Global.{Global}
+use Rattle.std.specs.Prelude.{◌≡◌, ℕ, List, length, Some}
 use Rattle.json.specs.Token.{Token}
 use Rattle.json.specs.Json.{value, items, members}
 use Rattle.serde_json.specs.Data.{Data, Items, Members, no_members}
@@ -8,6 +7,7 @@ use Rattle.serde_json.specs.Read.{of_json, of_items, of_members, converted}
 use Rattle.jt_value.specs.Tree.{Tree}
 use Rattle.jt_value.specs.Pairs.{pairs}
 use Rattle.jt_value.specs.View.{items_view}
+use Rattle.jt_value.specs.declared.text.Text.{Text}
 use Rattle.jt_value.specs.declared.value.Value.{Value}
 use Rattle.jt_contexts.specs.Json.{value_of, items_of, pairs_in}
 
@@ -28,7 +28,7 @@ pub record SpellsItems (depth : ℕ) (ts : List Token) (vs : List Value) (rest :
 
 -- The tokens begin with members of an object, up to its end, with the values `es`; `rest` follows
 -- them.
-pub record SpellsMembers (depth : ℕ) (ts : List Token) (es : List (String Global × Value)) (rest : List Token) : Type
+pub record SpellsMembers (depth : ℕ) (ts : List Token) (es : List (Text × Value)) (rest : List Token) : Type
     0 where
   pub spelt : Members
   pub read :

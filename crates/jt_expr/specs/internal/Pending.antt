@@ -1,8 +1,11 @@
 -- The precedence levels, the forms that wait for a tree, and the moves of a reader. Only private
 -- clauses cite this module.
 use Rattle.std.specs.Prelude.{◌≡◌, ◌<◌, ◌≤◌, ℕ, suc, ◌+◌, Bool, List, [], ◌∷◌, Option, option_map, string_bytes, Result}
-use Rattle.std.specs.Prelude.{Ok, Err, encode_utf8_all}
+use Rattle.std.specs.Prelude.{Ok, Err, encode_utf8_all, codes, bytes_eq, if◌then◌else◌}
 use Rattle.std.specs.Str.{chars}
+use Rattle.jt_scan.specs.declared.segment.Sign.{Sign}
+use Rattle.jt_scan.specs.declared.segment.Sign.TheVariants as s
+use Rattle.jt_scan.specs.Cut as cut
 use Rattle.jt_ast.specs.declared.expression.UnaryOperator.{UnaryOperator}
 use Rattle.jt_ast.specs.declared.expression.UnaryOperator.TheVariants as u
 use Rattle.jt_ast.specs.declared.expression.BinaryOperator.{BinaryOperator}
@@ -56,6 +59,52 @@ looser inversion = conjunction
 looser conjunction = disjunction
 looser disjunction = whole
 looser whole = whole
+
+-- The level of the forms that a sign after a tree continues, or `whole` if it continues none.
+abbrev pub sign_level : Sign → Level
+sign_level s.Dot = postfix
+sign_level s.LeftBracket = postfix
+sign_level s.LeftParen = postfix
+sign_level s.Pipe = postscript
+sign_level s.Power = power
+sign_level s.Times = product
+sign_level s.FloorDivide = product
+sign_level s.Percent = product
+sign_level s.Tilde = concatenation
+sign_level s.Plus = sum
+sign_level s.Minus = sum
+sign_level s.Equal = comparison
+sign_level s.NotEqual = comparison
+sign_level s.Less = comparison
+sign_level s.LessEqual = comparison
+sign_level s.Greater = comparison
+sign_level s.GreaterEqual = comparison
+sign_level _ = whole
+
+-- The level of the forms that a word after a tree continues, or `whole` if it continues none.
+abbrev pub word_level : Text → Level
+word_level x =
+    if bytes_eq x (codes "is") then postscript
+    else if bytes_eq x (codes "in") then comparison
+    else if bytes_eq x (codes "not") then comparison
+    else if bytes_eq x (codes "and") then conjunction
+    else if bytes_eq x (codes "or") then disjunction
+    else whole
+
+-- The tightest level whose forms the first token may continue. No token continues a tighter one.
+abbrev pub joined : Tokens → Level
+joined [] = whole
+joined (cut.name x ∷ ts) = word_level x
+joined (cut.number n ∷ ts) = whole
+joined (cut.text v ∷ ts) = whole
+joined (cut.sign k ∷ ts) = sign_level k
+
+-- The level n is looser than k and not looser than the goal. A level between k and n is tighter than
+-- the one that the next token continues.
+pub record Leads (k continued goal n : Level) : Type 0 where
+  pub past : rank k < rank n
+  pub within : rank n ≤ rank goal
+  pub between : suc (rank k) < rank n → rank n ≤ rank continued
 
 abbrev pub level_view : CodeLevel → Level
 level_view v.Postfix = postfix

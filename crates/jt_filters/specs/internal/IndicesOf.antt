@@ -1,33 +1,23 @@
--- Definitions for the contracts of private functions: the indices of a list's items, by number or code.
-use Rattle.std.specs.Prelude.{◌≡◌, ℕ, ℤ, true, List, Option, Some, None, Vec}
+-- Definitions for the contracts of private functions: the indices of a list's items by their codes.
+use Rattle.std.specs.Prelude.{◌≡◌, ℕ, true, List, Option, None, Vec}
 use Rattle.std.specs.declared.alloc.Global.{Global}
-use Rattle.std.specs.BTreeMap.{BTreeMap, get, get_by}
+use Rattle.std.specs.BTreeMap.{BTreeMap, get_by}
 use Rattle.std.specs.Cmp.Lexicographic.{slice_cmp}
 use Rattle.std.specs.Option.{IsSome}
-use Rattle.std.specs.Ordering.{int_cmp, nat_cmp}
+use Rattle.std.specs.Ordering.{nat_cmp}
 use Rattle.jt_value.specs.Tree.{Tree, Items}
 use Rattle.jt_op_semantics.specs.Membership.{has_item}
-use Rattle.jt_filters.specs.declared.members.Indices.{Indices}
 use Rattle.jt_filters.specs.internal.Codes.{code}
 use Rattle.jt_filters.specs.internal.Seen.{number_like}
-
--- The index that is stored for a number.
-abbrev pub at_number : BTreeMap ℤ ℕ → ℤ → Option ℕ
-at_number m z = get int_cmp m z
 
 -- The index that is stored for a code.
 abbrev pub at_code : BTreeMap (Vec ℕ Global) ℕ → List ℕ → Option ℕ
 at_code m c = get_by (λ k. slice_cmp nat_cmp c k.items) m
 
--- The index that is stored for a number, or for a code if there is no number.
-abbrev pub index_by : Indices → Option ℤ → List ℕ → Option ℕ
-index_by p (Some z) c = at_number p.numbers z
-index_by p None c = at_code p.codes c
+-- Holds if a value that equals no number has an index.
+abbrev pub HasIndex : BTreeMap (Vec ℕ Global) ℕ → Tree → Type 0
+HasIndex m t = number_like t ≡ None → IsSome (at_code m (code t))
 
--- The index that is stored for what a value equals.
-abbrev pub index : Indices → Tree → Option ℕ
-index p t = index_by p (number_like t) (code t)
-
--- Indices cover some items if a value that equals one of the items has an index.
-abbrev pub Covers : Indices → Items → Type 0
-Covers p ts = (t : Tree) → has_item t ts ≡ true → IsSome (index p t)
+-- Indices cover some items if a value that equals one of the items, and no number, has an index.
+abbrev pub Covers : BTreeMap (Vec ℕ Global) ℕ → Items → Type 0
+Covers m ts = (t : Tree) → has_item t ts ≡ true → HasIndex m t

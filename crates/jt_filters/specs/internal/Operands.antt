@@ -1,6 +1,6 @@
 -- Definitions for the contracts of private functions: operands, and the results of calls on them.
-use Rattle.std.specs.Prelude.{◌≡◌, ℕ, zero, suc, List, ◌∷◌, map, length, Bool, IfOk, ◌+◌, ℤ, ◌-◌, ◌^◌, min, true, false}
-use Rattle.std.specs.Prelude.{Option, Some, None, Result, Ok, Err}
+use Rattle.std.specs.Prelude.{◌≡◌, ℕ, zero, suc, List, [], ◌∷◌, map, length, Bool, IfOk, ◌+◌, ℤ, ◌-◌, ◌^◌, min, true}
+use Rattle.std.specs.Prelude.{false, Option, Some, None, Result, Ok, Err}
 use Rattle.std.specs.Str.{chars}
 use Rattle.jt_value.specs.Iteration.{character_items, key_items}
 use Rattle.jt_value.specs.ListItems.{numbers_of}
@@ -16,9 +16,8 @@ use Rattle.jt_value.specs.declared.fault.ValueError.{ValueError}
 use Rattle.jt_value.specs.declared.fault.ValueError.TheVariants as error
 use Rattle.jt_value.specs.declared.value.Value.{Value}
 use Rattle.jt_value.specs.Tree.{no_items, item}
-use Rattle.jt_filter_semantics.specs.Listing.{on_items, joined_by}
-use Rattle.jt_filter_semantics.specs.Filtering.{filtered}
-use Rattle.jt_filters.specs.declared.filters.Application.{Application}
+use Rattle.jt_ops.specs.Limited.{limited_by}
+use Rattle.jt_ops.specs.declared.limits.Limits.{Limits}
 use Rattle.jt_filters.specs.declared.operand.Operand.{Operand}
 use Rattle.jt_filters.specs.declared.operand.Operand.TheVariants as operand
 use Rattle.jt_filters.specs.declared.item_list.ItemList.{ItemList}
@@ -30,11 +29,17 @@ tree_of (operand.Number n) = tree.number n
 tree_of (operand.Text s) = tree.text s.now
 tree_of (operand.Value v) = view v.now
 
+-- Operands as items.
+abbrev pub operand_items : List Operand → Items
+operand_items [] = no_items
+operand_items (o ∷ os) = item (tree_of o) (operand_items os)
+
 abbrev pub items_in : ItemList → Items
 items_in (item_list.Values vs) = items_view vs.now
 items_in (item_list.Numbers range) = numbers_of range
 items_in (item_list.Characters s) = character_items (chars s.now)
 items_in (item_list.Keys es) = key_items (entries_view es.now)
+items_in (item_list.Operands os) = operand_items os.now
 
 -- True if there is a second item.
 abbrev pub has_second : Items → Bool
@@ -61,6 +66,15 @@ abbrev pub measured : Result Tree Fault → Result (ℕ × ℕ) Fault
 measured (Ok t) = Ok (min (tree.size t) (2 ^ 64 - 1), min (tree.nesting t) (2 ^ 32 - 1))
 measured (Err e) = Err e
 
+-- Holds if P holds of each result with this measure.
+abbrev pub OfMeasured : Result (ℕ × ℕ) Fault → (Result Tree Fault → Type 0) → Type 0
+OfMeasured measure P = (wanted : Result Tree Fault) → measure ≡ measured wanted → P wanted
+
+-- Holds if the limits allow a result.
+abbrev pub IsAllowed : Limits → Result Tree Fault → Type 0
+IsAllowed limits (Ok t) = limited_by limits (Ok t) ≡ Ok t
+IsAllowed limits (Err e) = ⊥
+
 -- The value of an operand, or the fault.
 abbrev pub chosen : Result Operand Fault → Result Tree Fault
 chosen (Ok o) = Ok (tree_of o)
@@ -69,10 +83,6 @@ chosen (Err e) = Err e
 -- A filter's input followed by its arguments.
 abbrev pub inputs : Operand → List Value → List Tree
 inputs o vs = tree_of o ∷ map view vs
-
--- The result of filter `join` on an operand and a separator.
-abbrev pub joining : Bool → Operand → Operand → Result Tree Fault
-joining autoescape separator o = on_items (joined_by autoescape (tree_of separator)) (tree_of o)
 
 -- Holds if the call returned the list of the items, unless memory was refused.
 abbrev pub Lists : Items → Result Value NoMemory → Type 0
@@ -128,7 +138,3 @@ Builds wanted (Err error.NoMemory) = HasPayload wanted
 abbrev pub HasItems : Result Items Fault → Result ItemList Fault → Type 0
 HasItems wanted (Ok found) = wanted ≡ Ok (items_in found)
 HasItems wanted (Err f) = wanted ≡ Err f
-
--- The result of an application.
-abbrev pub given : Application → Result Tree Fault
-given a = filtered a.filter a.autoescape (inputs a.operand a.arguments.now)

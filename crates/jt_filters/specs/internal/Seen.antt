@@ -1,5 +1,5 @@
 -- Definitions for the contracts of private functions: the items that filter `unique` has seen.
-use Rattle.std.specs.Prelude.{◌≡◌, ℕ, ℤ, ◌+◌, Bool, true, List, [], ◌∷◌, Option, Some, None, Vec}
+use Rattle.std.specs.Prelude.{◌≡◌, ℕ, ℤ, ◌+◌, Bool, true, List, Option, Some, None, Vec}
 use Rattle.std.specs.declared.alloc.Global.{Global}
 use Rattle.std.specs.BTreeMap.{BTreeMap, get_by}
 use Rattle.std.specs.Cmp.Lexicographic.{slice_cmp}
@@ -7,7 +7,7 @@ use Rattle.std.specs.Option.{IsSome, IfSome}
 use Rattle.std.specs.Ordering.{nat_cmp}
 use Rattle.jt_value.specs.Equality.{truth_number}
 use Rattle.jt_value.specs.Payload.{joined_items}
-use Rattle.jt_value.specs.Tree.{Tree, truth_value, number, Items, no_items, item}
+use Rattle.jt_value.specs.Tree.{Tree, truth_value, number, Items, item}
 use Rattle.jt_filters.specs.declared.unique.SeenKeys.{SeenKeys}
 use Rattle.jt_filters.specs.declared.operand.Operand.{Operand}
 use Rattle.jt_filters.specs.internal.Codes.{item_code}
@@ -15,11 +15,6 @@ use Rattle.jt_filters.specs.declared.seen_numbers.SeenNumbers.{SeenNumbers}
 use Rattle.jt_filters.specs.internal.Operands.{tree_of, front}
 use Rattle.jt_filters.specs.internal.NumberEntries.{was_seen}
 use Rattle.jt_filter_semantics.specs.Ordering.{alike, has_alike, unseen}
-
--- Operands as items.
-abbrev pub operand_items : List Operand → Items
-operand_items [] = no_items
-operand_items (o ∷ os) = item (tree_of o) (operand_items os)
 
 -- The item that is stored for a code.
 abbrev pub found : BTreeMap (Vec ℕ Global) Operand → List ℕ → Option Operand

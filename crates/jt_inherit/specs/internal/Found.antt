@@ -1,28 +1,28 @@
 -- The invariants of the search for chains and libraries. They concern includes and imports, and the
 -- chains and libraries that were followed. Only private clauses cite this module.
-use Rattle.std.specs.Prelude.{◌≡◌, ℕ, ◌<◌, ◌≤◌, ◌⊎◌, true, false, Bool, IsTrue, List, [], ◌∷◌, ◌++◌, ◌||◌, length, map}
+use Rattle.std.specs.Prelude.{◌≡◌, ℕ, ◌<◌, ◌≤◌, ◌⊎◌, false, Bool, IsTrue, List, [], ◌∷◌, ◌++◌, ◌||◌, length, map}
 use Rattle.std.specs.Prelude.{filter, slice_get, Some, None}
 use Rattle.std.specs.List.{AllByRecursion}
-use Rattle.jt_graph.specs.Graph.{next_of}
+use Rattle.jt_graph.specs.Graph.{IsClosed, next_of}
 use Rattle.jt_graph.specs.View.{graph_of}
 use Rattle.jt_ast.specs.Texts.{among, repeated}
 use Rattle.jt_ast.specs.Expressions.{Text}
 use Rattle.jt_scan.specs.declared.options.Options.{Options}
-use Rattle.jt_chains.specs.Along.{templates_at}
+use Rattle.jt_chains.specs.Along.{AreIndices, templates_at}
 use Rattle.jt_inherit.specs.internal.Along.{needs_along, needs_of}
 use Rattle.jt_chains.specs.Chain as chain
 use Rattle.jt_chains.specs.Chain.{Template, a_chain, a_library, namespace_name, listed, sources_in}
 use Rattle.jt_inherit.specs.Chains.{SourceTexts}
 use Rattle.jt_inherit.specs.Findings.{IsNoMemory}
 use Rattle.jt_inherit.specs.internal.Faults.{IsFaultOf}
-use Rattle.jt_inherit.specs.internal.RuleTests.{BreakOne, KeepAll}
+use Rattle.jt_inherit.specs.internal.RuleTests.{KeepAll}
 use Rattle.jt_chains.specs.Names.{IsName}
 use Rattle.jt_chains.specs.Needs.{Need, need_namespace, need_view}
 use Rattle.jt_chains.specs.TemplateFiles.{files_view, namespace_view}
 use Rattle.jt_chains.specs.Indices.{namespace_at}
 use Rattle.jt_chains.specs.Rules.{max_chains, Asks, Reaches}
 use Rattle.jt_inherit.specs.internal.Sets.{names_view, namespaces_view}
-use Rattle.jt_inherit.specs.internal.ExtendsPaths.{AreKnown, IsExtendsPath}
+use Rattle.jt_inherit.specs.internal.ExtendsPaths.{AreKnown, AreNamed, IsExtendsPath}
 use Rattle.jt_inherit.specs.internal.Placing.{IsIncludedMore}
 use Rattle.jt_inherit.specs.declared.discovery.Discovery.{Discovery}
 use Rattle.jt_inherit.specs.declared.sets.Names.{Names}
@@ -188,18 +188,19 @@ pub record IsFirst (entry : Text) (f : Discovery) : Type 0 where
   pub extends_paths : f.extends_paths.items ≡ []
   pub next : f.next.items ≡ []
 
--- The error is one of the templates of some chain or library.
-pub record BreaksAt (escaping : Bool) (ts : List Template) (extends_paths : List (List ℕ)) (e : ChainError) :
-    Type 0 where
-  pub number : ℕ
-  pub within : number < length extends_paths
-  pub broken : BreakOne (sources_in ts) escaping (templates_at ts (next_of extends_paths number)) e
+-- A chain or library, and the indices of its templates, also by its number.
+abbrev pub listed_view : Namespace → chain.Namespace × List ℕ
+listed_view k = (namespace_view k, k.templates.items)
 
--- The chains and libraries of these numbers.
-abbrev pub HasNamespaces : List chain.Namespace → List (List ℕ) → List ℕ → List Namespace → Type 0
-HasNamespaces hs extends_paths [] [] = Unit {0}
-HasNamespaces hs extends_paths [] (k ∷ ks) = ⊥
-HasNamespaces hs extends_paths (i ∷ is) [] = ⊥
-HasNamespaces hs extends_paths (i ∷ is) (k ∷ ks) =
-    ((namespace_view k ≡ namespace_at hs i) × (k.templates.items ≡ next_of extends_paths i))
-    × HasNamespaces hs extends_paths is ks
+abbrev pub listed_at : Discovery → ℕ → chain.Namespace × List ℕ
+listed_at f i = (namespace_at (found_namespaces f) i, next_of (found_paths f) i)
+
+-- The search from an entry is done: each chain or library that was found was followed.
+pub record IsDone (given : SourceTexts) (options : Options) (entry : Text) (f : Discovery) : Type 0 where
+  pub found : AreFound given options entry (found_templates f) (names_view f.names) (found_namespaces f) (found_paths f)
+      (graph_of f.next.items)
+  pub named : AreNamed (found_templates f) (names_view f.names)
+  pub indices : AllByRecursion (AreIndices (found_templates f)) (found_paths f)
+  pub paths : length f.extends_paths.items ≡ length (found_namespaces f)
+  pub next : length f.next.items ≡ length (found_namespaces f)
+  pub closed : IsClosed (graph_of f.next.items)

@@ -3,7 +3,6 @@
 use Rattle.std.specs.Prelude.{◌≡◌, ◌<◌, ◌⊎◌, ℕ, Bool, false, true, not, List, length, Option, Some, None, string_bytes}
 use Rattle.jt_graph.specs.Graph.{next_of}
 use Rattle.jt_ast.specs.Expressions.{Text}
-use Rattle.jt_uses.specs.Uses.{Site}
 use Rattle.jt_chains.specs.Along.{templates_at}
 use Rattle.jt_chains.specs.Chain.{Namespace, namespace_name, a_chain, a_library, Template, is_a_library, sources_in}
 use Rattle.jt_inherit.specs.Findings.{HasTag, IsNoMemory, all_uses, leads_to}

@@ -3,12 +3,12 @@ use Rattle.std.proofs.lemmas.List.{length-map}
 use Rattle.jt_value.specs.Tree as tree
 use Rattle.jt_value.specs.View.{view}
 use Rattle.jt_bind.specs.internal.Scoped.{values}
-use Rattle.jt_bind.proofs.BodyConcatenation.{data_led, value_push}
+use Rattle.jt_bind.proofs.BodyConcatenation.{data_emitted, value_push}
 use Rattle.jt_bind.proofs.emission.put_data.Goals as goal
 
 pub returns : goal.returns
 returns c = λ templates.
-    data_led templates (tree.text c.args.text.now) c.len-index.result c.args.done.now.items c.push-2.new.self.items
+    data_emitted templates (tree.text c.args.text.now) c.len-index.result c.args.done.now.items c.push-2.new.self.items
     (values c.args.pool.now) (values c.push.new.self)
     (c.len-index.ensures ∙ c.args.pool.now.ok.0 ∙ sym (length-map c.args.pool.now.items view)) (value_push
     c.args.pool.now.items c.push.new.self.items c.in_ok-text.field-0 (tree.text c.args.text.now)

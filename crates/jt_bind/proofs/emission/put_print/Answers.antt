@@ -3,10 +3,12 @@ use Rattle.std.proofs.lemmas.Result.{IfOk-weaker}
 use Rattle.jt_ir.specs.View.{expr_view, filters_after}
 use Rattle.jt_ir.specs.declared.program.SlotFilter.{SlotFilter}
 use Rattle.jt_bind.specs.internal.Scoped.{IsPlaced}
+use Rattle.jt_bind.proofs.BodyConcatenation.{print_emitted}
 use Rattle.jt_bind.proofs.emission.put_print.Goals as goal
 
 pub returns : goal.returns
 returns c =
-    IfOk-weaker c.put_filtered.result _ _ (λ u h. λ s k p q g. h s k p q
+    IfOk-weaker c.put_filtered.result _ _ (λ u h. λ scope k p q g.
+    print_emitted scope c.args.senv.now c.args.line k _ _ _ p q
     (subst (λ (fs : List SlotFilter). IsPlaced k (filters_after fs (expr_view c.args.value)) p q)
-    (sym c.new-filters.ensures.items) g)) c.put_filtered.ensures
+    (sym c.new-filters.ensures.items) g) h) c.put_filtered.ensures

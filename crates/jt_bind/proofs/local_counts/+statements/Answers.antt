@@ -42,8 +42,7 @@ stmt_locals-returns-in_ok-body_locals-in-If t c = λ ts behind.
     choice_done ts c.args.statement.now behind c.in-If.branches c.in-If.other c.in_ok-first-in-If.first
     c.in_ok-body_locals-in-If.field-0 c.larger-in-If.result c.in-If.is
     (c.in_ok-first-in-If.ensures ts ∙ ap (branches_locals ts) c.deref.ensures.value)
-    (λ b. sym (ap (λ (z : List SlotStmt). body_locals (body_view ts z b)) c.deref-in-If.ensures.value)
-    ∙ c.in_ok-body_locals-in-If.ensures ts b)
+    (λ b. rw (← c.deref-in-If.ensures.value) (c.in_ok-body_locals-in-If.ensures ts b))
     c.larger-in-If.ensures
 
 pub stmt_locals-returns-in_ok-last-in-For : goal.stmt_locals-returns-in_ok-last-in-For
@@ -55,10 +54,8 @@ stmt_locals-returns-in_ok-last-in-For t c = λ ts behind.
     c.in-For.body c.in-For.other m n k c.in_ok-turn-in-For.turn c.in_ok-last-in-For.last c.larger-in-For-4.result
     c.in-For.is
     c.in_ok-taken-in-For.ensures c.in_ok-given-in-For.ensures c.in_ok-asked-in-For.ensures
-    (λ b. sym (ap (λ (z : List SlotStmt). body_locals (body_view ts z b)) c.deref-in-For.ensures.value)
-    ∙ c.in_ok-turn-in-For.ensures ts b)
-    (λ b. sym (ap (λ (z : List SlotStmt). body_locals (body_view ts z b)) c.deref-in-For-2.ensures.value)
-    ∙ c.in_ok-last-in-For.ensures ts b)
+    (λ b. rw (← c.deref-in-For.ensures.value) (c.in_ok-turn-in-For.ensures ts b))
+    (λ b. rw (← c.deref-in-For-2.ensures.value) (c.in_ok-last-in-For.ensures ts b))
     (c.larger-in-For-4.ensures ∙ ap (max m) (c.larger-in-For-3.ensures
     ∙ ap (λ u. max u c.larger-in-For-2.result) c.larger-in-For.ensures ∙ ap (max (max n k)) c.larger-in-For-2.ensures))
 
@@ -66,7 +63,6 @@ pub stmt_locals-returns-in_ok-body_locals-in-Capture : goal.stmt_locals-returns-
 stmt_locals-returns-in_ok-body_locals-in-Capture t c = λ ts behind.
     capture_counted ts c.args.statement.now behind c.in-Capture.escaping c.in-Capture.slot c.in-Capture.body
     c.in_ok-kept-in-Capture.kept c.in_ok-body_locals-in-Capture.field-0 c.larger-in-Capture.result c.in-Capture.is
-    c.in_ok-kept-in-Capture.ensures (λ b. sym
-    (ap (λ (z : List SlotStmt). body_locals (body_view ts z b)) c.deref-in-Capture.ensures.value)
-    ∙ c.in_ok-body_locals-in-Capture.ensures ts b)
+    c.in_ok-kept-in-Capture.ensures
+    (λ b. rw (← c.deref-in-Capture.ensures.value) (c.in_ok-body_locals-in-Capture.ensures ts b))
     c.larger-in-Capture.ensures

@@ -13,9 +13,6 @@ use Rattle.jt_layout.proofs.FirstOccurrences.{namespaces_left}
 use Rattle.jt_bind.proofs.RoutineConcatenation.{lead_first, lead_turn, lead_last}
 use Rattle.jt_bind.proofs.namespaces.resolve_namespaces.Goals as goal
 
-pub select-requires : goal.select-requires
-select-requires c = search (arith, rules)
-
 pub loop-namespace-init : goal.loop-namespace-init
 loop-namespace-init c = search (arith, rules, lead_first)
 
@@ -61,5 +58,5 @@ returns c =
     omega (arith, c.loop-namespace-test.false, c.namespaces-namespace-end.ensures.all) in
     let Left : List Namespace → Type 0 =
     (λ hs. RoutinesLead ts all (flat_map (programs.chain_routines W O) hs) [] l.routines.items old (values l.pool)) in
-    lead_last ts all l.routines.items old (values l.pool)
+    lead_last ts all [] old l.routines.items (values l.pool)
     (subst Left (at_drop_all (λ hs. hs) O l.namespace le) l.invariant.lead)

@@ -6,7 +6,7 @@ use Rattle.jt_bind.proofs.operator_forms.conjunction.Goals as goal
 
 pub returns : goal.returns
 returns c =
-    let x = c.args.left.0 in
-    let y = c.args.right.0 in
-    rw c.into_inner.ensures (rw c.into_inner-2.ensures (λ a b p q r f g. conjunction_placed a b (expr_view x.value)
+    let x = c.args.left.part in
+    let y = c.args.right.part in
+    rw c.into_part.ensures (rw c.into_part-2.ensures (λ a b p q r f g. conjunction_placed a b (expr_view x.value)
     (expr_view y.value) (expr_view (e.Conjunction x y)) p q r f g (view_Conjunction x y)))

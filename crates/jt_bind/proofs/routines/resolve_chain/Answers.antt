@@ -12,7 +12,7 @@ use Rattle.jt_ir.specs.View.{body_view}
 use Rattle.jt_ir.specs.declared.program.SlotStmt.{SlotStmt}
 use Rattle.jt_bind.specs.internal.Scoped.{values, cenv_in, order_in, namespace_in, templates_in}
 use Rattle.jt_semantics.specs.Resolve.{resolved_chain}
-use Rattle.jt_bind.proofs.BodyConcatenation.{led_begun, led_of}
+use Rattle.jt_bind.proofs.BodyConcatenation.{emits_begun, emits_of}
 use Rattle.jt_bind.proofs.RoutineConcatenation.{locals_same, routine_made}
 use Rattle.jt_bind.proofs.routines.resolve_chain.Goals as goal
 
@@ -31,13 +31,12 @@ returns c = λ n is.
     ≡ templates (sources_of (chain_view ch)) (namespace_at (chain_view ch).order i) in
     let listed = subst (λ i. Listed scope.chain.now i) c.namespace.ensures.is
     (subst (λ ch. Listed ch c.namespace.result) c.chain.ensures c.in_ok-layers.ensures.there) in
-    let led = led_of T _ whole _ _ p q (ap (λ (z : List Layer). resolved_chain (cenv_in scope) (order_in scope)
+    let emitted = emits_of T _ whole _ _ p q (ap (λ (z : List Layer). resolved_chain (cenv_in scope) (order_in scope)
     (namespace_in scope) (map (layer_view (chain_view scope.chain.now).templates) z))
     c.deref.ensures.value
     ∙ ap (resolved_chain (cenv_in scope) (order_in scope) (namespace_in scope)) (listed there)
     ∙ ap (λ h. resolved_chain (cenv_in scope) (order_in scope) h (templates (cenv_in scope).sources h)) is)
-    (led_begun T _ _ _ _ p q c.new-done.ensures.items c.in_ok-resolve_layers.ensures) in
-    routine_made T 0 0 whole c.resolve_layers.new.done c.in_ok-locals.locals _ p q led refl
-    (locals_same T whole c.resolve_layers.new.done.items p q c.in_ok-locals.locals led
-    (λ b. sym (ap (λ (z : List SlotStmt). body_locals (body_view T z b)) c.deref-2.ensures.value)
-    ∙ c.in_ok-locals.ensures T b))
+    (emits_begun T _ _ _ _ p q c.new-done.ensures.items c.in_ok-resolve_layers.ensures) in
+    routine_made T 0 0 whole c.resolve_layers.new.done c.in_ok-locals.locals _ p q emitted refl
+    (locals_same T whole c.resolve_layers.new.done.items p q c.in_ok-locals.locals emitted
+    (λ b. rw (← c.deref-2.ensures.value) (c.in_ok-locals.ensures T b)))

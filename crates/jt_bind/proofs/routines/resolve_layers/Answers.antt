@@ -5,7 +5,7 @@ use Rattle.jt_chains.specs.View.{chain_view}
 use Rattle.jt_chains.specs.declared.layers.Layer.{Layer}
 use Rattle.jt_semantics.specs.Resolve.{followed, resolved_chain}
 use Rattle.jt_bind.specs.internal.Scoped.{cenv_in, order_in, namespace_in, templates_in}
-use Rattle.jt_bind.proofs.BodyConcatenation.{lead_both, lead_of, lead_left, led_of}
+use Rattle.jt_bind.proofs.BodyConcatenation.{lead_both, lead_of, lead_left, emits_of}
 use Rattle.jt_bind.proofs.ChainTemplates.{layers_turn, root_here}
 use Rattle.jt_bind.proofs.routines.resolve_layers.Goals as goal
 
@@ -20,4 +20,4 @@ returns c = λ left.
     (l.invariant left)
 
 pub loop-index-preserved : goal.loop-index-preserved
-loop-index-preserved c = search (arith, rules, lead_both, lead_of, layers_turn, root_here, led_of)
+loop-index-preserved c = search (arith, rules, lead_both, lead_of, layers_turn, root_here, emits_of)

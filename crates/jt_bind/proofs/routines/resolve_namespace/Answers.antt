@@ -1,12 +1,12 @@
 use Rattle.std.proofs.lemmas.Result.{IfOk-weaker}
 use Rattle.jt_bind.specs.internal.Scoped.{templates_in}
-use Rattle.jt_bind.proofs.RoutineConcatenation.{all_both, all_done}
+use Rattle.jt_bind.proofs.RoutineConcatenation.{routines_both}
 use Rattle.jt_bind.proofs.routines.resolve_namespace.Goals as goal
 
 pub returns : goal.returns
 returns c =
     let T = templates_in c.args.tables.now in
-    IfOk-weaker c.resolve_blocks.result _ _ (λ u h. all_done T _ _ _ _ _
-    (all_both T _ _ _ _ _ _ _ _ c.in_ok-resolve_entry.ensures
-    (all_both T _ _ _ _ _ _ _ _ c.in_ok-resolve_macros.ensures h)))
+    IfOk-weaker c.resolve_blocks.result _ _ (λ u h.
+    routines_both T _ _ _ _ _ _ _ _ c.in_ok-resolve_entry.ensures
+    (routines_both T _ _ _ _ _ _ _ _ c.in_ok-resolve_macros.ensures h))
     c.resolve_blocks.ensures

@@ -4,6 +4,7 @@ use Rattle.std.proofs.lemmas.List.{map-append}
 use Rattle.std.proofs.lemmas.Result.{err_from_is_err_and}
 use Rattle.jt_value.specs.Pairs.{pairs}
 use Rattle.jt_value.specs.View.{view}
+use Rattle.jt_value.specs.declared.text.Text.{Text}
 use Rattle.jt_contexts.specs.internal.KeyOrder.{Entry}
 use Rattle.jt_contexts.proofs.MemberValues.{Member, entries_from, item_flaw, items_from, member_flaw, nil_of, one_more}
 use Rattle.jt_contexts.proofs.MemberValues.{shown, value_in}
@@ -32,14 +33,15 @@ entries_of-loop-key-preserved t c =
     let left = c.next.new.self in
     let all : c.args.members.entries ≡ done ++ m ∷ left =
     c.loop-key.invariant.0 ∙ ap (λ es. done ++ es) c.in-Some.ensures.steps in
-    let x : Entry = (c.in-Some.key, c.in_ok-value.value) in
+    let x : Entry = (string_bytes c.in-Some.key, c.in_ok-value.value) in
     let old = pairs c.loop-key.entries.items in
-    let given : shown m ≡ Some (string_bytes x.0, view x.1) = rw c.in_ok-value.ensures.ok refl in
-    let now : pairs c.push.new.self.items ≡ old ++ (string_bytes x.0, view x.1) ∷ [] =
+    let given : shown m ≡ Some (x.0, view x.1) = rw c.in_ok-value.ensures.ok refl in
+    let now : pairs c.push.new.self.items ≡ old ++ (x.0, view x.1) ∷ [] =
     ap pairs c.in_ok-push.ensures.items
-    ∙ map-append (λ e. (string_bytes e.0, view e.1)) c.loop-key.entries.items (x ∷ []) in (
+    ∙ ap (λ (k : Text). pairs (c.loop-key.entries.items ++ (k, c.in_ok-value.value) ∷ [])) c.in_ok-key.ensures
+    ∙ map-append (λ (e : Entry). (e.0, view e.1)) c.loop-key.entries.items (x ∷ []) in (
       all ∙ sym (append_assoc done (m ∷ []) left),
-      rw now (one_more shown done old m (string_bytes x.0, view x.1) c.loop-key.invariant.1 given),
+      rw now (one_more shown done old m (x.0, view x.1) c.loop-key.invariant.1 given),
     )
 
 pub entries_of-returns-clause-ok : goal.entries_of-returns-clause-ok

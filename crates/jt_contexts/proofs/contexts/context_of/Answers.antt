@@ -4,7 +4,9 @@ use Rattle.std.specs.List.Sorted.{IsStrictlySortedBy}
 use Rattle.std.specs.Map.{keys_of}
 use Rattle.std.proofs.lemmas.Result.{err_from_is_err_and}
 use Rattle.jt_value.specs.ContextView.{pairs_of}
+use Rattle.jt_value.specs.Pairs.{put}
 use Rattle.jt_value.specs.View.{view}
+use Rattle.jt_value.specs.declared.text.Text.{Text}
 use Rattle.jt_contexts.proofs.MemberValues.{Member, member_flaw, one_more, pairs_from, put_last, shown, unless_failed}
 use Rattle.jt_contexts.proofs.contexts.context_of.Goals as goal
 
@@ -30,7 +32,8 @@ loop-name-preserved c =
     c.loop-name.invariant.0 ∙ ap (λ es. done ++ es) c.in-Some.ensures.steps in
     let ordered =
     subst (λ es. IsStrictlySortedBy string_cmp (keys_of es)) all c.into_iter-name-iterator.ensures.into_iter_gives.5 in
-    let new = unless_failed c.insert.result _ c.if-is_err.ensures.value c.insert.ensures.ok in
+    let new = unless_failed c.insert.result _ c.if-is_err.ensures.value c.insert.ensures.ok
+    ∙ ap (λ (k : Text). put k (view c.in_ok-value.value) (pairs_of c.loop-name.context)) c.in_ok-name.ensures in
     let old = pairs_of c.loop-name.context in
     let last = put_last done m left old (view c.in_ok-value.value) ordered c.loop-name.invariant.1 in
     let given : shown m ≡ Some (string_bytes c.in-Some.name, view c.in_ok-value.value) =

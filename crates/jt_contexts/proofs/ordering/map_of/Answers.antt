@@ -1,8 +1,8 @@
-use Rattle.std.proofs.Common.{◌≡◌, ◌∙◌, ◌++◌, [], ◌∷◌, ap, append_assoc, sym, string_cmp, subst}
+use Rattle.std.proofs.Common.{◌≡◌, ◌∙◌, ◌++◌, [], ◌∷◌, ap, append_assoc, sym, subst}
 use Rattle.std.specs.BTreeMap.{insert_entry}
 use Rattle.std.specs.List.Sorted.{IsStrictlySortedBy}
 use Rattle.std.specs.Map.{keys_of}
-use Rattle.jt_contexts.specs.internal.KeyOrder.{Entry}
+use Rattle.jt_contexts.specs.internal.KeyOrder.{Entry, text_cmp}
 use Rattle.jt_contexts.proofs.KeyOrder.{insert_last}
 use Rattle.jt_contexts.proofs.ordering.map_of.Goals as goal
 
@@ -13,8 +13,8 @@ loop-key-preserved c =
     let left = c.next.new.self.rest.items in
     let all : c.args.members.items ≡ done ++ x ∷ left =
     c.loop-key.invariant.0 ∙ ap (λ es. done ++ es) c.in-Some.ensures.steps.0 in
-    let ordered = subst (λ es. IsStrictlySortedBy string_cmp (keys_of es)) all c.requires in (
+    let ordered = subst (λ es. IsStrictlySortedBy text_cmp (keys_of es)) all c.requires in (
       all ∙ sym (append_assoc done (x ∷ []) left),
-      c.in_ok-insert.ensures.entries ∙ ap (λ es. insert_entry string_cmp es x.0 x.1) c.loop-key.invariant.1
+      c.in_ok-insert.ensures.entries ∙ ap (λ es. insert_entry text_cmp es x.0 x.1) c.loop-key.invariant.1
           ∙ insert_last done x left ordered,
     )

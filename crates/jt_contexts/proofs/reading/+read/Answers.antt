@@ -1,5 +1,5 @@
 use Rattle.std.proofs.Common.{◌≡◌, ◌∙◌, ◌++◌, ◌-◌, ◌<◌, ℤ, [], ◌∷◌, length, map, Option, Some, None, option_map}
-use Rattle.std.proofs.Common.{string_bytes, string_cmp, subst, w64, sym, ap, refl, arith, rules}
+use Rattle.std.proofs.Common.{subst, w64, sym, ap, refl, arith, rules}
 use mir.Val.{to_z, of_z}
 use Rattle.std.specs.List.Sorted.{IsStrictlySortedBy}
 use Rattle.std.specs.Map.{keys_of}
@@ -14,7 +14,7 @@ use Rattle.jt_value.specs.Tree as tree
 use Rattle.jt_value.specs.Pairs.{pairs}
 use Rattle.jt_value.specs.View.{view}
 use Rattle.jt_contexts.specs.Json.{value_of, pairs_in}
-use Rattle.jt_contexts.specs.internal.KeyOrder.{entries_of}
+use Rattle.jt_contexts.specs.internal.KeyOrder.{entries_of, text_cmp}
 use Rattle.jt_contexts.proofs.KeyOrder.{nothing_in_order}
 use Rattle.jt_contexts.proofs.MemberValues.{one_more}
 use Rattle.jt_contexts.proofs.ParseSteps.{all_items, before, converted-array, converted-object, entries_in, item_read}
@@ -145,7 +145,7 @@ read_members-members-init t c = record {
   shorter = omega arith;
   are = ap (λ es. Some (pairs es)) (sym c.in_ok-found.ensures);
   ordered =
-      subst (λ es. IsStrictlySortedBy string_cmp (keys_of es)) (sym c.in_ok-found.ensures) nothing_in_order;
+      subst (λ es. IsStrictlySortedBy text_cmp (keys_of es)) (sym c.in_ok-found.ensures) nothing_in_order;
 }
 
 pub read_members-members-preserved : goal.read_members-members-preserved
@@ -163,7 +163,7 @@ read_members-members-preserved t c =
     let less = read_key-shorter l.reader (Some k) s named in
     let lesser = done.shorter in
     let d = done.ok.spelt in
-    let copied : string_bytes c.in_ok-key.key ≡ k = search rules in
+    let copied : c.in_ok-key.key ≡ k = search rules in
     record {
       so_far = put k d old;
       turns = n - 1;
@@ -184,5 +184,5 @@ read_members-returns-clause-ok t c = search (arith, rules, members_over)
 
 pub read_members-returns-clause-ordered : goal.read_members-returns-clause-ordered
 read_members-returns-clause-ordered t c =
-    subst (λ es. IsStrictlySortedBy string_cmp (keys_of es)) (sym c.in_ok-members.ensures)
+    subst (λ es. IsStrictlySortedBy text_cmp (keys_of es)) (sym c.in_ok-members.ensures)
     c.members.invariant.ordered

@@ -1,9 +1,10 @@
-use Rattle.std.proofs.Common.{◌≡◌, ◌∙◌, ◌++◌, [], ◌∷◌, ap, append_assoc, string_bytes, string_cmp, subst}
+use Rattle.std.proofs.Common.{◌≡◌, ◌∙◌, ◌++◌, [], ◌∷◌, ap, append_assoc, subst}
 use Rattle.std.proofs.Common.{sym, arith, rules}
 use Rattle.std.specs.List.Sorted.{IsStrictlySortedBy}
 use Rattle.std.specs.Map.{keys_of}
 use Rattle.jt_value.specs.Pairs.{Pairs, put}
 use Rattle.jt_value.specs.View.{view}
+use Rattle.jt_contexts.specs.internal.KeyOrder.{text_cmp}
 use Rattle.jt_contexts.proofs.MemberValues.{nil_of, unless_failed}
 use Rattle.jt_contexts.proofs.ParseSteps.{Entry, put_last}
 use Rattle.jt_contexts.proofs.reading.context_of.Goals as goal
@@ -18,10 +19,10 @@ loop-name-preserved c =
     let left = c.next.new.self.rest.items in
     let all : c.args.members.items ≡ done ++ m ∷ left =
     c.loop-name.invariant.0 ∙ ap (λ es. done ++ es) c.in-Some.ensures.steps.0 in
-    let ordered = subst (λ es. IsStrictlySortedBy string_cmp (keys_of es)) all c.requires in
+    let ordered = subst (λ es. IsStrictlySortedBy text_cmp (keys_of es)) all c.requires in
     let new = unless_failed c.insert.result _ c.if-is_err.ensures.value c.insert.ensures.ok in (
       all ∙ sym (append_assoc done (m ∷ []) left),
-      new ∙ ap (λ (ps : Pairs). put (string_bytes c.in-Some.name) (view c.in-Some.value) ps) c.loop-name.invariant.1
+      new ∙ ap (λ (ps : Pairs). put c.in-Some.name (view c.in-Some.value) ps) c.loop-name.invariant.1
           ∙ put_last done m left ordered,
     )
 

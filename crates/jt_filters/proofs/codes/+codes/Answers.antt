@@ -32,7 +32,7 @@ rows_of-loop-left-preserved t c =
           c.put_row.new.rows.entries c.as_str.result c.push_value.new.bytes
           (omega (arith, c.loop-left-test.true)) (omega (arith, c.loop-left-test.true, c.loop-left.invariant.inside))
           c.index-entries-left.is
-          c.in_ok-put_row.ensures c.as_str.ensures.value
+          c.in_ok-put_row.ensures c.as_str.ensures
           (c.in_ok-push_value.ensures ∙ ap (λ (s : List ℕ). s ++ code (view e.1)) c.new-bytes.ensures.items)
           c.loop-left.invariant.same;
     }

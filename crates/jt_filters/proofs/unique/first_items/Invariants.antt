@@ -2,9 +2,9 @@ use Rattle.std.proofs.Common.{◌≡◌, ◌-◌, ◌≤◌}
 use Rattle.jt_value.specs.Payload.{joined_items}
 use Rattle.jt_value.specs.Tree.{no_items}
 use Rattle.jt_op_semantics.specs.ItemOf.{items_count}
-use Rattle.jt_filters.specs.internal.Operands.{items_in, front}
+use Rattle.jt_filters.specs.internal.Operands.{operand_items, items_in, front}
 use Rattle.jt_filter_semantics.specs.Ordering.{unseen}
-use Rattle.jt_filters.specs.internal.Seen.{operand_items, Knows}
+use Rattle.jt_filters.specs.internal.Seen.{Knows}
 use Rattle.jt_filters.proofs.unique.first_items.Given as goal
 
 abbrev pub invariant-loop-item : goal.invariant-loop-item

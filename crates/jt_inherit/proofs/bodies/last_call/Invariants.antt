@@ -1,8 +1,5 @@
 use Rattle.std.proofs.Common.{◌≡◌, ◌++◌, true, List, length}
-use Rattle.std.specs.List.{AllByRecursion}
-use Rattle.jt_inherit.specs.Findings.{is_required}
-use Rattle.jt_inherit.specs.internal.Tags.{tag_view}
-use Rattle.jt_inherit.specs.declared.tags.FoundTag.{FoundTag}
+use Rattle.jt_inherit.proofs.Vocabulary.{AllByRecursion, is_required, tag_view, FoundTag}
 use Rattle.jt_inherit.proofs.bodies.last_call.Given as goal
 
 abbrev pub decreases-loop-block : goal.decreases-loop-block

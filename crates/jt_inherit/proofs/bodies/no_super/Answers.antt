@@ -1,9 +1,5 @@
 use Rattle.std.proofs.Common.{◌≡◌, ℕ, List, true, refl, sym, ap, subst, ◌∙◌}
-use Rattle.jt_ast.specs.Expressions.{Text}
-use Rattle.jt_uses.specs.Uses.{Site}
-use Rattle.jt_inherit.specs.Findings.{HasNoSuper, calls_super_at}
-use Rattle.jt_inherit.specs.internal.Given.{its_templates}
-use Rattle.jt_inherit.specs.internal.Tags.{IsLastCall, tag_view}
+use Rattle.jt_inherit.proofs.Vocabulary.{Text, Site, HasNoSuper, calls_super_at, its_templates, IsLastCall, tag_view}
 use Rattle.jt_inherit.proofs.bodies.no_super.Goals as goal
 
 pub returns : goal.returns

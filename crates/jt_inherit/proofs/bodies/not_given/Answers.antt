@@ -1,11 +1,7 @@
 use Rattle.std.proofs.Common.{◌≡◌, ℕ, List, refl, sym, ap, subst, ◌∙◌, Some}
-use Rattle.std.specs.Prelude.{option_copied, slice_get}
-use Rattle.jt_ast.specs.Expressions.{Text}
-use Rattle.jt_uses.specs.Uses.{Site}
-use Rattle.jt_inherit.specs.Findings.{IsNotGiven, blocks_named}
-use Rattle.jt_inherit.specs.internal.Given.{its_templates}
-use Rattle.jt_inherit.specs.internal.Tags.{tag_view}
-use Rattle.jt_inherit.specs.declared.tags.FoundTag.{FoundTag}
+use Rattle.std.specs.Prelude.{option_copied}
+use Rattle.jt_inherit.specs.Findings.{blocks_named}
+use Rattle.jt_inherit.proofs.Vocabulary.{slice_get, Text, Site, IsNotGiven, its_templates, tag_view, FoundTag}
 use Rattle.jt_inherit.proofs.TagPlaces.{first_view}
 use Rattle.jt_inherit.proofs.bodies.not_given.Goals as goal
 

@@ -1,10 +1,6 @@
 use Rattle.std.proofs.Common.{◌≡◌, ◌∷◌, [], List, refl, sym, ap, subst, ◌∙◌, Some}
-use Rattle.std.specs.Prelude.{option_map}
-use Rattle.std.proofs.lemmas.List.{append-nil}
-use Rattle.jt_chains.specs.TemplateFiles.{file_view}
-use Rattle.jt_inherit.specs.Findings.{HasTwoTags, InTurn, IsAt, is_block, uses_in}
-use Rattle.jt_inherit.specs.internal.Tags.{place_in, place_view, tags, tags_view}
-use Rattle.jt_inherit.specs.declared.tags.FoundTag.{FoundTag}
+use Rattle.jt_inherit.proofs.Vocabulary.{option_map, append-nil, file_view, HasTwoTags, InTurn, IsAt, is_block, uses_in}
+use Rattle.jt_inherit.proofs.Vocabulary.{place_in, place_view, tags, tags_view, FoundTag}
 use Rattle.jt_inherit.proofs.TagPlaces.{second_shows}
 use Rattle.jt_inherit.proofs.breaking.block_twice_in.Goals as goal
 

@@ -1,9 +1,6 @@
-use Rattle.std.proofs.Common.{◌≡◌, List, refl, sym, ap, ◌∙◌, Some, string_bytes}
-use Rattle.std.specs.Prelude.{option_map}
-use Rattle.jt_inherit.specs.Findings.{all_uses, binds_macro}
-use Rattle.jt_inherit.specs.internal.Given.{its_sources, its_templates}
-use Rattle.jt_inherit.specs.internal.Tags.{place_in, place_view, tags, tags_view}
-use Rattle.jt_inherit.specs.declared.tags.FoundTag.{FoundTag}
+use Rattle.std.proofs.Common.{◌≡◌, refl, sym, ap, ◌∙◌, Some, string_bytes}
+use Rattle.jt_inherit.proofs.Vocabulary.{option_map, all_uses, binds_macro, its_sources, its_templates, place_in}
+use Rattle.jt_inherit.proofs.Vocabulary.{place_view, tags}
 use Rattle.jt_inherit.proofs.TagPlaces.{first_shows, macro_named}
 use Rattle.jt_inherit.proofs.breaking.missing_finding.Goals as goal
 
@@ -14,9 +11,7 @@ returns c =
     let name = c.in-Some.missing.name.now in
     let p = c.in-Some-2.place in
     let at : place_in 0 (tags (binds_macro library name) (all_uses ts)) ≡ Some (place_view p) =
-    sym (ap (place_in 0) c.in_ok-tags.ensures)
-    ∙ sym (ap (λ (l : List FoundTag). place_in 0 (tags_view l)) c.deref.ensures.value)
-    ∙ sym c.in_ok-place.ensures ∙ ap (option_map place_view) c.in-Some-2.is in
+    sym c.in_ok-place.ensures ∙ ap (option_map place_view) c.in-Some-2.is in
     let named = macro_named (its_sources c.args.store) ts p (string_bytes c.in_ok-library.library)
     (string_bytes c.in_ok-name.name) library name c.in_ok-library.ensures.ok c.in_ok-name.ensures.ok
     (first_shows (binds_macro library name) p (all_uses ts) at) c.in-Some.ensures in

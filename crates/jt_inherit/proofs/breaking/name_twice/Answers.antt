@@ -1,9 +1,6 @@
 use Rattle.std.proofs.Common.{◌≡◌, List, refl, sym, ap, subst, ◌∙◌, Some}
-use Rattle.std.specs.Prelude.{option_map}
-use Rattle.jt_inherit.specs.Findings.{HasTwoTags, all_uses, defines}
-use Rattle.jt_inherit.specs.internal.Given.{its_templates}
-use Rattle.jt_inherit.specs.internal.Tags.{place_in, place_view, tags, tags_view}
-use Rattle.jt_inherit.specs.declared.tags.FoundTag.{FoundTag}
+use Rattle.jt_inherit.proofs.Vocabulary.{option_map, HasTwoTags, all_uses, defines, its_templates, place_in, place_view}
+use Rattle.jt_inherit.proofs.Vocabulary.{tags, tags_view, FoundTag}
 use Rattle.jt_inherit.proofs.TagPlaces.{second_shows}
 use Rattle.jt_inherit.proofs.breaking.name_twice.Goals as goal
 

@@ -1,99 +1,42 @@
-use Rattle.std.proofs.Common.{◌<◌, List, ℕ, length, sym, ap, subst, ◌∙◌, arith, Vec, Global}
-use Rattle.std.proofs.lemmas.List.{length-map}
-use Rattle.jt_graph.specs.View.{graph_of}
-use Rattle.jt_chains.specs.Along.{AreIndices, templates_at}
-use Rattle.jt_chains.specs.Chain.{sources_in}
-use Rattle.jt_inherit.specs.internal.Found.{found_templates}
-use Rattle.jt_inherit.specs.internal.Sets.{names_view}
-use Rattle.jt_inherit.specs.internal.ExtendsPaths.{AreNamed}
-use Rattle.jt_inherit.specs.internal.Breaking.{RuleAt}
-use Rattle.jt_inherit.specs.internal.RuleTests.{BreakOne}
-use Rattle.jt_chains.specs.TemplateFiles.{files_view}
-use Rattle.jt_chains.specs.declared.files.TemplateFile.{TemplateFile}
-use Rattle.jt_inherit.proofs.NamespaceListing.{way_number}
-use Rattle.jt_inherit.proofs.ChainComplete.{at_number}
+use Rattle.std.proofs.Common.{arith, rules}
+use Rattle.std.proofs.Common.{List, sym, subst}
+use Rattle.jt_inherit.proofs.Vocabulary.{err_from_is_err_and, graph_of, AreIndices, templates_at, sources_in}
+use Rattle.jt_inherit.proofs.Vocabulary.{files_view, TemplateFile, IsBroken, found_templates}
+use Rattle.jt_inherit.proofs.ChainComplete.{at_number, way_at}
 use Rattle.jt_inherit.proofs.chaining.check_chains.Goals as goal
 
 pub invariant_of-store : goal.invariant_of-store
-invariant_of-store c =
-    record {
-      named = subst (λ (z : List TemplateFile). AreNamed (files_view z) (names_view c.args.found.now.names))
-          (sym c.deref.ensures.value) c.requires.named;
-    }
+invariant_of-store c = search (arith, rules)
 
 pub check_rules-requires : goal.check_rules-requires
 check_rules-requires c =
     let f = c.args.found.now in
     let i = c.loop-extends_path.extends_path-index in
     let is = c.deref-in-loop-extends_path.result.now in
-    let here = way_number f.extends_paths.items c.deref-extends_path-items.result.now i c.extends_path-item.result is
+    let here = way_at f.extends_paths.items c.deref-extends_path-items.result.now i c.extends_path-item.result is
     c.deref-extends_path-items.ensures.value c.loop-extends_path-test.true c.extends_path-item.is
     c.deref-in-loop-extends_path.ensures.value in
-    let lt : i < length (graph_of f.extends_paths.items) = omega (
-      arith,
-      c.loop-extends_path-test.true,
-      ap length c.deref-extends_path-items.ensures.value,
-      length-map f.extends_paths.items (λ (v : Vec ℕ Global). v.items),
-    ) in
     subst (λ (z : List TemplateFile). AreIndices (files_view z) is) (sym c.deref.ensures.value)
-    (subst (AreIndices (found_templates f)) here
-    (at_number (AreIndices (found_templates f)) (graph_of f.extends_paths.items) i lt c.requires.indices))
+    (subst (AreIndices (found_templates f)) here.1
+    (at_number (AreIndices (found_templates f)) (graph_of f.extends_paths.items) i here.0 c.requires.indices))
 
-pub rule_finding-requires : goal.rule_finding-requires
-rule_finding-requires c =
+pub returns-in_err-check_rules-clause-broken : goal.returns-in_err-check_rules-clause-broken
+returns-in_err-check_rules-clause-broken c =
     let f = c.args.found.now in
     let i = c.loop-extends_path.extends_path-index in
     let is = c.deref-in-loop-extends_path.result.now in
-    let here = way_number f.extends_paths.items c.deref-extends_path-items.result.now i c.extends_path-item.result is
+    let e = c.in_err-check_rules.field-0.0 in
+    let here = way_at f.extends_paths.items c.deref-extends_path-items.result.now i c.extends_path-item.result is
     c.deref-extends_path-items.ensures.value c.loop-extends_path-test.true c.extends_path-item.is
     c.deref-in-loop-extends_path.ensures.value in
-    let lt : i < length (graph_of f.extends_paths.items) = omega (
-      arith,
-      c.loop-extends_path-test.true,
-      ap length c.deref-extends_path-items.ensures.value,
-      length-map f.extends_paths.items (λ (v : Vec ℕ Global). v.items),
-    ) in
-    subst (λ (z : List ℕ). AreIndices (files_view c.deref.result.now) z)
-    (c.deref-in-loop-extends_path.ensures.value ∙ sym c.deref-in-Err.ensures.value)
-    (subst (λ (z : List TemplateFile). AreIndices (files_view z) is) (sym c.deref.ensures.value)
-    (subst (AreIndices (found_templates f)) here
-    (at_number (AreIndices (found_templates f)) (graph_of f.extends_paths.items) i lt c.requires.indices)))
-
-pub returns-in-Err-clause-broken : goal.returns-in-Err-clause-broken
-returns-in-Err-clause-broken c =
-    let f = c.args.found.now in
-    let ts = found_templates f in
-    let i = c.loop-extends_path.extends_path-index in
-    let is = c.deref-in-loop-extends_path.result.now in
-    let e = c.in-Err.error in
-    let x = c.in_ok-rule_finding-in-Err.field-0 in
-    let told = c.in_ok-rule_finding-in-Err.ensures in
-    let here = way_number f.extends_paths.items c.deref-extends_path-items.result.now i c.extends_path-item.result is
-    c.deref-extends_path-items.ensures.value c.loop-extends_path-test.true c.extends_path-item.is
-    c.deref-in-loop-extends_path.ensures.value in
-    let lt : i < length (graph_of f.extends_paths.items) = omega (
-      arith,
-      c.loop-extends_path-test.true,
-      ap length c.deref-extends_path-items.ensures.value,
-      length-map f.extends_paths.items (λ (v : Vec ℕ Global). v.items),
-    ) in
-    record {
+    let p = err_from_is_err_and c.from_residual.result c.from_residual.ensures.1 in
+    rw (p.1, p.2) (record {
       number = i;
-      within = lt;
-      broken =
-          subst (λ z. BreakOne (sources_in ts) c.args.escaping (templates_at ts z) x.error) (sym here)
-          (subst (λ z. BreakOne (sources_in ts) c.args.escaping (templates_at ts is) z) (sym told.0)
+      within = here.0;
+      found =
+          subst (λ z. IsBroken (sources_in (found_templates f)) c.args.escaping (templates_at (found_templates f) z) e)
+          (sym here.1)
           (subst (λ (z : List TemplateFile).
-          BreakOne (sources_in (files_view z)) c.args.escaping (templates_at (files_view z) is) e)
-          c.deref.ensures.value c.in-Err.ensures.broken));
-      said =
-          subst (λ z. RuleAt (sources_in ts) (templates_at ts z) x.place x.subject x.error) (sym here)
-          (subst (λ z. RuleAt (sources_in ts) (templates_at ts is) x.place x.subject z) (sym told.0)
-          (subst (λ (z : List TemplateFile).
-          RuleAt (sources_in (files_view z)) (templates_at (files_view z) is) x.place x.subject e)
-          c.deref.ensures.value
-          (subst (λ (z : List ℕ).
-          RuleAt (sources_in (files_view c.deref.result.now)) (templates_at (files_view c.deref.result.now) z) x.place
-          x.subject e)
-          (c.deref-in-Err.ensures.value ∙ sym c.deref-in-loop-extends_path.ensures.value) told.1)));
-    }
+          IsBroken (sources_in (files_view z)) c.args.escaping (templates_at (files_view z) is) e)
+          c.deref.ensures.value c.in_err-check_rules.ensures.broken);
+    })

@@ -1,10 +1,5 @@
 use Rattle.std.proofs.Common.{take}
-use Rattle.std.specs.List.{AllByRecursion}
-use Rattle.jt_graph.specs.View.{graph_of}
-use Rattle.jt_chains.specs.Along.{templates_at}
-use Rattle.jt_chains.specs.Chain.{sources_in}
-use Rattle.jt_inherit.specs.internal.Found.{found_templates}
-use Rattle.jt_inherit.specs.internal.RuleTests.{KeepAll}
+use Rattle.jt_inherit.proofs.Vocabulary.{AllByRecursion, graph_of, templates_at, sources_in, found_templates, KeepAll}
 use Rattle.jt_inherit.proofs.chaining.check_chains.Given as goal
 
 abbrev pub invariant-loop-extends_path : goal.invariant-loop-extends_path

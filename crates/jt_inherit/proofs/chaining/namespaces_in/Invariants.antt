@@ -1,9 +1,8 @@
-use Rattle.std.proofs.Common.{take}
-use Rattle.jt_graph.specs.View.{graph_of}
-use Rattle.jt_inherit.specs.internal.Found.{HasNamespaces, found_namespaces}
+use Rattle.std.proofs.Common.{◌≡◌, ◌++◌, drop, map}
+use Rattle.jt_inherit.proofs.Vocabulary.{listed_at, listed_view}
 use Rattle.jt_inherit.proofs.chaining.namespaces_in.Given as goal
 
 abbrev pub invariant-loop-number : goal.invariant-loop-number
 invariant-loop-number l =
-    HasNamespaces (found_namespaces l.found) (graph_of l.found.extends_paths.items) (take l.number-index l.order)
-    l.namespaces.items
+    map listed_view l.namespaces.items ++ map (listed_at l.found) (drop l.number-index l.number-items)
+    ≡ map (listed_at l.found) l.number-items

@@ -1,12 +1,7 @@
-use Rattle.std.proofs.Common.{ap, arith}
-use Rattle.std.proofs.lemmas.List.{length-map}
-use Rattle.jt_graph.specs.View.{graph_of}
-use Rattle.jt_inherit.specs.internal.Found.{found_templates, found_namespaces, root_of}
-use Rattle.jt_chains.specs.Chain.{namespace_name}
-use Rattle.jt_chains.specs.TemplateFiles.{files_view}
-use Rattle.jt_chains.specs.Indices.{namespace_at}
-use Rattle.jt_inherit.specs.internal.SetView.{strings, key_view}
-use Rattle.jt_inherit.specs.internal.Sets.{names_view}
+use Rattle.std.proofs.Common.{◌≡◌, length, ap, arith}
+use Rattle.jt_inherit.proofs.Vocabulary.{length-map, graph_of, found_templates, found_namespaces, found_paths, root_of}
+use Rattle.jt_inherit.proofs.Vocabulary.{namespace_name, files_view, namespace_at, strings, key_view, names_view}
+use Rattle.jt_inherit.proofs.ChainComplete.{search_done}
 use Rattle.jt_inherit.proofs.DiscoveryInvariant.{found_first, followed_len}
 use Rattle.jt_inherit.proofs.discovery.discover.Goals as goal
 
@@ -24,16 +19,18 @@ chains-init g c =
       root = ap (λ l. namespace_name (namespace_at l 0)) i.namespaces;
     }
 
-pub returns-clause-all : goal.returns-clause-all
-returns-clause-all g c =
+pub returns-clause-done : goal.returns-clause-done
+returns-clause-done g c =
     let f = c.chains.found in
-    omega (
+    let is = c.chains.invariant.found in
+    let paths : length (found_paths f) ≡ length (found_namespaces f) = omega (
       arith,
       c.chains-test.false,
       c.len-in-chains.ensures.len,
       c.len.ensures,
       f.extends_paths.ok.0,
       length-map f.namespaces.items.items key_view,
-      followed_len _ _ _ _ _ _ c.chains.invariant.found.followed,
+      followed_len _ _ _ _ _ _ is.followed,
       length-map f.extends_paths.items (λ v. v.items),
-    )
+    ) in
+    search_done f c.chains.invariant.root is paths

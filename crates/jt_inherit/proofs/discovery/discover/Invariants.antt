@@ -1,5 +1,5 @@
 use Rattle.std.proofs.Common.{◌≡◌, ◌-◌, ◌^◌, length}
-use Rattle.jt_inherit.specs.internal.Found.{IsFound, root_of}
+use Rattle.jt_inherit.proofs.Vocabulary.{IsFound, root_of}
 use Rattle.jt_inherit.proofs.discovery.discover.Given as goal
 
 abbrev pub decreases-chains : goal.decreases-chains

@@ -1,48 +1,23 @@
+use Rattle.std.proofs.Common.{rules}
 use Rattle.std.proofs.Common.{◌≡◌, ◌<◌, true, ◌⊎◌, ◌++◌, ◌∷◌, [], List, ℕ, sym, ap, subst, ◌∙◌, arith}
 use Rattle.std.proofs.Common.{length, Vec, Global}
-use Rattle.std.proofs.lemmas.List.{length-map}
-use Rattle.std.specs.Prelude.{Option, unwrap_or}
-use Rattle.std.specs.List.{AllByRecursion}
-use Rattle.std.proofs.lemmas.Result.{err_from_is_err_and}
-use Rattle.jt_graph.specs.View.{graph_of}
-use Rattle.jt_ast.specs.Texts.{among}
-use Rattle.jt_chains.specs.Along.{AreIndices, templates_at}
-use Rattle.jt_inherit.specs.internal.Along.{needs_along}
-use Rattle.jt_chains.specs.Indices.{namespace_at}
-use Rattle.jt_chains.specs.Needs.{needed}
-use Rattle.jt_chains.specs.TemplateFiles.{files_view}
-use Rattle.jt_chains.specs.declared.files.TemplateFile.{TemplateFile}
-use Rattle.jt_inherit.specs.internal.Found.{AreFound, AreNext, IsMet, IsNextFinding, chosen}
-use Rattle.jt_inherit.specs.internal.Found.{found_namespaces, root_of}
-use Rattle.jt_chains.specs.Chain.{Namespace, a_chain}
-use Rattle.jt_inherit.specs.internal.Imported.{is_no_library}
-use Rattle.jt_inherit.specs.internal.SetView.{key_view}
-use Rattle.jt_inherit.specs.internal.Sets.{names_view, namespaces_view}
-use Rattle.jt_inherit.specs.internal.Unmet.{IsUnmet}
+use Rattle.jt_inherit.proofs.Vocabulary.{length-map, AllByRecursion, err_from_is_err_and, graph_of, among}
+use Rattle.jt_inherit.proofs.Vocabulary.{AreIndices, templates_at, needs_along, needed, files_view, TemplateFile}
+use Rattle.jt_inherit.proofs.Vocabulary.{AreFound, AreNext, IsMet, IsNextFinding, chosen, found_namespaces, root_of}
+use Rattle.jt_inherit.proofs.Vocabulary.{key_view, names_view, namespaces_view}
+use Rattle.jt_inherit.proofs.Vocabulary.{IsUnmet, map_more, of_namespaces, indexed_among, repeated}
 use Rattle.jt_inherit.proofs.FindingsHold.{need_finds}
 use Rattle.jt_inherit.proofs.DiscoveryInvariant.{namespace_number, reached_here, reached_there, found_more}
 use Rattle.jt_inherit.proofs.DiscoveryInvariant.{chosen_there, first_same, reached_from, way_there, both_files}
 use Rattle.jt_inherit.proofs.DiscoveryInvariant.{both_known, same_needs}
 use Rattle.jt_inherit.proofs.ManyChains.{next_finds}
-use Rattle.jt_inherit.proofs.NameMembership.{map_more}
-use Rattle.jt_inherit.proofs.NamespaceMembership.{of_namespaces}
-use Rattle.jt_inherit.proofs.Membership.{indexed_among}
 use Rattle.jt_inherit.proofs.TopologicalOrder.{namespace_among}
-use Rattle.jt_ast.specs.Texts.{repeated}
-use Rattle.jt_inherit.specs.internal.Found.{found_templates}
 use Rattle.jt_inherit.proofs.ChainComplete.{ways_indexed}
 use Rattle.jt_inherit.proofs.ImportFound.{library_finds}
 use Rattle.jt_inherit.proofs.discovery.follow.Goals as goal
 
 pub get-namespace-requires : goal.get-namespace-requires
-get-namespace-requires g c =
-    omega (
-      arith,
-      c.len-number.ensures,
-      c.args.found.now.extends_paths.ok.0,
-      c.requires.more,
-      length-map c.args.found.now.namespaces.items.items key_view,
-    )
+get-namespace-requires g c = search (arith, rules, length-map)
 
 pub check_library-requires-clause-named : goal.check_library-requires-clause-named
 check_library-requires-clause-named g c =
@@ -50,10 +25,7 @@ check_library-requires-clause-named g c =
     (known.named, ap repeated known.named ∙ known.read.once)
 
 pub check_library-requires-clause-indices : goal.check_library-requires-clause-indices
-check_library-requires-clause-indices g c =
-    let f = c.args.found.now in
-    ways_indexed (g.L.Library.sources c.args.loader.now.library.now) (found_templates f) (found_namespaces f)
-    (found_namespaces f) (graph_of f.extends_paths.items) (graph_of f.next.items) c.requires.found.followed
+check_library-requires-clause-indices g c = search (arith, rules, ways_indexed)
 
 pub check_library-requires-clause-number : goal.check_library-requires-clause-number
 check_library-requires-clause-number g c =
@@ -70,10 +42,7 @@ returns-in_err-check_library-clause-refused g c =
     c.in_err-check_library.field-0.0 c.in_err-check_library.ensures.refused)
 
 pub read_namespace-requires-clause-library : goal.read_namespace-requires-clause-library
-read_namespace-requires-clause-library g c =
-    ap (is_no_library (found_templates c.args.found.now))
-    (sym (ap (λ (o : Option Namespace). unwrap_or o (a_chain [])) c.get-namespace.ensures))
-    ∙ c.in_ok-check_library.ensures.kept
+read_namespace-requires-clause-library g c = search (arith, rules)
 
 pub returns-in_err-extends_path-clause-refused : goal.returns-in_err-extends_path-clause-refused
 returns-in_err-extends_path-clause-refused g c =

@@ -1,7 +1,5 @@
 use Rattle.std.proofs.Common.{◌≡◌, ◌<◌, ℕ, None}
-use Rattle.jt_chains.specs.Indices.{namespace_at}
-use Rattle.jt_inherit.specs.internal.Found.{found_namespaces, found_paths, found_templates}
-use Rattle.jt_inherit.specs.internal.Imported.{leading_at}
+use Rattle.jt_inherit.proofs.Vocabulary.{namespace_at, found_namespaces, found_paths, found_templates, leading_at}
 use Rattle.jt_inherit.proofs.discovery.place_of.Given as goal
 
 abbrev pub invariant-loop-from : goal.invariant-loop-from

@@ -1,5 +1,5 @@
 use Rattle.std.proofs.Common.{arith, rules}
-use Rattle.jt_chains.proofs.TemplatesByIndex.{index_within}
+use Rattle.jt_inherit.proofs.Vocabulary.{index_within}
 use Rattle.jt_inherit.proofs.PathsGrow.{named_here, passed_by}
 use Rattle.jt_inherit.proofs.extends_path.number_on.Goals as goal
 

@@ -1,7 +1,5 @@
 use Rattle.std.proofs.Common.{◌≡◌, drop}
-use Rattle.jt_ast.specs.Texts.{among}
-use Rattle.jt_chains.specs.Along.{templates_at}
-use Rattle.jt_chains.specs.TemplateFiles.{files_view}
+use Rattle.jt_inherit.proofs.Vocabulary.{among, templates_at, files_view}
 use Rattle.jt_inherit.proofs.PathsGrow.{names}
 use Rattle.jt_inherit.proofs.extends_path.number_on.Given as goal
 

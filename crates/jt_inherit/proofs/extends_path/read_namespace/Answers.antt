@@ -1,19 +1,12 @@
-use Rattle.std.proofs.Common.{◌≡◌, ◌+◌, ◌<◌, ◌∷◌, [], false, true, length, sym, ap, subst, ◌∙◌, arith, string_bytes}
+use Rattle.std.proofs.Common.{rules}
+use Rattle.std.proofs.Common.{◌≡◌, ◌+◌, ◌<◌, ◌∷◌, [], false, length, sym, ap, subst, ◌∙◌, arith, string_bytes}
 use Rattle.std.proofs.Common.{Option, None, String, Global, length-append}
-use Rattle.std.proofs.lemmas.List.{length-map}
-use Rattle.std.specs.Prelude.{option_map}
-use Rattle.std.proofs.lemmas.Option.{slice_get_within}
-use Rattle.jt_chains.specs.Chain.{a_chain}
-use Rattle.jt_inherit.specs.internal.Faults.{IsFaultOf}
-use Rattle.jt_chains.specs.TemplateFiles.{file_view, files_view}
-use Rattle.jt_ast.specs.Expressions.{Text}
-use Rattle.jt_ast.specs.Texts.{among}
-use Rattle.jt_chains.specs.Along.{templates_at}
-use Rattle.jt_inherit.specs.internal.ExtendsPaths.{HasRead, IsAt, IsExtendsPath}
-use Rattle.jt_inherit.specs.internal.Sets.{names_view}
-use Rattle.jt_inherit.specs.internal.Imported.{is_no_library}
-use Rattle.jt_inherit.specs.internal.Placing.{IsCycle, IsLong, IsNamed, IsNamedOn, parent_at}
+use Rattle.jt_inherit.specs.internal.ExtendsPaths.{IsAt}
+use Rattle.jt_inherit.specs.internal.Placing.{IsNamed}
 use Rattle.jt_inherit.specs.declared.error.ChainError.TheVariants as error
+use Rattle.jt_inherit.proofs.Vocabulary.{length-map, option_map, slice_get_within, a_chain, IsFaultOf}
+use Rattle.jt_inherit.proofs.Vocabulary.{files_view, Text, among, templates_at, HasRead, IsExtendsPath, names_view}
+use Rattle.jt_inherit.proofs.Vocabulary.{is_no_library, IsCycle, IsLong, IsNamedOn, parent_at}
 use Rattle.jt_inherit.proofs.PlacedErrors.{cycle_placed, fault_placed, long_placed, refused_all, same_path, there_on}
 use Rattle.jt_inherit.proofs.LibraryTemplate.{library_known, library_read}
 use Rattle.jt_inherit.proofs.NamespaceSets.{is_chain, is_library}
@@ -22,14 +15,7 @@ use Rattle.jt_inherit.proofs.PathsGrow.{fault_breaks}
 use Rattle.jt_inherit.proofs.extends_path.read_namespace.Goals as goal
 
 pub library_path-requires : goal.library_path-requires
-library_path-requires g c =
-    let ps = c.args.files.now.items in
-    let k = c.args.namespace.now in
-    let key = is_library k c.if-namespace.true in
-    subst (λ (n : Text). among n (names_view c.args.names.now) ≡ true) (sym c.deref.ensures)
-    (ap (among (string_bytes k.name)) c.requires.known.named
-    ∙ library_known (files_view ps) (string_bytes k.name)
-    (sym (ap (is_no_library (files_view ps)) key) ∙ c.requires.library))
+library_path-requires g c = search (arith, rules, is_library, names, library_known)
 
 pub returns-then-namespace : goal.returns-then-namespace
 returns-then-namespace g c =
@@ -45,12 +31,7 @@ returns-then-namespace g c =
     (sym (ap (is_no_library (files_view ps)) key) ∙ c.requires.library) at.0 at.1 at.2)
 
 pub cycle_finding-requires-clause-start : goal.cycle_finding-requires-clause-start
-cycle_finding-requires-clause-start g c =
-    let k = c.in-Some.start in
-    same_path (λ ps is n. IsNamedOn (files_view ps) is n k) (sym c.deref-in-Some.ensures.value)
-    (sym c.deref-in-Some-2.ensures.value) (sym c.deref-in-Some-3.ensures)
-    (same_path (λ ps is n. IsNamedOn (files_view ps) is n k) c.deref-in-loop-turn.ensures.value
-    c.deref-in-loop-turn-2.ensures.value c.deref-in-loop-turn-3.ensures c.in-Some.ensures)
+cycle_finding-requires-clause-start g c = search (arith, rules, same_path)
 
 pub returns-in-Some : goal.returns-in-Some
 returns-in-Some g c =
@@ -84,16 +65,7 @@ returns-in-Err g c =
     (λ root r. fault_placed l.invariant.known r l.invariant.led e fault f.place f.subject told.1)
 
 pub index-requires : goal.index-requires
-index-requires g c =
-    let ps = c.read_index.new.files in
-    let n = c.deref-in-loop-turn-4.result.now in
-    omega (
-      arith,
-      slice_get_within (names (files_view ps.items)) c.in-Ok.index n c.in-Ok.ensures.index,
-      length_names (files_view ps.items),
-      length-map ps.items file_view,
-      ps.ok.0,
-    )
+index-requires g c = search (arith, rules, slice_get_within, names, length_names, length-map)
 
 pub returns-in-None : goal.returns-in-None
 returns-in-None g c =
@@ -149,12 +121,7 @@ loop-turn-preserved g c =
     }
 
 pub cycle_finding-requires-in-Some-number_on-clause-start : goal.cycle_finding-requires-in-Some-number_on-clause-start
-cycle_finding-requires-in-Some-number_on-clause-start g c =
-    let k = c.in-Some-number_on.start in
-    same_path (λ ps is n. IsNamedOn (files_view ps) is n k) (sym c.deref-in-Some-number_on.ensures.value)
-    (sym c.deref-in-Some-number_on-2.ensures.value) (sym c.deref-in-Some-number_on-3.ensures)
-    (same_path (λ ps is n. IsNamedOn (files_view ps) is n k) c.deref-3.ensures.value c.deref-4.ensures.value
-    c.deref-5.ensures c.in-Some-number_on.ensures)
+cycle_finding-requires-in-Some-number_on-clause-start g c = search (arith, rules, same_path)
 
 pub returns-in-Some-number_on : goal.returns-in-Some-number_on
 returns-in-Some-number_on g c =

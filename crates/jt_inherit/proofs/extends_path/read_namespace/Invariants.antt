@@ -1,11 +1,7 @@
 use Rattle.std.proofs.Common.{◌≡◌, ◌⊎◌, true, length, Some, string_bytes}
-use Rattle.jt_ast.specs.Texts.{among}
-use Rattle.jt_ast.specs.Expressions.{Text}
-use Rattle.jt_chains.specs.Along.{templates_at}
-use Rattle.jt_chains.specs.TemplateFiles.{files_view}
-use Rattle.jt_inherit.specs.internal.Sets.{names_view}
-use Rattle.jt_chains.specs.Chain.{a_chain}
-use Rattle.jt_inherit.specs.internal.ExtendsPaths.{IsExtendsPath, Grow, KnowTemplateFiles}
+use Rattle.jt_inherit.specs.internal.ExtendsPaths.{KnowTemplateFiles}
+use Rattle.jt_inherit.proofs.Vocabulary.{among, Text, templates_at, files_view, names_view, a_chain, IsExtendsPath}
+use Rattle.jt_inherit.proofs.Vocabulary.{Grow}
 use Rattle.jt_inherit.proofs.PathsGrow.{names}
 use Rattle.jt_inherit.proofs.extends_path.read_namespace.Given as goal
 

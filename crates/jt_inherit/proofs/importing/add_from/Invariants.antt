@@ -1,8 +1,5 @@
 use Rattle.std.proofs.Common.{◌≡◌, ◌++◌, drop}
-use Rattle.jt_ast.specs.StatementView.{given_view}
-use Rattle.jt_inherit.specs.internal.Given.{macros_held}
-use Rattle.jt_inherit.specs.internal.RuleTests.{names_from}
-use Rattle.jt_ast.specs.Texts.{texts}
+use Rattle.jt_inherit.proofs.Vocabulary.{given_view, macros_held, names_from, texts}
 use Rattle.jt_inherit.proofs.importing.add_from.Given as goal
 
 abbrev pub invariant-loop-name : goal.invariant-loop-name

@@ -1,5 +1,5 @@
 use Rattle.std.proofs.Common.{arith, rules}
-use Rattle.std.proofs.lemmas.List.{append-nil}
+use Rattle.jt_inherit.proofs.Vocabulary.{append-nil}
 use Rattle.jt_inherit.proofs.StoreLookup.{nothing_from}
 use Rattle.jt_inherit.proofs.importing.add_given.Goals as goal
 

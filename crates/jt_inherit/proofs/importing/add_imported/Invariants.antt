@@ -1,9 +1,5 @@
 use Rattle.std.proofs.Common.{◌≡◌, ◌++◌, drop}
-use Rattle.jt_ast.specs.StatementView.{body_view}
-use Rattle.jt_chains.specs.Chain.{sources_in}
-use Rattle.jt_chains.specs.TemplateFiles.{files_view}
-use Rattle.jt_inherit.specs.internal.RuleTests.{imported_names}
-use Rattle.jt_ast.specs.Texts.{texts}
+use Rattle.jt_inherit.proofs.Vocabulary.{body_view, sources_in, files_view, imported_names, texts}
 use Rattle.jt_inherit.proofs.importing.add_imported.Given as goal
 
 abbrev pub invariant-loop-statement : goal.invariant-loop-statement

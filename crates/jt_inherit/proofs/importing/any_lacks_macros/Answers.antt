@@ -1,9 +1,7 @@
 use Rattle.std.proofs.Common.{true, false, arith, rules, tests}
-use Rattle.std.proofs.lemmas.Iterator.{YieldsList-from_slice, cases_from_any}
+use Rattle.std.proofs.lemmas.Iterator.{cases_from_any}
 use Rattle.std.proofs.lemmas.Iterator.Adapters.{serves_from_places}
-use Rattle.jt_chains.specs.Chain.{Template, sources_in}
-use Rattle.jt_chains.specs.TemplateFiles.{files_view}
-use Rattle.jt_chains.specs.Rules.{lacks_macros}
+use Rattle.jt_inherit.proofs.Vocabulary.{YieldsList-from_slice, Template, sources_in, files_view, lacks_macros}
 use Rattle.jt_inherit.proofs.TestsAtIndices.{Tells, any_at, passes_at, index_at}
 use Rattle.jt_inherit.proofs.importing.any_lacks_macros.Goals as goal
 

@@ -1,13 +1,7 @@
 use Rattle.std.proofs.Common.{◌∙◌, ◌||◌, refl, string_bytes, rules, tests}
-use Rattle.std.specs.List.{list_any}
-use Rattle.std.specs.Option.{is_none}
-use Rattle.std.proofs.lemmas.Iterator.{YieldsList-from_slice}
-use Rattle.std.proofs.lemmas.Iterator.Search.{any_from_yields_List}
 use Rattle.std.proofs.lemmas.List.Recursion.{same_from_clauses}
-use Rattle.jt_ast.specs.StatementView.{given_view}
-use Rattle.jt_chains.specs.Chain.{public_macro}
-use Rattle.jt_inherit.specs.internal.Given.{macros_held}
-use Rattle.jt_inherit.specs.internal.RuleTests.{has_not}
+use Rattle.jt_inherit.proofs.Vocabulary.{list_any, is_none, YieldsList-from_slice, any_from_yields_List, given_view}
+use Rattle.jt_inherit.proofs.Vocabulary.{public_macro, macros_held, has_not}
 use Rattle.jt_inherit.proofs.importing.has_not.Goals as goal
 
 pub returns : goal.returns

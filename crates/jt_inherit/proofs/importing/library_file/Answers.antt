@@ -1,7 +1,5 @@
 use Rattle.std.proofs.Common.{◌<◌, length, get_or, ap, rules, refl, arith}
-use Rattle.jt_ast.specs.StatementView.{body_of}
-use Rattle.jt_chains.specs.Chain.{holds_macros}
-use Rattle.jt_inherit.specs.internal.Sets.{names_view}
+use Rattle.jt_inherit.proofs.Vocabulary.{body_of, holds_macros, names_view}
 use Rattle.jt_inherit.proofs.StoreLookup.{unread, index_read, is_library_read, macros_there}
 use Rattle.jt_inherit.proofs.importing.library_file.Goals as goal
 

@@ -1,12 +1,7 @@
 use Rattle.std.proofs.Common.{◌++◌, List, ℕ, get_or, sym, ap, ◌∙◌}
-use Rattle.std.proofs.lemmas.List.{at_drop_all, append-nil}
-use Rattle.jt_ast.specs.StatementView.{body_view}
-use Rattle.jt_chains.specs.Along.{along, templates_at}
-use Rattle.jt_chains.specs.Chain.{sources_in}
-use Rattle.jt_chains.specs.TemplateFiles.{files_view}
-use Rattle.jt_inherit.specs.internal.RuleTests.{imported_names}
-use Rattle.jt_ast.specs.Texts.{texts}
-use Rattle.jt_chains.proofs.TemplatesByIndex.{along_turn, file_at, index_within}
+use Rattle.std.proofs.lemmas.List.{at_drop_all}
+use Rattle.jt_inherit.proofs.Vocabulary.{append-nil, body_view, along, templates_at, sources_in, files_view}
+use Rattle.jt_inherit.proofs.Vocabulary.{imported_names, texts, along_turn, file_at, index_within}
 use Rattle.jt_inherit.proofs.DiscoveryInvariant.{indexed_templates}
 use Rattle.jt_inherit.proofs.ChainRules.{names_found}
 use Rattle.jt_inherit.proofs.importing.names_at.Goals as goal

@@ -1,7 +1,5 @@
 use Rattle.std.proofs.Common.{◌≡◌, ◌++◌, drop}
-use Rattle.jt_inherit.specs.internal.Along.{imports_along}
-use Rattle.jt_chains.specs.Needs.{needs_view}
-use Rattle.jt_chains.specs.TemplateFiles.{files_view}
+use Rattle.jt_inherit.proofs.Vocabulary.{imports_along, needs_view, files_view}
 use Rattle.jt_inherit.proofs.including.add_imports_at.Given as goal
 
 abbrev pub invariant-loop-index : goal.invariant-loop-index

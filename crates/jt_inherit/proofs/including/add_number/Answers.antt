@@ -1,14 +1,8 @@
 use Rattle.std.proofs.Common.{◌≡◌, ◌∷◌, [], Bool, true, false, if◌then◌else◌, string_bytes, sym, subst}
-use Rattle.std.proofs.lemmas.Result.{err_from_is_err_and}
-use Rattle.jt_inherit.specs.internal.Found.{AreNext, IsNextFault}
-use Rattle.jt_chains.specs.Chain.{a_chain, a_library}
-use Rattle.jt_chains.specs.Needs.{Need, need_namespace, need_view}
-use Rattle.jt_inherit.specs.internal.SetView.{key_view}
-use Rattle.jt_inherit.specs.declared.sets.NamespaceKey.{NamespaceKey}
-use Rattle.jt_inherit.specs.internal.Sets.{names_view, namespaces_view}
+use Rattle.jt_inherit.proofs.Vocabulary.{err_from_is_err_and, AreNext, IsNextFault, a_chain, a_library, Need}
+use Rattle.jt_inherit.proofs.Vocabulary.{need_namespace, need_view, key_view, NamespaceKey, names_view, namespaces_view}
+use Rattle.jt_inherit.proofs.Vocabulary.{of_texts, indexed_among}
 use Rattle.jt_inherit.proofs.FollowStep.{one_known}
-use Rattle.jt_inherit.proofs.NameMembership.{of_texts}
-use Rattle.jt_inherit.proofs.Membership.{indexed_among}
 use Rattle.jt_inherit.proofs.including.add_number.Goals as goal
 
 -- The key of a needed template has its name.

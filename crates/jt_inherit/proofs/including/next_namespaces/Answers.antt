@@ -1,15 +1,8 @@
 use Rattle.std.proofs.Common.{◌≡◌, List, ap, sym, subst, ◌∙◌, inr, ⊎_elim}
-use Rattle.jt_ast.specs.Expressions.{Text}
-use Rattle.jt_chains.specs.Chain.{Namespace, Template}
-use Rattle.jt_inherit.specs.internal.Along.{needs_along}
-use Rattle.jt_inherit.specs.internal.Found.{IsNextFault, IsNextFinding, TooMany, chosen}
-use Rattle.jt_inherit.specs.internal.Placing.{IsIncludedMore}
-use Rattle.jt_chains.specs.Needs.{Need, needs_view}
-use Rattle.jt_chains.specs.TemplateFiles.{files_view}
-use Rattle.jt_inherit.specs.internal.Sets.{names_view, namespaces_view}
-use Rattle.jt_inherit.specs.declared.error.ChainError.{ChainError}
 use Rattle.jt_inherit.specs.declared.error.ChainError.TheVariants as error
-use Rattle.jt_inherit.specs.declared.finding.ChainFinding.{ChainFinding}
+use Rattle.jt_inherit.proofs.Vocabulary.{Text, Namespace, Template, needs_along, IsNextFault, IsNextFinding, TooMany}
+use Rattle.jt_inherit.proofs.Vocabulary.{chosen, IsIncludedMore, Need, needs_view, files_view, names_view}
+use Rattle.jt_inherit.proofs.Vocabulary.{namespaces_view, ChainError, ChainFinding}
 use Rattle.jt_inherit.proofs.FollowStep.{many_turn, next_turn}
 use Rattle.jt_inherit.proofs.including.next_namespaces.Goals as goal
 

@@ -1,7 +1,5 @@
 use Rattle.std.proofs.Common.{take}
-use Rattle.jt_inherit.specs.internal.Found.{AreNext, chosen}
-use Rattle.jt_chains.specs.Needs.{needs_view}
-use Rattle.jt_inherit.specs.internal.Sets.{names_view, namespaces_view}
+use Rattle.jt_inherit.proofs.Vocabulary.{AreNext, chosen, needs_view, names_view, namespaces_view}
 use Rattle.jt_inherit.proofs.including.next_namespaces.Given as goal
 
 abbrev pub invariant-loop-include : goal.invariant-loop-include

@@ -1,8 +1,5 @@
 use Rattle.std.proofs.Common.{◌≡◌, length, arith, string_bytes}
-use Rattle.std.proofs.lemmas.List.{length-map}
-use Rattle.std.proofs.lemmas.Result.{err_from_is_err_and}
-use Rattle.jt_inherit.specs.internal.SetView.{key_view}
-use Rattle.jt_inherit.specs.internal.Sets.{namespaces_view}
+use Rattle.jt_inherit.proofs.Vocabulary.{length-map, err_from_is_err_and, key_view, namespaces_view}
 use Rattle.jt_inherit.proofs.FollowStep.{next_there, next_new, put_fault}
 use Rattle.jt_inherit.proofs.including.number_of.Goals as goal
 

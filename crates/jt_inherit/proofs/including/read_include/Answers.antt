@@ -1,14 +1,7 @@
 use Rattle.std.proofs.Common.{◌≡◌, ◌++◌, ◌∷◌, [], List, false, inl, sym, ap, subst, ◌∙◌, string_bytes}
-use Rattle.std.proofs.lemmas.List.{append_assoc}
-use Rattle.jt_ast.specs.Texts.{among}
-use Rattle.jt_ast.specs.Expressions.{Text}
-use Rattle.jt_chains.specs.Chain.{Template}
-use Rattle.jt_chains.specs.TemplateFiles.{file_view, files_view}
-use Rattle.jt_inherit.specs.internal.Sets.{names_view}
-use Rattle.jt_inherit.specs.internal.ExtendsPaths.{AreKnown}
+use Rattle.jt_inherit.proofs.Vocabulary.{append_assoc, among, Text, Template, file_view, files_view, names_view}
+use Rattle.jt_inherit.proofs.Vocabulary.{AreKnown, among_last, of_texts, among_next, indexed_among}
 use Rattle.jt_inherit.proofs.PathsGrow.{known_more, files_more}
-use Rattle.jt_inherit.proofs.NameMembership.{among_last, of_texts}
-use Rattle.jt_inherit.proofs.Membership.{among_next, indexed_among}
 use Rattle.jt_inherit.proofs.including.read_include.Goals as goal
 
 pub returns-in-Some-clause-met : goal.returns-in-Some-clause-met

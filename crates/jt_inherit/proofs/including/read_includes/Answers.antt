@@ -1,11 +1,6 @@
 use Rattle.std.proofs.Common.{◌≡◌, true, inr, ⊎_elim, take, refl, sym, ap, subst, ◌∙◌}
-use Rattle.std.specs.List.{AllByRecursion}
-use Rattle.jt_ast.specs.Texts.{among}
-use Rattle.jt_inherit.specs.internal.Along.{needs_along}
-use Rattle.jt_inherit.specs.internal.Found.{IsMet}
-use Rattle.jt_chains.specs.Needs.{needed, needs_view}
-use Rattle.jt_chains.specs.TemplateFiles.{files_view}
-use Rattle.jt_inherit.specs.internal.Sets.{names_view}
+use Rattle.jt_inherit.proofs.Vocabulary.{AllByRecursion, among, needs_along, IsMet, needed, needs_view, files_view}
+use Rattle.jt_inherit.proofs.Vocabulary.{names_view}
 use Rattle.jt_inherit.proofs.FollowStep.{asked_at, met_turn, met_grows}
 use Rattle.jt_inherit.proofs.PlacedErrors.{unmet_need}
 use Rattle.jt_inherit.proofs.including.read_includes.Goals as goal

@@ -1,13 +1,6 @@
 use Rattle.std.proofs.Common.{◌≡◌, ◌⊎◌, ◌++◌, true, take}
-use Rattle.std.specs.List.{AllByRecursion}
-use Rattle.jt_ast.specs.Texts.{among}
-use Rattle.jt_ast.specs.Expressions.{Text}
-use Rattle.jt_inherit.specs.internal.Along.{needs_along}
-use Rattle.jt_inherit.specs.internal.Found.{IsMet}
-use Rattle.jt_chains.specs.Needs.{needed, needs_view}
-use Rattle.jt_chains.specs.TemplateFiles.{files_view}
-use Rattle.jt_inherit.specs.internal.Sets.{names_view}
-use Rattle.jt_inherit.specs.internal.ExtendsPaths.{AreKnown}
+use Rattle.jt_inherit.proofs.Vocabulary.{AllByRecursion, among, Text, needs_along, IsMet, needed, needs_view}
+use Rattle.jt_inherit.proofs.Vocabulary.{files_view, names_view, AreKnown}
 use Rattle.jt_inherit.proofs.including.read_includes.Given as goal
 
 abbrev pub invariant-loop-include : goal.invariant-loop-include

@@ -1,12 +1,6 @@
-use Rattle.std.proofs.Common.{◌≡◌, ◌+◌, ◌++◌, ◌∷◌, [], List, String, Global, drop, map, string_bytes, sym, ap, ◌∙◌}
-use Rattle.std.proofs.lemmas.List.{append_assoc}
-use Rattle.jt_ast.specs.Expressions.{Text}
-use Rattle.jt_chains.specs.Along.{templates_at}
-use Rattle.jt_chains.specs.Chain.{Template}
-use Rattle.jt_chains.specs.TemplateFiles.{files_view}
-use Rattle.jt_chains.specs.declared.files.TemplateFile.{TemplateFile}
-use Rattle.jt_chains.proofs.TemplatesByIndex.{index_within}
-use Rattle.jt_inherit.proofs.NameMembership.{map_more}
+use Rattle.std.proofs.Common.{◌+◌, ◌++◌, ◌∷◌, [], List, String, Global, drop, map, string_bytes, sym, ap, ◌∙◌}
+use Rattle.jt_inherit.proofs.Vocabulary.{append_assoc, Text, templates_at, Template, files_view, TemplateFile}
+use Rattle.jt_inherit.proofs.Vocabulary.{index_within, map_more}
 use Rattle.jt_inherit.proofs.PathsGrow.{names, templates_turn}
 use Rattle.jt_inherit.proofs.placing.names_along.Goals as goal
 

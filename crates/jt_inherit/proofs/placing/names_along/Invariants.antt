@@ -1,6 +1,5 @@
 use Rattle.std.proofs.Common.{◌≡◌, ◌++◌, drop, map, string_bytes}
-use Rattle.jt_chains.specs.Along.{templates_at}
-use Rattle.jt_chains.specs.TemplateFiles.{files_view}
+use Rattle.jt_inherit.proofs.Vocabulary.{templates_at, files_view}
 use Rattle.jt_inherit.proofs.PathsGrow.{names}
 use Rattle.jt_inherit.proofs.placing.names_along.Given as goal
 

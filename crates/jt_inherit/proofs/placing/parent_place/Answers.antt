@@ -1,15 +1,8 @@
+use Rattle.std.proofs.Common.{rules}
 use Rattle.std.proofs.Common.{◌≡◌, ◌<◌, ℕ, List, length, sym, ap, subst, ◌∙◌, arith, Option, Some}
-use Rattle.std.specs.Prelude.{IfOk, option_map, slice_get}
-use Rattle.std.proofs.lemmas.List.{length-map}
-use Rattle.jt_ast.specs.Expressions.{Text}
-use Rattle.jt_uses.specs.Uses.{Site}
-use Rattle.jt_chains.specs.Chain.{Template}
-use Rattle.jt_chains.specs.TemplateFiles.{file_view, files_view}
-use Rattle.jt_chains.proofs.TemplatesByIndex.{map_at}
-use Rattle.jt_inherit.specs.Findings.{is_extends}
-use Rattle.jt_inherit.specs.internal.Placing.{uses_at, uses_of}
-use Rattle.jt_inherit.specs.internal.Tags.{place_in, place_view, tags, tags_view}
-use Rattle.jt_inherit.specs.declared.tags.FoundTag.{FoundTag}
+use Rattle.jt_inherit.proofs.Vocabulary.{IfOk, option_map, slice_get, length-map, Text, Site, Template, file_view}
+use Rattle.jt_inherit.proofs.Vocabulary.{files_view, map_at, is_extends, uses_at, uses_of, place_in, place_view, tags}
+use Rattle.jt_inherit.proofs.Vocabulary.{tags_view, FoundTag}
 use Rattle.jt_inherit.proofs.PlacedErrors.{index_at_end}
 use Rattle.jt_inherit.proofs.placing.parent_place.Goals as goal
 
@@ -19,13 +12,7 @@ returns-in_default c =
     c.in_default.ensures.value
 
 pub bounds-files-last : goal.bounds-files-last
-bounds-files-last c =
-    omega (
-      arith,
-      index_at_end (files_view c.args.files.now) c.args.extends_path.now c.in-Some.last.now c.requires
-          c.in-Some.ensures.value,
-      length-map c.args.files.now file_view,
-    )
+bounds-files-last c = search (arith, rules, index_at_end, length-map)
 
 pub returns : goal.returns
 returns c =

@@ -1,8 +1,6 @@
 use Rattle.std.proofs.Common.{◌≡◌, string_bytes, sym, ap, subst, ◌∙◌}
-use Rattle.jt_ast.specs.Statements.{Body}
-use Rattle.jt_ast.specs.StatementView.{body_of}
 use Rattle.jt_ast.specs.declared.statement.Template.{Template}
-use Rattle.jt_inherit.specs.Chains.{IsTree}
+use Rattle.jt_inherit.proofs.Vocabulary.{Body, body_of, IsTree}
 use Rattle.jt_inherit.proofs.SourceErrors.{only_read}
 use Rattle.jt_inherit.proofs.reading.read_file.Goals as goal
 

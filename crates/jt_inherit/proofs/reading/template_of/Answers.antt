@@ -1,18 +1,10 @@
+use Rattle.std.proofs.Common.{rules}
 use Rattle.std.proofs.Common.{◌≡◌, ◌≤◌, None, length, ap, subst, arith, IsUtf8}
 use Rattle.std.proofs.lemmas.Str.{IsUtf8-string_bytes}
 use Rattle.jt_scan.specs.Cut.{weight_of}
-use Rattle.jt_scan.specs.SourceView.{Held, max_source_len}
-use Rattle.jt_scan.specs.View.{cut_of}
-use Rattle.jt_parse.specs.Bytes.{bytes_of}
-use Rattle.jt_scan.specs.LineEnds.{normalized}
-use Rattle.jt_parse.specs.Grammar.{Spelled}
-use Rattle.jt_parse.specs.Kept.{pieces}
-use Rattle.jt_parse.specs.Refusals.{IsRefusal}
-use Rattle.jt_parse.specs.Names.{body_unknown}
-use Rattle.jt_ast.specs.Statements.{Body, body_levels}
-use Rattle.jt_ast.specs.StatementView.{body_of}
-use Rattle.jt_parse.specs.View.{reads_of}
 use Rattle.jt_parse.specs.declared.error.ParseError.TheVariants as parse_error
+use Rattle.jt_inherit.proofs.Vocabulary.{Held, max_source_len, cut_of, bytes_of, Spelled, pieces, IsRefusal}
+use Rattle.jt_inherit.proofs.Vocabulary.{body_unknown, Body, body_levels, body_of, reads_of}
 use Rattle.jt_inherit.proofs.SourceErrors.{limited, tree_found, only_tree, no_tree, unspelled}
 use Rattle.jt_inherit.proofs.TreeLengths.{taken, few_chars, few_bytes, cut_short}
 use Rattle.jt_inherit.proofs.reading.template_of.Goals as goal
@@ -46,18 +38,7 @@ returns-in-Ok-parse-clause-short c =
     )
 
 pub returns-in-Ok-parse-clause-spelled : goal.returns-in-Ok-parse-clause-spelled
-returns-in-Ok-parse-clause-spelled c =
-    let short : length c.args.text.now ≤ max_source_len =
-    limited c.args.text.now (λ long. let no = c.in-Ok.ensures.long long in absurd (cc)) in
-    let text : c.in-Ok.source.text ≡ normalized c.args.options.keep_trailing_newline c.args.text.now = taken
-    c.args.options c.args.text.now c.in-Ok.source (λ long. let no = c.in-Ok.ensures.long long in absurd (cc))
-    c.in-Ok.ensures.short in
-    tree_found c.args.options c.args.text.now c.in-Ok.source (c.in-Ok.ensures.short short) c.in-Ok-scan.segments.items
-    c.in-Ok-parse.template short c.in-Ok-scan.ensures.cut c.in-Ok-scan.ensures.options
-    (subst (λ z. Spelled (body_of c.in-Ok-parse.template) (pieces (reads_of z))
-    × (body_levels (body_of c.in-Ok-parse.template) ≤ 100))
-    c.as_slice.ensures.value c.in-Ok-parse.ensures.spelled)
-    c.in-Ok-parse.ensures.known
+returns-in-Ok-parse-clause-spelled c = search (arith, rules, limited, taken, tree_found)
 
 pub returns-in-Ok-parse-clause-only : goal.returns-in-Ok-parse-clause-only
 returns-in-Ok-parse-clause-only c =

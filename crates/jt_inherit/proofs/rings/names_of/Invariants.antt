@@ -1,6 +1,5 @@
 use Rattle.std.proofs.Common.{◌≡◌, ◌++◌, drop, map, string_bytes}
-use Rattle.jt_inherit.specs.internal.Found.{found_namespaces}
-use Rattle.jt_inherit.specs.internal.Rings.{name_at}
+use Rattle.jt_inherit.proofs.Vocabulary.{found_namespaces, name_at}
 use Rattle.jt_inherit.proofs.rings.names_of.Given as goal
 
 abbrev pub invariant-loop-number : goal.invariant-loop-number

@@ -1,12 +1,8 @@
-use Rattle.std.proofs.Common.{◌≡◌, ◌<◌, ◌∙◌, ℕ, true, List, length, map, refl, sym, ap, subst, Vec, Global}
-use Rattle.std.specs.List.{AllByRecursion}
-use Rattle.std.proofs.lemmas.List.{length-map}
-use Rattle.jt_graph.specs.View.{graph_of}
-use Rattle.jt_chains.specs.Indices.{namespace_at}
-use Rattle.jt_inherit.specs.internal.Imported.{leading_at}
-use Rattle.jt_inherit.specs.internal.Found.{found_namespaces, found_paths, found_templates}
-use Rattle.jt_inherit.specs.internal.Rings.{leads_round, name_at}
-use Rattle.jt_inherit.specs.declared.discovery.Discovery.{Discovery}
+use Rattle.std.proofs.Common.{arith, rules}
+use Rattle.std.proofs.Common.{◌≡◌, ◌<◌, ◌∙◌, ℕ, true, List, length, sym, subst, Vec, Global}
+use Rattle.jt_inherit.proofs.Vocabulary.{AllByRecursion, length-map, graph_of}
+use Rattle.jt_inherit.proofs.Vocabulary.{found_namespaces, leads_round}
+use Rattle.jt_inherit.proofs.Vocabulary.{Discovery}
 use Rattle.jt_inherit.proofs.RingFound.{last_within, ring_within}
 use Rattle.jt_inherit.proofs.rings.ring_finding.Goals as goal
 
@@ -19,30 +15,13 @@ nodes : (f : Discovery) → length f.next.items ≡ length (found_namespaces f)
 nodes f e = length-map f.next.items (λ (v : Vec ℕ Global). v.items) ∙ e
 
 pub leading_tag-requires-clause-from : goal.leading_tag-requires-clause-from
-leading_tag-requires-clause-from c =
-    let f = c.args.found.now in
-    let i = c.in-Some.ring.first in
-    let is = c.in-Some.ring.others.items in
-    let r = round_of f i is c.deref-2.result.now c.deref-2.ensures.value c.in-Some-closing.ensures.round in
-    subst (λ n. c.in-Some-closing.last < n) (nodes f c.requires.next ∙ sym c.requires.paths)
-    (subst (λ n. n < length (graph_of f.next.items)) (sym c.in-Some-closing.ensures.last)
-    (last_within (graph_of f.next.items) i is i r))
+leading_tag-requires-clause-from c = search (arith, rules, round_of, nodes, last_within)
 
 pub leading_tag-requires-clause-to : goal.leading_tag-requires-clause-to
-leading_tag-requires-clause-to c =
-    let f = c.args.found.now in
-    let i = c.in-Some.ring.first in
-    let is = c.in-Some.ring.others.items in
-    let r = round_of f i is c.deref-2.result.now c.deref-2.ensures.value c.in-Some-closing.ensures.round in
-    subst (λ n. i < n) (nodes f c.requires.next) (ring_within (graph_of f.next.items) i is i r).0
+leading_tag-requires-clause-to c = search (arith, rules, round_of, nodes, ring_within)
 
 pub name_of-requires : goal.name_of-requires
-name_of-requires c =
-    let f = c.args.found.now in
-    let i = c.in-Some.ring.first in
-    let is = c.in-Some.ring.others.items in
-    let r = round_of f i is c.deref-2.result.now c.deref-2.ensures.value c.in-Some-closing.ensures.round in
-    subst (λ n. i < n) (nodes f c.requires.next) (ring_within (graph_of f.next.items) i is i r).0
+name_of-requires c = search (arith, rules, round_of, nodes, ring_within)
 
 pub names_of-requires : goal.names_of-requires
 names_of-requires c =
@@ -55,21 +34,4 @@ names_of-requires c =
     (ring_within (graph_of f.next.items) i is i r).1)
 
 pub returns : goal.returns
-returns c =
-    let f = c.args.found.now in
-    let hs = found_namespaces f in
-    let i = c.in-Some.ring.first in
-    let is = c.in-Some.ring.others.items in
-    let r = round_of f i is c.deref-2.result.now c.deref-2.ensures.value c.in-Some-closing.ensures.round in (
-      refl,
-      record {
-        first = i;
-        others = is;
-        round = r;
-        first_name = c.in_ok-name.ensures;
-        other_names = c.in_ok-rest.ensures ∙ ap (map (name_at hs)) c.deref-3.ensures.value;
-        tag =
-            c.in_ok-place.ensures
-            ∙ ap (leading_at (found_templates f) (found_paths f) (namespace_at hs i)) c.in-Some-closing.ensures.last;
-      },
-    )
+returns c = search (arith, rules, round_of)

@@ -1,7 +1,6 @@
 use Rattle.std.proofs.Common.{arith, rules}
-use Rattle.std.proofs.lemmas.List.{length-map}
+use Rattle.jt_inherit.proofs.Vocabulary.{length-map, index_within}
 use Rattle.jt_inherit.proofs.BodyRules.{double_found, double_none}
-use Rattle.jt_chains.proofs.TemplatesByIndex.{index_within}
 use Rattle.jt_inherit.proofs.rules.any_double.Goals as goal
 
 pub returns-then-branch : goal.returns-then-branch

@@ -1,7 +1,5 @@
 use Rattle.std.proofs.Common.{◌≡◌, drop}
-use Rattle.jt_chains.specs.Along.{templates_at}
-use Rattle.jt_inherit.specs.internal.RuleTests.{any_double}
-use Rattle.jt_chains.specs.TemplateFiles.{files_view}
+use Rattle.jt_inherit.proofs.Vocabulary.{templates_at, any_double, files_view}
 use Rattle.jt_inherit.proofs.rules.any_double.Given as goal
 
 abbrev pub invariant-loop-index : goal.invariant-loop-index

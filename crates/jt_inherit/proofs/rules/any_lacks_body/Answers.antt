@@ -1,10 +1,6 @@
 use Rattle.std.proofs.Common.{◌∷◌, [], ◌&&◌, not, List, take, sym, ap, subst, ◌∙◌}
-use Rattle.std.proofs.lemmas.List.{map-append}
-use Rattle.jt_ast.specs.Texts.{among, texts}
-use Rattle.jt_inherit.specs.internal.Checks.{block_names}
-use Rattle.jt_chains.specs.declared.parts.Block.{Block}
+use Rattle.jt_inherit.proofs.Vocabulary.{map-append, among, texts, block_names, Block, blocks_view}
 use Rattle.jt_inherit.proofs.BodyRules.{AreGiven, among_set, body_lacking, body_goes, take_next, take_all, all_given}
-use Rattle.jt_chains.specs.Parts.{blocks_view}
 use Rattle.jt_inherit.proofs.rules.any_lacks_body.Goals as goal
 
 pub returns-then-is_lacking : goal.returns-then-is_lacking

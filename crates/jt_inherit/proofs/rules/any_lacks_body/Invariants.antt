@@ -1,9 +1,5 @@
 use Rattle.std.proofs.Common.{◌≡◌, List, take}
-use Rattle.jt_ast.specs.Expressions.{Text}
-use Rattle.jt_ast.specs.Texts.{among, texts}
-use Rattle.jt_chains.specs.Chain.{Template}
-use Rattle.jt_inherit.specs.internal.Checks.{block_names}
-use Rattle.jt_chains.specs.Parts.{blocks_view}
+use Rattle.jt_inherit.proofs.Vocabulary.{Text, among, texts, Template, block_names, blocks_view}
 use Rattle.jt_inherit.proofs.BodyRules.{AreGiven}
 use Rattle.jt_inherit.proofs.rules.any_lacks_body.Given as goal
 

@@ -1,12 +1,6 @@
 use Rattle.std.proofs.Common.{◌≡◌, ◌++◌, ◌∷◌, ◌&&◌, ◌||◌, [], List, not, sym, ap, ◌∙◌, arith, rules}
-use Rattle.std.specs.Option.{option_to_list}
-use Rattle.std.specs.Str.{bytes_eq}
-use Rattle.std.proofs.lemmas.List.{append_assoc}
-use Rattle.jt_ast.specs.StatementView.{body_view}
-use Rattle.jt_inherit.specs.internal.Checks.{lacks_next}
-use Rattle.jt_chains.specs.Parts.{block_view, blocks_view}
-use Rattle.jt_chains.specs.Supers.{calls_super}
-use Rattle.jt_chains.specs.declared.parts.Block.{Block}
+use Rattle.jt_inherit.proofs.Vocabulary.{option_to_list, bytes_eq, append_assoc, body_view, lacks_next, block_view}
+use Rattle.jt_inherit.proofs.Vocabulary.{blocks_view, calls_super, Block}
 use Rattle.jt_inherit.proofs.BodyRules.{any_text, has_given, next_more, next_lacking, all_next, no_items}
 use Rattle.jt_inherit.proofs.rules.any_lacks_next.Goals as goal
 

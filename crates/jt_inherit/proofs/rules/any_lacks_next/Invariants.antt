@@ -1,9 +1,5 @@
 use Rattle.std.proofs.Common.{◌≡◌, ◌++◌, List, length}
-use Rattle.jt_ast.specs.Expressions.{Text}
-use Rattle.jt_ast.specs.Texts.{among, texts}
-use Rattle.jt_chains.specs.Chain.{Template}
-use Rattle.jt_chains.specs.Parts.{blocks_view}
-use Rattle.jt_chains.specs.declared.parts.Block.{Block}
+use Rattle.jt_inherit.proofs.Vocabulary.{Text, among, texts, Template, blocks_view, Block}
 use Rattle.jt_inherit.proofs.BodyRules.{has_given, HaveNext}
 use Rattle.jt_inherit.proofs.rules.any_lacks_next.Given as goal
 

@@ -1,6 +1,5 @@
 use Rattle.std.proofs.Common.{sym, ◌∙◌}
-use Rattle.jt_ast.specs.Texts.{texts}
-use Rattle.jt_chains.specs.declared.parts.Block.{Block}
+use Rattle.jt_inherit.proofs.Vocabulary.{texts, Block}
 use Rattle.jt_inherit.proofs.BodyRules.{repeat_found, repeat_goes}
 use Rattle.jt_inherit.proofs.rules.blocks_repeat.Goals as goal
 

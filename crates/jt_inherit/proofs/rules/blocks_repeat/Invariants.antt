@@ -1,7 +1,5 @@
 use Rattle.std.proofs.Common.{◌≡◌, false, take}
-use Rattle.jt_ast.specs.Expressions.{Text}
-use Rattle.jt_ast.specs.Texts.{among, repeated, texts}
-use Rattle.jt_inherit.specs.internal.Checks.{block_names}
+use Rattle.jt_inherit.proofs.Vocabulary.{Text, among, repeated, texts, block_names}
 use Rattle.jt_inherit.proofs.rules.blocks_repeat.Given as goal
 
 abbrev pub invariant-loop-block : goal.invariant-loop-block

@@ -1,13 +1,8 @@
 use Rattle.std.proofs.Common.{List, sym, ap, ◌∙◌}
-use Rattle.jt_ast.specs.Texts.{repeated, texts}
-use Rattle.jt_inherit.specs.internal.Checks.{lacks_body}
-use Rattle.jt_chains.specs.Along.{templates_at}
-use Rattle.jt_chains.specs.TemplateFiles.{files_view}
-use Rattle.jt_chains.specs.Parts.{blocks_view}
-use Rattle.jt_chains.specs.declared.parts.Block.{Block}
-use denote.Ref.{Bor}
-use Rattle.jt_ast.specs.Expressions.{Text}
+use Rattle.jt_inherit.proofs.Vocabulary.{repeated, texts, lacks_body, templates_at, files_view, blocks_view, Block, Bor}
+use Rattle.jt_inherit.proofs.Vocabulary.{Text}
 use Rattle.jt_inherit.proofs.DiscoveryInvariant.{indexed_templates}
+use Rattle.jt_inherit.proofs.FindingsHold.{rule_broken}
 use Rattle.jt_inherit.proofs.ChainRules.{bodies_told, next_told}
 use Rattle.jt_inherit.proofs.rules.check_rules.Goals as goal
 
@@ -15,19 +10,19 @@ pub returns-then-branch-3-clause-broken : goal.returns-then-branch-3-clause-brok
 returns-then-branch-3-clause-broken c =
     let ts = files_view c.args.store.files.now in
     let is = c.args.indices.now in
-    bodies_told c.args.escaping ts (templates_at ts is) is (indexed_templates ts is c.requires)
+    rule_broken (bodies_told c.args.escaping ts (templates_at ts is) is (indexed_templates ts is c.requires)
     c.in_ok-blocks.blocks.items c.in_ok-any_lacks_body.field-0 c.in_ok-blocks.ensures
     (c.in_ok-any_lacks_body.ensures ts ∙ ap (λ (z : List Block). lacks_body (blocks_view ts z)) c.deref-2.ensures.value)
-    ∙ c.if-branch-3.true
+    ∙ c.if-branch-3.true) c.in_ok-not_given.ensures
 
 pub returns-then-branch-4-clause-broken : goal.returns-then-branch-4-clause-broken
 returns-then-branch-4-clause-broken c =
     let ts = files_view c.args.store.files.now in
     let is = c.args.indices.now in
-    next_told c.args.escaping ts (templates_at ts is) is (indexed_templates ts is c.requires)
-    c.in_ok-blocks.blocks.items
-    c.in_ok-any_lacks_next.field-0 c.in_ok-blocks.ensures (c.in_ok-any_lacks_next.ensures ts)
-    ∙ c.if-branch-4.true
+    rule_broken (next_told c.args.escaping ts (templates_at ts is) is (indexed_templates ts is c.requires)
+    c.in_ok-blocks.blocks.items c.in_ok-any_lacks_next.field-0 c.in_ok-blocks.ensures
+    (c.in_ok-any_lacks_next.ensures ts)
+    ∙ c.if-branch-4.true) c.in_ok-no_super.ensures
 
 pub returns-clause-kept : goal.returns-clause-kept
 returns-clause-kept c =

@@ -1,8 +1,6 @@
 use Rattle.std.proofs.Common.{[], get_or, sym, ◌∙◌}
 use Rattle.std.proofs.lemmas.List.{get_or_default}
-use denote.Ref.{Bor}
-use Rattle.jt_ast.specs.Expressions.{Text}
-use Rattle.jt_ast.specs.Texts.{texts}
+use Rattle.jt_inherit.proofs.Vocabulary.{Bor, Text, texts}
 use Rattle.jt_inherit.proofs.BodyRules.{repeat_found, repeat_goes}
 use Rattle.jt_inherit.proofs.rules.names_repeat.Goals as goal
 

@@ -1,6 +1,5 @@
 use Rattle.std.proofs.Common.{◌≡◌, false, take}
-use Rattle.jt_ast.specs.Expressions.{Text}
-use Rattle.jt_ast.specs.Texts.{among, repeated, texts}
+use Rattle.jt_inherit.proofs.Vocabulary.{Text, among, repeated, texts}
 use Rattle.jt_inherit.proofs.rules.names_repeat.Given as goal
 
 abbrev pub invariant-loop-name : goal.invariant-loop-name

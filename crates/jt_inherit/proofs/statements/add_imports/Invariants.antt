@@ -1,7 +1,5 @@
 use Rattle.std.proofs.Common.{◌≡◌, ◌++◌, drop, map}
-use Rattle.jt_ast.specs.StatementView.{body_view}
-use Rattle.jt_chains.specs.Chain.{libraries_in}
-use Rattle.jt_chains.specs.Needs.{library_need, needs_view}
+use Rattle.jt_inherit.proofs.Vocabulary.{body_view, libraries_in, library_need, needs_view}
 use Rattle.jt_inherit.proofs.statements.add_imports.Given as goal
 
 abbrev pub invariant-loop-statement : goal.invariant-loop-statement

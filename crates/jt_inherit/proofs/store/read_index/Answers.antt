@@ -1,13 +1,8 @@
+use Rattle.std.proofs.Common.{rules}
 use Rattle.std.proofs.Common.{◌≡◌, ◌++◌, ◌∷◌, [], List, false, sym, ap, subst, ◌∙◌, arith, string_bytes, inl}
-use Rattle.std.specs.Prelude.{slice_get}
-use Rattle.std.proofs.lemmas.List.{append-nil}
-use Rattle.jt_ast.specs.Texts.{among}
-use Rattle.jt_ast.specs.Expressions.{Text}
-use Rattle.jt_chains.specs.TemplateFiles.{file_view, files_view}
-use Rattle.jt_inherit.specs.internal.Sets.{names_view}
-use Rattle.jt_inherit.specs.internal.ExtendsPaths.{AreKnown}
+use Rattle.jt_inherit.proofs.Vocabulary.{slice_get, append-nil, among, Text, file_view, files_view, names_view}
+use Rattle.jt_inherit.proofs.Vocabulary.{AreKnown, among_last}
 use Rattle.jt_inherit.proofs.PathsGrow.{known_more, files_more, file_last}
-use Rattle.jt_inherit.proofs.NameMembership.{among_last}
 use Rattle.jt_inherit.proofs.store.read_index.Goals as goal
 
 pub returns-in-Some-clause-grown : goal.returns-in-Some-clause-grown
@@ -41,10 +36,7 @@ returns-clause-grown g c = (
 )
 
 pub returns-clause-index : goal.returns-clause-index
-returns-clause-index g c =
-    file_last c.args.files.now.items c.add_file.new.files.items c.in_ok-file.file c.args.name.now c.len-index.result
-    c.in_ok-add_file.ensures.files c.in_ok-file.ensures.named
-    (omega (arith, c.len-index.ensures, c.args.files.now.ok.0))
+returns-clause-index g c = search (arith, rules, file_last)
 
 pub returns-in-Some-clause-from : goal.returns-in-Some-clause-from
 returns-in-Some-clause-from g c = λ n a. inl a

@@ -1,6 +1,5 @@
 use Rattle.std.proofs.Common.{◌≡◌, drop}
-use Rattle.jt_ast.specs.ExpressionView.{exprs_view, pairs_view}
-use Rattle.jt_chains.specs.Supers.{row_super, pairs_super}
+use Rattle.jt_inherit.proofs.Vocabulary.{exprs_view, pairs_view, row_super, pairs_super}
 use Rattle.jt_inherit.proofs.supers.+expressions.Given as goal
 
 abbrev pub invariant-any_super-loop-item : goal.invariant-any_super-loop-item

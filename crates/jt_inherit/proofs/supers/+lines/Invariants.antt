@@ -1,16 +1,24 @@
-use Rattle.std.proofs.Common.{◌≡◌, ℕ, true, drop}
-use Rattle.jt_ast.specs.StatementView.{body_view, branches_view}
-use Rattle.jt_inherit.specs.SuperTags.{branches_super_at, super_at}
+use Rattle.std.proofs.Common.{◌≡◌, ◌+◌, ◌*◌, drop}
+use denote.Param.Weighed.{most}
+use Rattle.jt_ast.specs.declared.statement.Stmt.{size-Stmt}
+use Rattle.jt_ast.proofs.RemainingParts.{Branch}
+use Rattle.jt_ast.specs.StatementView.{branches_view}
+use Rattle.jt_inherit.proofs.Vocabulary.{body_view, first_in, first_under}
 use Rattle.jt_inherit.proofs.supers.+lines.Given as goal
+
+abbrev pub decreases-statement_line : goal.decreases-statement_line
+decreases-statement_line l = 8 * size-Stmt l.statement.now
+
+abbrev pub decreases-super_line : goal.decreases-super_line
+decreases-super_line l = 8 * most (λ x. size-Stmt x) l.body.now + 1
+
+abbrev pub decreases-branch_line : goal.decreases-branch_line
+decreases-branch_line l = 8 * most (λ (b : Branch). most (λ x. size-Stmt x) b.body.items) l.branches.now + 2
+
+abbrev pub invariant-branch_line-loop-line : goal.invariant-branch_line-loop-line
+invariant-branch_line-loop-line l =
+    first_under (branches_view l.branches) ≡ first_under (branches_view (drop l.line-index l.branches))
 
 abbrev pub invariant-super_line-loop-statement : goal.invariant-super_line-loop-statement
 invariant-super_line-loop-statement l =
-    (n : ℕ)
-    → super_at n (body_view (drop l.statement-index l.body)) ≡ true
-    → super_at n (body_view l.body) ≡ true
-
-abbrev pub invariant-statement_line-loop-line : goal.invariant-statement_line-loop-line
-invariant-statement_line-loop-line l =
-    (n : ℕ)
-    → branches_super_at n (branches_view (drop l.line-index l.line-items)) ≡ true
-    → branches_super_at n (branches_view l.line-items) ≡ true
+    first_in (body_view l.body) ≡ first_in (body_view (drop l.statement-index l.body))

@@ -1,11 +1,9 @@
-use Rattle.std.proofs.Common.{◌≡◌, ◌∙◌, Bool, true, false, ◌||◌, List, [], ◌∷◌, refl, ap, rules, tests}
-use Rattle.std.specs.List.{list_any}
-use Rattle.std.proofs.lemmas.Iterator.{YieldsList-from_slice}
-use Rattle.std.proofs.lemmas.Iterator.Search.{any_from_yields_List}
-use Rattle.jt_ast.specs.ExpressionView.{exprs_view, pairs_view}
+use Rattle.std.proofs.Common.{arith}
+use Rattle.std.proofs.Common.{◌≡◌, ◌∙◌, Bool, true, false, ◌||◌, List, [], ◌∷◌, refl, rules, tests}
 use Rattle.jt_ast.specs.StatementView.{filter_calls_view}
 use Rattle.jt_ast.specs.declared.statement.FilterCall.{FilterCall}
-use Rattle.jt_chains.specs.Supers.{filter_call_super, row_super, pairs_super}
+use Rattle.jt_inherit.proofs.Vocabulary.{list_any, YieldsList-from_slice, any_from_yields_List, exprs_view, pairs_view}
+use Rattle.jt_inherit.proofs.Vocabulary.{filter_call_super, row_super, pairs_super}
 use Rattle.jt_inherit.proofs.supers.filters_super.Goals as goal
 
 abbrev has_super : FilterCall → Bool
@@ -17,10 +15,7 @@ or_assoc false b c = refl
 
 any_super : (fs : List FilterCall) → list_any has_super fs ≡ filter_call_super (filter_calls_view fs)
 any_super [] = refl
-any_super (f ∷ fs) =
-    ap (λ b. has_super f || b) (any_super fs)
-    ∙ or_assoc (row_super (exprs_view f.arguments.items)) (pairs_super (pairs_view f.keywords.items))
-    (filter_call_super (filter_calls_view fs))
+any_super (f ∷ fs) = search (arith, rules, or_assoc, any_super fs)
 
 pub returns : goal.returns
 returns c =

@@ -1,10 +1,6 @@
 use Rattle.std.proofs.Common.{ap, ◌∙◌}
-use Rattle.std.proofs.lemmas.List.{map-append}
-use Rattle.jt_chains.specs.Along.{templates_at}
-use Rattle.jt_chains.specs.TemplateFiles.{files_view}
-use Rattle.jt_chains.proofs.TemplatesByIndex.{index_within}
-use Rattle.jt_inherit.specs.Findings.{all_uses}
-use Rattle.jt_inherit.specs.internal.Tags.{tag_view, tags, tags_view, test_of}
+use Rattle.jt_inherit.proofs.Vocabulary.{map-append, templates_at, files_view, index_within, all_uses, tag_view, tags}
+use Rattle.jt_inherit.proofs.Vocabulary.{tags_view, test_of}
 use Rattle.jt_inherit.proofs.TagPlaces.{tags_turn}
 use Rattle.jt_inherit.proofs.tags.tags_at.Goals as goal
 

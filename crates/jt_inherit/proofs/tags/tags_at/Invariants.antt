@@ -1,8 +1,5 @@
 use Rattle.std.proofs.Common.{◌≡◌, ◌++◌, drop}
-use Rattle.jt_chains.specs.Along.{templates_at}
-use Rattle.jt_chains.specs.TemplateFiles.{files_view}
-use Rattle.jt_inherit.specs.Findings.{all_uses}
-use Rattle.jt_inherit.specs.internal.Tags.{test_of, tags, tags_view}
+use Rattle.jt_inherit.proofs.Vocabulary.{templates_at, files_view, all_uses, test_of, tags, tags_view}
 use Rattle.jt_inherit.proofs.tags.tags_at.Given as goal
 
 abbrev pub invariant-loop-index : goal.invariant-loop-index

@@ -17,9 +17,9 @@ returns-in-Map c =
 pub returns-in-Text : goal.returns-in-Text
 returns-in-Text c =
     text_counted (view c.args.value.now) _ c.character_count.result (ap view c.in-Text.is)
-    (rw c.as_str.ensures.value at c.character_count.ensures)
+    (rw c.as_str.ensures at c.character_count.ensures)
 
 pub returns-in-Markup : goal.returns-in-Markup
 returns-in-Markup c =
     markup_counted (view c.args.value.now) _ c.character_count-in-Markup.result (ap view c.in-Markup.is)
-    (rw c.as_str-in-Markup.ensures.value at c.character_count-in-Markup.ensures)
+    (rw c.as_str-in-Markup.ensures at c.character_count-in-Markup.ensures)

@@ -2,6 +2,7 @@ use Rattle.std.proofs.Common.{◌∙◌, map, ap}
 use Rattle.std.proofs.lemmas.List.{take_all}
 use Rattle.jt_value.specs.Tree.{text}
 use Rattle.jt_value.specs.View.{view, items_of}
+use Rattle.jt_value.specs.declared.value.Value.TheVariants as value
 use Rattle.jt_machine.proofs.StepLemmas.{mapped-more, key_of, keys-are}
 use Rattle.jt_machine.proofs.items.keys.Goals as goal
 
@@ -10,8 +11,8 @@ entries-preserved c =
     let lt = c.entries-test.true in
     let is = c.entry-item.is in
     rw c.in_ok-push.ensures.items (mapped-more view key_of c.entries.keys.items c.args.entries.now c.entries.entry-index
-    c.in_ok-text.field-0 c.entry-item.result lt c.entries.invariant
-    (c.in_ok-text.ensures ∙ ap text c.as_str.ensures.value ∙ ap key_of is))
+    (value.Text c.in_ok-clone.field-0) c.entry-item.result lt c.entries.invariant
+    (ap text c.in_ok-clone.ensures.cases ∙ ap key_of is))
 
 pub returns : goal.returns
 returns c =

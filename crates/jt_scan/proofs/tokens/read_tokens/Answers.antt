@@ -10,7 +10,7 @@ pub tokens-init : goal.tokens-init
 tokens-init c = (
   search rules,
   omega arith,
-  rw c.new-tokens.ensures.items (read_none c.args.kind c.args.line (chars c.args.text.now)),
+  rw c.in_ok-tokens.ensures.items (read_none c.args.kind c.args.line (chars c.args.text.now)),
 )
 
 pub returns-in_err-found : goal.returns-in_err-found

@@ -9,5 +9,5 @@ returns-in-Some c = λ less up value.
     let there = c.in-Some.ensures.item in
     ascends-more c.args.entries.now (length c.args.entries.now - 1) c.in-Some.last.now c.args.key.now value
     (omega (arith, there.3.0)) there.1
-    (ap (λ k. is_lt (slice_cmp nat_cmp k c.args.key.now)) (sym c.as_str.ensures.value) ∙ sym c.is_before.ensures ∙ less)
+    (ap (λ k. is_lt (slice_cmp nat_cmp k c.args.key.now)) (sym c.as_str.ensures) ∙ sym c.is_before.ensures ∙ less)
     up

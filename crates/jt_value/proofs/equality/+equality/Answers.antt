@@ -1,5 +1,4 @@
 use Rattle.std.proofs.Common.{◌≡◌, ◌≢◌, ◌<◌, true, false, Bor, List, length, get_or, sym, ap, ◌∙◌, true≢false, arith}
-use Rattle.std.proofs.Common.{string_bytes}
 use Rattle.jt_value.specs.Entries.{entry_of, has_key, all_keys, keys, same_keys}
 use Rattle.jt_value.specs.Equality.{equal, equal_at, equal_items}
 use Rattle.jt_value.specs.Falls.{size_le, sizes-items}
@@ -87,7 +86,7 @@ are_first_values_equal-returns-then-not-is_first_value t c =
     let same : entries_view xs ≡ es = c.loop-key.invariant.entries in
     let i = c.loop-key.key-index in
     let e = c.loop-key-item.result in
-    let k = string_bytes e.0 in
+    let k = e.0 in
     let lt : i < length xs = c.loop-key-test.true in
     let is : e ≡ get_or xs i e = c.loop-key-item.is in
     let new = seen c.deref.result.now k xs es same i c.loop-key.index false (c.if-counts.ensures) c.deref.ensures
@@ -106,7 +105,7 @@ are_first_values_equal-loop-key-preserved t c =
     let same : entries_view xs ≡ es = c.loop-key.invariant.entries in
     let i = c.loop-key.key-index in
     let e = c.loop-key-item.result in
-    let k = string_bytes e.0 in
+    let k = e.0 in
     let lt : i < length xs = c.loop-key-test.true in
     let is : e ≡ get_or xs i e = c.loop-key-item.is in
     record {
@@ -157,7 +156,7 @@ are_values_equal_in_place-returns-then-not-has_before t c =
     let lt : i < length xs = c.loop-key-test.true in
     let is : e ≡ get_or xs i e = c.loop-key-item.is in
     let at : f ≡ get_or ys i f = c.index-others-index.is ∙ ap (λ n. get_or ys n f) c.loop-key.invariant.index in
-    let new = seen c.deref.result.now (string_bytes e.0) xs es same i c.loop-key.index false
+    let new = seen c.deref.result.now e.0 xs es same i c.loop-key.index false
     (c.if-not-has_before.ensures) c.deref.ensures c.loop-key.invariant.index in
     sym (ap (all_keys (λ n. equal_at es n (entry_of n (entries_view ys)))) (sym same)
     ∙ fails (λ n. equal_at es n (entry_of n (entries_view ys))) xs i e lt is
@@ -184,7 +183,7 @@ are_values_equal_in_place-loop-key-preserved t c =
           passes (λ n. equal_at es n (entry_of n (entries_view ys))) xs i e lt is c.loop-key.invariant.so_far (λ new.
           elim c.else-not-are_equal.branch [
             | are_values_equal_in_place-else-not-are_equal-via-then-not-are_equal+else-not-has_before w ↦
-                absurd (true≢false (sym (seen w.deref.result.now (string_bytes e.0) xs es same i c.loop-key.index true
+                absurd (true≢false (sym (seen w.deref.result.now e.0 xs es same i c.loop-key.index true
                 (w.if-not-has_before.ensures) w.deref.ensures c.loop-key.invariant.index)
                 ∙ new))
             | are_values_equal_in_place-else-not-are_equal-via-else-not-are_equal w ↦

@@ -5,7 +5,7 @@ use Rattle.jt_ast.specs.Expressions.{Text}
 use Rattle.jt_layout.specs.Names.{index_in}
 use Rattle.jt_ast.specs.Texts.{texts}
 use Rattle.jt_bind.specs.internal.Names.{last_among}
-use Rattle.jt_bind.proofs.NumberedNames.{placed_next}
+use Rattle.jt_bind.proofs.PlacesAndScopes.{placed_next}
 use Rattle.jt_bind.proofs.name_scope.NameScope.new.Goals as goal
 
 pub invariant_of-result : goal.invariant_of-result

@@ -23,8 +23,7 @@ use Rattle.jt_ids.specs.LoopTable.{field_named}
 use Rattle.jt_ir.specs.Pool.{Constant, own}
 use Rattle.jt_ir.specs.Slots as slots
 use Rattle.jt_ir.specs.Slots.{invoke}
-use Rattle.jt_eval.specs.TheFilters.{the_filters}
-use Rattle.jt_eval.specs.TheFilters.{filter_parameters as written_parameters}
+use Rattle.jt_eval.specs.TheFilters.{the_filters, filter_parameters as written_parameters}
 use Rattle.jt_ir.specs.View.{expr_view as coded, row_view}
 use Rattle.jt_ir.specs.declared.program.SlotExpr as code
 use Rattle.jt_ir.specs.declared.program.SlotExpr.TheVariants as e
@@ -34,14 +33,14 @@ use Rattle.jt_bind.specs.internal.Formed.{form_view}
 use Rattle.jt_bind.specs.declared.callee.Callee.{Callee}
 use Rattle.jt_bind.specs.internal.Scoped.{values, IsPlaced, cenv_in, order_in, callee_in, senv_in, expr_in, row_in}
 use Rattle.jt_bind.specs.internal.Scoped.{asides_in, entries_in, filter_row_in, filtered_in}
-use Rattle.jt_bind.proofs.CalleeResolution.{count_length, macro_called, cycled}
+use Rattle.jt_bind.proofs.CalleeResolution.{count_length, macro_called, called_placed}
 use Rattle.jt_bind.proofs.ExpressionDepths.{call_depth, filter_depth, test_depth}
-use Rattle.jt_bind.proofs.FilterIds.{named_is, parameters_are}
+use Rattle.jt_bind.proofs.FilterTags.{named_is, parameters_are}
 use Rattle.jt_bind.proofs.RowConcatenation.{same_tree, begun, of_whole, of_left, row_both, row_item, row_aside}
 use Rattle.jt_bind.proofs.RowConcatenation.{made_placed, invoked_placed}
 use Rattle.jt_ast.proofs.RemainingParts.{Entry, row_left, pairs_left}
-use Rattle.jt_ast.proofs.ExpressionViews.{shown_item, shown_call, shown_filter, shown_test, shown_unary, shown_binary}
-use Rattle.jt_ast.proofs.ExpressionViews.{shown_when, shown_choice}
+use Rattle.jt_ast.proofs.ExpressionViews.{view_Item, view_Call, view_Filter, view_Test, view_Unary, view_Binary}
+use Rattle.jt_ast.proofs.ExpressionViews.{view_When, view_Choice}
 use Rattle.jt_ir.proofs.ExpressionViews.{view_Made, view_Invoke}
 use Rattle.jt_bind.proofs.resolver.Resolver.+expressions.Goals as goal
 
@@ -86,34 +85,29 @@ resolve_entries-loop-key-preserved t c =
 
 pub resolve_list-returns : goal.resolve_list-returns
 resolve_list-returns t c =
-    rw c.into_inner.ensures (made_placed slots.a_list _ c.resolve_row.new.done.items _ _ _
+    rw c.into_part.ensures (made_placed slots.a_list _ c.resolve_row.new.done.items _ _ _
     (begun _ _ _ _ _ _ _ c.new.ensures.items (c.in_ok-resolve_row.ensures slots.none))
     (view_Made m.List c.resolve_row.new.done))
 
 pub resolve_map-returns : goal.resolve_map-returns
 resolve_map-returns t c =
-    rw c.into_inner.ensures (made_placed slots.a_map _ c.resolve_entries.new.done.items _ _ _
+    rw c.into_part.ensures (made_placed slots.a_map _ c.resolve_entries.new.done.items _ _ _
     (begun _ _ _ _ _ _ _ c.new.ensures.items c.in_ok-resolve_entries.ensures)
     (view_Made m.Map c.resolve_entries.new.done))
 
 pub resolve_attribute-returns : goal.resolve_attribute-returns
 resolve_attribute-returns t c =
-    let a = expr_in c.args.self.now.tables.now (expr_view c.args.value.now) c.args.self.now.senv in
-    let key = c.args.key.now in
-    let k = slots.pooled (own (tree.text key)) in
+    let k = slots.pooled (own (tree.text c.args.key.now)) in
     let done = c.put_argument.new.done in
-    let p = values c.args.pool.now in
     let r = values c.add_text.new.pool in
-    let P : Bool → Type 0 = λ b. IsPlaced (if b then field_from (field_named key) else operation_of op.Item a k)
-    (coded (e.Made (m.Operator op.Item) done)) p r in
-    rw c.into_inner.ensures (subst P (sym c.if-is_loop_name.false ∙ c.is_loop_name.ensures)
-    (made_placed (slots.operator op.Item) _ done.items _ p r
-    (row_both _ (slots.item k slots.none) slots.none [] _ done.items p _ r
+    rw (c.into_part.ensures, ← c.is_loop_name.ensures, c.if-is_loop_name.false)
+    (made_placed (slots.operator op.Item) _ done.items _ _ r
+    (row_both _ (slots.item k slots.none) slots.none [] _ done.items _ _ r
     (begun _ _ _ _ _ _ _ c.in_ok-with_capacity.ensures.items
     (c.in_ok-resolve_operand.ensures (slots.item k slots.none)))
     (row_item k slots.none c.in_ok-item_key.item_key _ done.items _ r c.in_ok-item_key.ensures
     c.in_ok-put_argument.ensures))
-    (view_Made (m.Operator op.Item) done)))
+    (view_Made (m.Operator op.Item) done))
 
 pub resolve_asides-returns : goal.resolve_asides-returns
 resolve_asides-returns t c = λ left.
@@ -140,14 +134,11 @@ resolve_asides-loop-value-preserved t c = λ left.
     (row_aside l.senv.free value (asides_in scope rest (record l.senv { free = c.in_ok-senv.field-0 }) left)
     c.in_ok-next.next l.done.items _ (values l.pool) _ c.in_ok-next.ensures c.in_ok-put_argument.ensures))
 
-pub resolve_item-returns : goal.resolve_item-returns
-resolve_item-returns t c = c.resolve_operation.ensures
-
 pub resolve_operation-returns : goal.resolve_operation-returns
 resolve_operation-returns t c =
     let b = expr_in c.args.self.now.tables.now (expr_view c.args.right.now) c.args.self.now.senv in
     let done = c.resolve_operand-2.new.done in
-    rw c.into_inner.ensures (made_placed (slots.operator c.args.op) _ done.items _ _ _
+    rw c.into_part.ensures (made_placed (slots.operator c.args.op) _ done.items _ _ _
     (row_both _ (slots.item b slots.none) slots.none [] _ done.items _ _ _
     (begun _ _ _ _ _ _ _ c.in_ok-with_capacity.ensures.items
     (c.in_ok-resolve_operand.ensures (slots.item b slots.none)))
@@ -156,57 +147,33 @@ resolve_operation-returns t c =
 
 pub resolve_unary-returns : goal.resolve_unary-returns
 resolve_unary-returns t c =
-    let a = expr_in c.args.self.now.tables.now (expr_view c.args.operand.now) c.args.self.now.senv in
-    IfOk-weaker c.on_one.result _ _ (λ e h.
-    let P : OpId → Type 0 = λ o. IsPlaced (slots.made (slots.operator o) (slots.item a slots.none)) (coded e)
-    (values c.args.pool.now) (values c.resolve_expression.new.pool) in
-    subst P c.unary_operation.ensures (h _ _ _ c.in_ok-value.ensures)) c.on_one.ensures
+    IfOk-weaker c.on_one.result _ _ (λ e h. rw (← c.unary_operation.ensures) (h _ _ _ c.in_ok-value.ensures))
+    c.on_one.ensures
 
 pub resolve_binary-returns-in-Operation : goal.resolve_binary-returns-in-Operation
 resolve_binary-returns-in-Operation t c =
-    let a = expr_in c.args.self.now.tables.now (expr_view c.args.left.now) c.args.self.now.senv in
-    let b = expr_in c.args.self.now.tables.now (expr_view c.args.right.now) c.args.self.now.senv in
-    IfOk-weaker c.resolve_operation.result _ _ (λ e h.
-    let P : OperatorForm → Type 0 =
-    λ f. IsPlaced (in_form f a b) (coded e) (values c.args.pool.now) (values c.resolve_operation.new.pool) in
-    subst P (ap form_view (sym c.in-Operation.is) ∙ c.form_of.ensures) h) c.resolve_operation.ensures
+    IfOk-weaker c.resolve_operation.result _ _ (λ e h. rw (← c.form_of.ensures, c.in-Operation.is) h)
+    c.resolve_operation.ensures
 
 pub resolve_binary-returns-in_ok-inside-in-Negation : goal.resolve_binary-returns-in_ok-inside-in-Negation
 resolve_binary-returns-in_ok-inside-in-Negation t c =
-    let a = expr_in c.args.self.now.tables.now (expr_view c.args.left.now) c.args.self.now.senv in
-    let b = expr_in c.args.self.now.tables.now (expr_view c.args.right.now) c.args.self.now.senv in
-    IfOk-weaker c.on_one.result _ _ (λ e h.
-    let P : OperatorForm → Type 0 = λ f. IsPlaced (in_form f a b) (coded e) (values c.args.pool.now)
-    (values c.resolve_operation-in-Negation.new.pool) in
-    subst P (ap form_view (sym c.in-Negation.is) ∙ c.form_of.ensures)
-    (h _ _ _ c.in_ok-inside-in-Negation.ensures)) c.on_one.ensures
+    IfOk-weaker c.on_one.result _ _
+    (λ e h. rw (← c.form_of.ensures, c.in-Negation.is) (h _ _ _ c.in_ok-inside-in-Negation.ensures)) c.on_one.ensures
 
 pub resolve_binary-returns-in_ok-second-in-Conjunction : goal.resolve_binary-returns-in_ok-second-in-Conjunction
 resolve_binary-returns-in_ok-second-in-Conjunction t c =
-    let a = expr_in c.args.self.now.tables.now (expr_view c.args.left.now) c.args.self.now.senv in
-    let b = expr_in c.args.self.now.tables.now (expr_view c.args.right.now) c.args.self.now.senv in
-    let P : OperatorForm → Type 0 = λ f. IsPlaced (in_form f a b) (coded c.conjunction.result)
-    (values c.args.pool.now) (values c.resolve_boxed-in-Conjunction.new.pool) in
-    subst P (ap form_view (sym c.in-Conjunction.is) ∙ c.form_of.ensures)
-    (c.conjunction.ensures _ _ _ _ _ c.in_ok-first-in-Conjunction.ensures
+    rw (← c.form_of.ensures, c.in-Conjunction.is) (c.conjunction.ensures _ _ _ _ _ c.in_ok-first-in-Conjunction.ensures
     c.in_ok-second-in-Conjunction.ensures)
 
 pub resolve_binary-returns-in_ok-second-in-Disjunction : goal.resolve_binary-returns-in_ok-second-in-Disjunction
 resolve_binary-returns-in_ok-second-in-Disjunction t c =
-    let a = expr_in c.args.self.now.tables.now (expr_view c.args.left.now) c.args.self.now.senv in
-    let b = expr_in c.args.self.now.tables.now (expr_view c.args.right.now) c.args.self.now.senv in
-    let P : OperatorForm → Type 0 = λ f. IsPlaced (in_form f a b) (coded c.disjunction.result)
-    (values c.args.pool.now) (values c.resolve_boxed-in-Disjunction-2.new.pool) in
-    subst P (ap form_view (sym c.in-Disjunction.is) ∙ c.form_of.ensures)
-    (c.disjunction.ensures _ _ _ _ _ c.in_ok-first-in-Disjunction.ensures
+    rw (← c.form_of.ensures, c.in-Disjunction.is) (c.disjunction.ensures _ _ _ _ _ c.in_ok-first-in-Disjunction.ensures
     c.in_ok-second-in-Disjunction.ensures)
 
 pub resolve_when-returns : goal.resolve_when-returns
 resolve_when-returns t c =
-    let q = values c.resolve_boxed-2.new.pool in
-    let P : code.SlotExpr → Type 0 = λ x. IsPlaced no_value (coded x) q q in
     c.chosen.ensures _ _ _ _ _ _ _ c.in_ok-asked.ensures c.in_ok-first.ensures
-    (subst P (sym c.in_ok-second.ensures) (c.no_value.ensures q))
+    (rw c.in_ok-second.ensures (c.no_value.ensures (values c.resolve_boxed-2.new.pool)))
 
 pub resolve_choice-returns : goal.resolve_choice-returns
 resolve_choice-returns t c =
@@ -214,107 +181,82 @@ resolve_choice-returns t c =
 
 pub resolve_boxed-returns : goal.resolve_boxed-returns
 resolve_boxed-returns t c =
-    let a = expr_in c.args.self.now.tables.now (expr_view c.args.expr.now) c.args.self.now.senv in
-    let P : code.SlotExpr → Type 0 =
-    λ x. IsPlaced a (coded x) (values c.args.pool.now) (values c.resolve_expression.new.pool) in
-    IfOk-weaker c.boxed.result _ _ (λ o h. subst P (sym h) c.in_ok-resolve_expression.ensures) c.boxed.ensures
+    IfOk-weaker c.boxed.result _ _ (λ o h. rw h c.in_ok-resolve_expression.ensures) c.boxed.ensures
 
 pub resolve_expression-returns-in-Item : goal.resolve_expression-returns-in-Item
 resolve_expression-returns-in-Item t c =
-    let a = c.deref-in-Item.result.now in
-    let b = c.deref-in-Item-2.result.now in
-    IfOk-weaker c.resolve_item.result _ _
-    (λ e h. same_tree c.args.self.now.tables.now c.args.self.now.senv _ _ (coded e) _ _
-    (shown_item c.args.expr.now a b c.in-Item.value c.in-Item.index c.in-Item.is c.deref-in-Item.ensures
-    c.deref-in-Item-2.ensures) h)
-    c.resolve_item.ensures
+    rw (c.in-Item.is, view_Item, ← c.deref-in-Item.ensures, ← c.deref-in-Item-2.ensures) c.resolve_operation.ensures
 
 pub resolve_expression-returns-in-Call : goal.resolve_expression-returns-in-Call
 resolve_expression-returns-in-Call t c =
-    let f = c.deref-in-Call.result.now in
-    let us = c.deref-in-Call-2.result.now in
-    let qs = c.deref-in-Call-3.result.now in
-    IfOk-weaker c.resolve_call.result _ _
-    (λ e h. same_tree c.args.self.now.tables.now c.args.self.now.senv _ _ (coded e) _ _
-    (shown_call c.args.expr.now f us qs c.in-Call.called c.in-Call.row c.in-Call.pairs c.in-Call.is
-    c.deref-in-Call.ensures c.deref-in-Call-2.ensures.value c.deref-in-Call-3.ensures.value) h)
+    rw (
+      c.in-Call.is,
+      view_Call,
+      ← c.deref-in-Call.ensures,
+      ← c.deref-in-Call-2.ensures.value,
+      ←
+          c.deref-in-Call-3.ensures.value,
+    )
     c.resolve_call.ensures
 
 pub resolve_expression-returns-in-Filter : goal.resolve_expression-returns-in-Filter
 resolve_expression-returns-in-Filter t c =
-    let a = c.deref-in-Filter.result.now in
-    let k = c.deref-in-Filter-2.result.now in
-    let us = c.deref-in-Filter-3.result.now in
-    let qs = c.deref-in-Filter-4.result.now in
-    IfOk-weaker c.resolve_filter.result _ _
-    (λ e h. same_tree c.args.self.now.tables.now c.args.self.now.senv _ _ (coded e) _ _
-    (ap (λ x. trees.filter (expr_view a) x (exprs_view us) (pairs_view qs)) c.deref-in-Filter-2.ensures
-    ∙ shown_filter c.args.expr.now a c.in-Filter.name us qs c.in-Filter.value c.in-Filter.row c.in-Filter.pairs
-    c.in-Filter.is c.deref-in-Filter.ensures c.deref-in-Filter-3.ensures.value c.deref-in-Filter-4.ensures.value) h)
+    rw (
+      c.in-Filter.is,
+      view_Filter,
+      ← c.deref-in-Filter.ensures,
+      ← c.deref-in-Filter-2.ensures,
+      ←
+          c.deref-in-Filter-3.ensures.value,
+      ← c.deref-in-Filter-4.ensures.value,
+    )
     c.resolve_filter.ensures
 
 pub resolve_expression-returns-in-Test : goal.resolve_expression-returns-in-Test
 resolve_expression-returns-in-Test t c =
-    let a = c.deref-in-Test.result.now in
-    let us = c.deref-in-Test-3.result.now in
-    let v = c.in-Test in
-    let qs = pairs_view v.keywords.items in
-    IfOk-weaker c.resolve_test.result _ _
-    (λ e h. same_tree c.args.self.now.tables.now c.args.self.now.senv _ _ (coded e) _ _
-    (ap (λ x. trees.test (expr_view a) (is_negated v.polarity) x (exprs_view us) qs) c.deref-in-Test-2.ensures
-    ∙ shown_test c.args.expr.now a v.polarity v.name us v.keywords.items v.value v.row v.keywords v.is
-    c.deref-in-Test.ensures c.deref-in-Test-3.ensures.value refl) (h qs)) c.resolve_test.ensures
+    rw (
+      c.in-Test.is,
+      view_Test,
+      ← c.deref-in-Test.ensures,
+      ← c.deref-in-Test-2.ensures,
+      ←
+          c.deref-in-Test-3.ensures.value,
+    )
+    (IfOk-weaker c.resolve_test.result _ _ (λ e h. h (pairs_view c.in-Test.keywords.items)) c.resolve_test.ensures)
 
 pub resolve_expression-returns-in-Unary : goal.resolve_expression-returns-in-Unary
 resolve_expression-returns-in-Unary t c =
-    let a = c.deref-in-Unary.result.now in
-    IfOk-weaker c.resolve_unary.result _ _
-    (λ e h. same_tree c.args.self.now.tables.now c.args.self.now.senv _ _ (coded e) _ _
-    (shown_unary c.args.expr.now a c.in-Unary.operator c.in-Unary.operand c.in-Unary.is c.deref-in-Unary.ensures) h)
+    rw (c.in-Unary.is, view_Unary, ← c.deref-in-Unary.ensures)
     c.resolve_unary.ensures
 
 pub resolve_expression-returns-in-Binary : goal.resolve_expression-returns-in-Binary
 resolve_expression-returns-in-Binary t c =
-    let a = c.deref-in-Binary.result.now in
-    let b = c.deref-in-Binary-2.result.now in
-    IfOk-weaker c.resolve_binary.result _ _
-    (λ e h. same_tree c.args.self.now.tables.now c.args.self.now.senv _ _ (coded e) _ _
-    (shown_binary c.args.expr.now a b c.in-Binary.operator c.in-Binary.left c.in-Binary.right c.in-Binary.is
-    c.deref-in-Binary.ensures c.deref-in-Binary-2.ensures) h)
+    rw (c.in-Binary.is, view_Binary, ← c.deref-in-Binary.ensures, ← c.deref-in-Binary-2.ensures)
     c.resolve_binary.ensures
 
 pub resolve_expression-returns-in-When : goal.resolve_expression-returns-in-When
 resolve_expression-returns-in-When t c =
-    let a = c.deref-in-When.result.now in
-    let b = c.deref-in-When-2.result.now in
-    IfOk-weaker c.resolve_when.result _ _
-    (λ e h. same_tree c.args.self.now.tables.now c.args.self.now.senv _ _ (coded e) _ _
-    (shown_when c.args.expr.now a b c.in-When.condition c.in-When.value c.in-When.is c.deref-in-When.ensures
-    c.deref-in-When-2.ensures) h)
+    rw (c.in-When.is, view_When, ← c.deref-in-When.ensures, ← c.deref-in-When-2.ensures)
     c.resolve_when.ensures
 
 pub resolve_expression-returns-in-Choice : goal.resolve_expression-returns-in-Choice
 resolve_expression-returns-in-Choice t c =
-    let a = c.deref-in-Choice.result.now in
-    let b = c.deref-in-Choice-2.result.now in
-    let d = c.deref-in-Choice-3.result.now in
-    IfOk-weaker c.resolve_choice.result _ _
-    (λ e h. same_tree c.args.self.now.tables.now c.args.self.now.senv _ _ (coded e) _ _
-    (shown_choice c.args.expr.now a b d c.in-Choice.condition c.in-Choice.value c.in-Choice.other c.in-Choice.is
-    c.deref-in-Choice.ensures c.deref-in-Choice-2.ensures c.deref-in-Choice-3.ensures) h)
+    rw (
+      c.in-Choice.is,
+      view_Choice,
+      ← c.deref-in-Choice.ensures,
+      ← c.deref-in-Choice-2.ensures,
+      ←
+          c.deref-in-Choice-3.ensures,
+    )
     c.resolve_choice.ensures
 
 -- ---- tests and filters
 
 pub resolve_test-returns : goal.resolve_test-returns
 resolve_test-returns t c =
-    let a = expr_in c.args.self.now.tables.now
-    (trees.test (expr_view c.args.value.now) false c.args.name.now (exprs_view c.args.row.now) trees.no_pairs)
-    c.args.self.now.senv in
-    IfOk-weaker c.turned.result _ _ (λ e h ps.
-    let P : Bool → Type 0 =
-    λ n. IsPlaced (turned_round n a) (coded e) (values c.args.pool.now) (values c.resolve_plain_test.new.pool) in
-    subst P c.is_negated.ensures (h a _ _ (c.in_ok-test.ensures ps))) c.turned.ensures
+    IfOk-weaker c.turned.result _ _ (λ e h ps. rw (← c.is_negated.ensures) (h _ _ _ (c.in_ok-test.ensures ps)))
+    c.turned.ensures
 
 pub resolve_operand-returns : goal.resolve_operand-returns
 resolve_operand-returns t c =
@@ -323,48 +265,29 @@ resolve_operand-returns t c =
     c.put_argument.ensures
 
 pub resolve_plain_test-returns-in_ok-resolve_row-in-Some : goal.resolve_plain_test-returns-in_ok-resolve_row-in-Some
-resolve_plain_test-returns-in_ok-resolve_row-in-Some t c = λ ps.
+resolve_plain_test-returns-in_ok-resolve_row-in-Some t c =
+    λ ps.
     let s = c.args.self.now.tables.now in
-    let senv = c.args.self.now.senv in
-    let a = expr_in s (expr_view c.args.value.now) senv in
-    let es = row_in s (exprs_view c.args.row.now) senv slots.none in
-    let whole = slots.item a es in
-    let given = c.resolve_operand.new.done in
+    let es = row_in s (exprs_view c.args.row.now) c.args.self.now.senv slots.none in
     let done = c.resolve_row.new.done in
-    let p = values c.args.pool.now in
-    let q = values c.resolve_operand.new.pool in
-    let r = values c.resolve_row.new.pool in
-    let P : Option TestId → Type 0 =
-    λ o. IsPlaced (tested_by o whole) (coded (e.Made (m.Test c.in-Some.test) done)) p r in
-    rw c.into_inner.ensures (subst P (sym c.in-Some.is ∙ c.test_of.ensures)
-    (made_placed (slots.test c.in-Some.test) whole done.items _ p r
-    (row_both whole es slots.none [] given.items done.items p q r
+    rw (c.into_part.ensures, ← c.test_of.ensures, c.in-Some.is)
+    (made_placed (slots.test c.in-Some.test) _ done.items _ _ _
+    (row_both _ es slots.none [] _ done.items _ _ _
     (begun _ _ _ _ _ _ _ c.new.ensures.items (c.in_ok-resolve_operand-in-Some.ensures es))
     (c.in_ok-resolve_row-in-Some.ensures slots.none))
-    (view_Made (m.Test c.in-Some.test) done)))
+    (view_Made (m.Test c.in-Some.test) done))
 
 pub resolve_plain_test-returns-in-None : goal.resolve_plain_test-returns-in-None
-resolve_plain_test-returns-in-None t c = λ ps.
-    let s = c.args.self.now.tables.now in
-    let senv = c.args.self.now.senv in
-    let whole =
-    slots.item (expr_in s (expr_view c.args.value.now) senv) (row_in s (exprs_view c.args.row.now) senv slots.none) in
-    let p = values c.args.pool.now in
-    let P : Option TestId → Type 0 = λ o. IsPlaced (tested_by o whole) (coded c.absent.result) p p in
-    subst P (sym c.in-None.is ∙ c.test_of.ensures) (c.absent.ensures p)
+resolve_plain_test-returns-in-None t c =
+    λ ps. rw (← c.test_of.ensures, c.in-None.is) (c.absent.ensures (values c.args.pool.now))
 
 pub resolve_filter-returns-in-None : goal.resolve_filter-returns-in-None
 resolve_filter-returns-in-None t c =
-    let s = c.args.self.now.tables.now in
-    let a = expr_in s (expr_view c.args.value.now) c.args.self.now.senv in
     let ts = exprs_view c.args.arguments.row.now in
     let ps = pairs_view c.args.arguments.pairs.now in
-    let p = values c.args.pool.now in
-    let named : (cenv_in s).filters.named c.args.name.now ts ps ≡ None =
+    let named : (cenv_in c.args.self.now.tables.now).filters.named c.args.name.now ts ps ≡ None =
     named_is c.args.name.now ts ps ∙ ap (option_map filter_id) (sym c.filter_of.ensures ∙ c.in-None.is) in
-    let P : Option ℕ → Type 0 =
-    λ o. IsPlaced (filtered_in s o a ts ps c.args.self.now.senv) (coded c.absent.result) p p in
-    subst P (sym named) (c.absent.ensures p)
+    rw named (c.absent.ensures (values c.args.pool.now))
 
 pub resolve_filter-returns-in_ok-resolve_filter_row-in-Some :
     goal.resolve_filter-returns-in_ok-resolve_filter_row-in-Some
@@ -372,26 +295,17 @@ resolve_filter-returns-in_ok-resolve_filter_row-in-Some t c =
     let s = c.args.self.now.tables.now in
     let senv = c.args.self.now.senv in
     let f = c.in-Some.filter in
-    let a = expr_in s (expr_view c.args.value.now) senv in
     let ts = exprs_view c.args.arguments.row.now in
     let ps = pairs_view c.args.arguments.pairs.now in
     let es = filter_row_in s (Some (filter_id f)) ts ps senv in
-    let whole = slots.item a es in
-    let given = c.resolve_operand.new.done in
     let done = c.resolve_filter_row.new.done in
-    let p = values c.args.pool.now in
-    let q = values c.resolve_operand.new.pool in
-    let r = values c.resolve_filter_row.new.pool in
     let named : (cenv_in s).filters.named c.args.name.now ts ps ≡ Some (filter_id f) =
     named_is c.args.name.now ts ps ∙ ap (option_map filter_id) (sym c.filter_of.ensures ∙ c.in-Some.is) in
-    let P : Option ℕ → Type 0 =
-    λ o. IsPlaced (filtered_in s o a ts ps senv) (coded (e.Made (m.Filter f senv.escaping) done)) p r in
-    rw c.into_inner.ensures (subst P (sym named)
-    (made_placed (slots.filter (filter_id f) senv.escaping) whole done.items _ p r
-    (row_both whole es slots.none [] given.items done.items p q r
+    rw (c.into_part.ensures, named) (made_placed (slots.filter (filter_id f) senv.escaping) _ done.items _ _ _
+    (row_both _ es slots.none [] _ done.items _ _ _
     (begun _ _ _ _ _ _ _ c.new.ensures.items (c.in_ok-resolve_operand-in-Some.ensures es))
     c.in_ok-resolve_filter_row-in-Some.ensures)
-    (view_Made (m.Filter f senv.escaping) done)))
+    (view_Made (m.Filter f senv.escaping) done))
 
 pub resolve_filter_row-returns : goal.resolve_filter_row-returns
 resolve_filter_row-returns t c =
@@ -425,7 +339,7 @@ resolve_macro-returns t c =
     let full = c.fill.new.done in
     let p = values c.args.pool.now in
     let q = values c.resolve_given.new.pool in
-    rw c.into_inner.ensures (invoked_placed signature.unit senv.escaping es full.items _ p q
+    rw c.into_part.ensures (invoked_placed signature.unit senv.escaping es full.items _ p q
     (row_both es left slots.none [] done.items full.items p q q
     (begun _ _ _ _ _ _ _ c.new.ensures.items (c.in_ok-resolve_given.ensures left)) (c.in_ok-fill.ensures q))
     (view_Invoke signature.unit senv.escaping full))
@@ -433,7 +347,7 @@ resolve_macro-returns t c =
 pub resolve_range-returns : goal.resolve_range-returns
 resolve_range-returns t c =
     let done = c.resolve_row.new.done in
-    rw c.into_inner.ensures (made_placed (slots.operator (range_of (length c.args.row.now))) _ done.items _ _ _
+    rw c.into_part.ensures (made_placed (slots.operator (range_of (length c.args.row.now))) _ done.items _ _ _
     (begun _ _ _ _ _ _ _ c.new.ensures.items (c.in_ok-resolve_row.ensures slots.none))
     (view_Made (m.Operator c.range_of.result) done
     ∙ ap (λ o. slots.made (slots.operator o) (row_view done.items slots.none)) c.range_of.ensures))
@@ -446,122 +360,72 @@ pub resolve_call-returns-in-Macro : goal.resolve_call-returns-in-Macro
 resolve_call-returns-in-Macro t c =
     let s = c.args.self.now.tables.now in
     let senv = c.args.self.now.senv in
-    let ts = exprs_view c.args.arguments.row.now in
+    let f = expr_view c.args.called.now in
+    let row = c.args.arguments.row.now in
     let ps = pairs_view c.args.arguments.pairs.now in
-    let ks = locals_from senv.free (keywords ps) in
-    let k = callee_in s (expr_view c.args.called.now) in
-    let Q : Callee → Type 0 = λ z. IsCallee (cenv_in s) (order_in s) z k in
+    let Q : Callee → Type 0 = λ z. IsCallee (cenv_in s) (order_in s) z (callee_in s f) in
     let m = subst Q c.in-Macro.is c.in_ok-signature.ensures in
-    let n : count ts ≡ length c.args.arguments.row.now = count_length c.args.arguments.row.now in
-    let signature = c.in-Macro.signature in
-    let same : invoke signature.unit senv.escaping
-    (row_in s ts senv (asides_in s ps senv
-    (filled (parameters_view signature.parameters.now) (length c.args.arguments.row.now) signature.first_default ks)))
-    ≡ invoked (cenv_in s) (order_in s) k (senv_in s senv) (λ z. row_in s ts senv z) (λ z. asides_in s ps senv z)
-    (count ts) ks =
-    macro_called (cenv_in s) (order_in s) m.0 signature m.1 m.2.0 senv.escaping
-    (λ z. row_in s ts senv (asides_in s ps senv z)) (length c.args.arguments.row.now) ks
-    ∙ ap (λ (i : ℕ). invoked (cenv_in s) (order_in s) (a_macro m.0 m.1) (senv_in s senv) (λ z. row_in s ts senv z)
-    (λ z. asides_in s ps senv z) i ks) (sym n)
-    ∙ ap (λ z. invoked (cenv_in s) (order_in s) z (senv_in s senv) (λ y. row_in s ts senv y)
-    (λ y. asides_in s ps senv y) (count ts) ks)
-    (sym m.2.1) in
     IfOk-weaker c.resolve_macro.result _ _ (λ e h.
     let P : slots.SlotExpr Constant → Type 0 =
     λ z. IsPlaced z (coded e) (values c.args.pool.now) (values c.resolve_macro.new.pool) in
-    subst P same h) c.resolve_macro.ensures
+    called_placed s senv f (a_macro m.0 m.1) row ps (coded e) _ _ m.2.1
+    (subst P (macro_called (cenv_in s) (order_in s) m.0 c.in-Macro.signature m.1 m.2.0 senv.escaping
+    (λ z. row_in s (exprs_view row) senv (asides_in s ps senv z)) (length row) (locals_from senv.free (keywords ps)))
+    h)) c.resolve_macro.ensures
 
 pub resolve_call-returns-in-Range : goal.resolve_call-returns-in-Range
 resolve_call-returns-in-Range t c =
     let s = c.args.self.now.tables.now in
-    let senv = c.args.self.now.senv in
-    let ts = exprs_view c.args.arguments.row.now in
-    let ps = pairs_view c.args.arguments.pairs.now in
-    let ks = locals_from senv.free (keywords ps) in
-    let k = callee_in s (expr_view c.args.called.now) in
-    let Q : Callee → Type 0 = λ z. IsCallee (cenv_in s) (order_in s) z k in
-    let is : k ≡ a_range = subst Q c.in-Range.is c.in_ok-signature.ensures in
-    let n : count ts ≡ length c.args.arguments.row.now = count_length c.args.arguments.row.now in
-    let same : slots.made (slots.operator (range_of (length c.args.arguments.row.now))) (row_in s ts senv slots.none)
-    ≡ invoked (cenv_in s) (order_in s) k (senv_in s senv) (λ z. row_in s ts senv z) (λ z. asides_in s ps senv z)
-    (count ts) ks =
-    ap (λ (i : ℕ). slots.made (slots.operator (range_of i)) (row_in s ts senv slots.none)) (sym n)
-    ∙ ap (λ z. invoked (cenv_in s) (order_in s) z (senv_in s senv) (λ y. row_in s ts senv y)
-    (λ y. asides_in s ps senv y) (count ts) ks) (sym is) in
-    IfOk-weaker c.resolve_range.result _ _ (λ e h.
-    let P : slots.SlotExpr Constant → Type 0 =
-    λ z. IsPlaced z (coded e) (values c.args.pool.now) (values c.resolve_range.new.pool) in
-    subst P same h) c.resolve_range.ensures
+    let f = expr_view c.args.called.now in
+    let Q : Callee → Type 0 = λ z. IsCallee (cenv_in s) (order_in s) z (callee_in s f) in
+    IfOk-weaker c.resolve_range.result _ _ (λ e h. called_placed s c.args.self.now.senv f a_range
+    c.args.arguments.row.now
+    (pairs_view c.args.arguments.pairs.now) (coded e) _ _ (subst Q c.in-Range.is c.in_ok-signature.ensures) h)
+    c.resolve_range.ensures
 
 pub resolve_call-returns-in-Cycle : goal.resolve_call-returns-in-Cycle
 resolve_call-returns-in-Cycle t c =
     let s = c.args.self.now.tables.now in
-    let senv = c.args.self.now.senv in
-    let ts = exprs_view c.args.arguments.row.now in
-    let ps = pairs_view c.args.arguments.pairs.now in
-    let ks = locals_from senv.free (keywords ps) in
-    let k = callee_in s (expr_view c.args.called.now) in
-    let Q : Callee → Type 0 = λ z. IsCallee (cenv_in s) (order_in s) z k in
-    let is : k ≡ a_cycle = subst Q c.in-Cycle.is c.in_ok-signature.ensures in
-    let n : count ts ≡ length c.args.arguments.row.now = count_length c.args.arguments.row.now in
-    let same : cycled (length c.args.arguments.row.now) (row_in s ts senv slots.none)
-    ≡ invoked (cenv_in s) (order_in s) k (senv_in s senv) (λ z. row_in s ts senv z) (λ z. asides_in s ps senv z)
-    (count ts) ks =
-    ap (λ (i : ℕ). cycled i (row_in s ts senv slots.none)) (sym n)
-    ∙ ap (λ z. invoked (cenv_in s) (order_in s) z (senv_in s senv) (λ y. row_in s ts senv y)
-    (λ y. asides_in s ps senv y) (count ts) ks) (sym is) in
-    IfOk-weaker c.resolve_cycle.result _ _ (λ e h.
-    let P : slots.SlotExpr Constant → Type 0 =
-    λ z. IsPlaced z (coded e) (values c.args.pool.now) (values c.resolve_cycle.new.pool) in
-    subst P same h) c.resolve_cycle.ensures
+    let f = expr_view c.args.called.now in
+    let Q : Callee → Type 0 = λ z. IsCallee (cenv_in s) (order_in s) z (callee_in s f) in
+    IfOk-weaker c.resolve_cycle.result _ _ (λ e h. called_placed s c.args.self.now.senv f a_cycle
+    c.args.arguments.row.now
+    (pairs_view c.args.arguments.pairs.now) (coded e) _ _ (subst Q c.in-Cycle.is c.in_ok-signature.ensures) h)
+    c.resolve_cycle.ensures
 
 pub resolve_call-returns-in-Super : goal.resolve_call-returns-in-Super
 resolve_call-returns-in-Super t c =
     let s = c.args.self.now.tables.now in
-    let senv = c.args.self.now.senv in
-    let ts = exprs_view c.args.arguments.row.now in
-    let ps = pairs_view c.args.arguments.pairs.now in
-    let ks = locals_from senv.free (keywords ps) in
-    let k = callee_in s (expr_view c.args.called.now) in
-    let Q : Callee → Type 0 = λ z. IsCallee (cenv_in s) (order_in s) z k in
-    let is : k ≡ a_super = subst Q c.in-Super.is c.in_ok-signature.ensures in
-    IfOk-weaker c.super_called.result _ _ (λ e h.
-    let P : chain.Callee → Type 0 = λ z. IsPlaced (invoked (cenv_in s) (order_in s) z (senv_in s senv)
-    (λ y. row_in s ts senv y) (λ y. asides_in s ps senv y) (count ts) ks) (coded e)
-    (values c.args.pool.now) (values c.args.pool.now) in
-    subst P (sym is) (h (values c.args.pool.now))) c.super_called.ensures
+    let f = expr_view c.args.called.now in
+    let Q : Callee → Type 0 = λ z. IsCallee (cenv_in s) (order_in s) z (callee_in s f) in
+    IfOk-weaker c.super_called.result _ _ (λ e h. called_placed s c.args.self.now.senv f a_super
+    c.args.arguments.row.now
+    (pairs_view c.args.arguments.pairs.now) (coded e) _ _ (subst Q c.in-Super.is c.in_ok-signature.ensures) (h (values
+    c.args.pool.now)))
+    c.super_called.ensures
 
 pub resolve_call-returns-in-Block : goal.resolve_call-returns-in-Block
 resolve_call-returns-in-Block t c =
     let s = c.args.self.now.tables.now in
     let senv = c.args.self.now.senv in
-    let ts = exprs_view c.args.arguments.row.now in
+    let f = expr_view c.args.called.now in
+    let row = c.args.arguments.row.now in
     let ps = pairs_view c.args.arguments.pairs.now in
-    let ks = locals_from senv.free (keywords ps) in
-    let k = callee_in s (expr_view c.args.called.now) in
-    let Q : Callee → Type 0 = λ z. IsCallee (cenv_in s) (order_in s) z k in
-    let is : k ≡ a_block c.in-Block.name.now = subst Q c.in-Block.is c.in_ok-signature.ensures in
-    IfOk-weaker c.block_called.result _ _ (λ e h.
-    let P : chain.Callee → Type 0 = λ z. IsPlaced (invoked (cenv_in s) (order_in s) z (senv_in s senv)
-    (λ y. row_in s ts senv y) (λ y. asides_in s ps senv y) (count ts) ks) (coded e)
-    (values c.args.pool.now) (values c.args.pool.now) in
-    subst P (sym is) (h (λ y. row_in s ts senv y) (λ y. asides_in s ps senv y) (count ts) ks (values c.args.pool.now)))
-    c.block_called.ensures
+    let Q : Callee → Type 0 = λ z. IsCallee (cenv_in s) (order_in s) z (callee_in s f) in
+    IfOk-weaker c.block_called.result _ _ (λ e h. called_placed s senv f (a_block c.in-Block.name.now) row ps (coded e)
+    _ _
+    (subst Q c.in-Block.is c.in_ok-signature.ensures)
+    (h (row_in s (exprs_view row) senv) (asides_in s ps senv) (length row) (locals_from senv.free (keywords ps))
+    (values c.args.pool.now))) c.block_called.ensures
 
 pub resolve_call-returns-in-Unknown : goal.resolve_call-returns-in-Unknown
 resolve_call-returns-in-Unknown t c =
     let s = c.args.self.now.tables.now in
-    let senv = c.args.self.now.senv in
-    let ts = exprs_view c.args.arguments.row.now in
-    let ps = pairs_view c.args.arguments.pairs.now in
-    let ks = locals_from senv.free (keywords ps) in
-    let k = callee_in s (expr_view c.args.called.now) in
-    let Q : Callee → Type 0 = λ z. IsCallee (cenv_in s) (order_in s) z k in
-    let is : k ≡ no_callee = subst Q c.in-Unknown.is c.in_ok-signature.ensures in
-    let P : chain.Callee → Type 0 = λ z. IsPlaced (invoked (cenv_in s) (order_in s) z (senv_in s senv)
-    (λ y. row_in s ts senv y) (λ y. asides_in s ps senv y) (count ts) ks)
-    (coded c.absent.result) (values c.args.pool.now) (values c.args.pool.now) in
-    subst P (sym is) (c.absent.ensures (values c.args.pool.now))
+    let f = expr_view c.args.called.now in
+    let Q : Callee → Type 0 = λ z. IsCallee (cenv_in s) (order_in s) z (callee_in s f) in
+    called_placed s c.args.self.now.senv f no_callee c.args.arguments.row.now (pairs_view c.args.arguments.pairs.now)
+    (coded c.absent.result) _ _ (subst Q c.in-Unknown.is c.in_ok-signature.ensures)
+    (c.absent.ensures (values c.args.pool.now))
 
 -- ---- the remaining trees are less deep
 

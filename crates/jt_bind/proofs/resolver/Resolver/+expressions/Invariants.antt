@@ -35,9 +35,6 @@ decreases-resolve_map l = 6 * most (λ x. size-Expr x.1) l.pairs.now + 2
 abbrev pub decreases-resolve_attribute : goal.decreases-resolve_attribute
 decreases-resolve_attribute l = 6 * size-Expr l.value.now + 2
 
-abbrev pub decreases-resolve_item : goal.decreases-resolve_item
-decreases-resolve_item l = 6 * max (size-Expr l.value.now) (size-Expr l.index.now) + 3
-
 abbrev pub decreases-resolve_operation : goal.decreases-resolve_operation
 decreases-resolve_operation l = 6 * max (size-Expr l.left.now) (size-Expr l.right.now) + 2
 

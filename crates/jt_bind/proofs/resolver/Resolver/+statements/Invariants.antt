@@ -74,4 +74,4 @@ invariant-resolve_branches-loop-branch l =
     (other : SBody Constant) → ChoiceLeads (templates_in l.self.tables.now)
     (choice_in l.self.tables.now (branches_view l.branches) l.self.senv other)
     (choice_in l.self.tables.now (branches_view (drop l.branch-index l.branches)) l.self.senv other)
-    l.made.0.items (values l.initial.pool) (values l.pool)
+    l.made.part.items (values l.initial.pool) (values l.pool)

@@ -8,7 +8,7 @@ use Rattle.jt_ir.specs.View.{expr_view}
 use Rattle.jt_ast.specs.Texts.{texts}
 use Rattle.jt_bind.specs.internal.Scoped.{senv_in, templates_in}
 use Rattle.jt_bind.specs.internal.Stated.{line_in}
-use Rattle.jt_bind.proofs.BodyConcatenation.{lead_both, lead_of, lead_left}
+use Rattle.jt_bind.proofs.BodyConcatenation.{lead_both, lead_of, lead_left, assign_emitted}
 use Rattle.jt_bind.proofs.StatementResolution.{hand_step}
 use Rattle.jt_bind.proofs.resolver.Resolver.pass_globals.Goals as goal
 
@@ -21,7 +21,8 @@ loop-name-preserved c = λ left p.
     (hand_step (templates_in scope) (line_in scope senv c.args.line)
     (if c.args.with_context then (senv_in scope senv).table else []) c.deref-name-items.result.now l.name-index l.global
     c.in_ok-global.global _ (expr_view c.handed-value.result) l.done.items c.put_assign.new.done.items
-    c.loop-name-test.true c.in_ok-global.ensures (λ k q r. c.in_ok-put_assign.ensures scope k q r)
+    c.loop-name-test.true c.in_ok-global.ensures (λ k q r h. assign_emitted scope senv
+    c.args.line _ k _ _ _ q r h c.in_ok-put_assign.ensures)
     c.handed-value.ensures left p)
 
 pub returns : goal.returns

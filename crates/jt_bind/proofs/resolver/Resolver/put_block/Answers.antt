@@ -5,7 +5,7 @@ use Rattle.jt_ir.specs.Slots as slots
 use Rattle.jt_semantics.specs.Layout.{Table, block_parameters, numbered_of}
 use Rattle.jt_semantics.specs.Resolve.{alone, reads, first_body}
 use Rattle.jt_bind.specs.internal.Scoped.{cenv_in, order_in, namespace_in, globals_in, senv_in, templates_in}
-use Rattle.jt_bind.proofs.BodyConcatenation.{led_of}
+use Rattle.jt_bind.proofs.BodyConcatenation.{emits_of, run_emitted}
 use Rattle.jt_bind.proofs.BlocksAndIncludes.{block_run, block_absent}
 use Rattle.jt_bind.proofs.resolver.Resolver.put_block.Goals as goal
 
@@ -16,12 +16,12 @@ returns c =
     let name = c.args.name.now in
     let ps = block_parameters (cenv_in scope) (order_in scope) (namespace_in scope) name in
     let table : Table = if c.args.scoped then (senv_in scope senv).table else globals_in scope in
-    IfOk-weaker c.put_run.result _ _ (λ u h line required body p. led_of (templates_in scope) _ _ _ _ _ _
+    IfOk-weaker c.put_run.result _ _ (λ u h line required body p. emits_of (templates_in scope) _ _ _ _ _ _
     (ap (λ (t : Table). alone (slots.run c.in-Some.unit (reads t ps))) (c.seen_by.ensures scope)
     ∙ block_run (cenv_in scope) (order_in scope) (senv_in scope senv)
     (first_body (numbered_of (cenv_in scope) (namespace_in scope) name)) name table c.in-Some.unit
     (sym c.in-Some.is ∙ c.in_ok-unit.ensures))
-    (h (templates_in scope) _ _ _ (c.in_ok-row.ensures p))) c.put_run.ensures
+    (run_emitted (templates_in scope) _ _ _ _ _ p p (c.in_ok-row.ensures p) h)) c.put_run.ensures
 
 pub returns-in_default : goal.returns-in_default
 returns-in_default c =
@@ -29,7 +29,7 @@ returns-in_default c =
     let senv = c.args.self.now.senv in
     let name = c.args.name.now in
     let table : Table = if c.args.scoped then (senv_in scope senv).table else globals_in scope in
-    IfOk-weaker c.put_print.result _ _ (λ u h line required body p. led_of (templates_in scope) _ _ _ _ _ _
+    IfOk-weaker c.put_print.result _ _ (λ u h line required body p. emits_of (templates_in scope) _ _ _ _ _ _
     (block_absent (cenv_in scope) (order_in scope) (senv_in scope senv)
     (first_body (numbered_of (cenv_in scope) (namespace_in scope) name)) name table
     (sym c.in_default.is ∙ c.in_ok-unit.ensures))

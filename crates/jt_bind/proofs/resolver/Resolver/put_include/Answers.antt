@@ -10,7 +10,7 @@ use Rattle.jt_layout.specs.NamespaceLayout.{IsNamespaceAt}
 use Rattle.jt_ast.specs.Texts.{texts}
 use Rattle.jt_bind.specs.internal.Scoped.{cenv_in, order_in, templates_in}
 use Rattle.jt_bind.specs.internal.Stated.{stmt_in}
-use Rattle.jt_bind.proofs.BodyConcatenation.{led_of, led_both}
+use Rattle.jt_bind.proofs.BodyConcatenation.{emits_of, emits_both, run_emitted}
 use Rattle.jt_bind.proofs.BlocksAndIncludes.{no_row, absent_names, absent_unit, include_shown, include_missing}
 use Rattle.jt_bind.proofs.resolver.Resolver.put_include.Goals as goal
 
@@ -21,15 +21,12 @@ returns-in_default c =
     let there : is_none ((cenv_in scope).sources x) ≡ false = sym c.is_missing.ensures ∙ c.if-is_missing.false in
     let P : Option ℕ → Type 0 = IsNamespaceAt (order_in scope) (a_chain x) in
     let absent = subst P c.in_default.is c.chain_index.ensures in
-    IfOk-weaker c.put_run.result _ _ (λ u h p. led_of (templates_in scope) _ _ _ _ _ _
+    IfOk-weaker c.put_run.result _ _ (λ u h p. emits_of (templates_in scope) _ _ _ _ _ _
     (include_shown scope c.args.self.now.senv c.args.line x (is_ignored c.args.missing) (passes_context c.args.names)
     (first_slot (cenv_in scope) (order_in scope) (a_chain x)) [] c.units.result there refl
     (sym (absent_names (cenv_in scope) (order_in scope) (a_chain x) absent))
     (c.units.ensures ∙ sym (absent_unit (cenv_in scope) (order_in scope) x absent)))
-    (h (templates_in scope) slots.none p p (no_row _ c.new.ensures.items p))) c.put_run.ensures
-
-pub at-there-requires : goal.at-there-requires
-at-there-requires c = search (arith, rules)
+    (run_emitted (templates_in scope) _ slots.none _ _ _ p p (no_row _ c.new.ensures.items p) h)) c.put_run.ensures
 
 pub returns : goal.returns
 returns c =
@@ -44,14 +41,14 @@ returns c =
     let P : Option ℕ → Type 0 = IsNamespaceAt order (a_chain x) in
     let is = (subst P c.in-Some.is c.chain_index.ensures).1 in
     let namespace_layout = c.at-there.ensures in
-    IfOk-weaker c.put_run-2.result _ _ (λ u h p. led_of T _ _ _ _ _ _
+    IfOk-weaker c.put_run-2.result _ _ (λ u h p. emits_of T _ _ _ _ _ _
     (include_shown scope senv c.args.line x (is_ignored c.args.missing) c.passes_context.result chain.first_slot
     (texts chain.names.items) chain.unit there (namespace_layout.from ∙ ap (first_slot cenv order) is)
     (namespace_layout.named ∙ ap (names cenv order) is) (namespace_layout.chain_unit x is)
     ∙ ap (λ seen. stmt_in scope (trees.include c.args.line x (is_ignored c.args.missing) seen) senv)
     c.passes_context.ensures)
-    (led_both T _ _ _ _ _ _ _ _ (c.in_ok-pass_globals.ensures p)
-    (h T slots.none p p (no_row _ c.new-2.ensures.items p))))
+    (emits_both T _ _ _ _ _ _ _ _ (c.in_ok-pass_globals.ensures p)
+    (run_emitted T _ slots.none _ _ _ p p (no_row _ c.new-2.ensures.items p) h)))
     c.put_run-2.ensures
 
 pub returns-then-is_missing : goal.returns-then-is_missing
@@ -60,7 +57,7 @@ returns-then-is_missing c =
     let senv = c.args.self.now.senv in
     let x = c.args.name.now in
     let none : is_none ((cenv_in scope).sources x) ≡ true = sym c.is_missing.ensures ∙ c.if-is_missing.true in
-    IfOk-weaker c.put_missing.result _ _ (λ u h p. led_of (templates_in scope) _ _ _ _ _ _
+    IfOk-weaker c.put_missing.result _ _ (λ u h p. emits_of (templates_in scope) _ _ _ _ _ _
     (include_missing scope senv c.args.line x c.is_ignored.result (passes_context c.args.names) none
     ∙ ap (λ ignored. stmt_in scope (trees.include c.args.line x ignored (passes_context c.args.names)) senv)
     c.is_ignored.ensures) (h scope p)) c.put_missing.ensures

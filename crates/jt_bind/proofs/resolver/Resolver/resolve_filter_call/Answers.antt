@@ -15,8 +15,7 @@ use Rattle.jt_ir.specs.View.{expr_view, filter_after, filters_after}
 use Rattle.jt_ir.specs.declared.program.SlotFilter.{SlotFilter}
 use Rattle.jt_ir.proofs.ExpressionViews.{filters_push}
 use Rattle.jt_bind.specs.internal.Scoped.{values, IsPlaced, RowLeads, cenv_in, filter_row_in, filtered_in}
-use Rattle.jt_bind.proofs.FilterIds.{named_is}
-use Rattle.jt_bind.proofs.FilterTags.{filter_placed}
+use Rattle.jt_bind.proofs.FilterTags.{named_is, filter_placed}
 use Rattle.jt_bind.proofs.resolver.Resolver.resolve_filter_call.Goals as goal
 
 -- Filter calls with equal names and equal arguments are equal.
@@ -34,16 +33,10 @@ returns-in_default c = λ k p n h.
     let written = written_as c.as_str.ensures.value row pairs in
     let named : (cenv_in s).filters.named f.name f.arguments f.keywords ≡ None = named_is f.name f.arguments f.keywords
     ∙ ap (option_map filter_id) (sym written ∙ sym c.filter_of.ensures ∙ c.in_default.is) in
-    let P : Option ℕ → Type 0 = λ o. IsPlaced (filtered_in s o k f.arguments f.keywords c.args.self.now.senv)
-    (filters_after c.clear.new.self.items (expr_view c.absent.result)) p (values c.truncate.new.self) in
-    let Q : List Tree → Type 0 = λ r. IsPlaced (filtered_in s None k f.arguments f.keywords c.args.self.now.senv)
-    (filters_after c.clear.new.self.items (expr_view c.absent.result)) p r in
-    let R : List SlotFilter → Type 0 = λ fs. IsPlaced (filtered_in s None k f.arguments f.keywords c.args.self.now.senv)
-    (filters_after fs (expr_view c.absent.result)) p p in
-    let cut : p ≡ values c.truncate.new.self =
-    sym (take_at p (expr_values k) c.args.start n) ∙ ap (take c.args.start) (sym h.pooled)
-    ∙ take-map view c.args.start c.args.pool.now.items ∙ ap (map view) (sym c.truncate.ensures.items) in
-    subst P (sym named) (subst Q cut (subst R (sym c.clear.ensures.items) (c.absent.ensures p)))
+    let cut : values c.truncate.new.self ≡ p = ap (map view) c.truncate.ensures.items
+    ∙ sym (take-map view c.args.start c.args.pool.now.items) ∙ ap (take c.args.start) h.pooled
+    ∙ take_at p (expr_values k) c.args.start n in
+    rw (named, cut, c.clear.ensures.items) (c.absent.ensures p)
 
 pub returns : goal.returns
 returns c = λ k p n h.
@@ -63,16 +56,12 @@ returns c = λ k p n h.
     ∙ ap (option_map filter_id) (sym written ∙ sym c.filter_of.ensures ∙ c.in-Some.is) in
     let R : trees.Exprs → trees.Pairs → Type 0 = λ ts ps.
     RowLeads (filter_row_in s (Some number) ts ps senv) slots.none [] added.items before after in
-    let led : R f.arguments f.keywords =
+    let emitted : R f.arguments f.keywords =
     subst (R f.arguments) pairs (subst (λ ts. R ts (pairs_view c.as_slice-pairs.result.now)) row
     (rw (← c.new-given.ensures.items) c.in_ok-resolve_filter_row.ensures)) in
     let last : SlotFilter = record { filter = c.in-Some.filter; escaping = senv.escaping; row = added } in
-    let P : Option ℕ → Type 0 = λ o. IsPlaced (filtered_in s o k f.arguments f.keywords senv)
-    (filters_after c.push.new.self.items value) p after in
-    let Q : slots.SlotExpr ℕ → Type 0 = λ e. IsPlaced (filtered_in s (Some number) k f.arguments f.keywords senv) e p
-    after in
     let pushed : filters_after c.push.new.self.items value
     ≡ filter_after last (filters_after c.args.done.now.filters.items value) =
     ap (λ fs. filters_after fs value) c.in_ok-push.ensures.items
     ∙ filters_push c.args.done.now.filters.items last value in
-    subst P (sym named) (subst Q (sym pushed) (filter_placed _ k _ _ added.items p before after h led))
+    rw (named, pushed) (filter_placed _ k _ _ added.items p before after h emitted)

@@ -10,7 +10,7 @@ use Rattle.jt_ir.specs.Locals.{body_locals}
 use Rattle.jt_semantics.specs.Resolve.{bound_all}
 use Rattle.jt_bind.specs.internal.Scoped.{values, senv_in, templates_in}
 use Rattle.jt_bind.specs.internal.Stated.{scoped_in}
-use Rattle.jt_bind.proofs.BodyConcatenation.{led_begun}
+use Rattle.jt_bind.proofs.BodyConcatenation.{emits_begun}
 use Rattle.jt_bind.proofs.RoutineConcatenation.{locals_same, routine_made}
 use Rattle.jt_bind.proofs.resolver.Resolver.resolve_routine.Goals as goal
 
@@ -24,11 +24,10 @@ returns c =
     let body = c.resolve_within.new.done in
     let p = values c.args.pool.now in
     let q = values c.resolve_within.new.pool in
-    let led = led_begun T whole _ _ _ p q c.new-done.ensures.items c.in_ok-resolve_within.ensures in
+    let emitted = emits_begun T whole _ _ _ p q c.new-done.ensures.items c.in_ok-resolve_within.ensures in
     let count = c.len-count.ensures ∙ names.ok.0 ∙ sym (length-map names.items (λ (k : Bor Text). k.now)) in
     routine_made T c.len-count.result (length (texts names.items)) whole body c.larger-locals.result
-    (max (length (texts names.items)) (body_locals whole)) p q led count
+    (max (length (texts names.items)) (body_locals whole)) p q emitted count
     (c.larger-locals.ensures ∙ ap (λ n. max n c.in_ok-body_locals.field-0) count
-    ∙ ap (max (length (texts names.items))) (locals_same T whole body.items p q c.in_ok-body_locals.field-0 led
-    (λ b. sym (ap (λ (z : List SlotStmt). body_locals (body_view T z b)) c.deref.ensures.value)
-    ∙ c.in_ok-body_locals.ensures T b)))
+    ∙ ap (max (length (texts names.items))) (locals_same T whole body.items p q c.in_ok-body_locals.field-0 emitted
+    (λ b. rw (← c.deref.ensures.value) (c.in_ok-body_locals.ensures T b))))

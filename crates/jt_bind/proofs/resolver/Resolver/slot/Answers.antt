@@ -1,8 +1,7 @@
 use Rattle.std.proofs.Common.{◌≡◌, ℕ, ◌+◌, ◌-◌, ◌<◌, ◌≤◌, length, map, take, sym, ap, ◌∙◌, arith}
 use Rattle.jt_semantics.specs.Layout.{slot_in}
 use Rattle.jt_bind.specs.internal.Scoped.{globals_in, framed}
-use Rattle.jt_bind.proofs.NumberedNames.{found_or}
-use Rattle.jt_bind.proofs.NameScopes.{framed_found}
+use Rattle.jt_bind.proofs.PlacesAndScopes.{found_or, framed_found}
 use Rattle.jt_bind.proofs.resolver.Resolver.slot.Goals as goal
 
 pub returns-in-Some : goal.returns-in-Some

@@ -9,7 +9,7 @@ use Rattle.jt_chains.specs.Indices.{namespace_at}
 use Rattle.jt_chains.specs.View.{chain_view}
 use Rattle.jt_bind.specs.internal.Callees.{IsCallee, of_namespace}
 use Rattle.jt_bind.specs.internal.Scoped.{cenv_in, order_in, namespace_in, given_in, callee_in}
-use Rattle.jt_bind.proofs.ImportedCallees.{called_there}
+use Rattle.jt_bind.proofs.CalleeResolution.{called_there}
 use Rattle.jt_bind.proofs.tables.Tables.callee_given.Goals as goal
 
 pub returns-in-Own : goal.returns-in-Own
@@ -44,6 +44,3 @@ returns-in-Imported c =
     let found = called_there scope c.stands.ensures (trees.name x) there b called in
     let P : chain.Callee → Type 0 = λ z. IsCallee (cenv_in scope) (order_in scope) k z in
     subst P (ap (of_namespace there) found.0 ∙ sym called) (h (λ m q. found.1))) c.library_macro.ensures
-
-pub returns-in-Library : goal.returns-in-Library
-returns-in-Library c = search (arith, rules)

@@ -7,9 +7,6 @@ use Rattle.jt_bind.specs.internal.Callees.{IsCallee}
 use Rattle.jt_bind.specs.internal.Scoped.{cenv_in, order_in, namespace_in, given_in}
 use Rattle.jt_bind.proofs.tables.Tables.callee_named.Goals as goal
 
-pub returns-in-Some : goal.returns-in-Some
-returns-in-Some c = search (arith, rules)
-
 pub returns-in-None : goal.returns-in-None
 returns-in-None c =
     let scope = c.args.self.now in

@@ -4,6 +4,3 @@ use Rattle.jt_bind.proofs.tables.Tables.given_named.Goals as goal
 
 pub returns : goal.returns
 returns c = search (arith, rules, get_or_from_slice_get)
-
-pub returns-in_err-index : goal.returns-in_err-index
-returns-in_err-index c = search (arith, rules)

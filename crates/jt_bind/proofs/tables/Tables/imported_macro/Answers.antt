@@ -8,7 +8,7 @@ use Rattle.jt_chains.specs.Chain as chain
 use Rattle.jt_chains.specs.Chain.{a_library, macros, macro_of, given_to}
 use Rattle.jt_bind.specs.internal.Callees.{IsCallee, library_of, of_namespace}
 use Rattle.jt_bind.specs.internal.Scoped.{cenv_in, order_in, given_in, callee_in}
-use Rattle.jt_bind.proofs.ImportedCallees.{called_there, member_is, no_library, private_is, public_is}
+use Rattle.jt_bind.proofs.CalleeResolution.{called_there, member_is, no_library, private_is, public_is}
 use Rattle.jt_bind.proofs.tables.Tables.imported_macro.Goals as goal
 
 pub returns-in_default : goal.returns-in_default

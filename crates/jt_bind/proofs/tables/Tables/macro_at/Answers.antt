@@ -10,9 +10,6 @@ use Rattle.jt_bind.specs.internal.Callees.{of_namespace}
 use Rattle.jt_bind.specs.internal.Scoped.{cenv_in, order_in}
 use Rattle.jt_bind.proofs.tables.Tables.macro_at.Goals as goal
 
-pub returns-in_default : goal.returns-in_default
-returns-in_default c = search (arith, rules)
-
 pub returns : goal.returns
 returns c =
     let scope = c.args.self.now in

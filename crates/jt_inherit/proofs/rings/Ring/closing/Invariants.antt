@@ -1,6 +1,5 @@
 use Rattle.std.proofs.Common.{◌≡◌, drop}
-use Rattle.jt_graph.specs.View.{graph_of}
-use Rattle.jt_inherit.specs.internal.Rings.{last_number, leads_round}
+use Rattle.jt_inherit.proofs.Vocabulary.{graph_of, last_number, leads_round}
 use Rattle.jt_inherit.proofs.rings.Ring.closing.Given as goal
 
 abbrev pub invariant-loop-number : goal.invariant-loop-number

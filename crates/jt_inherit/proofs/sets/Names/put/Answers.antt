@@ -1,12 +1,7 @@
 use Rattle.std.proofs.Common.{◌≡◌, ◌++◌, ◌∷◌, [], Some, List, String, Global, length, string_bytes, cond, sym, ap}
 use Rattle.std.proofs.Common.{subst, ◌∙◌, arith}
-use Rattle.std.specs.BTreeMap.{get_by_text}
-use Rattle.std.specs.Str.{bytes_eq}
-use Rattle.std.proofs.lemmas.Map.Text.{btree_map_updates_text}
-use Rattle.jt_ast.specs.Texts.{among}
-use Rattle.jt_ast.specs.Expressions.{Text}
-use Rattle.jt_inherit.specs.internal.Numbers.{AreNumbers, is_text}
-use Rattle.jt_inherit.specs.internal.SetView.{strings}
+use Rattle.jt_inherit.proofs.Vocabulary.{get_by_text, bytes_eq, btree_map_updates_text, among, Text, AreNumbers}
+use Rattle.jt_inherit.proofs.Vocabulary.{is_text, strings}
 use Rattle.jt_inherit.proofs.NameSets.{put_told}
 use Rattle.jt_inherit.proofs.NumberTables.{pushed}
 use Rattle.jt_inherit.proofs.sets.Names.put.Goals as goal

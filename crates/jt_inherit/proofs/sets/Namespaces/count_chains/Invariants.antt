@@ -1,6 +1,5 @@
 use Rattle.std.proofs.Common.{◌≡◌, ◌+◌, ◌≤◌, length, drop}
-use Rattle.jt_inherit.specs.internal.Found.{chains_of}
-use Rattle.jt_inherit.specs.internal.SetView.{keys_view}
+use Rattle.jt_inherit.proofs.Vocabulary.{chains_of, keys_view}
 use Rattle.jt_inherit.proofs.sets.Namespaces.count_chains.Given as goal
 
 abbrev pub invariant-loop-namespace : goal.invariant-loop-namespace

@@ -1,8 +1,5 @@
 use Rattle.std.proofs.Common.{◌≡◌, false, Some, MatchOption, string_bytes, sym, ap, subst, ◌∙◌}
-use Rattle.std.specs.Prelude.{slice_get}
-use Rattle.std.specs.BTreeMap.{get_by_text}
-use Rattle.jt_chains.specs.Chain.{Namespace, a_chain, a_library, listed}
-use Rattle.jt_inherit.specs.internal.SetView.{keys_view}
+use Rattle.jt_inherit.proofs.Vocabulary.{slice_get, get_by_text, Namespace, a_chain, a_library, listed, keys_view}
 use Rattle.jt_inherit.proofs.NamespaceSets.{find_told, is_chain, is_library}
 use Rattle.jt_inherit.proofs.sets.Namespaces.find.Goals as goal
 

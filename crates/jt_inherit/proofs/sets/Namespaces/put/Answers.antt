@@ -1,10 +1,6 @@
 use Rattle.std.proofs.Common.{◌≡◌, ◌++◌, ◌∷◌, [], Some, List, length, string_bytes, cond, sym, ap, subst, ◌∙◌, arith}
-use Rattle.std.specs.BTreeMap.{get_by_text}
-use Rattle.std.specs.Str.{bytes_eq}
-use Rattle.std.proofs.lemmas.Map.Text.{btree_map_updates_text}
-use Rattle.jt_ast.specs.Expressions.{Text}
-use Rattle.jt_inherit.specs.internal.Numbers.{AreNumbers, is_chain, is_library}
-use Rattle.jt_inherit.specs.declared.sets.NamespaceKey.{NamespaceKey}
+use Rattle.jt_inherit.specs.internal.Numbers.{is_chain, is_library}
+use Rattle.jt_inherit.proofs.Vocabulary.{get_by_text, bytes_eq, btree_map_updates_text, Text, AreNumbers, NamespaceKey}
 use Rattle.jt_inherit.proofs.NamespaceSets.{chain_kept, chain_put, library_kept, library_put}
 use Rattle.jt_inherit.proofs.NumberTables.{pushed}
 use Rattle.jt_inherit.proofs.sets.Namespaces.put.Goals as goal

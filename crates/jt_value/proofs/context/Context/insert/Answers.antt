@@ -1,4 +1,4 @@
-use Rattle.std.proofs.Common.{◌≡◌, ◌<◌, ◌++◌, [], ◌∷◌, ℕ, List, Some, None, length, string_bytes, sym, ap, ◌∙◌, subst}
+use Rattle.std.proofs.Common.{◌≡◌, ◌<◌, ◌++◌, [], ◌∷◌, ℕ, List, Some, None, length, sym, ap, ◌∙◌, subst}
 use Rattle.std.proofs.Common.{arith}
 use Rattle.jt_value.specs.KeySearch.{Finds}
 use Rattle.jt_value.specs.Pairs.{Pairs, pairs, look, put, HasDistinctNames}
@@ -12,7 +12,7 @@ use Rattle.jt_value.proofs.context.Context.insert.Goals as goal
 pub index_mut-requires : goal.index_mut-requires
 index_mut-requires c =
     let es = c.self.inside.entries.items in
-    let name = string_bytes c.args.name in
+    let name = c.args.name in
     let here = moved (Some c.in-Some.index) c.deref-2.result.now name c.deref.result.now es c.in-Some.ensures
     c.deref-2.ensures c.deref.ensures.value in
     let lt : c.in-Some.index < length es = (indexed es name c.in-Some.index here).0 in
@@ -21,7 +21,7 @@ index_mut-requires c =
 pub invariant_of-self : goal.invariant_of-self
 invariant_of-self c =
     let es = c.self.inside.entries.items in
-    let name = string_bytes c.args.name in
+    let name = c.args.name in
     let here = moved (Some c.in-Some.index) c.deref-2.result.now name c.deref.result.now es c.in-Some.ensures
     c.deref-2.ensures c.deref.ensures.value in
     let changed = put_at name es c.in-Some.index c.args.value c.index_mut.result.now here c.index_mut.ensures.value in (
@@ -33,7 +33,7 @@ invariant_of-self c =
 pub returns-in-Some-clause-ok : goal.returns-in-Some-clause-ok
 returns-in-Some-clause-ok c =
     let es = c.self.inside.entries.items in
-    let name = string_bytes c.args.name in
+    let name = c.args.name in
     let here = moved (Some c.in-Some.index) c.deref-2.result.now name c.deref.result.now es c.in-Some.ensures
     c.deref-2.ensures c.deref.ensures.value in
     let changed = put_at name es c.in-Some.index c.args.value c.index_mut.result.now here c.index_mut.ensures.value in
@@ -42,7 +42,7 @@ returns-in-Some-clause-ok c =
 pub returns-in-Some-clause-found : goal.returns-in-Some-clause-found
 returns-in-Some-clause-found c = λ other.
     let es = c.self.inside.entries.items in
-    let name = string_bytes c.args.name in
+    let name = c.args.name in
     let here = moved (Some c.in-Some.index) c.deref-2.result.now name c.deref.result.now es c.in-Some.ensures
     c.deref-2.ensures c.deref.ensures.value in
     let changed = put_at name es c.in-Some.index c.args.value c.index_mut.result.now here c.index_mut.ensures.value in
@@ -52,7 +52,7 @@ returns-in-Some-clause-found c = λ other.
 pub returns-in-Some-clause-distinct : goal.returns-in-Some-clause-distinct
 returns-in-Some-clause-distinct c =
     let es = c.self.inside.entries.items in
-    let name = string_bytes c.args.name in
+    let name = c.args.name in
     let here = moved (Some c.in-Some.index) c.deref-2.result.now name c.deref.result.now es c.in-Some.ensures
     c.deref-2.ensures c.deref.ensures.value in
     let changed = put_at name es c.in-Some.index c.args.value c.index_mut.result.now here c.index_mut.ensures.value in
@@ -61,7 +61,7 @@ returns-in-Some-clause-distinct c =
 pub returns-then-is_err-clause-absent : goal.returns-then-is_err-clause-absent
 returns-then-is_err-clause-absent c =
     let es = c.self.inside.entries.items in
-    let name = string_bytes c.args.name in
+    let name = c.args.name in
     let none = moved None c.deref-2.result.now name c.deref.result.now es c.in_default.ensures c.deref-2.ensures
     c.deref.ensures.value in
     ap (λ (t : Pairs × ℕ). look name t.0) (sym c.self.view_is) ∙ absent name es none
@@ -69,7 +69,7 @@ returns-then-is_err-clause-absent c =
 pub returns-then-is_err-2-clause-absent : goal.returns-then-is_err-2-clause-absent
 returns-then-is_err-2-clause-absent c =
     let es = c.self.inside.entries.items in
-    let name = string_bytes c.args.name in
+    let name = c.args.name in
     let none = moved None c.deref-2.result.now name c.deref.result.now es c.in_default.ensures c.deref-2.ensures
     c.deref.ensures.value in
     ap (λ (t : Pairs × ℕ). look name t.0) (sym c.self.view_is) ∙ absent name es none
@@ -77,7 +77,7 @@ returns-then-is_err-2-clause-absent c =
 pub invariant_of-self-2 : goal.invariant_of-self-2
 invariant_of-self-2 c =
     let es = c.self.inside.entries.items in
-    let name = string_bytes c.args.name in
+    let name = c.args.name in
     let none = moved None c.deref-2.result.now name c.deref.result.now es c.in_default.ensures c.deref-2.ensures
     c.deref.ensures.value in
     let added : c.push_reserved.new.self.items ≡ es ++ (c.args.name, c.args.value) ∷ [] = c.push_reserved.ensures.items
@@ -94,7 +94,7 @@ invariant_of-self-2 c =
 pub returns-clause-ok : goal.returns-clause-ok
 returns-clause-ok c =
     let es = c.self.inside.entries.items in
-    let name = string_bytes c.args.name in
+    let name = c.args.name in
     let none = moved None c.deref-2.result.now name c.deref.result.now es c.in_default.ensures c.deref-2.ensures
     c.deref.ensures.value in
     let added : c.push_reserved.new.self.items ≡ es ++ (c.args.name, c.args.value) ∷ [] = c.push_reserved.ensures.items
@@ -106,7 +106,7 @@ returns-clause-ok c =
 pub returns-clause-found : goal.returns-clause-found
 returns-clause-found c = λ other.
     let es = c.self.inside.entries.items in
-    let name = string_bytes c.args.name in
+    let name = c.args.name in
     let none = moved None c.deref-2.result.now name c.deref.result.now es c.in_default.ensures c.deref-2.ensures
     c.deref.ensures.value in
     let added : c.push_reserved.new.self.items ≡ es ++ (c.args.name, c.args.value) ∷ [] = c.push_reserved.ensures.items
@@ -119,7 +119,7 @@ returns-clause-found c = λ other.
 pub returns-clause-distinct : goal.returns-clause-distinct
 returns-clause-distinct c =
     let es = c.self.inside.entries.items in
-    let name = string_bytes c.args.name in
+    let name = c.args.name in
     let none = moved None c.deref-2.result.now name c.deref.result.now es c.in_default.ensures c.deref-2.ensures
     c.deref.ensures.value in
     let added : c.push_reserved.new.self.items ≡ es ++ (c.args.name, c.args.value) ∷ [] = c.push_reserved.ensures.items

@@ -1,4 +1,4 @@
-use Rattle.std.proofs.Common.{◌≡◌, ◌+◌, max, List, length, take, get_or, ap, ◌∙◌, arith, string_bytes}
+use Rattle.std.proofs.Common.{◌≡◌, ◌+◌, max, List, length, take, get_or, ap, ◌∙◌, arith}
 use Rattle.jt_value.specs.Tree.{size, entries_size, nesting, entries_nesting}
 use Rattle.jt_value.specs.View.{view, entries_view}
 use Rattle.jt_value.proofs.Lists.{Pair, entries_view-take_more, entries_size-more, entries_nesting-more}
@@ -12,7 +12,7 @@ loop-key-preserved c =
     let more = entries_view-take_more xs i r (rw c.deref-key-items.ensures.value at c.loop-key-test.true)
     (c.loop-key-item.is ∙ ap (λ (l : List Pair). get_or l i r) c.deref-key-items.ensures.value) in
     let s : entries_size (entries_view (take (i + 1) xs))
-    ≡ entries_size (entries_view (take i xs)) + (1 + length (string_bytes r.0) + size (view r.1)) =
+    ≡ entries_size (entries_view (take i xs)) + (1 + length r.0 + size (view r.1)) =
     ap entries_size more ∙ entries_size-more _ _ _ in
     let n : entries_nesting (entries_view (take (i + 1) xs))
     ≡ max (entries_nesting (entries_view (take i xs))) (nesting (view r.1)) =

@@ -1,9 +1,0 @@
-use Rattle.jt_bind.specs.internal.Scoped.{templates_in}
-use Rattle.jt_bind.specs.internal.Stated.{line_in}
-use Rattle.jt_bind.proofs.BodyConcatenation.{assign_led}
-use Rattle.jt_bind.proofs.emission.put_assign.Goals as goal
-
-pub returns : goal.returns
-returns c = λ s k p q h.
-    assign_led (templates_in s) c.place.result (line_in s c.args.senv.now c.args.line) c.args.targets k c.args.value
-    c.args.done.now.items c.push.new.self.items p q (c.place.ensures s) h c.in_ok-push.ensures.items
