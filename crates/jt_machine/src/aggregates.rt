@@ -59,8 +59,8 @@ pub(crate) fn take_values(
     Ok(values)
 }
 
-// Charges the fuel for an instruction that reads the top `count` values whole. Returns the outcome
-// if the fuel does not suffice. The values stay on the stack.
+// Charges the additional fuel for an instruction that reads the top `count` values whole. Returns
+// the outcome if the fuel does not suffice. The values stay on the stack.
 fn charge_for_values(state: &mut State, count: usize) -> Option<Outcome>
     requires has { HasValues count state.old.stack.running }
     requires bounded { IsBounded state.old }
@@ -72,7 +72,7 @@ fn charge_for_values(state: &mut State, count: usize) -> Option<Outcome>
     // is exact.
     let _size = state.left.size;
     let total = sizes(state.stack.top_entries(count));
-    charge_fuel(state, 1 + total / 64)
+    charge_fuel(state, total / 64)
 }
 
 /// Pushes the result of an operation and goes on, or returns how the run ends.
@@ -156,8 +156,7 @@ fn operated(
 
 /// Returns the limits that a budget sets for values.
 pub(crate) fn limits_of(budget: &Budget) -> Limits
-    ensures size { result.size ≡ budget.now.size }
-    ensures nesting { result.nesting ≡ budget.now.nesting }
+    ensures { result ≡ record { size = budget.now.size; nesting = budget.now.nesting } }
 {
     Limits {
         size: budget.size,

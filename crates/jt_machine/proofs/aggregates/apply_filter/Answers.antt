@@ -38,12 +38,8 @@ filtered-answer-requires c =
 
 pub push_answer-requires-clause-fits : goal.push_answer-requires-clause-fits
 push_answer-requires-clause-fits c =
-    let left = c.charge_for_values.new.state.left in
-    let given =
-    filtered c.in-Some.filter (c.args.flag == 1) (values_at c.args.count c.charge_for_values.new.state.stack.running) in
-    let a : Answers c.filtered-answer.result (limited left.size left.nesting given) =
-    rw (c.limits_of-limits.ensures.size, c.limits_of-limits.ensures.nesting) at c.filtered-answer.ensures.answers in
-    answers_fit (budget_view left) given c.filtered-answer.result a
+    answers_fit (budget_view c.charge_for_values.new.state.left) _ c.filtered-answer.result
+    (rw c.limits_of-limits.ensures at c.filtered-answer.ensures.answers)
 
 pub returns : goal.returns
 returns c =
@@ -53,7 +49,7 @@ returns c =
     let is = filter_is c.args.id c.args.count c.args.flag c.in-Some.filter (config_view c.args.state.now)
     c.in-Some.ensures c.requires.ready.not_wrong in
     let a : Answers c.filtered-answer.result (limited left.size left.nesting given) =
-    rw (c.limits_of-limits.ensures.size, c.limits_of-limits.ensures.nesting) at c.filtered-answer.ensures.answers in
+    rw c.limits_of-limits.ensures at c.filtered-answer.ensures.answers in
     let e : apply_filter c.args.id c.args.count c.args.flag (config_view c.args.state.now)
     ≡ made c.args.count (filtered_by (Some c.in-Some.filter) (c.args.flag == 1))
     (config_view c.charge_for_values.new.state) =

@@ -30,12 +30,8 @@ operated-answer-requires c =
 
 pub push_answer-requires-clause-fits : goal.push_answer-requires-clause-fits
 push_answer-requires-clause-fits c =
-    let left = c.charge_for_values.new.state.left in
-    let given = operation c.in-Some.operator
-    (values_at (op_operands c.in-Some.operator) c.charge_for_values.new.state.stack.running) in
-    let a : Answers c.operated-answer.result (limited left.size left.nesting given) =
-    rw (c.limits_of-limits.ensures.size, c.limits_of-limits.ensures.nesting) at c.operated-answer.ensures.answers in
-    answers_fit (budget_view left) given c.operated-answer.result a
+    answers_fit (budget_view c.charge_for_values.new.state.left) _ c.operated-answer.result
+    (rw c.limits_of-limits.ensures at c.operated-answer.ensures.answers)
 
 pub returns : goal.returns
 returns c =
@@ -43,7 +39,7 @@ returns c =
     let given = operation c.in-Some.operator
     (values_at (op_operands c.in-Some.operator) c.charge_for_values.new.state.stack.running) in
     let a : Answers c.operated-answer.result (limited left.size left.nesting given) =
-    rw (c.limits_of-limits.ensures.size, c.limits_of-limits.ensures.nesting) at c.operated-answer.ensures.answers in
+    rw c.limits_of-limits.ensures at c.operated-answer.ensures.answers in
     let next =
     rw c.operands.ensures at (c.in_default-charge_for_values.ensures.rest (operated (Some c.in-Some.operator))) in
     let e : operate c.args.operator (config_view c.args.state.now)
