@@ -1,7 +1,7 @@
 //! Executes instructions that make one value from several: operators, filters, tests, lists and
 //! maps.
 ghost use Rattle.std.specs.Prelude.{◌≡◌, ◌≤◌, ◌+◌, ◌<◌, ◌^◌, ◌∷◌, [], true, length, map, take};
-ghost use Rattle.std.specs.Prelude.{List, Result, Some, None, IfOk};
+ghost use Rattle.std.specs.Prelude.{List, Result, None, IfOk, OnOk};
 ghost use Rattle.jt_value.specs.Tree as tree;
 ghost use Rattle.jt_value.specs.Tree.{Tree};
 ghost use Rattle.jt_value.specs.View.{view};
@@ -22,7 +22,7 @@ ghost use Rattle.jt_machine.specs.InstructionSteps.{apply_filter as filter_next}
 ghost use Rattle.jt_machine.specs.InstructionSteps.{apply_test as test_next, answering};
 ghost use Rattle.jt_machine.specs.InstructionSteps.{push as pushes, step_on as steps_on, values_at};
 ghost use Rattle.jt_machine.specs.InstructionSteps.{below};
-ghost use Rattle.jt_machine.specs.View.{budget_view, config_view, IsNext, continues, values_on};
+ghost use Rattle.jt_machine.specs.View.{budget_view, config_view, IsNext, continues};
 ghost use Rattle.jt_machine.specs.View.{HasValues, IsReady, IsBounded};
 
 use crate::charging::{charge_fuel, push, push_checked};
@@ -47,9 +47,10 @@ pub(crate) fn take_values(
     count: usize,
 ) -> Result<Vec<Value>, NoMemory>
     requires { HasValues count stack.old.running }
-    ensures taken { IfOk result
-        (λ vs. values_on count stack.old.running ≡ Some (map view vs.items, stack.new.running)) }
-    ensures callers { stack.new.callers ≡ stack.old.callers }
+    ensures values { IfOk result
+        (λ vs. values_at count stack.old.running ≡ map view vs.items) }
+    ensures taken { OnOk result
+        (stack.new ≡ with_running (below count stack.old.running) stack.old) }
 {
     let mut values = Vec::new(alloc);
     'values: for _ in 0..count {
@@ -67,6 +68,7 @@ fn charge_for_values(state: &mut State, count: usize) -> Option<Outcome>
     ensures rest { (f : List Tree → Result Tree Fault)
         → make count f (config_view state.old) ≡ continues result state.new (made count f) }
     ensures same { state.new ≡ record state.old { left = state.new.left } }
+    ensures has { HasValues count state.new.stack.running }
 {
     // The prover needs this read, which shows that the limit has 32 bits. So the sum of the sizes
     // is exact.

@@ -6,7 +6,7 @@ use Rattle.jt_image.specs.Step.{operated}
 use Rattle.jt_machine.specs.declared.state.State.{State}
 use Rattle.jt_machine.specs.InstructionSteps.{operate, made, values_at}
 use Rattle.jt_machine.specs.View.{budget_view, config_view}
-use Rattle.jt_machine.proofs.PoppedValues.{makes_of, operate_is, answers_fit, has_same}
+use Rattle.jt_machine.proofs.PoppedValues.{makes_of, operate_is, answers_fit}
 use Rattle.jt_machine.proofs.aggregates.operate.Goals as goal
 
 pub charge_for_values-requires-clause-has : goal.charge_for_values-requires-clause-has
@@ -21,12 +21,7 @@ returns-in-Some-charge_for_values c =
     ∙ (rw c.operands.ensures at (c.in-Some-charge_for_values.ensures.rest (operated (Some c.in-Some.operator))))
 
 pub operated-answer-requires : goal.operated-answer-requires
-operated-answer-requires c =
-    let there = makes_of (op_operands c.in-Some.operator) (operated (Some c.in-Some.operator))
-    (config_view c.args.state.now) (λ w. c.requires.ready.not_wrong
-    (operate_is c.args.operator c.in-Some.operator (config_view c.args.state.now) c.in-Some.ensures ∙ w)) in
-    has_same (op_operands c.in-Some.operator) c.charge_for_values.new.state.stack.running c.args.state.now.stack.running
-    (ap (λ (s : State). s.stack.running) c.in_default-charge_for_values.ensures.same) there
+operated-answer-requires c = rw c.operands.ensures at c.charge_for_values.ensures.has
 
 pub push_answer-requires-clause-fits : goal.push_answer-requires-clause-fits
 push_answer-requires-clause-fits c =

@@ -1,6 +1,7 @@
-use Rattle.std.proofs.Common.{◌≡◌, ◌∙◌, ℕ, [], map, Option, ap, sym, arith}
+use Rattle.std.proofs.Common.{◌≡◌, ◌∙◌, ℕ, [], List, length, map, ap, sym, arith}
 use Rattle.std.specs.Prelude.{slice_get}
 use Rattle.std.proofs.lemmas.List.{length-map}
+use Rattle.jt_value.specs.Tree.{Tree}
 use Rattle.jt_value.specs.View.{view}
 use Rattle.jt_image.specs.declared.code.UnitHeader.{UnitHeader}
 use Rattle.jt_image.specs.Config as config
@@ -57,13 +58,15 @@ locals_with-requires g c =
     let k = g.C.Code.code c.args.code.now in
     let x = called_is (slice_get k.units c.args.unit) c.in-Some.header c.in-Some.ensures in
     let n : c.from.result ≡ x.0.parameters = c.from.ensures ∙ ap (λ (h : UnitHeader). h.parameters) x.2 in
-    let taken = rw n at c.in_ok-arguments.ensures.taken in
-    let many = taken_count x.0.parameters [] c.args.state.now.stack.running
-    (map view c.in_ok-arguments.arguments.items) c.take_values.new.stack.running taken in
+    let there = (call_enters c.args.unit _ x.0 (config_view c.args.state.now) x.1 c.requires.ready.not_wrong).0 in
+    let many = taken_count x.0.parameters [] c.args.state.now.stack.running there.values there.rest there.is in
+    let are = values_are x.0.parameters c.args.state.now.stack.running there.values there.rest there.is in
+    let same = sym are.0 ∙ (rw n at c.in_ok-arguments.ensures.values) in
     let section = section_at k.units c.args.unit x.0 c.requires.whole.units x.1 in
     omega (
       arith,
       many,
+      ap (λ (ts : List Tree). length ts) same,
       section.within,
       length-map c.in_ok-arguments.arguments.items view,
       ap (λ (h : UnitHeader). h.locals) x.2,
@@ -75,13 +78,11 @@ returns g c =
     let x = called_is (slice_get k.units c.args.unit) c.in-Some.header c.in-Some.ensures in
     let n : c.from.result ≡ x.0.parameters = c.from.ensures ∙ ap (λ (h : UnitHeader). h.parameters) x.2 in
     let us = map view c.in_ok-arguments.arguments.items in
-    let are = values_are x.0.parameters c.args.state.now.stack.running us c.take_values.new.stack.running
-    (rw n at c.in_ok-arguments.ensures.taken) in
     let m : c.in-Some.header.locals ≡ x.0.locals = ap (λ (h : UnitHeader). h.locals) x.2 in
     let locals : values_view c.in_ok-locals.locals.items ≡ locals_of x.0.locals us =
     c.in_ok-locals.ensures ∙ ap (λ (z : ℕ). locals_of z us) m in
     let e = call_enters c.args.unit _ x.0 (config_view c.args.state.now) x.1 c.requires.ready.not_wrong in
-    let f = rw (are.0, are.1) at
+    let f = rw (rw n at c.in_ok-arguments.ensures.values) at
     (e.1 ∙ has_entered (config_view c.args.state.now) (called c.args.unit x.0) c.in_default-enter.ensures.ok.0) in
     rw (
       c.in_ok-enter.ensures,
@@ -89,5 +90,5 @@ returns g c =
       c.replace-around.ensures.after,
       locals,
       c.in_default-enter.ensures.ok.1,
-      c.in_ok-arguments.ensures.callers,
+      rw n at c.in_ok-arguments.ensures.taken,
     ) f
