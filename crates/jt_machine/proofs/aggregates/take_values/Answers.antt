@@ -1,9 +1,9 @@
-use Rattle.std.proofs.Common.{◌≡◌, ◌∙◌, ◌-◌, ◌+◌, ◌∷◌, suc, map, reverse, sym, ap, arith}
+use Rattle.std.proofs.Common.{◌≡◌, ◌∙◌, ◌-◌, ◌+◌, ◌∷◌, suc, map, reverse, refl, sym, ap, arith}
 use Rattle.jt_machine.proofs.MapEntries.{map-reverse}
 use Rattle.jt_value.specs.View.{view}
 use Rattle.jt_image.specs.Config.{value}
 use Rattle.jt_machine.specs.Activations.{Activations}
-use Rattle.jt_machine.proofs.PoppedValues.{more_is, one_taken, none_left, pushed}
+use Rattle.jt_machine.proofs.PoppedValues.{more_is, one_taken, none_left, pushed, values_are}
 use Rattle.jt_machine.proofs.aggregates.take_values.Goals as goal
 
 pub pop-requires : goal.pop-requires
@@ -31,8 +31,18 @@ values-preserved c =
       callers = sym same ∙ c.values.invariant.callers;
     }
 
+pub returns-clause-values : goal.returns-clause-values
+returns-clause-values c =
+    let none : c.args.count - c.values.counter ≡ 0 = omega (arith, c.values-test.false) in
+    let vs = reverse (map view c.values.values.items) in
+    let taken = sym c.values.invariant.taken ∙ none_left _ vs c.values.stack.running none in
+    rw (c.reverse.ensures.items, map-reverse view c.values.values.items)
+    (values_are c.args.count c.args.stack.now.running vs c.values.stack.running taken).0
+
 pub returns-clause-taken : goal.returns-clause-taken
 returns-clause-taken c =
     let none : c.args.count - c.values.counter ≡ 0 = omega (arith, c.values-test.false) in
-    rw (c.reverse.ensures.items, map-reverse view c.values.values.items)
-    (sym c.values.invariant.taken ∙ none_left _ (reverse (map view c.values.values.items)) c.values.stack.running none)
+    let vs = reverse (map view c.values.values.items) in
+    let taken = sym c.values.invariant.taken ∙ none_left _ vs c.values.stack.running none in
+    let left = (values_are c.args.count c.args.stack.now.running vs c.values.stack.running taken).1 in
+    rw (left, ← c.values.invariant.callers) refl
