@@ -86,22 +86,23 @@ module _ (s : Chains) (us : List Block) (all : map (block_view (chain_view s.cha
       counted_end i bs (omega arith)
 
   -- The routine of a body.
-  pub block_routine : (i : ℕ) (x : Block) (xs : List Text) (whole : List Planned) (r : Routine)
+  pub block_routine : (i : ℕ) (x : Block) (xs : List Text) (sp : resolve.StaticEnv) (whole : List Planned) (r : Routine)
       (before rs ss : List Routine) (old p q : List Tree)
       → i < length us → x ≡ get_or us i x → xs ≡ block_parameters (cenv_in s) (order_in s) (namespace_in s) x.name.now
-      → RoutinesLead (templates_in s) whole (body_routines (cenv_in s) (order_in s) (namespace_in s) (drop i numbered))
-      before rs old p
-      → IsRoutine (templates_in s) (resolved_routine (cenv_in s) (order_in s) xs (body_view x.body.now) (record {
+      → sp ≡ record {
         namespace = namespace_in s;
         template = name_at (chain_view s.chain.now).templates x.template;
         escaping = x.escaping;
         part = part_at numbered (Some i);
         table = globals_in s;
         free = 0;
-      })) r p q
+      }
+      → RoutinesLead (templates_in s) whole (body_routines (cenv_in s) (order_in s) (namespace_in s) (drop i numbered))
+      before rs old p
+      → IsRoutine (templates_in s) (resolved_routine (cenv_in s) (order_in s) xs (body_view x.body.now) sp) r p q
       → ss ≡ rs ++ r ∷ [] → RoutinesLead (templates_in s) whole
       (body_routines (cenv_in s) (order_in s) (namespace_in s) (drop (i + 1) numbered)) before ss old q
-  block_routine i x xs whole r before rs ss old p q lt is same lead made pushed =
+  block_routine i x xs sp whole r before rs ss old p q lt is same e lead made pushed =
       let at = λ (z : List (ℕ × BlockBody)). (let sp : resolve.StaticEnv = record {
         namespace = namespace_in s;
         template = name_at (chain_view s.chain.now).templates x.template;
@@ -118,7 +119,7 @@ module _ (s : Chains) (us : List Block) (all : map (block_view (chain_view s.cha
       (ap (body_routines (cenv_in s) (order_in s) (namespace_in s)) next) lead)
       (routine_as (templates_in s) (cenv_in s) (order_in s) xs
       (block_parameters (cenv_in s) (order_in s) (namespace_in s) x.name.now) (body_view x.body.now)
-      (at (drop i numbered)) (at ((i, shown x) ∷ drop (i + 1) numbered)) r p q made same (ap at next)) pushed
+      sp (at ((i, shown x) ∷ drop (i + 1) numbered)) r p q made same (e ∙ ap at next)) pushed
 
 -- The routine of a macro.
 module _ (s : Chains) (ms : List Macro) where

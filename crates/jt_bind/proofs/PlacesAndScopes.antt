@@ -22,7 +22,7 @@ use Rattle.jt_ir.specs.declared.program.Slot as code_slot
 use Rattle.jt_ir.specs.declared.program.Slot.TheVariants as s
 use Rattle.jt_bind.specs.internal.Scoped.{framed}
 use Rattle.jt_bind.specs.declared.name_scope.NameScope.{NameScope}
-use Rattle.jt_layout.specs.Names.{index_in}
+use Rattle.jt_names.specs.Names.{value_in}
 
 -- ---- names with numbers
 
@@ -108,7 +108,7 @@ pub framed_found : (x : Text) (rs : List (Rc NameScope Global)) (i : ℕ) (f : N
     (t : Table)
     → i < length rs → f ≡ (get_or rs i r).value
     → slot_in x (framed (map (λ f. f.value) (take (i + 1) rs)) t)
-    ≡ found_or (index_in f.index.indices x) (slot_in x (framed (map (λ f. f.value) (take i rs)) t))
+    ≡ found_or (value_in f.index.indices x) (slot_in x (framed (map (λ f. f.value) (take i rs)) t))
 framed_found x rs i f r t lt is =
     let inner = framed (map (λ f. f.value) (take i rs)) t in
     ap (slot_in x) (framed_more rs i r t lt)

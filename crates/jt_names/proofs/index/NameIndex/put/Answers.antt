@@ -1,5 +1,5 @@
 use Rattle.std.proofs.lemmas.Map.Text.{btree_map_updates_str}
-use Rattle.jt_layout.proofs.index.NameIndex.put.Goals as goal
+use Rattle.jt_names.proofs.index.NameIndex.put.Goals as goal
 
 pub returns : goal.returns
 returns c =
