@@ -64,8 +64,4 @@ and_again a b c = search (arith, rules)
 pub filters_low : (room : ℕ) (fs : List SlotFilter) (x : SlotExpr ℕ)
     → nat_le (expr_height (filters_after fs x)) room ≡ nat_le (expr_height x) room && rows_low (room - 1) fs
 filters_low room [] x = sym (and-true (nat_le (expr_height x) room))
-filters_low room (f ∷ fs) x =
-    let r = row_height (row_view f.row.items none) in
-    filters_low room fs (filter_after f x)
-    ∙ ap (λ b. b && rows_low (room - 1) fs) (one_low (expr_height x) r room (height_some x))
-    ∙ and_again (nat_le (expr_height x) room) (nat_le r (room - 1)) (rows_low (room - 1) fs)
+filters_low room (f ∷ fs) x = search (arith, rules, one_low, height_some, and_again, filters_low room fs)

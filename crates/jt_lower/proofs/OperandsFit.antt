@@ -256,6 +256,4 @@ lowered_written p fit globals pool limits =
 
 pub program_written : (p : Program) → ProgramFits p → p.globals < 2 ^ 16 → length p.pool ≤ 2 ^ 32
     → KeepsLimits (compiled p) → AllByRecursion Written (compiled p).units
-program_written p fit globals pool limits =
-    units_room (lowered p).constants (omega (arith, pool, length-map p.pool constant_of)) (map unit_of p.routines)
-    (lowered_written p fit globals pool limits)
+program_written p fit globals pool limits = search (arith, rules, units_room, length-map, lowered_written)
