@@ -1,9 +1,8 @@
-use Rattle.std.proofs.Common.{◌≡◌, ◌∙◌, Some, ap}
+use Rattle.std.proofs.Common.{◌≡◌, ◌∙◌, Some}
 use Rattle.std.specs.Prelude.{◌==◌}
 use Rattle.jt_ops.specs.Limited.{limited, Answers}
 use Rattle.jt_filter_semantics.specs.Filtering.{filtered}
 use Rattle.jt_image.specs.Step.{filtered_by}
-use Rattle.jt_machine.specs.declared.state.State.{State}
 use Rattle.jt_machine.specs.InstructionSteps.{apply_filter, made, values_at}
 use Rattle.jt_machine.specs.View.{budget_view, config_view}
 use Rattle.jt_machine.proofs.PoppedValues.{makes_of, filter_is, answers_fit}

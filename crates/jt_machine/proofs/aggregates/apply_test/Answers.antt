@@ -1,9 +1,8 @@
-use Rattle.std.proofs.Common.{◌≡◌, ◌∙◌, Some, Err, ap}
+use Rattle.std.proofs.Common.{◌≡◌, ◌∙◌, Some, Err}
 use Rattle.jt_ops.specs.Limited.{limited, Answers}
 use Rattle.jt_op_semantics.specs.Operation.{as_truth}
 use Rattle.jt_op_semantics.specs.Testing.{tested}
 use Rattle.jt_image.specs.Step.{tested_by}
-use Rattle.jt_machine.specs.declared.state.State.{State}
 use Rattle.jt_machine.specs.InstructionSteps.{apply_test, made, values_at}
 use Rattle.jt_machine.specs.View.{config_view}
 use Rattle.jt_machine.proofs.PoppedValues.{makes_of, test_is, test_answers, truth_given}

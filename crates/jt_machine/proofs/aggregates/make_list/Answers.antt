@@ -1,14 +1,13 @@
-use Rattle.std.proofs.Common.{◌≡◌, ◌∙◌, map, None, ap, sym}
+use Rattle.std.proofs.Common.{◌≡◌, ◌∙◌, None, sym}
 use Rattle.jt_value.specs.Tree as tree
-use Rattle.jt_value.specs.View.{view, items_of}
+use Rattle.jt_value.specs.View.{items_of}
 use Rattle.jt_image.specs.Step.{listed, with_entries}
 use Rattle.jt_image.specs.Run.{limit_of}
-use Rattle.jt_machine.specs.declared.state.State.{State}
 use Rattle.jt_machine.specs.InstructionSteps.{make, made, push, step_on, with_state, values_at, below}
-use Rattle.jt_machine.specs.View.{config_view, limit_view, budget_view}
+use Rattle.jt_machine.specs.View.{config_view, limit_view}
 use Rattle.jt_machine.proofs.AllocationPoints.{lost}
 use Rattle.jt_machine.proofs.StepLemmas.{push_spent, push_goes_on}
-use Rattle.jt_machine.proofs.PoppedValues.{makes_of, values_are}
+use Rattle.jt_machine.proofs.PoppedValues.{makes_of}
 use Rattle.jt_machine.proofs.aggregates.make_list.Goals as goal
 
 pub charge_for_values-requires-clause-has : goal.charge_for_values-requires-clause-has

@@ -1,12 +1,11 @@
-use Rattle.std.proofs.Common.{◌≡◌, ◌∙◌, map, refl, ap}
+use Rattle.std.proofs.Common.{◌≡◌, ◌∙◌, map, refl}
 use Rattle.jt_value.specs.View.{view}
 use Rattle.jt_image.specs.Step.{mapped, with_entries}
-use Rattle.jt_machine.specs.declared.state.State.{State}
 use Rattle.jt_machine.specs.internal.Making.{IsWithin}
 use Rattle.jt_machine.specs.InstructionSteps.{make, made, with_state, values_at, below}
 use Rattle.jt_machine.specs.View.{budget_view, config_view}
 use Rattle.jt_machine.proofs.AllocationPoints.{lost}
-use Rattle.jt_machine.proofs.PoppedValues.{makes_of, values_are}
+use Rattle.jt_machine.proofs.PoppedValues.{makes_of}
 use Rattle.jt_machine.proofs.MapSize.{within_texts, within_goes_on}
 use Rattle.jt_machine.proofs.aggregates.make_map.Goals as goal
 

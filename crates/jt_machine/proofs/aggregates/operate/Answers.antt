@@ -1,9 +1,8 @@
-use Rattle.std.proofs.Common.{◌≡◌, ◌∙◌, Some, ap}
+use Rattle.std.proofs.Common.{◌≡◌, ◌∙◌, Some}
 use Rattle.jt_ops.specs.Limited.{limited, Answers}
 use Rattle.jt_op_semantics.specs.Operation.{operation}
 use Rattle.jt_ids.specs.OpTable.{op_operands}
 use Rattle.jt_image.specs.Step.{operated}
-use Rattle.jt_machine.specs.declared.state.State.{State}
 use Rattle.jt_machine.specs.InstructionSteps.{operate, made, values_at}
 use Rattle.jt_machine.specs.View.{budget_view, config_view}
 use Rattle.jt_machine.proofs.PoppedValues.{makes_of, operate_is, answers_fit}

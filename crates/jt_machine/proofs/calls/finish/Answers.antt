@@ -8,7 +8,8 @@ use Rattle.jt_machine.proofs.calls.finish.Goals as goal
 
 pub returns-in_default : goal.returns-in_default
 returns-in_default c u h =
-    let none : c.args.state.now.stack.callers ≡ [] = sym c.take_given-given.ensures.callers ∙ c.in_default.ensures.none in
+    let none : c.args.state.now.stack.callers ≡ [] =
+    sym c.take_given-given.ensures.callers ∙ c.in_default.ensures.none in
     rw c.replace-text.ensures.value (return_ends u (config_view c.args.state.now)
     (string_bytes c.args.state.now.buffer) (outer_view c.args.state.now.outer.items) none refl h)
 

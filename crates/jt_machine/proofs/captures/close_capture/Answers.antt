@@ -33,4 +33,5 @@ returns-in_err-captured c =
 pub returns : goal.returns
 returns c =
     rw (c.pop_capture.ensures, c.pop_outer-around.ensures)
-    (rw (c.in_ok-captured.ensures, c.replace-text.ensures.value, c.replace-text.ensures.after) at c.push_checked.ensures)
+    (rw (c.in_ok-captured.ensures, c.replace-text.ensures.value, c.replace-text.ensures.after) at
+    c.push_checked.ensures)
