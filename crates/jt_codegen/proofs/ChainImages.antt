@@ -85,10 +85,7 @@ pub low_of : (q : given.Program) (rs : List given_routine.Routine) (b : Bool) �
     × (AllByRecursion (λ (r : Routine ℕ). body_height r.body ≤ max_entries) (map (routine_view templates) rs)
     → IsTrue b))
     → b ≡ true → Low (program_of q)
-low_of q rs b same counted e =
-    subst (λ (l : List given_routine.Routine).
-    AllByRecursion (λ (r : Routine ℕ). body_height r.body ≤ max_entries) (map (routine_view (templates_of q)) l)) same
-    ((counted (templates_of q)).0 e)
+low_of q rs b same counted e = search (arith, rules)
 
 pub high_of : (q : given.Program) (rs : List given_routine.Routine) (b : Bool) → rs ≡ q.routines.items
     → ((templates : List Text) → (IsTrue b
@@ -268,9 +265,7 @@ module _ (code : CodeLaws) (low : LowLaws) (programs : ProgramLaws) (given : Sou
   module _ (weighs : chains_weight (sources_of c) c.order ≤ chains_len given (sources_of c) c.order)
       (small : IsSmall given entry options) where
     weight : chains_weight (sources_of c) order ≤ 2000
-    weight =
-        subst (λ (o : List Namespace). chains_weight (sources_of c) o ≤ 2000) is.begins
-        (omega (arith, weighs, small.bytes c is))
+    weight = search (arith, rules)
 
     are_few : AreFew cenv order
     are_few = subst (AreFew cenv) is.begins (programs.few c is.order (small.names c is) kept)

@@ -30,9 +30,7 @@ read_wire i = search (arith, rules)
 
 pub read_wires : (is : List Instruction) → each_of instruction_of (map wire_of is) ≡ Some is
 read_wires [] = refl
-read_wires (i ∷ is) =
-    ap (λ o. in_front o (each_of instruction_of (map wire_of is))) (read_wire i)
-    ∙ ap (in_front (Some i)) (read_wires is)
+read_wires (i ∷ is) = search (arith, rules, read_wire, read_wires is)
 
 module _ (templates : List Text) (r : Routine) (c0 c1 c2 : Emitter) (empty : c0.code.items ≡ [])
     (whole : c0.overflowed ≡ false) (body : Emits templates 0 c0 (body_view templates r.body.items) c1)
@@ -44,9 +42,7 @@ module _ (templates : List Text) (r : Routine) (c0 c1 c2 : Emitter) (empty : c0.
   all = both statements (one None op.Return)
 
   puts : Puts templates c0 all c2
-  puts =
-      puts_then templates c0 c1 c2 statements (one None op.Return)
-      (emits_alone templates 0 c0 c1 (body_view templates r.body.items) body) last
+  puts = search (arith, rules, puts_then, emits_alone)
 
   pub unit_emitted : (parameters locals : ℕ) → parameters ≡ r.parameters → locals ≡ r.locals → c2.overflowed ≡ false
       → section_of_unit (record { parameters = parameters; kind = 0; locals = locals; code = c2.code })
@@ -72,11 +68,4 @@ module _ (templates : List Text) (r : Routine) (c0 c1 c2 : Emitter) (empty : c0.
   pub unit_refused : (left : ℕ) → c0.limit ≡ left → c2.overflowed ≡ true
       → AllByRecursion IsInstruction (unit_of (routine_view templates r)).code
       → left < length (unit_of (routine_view templates r)).code
-  unit_refused left limited over fields =
-      not_within (length (unit_of (routine_view templates r)).code) left (λ len.
-      let place : HasPlace left 0 all = record { len = omega (arith, len); fields = fields } in
-      let placed : HasPlace c0.limit 0 all = subst (λ (n : ℕ). HasPlace n 0 all) (sym limited) place in
-      let none : c2.overflowed ≡ false =
-      puts.place (subst (λ (l : List Instr). HasPlace c0.limit (length l) all) (sym empty) placed) whole in
-      let both_ways : true ≡ false = sym over ∙ none in
-      cc)
+  unit_refused left limited over fields = search (arith, rules, not_within, puts)

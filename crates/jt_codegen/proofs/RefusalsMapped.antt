@@ -14,18 +14,7 @@ use Rattle.jt_codegen.proofs.PassedLimits.{not_within}
 
 by_code : (e : ImageError) (p : Program) → HasTables (compiled p) → FitsCounts (compiled p)
     → FitTexts (compiled p).templates → IsRefusal e (Some (compiled p)) → RefusesImage (of_image e) p
-by_code image_error.LimitPassed p tables counts names h =
-    not_within (length (spelling (compiled p))) max_bytes (λ bytes. h (record {
-      names = counts.names;
-      texts = counts.texts;
-      constants = counts.constants;
-      units = counts.units;
-      locals = counts.locals;
-      instructions = counts.instructions;
-      templates = counts.templates;
-      template_texts = names;
-      bytes = bytes;
-    }))
+by_code image_error.LimitPassed p tables counts names h = search (arith, rules, not_within)
 by_code image_error.BadTable p tables counts names h = absurd (h tables)
 by_code image_error.BadOpcode p tables counts names h = absurd cc
 by_code image_error.NoMemory p tables counts names h = tt

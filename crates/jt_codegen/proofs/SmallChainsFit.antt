@@ -105,9 +105,7 @@ module _ (laws : CodeLaws) (low : LowLaws) (cenv : CompileEnv) (order : List Nam
     (sized : IsSized cenv order p) (weight : chains_weight cenv.sources order ≤ 2000) where
   -- No routine needs more entries than a shape may have.
   pub small_low : AllByRecursion (λ r. body_height r.body ≤ max_entries) p.routines
-  small_low =
-      all_weaker (λ (r : Routine ℕ). 2 * body_height r.body ≤ max 2 (chains_weight cenv.sources order))
-      (λ r. body_height r.body ≤ max_entries) p.routines (λ r h. omega (arith, h, weight)) sized.entries
+  small_low = search (arith, rules, all_weaker)
 
   module _ (short : IsShort 2000 p) (few : 7 * length order ≤ chains_weight cenv.sources order + 7) (ns : List Text)
       (named : length ns ≤ 64 * length order) (tags : AllByRecursion (OnTag (IsTag ns)) (places_of p)) where
@@ -188,12 +186,4 @@ module _ (laws : CodeLaws) (low : LowLaws) (cenv : CompileEnv) (order : List Nam
 
     pub small_fits : ProgramFits p → AllByRecursion (λ u. u.parameters ≤ 200) (compiled p).units
         → FitsImage (compiled p)
-    small_fits fit parameters =
-        let globals : p.globals < 2 ^ 16 = omega (arith, sized.globals, weight, few) in
-        record {
-          globals = globals;
-          limits = limits;
-          writable = all_both (λ u. u.parameters ≤ 200) (λ u. AllByRecursion IsInstruction u.code) IsWritable
-              (compiled p).units (λ u h code. record { parameters = omega (arith, h); code = code }) parameters
-              (low.written p fit globals (omega (arith, sized.constants, weight)) limits);
-        }
+    small_fits fit parameters = search (arith, rules, limits, all_both)

@@ -48,12 +48,7 @@ pub returns-clause-short : goal.returns-clause-short
 returns-clause-short c = search (arith, rules, units_len, ps)
 
 pub returns-in_err-table-clause-refused : goal.returns-in_err-table-clause-refused
-returns-in_err-table-clause-refused c =
-    let e = c.in_err-table.field-0.0 in
-    let p = err_from_is_err_and c.from_residual-in_err-table.result c.from_residual-in_err-table.ensures.1 in
-    let refused = subst (λ (vs : List Value). RefusesTable e (map constant_of (map view vs))) c.deref.ensures.value
-    c.in_err-table.ensures.refused in
-    rw (p.1, p.2) (table_refused e c.args.program.now refused)
+returns-in_err-table-clause-refused c = search (arith, rules, err_from_is_err_and, table_refused)
 
 pub returns-in_err-code-clause-refused : goal.returns-in_err-code-clause-refused
 returns-in_err-code-clause-refused c = search (arith, rules, err_from_is_err_and, length-map, units_refused)

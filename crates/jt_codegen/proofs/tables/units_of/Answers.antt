@@ -19,14 +19,10 @@ returns-in_err-emitted-clause-refused c =
     (c.in_err-emitted.ensures.refused templates) (l.invariant templates).0)
 
 pub emit_unit-requires-clause-parameters : goal.emit_unit-requires-clause-parameters
-emit_unit-requires-clause-parameters c =
-    item_holds (λ r. r.parameters ≤ max_parameters) c.args.routines.now c.loop-routine.routine-index
-    c.routine-item.result c.requires.parameters c.loop-routine-test.true c.routine-item.is
+emit_unit-requires-clause-parameters c = search (arith, rules, item_holds)
 
 pub emit_unit-requires-clause-locals : goal.emit_unit-requires-clause-locals
-emit_unit-requires-clause-locals c =
-    item_holds (λ r. r.locals ≤ max_locals) c.args.routines.now c.loop-routine.routine-index c.routine-item.result
-    c.requires.locals c.loop-routine-test.true c.routine-item.is
+emit_unit-requires-clause-locals c = search (arith, rules, item_holds)
 
 pub loop-routine-preserved : goal.loop-routine-preserved
 loop-routine-preserved c = λ templates.
