@@ -1,9 +1,8 @@
 -- Filters by their names, and the arguments that they take.
-use Rattle.std.proofs.Common.{◌≡◌, ℕ, zero, suc, ◌+◌, max, Bool, true, false, not, ◌&&◌, ◌||◌, List, [], ◌∷◌, length}
+use Rattle.std.proofs.Common.{◌≡◌, ℕ, suc, max, Bool, true, false, not, ◌&&◌, List, [], ◌∷◌, length}
 use Rattle.std.proofs.Common.{drop, nat_eq, refl, sym, ap, ◌∙◌, arith, Option, Some, None, rules}
 use Rattle.std.specs.Prelude.{option_map, map}
 use Rattle.std.specs.List.{list_any}
-use Rattle.std.specs.Option.{is_some}
 use Rattle.std.proofs.lemmas.Bool.Decides.{nat_tests}
 use Rattle.jt_ast.specs.Expressions as trees
 use Rattle.jt_ast.specs.Expressions.{Exprs, Text}
@@ -21,7 +20,6 @@ use Rattle.jt_eval.specs.TheFilters.{the_filters, filter_written, filter_paramet
 use Rattle.jt_checks.specs.internal.Fitting.{filter_takes}
 use Rattle.jt_checks.specs.internal.RuleTests as rules
 use Rattle.jt_rules.specs.declared.error.ScopeError.{ScopeError}
-use Rattle.jt_checks.proofs.FilledParameters.{none_reached}
 use Rattle.jt_ast.proofs.RemainingParts.{Entry}
 
 pub known_filter : (f : FilterId) → filter_of (filter_id f) ≡ Some f

@@ -19,8 +19,6 @@ use Rattle.jt_chains.proofs.TemplatesByIndex.{namespace_indices, index_within}
 use Rattle.jt_rules.specs.Rules.{libraries_counted, names_counted}
 use Rattle.jt_chains.specs.declared.chain.Namespace as written
 use Rattle.std.proofs.lemmas.Bool.Decides.{nat_tests}
-use Rattle.jt_uses.specs.UseView.{site_view, sites_view}
-use Rattle.jt_uses.specs.declared.site.UseSite.{UseSite}
 use Rattle.jt_checks.specs.internal.UseRules as broken
 use Rattle.jt_chains.specs.View.{chain_view}
 use Rattle.jt_chains.specs.declared.chain.Chain.{Chain}

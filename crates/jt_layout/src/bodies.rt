@@ -17,7 +17,10 @@ use jt_value::NoMemory;
 use std::alloc::Global;
 
 /// Returns for each body the index of the next body of its block that is not required.
-pub(crate) fn next_bodies(alloc: Global, blocks: &[Block<'_>]) -> Result<Vec<Option<usize>>, NoMemory>
+pub(crate) fn next_bodies(
+    alloc: Global,
+    blocks: &[Block<'_>],
+) -> Result<Vec<Option<usize>>, NoMemory>
     ensures { IfOk result (λ ns.
         (ts : List Template) → ns.items ≡ nexts (counted_from 0 (map (block_view ts) blocks.now))) }
 {

@@ -9,6 +9,10 @@ loop-left-preserved c =
     let first = c.index-given-left.result in
     record {
       within = omega (arith, l.invariant.within);
-      found = λ ts h x. defined_turn ts h x c.args.given.now (l.left - 1) l.left first _ _ (omega (arith, l.invariant.within, c.loop-left-test.true)) c.index-given-left.is (omega (arith, c.loop-left-test.true))
-        (btree_map_updates_str first.name.now l.definitions c.insert.new.self (Some first.given) c.in_ok-insert.ensures.updates x) (l.invariant.found ts h x);
+      found =
+          λ ts h x. defined_turn ts h x c.args.given.now (l.left - 1) l.left first _ _
+          (omega (arith, l.invariant.within, c.loop-left-test.true)) c.index-given-left.is
+          (omega (arith, c.loop-left-test.true))
+          (btree_map_updates_str first.name.now l.definitions c.insert.new.self (Some first.given)
+          c.in_ok-insert.ensures.updates x) (l.invariant.found ts h x);
     }
