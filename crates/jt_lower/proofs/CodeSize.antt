@@ -1,7 +1,6 @@
 -- The number of instructions of a program's code is the size of the program.
-use Rattle.std.proofs.Common.{◌≡◌, ℕ, suc, ◌+◌, List, [], ◌∷◌, length, map, Option, Some, None, refl, ◌∙◌, arith}
+use Rattle.std.proofs.Common.{◌≡◌, ℕ, suc, ◌+◌, List, [], ◌∷◌, length, map, Option, Some, None, refl, arith}
 use Rattle.std.proofs.Common.{length-append, rules}
-use Rattle.jt_image.specs.declared.instruction.Instruction.TheVariants as op
 use Rattle.jt_image.specs.IsCode.{total_len}
 use Rattle.jt_value.specs.Place.{Place}
 use Rattle.jt_ir.specs.Slots as slots

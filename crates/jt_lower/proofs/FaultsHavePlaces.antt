@@ -4,7 +4,6 @@ use Rattle.jt_value.specs.Tree.{Tree}
 use Rattle.jt_value.specs.Place.{Place}
 use Rattle.jt_eval.specs.Eval.{Eval, gives, fails, deeper, bind, at}
 use Rattle.jt_eval.specs.Filters.{Filters}
-use Rattle.jt_eval.specs.Values.{as_value}
 use Rattle.jt_eval.specs.Loops.{Loop}
 use Rattle.jt_ir.specs.Slots as slots
 use Rattle.jt_ir.specs.Slots.{SRow, Targets, SlotStmt, SBody, Program, Memory, SCalls, store, sturns, seval_loop}

@@ -1,8 +1,7 @@
 -- The code of the filters of a tag is appended filter by filter, and its height is decided so.
-use Rattle.std.proofs.Common.{◌≡◌, ℕ, suc, ◌+◌, ◌-◌, ◌<◌, ◌≤◌, Bool, true, ◌&&◌, List, [], ◌∷◌, length, take, drop}
-use Rattle.std.proofs.Common.{get_or, Option, sym, ap, ◌∙◌, subst, max, arith, rules}
+use Rattle.std.proofs.Common.{◌≡◌, ℕ, suc, ◌+◌, ◌-◌, ◌<◌, ◌≤◌, Bool, true, ◌&&◌, List, [], ◌∷◌, length, take}
+use Rattle.std.proofs.Common.{get_or, Option, sym, subst, max, arith, rules}
 use Rattle.std.specs.Prelude.{nat_le}
-use Rattle.std.proofs.lemmas.List.{drop_more}
 use Rattle.std.proofs.lemmas.Bool.Decides.{nat_tests}
 use Rattle.std.proofs.Math.Bool.{and-true}
 use Rattle.jt_ids.specs.FilterTable.{filter_id}
@@ -11,7 +10,7 @@ use Rattle.jt_ast.specs.Expressions.{Text}
 use Rattle.jt_ir.specs.Slots as slots
 use Rattle.jt_ir.specs.Slots.{SlotExpr, none}
 use Rattle.jt_ir.specs.Size.{row_count, expr_height, row_height}
-use Rattle.jt_ir.specs.View.{row_view, filter_after, filters_after}
+use Rattle.jt_ir.specs.View.{row_view, filters_after}
 use Rattle.jt_ir.specs.declared.program.SlotFilter.{SlotFilter}
 use Rattle.jt_ir.proofs.ExpressionViews.{Entry, filters_next}
 use Rattle.jt_lower.specs.Asm.{Asm, one, both}

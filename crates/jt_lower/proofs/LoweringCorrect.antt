@@ -20,13 +20,13 @@ use Rattle.jt_image.specs.Config.{Frame, StackEntry, value, frame, capture, Stat
 use Rattle.jt_ids.specs.LoopTable.{field_of, field_id}
 use Rattle.jt_image.specs.Loops.{trees_of, loop_over, item_at, loop_field_value}
 use Rattle.jt_image.specs.Step as step
-use Rattle.jt_image.specs.Ids.{operator_of, operands_of, filter_of, test_of}
+use Rattle.jt_image.specs.Ids.{operator_of, filter_of, test_of}
 use Rattle.jt_image.specs.Step.{broken, goes, plain, as_frame, on_values, push_given, loop_field_or_undefined, piled}
 use Rattle.jt_image.specs.Step.{spreads, unpacks, begins, makes, operated, filtered_by, tested_by, with_entries}
 use Rattle.jt_image.specs.Step.{put_printed, constant_value, text_of}
 use Rattle.jt_ids.specs.declared.op_id.OpId.{OpId}
 use Rattle.jt_ids.specs.declared.test_id.TestId.{TestId}
-use Rattle.jt_ids.specs.OpTable.{op_id, op_operands}
+use Rattle.jt_ids.specs.OpTable.{op_id}
 use Rattle.jt_ids.specs.TestTable.{test_id}
 use Rattle.jt_op_semantics.specs.Making.{listed, mapped}
 use Rattle.jt_ir.specs.Takes.{InPairs}

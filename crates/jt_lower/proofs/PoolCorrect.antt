@@ -1,12 +1,12 @@
 -- Constants with indices into the pool have their old meaning.
-use Rattle.std.proofs.Common.{◌≡◌, ℕ, zero, suc, ◌+◌, Bool, true, false, if◌then◌else◌, List, [], ◌∷◌, ◌++◌, length}
+use Rattle.std.proofs.Common.{◌≡◌, ℕ, zero, suc, Bool, true, false, if◌then◌else◌, List, [], ◌∷◌, ◌++◌, length}
 use Rattle.std.proofs.Common.{Option, Some, None, refl, sym, ap, arith, rules}
 use Rattle.std.specs.Prelude.{slice_get, unwrap_or}
 use Rattle.jt_value.specs.Tree as tree
 use Rattle.jt_value.specs.Tree.{Tree}
 use Rattle.jt_value.specs.Place.{Place}
 use Rattle.jt_eval.specs.Eval.{Eval, gives, bind, checked, at}
-use Rattle.jt_eval.specs.Values.{shown, bytes_of, as_value}
+use Rattle.jt_eval.specs.Values.{bytes_of}
 use Rattle.jt_ir.specs.Slots.{with_locals, SlotExpr, SRow, Targets, SlotStmt, SBody, Routine, Memory, Valued, SCalls}
 use Rattle.jt_ir.specs.Slots.{store, take, make, valued, sturns, seval_loop, svalue, svalues, skept, smeaning}
 use Rattle.jt_ir.specs.Slots.{smeanings, seval_invocation, scalls, smean_of}

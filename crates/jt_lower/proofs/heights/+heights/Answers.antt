@@ -1,5 +1,4 @@
-use Rattle.std.proofs.Common.{◌-◌, sym, ap, ◌∙◌, if◌then◌else◌, arith, rules}
-use Rattle.jt_ir.specs.View.{expr_view}
+use Rattle.std.proofs.Common.{arith, rules}
 use Rattle.jt_ir.proofs.ExpressionViews.{seen_made, seen_invoke}
 use Rattle.jt_lower.proofs.HeightsDecided.{made_low, invoke_low, some_left, row_more}
 use Rattle.jt_lower.proofs.heights.+heights.Goals as goal
