@@ -253,6 +253,10 @@ def shorten(crate, least, rounds):
         if not settle(files, words, room, rounds):
             return False
         checked(words, room, "--fix-imports")
+        # (that drops imports of definitions too, which a tactic of a function may need)
+        shutil.rmtree(room / "specs", ignore_errors=True)
+        if os.path.isdir(f"{crate.folder}/specs"):
+            shutil.copytree(f"{crate.folder}/specs", room / "specs")
         status, said = checked(words, room)
         if status != 0:
             print(said[-2000:])
