@@ -1,5 +1,5 @@
 -- A chain that breaks no rule has its image, and the claims of refusals hold.
-use Rattle.std.proofs.Common.{◌≡◌, ℕ, suc, ◌+◌, ◌*◌, ◌<◌, ◌≤◌, Bool, true, false, List, [], ◌∷◌, map, length, Some}
+use Rattle.std.proofs.Common.{◌≡◌, ℕ, ◌+◌, ◌*◌, ◌<◌, ◌≤◌, Bool, true, false, List, ◌∷◌, map, length}
 use Rattle.std.proofs.Common.{None, refl, sym, ap, ◌∙◌, subst, arith, rules}
 use Rattle.std.specs.Prelude.{IsTrue, Result, Ok, Err, IfOk}
 use Rattle.std.specs.List.{AllByRecursion}
@@ -39,7 +39,7 @@ use Rattle.jt_semantics.specs.Programs.{program, routines, count_globals}
 use Rattle.jt_eval.specs.TheFilters.{the_filters}
 use Rattle.jt_ir.specs.Size.{body_height}
 use Rattle.jt_ir.specs.Slots.{Routine, Program}
-use Rattle.jt_ir.specs.View.{routine_view, templates_of, program_of}
+use Rattle.jt_ir.specs.View.{routine_view, program_of}
 use Rattle.jt_ir.specs.declared.program.Program as given
 use Rattle.jt_ir.specs.declared.program.Routine as given_routine
 use Rattle.jt_lower.specs.Compiles.{LowLaws}

@@ -1,6 +1,6 @@
 -- The fields of emitted instructions are those of the code, and emitted units have their places.
 use Rattle.std.proofs.Common.{◌≡◌, ℕ, ◌<◌, ◌≤◌, true, false, List, [], ◌∷◌, ◌++◌, length, map, Option, None, Some, refl}
-use Rattle.std.proofs.Common.{sym, ap, ◌∙◌, subst, arith, rules}
+use Rattle.std.proofs.Common.{ap, ◌∙◌, arith, rules}
 use Rattle.std.specs.Prelude.{option_map}
 use Rattle.std.specs.List.{AllByRecursion}
 use Rattle.jt_image.specs.declared.instruction.Instruction.{Instruction}
@@ -9,7 +9,7 @@ use Rattle.jt_image.specs.declared.wire.Instr.{Instr}
 use Rattle.jt_image.specs.IsCode.{IsInstruction}
 use Rattle.jt_image.specs.Spelling.{wire_of}
 use Rattle.jt_image.specs.Reading.{instruction_of}
-use Rattle.jt_image.specs.Parts.{in_front, each_of, section_of_unit}
+use Rattle.jt_image.specs.Parts.{each_of, section_of_unit}
 use Rattle.jt_ast.specs.Expressions.{Text}
 use Rattle.jt_ir.specs.Slots.{end}
 use Rattle.jt_ir.specs.View.{body_view, routine_view}
@@ -17,7 +17,7 @@ use Rattle.jt_ir.specs.declared.program.Routine.{Routine}
 use Rattle.jt_ir.specs.declared.program.Place.{Place}
 use Rattle.jt_lower.specs.Asm.{Asm, one, both, flat, places}
 use Rattle.jt_lower.specs.Lower.{body_asm, routine_places, unit_of}
-use Rattle.jt_lower.specs.Emission.{places_view, HasPlace, Puts}
+use Rattle.jt_lower.specs.Emission.{places_view, Puts}
 use Rattle.jt_lower.specs.declared.emitter.Emitter.{Emitter}
 use Rattle.jt_codegen.specs.internal.Statements.{Emits}
 use Rattle.jt_lower.proofs.JumpPatching.{puts_then}

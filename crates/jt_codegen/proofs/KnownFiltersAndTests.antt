@@ -1,7 +1,6 @@
 -- If no filter and no test has an unknown name, the tests and filters of chains are known.
 use Rattle.std.proofs.Common.{◌≡◌, ℕ, Bool, true, false, ◌||◌, List, [], ◌∷◌, Option, Some, None, refl, arith, rules}
-use Rattle.std.specs.Prelude.{not, option_map, codes}
-use Rattle.std.specs.Str.{bytes_eq}
+use Rattle.std.specs.Prelude.{not, option_map}
 use Rattle.std.proofs.lemmas.Bool.{not-false, or_parts}
 use Rattle.std.specs.Option.{is_some, option_or}
 use Rattle.std.specs.List.{AllByRecursion}
@@ -10,7 +9,7 @@ use Rattle.jt_expr.specs.declared.named.Named.{Named}
 use Rattle.jt_expr.specs.declared.named.Named.TheVariants as n
 use Rattle.jt_image.proofs.ReadPrefix.{all_weaker}
 use Rattle.jt_ast.specs.Written.{only_name, filter_written}
-use Rattle.jt_expr.specs.Named.{is_test, is_filter, inside_unknown, filter_unknown, unknown_test, has_unknown}
+use Rattle.jt_expr.specs.Named.{is_test, is_filter, filter_unknown, unknown_test, has_unknown}
 use Rattle.jt_expr.specs.Named.{exprs_have_unknown, pairs_have_unknown}
 use Rattle.jt_ids.specs.FilterTable.{filter_id, filter_of_name, with_only}
 use Rattle.jt_ids.specs.declared.filter_id.FilterId.{FilterId}
@@ -18,7 +17,7 @@ use Rattle.jt_ids.specs.declared.filter_id.FilterId.TheVariants as which
 use Rattle.jt_ast.specs.Expressions as written
 use Rattle.jt_ast.specs.Expressions.{Expr, constant, name, group, list_of, map_of, attribute, item, filter, test, unary}
 use Rattle.jt_ast.specs.Expressions.{binary, when, choice, Exprs, no_exprs, expr, Pairs, no_pairs, pair, Text}
-use Rattle.jt_parse.specs.Names.{blamed, unknown_in, condition_unknown, filter_call_unknown, filter_calls_unknown}
+use Rattle.jt_parse.specs.Names.{blamed, unknown_in, condition_unknown, filter_calls_unknown}
 use Rattle.jt_parse.specs.Names.{stmt_unknown, body_unknown, branch_unknown}
 use Rattle.jt_ast.specs.Statements.{FilterCall, Stmt, print, choose, for_each, set, set_block, with_values}
 use Rattle.jt_ast.specs.Statements.{filter_block, autoescape, macro, block, Body, end, stmt, Branches, no_branches}

@@ -1,6 +1,6 @@
 -- No name that a tree reads or binds is empty, since a source spells no empty name. The lines of
 -- its tags are lines of its source, which has at most 1,048,576 line ends.
-use Rattle.std.proofs.Common.{ℕ, zero, suc, ◌+◌, ◌-◌, ◌*◌, ◌<◌, ◌≤◌, ap, List, [], ◌∷◌, ◌++◌, length, map, codes}
+use Rattle.std.proofs.Common.{ℕ, zero, suc, ◌+◌, ◌-◌, ◌*◌, ◌<◌, ◌≤◌, List, [], ◌∷◌, ◌++◌, length, map, codes}
 use Rattle.std.proofs.Common.{encode_utf8_all, Option, Some, None, arith, rules}
 use Rattle.std.specs.Str.{chars, chars_after, continuation_len, lead_bits}
 use Rattle.std.specs.List.{AllByRecursion}
@@ -12,7 +12,6 @@ use Rattle.jt_scan.specs.declared.segment.Sign.{Sign}
 use Rattle.jt_scan.specs.declared.segment.Sign.TheVariants as s
 use Rattle.jt_scan.specs.Cut as cut
 use Rattle.jt_scan.specs.Cut.{Token, Segment, Inside, IsSegment, Cuts, lines}
-use Rattle.jt_scan.specs.LineEnds.{normalized}
 use Rattle.jt_scan.specs.SourceView.{max_source_len}
 use Rattle.jt_scan.proofs.CutLaws.{segment_found}
 use Rattle.jt_scan.proofs.EndsLaws.{never_longer}

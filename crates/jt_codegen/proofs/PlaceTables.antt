@@ -8,7 +8,6 @@ use Rattle.std.proofs.lemmas.Slice.Eq.{bytes_eq-Decides}
 use Rattle.jt_value.specs.Place as place
 use Rattle.jt_ast.specs.Expressions.{Text}
 use Rattle.jt_ast.specs.Texts.{all_inserted, inserted}
-use Rattle.jt_image.specs.Code.{SourceLoc}
 use Rattle.jt_image.specs.View.{loc_view, locs_view}
 use Rattle.jt_image.specs.declared.parts.SourceLoc as given
 use Rattle.jt_ir.specs.declared.program.Place.{Place}

@@ -5,10 +5,7 @@ use Rattle.std.proofs.Common.{length-append}
 use Rattle.std.specs.Prelude.{flat_map}
 use Rattle.std.proofs.lemmas.List.{length-map}
 use Rattle.std.proofs.lemmas.List.Concat.{flat_map-cons}
-use Rattle.jt_value.specs.Tree.{Tree}
-use Rattle.jt_ast.specs.Statements.{Parameter}
 use Rattle.jt_chains.specs.Chain.{Namespace, MacroBody, macros}
-use Rattle.jt_eval.specs.Filters.{default_value}
 use Rattle.jt_rules.specs.CompileEnv.{CompileEnv}
 use Rattle.jt_semantics.specs.Layout.{defaults_of, numbered_bodies, shared}
 use Rattle.jt_semantics.specs.Programs.{program, body_routines, entry_routines, chain_routines, routines}

@@ -27,7 +27,7 @@ use Rattle.jt_ir.specs.declared.program.Routine.{Routine}
 use Rattle.jt_ir.specs.declared.program.Program.{Program}
 use Rattle.jt_value.specs.Place as place
 use Rattle.jt_ir.specs.declared.program.Place.{Place}
-use Rattle.jt_lower.specs.Emission.{tag_view, places_view}
+use Rattle.jt_lower.specs.Emission.{places_view}
 use Rattle.jt_lower.specs.Fits.{ProgramFits}
 use Rattle.jt_lower.specs.Lower.{unit_of, numbered, routine_places, compiled}
 use Rattle.jt_codegen.specs.Passed.{RefusesImage}

@@ -9,16 +9,13 @@ use Rattle.std.specs.Prelude as prelude
 use Rattle.std.specs.Prelude.{map, flat_map, ◌||◌}
 use Rattle.std.proofs.lemmas.List.{length-map}
 use Rattle.std.proofs.lemmas.Bool.{or_right}
-use Rattle.jt_value.specs.Tree as tree
 use Rattle.jt_value.specs.Tree.{Tree}
-use Rattle.jt_ids.specs.declared.op_id.OpId.TheVariants as op
 use Rattle.jt_ids.specs.declared.test_id.TestId.{TestId}
 use Rattle.jt_ast.specs.Expressions.{Expr, Literal, constant, name, group, list_of, map_of, attribute, item, call}
 use Rattle.jt_ast.specs.Expressions.{filter, test, unary, binary, when, choice, Exprs, no_exprs, expr, Pairs, no_pairs}
 use Rattle.jt_ast.specs.Expressions.{pair, Text}
-use Rattle.jt_semantics.specs.Operators.{OperatorForm, form}
+use Rattle.jt_semantics.specs.Operators.{OperatorForm}
 use Rattle.jt_value.specs.Place.{Place}
-use Rattle.jt_eval.specs.Tests.{test_named}
 use Rattle.jt_eval.specs.Values.{literal}
 use Rattle.jt_chains.specs.Uses.{count, keywords, set_in, own_names}
 use Rattle.jt_chains.specs.Includes.{included, InOrder}
@@ -26,15 +23,14 @@ use Rattle.jt_ast.specs.Statements.{Parameter, FilterCall, Stmt, data_of, print,
 use Rattle.jt_ast.specs.Statements.{with_values, filter_block, autoescape, include, block, Body, end, stmt, Branches}
 use Rattle.jt_ast.specs.Statements.{no_branches, branch}
 use Rattle.jt_chains.specs.Chain.{Namespace, a_chain, a_library, same_namespace, listed, Template, templates, BlockBody}
-use Rattle.jt_chains.specs.Chain.{MacroBody, macros, macro_of, given, Callee, a_macro, callee, is_loop}
+use Rattle.jt_chains.specs.Chain.{MacroBody, macros, macro_of, given, Callee, a_macro, callee}
 use Rattle.jt_ids.specs.declared.loop_field.LoopField.{LoopField}
-use Rattle.jt_ids.specs.LoopTable.{field_named}
-use Rattle.jt_eval.specs.Filters.{default_value, some_given}
+use Rattle.jt_eval.specs.Filters.{default_value}
 use Rattle.jt_ast.specs.Texts.{among, ascending}
 use Rattle.jt_rules.specs.CompileEnv.{CompileEnv}
 use Rattle.jt_semantics.specs.Expressions.{filter_parameters}
 use Rattle.jt_semantics.specs.Layout.{Table, slot_in, globals_from, in_globals, defaults_of, first_default, names_in}
-use Rattle.jt_semantics.specs.Layout.{names, first_in, numbered_bodies, numbered_of, globals, block_parameters, shared}
+use Rattle.jt_semantics.specs.Layout.{names, first_in, numbered_bodies, globals, block_parameters, shared}
 use Rattle.jt_semantics.specs.Layout.{default_in, default_index, first_slot, unit, of_chain}
 use Rattle.jt_semantics.specs.Meaning.{is_set}
 use Rattle.jt_semantics.specs.Programs.{body_routines, entry_routines, chain_routines, routines, count_globals, program}
@@ -42,11 +38,11 @@ use Rattle.jt_ir.specs.Slots as slots
 use Rattle.jt_ir.specs.Slots.{Slot, local, SlotExpr, SRow, SBody, variable, run, Routine}
 use Rattle.jt_ir.specs.Takes.{BodyTakes}
 use Rattle.jt_eval.specs.TheFilters.{the_filters}
-use Rattle.jt_ir.specs.Pool.{Constant, own, known}
+use Rattle.jt_ir.specs.Pool.{Constant, known}
 use Rattle.jt_semantics.specs.Resolve.{value_or, read_from, turned_round, tested_by, filtered_by, in_form, field_from}
 use Rattle.jt_semantics.specs.Resolve.{followed, locals_from, fresh, fresh_targets, kept_slots, slot_of, set_targets}
 use Rattle.jt_semantics.specs.Resolve.{filled, filled_some, first_locals, reads, handed_on, Part, StaticEnv, place}
-use Rattle.jt_semantics.specs.Resolve.{left_out, grown, bound_table, bound_all, copied, scoped, next_given, first_body}
+use Rattle.jt_semantics.specs.Resolve.{left_out, grown, bound_table, bound_all, copied, scoped}
 use Rattle.jt_semantics.specs.Resolve.{invoked_body, invoked_super, invoked, resolved, resolved_row, resolved_asides}
 use Rattle.jt_semantics.specs.Resolve.{resolved_entries, resolved_condition, resolved_filters, resolved_values}
 use Rattle.jt_semantics.specs.Resolve.{placed_body, resolved_stmt, resolved_body, resolved_choice, top_senv}

@@ -1,9 +1,7 @@
 -- The claim of an image refusal is that the image of the program has too many bytes.
-use Rattle.std.proofs.Common.{◌≡◌, length, Option, Some, subst, arith, rules}
+use Rattle.std.proofs.Common.{◌≡◌, Option, Some, subst, arith, rules}
 use Rattle.jt_image.specs.Code.{Code}
-use Rattle.jt_image.specs.IsCode.{max_bytes}
 use Rattle.jt_image.specs.Parts.{FitTexts, IsRefusal, HasTables}
-use Rattle.jt_image.specs.Spelling.{spelling}
 use Rattle.jt_image.specs.declared.error.ImageError.{ImageError}
 use Rattle.jt_image.specs.declared.error.ImageError.TheVariants as image_error
 use Rattle.jt_ir.specs.Slots.{Program}

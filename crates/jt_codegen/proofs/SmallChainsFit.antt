@@ -1,5 +1,5 @@
 -- The code of small chains fits into an image.
-use Rattle.std.proofs.Common.{◌≡◌, ℕ, suc, ◌+◌, ◌*◌, max, ◌<◌, ◌≤◌, ◌^◌, List, [], ◌∷◌, ◌++◌, length, map, refl, sym}
+use Rattle.std.proofs.Common.{◌≡◌, ℕ, suc, ◌+◌, ◌*◌, ◌≤◌, List, [], ◌∷◌, ◌++◌, length, map, refl, sym}
 use Rattle.std.proofs.Common.{ap, ◌∙◌, arith, length-append, rules}
 use Rattle.std.proofs.lemmas.List.{length-map}
 use Rattle.std.specs.Int.{w16, w32, w64, to_le_bytes}
@@ -10,9 +10,9 @@ use Rattle.jt_image.proofs.ReadPrefix.{all_weaker, all_both}
 use Rattle.jt_image.specs.Code.{Name, SourceLoc}
 use Rattle.jt_image.specs.declared.version.Version.TheVariants as version
 use Rattle.jt_image.specs.Spelling.{name_bytes, constant_bytes, template_bytes, loc_bytes, place_bytes}
-use Rattle.jt_image.specs.IsCode.{IsInstruction, total_len, max_count, max_locals}
+use Rattle.jt_image.specs.IsCode.{total_len, max_count, max_locals}
 use Rattle.jt_image.specs.Typed.{max_entries}
-use Rattle.jt_image.specs.Parts.{KeepsLimits, IsWritable}
+use Rattle.jt_image.specs.Parts.{KeepsLimits}
 use Rattle.jt_image.specs.Laws.{CodeLaws}
 use Rattle.jt_ast.specs.Expressions.{Text}
 use Rattle.jt_chains.specs.Chain.{Namespace}

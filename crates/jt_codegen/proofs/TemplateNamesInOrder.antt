@@ -11,7 +11,7 @@ use Rattle.jt_scan.specs.declared.options.Options.{Options}
 use Rattle.jt_ast.specs.Expressions.{Text}
 use Rattle.jt_ast.specs.Statements.{Body}
 use Rattle.jt_chains.specs.Chain.{Sources, Namespace, a_chain, a_library, Template, parent_of, names_up, sources_in}
-use Rattle.jt_chains.specs.Chain.{template, holds_macros, library_template, templates, max_templates}
+use Rattle.jt_chains.specs.Chain.{template, library_template, templates, max_templates}
 use Rattle.jt_chains.specs.Names.{IsName}
 use Rattle.jt_inherit.specs.Chains.{SourceTexts, IsRead}
 use Rattle.jt_image.proofs.ReadPrefix.{all_weaker}

@@ -8,7 +8,6 @@ use Rattle.jt_image.specs.declared.parts.Parts.{Parts}
 use Rattle.jt_image.specs.declared.version.Version.TheVariants as version
 use Rattle.jt_image.specs.Parts.{each_of, section_of_unit}
 use Rattle.jt_constants.specs.Merged.{constant_of, each_once, new_indices}
-use Rattle.jt_constants.specs.Refusals.{RefusesTable}
 use Rattle.jt_constants.proofs.MergeIsNoLarger.{units_len}
 use Rattle.jt_ir.specs.View.{routine_view, templates_of}
 use Rattle.jt_ir.specs.declared.program.Routine.{Routine}

@@ -1,12 +1,10 @@
-use Rattle.std.proofs.Common.{◌≡◌, ℕ, List, [], ◌∷◌, ◌++◌, ◌+◌, ◌-◌, ◌≤◌, Option, drop, length, sym, subst, arith}
+use Rattle.std.proofs.Common.{◌≡◌, ℕ, List, [], ◌∷◌, ◌++◌, ◌+◌, ◌-◌, Option, drop, length, sym, subst, arith}
 use Rattle.std.proofs.Common.{rules}
 use Rattle.std.proofs.lemmas.Result.{err_from_is_err_and}
 use Rattle.jt_image.specs.declared.parts.Unit as given
 use Rattle.jt_ir.specs.declared.program.Place.{Place}
 use Rattle.jt_codegen.proofs.ProgramTables.{Made, tags, all_places, made_more, made_all, made_short, unit_refused}
 use Rattle.jt_codegen.proofs.ProgramTables.{item_holds}
-use Rattle.jt_codegen.specs.Units.{max_parameters}
-use Rattle.jt_image.specs.IsCode.{max_locals}
 use Rattle.jt_codegen.proofs.ProgramTables.{places_more, places_all}
 use Rattle.jt_codegen.proofs.tables.units_of.Goals as goal
 
