@@ -29,7 +29,7 @@ module _ (is_special : ℕ → Bool) (escape : ℕ → List ℕ) where
   none_between text at = search (arith, rules)
 
   -- A byte with an escape is shown after the bytes from `plain`.
-  special_more : (text : List ℕ) (plain at : ℕ) → at < length text → is_special (get_or text at 0) ≡ true
+  pub special_more : (text : List ℕ) (plain at : ℕ) → at < length text → is_special (get_or text at 0) ≡ true
       → still_shown text plain at
       ≡ take (at - plain) (drop plain text) ++ (escape (get_or text at 0) ++ still_shown text (at + 1) (at + 1))
   special_more text plain at inside is = search (arith, rules, get_or, one_behind, none_between)

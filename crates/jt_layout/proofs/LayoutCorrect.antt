@@ -100,7 +100,8 @@ module _ (c : Chain) (i : ℕ) (lt : i < length c.namespaces.items) (f : FirstFr
             meant = ap (macro_of x) (sym all) ∙ a.meant;
             first_default =
                 ap (λ ds. slice_get ds k) defaults ∙ ap (λ ms. slice_get (defaults_from f.default ms) k) (sym all)
-                ∙ ap (slice_get (defaults_from f.default (map (macro_view ts) l.known.now.macros.items))) is ∙ a.default f.default
+                ∙ ap (slice_get (defaults_from f.default (map (macro_view ts) l.known.now.macros.items))) is
+                ∙ a.default f.default
                 ∙ ap (λ ms. Some (f.default + first_default x ms)) all ∙ ap Some (sym (default_here W O h rest f s x))
                 ∙ ap (λ y. Some (default_index W O h y)) name;
             macro_unit =

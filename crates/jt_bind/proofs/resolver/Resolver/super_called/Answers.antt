@@ -60,8 +60,8 @@ module _ (s : Chains) (here : NamespaceLayout) (bs : List Block) (i : ℕ) (body
   next_is : n ≡ next_given (filter (λ (z : ℕ × BlockBody). bytes_eq z.1.name body.name.now) rest)
   next_is =
       laid.nexts i n
-      (slice_get_read here.next_bodies.items (length here.known.now.blocks.items) i n (sym laid.all_next) within next) (view body)
-      rest left
+      (slice_get_read here.next_bodies.items (length here.known.now.blocks.items) i n (sym laid.all_next) within next)
+      (view body) rest left
 
   next_below : (k : ℕ) → n ≡ Some k → k < length here.known.now.blocks.items
   next_below k e =
