@@ -4,7 +4,7 @@ use Rattle.std.proofs.Common.{refl, ap, ◌∙◌, arith, Option, Some, if◌the
 use Rattle.std.proofs.Common.{add-zero, add-one}
 use Rattle.std.specs.Prelude.{filter}
 use Rattle.std.proofs.lemmas.List.{drop_more, at_drop_all, length-map}
-use Rattle.jt_chains.specs.Chain.{BlockBody, MacroBody, all_bodies, Template}
+use Rattle.jt_chains.specs.Chain.{BlockBody, all_bodies, Template}
 use Rattle.jt_semantics.specs.Layout.{counted_from, numbered_bodies, block_parameters}
 use Rattle.jt_semantics.specs.Resolve.{first_body, next_given, resolved_routine, macro_routine, top_senv}
 use Rattle.jt_value.specs.Tree.{Tree}
@@ -80,10 +80,7 @@ module _ (s : Chains) (us : List Block) (all : map (block_view (chain_view s.cha
   numbered_next i d lt = search (arith, rules, counted_next, get_or, zero-add, add-one)
 
   pub numbered_end : (i : ℕ) → length us ≤ i → drop i numbered ≡ []
-  numbered_end i h =
-      let bs = all_bodies (cenv_in s).sources (cenv_in s).escaping (namespace_in s) in
-      let long : length bs ≡ length us = ap length (sym all) ∙ length-map us shown in
-      counted_end i bs (omega arith)
+  numbered_end i h = search (arith, rules, length-map, counted_end)
 
   -- The routine of a body.
   pub block_routine : (i : ℕ) (x : Block) (xs : List Text) (sp : resolve.StaticEnv) (whole : List Planned) (r : Routine)

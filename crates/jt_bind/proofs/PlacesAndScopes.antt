@@ -71,9 +71,7 @@ entered_more rs r f xs n t e g h = search (arith, rules, map-append, framed_push
 -- Names that are bound in an environment.
 pub senv_bound : (sp : StaticEnv) (xs : List Text) (t : Table) (n : ℕ) → t ≡ bound_table xs sp.free sp.table
     → n ≡ sp.free + length xs → record sp { table = t; free = n } ≡ bound_all xs sp
-senv_bound sp xs t n e f =
-    ap (λ (z : Table). record sp { table = z; free = n }) e
-    ∙ ap (λ (m : ℕ). record sp { table = bound_table xs sp.free sp.table; free = m }) f
+senv_bound sp xs t n e f = search (arith, rules)
 
 -- ---- slots of names that are set
 
