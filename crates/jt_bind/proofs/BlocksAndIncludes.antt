@@ -1,5 +1,5 @@
 -- Blocks at their tags, and includes.
-use Rattle.std.proofs.Common.{◌≡◌, ℕ, suc, ◌+◌, List, [], ◌∷◌, ◌++◌, length, map, flat_map, refl, sym, ap, ◌∙◌, subst}
+use Rattle.std.proofs.Common.{◌≡◌, ℕ, suc, ◌+◌, List, [], ◌∷◌, ◌++◌, length, map, flat_map, refl, ◌∙◌}
 use Rattle.std.proofs.Common.{Bool, true, false, Option, Some, None, length-append, append_assoc, arith, rules}
 use Rattle.std.specs.Prelude.{if◌then◌else◌, option_map, ◌||◌}
 use Rattle.std.specs.Option.{is_none}
@@ -20,9 +20,7 @@ use Rattle.jt_bind.specs.internal.Stated.{line_in, stmt_in}
 use Rattle.jt_ir.proofs.ExpressionViews.{Entry}
 
 pub no_row : (es : List Entry) → es ≡ [] → (p : List Tree) → RowLeads slots.none slots.none [] es p p
-no_row es e p =
-    let P : List Entry → Type 0 = λ l. RowLeads slots.none slots.none [] l p p in
-    subst P (sym e) (record { shown = refl; pooled = refl })
+no_row es e p = search (arith, rules)
 
 -- ---- chains that are not in the order
 
@@ -85,9 +83,7 @@ pub block_run : (cenv : CompileEnv) (order : List Namespace) (sp : StaticEnv) (f
     → alone (slots.run u (reads table (block_parameters cenv order sp.namespace x)))
     ≡ placed_body cenv order sp found x table
 block_run cenv order sp None x table u e = absurd (cc e)
-block_run cenv order sp (Some i) x table u e =
-    let same : u ≡ unit cenv order (of_body sp.namespace i) = cc e in
-    ap (λ n. alone (slots.run n (reads table (block_parameters cenv order sp.namespace x)))) same
+block_run cenv order sp (Some i) x table u e = search (arith, rules)
 
 -- A block without a body.
 pub block_absent : (cenv : CompileEnv) (order : List Namespace) (sp : StaticEnv) (found : Option ℕ) (x : Text)

@@ -1,7 +1,6 @@
 -- Concatenation of resolved statements.
 use Rattle.std.proofs.Common.{◌≡◌, ℕ, ◌+◌, List, [], ◌∷◌, ◌++◌, length, map, refl, sym, ap, ◌∙◌, subst, Bool, Option}
 use Rattle.std.proofs.Common.{Vec, Global, append_assoc, append-nil, length-append, arith, rules}
-use Rattle.std.specs.Prelude.{option_map}
 use Rattle.std.proofs.lemmas.List.{map-append}
 use Rattle.jt_value.specs.Tree.{Tree}
 use Rattle.jt_value.specs.View.{view}
@@ -29,7 +28,7 @@ use Rattle.jt_bind.specs.internal.Scoped.{IsPlaced, RowLeads, BodyLeads, templat
 use Rattle.jt_bind.proofs.PlacesAndScopes.{place_shown}
 use Rattle.jt_ir.proofs.StatementViews.{SBranch, view_PutPooled, view_Print, view_Assign, view_If, view_For}
 use Rattle.jt_ir.proofs.StatementViews.{view_Capture, view_Run, body_push, joined, choice_push}
-use Rattle.jt_bind.specs.internal.Stated.{Emits, IsAsked, IsBranch, AreTurns, StandsFor, ChoiceLeads, line_in, place_of}
+use Rattle.jt_bind.specs.internal.Stated.{Emits, IsBranch, AreTurns, StandsFor, ChoiceLeads, line_in, place_of}
 use Rattle.jt_bind.proofs.RowConcatenation.{grown_by}
 use Rattle.jt_ir.proofs.ExpressionViews.{Entry}
 
@@ -45,9 +44,7 @@ followed_again (slots.stmt s rest) b c = ap (slots.stmt s) (followed_again rest 
 
 pub followed_values : (a b : SBody Constant) → body_values (followed a b) ≡ body_values a ++ body_values b
 followed_values slots.end b = refl
-followed_values (slots.stmt s rest) b =
-    ap (λ l. stmt_values s ++ l) (followed_values rest b)
-    ∙ sym (append_assoc (stmt_values s) (body_values rest) (body_values b))
+followed_values (slots.stmt s rest) b = search (arith, rules, followed_values rest b, append_assoc)
 
 -- A pool with one more value.
 pub value_push : (is ks : List Value) (x : Value) (v : Tree) → ks ≡ is ++ x ∷ [] → view x ≡ v
@@ -92,9 +89,7 @@ module _ (templates : List Text) where
   -- The body begins with no statements.
   pub emits_begun : (whole : SBody Constant) (es fs gs : List code_stmt.SlotStmt) (p q : List Tree) → es ≡ gs
       → Emits templates whole es fs p q → Emits templates whole gs fs p q
-  emits_begun whole es fs gs p q e h =
-      λ left. let P : List code_stmt.SlotStmt → Type 0 = λ l. BodyLeads templates (followed whole left) left l fs p q in
-      subst P e (h left)
+  emits_begun whole es fs gs p q e h = search (arith, rules)
 
   -- ---- a whole body
 
@@ -140,9 +135,7 @@ module _ (templates : List Text) where
 
   pub data_emitted : (d : Tree) (i : ℕ) (ss ts : List code_stmt.SlotStmt) (p q : List Tree) → i ≡ length p
       → q ≡ p ++ d ∷ [] → ts ≡ ss ++ v.PutPooled i ∷ [] → Emits templates (alone (slots.put_pooled (own d))) ss ts p q
-  data_emitted d i ss ts p q e =
-      stmt_emitted (slots.put_pooled (own d)) (v.PutPooled i) ss ts p q
-      (λ behind. view_PutPooled templates i behind ∙ ap (λ n. slots.stmt (slots.put_pooled n) behind) e)
+  data_emitted d i ss ts p q e = search (arith, rules, stmt_emitted, view_PutPooled)
 
   -- ---- `if` statements
 
@@ -271,21 +264,13 @@ module _ (scope : Chains) (senv : StaticEnv) (line : ℕ) where
   pub print_emitted : (c : SlotExpr Constant) (x : Filtered) (ss ts : List code_stmt.SlotStmt) (p q : List Tree)
       → IsPlaced c (filtered_view x) p q → ts ≡ ss ++ v.Print (place_of senv line) senv.escaping x ∷ []
       → Emits T (alone (slots.print tag senv.escaping c)) ss ts p q
-  print_emitted c x ss ts p q h =
-      stmt_emitted T (slots.print tag senv.escaping c) (v.Print (place_of senv line) senv.escaping x) ss ts p q
-      (λ behind. view_Print T (place_of senv line) senv.escaping x behind
-      ∙ ap (λ z. slots.stmt (slots.print z senv.escaping (filtered_view x)) behind) place_is
-      ∙ ap (λ z. slots.stmt (slots.print tag senv.escaping z) behind) h.shown) h.pooled
+  print_emitted c x ss ts p q h = search (arith, rules, stmt_emitted, view_Print, place_is)
 
   pub assign_emitted : (xs : code_targets.Targets) (c : SlotExpr Constant) (e : code.SlotExpr)
       (ss ts : List code_stmt.SlotStmt) (p q : List Tree)
       → IsPlaced c (expr_view e) p q → ts ≡ ss ++ v.Assign (place_of senv line) xs e ∷ []
       → Emits T (alone (slots.assign tag (targets_view xs) c)) ss ts p q
-  assign_emitted xs c e ss ts p q h =
-      stmt_emitted T (slots.assign tag (targets_view xs) c) (v.Assign (place_of senv line) xs e) ss ts p q
-      (λ behind. view_Assign T (place_of senv line) xs e behind
-      ∙ ap (λ z. slots.stmt (slots.assign z (targets_view xs) (expr_view e)) behind) place_is
-      ∙ ap (λ z. slots.stmt (slots.assign tag (targets_view xs) z) behind) h.shown) h.pooled
+  assign_emitted xs c e ss ts p q h = search (arith, rules, stmt_emitted, view_Assign, place_is)
 
   pub loop_emitted : (xs : slots.Targets) (c : SlotExpr Constant) (k : Option (SlotExpr Constant))
       (turn last : SBody Constant) (t : Turns) (other : Vec code_stmt.SlotStmt Global)

@@ -1,10 +1,10 @@
 -- The resolution of callees.
-use Rattle.std.proofs.Common.{◌≡◌, ℕ, zero, suc, ◌<◌, Bool, true, false, if◌then◌else◌, List, [], ◌∷◌, length, refl, ap}
-use Rattle.std.proofs.Common.{◌∙◌, arith, Option, Some, None, inl, inr, rules, ◌+◌, drop, get_or, add-one, sym, subst}
+use Rattle.std.proofs.Common.{◌≡◌, ℕ, zero, suc, ◌<◌, Bool, true, false, List, [], ◌∷◌, length, refl, ap}
+use Rattle.std.proofs.Common.{◌∙◌, arith, Option, Some, None, inl, inr, rules, ◌+◌, drop, get_or, add-one, sym}
 use Rattle.std.specs.Prelude.{codes, ◌||◌, option_map}
 use Rattle.std.specs.Str.{bytes_eq}
 use Rattle.jt_ast.specs.Expressions.{Text, name, attribute}
-use Rattle.jt_chains.specs.Chain.{Sources, Namespace, a_library, same_namespace, listed, MacroBody, macros, macro_of}
+use Rattle.jt_chains.specs.Chain.{Sources, Namespace, a_library, listed, MacroBody, macros, macro_of}
 use Rattle.jt_chains.specs.Chain.{is_private, public_macro, Definition, given_to, a_macro, no_callee, of_library}
 use Rattle.jt_chains.specs.Chain.{in_library, callee, Callee}
 use Rattle.jt_chains.specs.Includes.{InOrder}
@@ -45,9 +45,7 @@ or_right false b e = e
 namespace_listed : (hs : List Namespace) (i : ℕ) → i < length hs → listed (namespace_at hs i) hs ≡ true
 namespace_listed [] i lt = absurd (omega arith)
 namespace_listed (h ∷ hs) zero lt = ap (λ b. b || listed h hs) (namespace_is h)
-namespace_listed (h ∷ hs) (suc i) lt =
-    let less : i < length hs = omega arith in
-    or_right (same_namespace h (namespace_at hs i)) (listed (namespace_at hs i) hs) (namespace_listed hs i less)
+namespace_listed (h ∷ hs) (suc i) lt = search (arith, rules, or_right, namespace_listed hs i)
 
 leads_there : (cenv : CompileEnv) (order : List Namespace) → InOrder cenv.sources order → (h : Namespace)
     → listed h order ≡ true → (k : Namespace) → LeadsTo cenv.sources h k → listed k order ≡ true
@@ -89,9 +87,7 @@ library_is sources a1 x n e = search (arith, rules)
 
 pub private_is : (sources : Sources) (o : Option Definition) (x n : Text) → library_of o ≡ Some n → is_private x ≡ true
     → in_library sources o x ≡ no_callee
-private_is sources o x n e f =
-    library_is sources o x n e
-    ∙ ap (λ b. of_library sources n (if b then None else macro_of x (macros sources (a_library n)))) f
+private_is sources o x n e f = search (arith, rules, library_is)
 
 pub public_is : (sources : Sources) (o : Option Definition) (x n : Text) → library_of o ≡ Some n → is_private x ≡ false
     → in_library sources o x ≡ of_namespace (a_library n) (macro_of x (macros sources (a_library n)))
@@ -110,11 +106,7 @@ pub called_placed : (s : Chains) (senv : StaticEnv) (f : trees.Expr) (k : Callee
     → IsPlaced (invoked (cenv_in s) (order_in s) k (senv_in s senv) (row_in s (exprs_view ts) senv)
     (asides_in s ps senv) (length ts) (locals_from senv.free (keywords ps))) e p q
     → IsPlaced (expr_in s (trees.call f (exprs_view ts) ps) senv) e p q
-called_placed s senv f k ts ps e p q is h =
-    let call = λ (z : Callee) (n : ℕ). invoked (cenv_in s) (order_in s) z (senv_in s senv)
-    (row_in s (exprs_view ts) senv) (asides_in s ps senv) n (locals_from senv.free (keywords ps)) in
-    let P : SlotExpr Constant → Type 0 = λ z. IsPlaced z e p q in
-    subst P (ap (call k) (sym (count_length ts)) ∙ ap (λ z. call z (count (exprs_view ts))) (sym is)) h
+called_placed s senv f k ts ps e p q is h = search (arith, rules, count_length)
 
 -- The call of a macro, by its signature in the code.
 pub macro_called : (cenv : CompileEnv) (order : List Namespace) (h : Namespace) (s : Signature) (m : MacroBody)

@@ -62,8 +62,4 @@ pub layers_turn : (s : Chains) (ts : List Template) (ls : List Layer) (i : ℕ) 
     → followed (layer_in s (layer_view ts x) root)
     (followed (resolved_chain (cenv_in s) (order_in s) (namespace_in s) (map (layer_view ts) (drop (i + 1) ls))) left)
     ≡ followed (resolved_chain (cenv_in s) (order_in s) (namespace_in s) (map (layer_view ts) (drop i ls))) left
-layers_turn s ts ls i x root left lt is e =
-    ap (λ (z : Layer). followed (layer_in s (layer_view ts z) root)
-    (followed (resolved_chain (cenv_in s) (order_in s) (namespace_in s) (map (layer_view ts) (drop (i + 1) ls))) left))
-    is
-    ∙ layers_next s ts ls i x root left lt e
+layers_turn s ts ls i x root left lt is e = search (arith, rules, layers_next)

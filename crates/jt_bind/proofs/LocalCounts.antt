@@ -10,7 +10,7 @@ use Rattle.jt_ir.specs.Pool.{Constant, placed_expr, placed_row, placed_condition
 use Rattle.jt_ir.specs.Slots as slots
 use Rattle.jt_ir.specs.Slots.{SlotExpr, SRow, SlotStmt, SBody}
 use Rattle.jt_ir.specs.View.{Front, slot_view, targets_view, expr_view, row_view, stmt_view, body_view, choice_view}
-use Rattle.jt_ir.specs.View.{filter_after, filters_after}
+use Rattle.jt_ir.specs.View.{filters_after}
 use Rattle.jt_ir.specs.declared.program.Slot as code_slot
 use Rattle.jt_ir.specs.declared.program.Place.{Place}
 use Rattle.jt_ir.specs.declared.program.Targets.{Targets}
@@ -53,8 +53,7 @@ mutual
   stmt_counted (slots.if_else p c a b) n =
       both_counted _ _ _ _ (expr_counted c _) (both_counted _ _ _ _ (body_counted a _) (body_counted b _))
   stmt_counted (slots.for_each p xs e c body other) n =
-      both_counted _ _ _ _ refl (both_counted _ _ _ _ (both_counted _ _ _ _ (expr_counted e _) (condition_counted c _))
-      (both_counted _ _ _ _ (body_counted body _) (body_counted other _)))
+      search (arith, rules, both_counted, expr_counted, condition_counted, body_counted body, body_counted other)
   stmt_counted (slots.capture escaping s body) n = both_counted _ _ _ _ refl (body_counted body n)
   stmt_counted a0 n = search (arith, rules, expr_counted, both_counted, row_counted)
 
@@ -108,9 +107,7 @@ max_again a b c = omega arith
 pub filters_counted : (fs : List SlotFilter) (x : SlotExpr ℕ)
     → expr_locals (filters_after fs x) ≡ max (expr_locals x) (filters_locals fs)
 filters_counted [] x = sym (max_zero (expr_locals x))
-filters_counted (f ∷ fs) x =
-    filters_counted fs (filter_after f x)
-    ∙ max_again (expr_locals x) (row_locals (row_view f.row.items slots.none)) (filters_locals fs)
+filters_counted (f ∷ fs) x = search (arith, rules, filters_counted fs, max_again)
 
 pub body_step : (templates : List Text) (ss : List code_stmt.SlotStmt) (i : ℕ) (x : code_stmt.SlotStmt) (n m m' : ℕ)
     (behind : SBody ℕ) (r : ℕ)

@@ -4,7 +4,7 @@ use Rattle.std.proofs.Common.{refl, ap, ◌∙◌, arith, Option, Some, if◌the
 use Rattle.std.proofs.Common.{add-zero, add-one}
 use Rattle.std.specs.Prelude.{filter}
 use Rattle.std.proofs.lemmas.List.{drop_more, at_drop_all, length-map}
-use Rattle.jt_chains.specs.Chain.{BlockBody, MacroBody, all_bodies, Template}
+use Rattle.jt_chains.specs.Chain.{BlockBody, all_bodies, Template}
 use Rattle.jt_semantics.specs.Layout.{counted_from, numbered_bodies, block_parameters}
 use Rattle.jt_semantics.specs.Resolve.{first_body, next_given, resolved_routine, macro_routine, top_senv}
 use Rattle.jt_value.specs.Tree.{Tree}
@@ -80,28 +80,26 @@ module _ (s : Chains) (us : List Block) (all : map (block_view (chain_view s.cha
   numbered_next i d lt = search (arith, rules, counted_next, get_or, zero-add, add-one)
 
   pub numbered_end : (i : ℕ) → length us ≤ i → drop i numbered ≡ []
-  numbered_end i h =
-      let bs = all_bodies (cenv_in s).sources (cenv_in s).escaping (namespace_in s) in
-      let long : length bs ≡ length us = ap length (sym all) ∙ length-map us shown in
-      counted_end i bs (omega arith)
+  numbered_end i h = search (arith, rules, length-map, counted_end)
 
   -- The routine of a body.
-  pub block_routine : (i : ℕ) (x : Block) (xs : List Text) (whole : List Planned) (r : Routine)
+  pub block_routine : (i : ℕ) (x : Block) (xs : List Text) (sp : resolve.StaticEnv) (whole : List Planned) (r : Routine)
       (before rs ss : List Routine) (old p q : List Tree)
       → i < length us → x ≡ get_or us i x → xs ≡ block_parameters (cenv_in s) (order_in s) (namespace_in s) x.name.now
-      → RoutinesLead (templates_in s) whole (body_routines (cenv_in s) (order_in s) (namespace_in s) (drop i numbered))
-      before rs old p
-      → IsRoutine (templates_in s) (resolved_routine (cenv_in s) (order_in s) xs (body_view x.body.now) (record {
+      → sp ≡ record {
         namespace = namespace_in s;
         template = name_at (chain_view s.chain.now).templates x.template;
         escaping = x.escaping;
         part = part_at numbered (Some i);
         table = globals_in s;
         free = 0;
-      })) r p q
+      }
+      → RoutinesLead (templates_in s) whole (body_routines (cenv_in s) (order_in s) (namespace_in s) (drop i numbered))
+      before rs old p
+      → IsRoutine (templates_in s) (resolved_routine (cenv_in s) (order_in s) xs (body_view x.body.now) sp) r p q
       → ss ≡ rs ++ r ∷ [] → RoutinesLead (templates_in s) whole
       (body_routines (cenv_in s) (order_in s) (namespace_in s) (drop (i + 1) numbered)) before ss old q
-  block_routine i x xs whole r before rs ss old p q lt is same lead made pushed =
+  block_routine i x xs sp whole r before rs ss old p q lt is same e lead made pushed =
       let at = λ (z : List (ℕ × BlockBody)). (let sp : resolve.StaticEnv = record {
         namespace = namespace_in s;
         template = name_at (chain_view s.chain.now).templates x.template;
@@ -118,7 +116,7 @@ module _ (s : Chains) (us : List Block) (all : map (block_view (chain_view s.cha
       (ap (body_routines (cenv_in s) (order_in s) (namespace_in s)) next) lead)
       (routine_as (templates_in s) (cenv_in s) (order_in s) xs
       (block_parameters (cenv_in s) (order_in s) (namespace_in s) x.name.now) (body_view x.body.now)
-      (at (drop i numbered)) (at ((i, shown x) ∷ drop (i + 1) numbered)) r p q made same (ap at next)) pushed
+      sp (at ((i, shown x) ∷ drop (i + 1) numbered)) r p q made same (e ∙ ap at next)) pushed
 
 -- The routine of a macro.
 module _ (s : Chains) (ms : List Macro) where

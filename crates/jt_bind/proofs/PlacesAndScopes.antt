@@ -22,7 +22,7 @@ use Rattle.jt_ir.specs.declared.program.Slot as code_slot
 use Rattle.jt_ir.specs.declared.program.Slot.TheVariants as s
 use Rattle.jt_bind.specs.internal.Scoped.{framed}
 use Rattle.jt_bind.specs.declared.name_scope.NameScope.{NameScope}
-use Rattle.jt_layout.specs.Names.{index_in}
+use Rattle.jt_names.specs.Names.{value_in}
 
 -- ---- names with numbers
 
@@ -71,9 +71,7 @@ entered_more rs r f xs n t e g h = search (arith, rules, map-append, framed_push
 -- Names that are bound in an environment.
 pub senv_bound : (sp : StaticEnv) (xs : List Text) (t : Table) (n : ℕ) → t ≡ bound_table xs sp.free sp.table
     → n ≡ sp.free + length xs → record sp { table = t; free = n } ≡ bound_all xs sp
-senv_bound sp xs t n e f =
-    ap (λ (z : Table). record sp { table = z; free = n }) e
-    ∙ ap (λ (m : ℕ). record sp { table = bound_table xs sp.free sp.table; free = m }) f
+senv_bound sp xs t n e f = search (arith, rules)
 
 -- ---- slots of names that are set
 
@@ -108,7 +106,7 @@ pub framed_found : (x : Text) (rs : List (Rc NameScope Global)) (i : ℕ) (f : N
     (t : Table)
     → i < length rs → f ≡ (get_or rs i r).value
     → slot_in x (framed (map (λ f. f.value) (take (i + 1) rs)) t)
-    ≡ found_or (index_in f.index.indices x) (slot_in x (framed (map (λ f. f.value) (take i rs)) t))
+    ≡ found_or (value_in f.index.indices x) (slot_in x (framed (map (λ f. f.value) (take i rs)) t))
 framed_found x rs i f r t lt is =
     let inner = framed (map (λ f. f.value) (take i rs)) t in
     ap (slot_in x) (framed_more rs i r t lt)

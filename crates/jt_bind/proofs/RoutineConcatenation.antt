@@ -80,9 +80,7 @@ one_routine ts c r rs ss p q h e = record {
 
 pub values_append : (cs ds : List Planned) → routines_values (cs ++ ds) ≡ routines_values cs ++ routines_values ds
 values_append [] ds = refl
-values_append (c ∷ cs) ds =
-    ap (λ vs. body_values c.body ++ vs) (values_append cs ds)
-    ∙ sym (append_assoc (body_values c.body) (routines_values cs) (routines_values ds))
+values_append (c ∷ cs) ds = search (arith, rules, values_append cs ds, append_assoc)
 
 pub placed_append : (cs ds : List Planned) (n : ℕ)
     → placed_routines (cs ++ ds) n ≡ placed_routines cs n ++ placed_routines ds (n + length (routines_values cs))

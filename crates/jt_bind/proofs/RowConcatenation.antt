@@ -1,5 +1,5 @@
 -- Concatenation of resolved expressions and lists of them.
-use Rattle.std.proofs.Common.{◌≡◌, ℕ, ◌+◌, List, [], ◌∷◌, ◌++◌, length, sym, ap, ◌∙◌, subst, Bool, Some, None}
+use Rattle.std.proofs.Common.{◌≡◌, ℕ, ◌+◌, List, [], ◌∷◌, ◌++◌, length, ap, ◌∙◌, subst, Bool, Some, None}
 use Rattle.std.proofs.Common.{append_assoc, append-nil, length-append, arith, rules}
 use Rattle.jt_value.specs.Tree.{Tree}
 use Rattle.jt_ast.specs.Expressions as trees
@@ -50,19 +50,13 @@ row_aside i c left x es fs p q h e = search (arith, rules, row_push, grown_by, a
 pub made_placed : (k : NaryOp) (whole : SRow Constant) (es : List Entry) (z : SlotExpr ℕ) (p q : List Tree)
     → RowLeads whole slots.none [] es p q → z ≡ slots.made k (row_view es slots.none)
     → IsPlaced (slots.made k whole) z p q
-made_placed k whole es z p q h e = record {
-  shown = e ∙ ap (slots.made k) h.shown;
-  pooled = sym (append-nil q) ∙ h.pooled;
-}
+made_placed k whole es z p q h e = search (arith, rules, append-nil)
 
 pub invoked_placed : (u : ℕ) (escaping : Bool) (whole : SRow Constant) (es : List Entry) (z : SlotExpr ℕ)
     (p q : List Tree)
     → RowLeads whole slots.none [] es p q → z ≡ slots.invoke u escaping (row_view es slots.none)
     → IsPlaced (slots.invoke u escaping whole) z p q
-invoked_placed u escaping whole es z p q h e = record {
-  shown = e ∙ ap (slots.invoke u escaping) h.shown;
-  pooled = sym (append-nil q) ∙ h.pooled;
-}
+invoked_placed u escaping whole es z p q h e = search (arith, rules, append-nil)
 
 -- ---- equal trees
 

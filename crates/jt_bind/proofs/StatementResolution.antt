@@ -1,6 +1,6 @@
 -- The resolved statements, part by part.
 use Rattle.std.proofs.Common.{◌≡◌, ℕ, zero, suc, ◌+◌, ◌<◌, List, [], ◌∷◌, ◌++◌, length, map, drop, get_or, refl, sym}
-use Rattle.std.proofs.Common.{ap, ◌∙◌, subst, true, Option, None, String, Global, string_bytes, add-one, append_assoc}
+use Rattle.std.proofs.Common.{ap, ◌∙◌, Option, None, String, Global, string_bytes, add-one, append_assoc}
 use Rattle.std.proofs.Common.{arith, rules}
 use Rattle.std.proofs.lemmas.List.{drop_more, map-append}
 use Rattle.std.specs.Prelude.{if◌then◌else◌, option_map}
@@ -18,13 +18,12 @@ use Rattle.jt_value.specs.Place.{Place}
 use Rattle.jt_ir.specs.Pool.{Constant}
 use Rattle.jt_ir.specs.Slots as slots
 use Rattle.jt_ir.specs.Slots.{Slot, SlotExpr, SBody, local, global, one, Targets}
-use Rattle.jt_ir.specs.View.{slot_view, targets_view, expr_view}
+use Rattle.jt_ir.specs.View.{slot_view}
 use Rattle.jt_ir.specs.declared.program.Slot as code_slot
 use Rattle.jt_ir.specs.declared.program.SlotStmt.{SlotStmt}
 use Rattle.jt_semantics.specs.Layout.{Table, slot_in}
-use Rattle.jt_semantics.specs.Meaning.{is_set}
-use Rattle.jt_semantics.specs.Resolve.{StaticEnv, read_from, followed, alone, copied, handed_on, resolved}
-use Rattle.jt_semantics.specs.Resolve.{resolved_values, resolved_body, resolved_condition, resolved_filters, grown}
+use Rattle.jt_semantics.specs.Resolve.{StaticEnv, read_from, followed, alone, copied, handed_on}
+use Rattle.jt_semantics.specs.Resolve.{resolved_values, resolved_condition, resolved_filters}
 use Rattle.jt_semantics.specs.Resolve.{kept_slots}
 use Rattle.jt_semantics.specs.Resolve.{bound_all, place}
 use Rattle.jt_bind.specs.internal.Chains.{Chains}
@@ -80,9 +79,7 @@ pub values_followed : (cenv : CompileEnv) (order : List Namespace) (ps : Pairs) 
     (b left : SBody Constant)
     → followed (resolved_values cenv order ps sp line b) left ≡ resolved_values cenv order ps sp line (followed b left)
 values_followed cenv order no_pairs sp line b left = refl
-values_followed cenv order (pair x e ps) sp line b left =
-    ap (slots.stmt (slots.assign (place sp line) (one (local sp.free)) (resolved cenv order e sp)))
-    (values_followed cenv order ps (grown sp) line b left)
+values_followed cenv order (pair x e ps) sp line b left = search (arith, rules, values_followed cenv order ps)
 
 -- A filter tag: its text, and the result of its filters.
 pub filter_shown : (s : Chains) (senv : code_senv.StaticEnv) (line : ℕ) (fs : List trees.FilterCall) (b : trees.Body)
@@ -101,10 +98,7 @@ pub values_emitted : (s : Chains) (senv : code_senv.StaticEnv) (ps : Pairs) (lin
     (es fs gs : List SlotStmt) (p q r : List Tree)
     → Emits (templates_in s) (values_in s ps senv line slots.end) es fs p q
     → Emits (templates_in s) w fs gs q r → Emits (templates_in s) (values_in s ps senv line w) es gs p r
-values_emitted s senv ps line w es fs gs p q r h g =
-    emits_of (templates_in s) _ _ es gs p r
-    (values_followed (cenv_in s) (order_in s) ps (senv_in s senv) line slots.end w)
-    (emits_both (templates_in s) _ w es fs gs p q r h g)
+values_emitted s senv ps line w es fs gs p q r h g = search (arith, rules, emits_of, values_followed, emits_both)
 
 -- Copies of the names that a scope sets, followed by its body.
 pub scope_emitted : (s : Chains) (b : trees.Body) (sp : StaticEnv) (senv : code_senv.StaticEnv)
@@ -112,12 +106,7 @@ pub scope_emitted : (s : Chains) (b : trees.Body) (sp : StaticEnv) (senv : code_
     → senv_in s senv ≡ bound_all (set_in b) sp
     → Emits (templates_in s) (copied (place sp 1) sp.table sp.free (set_in b) slots.end) es fs p p
     → Emits (templates_in s) (body_in s b senv) fs gs p r → Emits (templates_in s) (scoped_in s b sp) es gs p r
-scope_emitted s b sp senv es fs gs p r e h g =
-    let copies = copied (place sp 1) sp.table sp.free (set_in b) in
-    emits_of (templates_in s) _ _ es gs p r
-    (copied_followed (place sp 1) sp.table sp.free (set_in b) slots.end (body_in s b senv)
-    ∙ ap (λ z. copies (resolved_body (cenv_in s) (order_in s) b z)) e)
-    (emits_both (templates_in s) _ (body_in s b senv) es fs gs p p r h g)
+scope_emitted s b sp senv es fs gs p r e h g = search (arith, rules, emits_of, copied_followed, emits_both)
 
 -- The environment of a loop's body may be replaced by an equal one.
 pub turns_as : (s : Chains) (b : trees.Body) (k : Option expressions.Expr) (sp sq : StaticEnv) (xs : Targets)
@@ -125,14 +114,7 @@ pub turns_as : (s : Chains) (b : trees.Body) (k : Option expressions.Expr) (sp s
     → sp ≡ sq → IsHead xs c (resolved_condition (cenv_in s) (order_in s) k sp) t.head.value p r
     → Emits (templates_in s) (scoped_in s b sp) [] t.body.items r v
     → AreTurns s xs c (resolved_condition (cenv_in s) (order_in s) k sq) (scoped_in s b sq) t p v
-turns_as s b k sp sq xs c t p r v e h w =
-    let P : StaticEnv → Type 0 =
-    λ z. IsHead xs c (resolved_condition (cenv_in s) (order_in s) k z) t.head.value p r in
-    record {
-      between = r;
-      headed = subst P e h;
-      taken = emits_of (templates_in s) _ _ [] t.body.items r v (ap (scoped_in s b) e) w;
-    }
+turns_as s b k sp sq xs c t p r v e h w = search (arith, rules, emits_of)
 
 -- ---- slots of names that are set
 

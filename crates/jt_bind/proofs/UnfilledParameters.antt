@@ -1,6 +1,6 @@
 -- Parameters that no positional argument fills.
 use Rattle.std.proofs.Common.{◌≡◌, ℕ, zero, suc, ◌+◌, List, [], ◌∷◌, drop, length, ◌<◌, get_or, refl, sym, ap, ◌∙◌}
-use Rattle.std.proofs.Common.{arith, Bool, true, false, if◌then◌else◌}
+use Rattle.std.proofs.Common.{arith, true, false}
 use Rattle.std.proofs.lemmas.List.{drop-map, drop_more}
 use Rattle.jt_ast.specs.Expressions.{Text}
 use Rattle.jt_ast.specs.StatementView.{parameter_view, parameters_view}
@@ -29,20 +29,14 @@ filled_some_behind (p ∷ ps) (suc g) xs ks = filled_some_behind ps g xs ks
 pub none_filled : (ps : List trees.Parameter) (xs : List Text) (ks : Table) → some_given ps xs ≡ false
     → filled_some ps 0 xs ks ≡ slots.none
 none_filled [] xs ks e = refl
-none_filled (p ∷ ps) xs ks e =
-    ap (λ (b : Bool). if b
-    then slots.item (value_or (slot_in p.name ks) (own (default_value p.default))) (filled_some ps 0 xs ks)
-    else slots.none) e
+none_filled (p ∷ ps) xs ks e = cc
 
 -- A parameter is filled if it, or one after it, is given by keyword.
 pub one_filled : (p : trees.Parameter) (ps : List trees.Parameter) (xs : List Text) (ks : Table)
     → some_given (p ∷ ps) xs ≡ true
     → filled_some (p ∷ ps) 0 xs ks
     ≡ slots.item (value_or (slot_in p.name ks) (own (default_value p.default))) (filled_some ps 0 xs ks)
-one_filled p ps xs ks e =
-    ap (λ (b : Bool). if b
-    then slots.item (value_or (slot_in p.name ks) (own (default_value p.default))) (filled_some ps 0 xs ks)
-    else slots.none) e
+one_filled p ps xs ks e = cc
 
 -- The remaining parameters.
 pub parameters_left : (ps : List Parameter) (i : ℕ) (p : Parameter) → i < length ps → p ≡ get_or ps i p

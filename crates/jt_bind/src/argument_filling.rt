@@ -28,7 +28,7 @@ use jt_ir::SlotExpr;
 use jt_layout::checked_sum;
 use jt_value::{NoMemory, Value};
 
-impl<'t, 's, 'a> Resolver<'t, 's, 'a> {
+impl<'t, 'f, 's, 'a> Resolver<'t, 'f, 's, 'a> {
     /// Appends the values of the parameters of a macro that no positional argument fills. Each
     /// value is the keyword argument of the parameter's name, or the parameter's default. The
     /// keyword arguments are in the locals from the first free one on.

@@ -15,13 +15,13 @@ use jt_layout::checked_sum;
 use jt_value::NoMemory;
 use std::alloc::Global;
 
-impl<'a> Tables<'a> {
+impl<'f, 'a> Tables<'f, 'a> {
     /// Returns the unit of the first body of a block, if the block has one.
     pub(crate) fn first_body(&self, name: &str) -> Result<Option<usize>, NoMemory>
         ensures { IfOk result (λ u. u ≡ first_unit_in self.now name.now) }
     {
         let here = self.here();
-        match here.first_bodies.index_of(name) {
+        match here.known.first_bodies.index_of(name) {
             Some(index) => Ok(Some(checked_sum(here.body_unit, index)?)),
             None => Ok(None),
         }
@@ -33,13 +33,13 @@ impl<'a> Tables<'a> {
     {
         let here = self.here();
         match here.scoped.index_of(name) {
-            Some(_) => &here.scope_names,
-            None => &here.scope_names[..0],
+            Some(_) => &here.known.scope_names,
+            None => &here.known.scope_names[..0],
         }
     }
 }
 
-impl<'t, 's, 'a> Resolver<'t, 's, 'a> {
+impl<'t, 'f, 's, 'a> Resolver<'t, 'f, 's, 'a> {
     /// Returns the arguments for the bodies of a block: reads of their parameters.
     pub(crate) fn block_arguments(
         &self,
@@ -83,7 +83,7 @@ impl<'t, 's, 'a> Resolver<'t, 's, 'a> {
         let Some(index) = self.senv.body else {
             return Ok(absent());
         };
-        let Some(body) = here.blocks.get(index) else {
+        let Some(body) = here.known.blocks.get(index) else {
             return Ok(absent());
         };
         let Some(next) = here.next_bodies[index] else {

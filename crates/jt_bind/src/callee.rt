@@ -40,7 +40,7 @@ pub(crate) enum Callee<'s> {
     Unknown,
 }
 
-impl<'a> Tables<'a> {
+impl<'f, 'a> Tables<'f, 'a> {
     /// Returns the callee that the expression before the arguments of a call names.
     #[inline(never)]
     pub(crate) fn callee_of<'s>(&'s self, called: &'s Expr) -> Result<Callee<'s>, NoMemory>
@@ -69,9 +69,7 @@ impl<'a> Tables<'a> {
         ensures { option_map (given_as self.now) result
             ≡ chain.given_to name.now (given_in self.now) }
     {
-        let here = self.here();
-        let index = here.given_indices.index_of(name)?;
-        Some(here.given[index].given)
+        self.here().known.given.get(name).copied()
     }
 
     /// Returns the callee of a name with this definition. A library itself cannot be called.
@@ -98,7 +96,7 @@ impl<'a> Tables<'a> {
         let Some(index) = there.called.index_of(name) else {
             return Ok(Callee::Unknown);
         };
-        let found = &there.macros[index];
+        let found = &there.known.macros[index];
         Ok(Callee::Macro(Signature {
             parameters: found.parameters,
             unit: checked_sum(there.macro_unit, index)?,

@@ -35,7 +35,7 @@ use jt_layout::checked_sum;
 use jt_names::is_loop_name;
 use jt_value::{NoMemory, Value};
 
-impl<'t, 's, 'a> Resolver<'t, 's, 'a> {
+impl<'t, 'f, 's, 'a> Resolver<'t, 'f, 's, 'a> {
     /// Resolves an expression.
     #[tactic(auto, using(jt_ast::proofs::ExpressionViews::view_List, jt_ast::proofs::ExpressionViews::view_Map, jt_ast::proofs::ExpressionViews::view_Attribute))]
     #[cycle(expressions)]

@@ -16,7 +16,7 @@ use jt_eval::filter_of;
 use jt_ir::{Filtered, Slot, SlotExpr, SlotFilter};
 use jt_value::{NoMemory, Value};
 
-impl<'t, 's, 'a> Resolver<'t, 's, 'a> {
+impl<'t, 'f, 's, 'a> Resolver<'t, 'f, 's, 'a> {
     /// Returns the value of a slot with the filters of a tag, which are applied in order.
     #[inline(never)]
     pub(crate) fn resolve_filter_calls(

@@ -48,7 +48,7 @@ fn seen_by<'s, 'a>(senv: &StaticEnv<'s, 'a>, scoped: bool) -> StaticEnv<'s, 'a>
     if scoped { *senv } else { senv.outside() }
 }
 
-impl<'t, 's, 'a> Resolver<'t, 's, 'a> {
+impl<'t, 'f, 's, 'a> Resolver<'t, 'f, 's, 'a> {
     /// Returns the value that an included chain gets for a name: with context the value of the
     /// name, or else the undefined value.
     fn handed(&self, with_context: bool, name: &str) -> SlotExpr
@@ -68,7 +68,7 @@ impl<'t, 's, 'a> Resolver<'t, 's, 'a> {
         &self,
         line: u32,
         with_context: bool,
-        there: &NamespaceLayout<'_>,
+        there: &NamespaceLayout<'_, '_>,
         done: &mut Vec<SlotStmt>,
     ) -> Result<(), NoMemory>
         ensures { IfOk result (λ u. (p : List Tree)

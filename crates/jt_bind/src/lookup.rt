@@ -59,7 +59,7 @@ pub(crate) fn told(field: Option<LoopField>) -> SlotExpr
     }
 }
 
-impl<'a> Tables<'a> {
+impl<'f, 'a> Tables<'f, 'a> {
     /// Returns the slot of a name among the globals of the current chain.
     pub(crate) fn global_slot(&self, name: &str) -> Option<Slot>
         ensures { option_map slot_view result ≡ slot_in name.now (globals_in self.now) }
@@ -72,7 +72,7 @@ impl<'a> Tables<'a> {
     }
 }
 
-impl<'t, 's, 'a> Resolver<'t, 's, 'a> {
+impl<'t, 'f, 's, 'a> Resolver<'t, 'f, 's, 'a> {
     /// Returns the slot of a name: its local in the innermost scope that has it, or else its
     /// global.
     pub(crate) fn slot(&self, name: &str) -> Option<Slot>

@@ -2,11 +2,12 @@
 
 ghost use Rattle.std.specs.Prelude.{◌≡◌, IfOk, None};
 ghost use Rattle.jt_ast.specs.Expressions.{Text};
-ghost use Rattle.jt_layout.specs.Names.{index_in};
+ghost use Rattle.jt_names.specs.Names.{value_in};
 ghost use Rattle.jt_ast.specs.Texts.{texts};
 ghost use Rattle.jt_bind.specs.internal.Names.{last_among};
 
-use jt_layout::{NameIndex, checked_sum};
+use jt_layout::checked_sum;
+use jt_names::NameIndex;
 use jt_value::NoMemory;
 use std::alloc::Global;
 
@@ -17,7 +18,7 @@ pub(crate) struct NameScope<'a> {
     pub first: usize,
     pub index: NameIndex<'a>,
     pub ghost indexed: { (x : Text)
-        → index_in index.indices x ≡ last_among x (texts names.items) first None },
+        → value_in index.indices x ≡ last_among x (texts names.items) first None },
 }
 
 impl<'a> NameScope<'a> {

@@ -14,7 +14,7 @@ use std::alloc::Global;
 /// Resolves the chains and libraries in order and returns their routines.
 pub(crate) fn resolve_namespaces(
     alloc: Global,
-    mut tables: Tables<'_>,
+    mut tables: Tables<'_, '_>,
     pool: &mut Vec<Value>,
 ) -> Result<Vec<Routine>, NoMemory>
     ensures { IfOk result (λ rs. AreRoutines (templates_in tables.entry)

@@ -38,7 +38,7 @@ pub(crate) fn template_names(alloc: Global, files: &[TemplateFile]) -> Result<Ve
 }
 
 /// Returns the names of the entry's chain, in the order of their slots.
-pub(crate) fn entry_names(alloc: Global, tables: &Tables<'_>) -> Result<Vec<String>, NoMemory>
+pub(crate) fn entry_names(alloc: Global, tables: &Tables<'_, '_>) -> Result<Vec<String>, NoMemory>
     ensures { IfOk result (λ ss. map string_bytes ss.items ≡ layout.names (cenv_in tables.now)
         (order_in tables.now) (namespace_at (order_in tables.now) 0)) }
 {
@@ -47,7 +47,7 @@ pub(crate) fn entry_names(alloc: Global, tables: &Tables<'_>) -> Result<Vec<Stri
 }
 
 /// Returns the number of globals of the chains.
-pub(crate) fn count_globals(tables: &Tables<'_>) -> Result<usize, NoMemory>
+pub(crate) fn count_globals(tables: &Tables<'_, '_>) -> Result<usize, NoMemory>
     ensures { IfOk result (λ n. n ≡ programs.count_globals (cenv_in tables.now)
         (order_in tables.now) (order_in tables.now)) }
 {

@@ -8,9 +8,9 @@ use std::alloc::Global;
 /// A resolver in a static environment. It resolves names to slots, by the layouts of the chains,
 /// and literals and data to pool indices.
 #[derive(Clone, Copy)]
-pub(crate) struct Resolver<'t, 's, 'a> {
+pub(crate) struct Resolver<'t, 'f, 's, 'a> {
     pub alloc: Global,
-    pub tables: &'t Tables<'a>,
+    pub tables: &'t Tables<'f, 'a>,
     pub senv: StaticEnv<'s, 'a>,
 }
 

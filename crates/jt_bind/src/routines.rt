@@ -26,7 +26,7 @@ use jt_value::{NoMemory, Value};
 use std::alloc::Global;
 
 /// Returns the environment at the top of a template, where names are globals.
-fn top_senv<'s, 'a>(tables: &'s Tables<'a>, template: usize) -> StaticEnv<'s, 'a>
+fn top_senv<'s, 'a>(tables: &'s Tables<'_, 'a>, template: usize) -> StaticEnv<'s, 'a>
     ensures { senv_in tables.now result ≡ top_in tables.now template }
 {
     StaticEnv {
@@ -38,7 +38,7 @@ fn top_senv<'s, 'a>(tables: &'s Tables<'a>, template: usize) -> StaticEnv<'s, 'a
     }
 }
 
-impl<'t, 's, 'a> Resolver<'t, 's, 'a> {
+impl<'t, 'f, 's, 'a> Resolver<'t, 'f, 's, 'a> {
     /// Resolves a body as a routine with `parameters`, in a scope of its own.
     fn resolve_routine(
         &self,
@@ -101,7 +101,7 @@ impl<'t, 's, 'a> Resolver<'t, 's, 'a> {
 /// Resolves the templates of a chain and appends them.
 fn resolve_layers<'a>(
     alloc: Global,
-    tables: &Tables<'a>,
+    tables: &Tables<'_, 'a>,
     layers: &[Layer<'a>],
     done: &mut Vec<SlotStmt>,
     pool: &mut Vec<Value>,
@@ -125,7 +125,7 @@ fn resolve_layers<'a>(
 /// Resolves the routine of a chain, without its macros and blocks.
 fn resolve_chain<'a>(
     alloc: Global,
-    tables: &Tables<'a>,
+    tables: &Tables<'_, 'a>,
     pool: &mut Vec<Value>,
 ) -> Result<Routine, NoMemory>
     ensures { IfOk result (λ r. (n : Text)
@@ -148,7 +148,7 @@ fn resolve_chain<'a>(
 /// Resolves the routine of a chain and appends it. A library has none: it is never rendered.
 fn resolve_entry<'a>(
     alloc: Global,
-    tables: &Tables<'a>,
+    tables: &Tables<'_, 'a>,
     routines: &mut Vec<Routine>,
     pool: &mut Vec<Value>,
 ) -> Result<(), NoMemory>
@@ -166,7 +166,7 @@ fn resolve_entry<'a>(
 /// Resolves the macros of a chain or a library and appends their routines.
 fn resolve_macros<'a>(
     alloc: Global,
-    tables: &Tables<'a>,
+    tables: &Tables<'_, 'a>,
     routines: &mut Vec<Routine>,
     pool: &mut Vec<Value>,
 ) -> Result<(), NoMemory>
@@ -174,7 +174,7 @@ fn resolve_macros<'a>(
         routines.old.items routines.new.items (values pool.old) (values pool.new)) }
 {
     let here = tables.here();
-    for called in here.macros.iter() {
+    for called in here.known.macros.iter() {
         let resolver = Resolver {
             alloc,
             tables,
@@ -189,7 +189,7 @@ fn resolve_macros<'a>(
 /// Resolves the bodies of a chain's blocks and appends their routines.
 fn resolve_blocks<'a>(
     alloc: Global,
-    tables: &Tables<'a>,
+    tables: &Tables<'_, 'a>,
     routines: &mut Vec<Routine>,
     pool: &mut Vec<Value>,
 ) -> Result<(), NoMemory>
@@ -197,13 +197,11 @@ fn resolve_blocks<'a>(
         routines.old.items routines.new.items (values pool.old) (values pool.new)) }
 {
     let here = tables.here();
-    for (index, block) in here.blocks.iter().enumerate() {
+    for (index, block) in here.known.blocks.iter().enumerate() {
         let senv = StaticEnv {
-            template: block.template,
             escaping: block.escaping,
             body: Some(index),
-            name_scopes: &[],
-            free: 0,
+            ..top_senv(tables, block.template)
         };
         let resolver = Resolver {
             alloc,
@@ -220,7 +218,7 @@ fn resolve_blocks<'a>(
 /// routines.
 pub(crate) fn resolve_namespace<'a>(
     alloc: Global,
-    tables: &Tables<'a>,
+    tables: &Tables<'_, 'a>,
     routines: &mut Vec<Routine>,
     pool: &mut Vec<Value>,
 ) -> Result<(), NoMemory>

@@ -13,7 +13,7 @@ use jt_ir::{Slot, SlotExpr};
 use jt_value::NoMemory;
 use std::alloc::Global;
 
-impl<'t, 's, 'a> Resolver<'t, 's, 'a> {
+impl<'t, 'f, 's, 'a> Resolver<'t, 'f, 's, 'a> {
     /// Returns reads of the names, in their order.
     pub(crate) fn reads(&self, names: &[&str]) -> Result<Vec<(Option<usize>, SlotExpr)>, NoMemory>
         ensures { IfOk result (IsRow (resolve.reads (table_of self.now) (texts names.now))) }

@@ -59,7 +59,7 @@ pub(crate) fn entered<'a>(
     Ok(EnteredScope { name_scopes, free })
 }
 
-impl<'t, 's, 'a> Resolver<'t, 's, 'a> {
+impl<'t, 'f, 's, 'a> Resolver<'t, 'f, 's, 'a> {
     /// Emits copies of the names' values into locals from the first free one on.
     #[inline(never)]
     pub(crate) fn put_copies(

@@ -42,14 +42,14 @@ fn add_macros(alloc: Global, macros: &[Macro<'_>], pool: &mut Vec<Value>) -> Res
 }
 
 /// Returns a pool that holds the undefined value and the defaults of all macros.
-pub(crate) fn shared_values(alloc: Global, tables: &Tables<'_>) -> Result<Vec<Value>, NoMemory>
+pub(crate) fn shared_values(alloc: Global, tables: &Tables<'_, '_>) -> Result<Vec<Value>, NoMemory>
     ensures { IfOk result
         (λ vs. values vs ≡ layout.shared (cenv_in tables.now) (order_in tables.now)) }
 {
     let mut pool = Vec::new(alloc);
     pool.push(Value::Undefined)?;
     for namespace in tables.namespaces() {
-        add_macros(alloc, &namespace.macros, &mut pool)?;
+        add_macros(alloc, &namespace.known.macros, &mut pool)?;
     }
     Ok(pool)
 }

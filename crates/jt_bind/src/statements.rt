@@ -31,7 +31,7 @@ use jt_layout::checked_sum;
 use jt_names::{keyword_names, names_of, set_names};
 use jt_value::{NoMemory, Value};
 
-impl<'t, 's, 'a> Resolver<'t, 's, 'a> {
+impl<'t, 'f, 's, 'a> Resolver<'t, 'f, 's, 'a> {
     /// Resolves statements and appends them to `done`.
     #[cycle(statements)]
     pub(crate) fn resolve_body(
@@ -246,7 +246,7 @@ impl<'t, 's, 'a> Resolver<'t, 's, 'a> {
     #[inline(never)]
     fn resolve_head(
         &self,
-        inside: &Resolver<'t, '_, 'a>,
+        inside: &Resolver<'t, 'f, '_, 'a>,
         tag: ForTag<'a>,
         pool: &mut Vec<Value>,
     ) -> Result<Box<LoopHead>, NoMemory>

@@ -12,18 +12,18 @@ ghost use Rattle.jt_bind.specs.internal.Scoped.{AreTables};
 
 use jt_chains::Chain;
 use jt_layout::{NamespaceLayout, NamespaceTables, lay_out};
-use jt_names::ChainFacts;
+use jt_names::{ChainFacts, is_missing};
 use jt_value::NoMemory;
 use std::alloc::Global;
 use std::marker::Model;
 
 /// The layouts of the chains and libraries, and the index of the selected one, which is resolved.
 #[derive(Drop)]
-pub(crate) struct Tables<'a> {
-    scope: NamespaceTables<'a>,
+pub(crate) struct Tables<'f, 'a> {
+    scope: NamespaceTables<'f, 'a>,
 }
 
-impl<'a> Model for Tables<'a> {
+impl<'f, 'a> Model for Tables<'f, 'a> {
     ghost use Rattle.std.specs.Coded.{codes};
     ghost use Rattle.jt_chains.specs.contracts.chain.Chain as chain;
     ghost use Rattle.jt_layout.specs.NamespaceLayout.{IsLaidOut};
@@ -38,9 +38,9 @@ impl<'a> Model for Tables<'a> {
     ghost invariant = { λ t. IsLaidOut t.scope };
 }
 
-impl<'a> Tables<'a> {
+impl<'f, 'a> Tables<'f, 'a> {
     /// Lays out the chains and libraries, and selects the entry's chain.
-    pub(crate) fn new(alloc: Global, facts: &ChainFacts<'a>) -> Result<Self, NoMemory>
+    pub(crate) fn new(alloc: Global, facts: &'f ChainFacts<'a>) -> Result<Self, NoMemory>
         requires { AllKnown facts.now }
         ensures chain { IfOk result (λ t. t.chain.now ≡ facts.now.chain.now) }
         ensures first { IfOk result (λ t. t.namespace ≡ 0) }
@@ -72,7 +72,7 @@ impl<'a> Tables<'a> {
     }
 
     /// Returns the layouts of all chains and libraries.
-    pub(crate) fn namespaces(&self) -> &[NamespaceLayout<'a>]
+    pub(crate) fn namespaces(&self) -> &[NamespaceLayout<'f, 'a>]
         ensures all { length result.now ≡ length (order_in self.now) }
         ensures each { AreTables self.now result.now }
     {
@@ -80,7 +80,7 @@ impl<'a> Tables<'a> {
     }
 
     /// Returns the layout of the chain or library at index `namespace`.
-    pub(crate) fn at(&self, namespace: usize) -> &NamespaceLayout<'a>
+    pub(crate) fn at(&self, namespace: usize) -> &NamespaceLayout<'f, 'a>
         requires { namespace < length (order_in self.now) }
         ensures { IsTable self.now (namespace_at (order_in self.now) namespace) result.now }
     {
@@ -88,7 +88,7 @@ impl<'a> Tables<'a> {
     }
 
     /// Returns the layout of the selected chain or library.
-    pub(crate) fn here(&self) -> &NamespaceLayout<'a>
+    pub(crate) fn here(&self) -> &NamespaceLayout<'f, 'a>
         ensures { IsTable self.now (namespace_in self.now) result.now }
     {
         &self.scope.namespaces[self.scope.namespace]
@@ -112,7 +112,7 @@ impl<'a> Tables<'a> {
     pub(crate) fn is_missing(&self, name: &str) -> bool
         ensures { result ≡ is_none ((cenv_in self.now).sources name.now) }
     {
-        self.scope.sources.index_of(name).is_none()
+        is_missing(self.scope.chain, name)
     }
 
     /// Returns the number of units.

@@ -18,7 +18,7 @@ use jt_names::names_of;
 use jt_value::NoMemory;
 use std::alloc::Global;
 
-impl<'t, 's, 'a> Resolver<'t, 's, 'a> {
+impl<'t, 'f, 's, 'a> Resolver<'t, 'f, 's, 'a> {
     /// Returns the slot of a name that is set, or local 0 if it has none.
     pub(crate) fn set_slot(&self, name: &str) -> Slot
         ensures { slot_view result ≡ resolve.slot_of name.now (table_of self.now) }

@@ -67,9 +67,7 @@ well_named ps n m left ns b e f g h = search (arith, rules, taken, length-drop, 
 module _ (f : FilterId) (ps : List Parameter) (n v : ℕ) (ks : List Text) (taken_so : Bool)
     (most : v ≡ max n (rules.reached (parameters_view ps) ks)) (takes : taken_so ≡ accepts (Some f) (v + 1)) where
   by_values : taken_so ≡ accepts (Some f) (suc (max n (rules.reached (parameters_view ps) ks)))
-  by_values =
-      let e : v + 1 ≡ suc (max n (rules.reached (parameters_view ps) ks)) = omega arith in
-      takes ∙ ap (accepts (Some f)) e
+  by_values = search (arith, rules)
 
   pub not_taken : taken_so ≡ false → false ≡ filter_takes f (parameters_view ps) n ks
   not_taken h = ap (λ b. b && (rules.is_filled (parameters_view ps) n ks && named_well ps n ks)) (sym h ∙ by_values)
@@ -81,9 +79,7 @@ module _ (f : FilterId) (ps : List Parameter) (n v : ℕ) (ks : List Text) (take
     by_filled = search (arith, rules, taken, length-drop, dropped, filled_behind)
 
     both : (b : Bool) → filled ≡ b → (b && named_well ps n ks) ≡ filter_takes f (parameters_view ps) n ks
-    both b k =
-        ap (λ c. c && named_well ps n ks) (sym k ∙ by_filled)
-        ∙ ap (λ c. c && (rules.is_filled (parameters_view ps) n ks && named_well ps n ks)) (sym h ∙ by_values)
+    both b k = search (arith, rules, by_filled, by_values)
 
     pub not_filled : filled ≡ false → false ≡ filter_takes f (parameters_view ps) n ks
     not_filled k = both false k

@@ -2,13 +2,11 @@
 use Rattle.std.proofs.Common.{◌≡◌, List, not, ◌&&◌, codes, Option, Some, None}
 use Rattle.std.proofs.Common.{arith, rules}
 use Rattle.std.specs.Str.{bytes_eq}
-use mathlib.Core.Logic.{inr}
 use Rattle.jt_ast.specs.Expressions.{Expr, Exprs, Pairs, attribute, Text}
 use Rattle.jt_chains.specs.Chain.{Namespace, a_library, Sources, Definition, given_to, MacroBody, macros, public_macro}
-use Rattle.jt_chains.specs.Chain.{in_library, of_library, Callee, no_callee, callee, named_in}
+use Rattle.jt_chains.specs.Chain.{in_library, library, of_library, Callee, no_callee, callee, named_in}
 use Rattle.jt_checks.specs.Findings.{Subject, a_called_field, a_called_expression, called}
 use Rattle.jt_checks.specs.internal.RuleTests as rules
-use Rattle.jt_checks.specs.internal.ScopeLookup.{known_of}
 use Rattle.jt_checks.specs.internal.ScopeView.{name_in}
 use Rattle.jt_rules.specs.CompileEnv.{CompileEnv}
 use Rattle.jt_rules.specs.declared.error.ScopeError.{ScopeError}
@@ -39,7 +37,7 @@ attribute_callee sources gs a2 k = search (arith, rules)
 -- A call of a library's macro, by the definition of the library's name.
 pub called_library : (cenv : CompileEnv) (namespace : Namespace) (w : rules.Enclosing) (o : Option Definition)
     (n x : Text) (ts : Exprs) (ps : Pairs) (m : Option MacroBody)
-    → known_of o ≡ Some (inr n) → m ≡ public_macro x (macros cenv.sources (a_library n))
+    → o ≡ Some (library n) → m ≡ public_macro x (macros cenv.sources (a_library n))
     → rules.call_broken cenv namespace (in_library cenv.sources o x) w ts ps
     ≡ rules.call_broken cenv namespace (of_library cenv.sources n m) w ts ps
 called_library cenv namespace w a3 n x ts ps m e is = search (arith, rules)

@@ -48,13 +48,7 @@ no_lines : {ss : List Site} → Nothing line_of ss → Binds ss 0
 no_lines e = record { is = ap length e.is }
 
 passed : Passes line_of
-passed = record {
-  name = λ p x. refl;
-  field = λ p k. refl;
-  call = λ p f ts ps. refl;
-  filter = λ p x ts ps. refl;
-  test = λ p x ts ps. refl;
-}
+passed = search (arith, rules)
 
 bound_by : (xs : List Text) (p : Place) → Binds (bound xs p) (length xs)
 bound_by [] p = none
@@ -86,8 +80,7 @@ mutual
       free (no_lines (expr_none line_of passed e (place_at line w))) (bound_by xs (place_at line w))
   stmt_by (set_block line x body) w = record { is = ap suc (body_by body (inside_scope w)).is ∙ omega arith }
   stmt_by (with_values line ps body) w =
-      free (no_lines (pairs_none line_of passed ps (place_at line w)))
-      (both (keys_by ps (place_at line (inside_scope w))) (body_by body (inside_scope w)))
+      search (arith, rules, free, no_lines, pairs_none, passed, both, keys_by, body_by body)
   stmt_by (filter_block line fs body) w =
       free (no_lines (filter_calls_none line_of passed fs (place_at line w))) (body_by body (inside_scope w))
   stmt_by (autoescape line on body) w = body_by body (inside_scope w)

@@ -1,6 +1,6 @@
 -- Parameters that are named or have a default.
 use Rattle.std.proofs.Common.{◌≡◌, ℕ, zero, suc, ◌<◌, Bool, true, false, ◌||◌, if◌then◌else◌, List, [], ◌∷◌, length}
-use Rattle.std.proofs.Common.{take, drop, get_or, refl, sym, ap, ◌∙◌, arith, Option, Some, None, string_bytes, rules}
+use Rattle.std.proofs.Common.{take, drop, get_or, refl, ap, ◌∙◌, arith, Option, Some, None, string_bytes, rules}
 use Rattle.std.specs.List.{list_all}
 use Rattle.std.specs.Option.{is_some}
 use Rattle.std.specs.Prelude.{option_map}
@@ -21,12 +21,8 @@ module _ (ks : List Text) where
   given_at : (ps : List Parameter) (i : ℕ) (p : Parameter) → i < length ps → p ≡ get_or ps i p
       → among (string_bytes p.name) ks ≡ true → some_given (parameters_view ps) ks ≡ true
   given_at [] i p lt is e = absurd (omega arith)
-  given_at (q ∷ ps) zero p lt is e =
-      ap (λ (z : Parameter). among (string_bytes z.name) ks || some_given (parameters_view ps) ks) (sym is)
-      ∙ ap (λ b. b || some_given (parameters_view ps) ks) e
-  given_at (q ∷ ps) (suc i) p lt is e =
-      or_right (among (string_bytes q.name) ks) (some_given (parameters_view ps) ks)
-      (given_at ps i p (omega arith) is e)
+  given_at (q ∷ ps) zero p lt is e = search (arith, rules, string_bytes)
+  given_at (q ∷ ps) (suc i) p lt is e = search (arith, rules, or_right, string_bytes, given_at ps i p)
 
   -- If no parameter is named, none is reached.
   pub none_reached : (ps : List trees.Parameter) → some_given ps ks ≡ false → rules.reached ps ks ≡ 0
@@ -38,21 +34,15 @@ module _ (ks : List Text) where
       → among (string_bytes p.name) ks ≡ true
       → some_given (parameters_view (drop (suc i) ps)) ks ≡ false → rules.reached (parameters_view ps) ks ≡ suc i
   last_reached [] i p lt is e none = absurd (omega arith)
-  last_reached (q ∷ ps) zero p lt is e none =
-      ap (λ b. if b then suc (rules.reached (parameters_view ps) ks) else 0) (given_at (q ∷ ps) zero p lt is e)
-      ∙ ap suc (none_reached (parameters_view ps) none)
-  last_reached (q ∷ ps) (suc i) p lt is e none =
-      ap (λ b. if b then suc (rules.reached (parameters_view ps) ks) else 0) (given_at (q ∷ ps) (suc i) p lt is e)
-      ∙ ap suc (last_reached ps i p (omega arith) is e none)
+  last_reached (q ∷ ps) zero p lt is e none = search (arith, rules, given_at, none_reached)
+  last_reached (q ∷ ps) (suc i) p lt is e none = search (arith, rules, given_at, last_reached ps i p)
 
   -- One more parameter that is not named.
   pub none_more : (ps : List Parameter) (i : ℕ) (p : Parameter) → i < length ps → p ≡ get_or ps i p
       → among (string_bytes p.name) ks ≡ false
       → some_given (parameters_view (drop (suc i) ps)) ks ≡ false → some_given (parameters_view (drop i ps)) ks ≡ false
   none_more [] i p lt is e none = absurd (omega arith)
-  none_more (q ∷ ps) zero p lt is e none =
-      ap (λ (z : Parameter). among (string_bytes z.name) ks || some_given (parameters_view ps) ks) (sym is)
-      ∙ ap (λ b. b || some_given (parameters_view ps) ks) e ∙ none
+  none_more (q ∷ ps) zero p lt is e none = search (arith, rules, string_bytes)
   none_more (q ∷ ps) (suc i) p lt is e none = none_more ps i p (omega arith) is e none
 
   mapped : {A B : Type 0} → (f : A → B) (o : Option A) → is_some (option_map f o) ≡ is_some o

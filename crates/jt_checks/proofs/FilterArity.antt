@@ -1,27 +1,23 @@
 -- Filters by their names, and the arguments that they take.
-use Rattle.std.proofs.Common.{◌≡◌, ℕ, zero, suc, ◌+◌, max, Bool, true, false, not, ◌&&◌, ◌||◌, List, [], ◌∷◌, length}
-use Rattle.std.proofs.Common.{drop, nat_eq, refl, sym, ap, ◌∙◌, arith, Option, Some, None, rules}
-use Rattle.std.specs.Prelude.{option_map, map}
-use Rattle.std.specs.List.{list_any}
-use Rattle.std.specs.Option.{is_some}
+use Rattle.std.proofs.Common.{◌≡◌, ℕ, Bool, true, false, ◌&&◌, List, [], ◌∷◌, length}
+use Rattle.std.proofs.Common.{nat_eq, refl, sym, ap, ◌∙◌, arith, Option, Some, None, rules}
+use Rattle.std.specs.Prelude.{option_map}
 use Rattle.std.proofs.lemmas.Bool.Decides.{nat_tests}
 use Rattle.jt_ast.specs.Expressions as trees
 use Rattle.jt_ast.specs.Expressions.{Exprs, Text}
 use Rattle.jt_ast.specs.ExpressionView.{pairs_view}
-use Rattle.jt_filter_semantics.specs.FilterIds.{filter_of, accepts}
+use Rattle.jt_filter_semantics.specs.FilterIds.{filter_of}
 use Rattle.jt_ids.specs.FilterTable.{filter_id}
 use Rattle.jt_ids.specs.declared.filter_id.FilterId.{FilterId}
 use Rattle.jt_ids.specs.declared.filter_id.FilterId.TheVariants as filter
 use Rattle.jt_chains.specs.Uses.{count, keywords}
-use Rattle.jt_ast.specs.Texts.{among, repeated}
 use Rattle.jt_ast.specs.Statements.{Parameter}
 use Rattle.jt_eval.specs.Filters.{some_given}
-use Rattle.jt_eval.specs.Inside.{names_well, inside_of}
-use Rattle.jt_eval.specs.TheFilters.{the_filters, filter_written, filter_parameters, parameters_of}
+use Rattle.jt_eval.specs.Inside.{names_well}
+use Rattle.jt_eval.specs.TheFilters.{the_filters, filter_written, filter_parameters}
 use Rattle.jt_checks.specs.internal.Fitting.{filter_takes}
 use Rattle.jt_checks.specs.internal.RuleTests as rules
 use Rattle.jt_rules.specs.declared.error.ScopeError.{ScopeError}
-use Rattle.jt_checks.proofs.FilledParameters.{none_reached}
 use Rattle.jt_ast.proofs.RemainingParts.{Entry}
 
 pub known_filter : (f : FilterId) → filter_of (filter_id f) ≡ Some f
@@ -41,22 +37,13 @@ by_id : (o : Option FilterId) (ts : Exprs) (ps : trees.Pairs)
     → rules.filter_broken the_filters (option_map filter_id o) ts ps ≡ rule_of o ts ps
 unfolding the_filters rule_of
 by_id None ts ps = refl
-by_id (Some f) ts ps =
-    ap (λ (o : Option FilterId). rules.unless ((accepts o
-    (suc (max (count ts) (rules.reached (parameters_of o) (keywords ps))))
-    && (rules.is_filled (parameters_of o) (count ts) (keywords ps)
-    && (not (repeated (keywords ps))
-    && not (list_any (λ k. not (among k (map (λ p. p.name) (drop (count ts) (parameters_of o))))) (keywords ps)))))
-    && inside_of o ts ps))
-    (known_filter f)
+by_id (Some f) ts ps = search (arith, rules, known_filter)
 
 pub filter_known : (x : Text) (f : FilterId) (n : ℕ) (ts : Exprs) (ps : trees.Pairs) (b : Bool) (r : Option ScopeError)
     → Some f ≡ filter_written x ts ps → count ts ≡ n → b ≡ taken_rightly f n ts ps → r ≡ rules.unless b
     → r ≡ rules.filter_broken the_filters (the_filters.named x ts ps) ts ps
 unfolding the_filters rule_of
-filter_known x f n ts ps b r is same e h =
-    h ∙ ap rules.unless e ∙ ap (λ (k : ℕ). rules.unless (taken_rightly f k ts ps)) (sym same)
-    ∙ ap (λ (o : Option FilterId). rule_of o ts ps) is ∙ sym (by_id (filter_written x ts ps) ts ps)
+filter_known x f n ts ps b r is same e h = search (arith, rules, rule_of, by_id)
 
 pub filter_unknown : (x : Text) (ts : Exprs) (ps : trees.Pairs) → None ≡ filter_written x ts ps
     → None ≡ rules.filter_broken the_filters (the_filters.named x ts ps) ts ps

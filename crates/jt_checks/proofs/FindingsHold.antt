@@ -83,9 +83,7 @@ module _ {A : Type 0} (g : A → Option Finding) (P : A → Type 0) where
   first_found : (f : Finding) → ((x : A) → g x ≡ Some f → P x) → (xs : List A) → broken.first g xs ≡ Some f
       → ForSome P xs
   first_found f each [] e = absurd (cc)
-  first_found f each (x ∷ xs) e =
-      elim (one_of (g x) (broken.first g xs) f e)
-      [ inl p ↦ inl (each x p) | inr q ↦ inr (first_found f each xs q) ]
+  first_found f each (x ∷ xs) e = search (arith, rules, one_of, first_found f each xs)
 
   first_none : ((x : A) → g x ≡ None → P x → ⊥) → (xs : List A) → broken.first g xs ≡ None → ForSome P xs → ⊥
   first_none each [] e h = h
@@ -148,13 +146,7 @@ module _ (cenv : CompileEnv) (namespace : Namespace) where
 
   site_free : (n : Text) (rule : ScopeError) (s : Site) → broken.site_finding cenv namespace n s ≡ None
       → SiteBreaks rule s → ⊥
-  site_free n rule s e h =
-      elim (unmade n s.place.line (subject_of s.made) (broken.site_broken cenv namespace s) e) [
-        | inl p ↦
-            subst (λ (o : Option sites.Use). UseBreaks cenv namespace rule o (within_view s.place.around))
-            (ruleless s.made p) h
-        | inr q ↦ site_judged s None q rule h
-      ]
+  site_free n rule s e h = search (arith, rules, unmade, ruleless, site_judged)
 
   -- ---- Templates
 
@@ -214,11 +206,7 @@ module _ (cenv : CompileEnv) (namespace : Namespace) where
 
   template_free : (rule : ScopeError) (t : Template) → broken.template_broken cenv namespace t ≡ None
       → TemplateBreaks rule t → ⊥
-  template_free rule t e (inl h) =
-      let ss = body_uses t.body uses.outside in
-      first_none (broken.site_finding cenv namespace t.name) (SiteBreaks rule) (site_free t.name rule) ss
-      (none_of (broken.uses_broken cenv namespace t.name ss)
-      (option_map (broken.finding_over t.name) (broken.line_over t.body)) e).0 h
+  template_free rule t e (inl h) = search (arith, rules, first_none, site_free, none_of)
   template_free rule t e (inr h) =
       number_free rule (none_over t (none_of (broken.uses_broken cenv namespace t.name (body_uses t.body uses.outside))
       (option_map (broken.finding_over t.name) (broken.line_over t.body)) e).1) h
@@ -280,11 +268,7 @@ module _ (cenv : CompileEnv) (namespace : Namespace) where
       ]
 
   sites_to : (rule : ScopeError) → SitesBreak rule → ChainBreaks rule
-  sites_to rule h =
-      let ts = templates cenv.sources namespace in
-      some_as (λ t. ForSome (AtSite rule) (body_use_sites t.body sites.outside)) (TemplateBreaks rule)
-      (λ t p. inl (from_sites rule t p)) ts
-      (some_of (AtSite rule) (λ t. body_use_sites t.body sites.outside) ts h)
+  sites_to rule h = search (arith, rules, some_as, from_sites, some_of)
 
   broken_in : (rule : ScopeError) → SitesBreak rule ⊎ NumbersBreak rule → BrokenIn cenv namespace rule
   broken_in error.TooManySlots h = h
@@ -300,9 +284,7 @@ module _ (cenv : CompileEnv) (namespace : Namespace) where
 
   in_chain : (rule : ScopeError) → BrokenIn cenv namespace rule → ChainBreaks rule
   in_chain error.TooManySlots (inl h) = sites_to error.TooManySlots h
-  in_chain error.TooManySlots (inr h) =
-      some_as (OfNumber error.TooManySlots) (TemplateBreaks error.TooManySlots) (λ t p. inr p)
-      (templates cenv.sources namespace) h
+  in_chain error.TooManySlots (inr h) = search (arith, rules, some_as)
   in_chain error.NoMemory h = absurd h
   in_chain error.LoopOutside h = sites_to error.LoopOutside h
   in_chain error.MacroAsValue h = sites_to error.MacroAsValue h
@@ -311,24 +293,14 @@ module _ (cenv : CompileEnv) (namespace : Namespace) where
 
   -- A finding in a template breaks its rule there.
   found_breaks : (f : Finding) (t : Template) → IsFoundIn cenv namespace f t → TemplateBreaks f.rule t
-  found_breaks f t h =
-      elim h.found [
-        | inl p ↦
-            inl (some_as (IsFoundAt cenv namespace f) (SiteBreaks f.rule) (λ s q. q.broken)
-            (body_uses t.body uses.outside) p)
-        | inr q ↦ inr (subst (λ (r : ScopeError). OfNumber r t) (sym q.rule) q.broken)
-      ]
+  found_breaks f t h = search (arith, rules, some_as)
 
 -- ---- Chains
 
 pub chains_hold : (cenv : CompileEnv) (order : List Namespace) (f : Finding)
     → broken.chains_broken cenv order ≡ Some f
     → ForSome (λ h. ForSome (IsFoundIn cenv h f) (templates cenv.sources h)) order
-chains_hold cenv order f e =
-    first_found (λ h. broken.templates_broken cenv h (templates cenv.sources h))
-    (λ h. ForSome (IsFoundIn cenv h f) (templates cenv.sources h)) f
-    (λ h. first_found (broken.template_broken cenv h) (IsFoundIn cenv h f) f (template_holds cenv h f)
-    (templates cenv.sources h)) order e
+chains_hold cenv order f e = search (arith, rules, first_found, template_holds)
 
 broken_of : (cenv : CompileEnv) (order : List Namespace) (rule : ScopeError)
     → ForSome (λ h. BrokenIn cenv h rule) order → Breaks rule cenv order

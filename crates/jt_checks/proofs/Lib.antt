@@ -9,6 +9,5 @@ pub mod UsesAreSites
 pub mod FindingsHold
 pub mod NestedCallNames
 pub mod ScopeLookup
-pub mod NameLookup
 pub mod NameSets
 pub mod LoopSteps

@@ -19,8 +19,6 @@ use Rattle.jt_chains.proofs.TemplatesByIndex.{namespace_indices, index_within}
 use Rattle.jt_rules.specs.Rules.{libraries_counted, names_counted}
 use Rattle.jt_chains.specs.declared.chain.Namespace as written
 use Rattle.std.proofs.lemmas.Bool.Decides.{nat_tests}
-use Rattle.jt_uses.specs.UseView.{site_view, sites_view}
-use Rattle.jt_uses.specs.declared.site.UseSite.{UseSite}
 use Rattle.jt_checks.specs.internal.UseRules as broken
 use Rattle.jt_chains.specs.View.{chain_view}
 use Rattle.jt_chains.specs.declared.chain.Chain.{Chain}
@@ -60,18 +58,13 @@ pub its_templates : (c : Chain) (i : ℕ) (h : written.Namespace) → i < length
     → h ≡ get_or c.namespaces.items i h
     → layers_along (chain_view c).templates h.templates.items ≡ templates (cenv_in c).sources (namespace_in c i)
 unfolding cenv_in namespace_in
-its_templates c i h lt at =
-    namespace_layers c.templates.items c.templates.items c.namespaces.items i h h.templates.items refl refl lt at c.once
-    c.whole
+its_templates c i h lt at = search (arith, rules, namespace_layers)
 
 -- The indices of a chain are those of templates.
 pub template_within : (c : Chain) (i : ℕ) (h : written.Namespace) → i < length c.namespaces.items
     → h ≡ get_or c.namespaces.items i h → (k : ℕ) → k < length h.templates.items
     → get_or h.templates.items k 0 < length c.templates.items
-template_within c i h lt at k within =
-    index_within c.templates.items h.templates.items k within
-    (namespace_indices c.templates.items c.templates.items c.namespaces.items i h h.templates.items refl refl lt at
-    c.once c.whole)
+template_within c i h lt at k within = search (arith, rules, index_within, namespace_indices)
 
 there : (order : List Namespace) (i : ℕ) → get_or order i (a_chain []) ≡ namespace_at order i
 there order i = sym (unwrap_or-slice_get order i (a_chain []))

@@ -1,48 +1,34 @@
 -- Sets and lists of names.
-use Rattle.std.proofs.Common.{◌≡◌, ℕ, add-one, drop-cons, ◌+◌, ◌<◌, Bool, true, false, cond, not, ◌||◌, List, [], ◌∷◌}
-use Rattle.std.proofs.Common.{◌++◌, length, drop, get_or, refl, sym, ap, ◌∙◌, arith, rules}
+use Rattle.std.proofs.Common.{◌≡◌, ℕ, ◌+◌, ◌<◌, Bool, true, false, cond, not, ◌||◌, List, [], ◌∷◌}
+use Rattle.std.proofs.Common.{length, drop, get_or, refl, sym, ap, ◌∙◌, arith, rules}
 use Rattle.std.specs.List.{list_any}
 use Rattle.std.specs.Ordering.{nat_cmp, is_eq}
 use Rattle.std.specs.Cmp.Lexicographic.{slice_cmp}
 use Rattle.std.specs.Str.{bytes_eq}
 use Rattle.std.specs.BTreeSet as set
-use Rattle.std.specs.declared.cmp.Ordering.{Ordering}
-use Rattle.std.proofs.lemmas.Cmp.{nat_list_eq_equiv}
+use Rattle.std.proofs.lemmas.List.{drop_more}
 use Rattle.std.proofs.lemmas.Map.Text.{is_eq-slice_cmp}
 use denote.Ref.{Bor}
 use Rattle.jt_ast.specs.Expressions.{Text}
 use Rattle.jt_ast.specs.Texts.{among, repeated, texts}
 use Rattle.jt_checks.specs.internal.ScopeLookup.{Names, is_among}
-
-pub symmetric : (x y : Text) → bytes_eq x y ≡ bytes_eq y x
-symmetric x y = nat_list_eq_equiv.symm x y
-
-abbrev pub name_cmp : Bor Text → Bor Text → Ordering
-name_cmp x y = slice_cmp nat_cmp x.now y.now
+use Rattle.jt_names.proofs.SortedNames.{symmetric, name_cmp}
 
 -- One of these names is in the set or occurs twice.
 abbrev pub again : Names → List Text → Bool
 again s [] = false
 again s (x ∷ xs) = is_among s x || (among x xs || again s xs)
 
-pub drop_at : {A : Type 0} → (ks : List A) (i : ℕ) (d : A) → i < length ks → drop i ks ≡ get_or ks i d ∷ drop (i + 1) ks
-drop_at ks i d lt = rw (add-one, drop-cons ks i d)
-
-pub texts_left : (ks : List (Bor Text)) (i : ℕ) (d : Bor Text) → i < length ks
+texts_left : (ks : List (Bor Text)) (i : ℕ) (d : Bor Text) → i < length ks
     → texts (drop i ks) ≡ (get_or ks i d).now ∷ texts (drop (i + 1) ks)
-texts_left ks i d lt = ap texts (drop_at ks i d lt)
+texts_left ks i d lt = ap texts (drop_more ks i d lt)
 
 abbrev pub nameless : Bor Text
 nameless = record { ref_ptr = (0, 0); now = [] }
 
-pub texts_more : (ks : List (Bor Text)) (k : Bor Text) (ys : List Text)
-    → texts (ks ++ k ∷ []) ++ ys ≡ texts ks ++ k.now ∷ ys
-texts_more [] k ys = refl
-texts_more (x ∷ ks) k ys = ap (λ l. x.now ∷ l) (texts_more ks k ys)
-
 -- ---- sets
 
-pub none_among : (s : Names) (x : Text) → s.keys ≡ [] → is_among s x ≡ false
+none_among : (s : Names) (x : Text) → s.keys ≡ [] → is_among s x ≡ false
 none_among s x e = ap (λ ks. list_any (λ (k : Bor Text). is_eq (slice_cmp nat_cmp x k.now)) ks) e
 
 either : (b c : Bool) → cond b true c ≡ (b || c)
@@ -50,7 +36,7 @@ either true c = refl
 either false c = refl
 
 -- A set after the insertion of a name.
-pub among_added : (m n : Names) (k : Bor Text) → set.Updates name_cmp m n k true → (y : Text)
+among_added : (m n : Names) (k : Bor Text) → set.Updates name_cmp m n k true → (y : Text)
     → is_among n y ≡ (bytes_eq k.now y || is_among m y)
 among_added m n k u y =
     u.0 (record { ref_ptr = (0, 0); now = y }) ∙ either (is_eq (slice_cmp nat_cmp k.now y)) (is_among m y)
@@ -59,7 +45,7 @@ among_added m n k u y =
 shuffled : (a b c d e : Bool) → ((a || b) || (c || (d || e))) ≡ ((a || d) || (b || (c || e)))
 shuffled a0 a1 a2 a3 e = search (arith, rules)
 
-pub again_added : (m n : Names) (x : Text) → ((y : Text) → is_among n y ≡ (bytes_eq x y || is_among m y))
+again_added : (m n : Names) (x : Text) → ((y : Text) → is_among n y ≡ (bytes_eq x y || is_among m y))
     → (ys : List Text) → again n ys ≡ (among x ys || again m ys)
 again_added m n x h [] = refl
 again_added m n x h (y ∷ ys) = search (arith, rules, symmetric, again_added m n x h ys, shuffled)

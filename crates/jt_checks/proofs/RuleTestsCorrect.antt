@@ -7,7 +7,6 @@ use Rattle.std.specs.Str.{bytes_eq}
 use Rattle.std.proofs.lemmas.Bool.Decides.{nat_tests}
 use Rattle.std.proofs.lemmas.Slice.Eq.{bytes_eq-Decides}
 use Rattle.std.proofs.lemmas.Bool.{and_cases}
-use mathlib.Core.Logic.{inl, inr}
 use Rattle.jt_ast.specs.Expressions as trees
 use Rattle.jt_ast.specs.Expressions.{Expr, name, attribute, Exprs, Text}
 use Rattle.jt_ast.specs.Statements.{Parameter}
@@ -273,15 +272,9 @@ module _ (cenv : CompileEnv) (namespace : Namespace) where
       as_defined (used cenv namespace x) (binds x) (within_view w) (name_judged x (is_macro cenv namespace x))
   use_judged (uses.reads_loop_field k) w =
       as_defined (field_broken k w) (reads_loop_field k) (within_view w) (field_judged k (within_view w))
-  use_judged (uses.calls f ts ps) w =
-      as_defined (use_broken cenv namespace (uses.calls f ts ps) w) (calls f ts ps) (within_view w)
-      (callee_judged f (within_view w) ts ps)
-  use_judged (uses.filters x ts ps) w =
-      as_defined (use_broken cenv namespace (uses.filters x ts ps) w) (filters x ts ps) (within_view w)
-      (filter_judged x ts ps (within_view w))
-  use_judged (uses.tests x ts ps) w =
-      as_defined (test_broken (test_named x) ts ps) (tests x ts ps) (within_view w)
-      (test_judged x ts ps (within_view w))
+  use_judged (uses.calls f ts ps) w = search (arith, rules, as_defined, callee_judged)
+  use_judged (uses.filters x ts ps) w = search (arith, rules, as_defined, filter_judged)
+  use_judged (uses.tests x ts ps) w = search (arith, rules, as_defined, test_judged)
   use_judged (uses.declares_macro x ps body) w =
       as_defined (macro_broken x ps) (declares x ps) (within_view w) (macro_judged x ps)
   use_judged (uses.binds_library n x) w = imported x (within_view w)

@@ -9,13 +9,15 @@ ghost use Rattle.jt_checks.specs.internal.RuleTests as rules;
 ghost use Rattle.jt_rules.specs.CompileEnv.{CompileEnv};
 ghost use Rattle.jt_checks.specs.internal.ScopeLookup.{is_block};
 ghost use Rattle.jt_checks.specs.internal.ScopeView.{its_sources, its_given, given_in, in_scope};
-ghost use Rattle.jt_checks.specs.internal.ScopeView.{FindsCall, is_bare, is_positional, name_in};
+ghost use Rattle.jt_checks.specs.internal.ScopeView.{FindsCall, HasFacts, is_bare, is_positional};
+ghost use Rattle.jt_checks.specs.internal.ScopeView.{name_in};
 ghost use Rattle.jt_checks.specs.internal.UseRules.{within_view};
 ghost use Rattle.jt_rules.specs.declared.error.ScopeError.TheVariants as error;
 
 use crate::arguments::{fits, range_broken, refused, unless};
-use crate::scope::{KnownName, Scope};
+use crate::scope::Scope;
 use jt_ast::Expr;
+use jt_chains::Definition;
 use jt_rules::ScopeError;
 use jt_uses::Enclosing;
 use std::alloc::AllocError;
@@ -41,23 +43,21 @@ fn form_call_broken(
 
 /// Returns the rule that a call of a bare name breaks by itself.
 fn name_call_broken(
-    scope: &Scope<'_>,
+    scope: &Scope<'_, '_>,
     within: Enclosing,
     name: &str,
     row: &[Expr],
     pairs: &[(String, Expr)],
 ) -> Result<Option<ScopeError>, AllocError>
+    requires { HasFacts scope.now }
     ensures { IfOk result (FindsCall scope.now within (named_alone (its_sources scope.now)
         (given_in scope.now name.now) name.now) row.now pairs.now) }
 {
-    match scope.known(name) {
-        Some(KnownName::Macro(parameters)) => Ok(unless(fits(
-            scope.alloc,
-            parameters,
-            row,
-            pairs,
-        )?)),
-        Some(KnownName::Library(_)) => Ok(Some(ScopeError::NotCallable)),
+    match scope.given(name) {
+        Some(Definition::Own(found) | Definition::Imported(_, found)) => {
+            Ok(unless(fits(scope.alloc, found.parameters, row, pairs)?))
+        }
+        Some(Definition::Library(_)) => Ok(Some(ScopeError::NotCallable)),
         None => Ok(form_call_broken(within, name, row, pairs)),
     }
 }
@@ -75,11 +75,12 @@ fn super_broken(within: Enclosing, row: &[Expr], pairs: &[(String, Expr)]) -> Op
 /// Returns the rule that a call of `self.b` breaks.
 #[tactic(auto, using(crate::proofs::RowLengths::counted, crate::proofs::RowLengths::keyless, crate::proofs::ScopeLookup::not_not))]
 fn self_broken(
-    scope: &Scope<'_>,
+    scope: &Scope<'_, '_>,
     block: &str,
     row: &[Expr],
     pairs: &[(String, Expr)],
 ) -> Option<ScopeError>
+    requires { HasFacts scope.now }
     ensures { result ≡ option_or (rules.refused (not (in_scope is_block scope.now block.now))
         error.NotCallable) (rules.unless (is_bare (exprs_view row.now) (pairs_view pairs.now))) }
 {
@@ -101,17 +102,18 @@ fn cycle_broken(within: Enclosing, row: &[Expr], pairs: &[(String, Expr)]) -> Op
 /// Returns the rule that a call of a library's macro breaks by itself. `path` holds the names of
 /// both.
 fn library_call_broken(
-    scope: &Scope<'_>,
+    scope: &Scope<'_, '_>,
     within: Enclosing,
     path: (&str, &str),
     row: &[Expr],
     pairs: &[(String, Expr)],
 ) -> Result<Option<ScopeError>, AllocError>
+    requires { HasFacts scope.now }
     ensures { IfOk result (FindsCall scope.now within (in_library (its_sources scope.now)
         (given_in scope.now path.entry.0.now) path.entry.1.now) row.now pairs.now) }
 {
     let (of, field) = path;
-    let Some(KnownName::Library(library)) = scope.known(of) else {
+    let Some(Definition::Library(library)) = scope.given(of) else {
         return Ok(Some(ScopeError::NotCallable));
     };
     match scope.chain.library_macro(library, field) {
@@ -124,12 +126,13 @@ fn library_call_broken(
 /// macro of a library.
 #[tactic(auto, using(crate::proofs::ScopeLookup::not_not))]
 fn field_call_broken(
-    scope: &Scope<'_>,
+    scope: &Scope<'_, '_>,
     within: Enclosing,
     path: (&str, &str),
     row: &[Expr],
     pairs: &[(String, Expr)],
 ) -> Result<Option<ScopeError>, AllocError>
+    requires { HasFacts scope.now }
     ensures { IfOk result (FindsCall scope.now within (named_in (its_sources scope.now)
         (given_in scope.now path.entry.0.now) path.entry.0.now path.entry.1.now)
         row.now pairs.now) }
@@ -145,12 +148,13 @@ fn field_call_broken(
 /// Returns the rule that a call breaks by itself, by its callee.
 #[tactic(auto, using(crate::proofs::AttributeForms::attribute_callee))]
 pub(crate) fn call_broken(
-    scope: &Scope<'_>,
+    scope: &Scope<'_, '_>,
     within: Enclosing,
     called: &Expr,
     row: &[Expr],
     pairs: &[(String, Expr)],
 ) -> Result<Option<ScopeError>, AllocError>
+    requires { HasFacts scope.now }
     ensures { IfOk result (FindsCall scope.now within (callee (its_sources scope.now)
         (its_given scope.now) (expr_view called.now)) row.now pairs.now) }
 {

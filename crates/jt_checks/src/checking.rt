@@ -11,7 +11,7 @@ ghost use Rattle.jt_rules.specs.Rules.{max_names, names_counted};
 ghost use Rattle.jt_checks.specs.Findings.{Holds};
 ghost use Rattle.jt_checks.specs.FindingView.{finding_view};
 ghost use Rattle.jt_checks.specs.internal.ScopeView.{capped, its_namespace, names_in, own_count};
-ghost use Rattle.jt_checks.specs.internal.ScopeView.{its_sources, in_scope};
+ghost use Rattle.jt_checks.specs.internal.ScopeView.{HasFacts, its_sources, in_scope};
 ghost use Rattle.jt_checks.specs.internal.ScopeLookup.{cenv_in, namespace_in};
 ghost use Rattle.jt_checks.specs.internal.UseRules as broken;
 ghost use Rattle.jt_names.specs.FactsOfChains.{AllKnown};
@@ -95,7 +95,7 @@ fn chains_broken<'a>(
         (cenv_in facts.now.chain.now) (chain_view facts.now.chain.now).order) }
 {
     for namespace in 0..facts.chain.namespaces.len() {
-        let scope = Scope::new(alloc, facts, namespace)?;
+        let scope = Scope::new(alloc, facts, namespace);
         if let Some(finding) = templates_broken(&scope, facts)? {
             return Ok(Some(finding));
         }
@@ -105,11 +105,12 @@ fn chains_broken<'a>(
 
 /// Returns the first finding in the templates of a chain.
 fn templates_broken<'a>(
-    scope: &Scope<'a>,
+    scope: &Scope<'_, 'a>,
     facts: &ChainFacts<'a>,
 ) -> Result<Option<Finding<'a>>, AllocError>
     requires known { AllKnown facts.now }
     requires same { facts.now.chain.now ≡ scope.now.chain.now }
+    requires scope { HasFacts scope.now }
     ensures { IfOk result (λ o. option_map finding_view o
         ≡ in_scope broken.templates_broken scope.now (templates
         (its_sources scope.now) (its_namespace scope.now))) }
@@ -136,10 +137,11 @@ fn template_name(chain: &Chain, index: usize) -> &str
 
 /// Returns the first finding in a template with these uses.
 fn template_broken<'a>(
-    scope: &Scope<'_>,
+    scope: &Scope<'_, '_>,
     name: &'a str,
     uses: &[UseSite<'a>],
 ) -> Result<Option<Finding<'a>>, AllocError>
+    requires { HasFacts scope.now }
     ensures { IfOk result (λ o. option_map finding_view o
         ≡ in_scope broken.found_in scope.now name.now (sites_view uses.now)) }
 {

@@ -2,7 +2,7 @@
 //!
 //! `find_broken` (in `checking`) visits the list of the uses of each template (`uses`, `calls`,
 //! `arguments`, `nested_calls`), and returns the first broken rule with its place (`finding`);
-//! `check_rules` returns only the rule. `scope` holds what can be called. Read first:
+//! `check_rules` returns only the rule. `scope` looks up what can be called. Read first:
 //! specs/Rules.antt of jt_rules, specs/Findings.antt, and uses.rt, which follows the rules.
 #![tactic(auto)]
 

@@ -6,7 +6,7 @@ ghost use Rattle.jt_ast.specs.StatementView.{parameters_view};
 ghost use Rattle.jt_checks.specs.FindingView.{finding_view};
 ghost use Rattle.jt_checks.specs.internal.RuleTests as rules;
 ghost use Rattle.jt_uses.specs.UseView.{site_view, sites_view};
-ghost use Rattle.jt_checks.specs.internal.ScopeView.{in_scope};
+ghost use Rattle.jt_checks.specs.internal.ScopeView.{HasFacts, in_scope};
 ghost use Rattle.jt_checks.specs.internal.UseRules as broken;
 
 use crate::arguments::{any_repeated, filter_broken, refused, test_broken, unless};
@@ -35,7 +35,8 @@ fn read_alone(name: &str) -> Option<ScopeError>
 }
 
 /// Returns the rule that a name breaks when it is read as a value, or bound.
-fn used(scope: &Scope<'_>, name: &str) -> Option<ScopeError>
+fn used(scope: &Scope<'_, '_>, name: &str) -> Option<ScopeError>
+    requires { HasFacts scope.now }
     ensures { result ≡ in_scope rules.used scope.now name.now }
 {
     read_alone(name).or(refused(scope.is_macro(name), ScopeError::MacroAsValue))
@@ -84,7 +85,8 @@ fn macro_broken(
 
 /// Returns the rule that a use breaks.
 #[tactic(auto, using(crate::proofs::ScopeLookup::its_filters))]
-fn site_broken(scope: &Scope<'_>, site: &UseSite<'_>) -> Result<Option<ScopeError>, AllocError>
+fn site_broken(scope: &Scope<'_, '_>, site: &UseSite<'_>) -> Result<Option<ScopeError>, AllocError>
+    requires { HasFacts scope.now }
     ensures { IfOk result (λ o. o ≡ in_scope broken.site_broken scope.now (site_view site.now)) }
 {
     let around = site.place.around;
@@ -123,10 +125,11 @@ fn site_broken(scope: &Scope<'_>, site: &UseSite<'_>) -> Result<Option<ScopeErro
 
 /// Returns the finding at a use of a template, if the use breaks a rule.
 fn site_finding<'a>(
-    scope: &Scope<'_>,
+    scope: &Scope<'_, '_>,
     template: &'a str,
     site: &UseSite<'a>,
 ) -> Result<Option<Finding<'a>>, AllocError>
+    requires { HasFacts scope.now }
     ensures { IfOk result (λ o. option_map finding_view o
         ≡ in_scope broken.site_finding scope.now template.now (site_view site.now)) }
 {
@@ -146,10 +149,11 @@ fn site_finding<'a>(
 
 /// Returns the first finding at the uses of a template.
 pub(crate) fn uses_broken<'a>(
-    scope: &Scope<'_>,
+    scope: &Scope<'_, '_>,
     template: &'a str,
     uses: &[UseSite<'a>],
 ) -> Result<Option<Finding<'a>>, AllocError>
+    requires { HasFacts scope.now }
     ensures { IfOk result (λ o. option_map finding_view o
         ≡ in_scope broken.uses_broken scope.now template.now (sites_view uses.now)) }
 {

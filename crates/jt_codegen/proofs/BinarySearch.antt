@@ -1,6 +1,6 @@
 -- A binary search in a strictly ascending list of texts finds the number of texts before one.
 use Rattle.std.proofs.Common.{◌≡◌, ℕ, zero, suc, ◌<◌, ◌≤◌, Bool, false, if◌then◌else◌, List, [], ◌∷◌, length, get_or}
-use Rattle.std.proofs.Common.{refl, sym, ap, ◌∙◌, subst, arith, ⊎_elim}
+use Rattle.std.proofs.Common.{refl, sym, ap, ◌∙◌, subst, arith}
 use Rattle.std.specs.Prelude.{Result, Ok, Err}
 use Rattle.std.specs.Result.{result_unwrap_or}
 use Rattle.std.specs.Str.{bytes_eq}
@@ -100,8 +100,4 @@ searched t ks (Err i) h l s = none t ks (λ j d m. through j d m)
     parted = s (rises t ks h)
 
     through : (j : ℕ) (d : Bor Text) → j < length ks → bytes_eq (get_or ks j d).now t ≡ false
-    through j d m =
-        let greater = λ (a : i ≤ j). same_as (get_or ks j d).now t Greater (parted.1 j d a m) in
-        ⊎_elim (λ e. greater (omega (arith, e))) (λ o. ⊎_elim
-        (λ b. same_as (get_or ks j d).now t Less (parted.0 j d (omega arith) b)) (λ a. greater (omega (arith, a))) o)
-        (cases_order j i)
+    through j d m = grind (arith, same_as, get_or, parted, cases_order)

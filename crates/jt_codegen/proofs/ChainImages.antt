@@ -1,5 +1,5 @@
 -- A chain that breaks no rule has its image, and the claims of refusals hold.
-use Rattle.std.proofs.Common.{◌≡◌, ℕ, suc, ◌+◌, ◌*◌, ◌<◌, ◌≤◌, Bool, true, false, List, [], ◌∷◌, map, length, Some}
+use Rattle.std.proofs.Common.{◌≡◌, ℕ, ◌+◌, ◌*◌, ◌<◌, ◌≤◌, Bool, true, false, List, ◌∷◌, map, length}
 use Rattle.std.proofs.Common.{None, refl, sym, ap, ◌∙◌, subst, arith, rules}
 use Rattle.std.specs.Prelude.{IsTrue, Result, Ok, Err, IfOk}
 use Rattle.std.specs.List.{AllByRecursion}
@@ -39,7 +39,7 @@ use Rattle.jt_semantics.specs.Programs.{program, routines, count_globals}
 use Rattle.jt_eval.specs.TheFilters.{the_filters}
 use Rattle.jt_ir.specs.Size.{body_height}
 use Rattle.jt_ir.specs.Slots.{Routine, Program}
-use Rattle.jt_ir.specs.View.{routine_view, templates_of, program_of}
+use Rattle.jt_ir.specs.View.{routine_view, program_of}
 use Rattle.jt_ir.specs.declared.program.Program as given
 use Rattle.jt_ir.specs.declared.program.Routine as given_routine
 use Rattle.jt_lower.specs.Compiles.{LowLaws}
@@ -85,10 +85,7 @@ pub low_of : (q : given.Program) (rs : List given_routine.Routine) (b : Bool) �
     × (AllByRecursion (λ (r : Routine ℕ). body_height r.body ≤ max_entries) (map (routine_view templates) rs)
     → IsTrue b))
     → b ≡ true → Low (program_of q)
-low_of q rs b same counted e =
-    subst (λ (l : List given_routine.Routine).
-    AllByRecursion (λ (r : Routine ℕ). body_height r.body ≤ max_entries) (map (routine_view (templates_of q)) l)) same
-    ((counted (templates_of q)).0 e)
+low_of q rs b same counted e = search (arith, rules)
 
 pub high_of : (q : given.Program) (rs : List given_routine.Routine) (b : Bool) → rs ≡ q.routines.items
     → ((templates : List Text) → (IsTrue b
@@ -268,9 +265,7 @@ module _ (code : CodeLaws) (low : LowLaws) (programs : ProgramLaws) (given : Sou
   module _ (weighs : chains_weight (sources_of c) c.order ≤ chains_len given (sources_of c) c.order)
       (small : IsSmall given entry options) where
     weight : chains_weight (sources_of c) order ≤ 2000
-    weight =
-        subst (λ (o : List Namespace). chains_weight (sources_of c) o ≤ 2000) is.begins
-        (omega (arith, weighs, small.bytes c is))
+    weight = search (arith, rules)
 
     are_few : AreFew cenv order
     are_few = subst (AreFew cenv) is.begins (programs.few c is.order (small.names c is) kept)

@@ -43,9 +43,7 @@ passes_alone room f o h = h end ∙ ap (λ z. o && z) (zero_low room) ∙ and-tr
 -- The test decides a statement with this view.
 pub passes_one : (room : ℕ) (f : Front) (x : SlotStmt ℕ) (o : Bool)
     → ((behind : SBody ℕ) → f behind ≡ slots.stmt x behind) → o ≡ nat_le (stmt_height x) room → Passes room f o
-passes_one room f x o seen same behind =
-    ap (λ b. nat_le (body_height b) room) (seen behind) ∙ both_low (stmt_height x) (body_height behind) room
-    ∙ ap (λ z. z && nat_le (body_height behind) room) (sym same)
+passes_one room f x o seen same behind = search (arith, rules, both_low)
 
 module _ (room : ℕ) (templates : List Text) where
   -- ---- loops
@@ -56,11 +54,7 @@ module _ (room : ℕ) (templates : List Text) where
 
   loop_low : (x y z u v : ℕ) → 1 ≤ room → nat_le (max u (max (1 + max x (max y z)) v)) room
       ≡ (nat_le u room && ((nat_le x (room - 1) && (nat_le y (room - 1) && nat_le z (room - 1))) && nat_le v room))
-  loop_low x y z u v some =
-      both_low u (max (1 + max x (max y z)) v) room
-      ∙ ap (λ q. nat_le u room && q) (both_low (1 + max x (max y z)) v room
-      ∙ ap (λ q. q && nat_le v room) (raised (max x (max y z)) room some ∙ both_low x (max y z) (room - 1)
-      ∙ ap (λ q. nat_le x (room - 1) && q) (both_low y z (room - 1))))
+  loop_low x y z u v some = search (arith, rules, both_low, raised)
 
   pub for_passes : (s : given.SlotStmt) (p : Place) (xs : Targets) (e : SlotExpr) (c : Option SlotExpr)
       (body other : Vec given.SlotStmt Global) (body' other' : List given.SlotStmt) (h t w b o : Bool)
@@ -118,23 +112,12 @@ module _ (room : ℕ) (templates : List Text) where
   -- The height of a choice is within the limit if and only if its parts are.
   split : (c x l y : ℕ)
       → nat_le (max (max c (max x l)) y) room ≡ (nat_le c room && (nat_le x room && nat_le l room)) && nat_le y room
-  split c x l y =
-      both_low (max c (max x l)) y room
-      ∙ ap (λ z. z && nat_le y room) (both_low c (max x l) room ∙ ap (λ z. nat_le c room && z) (both_low x l room))
+  split c x l y = search (arith, rules, both_low)
 
   pub choice_passes : (bs : List SBranch) (other : Front) (o : Bool) → Passes room other o
       → Passes room (choice_view templates bs other) (branches_low bs && o)
   choice_passes [] other o h behind = h behind
-  choice_passes (b ∷ bs) other o h behind =
-      let c = expr_height (expr_view b.condition) in
-      let x = body_height (body_view templates b.body.items end) in
-      split c x (body_height (choice_view templates bs other end)) (body_height behind)
-      ∙ ap (λ z. (nat_le c room && (nat_le x room && z)) && nat_le (body_height behind) room)
-      (choice_passes bs other o h end)
-      ∙ ap
-      (λ z. (nat_le c room && (nat_le x room && ((branches_low bs && o) && z))) && nat_le (body_height behind) room)
-      (zero_low room)
-      ∙ all_of (nat_le c room) (nat_le x room) (branches_low bs) o (nat_le (body_height behind) room)
+  choice_passes (b ∷ bs) other o h behind = search (arith, rules, split, choice_passes bs other o h, zero_low, all_of)
 
   pub choice_high : (bs : List SBranch) (other : Front) (behind : SBody ℕ) → branches_low bs ≡ false
       → nat_le (body_height (choice_view templates bs other behind)) room ≡ false
@@ -164,27 +147,17 @@ module _ (room : ℕ) (templates : List Text) where
       → (nat_le (expr_height (expr_view b.condition)) room
       && nat_le (body_height (body_view templates b.body.items end)) room)
       ≡ (t && u)
-  branch_same b ss t u same e f =
-      ap (λ (l : List given.SlotStmt).
-      nat_le (expr_height (expr_view b.condition)) room && nat_le (body_height (body_view templates l end)) room)
-      (sym same)
-      ∙ ap (λ z. z && nat_le (body_height (body_view templates ss end)) room) (sym e)
-      ∙ ap (λ z. t && z) (passes_alone room (body_view templates ss) u f)
+  branch_same b ss t u same e f = search (arith, rules, passes_alone)
 
   pub branch_passed : (bs : List SBranch) (i : ℕ) (b : SBranch) (ss : List given.SlotStmt) (t u : Bool) → i < length bs
       → b ≡ get_or bs i b → ss ≡ b.body.items → t ≡ nat_le (expr_height (expr_view b.condition)) room
       → Passes room (body_view templates ss) u → t ≡ true → u ≡ true
       → branches_low (drop i bs) ≡ branches_low (drop (i + 1) bs)
-  branch_passed bs i b ss t u lt is same e f low too =
-      branches_next bs i b lt is
-      ∙ ap (λ z. z && branches_low (drop (i + 1) bs)) (branch_same b ss t u same e f ∙ ap (λ z. z && u) low ∙ too)
+  branch_passed bs i b ss t u lt is same e f low too = search (arith, rules, branches_next, branch_same)
 
   pub condition_high : (bs : List SBranch) (i : ℕ) (b : SBranch) (t : Bool) → i < length bs → b ≡ get_or bs i b
       → t ≡ nat_le (expr_height (expr_view b.condition)) room → t ≡ false → branches_low (drop i bs) ≡ false
-  condition_high bs i b t lt is e high =
-      branches_next bs i b lt is ∙ ap
-      (λ z. (z && nat_le (body_height (body_view templates b.body.items end)) room) && branches_low (drop (i + 1) bs))
-      (sym e ∙ high)
+  condition_high bs i b t lt is e high = search (arith, rules, branches_next)
 
   pub inside_high : (bs : List SBranch) (i : ℕ) (b : SBranch) (ss : List given.SlotStmt) (t u : Bool) → i < length bs
       → b ≡ get_or bs i b → ss ≡ b.body.items → t ≡ nat_le (expr_height (expr_view b.condition)) room
@@ -240,14 +213,7 @@ module _ (room : ℕ) (templates : List Text) where
   pub low_not : (rs : List given_routine.Routine) (i : ℕ) (r : given_routine.Routine) (ss : List given.SlotStmt)
       → i < length rs → r ≡ get_or rs i r → ss ≡ r.body.items → Passes room (body_view templates ss) false
       → SameLow rs (drop i rs) → ¬ (RoutinesLow rs)
-  low_not rs i r ss lt is same passes s = λ h.
-      let left : drop i rs ≡ r ∷ drop (i + 1) rs = drop_more rs i r lt ∙ ap (λ y. y ∷ drop (i + 1) rs) (sym is) in
-      let high : nat_le (body_height (body_view templates r.body.items end)) room ≡ false = ap
-      (λ (l : List given.SlotStmt). nat_le (body_height (body_view templates l end)) room) (sym same)
-      ∙ passes_alone room (body_view templates ss) false passes in
-      let within : body_height (body_view templates r.body.items end) ≤ room =
-      (subst RoutinesLow left (s.left_low h)).0 in
-      grind (arith, nat_tests)
+  low_not rs i r ss lt is same passes s = search (arith, rules, drop_more, passes_alone, nat_tests)
 
   pub low_all : (rs : List given_routine.Routine) (i : ℕ) → length rs ≤ i → SameLow rs (drop i rs) → RoutinesLow rs
   low_all rs i le s = s.all_low (subst RoutinesLow (sym (at_drop_all (λ l. l) rs i le)) tt)

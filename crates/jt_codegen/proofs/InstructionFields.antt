@@ -1,6 +1,6 @@
 -- The fields of emitted instructions are those of the code, and emitted units have their places.
 use Rattle.std.proofs.Common.{◌≡◌, ℕ, ◌<◌, ◌≤◌, true, false, List, [], ◌∷◌, ◌++◌, length, map, Option, None, Some, refl}
-use Rattle.std.proofs.Common.{sym, ap, ◌∙◌, subst, arith, rules}
+use Rattle.std.proofs.Common.{ap, ◌∙◌, arith, rules}
 use Rattle.std.specs.Prelude.{option_map}
 use Rattle.std.specs.List.{AllByRecursion}
 use Rattle.jt_image.specs.declared.instruction.Instruction.{Instruction}
@@ -9,7 +9,7 @@ use Rattle.jt_image.specs.declared.wire.Instr.{Instr}
 use Rattle.jt_image.specs.IsCode.{IsInstruction}
 use Rattle.jt_image.specs.Spelling.{wire_of}
 use Rattle.jt_image.specs.Reading.{instruction_of}
-use Rattle.jt_image.specs.Parts.{in_front, each_of, section_of_unit}
+use Rattle.jt_image.specs.Parts.{each_of, section_of_unit}
 use Rattle.jt_ast.specs.Expressions.{Text}
 use Rattle.jt_ir.specs.Slots.{end}
 use Rattle.jt_ir.specs.View.{body_view, routine_view}
@@ -17,7 +17,7 @@ use Rattle.jt_ir.specs.declared.program.Routine.{Routine}
 use Rattle.jt_ir.specs.declared.program.Place.{Place}
 use Rattle.jt_lower.specs.Asm.{Asm, one, both, flat, places}
 use Rattle.jt_lower.specs.Lower.{body_asm, routine_places, unit_of}
-use Rattle.jt_lower.specs.Emission.{places_view, HasPlace, Puts}
+use Rattle.jt_lower.specs.Emission.{places_view, Puts}
 use Rattle.jt_lower.specs.declared.emitter.Emitter.{Emitter}
 use Rattle.jt_codegen.specs.internal.Statements.{Emits}
 use Rattle.jt_lower.proofs.JumpPatching.{puts_then}
@@ -30,9 +30,7 @@ read_wire i = search (arith, rules)
 
 pub read_wires : (is : List Instruction) → each_of instruction_of (map wire_of is) ≡ Some is
 read_wires [] = refl
-read_wires (i ∷ is) =
-    ap (λ o. in_front o (each_of instruction_of (map wire_of is))) (read_wire i)
-    ∙ ap (in_front (Some i)) (read_wires is)
+read_wires (i ∷ is) = search (arith, rules, read_wire, read_wires is)
 
 module _ (templates : List Text) (r : Routine) (c0 c1 c2 : Emitter) (empty : c0.code.items ≡ [])
     (whole : c0.overflowed ≡ false) (body : Emits templates 0 c0 (body_view templates r.body.items) c1)
@@ -44,9 +42,7 @@ module _ (templates : List Text) (r : Routine) (c0 c1 c2 : Emitter) (empty : c0.
   all = both statements (one None op.Return)
 
   puts : Puts templates c0 all c2
-  puts =
-      puts_then templates c0 c1 c2 statements (one None op.Return)
-      (emits_alone templates 0 c0 c1 (body_view templates r.body.items) body) last
+  puts = search (arith, rules, puts_then, emits_alone)
 
   pub unit_emitted : (parameters locals : ℕ) → parameters ≡ r.parameters → locals ≡ r.locals → c2.overflowed ≡ false
       → section_of_unit (record { parameters = parameters; kind = 0; locals = locals; code = c2.code })
@@ -72,11 +68,4 @@ module _ (templates : List Text) (r : Routine) (c0 c1 c2 : Emitter) (empty : c0.
   pub unit_refused : (left : ℕ) → c0.limit ≡ left → c2.overflowed ≡ true
       → AllByRecursion IsInstruction (unit_of (routine_view templates r)).code
       → left < length (unit_of (routine_view templates r)).code
-  unit_refused left limited over fields =
-      not_within (length (unit_of (routine_view templates r)).code) left (λ len.
-      let place : HasPlace left 0 all = record { len = omega (arith, len); fields = fields } in
-      let placed : HasPlace c0.limit 0 all = subst (λ (n : ℕ). HasPlace n 0 all) (sym limited) place in
-      let none : c2.overflowed ≡ false =
-      puts.place (subst (λ (l : List Instr). HasPlace c0.limit (length l) all) (sym empty) placed) whole in
-      let both_ways : true ≡ false = sym over ∙ none in
-      cc)
+  unit_refused left limited over fields = search (arith, rules, not_within, puts)

@@ -1,7 +1,6 @@
 -- If no filter and no test has an unknown name, the tests and filters of chains are known.
 use Rattle.std.proofs.Common.{◌≡◌, ℕ, Bool, true, false, ◌||◌, List, [], ◌∷◌, Option, Some, None, refl, arith, rules}
-use Rattle.std.specs.Prelude.{not, option_map, codes}
-use Rattle.std.specs.Str.{bytes_eq}
+use Rattle.std.specs.Prelude.{not, option_map}
 use Rattle.std.proofs.lemmas.Bool.{not-false, or_parts}
 use Rattle.std.specs.Option.{is_some, option_or}
 use Rattle.std.specs.List.{AllByRecursion}
@@ -10,7 +9,7 @@ use Rattle.jt_expr.specs.declared.named.Named.{Named}
 use Rattle.jt_expr.specs.declared.named.Named.TheVariants as n
 use Rattle.jt_image.proofs.ReadPrefix.{all_weaker}
 use Rattle.jt_ast.specs.Written.{only_name, filter_written}
-use Rattle.jt_expr.specs.Named.{is_test, is_filter, inside_unknown, filter_unknown, unknown_test, has_unknown}
+use Rattle.jt_expr.specs.Named.{is_test, is_filter, filter_unknown, unknown_test, has_unknown}
 use Rattle.jt_expr.specs.Named.{exprs_have_unknown, pairs_have_unknown}
 use Rattle.jt_ids.specs.FilterTable.{filter_id, filter_of_name, with_only}
 use Rattle.jt_ids.specs.declared.filter_id.FilterId.{FilterId}
@@ -18,7 +17,7 @@ use Rattle.jt_ids.specs.declared.filter_id.FilterId.TheVariants as which
 use Rattle.jt_ast.specs.Expressions as written
 use Rattle.jt_ast.specs.Expressions.{Expr, constant, name, group, list_of, map_of, attribute, item, filter, test, unary}
 use Rattle.jt_ast.specs.Expressions.{binary, when, choice, Exprs, no_exprs, expr, Pairs, no_pairs, pair, Text}
-use Rattle.jt_parse.specs.Names.{blamed, unknown_in, condition_unknown, filter_call_unknown, filter_calls_unknown}
+use Rattle.jt_parse.specs.Names.{blamed, unknown_in, condition_unknown, filter_calls_unknown}
 use Rattle.jt_parse.specs.Names.{stmt_unknown, body_unknown, branch_unknown}
 use Rattle.jt_ast.specs.Statements.{FilterCall, Stmt, print, choose, for_each, set, set_block, with_values}
 use Rattle.jt_ast.specs.Statements.{filter_block, autoescape, macro, block, Body, end, stmt, Branches, no_branches}
@@ -48,9 +47,7 @@ there_with_only : (o : Option FilterId) (only : Option Text) → IsThere o
     → IsThere (option_map filter_id (with_only o only))
 there_with_only None only h = h
 there_with_only (Some which.Map) None h = tt
-there_with_only (Some which.Map) (Some x) h =
-    either_of (λ (o : Option FilterId). IsThere (option_map filter_id o)) (bytes_eq x (codes "attribute"))
-    (Some which.MapAttribute) (Some which.Map) tt tt
+there_with_only (Some which.Map) (Some x) h = search (arith, rules, either_of)
 there_with_only (Some g) only h = tt
 
 -- The name of a filter denotes a filter, with any arguments.
@@ -92,9 +89,7 @@ in_filter x ts ps u = filter_unknown u x ts ps
 filter_found : (x : Text) (ts : Exprs) (ps : Pairs) → filter_unknown n.Filter x ts ps ≡ false
     → IsThere (the_filters.named x ts ps)
 unfolding filter_unknown
-filter_found x ts ps h =
-    filter_there x ts ps
-    (not-false (is_filter x) (or_parts (not (is_filter x)) (inside_unknown n.Filter (filter_written x ts ps) ts) h).0)
+filter_found x ts ps h = search (arith, rules, filter_there, not-false, or_parts)
 
 mutual
   expr_known : (e : Expr) → Clean (in_expr e) → ExprKnown the_filters e
@@ -104,17 +99,9 @@ mutual
   expr_known (attribute a k) h = expr_known a h
   expr_known (item a b) h =
       (expr_known a (left (in_expr a) (in_expr b) h), expr_known b (right (in_expr a) (in_expr b) h))
-  expr_known (written.call a ts ps) h =
-      let g = right (in_expr a) (in_given ts ps) h in
-      (row_known ts (left (in_row ts) (in_pairs ps) g), pairs_known ps (right (in_row ts) (in_pairs ps) g))
+  expr_known (written.call a ts ps) h = search (arith, rules, right, row_known ts, left, pairs_known ps)
   expr_known (filter a x ts ps) h =
-      let inside = right (in_filter x ts ps) (in_applied a ts ps) h in
-      let g = right (in_expr a) (in_given ts ps) inside in (
-        filter_found x ts ps (left (in_filter x ts ps) (in_applied a ts ps) h n.Filter),
-        expr_known a (left (in_expr a) (in_given ts ps) inside),
-        row_known ts (left (in_row ts) (in_pairs ps) g),
-        pairs_known ps (right (in_row ts) (in_pairs ps) g),
-      )
+      search (arith, rules, right, filter_found, left, expr_known a, row_known ts, pairs_known ps)
   expr_known (test a b x ts ps) h =
       let inside = right (λ u. unknown_test u x) (in_applied a ts ps) h in
       let g = right (in_expr a) (in_given ts ps) inside in (
@@ -128,13 +115,7 @@ mutual
       (expr_known a (left (in_expr a) (in_expr b) h), expr_known b (right (in_expr a) (in_expr b) h))
   expr_known (when c a) h =
       (expr_known c (left (in_expr c) (in_expr a) h), expr_known a (right (in_expr c) (in_expr a) h))
-  expr_known (choice c a b) h =
-      let both = λ (u : Named). in_expr a u || in_expr b u in
-      let g = right (in_expr c) both h in (
-        expr_known c (left (in_expr c) both h),
-        expr_known a (left (in_expr a) (in_expr b) g),
-        expr_known b (right (in_expr a) (in_expr b) g),
-      )
+  expr_known (choice c a b) h = search (arith, rules, right, expr_known c, left, expr_known a, expr_known b)
   expr_known e h = tt
 
   row_known : (ts : Exprs) → Clean (in_row ts) → RowKnown the_filters ts
@@ -177,22 +158,12 @@ in_filter_calls gs u = filter_calls_unknown u gs
 filter_calls_known : (gs : List FilterCall) → Clean (in_filter_calls gs) → FilterCallKnown the_filters gs
 filter_calls_known [] h = tt
 filter_calls_known (g ∷ gs) h =
-    let name = in_filter g.name g.arguments g.keywords in
-    let here = left (λ u. filter_call_unknown u g) (in_filter_calls gs) h in
-    let inside = right name (in_given g.arguments g.keywords) here in (
-      filter_found g.name g.arguments g.keywords (left name (in_given g.arguments g.keywords) here n.Filter),
-      row_known g.arguments (left (in_row g.arguments) (in_pairs g.keywords) inside),
-      pairs_known g.keywords (right (in_row g.arguments) (in_pairs g.keywords) inside),
-      filter_calls_known gs (right (λ u. filter_call_unknown u g) (in_filter_calls gs) h),
-    )
+    search (arith, rules, left, right, filter_found, row_known, pairs_known, filter_calls_known gs)
 
 mutual
   stmt_known : (s : Stmt) → stmt_unknown s ≡ None → StmtKnown the_filters s
   stmt_known (print line e) h = expr_known e (clean_in line (in_expr e) h)
-  stmt_known (choose bs other) h = (
-    branches_known bs (none_first (branch_unknown bs) (body_unknown other) h),
-    body_known other (none_second (branch_unknown bs) (body_unknown other) h),
-  )
+  stmt_known (choose bs other) h = search (arith, rules, branches_known bs, none_first, body_known other, none_second)
   stmt_known (for_each line xs e c body other) h =
       let head = λ (u : Named). in_expr e u || in_condition c u in
       let clean =
@@ -206,15 +177,9 @@ mutual
   stmt_known (set line xs e) h = expr_known e (clean_in line (in_expr e) h)
   stmt_known (set_block line x body) h = body_known body h
   stmt_known (with_values line ps body) h =
-      let here = unknown_in line (in_pairs ps) in (
-        pairs_known ps (clean_in line (in_pairs ps) (none_first here (body_unknown body) h)),
-        body_known body (none_second here (body_unknown body) h),
-      )
+      search (arith, rules, pairs_known, clean_in, none_first, body_known body, none_second)
   stmt_known (filter_block line gs body) h =
-      let here = unknown_in line (in_filter_calls gs) in (
-        filter_calls_known gs (clean_in line (in_filter_calls gs) (none_first here (body_unknown body) h)),
-        body_known body (none_second here (body_unknown body) h),
-      )
+      search (arith, rules, filter_calls_known, clean_in, none_first, body_known body, none_second)
   stmt_known (autoescape line on body) h = body_known body h
   stmt_known (macro line x ps body) h = body_known body h
   stmt_known (block line x scoped required body) h = body_known body h
@@ -222,20 +187,12 @@ mutual
 
   body_known : (b : Body) → body_unknown b ≡ None → BodyKnown the_filters b
   body_known end h = tt
-  body_known (stmt s rest) h = (
-    stmt_known s (none_first (stmt_unknown s) (body_unknown rest) h),
-    body_known rest (none_second (stmt_unknown s) (body_unknown rest) h),
-  )
+  body_known (stmt s rest) h = search (arith, rules, stmt_known s, none_first, body_known rest, none_second)
 
   branches_known : (bs : Branches) → branch_unknown bs ≡ None → BranchesKnown the_filters bs
   branches_known no_branches h = tt
   branches_known (branch line c body rest) h =
-      let here = unknown_in line (in_expr c) in
-      let front = none_first (option_or here (body_unknown body)) (branch_unknown rest) h in (
-        expr_known c (clean_in line (in_expr c) (none_first here (body_unknown body) front)),
-        body_known body (none_second here (body_unknown body) front),
-        branches_known rest (none_second (option_or here (body_unknown body)) (branch_unknown rest) h),
-      )
+      search (arith, rules, none_first, expr_known, clean_in, body_known body, none_second, branches_known rest)
 
 -- ---- chains
 

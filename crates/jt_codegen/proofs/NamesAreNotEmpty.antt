@@ -1,6 +1,6 @@
 -- No name that a tree reads or binds is empty, since a source spells no empty name. The lines of
 -- its tags are lines of its source, which has at most 1,048,576 line ends.
-use Rattle.std.proofs.Common.{ℕ, zero, suc, ◌+◌, ◌-◌, ◌*◌, ◌<◌, ◌≤◌, ap, List, [], ◌∷◌, ◌++◌, length, map, codes}
+use Rattle.std.proofs.Common.{ℕ, zero, suc, ◌+◌, ◌-◌, ◌*◌, ◌<◌, ◌≤◌, List, [], ◌∷◌, ◌++◌, length, map, codes}
 use Rattle.std.proofs.Common.{encode_utf8_all, Option, Some, None, arith, rules}
 use Rattle.std.specs.Str.{chars, chars_after, continuation_len, lead_bits}
 use Rattle.std.specs.List.{AllByRecursion}
@@ -12,7 +12,6 @@ use Rattle.jt_scan.specs.declared.segment.Sign.{Sign}
 use Rattle.jt_scan.specs.declared.segment.Sign.TheVariants as s
 use Rattle.jt_scan.specs.Cut as cut
 use Rattle.jt_scan.specs.Cut.{Token, Segment, Inside, IsSegment, Cuts, lines}
-use Rattle.jt_scan.specs.LineEnds.{normalized}
 use Rattle.jt_scan.specs.SourceView.{max_source_len}
 use Rattle.jt_scan.proofs.CutLaws.{segment_found}
 use Rattle.jt_scan.proofs.EndsLaws.{never_longer}
@@ -88,9 +87,7 @@ segment_tag : {n : ℕ} {s : Segment} {x rest : List ℕ} → IsSegment n s x re
 segment_tag x1 l = search (arith, rules, inside_words)
 
 fewer_lines : {n : ℕ} {s : Segment} {x rest : List ℕ} → IsSegment n s x rest → lines rest ≤ lines x
-fewer_lines {n} {s} {x} {rest} p =
-    let e = ends_with n s x rest (omega (arith, (shrinks p).0)) (segment_found p) in
-    omega (arith, ap lines e.1, lines-append e.0 rest)
+fewer_lines {n} {s} {x} {rest} p = search (arith, rules, ends_with, shrinks, segment_found, lines-append)
 
 cut_tags : {source : List ℕ} {Ends : List ℕ → Type 0} {ss : List Segment} {x : List ℕ} → Cuts source Ends ss x
     → lines x ≤ lines source → lines source ≤ max_source_len → AllByRecursion HasTag ss
@@ -111,14 +108,7 @@ chars_short (b ∷ bs) = omega (arith, after_short (continuation_len b) (lead_bi
 
 few_in : (options : Options) (source : List ℕ) → length source ≤ max_source_len
     → lines (scanned options source) ≤ max_source_len
-few_in options source le =
-    omega (
-      arith,
-      le,
-      few_lines (scanned options source),
-      chars_short (normalized options.keep_trailing_newline source),
-      never_longer options.keep_trailing_newline source,
-    )
+few_in options source le = search (arith, rules, few_lines, chars_short, never_longer)
 
 text_pieces : (x : List ℕ) (ps : List SourcePiece) → ArePieces ps → ArePieces (with_text x ps)
 text_pieces [] ps h = h
@@ -434,6 +424,4 @@ mutual
 
 pub tree_said : (options : Options) (source : List ℕ) (b : Body) → IsTree options source b
     → BodyLines IsLine b × AreNamed (body_names b)
-tree_said options source b t =
-    forms_said t.spelled.0
-    (pieces_tags options kept.nothing t.segments (cut_tags t.cut (omega arith) (few_in options source t.limited)))
+tree_said options source b t = search (arith, rules, forms_said, pieces_tags, cut_tags, few_in)

@@ -19,6 +19,4 @@ unit_locals (r ∷ rs) h = (h.0, unit_locals rs h.1)
 -- each instruction fit their fields, whatever the bytes and the templates of its image are.
 pub units_written : (p : Program) → ProgramFits p → length p.pool ≤ 2 ^ 32 → FitsTables p
     → total_len (map unit_of p.routines) ≤ max_instructions → AreEncodable (map unit_of p.routines)
-units_written p fit pool tables len =
-    routines_written p pool (omega (arith, tables.globals)) (omega (arith, tables.units)) p.routines fit.routines
-    (unit_locals p.routines tables.locals) len
+units_written p fit pool tables len = grind (arith, routines_written, unit_locals)

@@ -57,9 +57,7 @@ all_at P xs n x all e =
 
 none_above : {A : Type 0} (number : A → ℕ) (most : ℕ) (xs : List A) → HasAbove number most xs
     → ¬ (AllByRecursion (λ x. number x ≤ most) xs)
-none_above number most xs h = λ all.
-    let within : number h.item ≤ most = all_at (λ x. number x ≤ most) xs h.index h.item all h.is in
-    absurd (omega (arith, h.above, within))
+none_above number most xs h = grind (arith, all_at)
 
 -- ---- names and units
 

@@ -8,7 +8,6 @@ use Rattle.std.proofs.lemmas.Slice.Eq.{bytes_eq-Decides}
 use Rattle.jt_value.specs.Place as place
 use Rattle.jt_ast.specs.Expressions.{Text}
 use Rattle.jt_ast.specs.Texts.{all_inserted, inserted}
-use Rattle.jt_image.specs.Code.{SourceLoc}
 use Rattle.jt_image.specs.View.{loc_view, locs_view}
 use Rattle.jt_image.specs.declared.parts.SourceLoc as given
 use Rattle.jt_ir.specs.declared.program.Place.{Place}
@@ -69,14 +68,4 @@ pub told_more : (ts ns : List Text) (ps : List (Option Place)) (i : ℕ) (d o : 
     (ss ss' : List given.SourceLoc) (s : given.SourceLoc)
     → i < length ps → get_or ps i d ≡ o → loc_view s ≡ loc_of ns (tag_view ts o) → ss' ≡ ss ++ s ∷ []
     → Told ts ns ps i ss → Told ts ns ps (i + 1) ss'
-told_more ts ns ps i d o ss ss' s lt is e more h =
-    let left = place_left ps i d o lt is in
-    let rest = map (loc_of ns) (places_view ts (drop (i + 1) ps)) in (
-      ap (λ l. locs_view l ++ rest) more
-          ∙ ap (λ l. l ++ rest) (map-append loc_view ss (s ∷ []))
-          ∙ append_assoc (locs_view ss) (loc_view s ∷ []) rest
-          ∙ ap (λ (z : SourceLoc). locs_view ss ++ z ∷ rest) e
-          ∙ ap (λ l. locs_view ss ++ map (loc_of ns) (places_view ts l)) (sym left)
-          ∙ h.0,
-      (subst (λ l. AllByRecursion (IsNamed ns) (places_view ts l)) left h.1).1,
-    )
+told_more ts ns ps i d o ss ss' s lt is e more h = search (arith, rules, place_left, map-append, append_assoc)

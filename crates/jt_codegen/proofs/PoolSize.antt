@@ -5,10 +5,7 @@ use Rattle.std.proofs.Common.{length-append}
 use Rattle.std.specs.Prelude.{flat_map}
 use Rattle.std.proofs.lemmas.List.{length-map}
 use Rattle.std.proofs.lemmas.List.Concat.{flat_map-cons}
-use Rattle.jt_value.specs.Tree.{Tree}
-use Rattle.jt_ast.specs.Statements.{Parameter}
 use Rattle.jt_chains.specs.Chain.{Namespace, MacroBody, macros}
-use Rattle.jt_eval.specs.Filters.{default_value}
 use Rattle.jt_rules.specs.CompileEnv.{CompileEnv}
 use Rattle.jt_semantics.specs.Layout.{defaults_of, numbered_bodies, shared}
 use Rattle.jt_semantics.specs.Programs.{program, body_routines, entry_routines, chain_routines, routines}
@@ -38,15 +35,7 @@ mutual
       omega (arith, length-append (expr_values a) (expr_values b), expr_few a, expr_few b)
   expr_few (slots.disjunction a b) =
       omega (arith, length-append (expr_values a) (expr_values b), expr_few a, expr_few b)
-  expr_few (slots.choice c a b) =
-      omega (
-        arith,
-        length-append (expr_values c) (expr_values a ++ expr_values b),
-        length-append (expr_values a) (expr_values b),
-        expr_few c,
-        expr_few a,
-        expr_few b,
-      )
+  expr_few (slots.choice c a b) = grind (arith, length-append, expr_few c, expr_few a, expr_few b)
   expr_few (slots.invoke u escaping es) = omega (arith, row_few es)
   expr_few e = omega arith
 
@@ -64,15 +53,7 @@ mutual
   stmt_few (slots.put_pooled k) = constant_few k
   stmt_few (slots.print p escaping e) = omega (arith, expr_few e)
   stmt_few (slots.assign p xs e) = omega (arith, expr_few e)
-  stmt_few (slots.if_else p c a b) =
-      omega (
-        arith,
-        length-append (expr_values c) (body_values a ++ body_values b),
-        length-append (body_values a) (body_values b),
-        expr_few c,
-        body_few a,
-        body_few b,
-      )
+  stmt_few (slots.if_else p c a b) = grind (arith, length-append, expr_few, body_few a, body_few b)
   stmt_few (slots.for_each p xs e c body other) =
       let inner = body_values body ++ body_values other in
       omega (
@@ -117,17 +98,7 @@ module _ (cenv : CompileEnv) (order : List Namespace) where
   macros_few : (h : Namespace) (ms : List MacroBody)
       → length (defaults_of ms) ≤ parameters_of (map (macro_routine cenv order h) ms)
   macros_few h [] = omega arith
-  macros_few h (m ∷ ms) =
-      let first : List Tree = map (λ (p : Parameter). default_value p.default) m.parameters in
-      omega (
-        arith,
-        ap length
-            (flat_map-cons (λ (x : MacroBody). map (λ (p : Parameter). default_value p.default) x.parameters) m ms),
-        length-append first (defaults_of ms),
-        length-map m.parameters (λ (p : Parameter). default_value p.default),
-        length-map m.parameters (λ (p : Parameter). p.name),
-        macros_few h ms,
-      )
+  macros_few h (m ∷ ms) = grind (arith, flat_map-cons, length-append, length-map, macros_few h ms)
 
   namespaces_few : (hs : List Namespace) → length (flat_map (λ (h : Namespace). defaults_of (macros cenv.sources h)) hs)
       ≤ parameters_of (flat_map (chain_routines cenv order) hs)

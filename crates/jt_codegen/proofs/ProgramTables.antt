@@ -27,7 +27,7 @@ use Rattle.jt_ir.specs.declared.program.Routine.{Routine}
 use Rattle.jt_ir.specs.declared.program.Program.{Program}
 use Rattle.jt_value.specs.Place as place
 use Rattle.jt_ir.specs.declared.program.Place.{Place}
-use Rattle.jt_lower.specs.Emission.{tag_view, places_view}
+use Rattle.jt_lower.specs.Emission.{places_view}
 use Rattle.jt_lower.specs.Fits.{ProgramFits}
 use Rattle.jt_lower.specs.Lower.{unit_of, numbered, routine_places, compiled}
 use Rattle.jt_codegen.specs.Passed.{RefusesImage}
@@ -67,9 +67,7 @@ section_len u s e = through (each_of instruction_of u.code.items) refl e
     through : (o : Option (List Instruction)) → each_of instruction_of u.code.items ≡ o
         → option_map with_code o ≡ Some s → length u.code.items ≡ length s.code
     through None q f = absurd (let same : None ≡ Some s = f in cc)
-    through (Some is) q f =
-        sym (each_len instruction_of (λ i. i) u.code.items is q)
-        ∙ ap (λ (t : Section). length t.code) (same_Some (with_code is) s f)
+    through (Some is) q f = search (arith, rules, each_len, same_Some, with_code)
 
 module _ (templates : List Text) where
   abbrev pub unit : Routine → Section
@@ -142,14 +140,7 @@ module _ (templates : List Text) where
       → r ≡ get_or rs i r → tags qs ≡ routine_places (routine_view templates r)
       → tags ps ++ all_places (drop i rs) ≡ all_places rs
       → tags (ps ++ qs) ++ all_places (drop (i + 1) rs) ≡ all_places rs
-  places_more ps qs rs i r lt is e so_far =
-      let rest = drop (i + 1) rs in
-      let left : drop i rs ≡ r ∷ rest = drop_more rs i r lt ∙ ap (λ y. y ∷ rest) (sym is) in
-      ap (λ l. l ++ all_places rest) (map-append (tag_view templates) ps qs)
-      ∙ append_assoc (tags ps) (tags qs) (all_places rest)
-      ∙ ap (λ l. tags ps ++ (l ++ all_places rest)) e
-      ∙ ap (λ l. tags ps ++ all_places l) (sym left)
-      ∙ so_far
+  places_more ps qs rs i r lt is e so_far = search (arith, rules, drop_more, map-append, append_assoc)
 
   pub places_all : (ps : List (Option Place)) (rs : List Routine) (i : ℕ) → length rs ≤ i
       → tags ps ++ all_places (drop i rs) ≡ all_places rs → tags ps ≡ all_places rs
@@ -232,9 +223,7 @@ same_code : (parts : Parts) (us : List Section) (k : Code) → parts.version ≡
     → names_view parts.names.items ≡ k.names → constants_view parts.constants.items ≡ k.constants → us ≡ k.units
     → texts_view parts.templates.items ≡ k.templates → locs_view parts.places.items ≡ k.places
     → code_with parts us ≡ k
-same_code parts us k v g n c u t s =
-    λ j.
-    record { version = v j; globals = g j; names = n j; constants = c j; units = u j; templates = t j; places = s j }
+same_code parts us k v g n c u t s = search (arith, rules)
 
 pub parts_are : (p : Program) (parts : Parts) (before : List given.Unit) (places : List ℕ)
     → each_of section_of_unit before ≡ Some (units (templates_of p) p.routines.items)

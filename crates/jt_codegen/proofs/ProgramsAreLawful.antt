@@ -9,16 +9,13 @@ use Rattle.std.specs.Prelude as prelude
 use Rattle.std.specs.Prelude.{map, flat_map, ◌||◌}
 use Rattle.std.proofs.lemmas.List.{length-map}
 use Rattle.std.proofs.lemmas.Bool.{or_right}
-use Rattle.jt_value.specs.Tree as tree
 use Rattle.jt_value.specs.Tree.{Tree}
-use Rattle.jt_ids.specs.declared.op_id.OpId.TheVariants as op
 use Rattle.jt_ids.specs.declared.test_id.TestId.{TestId}
 use Rattle.jt_ast.specs.Expressions.{Expr, Literal, constant, name, group, list_of, map_of, attribute, item, call}
 use Rattle.jt_ast.specs.Expressions.{filter, test, unary, binary, when, choice, Exprs, no_exprs, expr, Pairs, no_pairs}
 use Rattle.jt_ast.specs.Expressions.{pair, Text}
-use Rattle.jt_semantics.specs.Operators.{OperatorForm, form}
+use Rattle.jt_semantics.specs.Operators.{OperatorForm}
 use Rattle.jt_value.specs.Place.{Place}
-use Rattle.jt_eval.specs.Tests.{test_named}
 use Rattle.jt_eval.specs.Values.{literal}
 use Rattle.jt_chains.specs.Uses.{count, keywords, set_in, own_names}
 use Rattle.jt_chains.specs.Includes.{included, InOrder}
@@ -26,15 +23,14 @@ use Rattle.jt_ast.specs.Statements.{Parameter, FilterCall, Stmt, data_of, print,
 use Rattle.jt_ast.specs.Statements.{with_values, filter_block, autoescape, include, block, Body, end, stmt, Branches}
 use Rattle.jt_ast.specs.Statements.{no_branches, branch}
 use Rattle.jt_chains.specs.Chain.{Namespace, a_chain, a_library, same_namespace, listed, Template, templates, BlockBody}
-use Rattle.jt_chains.specs.Chain.{MacroBody, macros, macro_of, given, Callee, a_macro, callee, is_loop}
+use Rattle.jt_chains.specs.Chain.{MacroBody, macros, macro_of, given, Callee, a_macro, callee}
 use Rattle.jt_ids.specs.declared.loop_field.LoopField.{LoopField}
-use Rattle.jt_ids.specs.LoopTable.{field_named}
-use Rattle.jt_eval.specs.Filters.{default_value, some_given}
+use Rattle.jt_eval.specs.Filters.{default_value}
 use Rattle.jt_ast.specs.Texts.{among, ascending}
 use Rattle.jt_rules.specs.CompileEnv.{CompileEnv}
 use Rattle.jt_semantics.specs.Expressions.{filter_parameters}
 use Rattle.jt_semantics.specs.Layout.{Table, slot_in, globals_from, in_globals, defaults_of, first_default, names_in}
-use Rattle.jt_semantics.specs.Layout.{names, first_in, numbered_bodies, numbered_of, globals, block_parameters, shared}
+use Rattle.jt_semantics.specs.Layout.{names, first_in, numbered_bodies, globals, block_parameters, shared}
 use Rattle.jt_semantics.specs.Layout.{default_in, default_index, first_slot, unit, of_chain}
 use Rattle.jt_semantics.specs.Meaning.{is_set}
 use Rattle.jt_semantics.specs.Programs.{body_routines, entry_routines, chain_routines, routines, count_globals, program}
@@ -42,11 +38,11 @@ use Rattle.jt_ir.specs.Slots as slots
 use Rattle.jt_ir.specs.Slots.{Slot, local, SlotExpr, SRow, SBody, variable, run, Routine}
 use Rattle.jt_ir.specs.Takes.{BodyTakes}
 use Rattle.jt_eval.specs.TheFilters.{the_filters}
-use Rattle.jt_ir.specs.Pool.{Constant, own, known}
+use Rattle.jt_ir.specs.Pool.{Constant, known}
 use Rattle.jt_semantics.specs.Resolve.{value_or, read_from, turned_round, tested_by, filtered_by, in_form, field_from}
 use Rattle.jt_semantics.specs.Resolve.{followed, locals_from, fresh, fresh_targets, kept_slots, slot_of, set_targets}
 use Rattle.jt_semantics.specs.Resolve.{filled, filled_some, first_locals, reads, handed_on, Part, StaticEnv, place}
-use Rattle.jt_semantics.specs.Resolve.{left_out, grown, bound_table, bound_all, copied, scoped, next_given, first_body}
+use Rattle.jt_semantics.specs.Resolve.{left_out, grown, bound_table, bound_all, copied, scoped}
 use Rattle.jt_semantics.specs.Resolve.{invoked_body, invoked_super, invoked, resolved, resolved_row, resolved_asides}
 use Rattle.jt_semantics.specs.Resolve.{resolved_entries, resolved_condition, resolved_filters, resolved_values}
 use Rattle.jt_semantics.specs.Resolve.{placed_body, resolved_stmt, resolved_body, resolved_choice, top_senv}
@@ -136,20 +132,13 @@ module _ (front globals_count : ℕ) (some : 0 < front) where
   filled_fine : (ps : List Parameter) (m d : ℕ) (ks : Table) → d + length ps ≤ front → Fine ks → R (filled ps m d ks)
   filled_fine [] m d ks l h = tt
   filled_fine (p ∷ ps) (suc m) d ks l h = filled_fine ps m (suc d) ks (omega (arith, l)) h
-  filled_fine (p ∷ ps) zero d ks l h = (
-    value_fine (slot_in p.name ks) (known d) (slot_fine ks p.name h) (let lt : d < front = omega (arith, l) in lt),
-    filled_fine ps zero (suc d) ks (omega (arith, l)) h,
-  )
+  filled_fine (p ∷ ps) zero d ks l h = search (arith, rules, value_fine, slot_fine, filled_fine ps zero)
 
   some_fine : (ps : List Parameter) (m : ℕ) (xs : List Text) (ks : Table) → Fine ks → R (filled_some ps m xs ks)
   some_fine [] m xs ks h = tt
   some_fine (p ∷ ps) (suc m) xs ks h = some_fine ps m xs ks h
   some_fine (p ∷ ps) zero xs ks h =
-      let d : Constant = own (default_value p.default) in
-      either_of R (some_given (p ∷ ps) xs) (slots.item (value_or (slot_in p.name ks) d) (filled_some ps zero xs ks))
-      slots.none
-      (value_fine (slot_in p.name ks) d (slot_fine ks p.name h) (default_pooled p.default), some_fine ps zero xs ks h)
-      tt
+      search (arith, rules, either_of, value_fine, slot_fine, default_pooled, some_fine ps zero xs ks h)
 
   first_fine : (m : ℕ) (xs : List Text) → R (first_locals m xs)
   first_fine m [] = tt
@@ -214,9 +203,7 @@ module _ (front globals_count : ℕ) (some : 0 < front) where
 
     super_fined : (sp : StaticEnv) (p : Option Part) → E (invoked_super cenv order sp p)
     super_fined sp None = tt
-    super_fined sp (Some p) =
-        let xs = block_parameters cenv order sp.namespace p.name in
-        body_fined sp.namespace sp.escaping (next_given p.behind) (first_locals 0 xs) (first_fine 0 xs)
+    super_fined sp (Some p) = search (arith, rules, body_fined, first_fine)
 
     globals_of_fine : (h : Namespace) → Fine (globals cenv order h)
     globals_of_fine h = globals_fine (first_slot cenv order h) (names cenv order h) (few h)
@@ -236,16 +223,10 @@ module _ (front globals_count : ℕ) (some : 0 < front) where
       fined (group a) sp i t = fined a sp i t
       fined (list_of ts) sp i t = row_fined ts sp i t slots.none tt
       fined (map_of ps) sp i t = entries_fined ps sp i t
-      fined (attribute a x) sp i t =
-          either_of E (is_loop a) (field_from (field_named x))
-          (slots.made (slots.operator op.Item)
-          (slots.item (resolved cenv order a sp) (slots.item (slots.pooled (own (tree.text x))) slots.none)))
-          (field_fine (field_named x)) (fined a sp i t, (tt, tt))
+      fined (attribute a x) sp i t = search (arith, rules, either_of, field_fine, fined a sp i t)
       fined (item a b) sp i t = (fined a sp i t, (fined b sp i t, tt))
       fined (call f ts ps) sp i t =
-          invoked_fined (callee cenv.sources (given cenv.sources sp.namespace) f) f sp (resolved_row cenv order ts sp)
-          (resolved_asides cenv order ps sp) (count ts) (locals_from sp.free (keywords ps)) i refl
-          (from_fine sp.free (keywords ps)) (λ b h. row_fined ts sp i t b h) (λ b h. asides_fined ps sp i t b h)
+          search (arith, rules, invoked_fined, from_fine, row_fined ts sp i t, asides_fined ps sp i t)
       fined (filter a x ts ps) sp i t =
           let f = cenv.filters.named x ts ps in
           let ks = locals_from sp.free (keywords ps) in
@@ -258,13 +239,9 @@ module _ (front globals_count : ℕ) (some : 0 < front) where
                 (from_fine sp.free (keywords ps)))),
           )
       fined (test a m x ts ps) sp i t =
-          let es = slots.item (resolved cenv order a sp) (resolved_row cenv order ts sp slots.none) in
-          turned_fine m (tested_by (test_named x) es)
-          (tested_fine (test_named x) es (fined a sp i t, row_fined ts sp i t slots.none tt))
+          search (arith, rules, turned_fine, tested_fine, fined a sp i t, row_fined ts sp i t)
       fined (unary u a) sp i t = (fined a sp i t, tt)
-      fined (binary b x y) sp i t =
-          form_fine (form sp.escaping b) (resolved cenv order x sp) (resolved cenv order y sp) (fined x sp i t)
-          (fined y sp i t)
+      fined (binary b x y) sp i t = search (arith, rules, form_fine, fined x sp i t, fined y sp i t)
       fined (when c a) sp i t = (fined c sp i t, fined a sp i t, some)
       fined (choice c a b) sp i t = (fined c sp i t, fined a sp i t, fined b sp i t)
 
@@ -292,17 +269,7 @@ module _ (front globals_count : ℕ) (some : 0 < front) where
         → Fine sp.table → E e → E (resolved_filters cenv order fs sp e)
     filters_fined [] sp e i t h = h
     filters_fined (f ∷ fs) sp e i t h =
-        let n = cenv.filters.named f.name f.arguments f.keywords in
-        let ks = locals_from sp.free (keywords f.keywords) in
-        let rest = filled_some (filter_parameters cenv.filters n) (count f.arguments) (keywords f.keywords) ks in
-        let row = resolved_row cenv order f.arguments sp (resolved_asides cenv order f.keywords sp rest) in
-        filters_fined fs sp (filtered_by n sp.escaping (slots.item e row)) i t
-        (filtered_fine n sp.escaping (slots.item e row) (
-          h,
-          row_fined f.arguments sp i t (resolved_asides cenv order f.keywords sp rest)
-              (asides_fined f.keywords sp i t rest (some_fine (filter_parameters cenv.filters n) (count f.arguments)
-              (keywords f.keywords) ks (from_fine sp.free (keywords f.keywords)))),
-        ))
+        search (arith, rules, filters_fined fs sp, filtered_fine, row_fined, asides_fined, some_fine, from_fine)
 
     values_fined : (ps : Pairs) (sp : StaticEnv) (line : ℕ) (b : SBody Constant) → listed sp.namespace order ≡ true
         → Fine sp.table → B b → B (resolved_values cenv order ps sp line b)
@@ -311,13 +278,7 @@ module _ (front globals_count : ℕ) (some : 0 < front) where
 
     placed_fined : (sp : StaticEnv) (i : Option ℕ) (x : Text) (t : Table) → Fine t → B (placed_body cenv order sp i x t)
     placed_fined sp None x t h = (tt, tt)
-    placed_fined sp (Some i) x t h = (
-      (
-        reads_fine t (block_parameters cenv order sp.namespace x) h,
-        reads_bare t (block_parameters cenv order sp.namespace x),
-      ),
-      tt,
-    )
+    placed_fined sp (Some i) x t h = search (arith, rules, reads_fine, reads_bare)
 
     seen_fine : (b : Bool) (t : Table) → Fine t → Fine (if b then t else [])
     seen_fine true t h = h
@@ -356,46 +317,23 @@ module _ (front globals_count : ℕ) (some : 0 < front) where
             tt,
           )
       stmt_fined (set line xs e) sp i t = ((set_fine sp.table xs t, fined e sp i t), tt)
-      stmt_fined (set_block line x body) sp i t = (
-        (
-          of_fine sp.table x t,
-          scope_fined body sp t
-              (all_fined body (bound_all (set_in body) sp) i (bound_fine (set_in body) sp.free sp.table t)),
-        ),
-        tt,
-      )
+      stmt_fined (set_block line x body) sp i t =
+          search (arith, rules, of_fine, scope_fined, all_fined body, bound_fine)
       stmt_fined (with_values line ps body) sp i t =
-          let inner = bound_all (keywords ps) sp in
-          let ft = bound_fine (keywords ps) sp.free sp.table t in
-          values_fined ps sp line (scoped (set_in body) inner (resolved_body cenv order body)) i t
-          (scope_fined body inner ft (all_fined body (bound_all (set_in body) inner) i
-          (bound_fine (set_in body) (sp.free + length (keywords ps)) (bound_table (keywords ps) sp.free sp.table) ft)))
-      stmt_fined (filter_block line fs body) sp i t = (
-        (
-          tt,
-          scope_fined body (grown sp) t (all_fined body (bound_all (set_in body) (grown sp)) i
-              (bound_fine (set_in body) (suc sp.free) sp.table t)),
-        ),
-        (filters_fined fs (grown sp) (variable (local sp.free)) i t tt, tt),
-      )
-      stmt_fined (autoescape line on body) sp i t =
-          let inner = record sp { escaping = on } in
-          scope_fined body inner t
-          (all_fined body (bound_all (set_in body) inner) i (bound_fine (set_in body) sp.free sp.table t))
+          search (arith, rules, bound_fine, values_fined, scope_fined, all_fined body)
+      stmt_fined (filter_block line fs body) sp i t =
+          search (arith, rules, scope_fined, all_fined body, bound_fine, filters_fined)
+      stmt_fined (autoescape line on body) sp i t = search (arith, rules, scope_fined, all_fined body, bound_fine)
       stmt_fined (include line m missing with_context) sp i t =
           include_fined sp line m missing with_context (is_none (cenv.sources m)) t
       stmt_fined (block line x is required body) sp i t =
-          placed_fined sp (first_body (numbered_of cenv sp.namespace x)) x
-          (if is then sp.table else globals cenv order sp.namespace)
-          (either_of Fine is sp.table (globals cenv order sp.namespace) t (globals_of_fine sp.namespace))
+          search (arith, rules, placed_fined, either_of, globals_of_fine)
       stmt_fined s sp i t = tt
 
       pub all_fined : (b : Body) (sp : StaticEnv) → listed sp.namespace order ≡ true → Fine sp.table
           → B (resolved_body cenv order b sp)
       all_fined end sp i t = tt
-      all_fined (stmt s rest) sp i t =
-          followed_fine (resolved_stmt cenv order s sp) (resolved_body cenv order rest sp) (stmt_fined s sp i t)
-          (all_fined rest sp i t)
+      all_fined (stmt s rest) sp i t = search (arith, rules, followed_fine, stmt_fined s sp i t, all_fined rest sp i t)
 
       choice_fined : (bs : Branches) (sp : StaticEnv) → listed sp.namespace order ≡ true → Fine sp.table
           → (other : SBody Constant) → B other → B (resolved_choice cenv order bs sp other)
@@ -413,9 +351,7 @@ module _ (cenv : CompileEnv) (order : List Namespace) where
 
   first_le : (ks : List Namespace) (h : Namespace) → first_in cenv order ks h ≤ count_globals cenv order ks
   first_le [] h = omega arith
-  first_le (k ∷ ks) h =
-      either_of (λ n. n ≤ length (names cenv order k) + count_globals cenv order ks) (same_namespace k h) 0
-      (length (names cenv order k) + first_in cenv order ks h) (omega arith) (omega (arith, first_le ks h))
+  first_le (k ∷ ks) h = search (arith, rules, either_of, first_le ks h)
 
   first_few : (ks : List Namespace) (h : Namespace) → listed h ks ≡ true
       → first_in cenv order ks h + length (names cenv order h) ≤ count_globals cenv order ks
@@ -471,10 +407,7 @@ module _ (cenv : CompileEnv) (order : List Namespace) where
           → (macro_of x ms ≡ Some b → first_default x ms + length b.parameters ≤ length (defaults_of ms))
           → (if c then 0 else length m.parameters + first_default x ms) + length b.parameters
           ≤ length (defaults_of (m ∷ ms))
-      through true e f =
-          let same : length m.parameters ≡ length b.parameters =
-          (let s : Some m ≡ Some b = e in let is : m ≡ b = cc in ap (λ z. length z.parameters) is) in
-          omega (arith, same, counted)
+      through true e f = search (arith, rules, counted)
       through false e f = omega (arith, f e, counted)
 
   defaults_in : (ks : List Namespace) (h : Namespace) (x : Text) (b : MacroBody) → listed h ks ≡ true
@@ -497,10 +430,7 @@ module _ (cenv : CompileEnv) (order : List Namespace) where
           else length (defaults_of (macros cenv.sources k)) + default_in cenv order ks h x)
           + length b.parameters
           ≤ length (defaults_of (macros cenv.sources k) ++ behind)
-      through true p e f =
-          let same : length (defaults_of (macros cenv.sources k)) ≡ length (defaults_of (macros cenv.sources h)) =
-          ap (λ z. length (defaults_of (macros cenv.sources z))) (namespace_same k h p) in
-          omega (arith, first_defaults x b (macros cenv.sources h) m, same, counted)
+      through true p e f = search (arith, rules, namespace_same, first_defaults, counted)
       through false p e f = omega (arith, f e, counted)
 
   -- A called macro is defined in the order.
@@ -528,16 +458,12 @@ module _ (cenv : CompileEnv) (order : List Namespace) where
   L = BodyLawful front_count (count_globals cenv order order)
 
   at_top : (h : Namespace) → Fine front_count (count_globals cenv order order) some_front (globals cenv order h)
-  at_top h =
-      globals_fine front_count (count_globals cenv order order) some_front (first_slot cenv order h)
-      (names cenv order h) (few_globals h)
+  at_top h = search (arith, rules, globals_fine, some_front, few_globals)
 
   module _ (ordered : InOrder cenv.sources order) where
     body_lawful : (b : Body) (sp : StaticEnv) → listed sp.namespace order ≡ true
         → Fine front_count (count_globals cenv order order) some_front sp.table → L (resolved_body cenv order b sp)
-    body_lawful b sp i t =
-        all_fined front_count (count_globals cenv order order) some_front cenv order few_globals (laid_defaults ordered)
-        b sp i t
+    body_lawful b sp i t = search (arith, rules, all_fined, some_front, few_globals, laid_defaults)
 
     sets_lawful : (h : Namespace) → listed h order ≡ true → (b : Body) (t : Text)
         → L (resolved_sets cenv order b (top_senv cenv order h t))
@@ -568,26 +494,12 @@ module _ (cenv : CompileEnv) (order : List Namespace) where
         → Fine front_count (count_globals cenv order order) some_front sp.table
         → Good (resolved_routine cenv order ps b sp)
     routine_lawful ps b sp i t =
-        let inner = bound_all ps sp in
-        let ft = bound_fine front_count (count_globals cenv order order) some_front ps sp.free sp.table t in
-        let whole = scoped (set_in b) inner (resolved_body cenv order b) in
-        record {
-          body =
-              scope_fined front_count (count_globals cenv order order) some_front cenv order few_globals
-              (laid_defaults ordered) b inner ft
-              (body_lawful b (bound_all (set_in b) inner) i
-              (bound_fine front_count (count_globals cenv order order) some_front (set_in b) (sp.free + length ps)
-              (bound_table ps sp.free sp.table) ft));
-          locals = omega arith;
-        }
+        search (arith, rules, bound_fine, some_front, scope_fined, few_globals, laid_defaults, body_lawful)
 
     macros_lawful : (h : Namespace) → listed h order ≡ true → (ms : List MacroBody)
         → AllByRecursion Good (map (macro_routine cenv order h) ms)
     macros_lawful h i [] = tt
-    macros_lawful h i (m ∷ ms) = (
-      routine_lawful (map (λ p. p.name) m.parameters) m.body (top_senv cenv order h m.template) i (at_top h),
-      macros_lawful h i ms,
-    )
+    macros_lawful h i (m ∷ ms) = search (arith, rules, routine_lawful, at_top, macros_lawful h i ms)
 
     bodies_lawful : (h : Namespace) → listed h order ≡ true → (bs : List (ℕ × BlockBody))
         → AllByRecursion Good (body_routines cenv order h bs)
@@ -633,9 +545,7 @@ module _ (cenv : CompileEnv) (order : List Namespace) where
   front_pooled : (hs : List Namespace)
       → AllByRecursion IsPooled (flat_map (λ h. defaults_of (macros cenv.sources h)) hs)
   front_pooled [] = tt
-  front_pooled (h ∷ hs) =
-      all_append IsPooled (defaults_of (macros cenv.sources h)) (flat_map (λ g. defaults_of (macros cenv.sources g)) hs)
-      (defaults_pooled (macros cenv.sources h)) (front_pooled hs)
+  front_pooled (h ∷ hs) = search (arith, rules, all_append, defaults_pooled, front_pooled hs)
 
 -- The program of an ordered list of chains and libraries is lawful, if each of its operations has
 -- the number of values that it takes.

@@ -1,9 +1,7 @@
 -- The claim of an image refusal is that the image of the program has too many bytes.
-use Rattle.std.proofs.Common.{◌≡◌, length, Option, Some, subst, arith, rules}
+use Rattle.std.proofs.Common.{◌≡◌, Option, Some, subst, arith, rules}
 use Rattle.jt_image.specs.Code.{Code}
-use Rattle.jt_image.specs.IsCode.{max_bytes}
 use Rattle.jt_image.specs.Parts.{FitTexts, IsRefusal, HasTables}
-use Rattle.jt_image.specs.Spelling.{spelling}
 use Rattle.jt_image.specs.declared.error.ImageError.{ImageError}
 use Rattle.jt_image.specs.declared.error.ImageError.TheVariants as image_error
 use Rattle.jt_ir.specs.Slots.{Program}
@@ -14,18 +12,7 @@ use Rattle.jt_codegen.proofs.PassedLimits.{not_within}
 
 by_code : (e : ImageError) (p : Program) → HasTables (compiled p) → FitsCounts (compiled p)
     → FitTexts (compiled p).templates → IsRefusal e (Some (compiled p)) → RefusesImage (of_image e) p
-by_code image_error.LimitPassed p tables counts names h =
-    not_within (length (spelling (compiled p))) max_bytes (λ bytes. h (record {
-      names = counts.names;
-      texts = counts.texts;
-      constants = counts.constants;
-      units = counts.units;
-      locals = counts.locals;
-      instructions = counts.instructions;
-      templates = counts.templates;
-      template_texts = names;
-      bytes = bytes;
-    }))
+by_code image_error.LimitPassed p tables counts names h = search (arith, rules, not_within)
 by_code image_error.BadTable p tables counts names h = absurd (h tables)
 by_code image_error.BadOpcode p tables counts names h = absurd cc
 by_code image_error.NoMemory p tables counts names h = tt

@@ -1,5 +1,5 @@
 -- The code of small chains fits into an image.
-use Rattle.std.proofs.Common.{◌≡◌, ℕ, suc, ◌+◌, ◌*◌, max, ◌<◌, ◌≤◌, ◌^◌, List, [], ◌∷◌, ◌++◌, length, map, refl, sym}
+use Rattle.std.proofs.Common.{◌≡◌, ℕ, suc, ◌+◌, ◌*◌, ◌≤◌, List, [], ◌∷◌, ◌++◌, length, map, refl, sym}
 use Rattle.std.proofs.Common.{ap, ◌∙◌, arith, length-append, rules}
 use Rattle.std.proofs.lemmas.List.{length-map}
 use Rattle.std.specs.Int.{w16, w32, w64, to_le_bytes}
@@ -10,9 +10,9 @@ use Rattle.jt_image.proofs.ReadPrefix.{all_weaker, all_both}
 use Rattle.jt_image.specs.Code.{Name, SourceLoc}
 use Rattle.jt_image.specs.declared.version.Version.TheVariants as version
 use Rattle.jt_image.specs.Spelling.{name_bytes, constant_bytes, template_bytes, loc_bytes, place_bytes}
-use Rattle.jt_image.specs.IsCode.{IsInstruction, total_len, max_count, max_locals}
+use Rattle.jt_image.specs.IsCode.{total_len, max_count, max_locals}
 use Rattle.jt_image.specs.Typed.{max_entries}
-use Rattle.jt_image.specs.Parts.{KeepsLimits, IsWritable}
+use Rattle.jt_image.specs.Parts.{KeepsLimits}
 use Rattle.jt_image.specs.Laws.{CodeLaws}
 use Rattle.jt_ast.specs.Expressions.{Text}
 use Rattle.jt_chains.specs.Chain.{Namespace}
@@ -105,9 +105,7 @@ module _ (laws : CodeLaws) (low : LowLaws) (cenv : CompileEnv) (order : List Nam
     (sized : IsSized cenv order p) (weight : chains_weight cenv.sources order ≤ 2000) where
   -- No routine needs more entries than a shape may have.
   pub small_low : AllByRecursion (λ r. body_height r.body ≤ max_entries) p.routines
-  small_low =
-      all_weaker (λ (r : Routine ℕ). 2 * body_height r.body ≤ max 2 (chains_weight cenv.sources order))
-      (λ r. body_height r.body ≤ max_entries) p.routines (λ r h. omega (arith, h, weight)) sized.entries
+  small_low = search (arith, rules, all_weaker)
 
   module _ (short : IsShort 2000 p) (few : 7 * length order ≤ chains_weight cenv.sources order + 7) (ns : List Text)
       (named : length ns ≤ 64 * length order) (tags : AllByRecursion (OnTag (IsTag ns)) (places_of p)) where
@@ -188,12 +186,4 @@ module _ (laws : CodeLaws) (low : LowLaws) (cenv : CompileEnv) (order : List Nam
 
     pub small_fits : ProgramFits p → AllByRecursion (λ u. u.parameters ≤ 200) (compiled p).units
         → FitsImage (compiled p)
-    small_fits fit parameters =
-        let globals : p.globals < 2 ^ 16 = omega (arith, sized.globals, weight, few) in
-        record {
-          globals = globals;
-          limits = limits;
-          writable = all_both (λ u. u.parameters ≤ 200) (λ u. AllByRecursion IsInstruction u.code) IsWritable
-              (compiled p).units (λ u h code. record { parameters = omega (arith, h); code = code }) parameters
-              (low.written p fit globals (omega (arith, sized.constants, weight)) limits);
-        }
+    small_fits fit parameters = search (arith, rules, limits, all_both)

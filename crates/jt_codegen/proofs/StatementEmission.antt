@@ -131,9 +131,7 @@ module _ (templates : List Text) (h : ℕ) where
           (emits_alone templates h c2 c3 (body_view templates ss) taken)
 
       left : (other : Asm) → inner_asm (drop i bs) other ≡ both (first_asm b (inner_asm (drop (i + 1) bs) other)) nil
-      left other =
-          ap (λ l. inner_asm l other) (drop_more bs i b lt)
-          ∙ ap (λ (z : SBranch). both (first_asm z (inner_asm (drop (i + 1) bs) other)) nil) (sym is)
+      left other = search (arith, rules, drop_more)
 
   no_ends : (es : List ℕ) (n : ℕ) → length es + 0 ≡ 0 → es ≡ []
   no_ends [] n e = refl

@@ -11,7 +11,7 @@ use Rattle.jt_scan.specs.declared.options.Options.{Options}
 use Rattle.jt_ast.specs.Expressions.{Text}
 use Rattle.jt_ast.specs.Statements.{Body}
 use Rattle.jt_chains.specs.Chain.{Sources, Namespace, a_chain, a_library, Template, parent_of, names_up, sources_in}
-use Rattle.jt_chains.specs.Chain.{template, holds_macros, library_template, templates, max_templates}
+use Rattle.jt_chains.specs.Chain.{template, library_template, templates, max_templates}
 use Rattle.jt_chains.specs.Names.{IsName}
 use Rattle.jt_inherit.specs.Chains.{SourceTexts, IsRead}
 use Rattle.jt_image.proofs.ReadPrefix.{all_weaker}
@@ -114,9 +114,7 @@ module _ (sources : Sources) where
 
   few_library : (n : Text) (o : Option Body) → length (library_template n o) ≤ 1
   few_library n None = omega arith
-  few_library n (Some b) =
-      either_of (λ (ts : List Template). length ts ≤ 1) (holds_macros b) (template n (Some b)) [] (omega arith)
-      (omega arith)
+  few_library n (Some b) = grind (arith, either_of)
 
   few_templates_in : (h : Namespace) → length (templates sources h) ≤ 64
   few_templates_in (a_chain n) = few_up max_templates (Some n)
@@ -124,14 +122,7 @@ module _ (sources : Sources) where
 
   pub few_names : (hs : List Namespace) → length (names_of hs) ≤ 64 * length hs
   few_names [] = omega arith
-  few_names (h ∷ hs) =
-      omega (
-        arith,
-        few_templates_in h,
-        few_names hs,
-        length-append (map (λ t. t.name) (templates sources h)) (names_of hs),
-        length-map (templates sources h) (λ (t : Template). t.name),
-      )
+  few_names (h ∷ hs) = grind (arith, few_templates_in, few_names hs, length-append, length-map)
 
   among_left : (x : Text) (xs ys : List Text) → Among x xs → Among x (xs ++ ys)
   among_left x [] ys i = absurd i
@@ -223,11 +214,4 @@ loc_len s = refl
 
 pub locs_spelled : (ss : List SourceLoc) → length (flat_map loc_bytes ss) ≡ 6 * length ss
 locs_spelled [] = refl
-locs_spelled (s ∷ ss) =
-    omega (
-      arith,
-      ap length (flat_map-cons loc_bytes s ss),
-      length-append (loc_bytes s) (flat_map loc_bytes ss),
-      loc_len s,
-      locs_spelled ss,
-    )
+locs_spelled (s ∷ ss) = grind (arith, flat_map-cons, length-append, loc_len, locs_spelled ss)

@@ -1,3 +1,4 @@
 pub mod Escaping
 pub mod Joining
 pub mod internal
+pub mod Shown

@@ -29,14 +29,7 @@ chain a b c d e f p q r s t u z ha hb hc hd he hf = rw ha (rw hb (rw hc (rw hd (
 
 -- A name is no constant.
 pub no_literal : (x : Text) → is_reserved x ≡ false → literal_of x ≡ None
-no_literal x h =
-    let p : Text → Bool = bytes_eq x in
-    chain (bytes_eq x (codes "true")) (bytes_eq x (codes "True")) (bytes_eq x (codes "false"))
-    (bytes_eq x (codes "False")) (bytes_eq x (codes "none")) (bytes_eq x (codes "None"))
-    (Some (truth true)) (Some (truth true)) (Some (truth false)) (Some (truth false)) (Some nothing) (Some nothing) None
-    (missed p reserved 7 (omega arith) h) (missed p reserved 10 (omega arith) h) (missed p reserved 8 (omega arith) h)
-    (missed p reserved 11 (omega arith) h)
-    (missed p reserved 9 (omega arith) h) (missed p reserved 12 (omega arith) h)
+no_literal x h = search (arith, rules, bytes_eq, chain, missed)
 
 or_true : (b : Bool) → (b || true) ≡ true
 or_true true = refl
@@ -53,9 +46,7 @@ same_text x w h = (bytes_eq-Decides x w).0 h
 
 -- An operand does not begin with `not`.
 pub operand_says : (x : Text) → is_operand x ≡ true → bytes_eq x (codes "not") ≡ false
-operand_says x h =
-    false_from_ne_true (bytes_eq x (codes "not")) (λ e.
-    let q : is_operand (codes "not") ≡ true = subst (λ y. is_operand y ≡ true) (same_text x (codes "not") e) h in cc)
+operand_says x h = search (arith, rules, false_from_ne_true, bytes_eq, same_text)
 
 pub says_sound : (w : Text) (ts : Tokens) → says w ts ≡ true → ts ≡ word w ∷ drop 1 ts
 says_sound w ts e = search (arith, rules, same_text)

@@ -77,9 +77,7 @@ module _ (inner : Level → Reader Expr) (m : ℕ) where
       → ((j : Level) → rank k ≤ rank j → rank j < rank goal → Plain j ts)
       → read_at inner (suc m) goal ts ≡ (read_at inner (suc m) k ts >>= climb inner (suc m) d k)
   unfolding climb
-  climb_reads zero k goal ts e h =
-      let same : rank goal ≡ rank k = omega arith in
-      ap (λ j. read_at inner (suc m) j ts) (rank_same goal k same) ∙ sym (bind_identity (read_at inner (suc m) k ts))
+  climb_reads zero k goal ts e h = search (arith, rules, rank_same, bind_identity)
   climb_reads (suc d) k goal ts e h =
       let most = rank_most goal in
       let up : rank (looser k) ≡ suc (rank k) = looser_rank k (omega (arith, most)) in
@@ -131,9 +129,7 @@ module _ (inner : Level → Reader Expr) (m : ℕ) where
         → (nat_le (rank signed) (rank goal) && sees s.Minus ts) ≡ false
         → (nat_le (rank signed) (rank goal) && sees s.Plus ts) ≡ false
         → (j : Level) → rank postfix ≤ rank j → rank j < rank goal → Plain j ts
-    above_postfix goal ts h g f postfix a b =
-        let some : nat_le 1 (rank goal) ≡ true = grind (arith, nat_tests) in
-        (second (nat_le 1 (rank goal)) (sees s.Minus ts) g some, second (nat_le 1 (rank goal)) (sees s.Plus ts) f some)
+    above_postfix goal ts h g f postfix a b = search (arith, rules, nat_le, nat_tests, second)
     above_postfix goal ts h g f comparison a b =
         second (nat_le 8 (rank goal)) (says (codes "not") ts) h (grind (arith, nat_tests))
     above_postfix goal ts h g f whole a b = absurd (omega (arith, rank_most goal))
@@ -154,10 +150,7 @@ module _ (inner : Level → Reader Expr) (m : ℕ) where
         → read_at inner (suc m) k ts ≡ onward inner (suc m) (nests (in_prefix op)) (drop 1 ts)
         → read_at inner (suc m) goal ts ≡ finish inner (suc m) goal (nests (in_prefix op)) (drop 1 ts)
     unfolding finish
-    nested goal k op ts is le h e =
-        climbs_read k goal ts le h
-        ∙ ap (λ o. o >>= climbs inner (suc m) goal k) e
-        ∙ ap (λ j. onward inner (suc m) (nests (in_prefix op)) (drop 1 ts) >>= climbs inner (suc m) goal j) (sym is)
+    nested goal k op ts is le h e = search (arith, rules, climbs_read)
 
     more_follows : (ts : Tokens)
         → read_at inner (suc m) postfix ts ≡ (reading.primary inner (suc m) ts >>= more inner (suc m) postfix)

@@ -88,9 +88,7 @@ entry_shorter (cut.sign k ∷ ts) = tt
 keyword_shorter : (ts : Tokens) → KeyAll (length ts) (keyword ts)
 unfolding keyword
 keyword_shorter [] = tt
-keyword_shorter (cut.name x ∷ ts) =
-    key_if (suc (length ts)) (is_reserved x) _ _ (λ h. tt) (λ h.
-    key_if (suc (length ts)) (sees s.Assign ts) _ _ (λ h2. omega (arith, drop_shorter ts)) (λ h2. tt))
+keyword_shorter (cut.name x ∷ ts) = search (arith, rules, key_if, drop_shorter)
 keyword_shorter (cut.number n ∷ ts) = tt
 keyword_shorter (cut.text v ∷ ts) = tt
 keyword_shorter (cut.sign k ∷ ts) = tt
@@ -210,14 +208,7 @@ module _ (inner : Level → Reader Expr) (n : ℕ) where
 
   pub begin_bounded : (goal : Level) (ts : Tokens) → All (Begun ts) (moves.begin inner n goal ts)
   unfolding moves.begin
-  begin_bounded goal ts =
-      all_if (Begun ts) (nat_le (rank inversion) (rank goal) && says (codes "not") ts) _ _
-      (λ h. (refl, omega (arith, says_shorter (codes "not") ts (and_right _ _ h))))
-      (λ h. all_if (Begun ts) (nat_le (rank signed) (rank goal) && sees s.Minus ts) _ _
-      (λ h2. (refl, omega (arith, sees_shorter s.Minus ts (and_right _ _ h2))))
-      (λ h2. all_if (Begun ts) (nat_le (rank signed) (rank goal) && sees s.Plus ts) _ _
-      (λ h3. (refl, omega (arith, sees_shorter s.Plus ts (and_right _ _ h3))))
-      (λ h3. primary_begun ts)))
+  begin_bounded goal ts = search (arith, rules, all_if, nat_le, says_shorter, and_right, sees_shorter, primary_begun)
 
   -- ---- what extends a tree
 
@@ -242,11 +233,7 @@ module _ (inner : Level → Reader Expr) (n : ℕ) where
 
   arguments_bounded : (o : Owner) (ts : Tokens) → All (Bounded (owned o) (from ts)) (arguments_move inner n o ts)
   unfolding arguments_move
-  arguments_bounded o ts =
-      all_if (Bounded (owned o) (from ts)) (sees s.LeftParen ts) _ _
-      (λ h. all_less (owned o) (from (drop 1 ts)) (from ts) _ (omega (arith, drop_shorter ts))
-      (element_bounded o arguments (length (drop 1 ts)) no_parts (drop 1 ts)))
-      (λ h. ends_bounded o no_parts ts)
+  arguments_bounded o ts = search (arith, rules, all_if, all_less, drop_shorter, element_bounded, ends_bounded)
 
   filter_bounded : (t : Expr) (ts : Tokens) → All (Bounded postscript (from ts)) (filter_move inner n t ts)
   unfolding filter_move
@@ -319,9 +306,7 @@ module _ (inner : Level → Reader Expr) (n : ℕ) where
 
   expected : (P : Move → Tokens → Type 0) (k : Sign) (ts : Tokens) (f : Unit {0} → Reader Move)
       → ((x : Unit {0}) (v : Tokens) → length v ≤ length ts → All P (f x v)) → All P (expect k ts >>= f)
-  expected P k ts f h =
-      all_bind P (expect k ts) f
-      (λ x v e. h x v (all_ok (λ x v. length v ≤ length ts) (expect k ts) x v (expect_shorter k ts) e))
+  expected P k ts f h = search (arith, rules, all_bind, all_ok, expect_shorter)
 
   pub resume_bounded : (f : Form) (t : Expr) (ts : Tokens) → All (Bounded (reached f) (from ts)) (resume inner n f t ts)
   unfolding resume end_group end_item end_part end_condition
@@ -341,9 +326,7 @@ module _ (inner : Level → Reader Expr) (n : ℕ) where
   resume_bounded (in_argument a b x) t ts =
       grown_bounded postscript (test a b x (expr t no_exprs) no_pairs) ts (from ts) (omega arith)
   resume_bounded (in_else a c) t ts = completed_bounded whole (choice c a t) ts (from ts) (omega arith)
-  resume_bounded (in_operand k op a) t ts =
-      all_cap (Bounded k (from ts)) (levels (binary op a t)) n (operated k (binary op a t)) ts
-      (λ le. operated_bounded k (binary op a t) ts)
+  resume_bounded (in_operand k op a) t ts = search (arith, rules, all_cap, operated_bounded)
   resume_bounded (in_condition a) t ts =
       all_if (Bounded whole (from ts)) (says (codes "else") ts) _ _
       (λ h. record { level = refl; proper = refl; bound = omega (arith, drop_shorter ts) })

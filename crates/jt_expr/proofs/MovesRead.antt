@@ -106,12 +106,7 @@ module _ (inner : Level → Reader Expr) (m : ℕ)
       ≡ (if sees (closer r) ts then ends inner (suc m) o found (drop 1 ts)
       else keyed inner (suc m) o r turns found ts (key_at r ts))
   unfolding element
-  element_turn o r turns found ts =
-      let some : (suc turns == 0) ≡ false = grind (arith, nat_tests) in
-      let left : suc turns - 1 ≡ turns = omega arith in
-      let f : Bool → ℕ → ParseResult Move = λ b i. if b then Err syntax else if sees (closer r) ts
-      then ends inner (suc m) o found (drop 1 ts) else keyed inner (suc m) o r i found ts (key_at r ts) in
-      ap (λ b. f b (suc turns - 1)) some ∙ ap (λ i. f false i) left
+  element_turn o r turns found ts = grind (arith, nat_tests)
 
   element_none : (o : Owner) (r : SequenceKind) (found : LeveledList) (ts : Tokens)
       → element inner (suc m) o r zero found ts ≡ Err syntax
@@ -142,33 +137,19 @@ module _ (inner : Level → Reader Expr) (m : ℕ)
       >>= more inner (suc m) postfix)
       ≡ (inner whole ts >>= rest_of inner (suc m) in_group)
   unfolding rest_of resume end_group settled
-  group_reads ts =
-      through (inner whole ts) _ (more inner (suc m) postfix) _ (λ t v e.
-      let le : levels t ≤ m = (sound whole t ts v e).3 in
-      both_through (expect s.RightParen v) _ (more inner (suc m) postfix) _ (settled inner (suc m)) (λ x w e2.
-      sym (cap_none (levels (group t)) (suc m) (grown postfix (group t)) w (settled inner (suc m)) (omega arith))))
+  group_reads ts = grind (arith, through, both_through, cap_none)
 
   list_reads : (ts : Tokens) → ((row inner (suc m) (length ts) items ts >>= λ p v. Ok (list_of p.0, v))
       >>= more inner (suc m) postfix)
       ≡ (opens inner (suc m) a_list items ts >>= onward inner (suc m))
   unfolding settled
-  list_reads ts =
-      through (row inner (suc m) (length ts) items ts) _ (more inner (suc m) postfix) _ (λ p v e.
-      let le = (row_sound inner m sound (length ts) items p ts v e).3 in
-      sym (cap_none (levels (list_of p.0)) (suc m) (grown postfix (list_of p.0)) v (settled inner (suc m))
-      (omega (arith, le))))
-      ∙ sym (opens_reads a_list items ts)
+  list_reads ts = grind (arith, through, row_sound, cap_none, opens_reads)
 
   map_reads : (ts : Tokens) → ((row inner (suc m) (length ts) entries ts >>= λ p v. Ok (map_of p.1, v))
       >>= more inner (suc m) postfix)
       ≡ (opens inner (suc m) a_map entries ts >>= onward inner (suc m))
   unfolding settled
-  map_reads ts =
-      through (row inner (suc m) (length ts) entries ts) _ (more inner (suc m) postfix) _ (λ p v e.
-      let le = (row_sound inner m sound (length ts) entries p ts v e).3 in
-      sym (cap_none (levels (map_of p.1)) (suc m) (grown postfix (map_of p.1)) v (settled inner (suc m))
-      (omega (arith, le))))
-      ∙ sym (opens_reads a_map entries ts)
+  map_reads ts = grind (arith, through, row_sound, cap_none, opens_reads)
 
   begun_reads : (k : Sign) (ts : Tokens) → (reading.opened inner (suc m) k ts >>= more inner (suc m) postfix)
       ≡ (moves.begun_by inner (suc m) k ts >>= onward inner (suc m))
@@ -196,18 +177,7 @@ module _ (inner : Level → Reader Expr) (m : ℕ)
 
   postfix_raises : Raises (suc m) (postfix_step inner (suc m))
   unfolding postfix_step
-  postfix_raises t ts =
-      let P : Option Expr → Tokens → Type 0 = Raised (suc m) t in
-      all_if P (sees s.Dot ts) _ _
-      (λ h.
-      all_bind P (word_at (drop 1 ts)) _ (λ x v e. raised_cap t (attribute t (encode_utf8_all x)) v (omega arith)))
-      (λ h. all_if P (sees s.LeftBracket ts) _ _
-      (λ h2. all_bind P (inner whole (drop 1 ts)) _
-      (λ i v e. all_bind P (expect s.RightBracket v) _ (λ x w e2. raised_cap t (item t i) w (omega arith))))
-      (λ h2. all_if P (sees s.LeftParen ts) _ _
-      (λ h3. all_bind P (row inner (suc m) (length (drop 1 ts)) arguments (drop 1 ts)) _
-      (λ p v e. raised_cap t (call t p.0 p.1) v (omega arith)))
-      (λ h3. tt)))
+  postfix_raises t ts = grind (arith, all_if, all_bind, raised_cap, encode_utf8_all)
 
   postfix_reads : (t : Expr) (ts : Tokens)
       → more inner (suc m) postfix t ts ≡ (postfix_move inner (suc m) t ts >>= onward inner (suc m))
@@ -235,17 +205,11 @@ module _ (inner : Level → Reader Expr) (m : ℕ)
 
   filter_raises : (t : Expr) (ts : Tokens) → All (Raised (suc m) t) (filter_step inner (suc m) t ts)
   unfolding filter_step
-  filter_raises t ts =
-      let P : Option Expr → Tokens → Type 0 = Raised (suc m) t in
-      all_bind P (name_at ts) _ (λ x v e. all_bind P (arguments_at inner (suc m) v) _
-      (λ p w e2. raised_cap t (filter t (encode_utf8_all x) p.0 p.1) w (omega arith)))
+  filter_raises t ts = grind (arith, all_bind, raised_cap, encode_utf8_all)
 
   test_raises : (b : Bool) (t : Expr) (ts : Tokens) → All (Raised (suc m) t) (test_step inner (suc m) b t ts)
   unfolding test_step
-  test_raises b t ts =
-      let P : Option Expr → Tokens → Type 0 = Raised (suc m) t in
-      all_bind P (word_at (past b ts)) _ (λ x v e. all_bind P (test_arguments inner (suc m) v) _
-      (λ p w e2. raised_cap t (test t b (encode_utf8_all x) p.0 p.1) w (omega arith)))
+  test_raises b t ts = grind (arith, all_bind, raised_cap, encode_utf8_all)
 
   postscript_raises : Raises (suc m) (postscript_step inner (suc m))
   unfolding postscript_step
@@ -327,9 +291,7 @@ module _ (inner : Level → Reader Expr) (m : ℕ)
     chain_by_raises : (t : Expr) (ts : Tokens) (found : Option (BinaryOperator × Tokens))
         → All (Raised (suc m) t) (reading.chain_by inner (suc m) operand t ts found)
     chain_by_raises t ts None = tt
-    chain_by_raises t ts (Some p) =
-        let P : Option Expr → Tokens → Type 0 = Raised (suc m) t in
-        all_bind P (operand p.1) _ (λ b w e. raised_cap t (binary p.0 t b) w (omega arith))
+    chain_by_raises t ts (Some p) = grind (arith, all_bind, raised_cap)
 
     chain_raises : Raises (suc m) (chain_step inner (suc m) k operand)
     unfolding chain_step
@@ -346,11 +308,7 @@ module _ (inner : Level → Reader Expr) (m : ℕ)
         ≡ (operated_by inner (suc m) k t ts found >>= onward inner (suc m))
     unfolding onward rest_of resume
     chain_by_reads is reads t ts None = refl
-    chain_by_reads is reads t ts (Some p) =
-        through (operand p.1) _ (chained t) (rest_of inner (suc m) (in_operand k p.0 t)) (λ b w e.
-        cap_turn m (chain_step inner (suc m) k operand) chain_raises t (binary p.0 t b) w (omega arith)
-        (operated k (binary p.0 t b)) (settled inner (suc m)) (is (binary p.0 t b) w))
-        ∙ ap (λ o. o >>= rest_of inner (suc m) (in_operand k p.0 t)) (reads p.1)
+    chain_by_reads is reads t ts (Some p) = grind (arith, through, cap_turn, chain_raises)
 
     chain_reads : ((x : Expr) (v : Tokens)
         → settled inner (suc m) (operated k x) v ≡ loop (chain_step inner (suc m) k operand) (suc m) x v)
@@ -446,8 +404,4 @@ module _ (inner : Level → Reader Expr) (m : ℕ)
   pub prefix_reads : (k : Level) (op : UnaryOperator) (ts : Tokens)
       → (inner k ts >>= λ t v. Ok (unary op t, v)) ≡ (inner k ts >>= rest_of inner (suc m) (in_prefix op))
   unfolding rest_of resume settled
-  prefix_reads k op ts =
-      bind_same (inner k ts) _ (rest_of inner (suc m) (in_prefix op)) (λ t v e.
-      let le : levels t ≤ m = (sound k t ts v e).3 in
-      sym (cap_none (levels (unary op t)) (suc m) (complete (prefix_level op) (unary op t)) v (settled inner (suc m))
-      (omega arith)))
+  prefix_reads k op ts = grind (arith, bind_same, cap_none)

@@ -148,9 +148,7 @@ is_stops true ts = (refl, refl, refl)
 
 goes_stops : {k : Level} {a t : Expr} {y : Tokens} → Goes k a t y → (rest : Tokens) → Stops k rest → Above k (y ++ rest)
 goes_stops (stay {k}) rest h = stops_above k rest h
-goes_stops (operated {k} {op} {a} {b} {t} {x} {y} c e d g) rest h =
-    subst (λ j. Above j ((operator_tokens op ++ (x ++ y)) ++ rest)) e
-    (rw append_assoc (operator_stops op ((x ++ y) ++ rest)))
+goes_stops (operated {k} {op} {a} {b} {t} {x} {y} c e d g) rest h = search (arith, rules, append_assoc, operator_stops)
 goes_stops (filtered h d g) rest st = (refl, refl, refl)
 goes_stops (tested {a} {t} {b} {ts} {ps} {x} {y} n h d g) rest st =
     rw append_assoc (is_stops b ((cut.name n ∷ (x ++ y)) ++ rest))
@@ -201,10 +199,7 @@ chain_turn : (inner : Level → Reader Expr) (n : ℕ) (k : Level) (turns : ℕ)
     → on inner n k (suc turns) a ts
     ≡ (chain_by inner n (read_at inner n (next k)) a ts (operator k ts) >>= again (on inner n k turns) a)
 unfolding loop chain_step
-chain_turn inner n k turns a ts c =
-    chain_cases (λ j. on inner n j (suc turns) a ts
-    ≡ (chain_by inner n (read_at inner n (next j)) a ts (operator j ts) >>= again (on inner n j turns) a)) refl refl
-    refl refl refl refl k c
+chain_turn inner n k turns a ts c = search (arith, rules, chain_cases)
 
 step_stops : (inner : Level → Reader Expr) (n : ℕ) (k : Level) (a : Expr) (ts : Tokens) → Stops k ts
     → step inner n k a ts ≡ Ok (None, ts)
@@ -273,39 +268,20 @@ fitted : (k : Level) (a new t : Expr) (y : Tokens) → levels new ≤ levels t �
     → (n turns : ℕ) (rest : Tokens) → suc n < levels new + turns → Stops k rest
     → (cap (levels new) (suc n) (Some new) (y ++ rest) >>= again (on (read n) (suc n) k turns) a)
     ≡ cap (levels t) (suc n) t rest
-fitted k a new t y le g n turns rest lt st =
-    bound (levels new) (suc n) (levels t) (suc n) (Some new) t (y ++ rest) rest (again (on (read n) (suc n) k turns) a)
-    (λ ln. g n turns rest ln lt st) (λ gt. omega arith)
+fitted k a new t y le g n turns rest lt st = search (arith, rules, bound)
 
 -- The reader continues from the first operand.
 first : (k : Level) (a t : Expr) (y : Tokens) → levels a ≤ levels t → OnAt k a t y → (n turns : ℕ) (rest : Tokens)
     → suc n < levels a + turns → Stops k rest
     → (cap (levels a) (suc n) a (y ++ rest) >>= on (read n) (suc n) k turns) ≡ cap (levels t) (suc n) t rest
-first k a t y le g n turns rest lt st =
-    bound (levels a) (suc n) (levels t) (suc n) a t (y ++ rest) rest (on (read n) (suc n) k turns)
-    (λ ln. g n turns rest ln lt st) (λ gt. omega arith)
+first k a t y le g n turns rest lt st = search (arith, rules, bound)
 
 operated_on : (k : Level) (op : BinaryOperator) (a b t : Expr) (x y : Tokens) → is_chain k ≡ true → level_of op ≡ k
     → At (next k) b x → OnAt k (binary op a b) t y → levels (binary op a b) ≤ levels t
     → ((rest : Tokens) → Stops k rest → Above k (y ++ rest)) → OnAt k a t (operator_tokens op ++ (x ++ y))
 operated_on k op a b t x y c e d g le ab n zero rest la lt st = absurd (omega arith)
 operated_on k op a b t x y c e d g le ab n (suc turns) rest la lt st =
-    let z = x ++ (y ++ rest) in
-    let regroup : (operator_tokens op ++ (x ++ y)) ++ rest ≡ operator_tokens op ++ z =
-    append_assoc (operator_tokens op) (x ++ y) rest ∙ ap (λ w. operator_tokens op ++ w) (append_assoc x y rest) in
-    let found : operator k (operator_tokens op ++ z) ≡ Some (op, z) =
-    subst (λ j. operator j (operator_tokens op ++ z) ≡ Some (op, z)) e (operator_at op z) in
-    let make : Expr → Reader (Option Expr) = λ b v. cap (levels (binary op a b)) (suc n) (Some (binary op a b)) v in
-    let tail = again (on (read n) (suc n) k turns) a in
-    let go : Expr → Reader Expr = λ b v. make b v >>= tail in
-    ap (on (read n) (suc n) k (suc turns) a) regroup
-    ∙ chain_turn (read n) (suc n) k turns a (operator_tokens op ++ z) c
-    ∙ ap (λ o. chain_by (read n) (suc n) (read_at (read n) (suc n) (next k)) a (operator_tokens op ++ z) o >>= tail)
-    found
-    ∙ bind_bind (read_at (read n) (suc n) (next k) z) make tail
-    ∙ ap (λ o. o >>= go) (d n (y ++ rest) (chain_above k (y ++ rest) c (ab rest st)))
-    ∙ bound (levels b) (suc n) (levels t) (suc n) b t (y ++ rest) rest go
-    (λ lb. fitted k a (binary op a b) t y le g n turns rest (omega arith) st) (λ gt. omega arith)
+    search (arith, rules, append_assoc, operator_at, chain_turn, bind_bind, chain_above, bound, fitted)
 
 -- ---- filters and tests
 
@@ -333,10 +309,7 @@ filter_turn : (inner : Level → Reader Expr) (n turns : ℕ) (a : Expr) (x : Te
     (Some (filter a (encode_utf8_all x) p.0 p.1)) w
     >>= again (on inner n postscript turns) a)
 unfolding loop postscript_step filter_step name_at word_at
-filter_turn inner n turns a x v h =
-    rw h (bind_bind (r.arguments_at inner n v)
-    (λ p w. cap (levels (filter a (encode_utf8_all x) p.0 p.1)) n (Some (filter a (encode_utf8_all x) p.0 p.1)) w)
-    (again (on inner n postscript turns) a))
+filter_turn inner n turns a x v h = search (arith, rules, bind_bind, encode_utf8_all)
 
 test_turn : (inner : Level → Reader Expr) (n turns : ℕ) (a : Expr) (b : Bool) (x : Text) (v : Tokens)
     → names_test b x ≡ true
@@ -345,16 +318,8 @@ test_turn : (inner : Level → Reader Expr) (n turns : ℕ) (a : Expr) (b : Bool
     (Some (test a b (encode_utf8_all x) p.0 p.1)) w
     >>= again (on inner n postscript turns) a)
 unfolding loop postscript_step test_step word_at
-test_turn inner n turns a true x v h =
-    bind_bind (r.test_arguments inner n v)
-    (λ p w. cap (levels (test a true (encode_utf8_all x) p.0 p.1)) n (Some (test a true (encode_utf8_all x) p.0 p.1)) w)
-    (again (on inner n postscript turns) a)
-test_turn inner n turns a false x v h =
-    ap (λ b. test_step inner n b a (cut.name x ∷ v) >>= again (on inner n postscript turns) a)
-    (not-true (bytes_eq x (codes "not")) h)
-    ∙ bind_bind (r.test_arguments inner n v) (λ p w.
-    cap (levels (test a false (encode_utf8_all x) p.0 p.1)) n (Some (test a false (encode_utf8_all x) p.0 p.1)) w)
-    (again (on inner n postscript turns) a)
+test_turn inner n turns a true x v h = search (arith, rules, bind_bind, encode_utf8_all)
+test_turn inner n turns a false x v h = search (arith, rules, not-true, bytes_eq, bind_bind, encode_utf8_all)
 
 filtered_on : (a t : Expr) (x : Text) (p : LeveledList) (y z : Tokens) → is_reserved x ≡ false → ArgumentsAt p y
     → OnAt postscript (filter a (encode_utf8_all x) p.0 p.1) t z
@@ -363,15 +328,7 @@ filtered_on : (a t : Expr) (x : Text) (p : LeveledList) (y z : Tokens) → is_re
     → OnAt postscript a t (cut.sign s.Pipe ∷ cut.name x ∷ (y ++ z))
 filtered_on a t x p y z h d g le ab n zero rest la lt st = absurd (omega arith)
 filtered_on a t x p y z h d g le ab n (suc turns) rest la lt st =
-    let go : LeveledList → Reader Expr = λ q v. cap (levels (filter a (encode_utf8_all x) q.0 q.1)) (suc n)
-    (Some (filter a (encode_utf8_all x) q.0 q.1)) v
-    >>= again (on (read n) (suc n) postscript turns) a in
-    ap (λ w. on (read n) (suc n) postscript (suc turns) a (cut.sign s.Pipe ∷ cut.name x ∷ w)) (append_assoc y z rest)
-    ∙ filter_turn (read n) (suc n) turns a x (y ++ (z ++ rest)) h
-    ∙ ap (λ o. o >>= go) (d n (z ++ rest) (ab rest st).1.2)
-    ∙ bound (parts_levels p) n (levels t) (suc n) p t (z ++ rest) rest go
-    (λ lb. fitted postscript a (filter a (encode_utf8_all x) p.0 p.1) t z le g n turns rest (omega arith) st)
-    (λ gt. omega arith)
+    search (arith, rules, encode_utf8_all, append_assoc, filter_turn, bound, fitted)
 
 tested_on : (a t : Expr) (b : Bool) (x : Text) (p : LeveledList) (y z : Tokens) → names_test b x ≡ true
     → TestArgumentsAt p y → OnAt postscript (test a b (encode_utf8_all x) p.0 p.1) t z
@@ -380,19 +337,7 @@ tested_on : (a t : Expr) (b : Bool) (x : Text) (p : LeveledList) (y z : Tokens) 
     → OnAt postscript a t (is_tokens b ++ (cut.name x ∷ (y ++ z)))
 tested_on a t b x p y z h d g le ab n zero rest la lt st = absurd (omega arith)
 tested_on a t b x p y z h d g le ab n (suc turns) rest la lt st =
-    let go : LeveledList → Reader Expr = λ q v. cap (levels (test a b (encode_utf8_all x) q.0 q.1)) (suc n)
-    (Some (test a b (encode_utf8_all x) q.0 q.1)) v
-    >>= again (on (read n) (suc n) postscript turns) a in
-    let regroup : (is_tokens b ++ (cut.name x ∷ (y ++ z))) ++ rest ≡ is_tokens b ++ (cut.name x ∷ (y ++ (z ++ rest))) =
-    append_assoc
-    (is_tokens b) (cut.name x ∷ (y ++ z)) rest
-    ∙ ap (λ w. is_tokens b ++ (cut.name x ∷ w)) (append_assoc y z rest) in
-    ap (on (read n) (suc n) postscript (suc turns) a) regroup
-    ∙ test_turn (read n) (suc n) turns a b x (y ++ (z ++ rest)) h
-    ∙ ap (λ o. o >>= go) (d n (z ++ rest) (ab rest st))
-    ∙ bound (parts_levels p) n (levels t) (suc n) p t (z ++ rest) rest go
-    (λ lb. fitted postscript a (test a b (encode_utf8_all x) p.0 p.1) t z le g n turns rest (omega arith) st)
-    (λ gt. omega arith)
+    search (arith, rules, encode_utf8_all, append_assoc, test_turn, bound, fitted)
 
 -- ---- postfix forms
 
@@ -408,25 +353,19 @@ index_turn : (inner : Level → Reader Expr) (n turns : ℕ) (a : Expr) (v : Tok
     ≡ (inner whole v >>= λ i w. (expect s.RightBracket w >>= λ _ z. cap (levels (item a i)) n (Some (item a i)) z)
     >>= again (on inner n postfix turns) a)
 unfolding loop postfix_step
-index_turn inner n turns a v =
-    bind_bind (inner whole v) (λ i w. expect s.RightBracket w >>= λ _ z. cap (levels (item a i)) n (Some (item a i)) z)
-    (again (on inner n postfix turns) a)
+index_turn inner n turns a v = search (arith, rules, bind_bind)
 
 call_turn : (inner : Level → Reader Expr) (n turns : ℕ) (a : Expr) (v : Tokens)
     → on inner n postfix (suc turns) a (cut.sign s.LeftParen ∷ v)
     ≡ (r.row inner n (length v) arguments v
     >>= λ p w. cap (levels (call a p.0 p.1)) n (Some (call a p.0 p.1)) w >>= again (on inner n postfix turns) a)
 unfolding loop postfix_step
-call_turn inner n turns a v =
-    bind_bind (r.row inner n (length v) arguments v) (λ p w. cap (levels (call a p.0 p.1)) n (Some (call a p.0 p.1)) w)
-    (again (on inner n postfix turns) a)
+call_turn inner n turns a v = search (arith, rules, bind_bind)
 
 attributed_on : (a t : Expr) (x : Text) (y : Tokens) → OnAt postfix (attribute a (encode_utf8_all x)) t y
     → levels (attribute a (encode_utf8_all x)) ≤ levels t → OnAt postfix a t (cut.sign s.Dot ∷ cut.name x ∷ y)
 attributed_on a t x y g le n zero rest la lt st = absurd (omega arith)
-attributed_on a t x y g le n (suc turns) rest la lt st =
-    attribute_turn (read n) (suc n) turns a x (y ++ rest)
-    ∙ fitted postfix a (attribute a (encode_utf8_all x)) t y le g n turns rest (omega arith) st
+attributed_on a t x y g le n (suc turns) rest la lt st = search (arith, rules, attribute_turn, fitted, encode_utf8_all)
 
 indexed_on : (a i t : Expr) (x y : Tokens) → At whole i x → OnAt postfix (item a i) t y → levels (item a i) ≤ levels t
     → OnAt postfix a t (cut.sign s.LeftBracket ∷ (x ++ (cut.sign s.RightBracket ∷ y)))
@@ -447,13 +386,7 @@ called_on : (a t : Expr) (p : LeveledList) (x y : Tokens) → RowAt arguments p 
     → levels (call a p.0 p.1) ≤ levels t → OnAt postfix a t (cut.sign s.LeftParen ∷ (x ++ y))
 called_on a t p x y d g le n zero rest la lt st = absurd (omega arith)
 called_on a t p x y d g le n (suc turns) rest la lt st =
-    let go : LeveledList → Reader Expr = λ q v.
-    cap (levels (call a q.0 q.1)) (suc n) (Some (call a q.0 q.1)) v >>= again (on (read n) (suc n) postfix turns) a in
-    ap (λ z. on (read n) (suc n) postfix (suc turns) a (cut.sign s.LeftParen ∷ z)) (append_assoc x y rest)
-    ∙ call_turn (read n) (suc n) turns a (x ++ (y ++ rest))
-    ∙ ap (λ o. o >>= go) (d n (length (x ++ (y ++ rest))) (y ++ rest) (omega (arith, length-append x (y ++ rest))))
-    ∙ bound (parts_levels p) n (levels t) (suc n) p t (y ++ rest) rest go
-    (λ lb. fitted postfix a (call a p.0 p.1) t y le g n turns rest (omega arith) st) (λ gt. omega arith)
+    search (arith, rules, append_assoc, call_turn, length-append, bound, fitted)
 
 -- ---- sequences in brackets
 
@@ -557,18 +490,7 @@ more_at : (w : SequenceKind) (k : Option Text) (t : Expr) (p : LeveledList) (x y
     → RowAt w (put k t p) (x ++ (cut.sign s.Comma ∷ y))
 more_at w k t p x y b d g n zero rest le = absurd (omega (arith, length-append x (cut.sign s.Comma ∷ y)))
 more_at w k t p x y b d g n (suc turns) rest le =
-    let z = cut.sign s.Comma ∷ (y ++ rest) in
-    let all : ℕ = parts_levels (put k t p) in
-    let go : LeveledList → Reader LeveledList = λ q z. Ok (put k t q, z) in
-    ap (r.row (read n) (suc n) (suc turns) w) (append_assoc x (cut.sign s.Comma ∷ y) rest)
-    ∙ row_turn n turns w (x ++ z) (b z)
-    ∙ ap (λ o. o >>= row_tail n turns w) (d n z (comma_stops (y ++ rest)) refl)
-    ∙ bound (levels t) n all n (k, t) (put k t p) z rest (row_tail n turns w)
-    (λ lt. ap (λ o. o >>= go) (g n turns rest (omega (arith, length-append x (cut.sign s.Comma ∷ y))))
-    ∙ bound (parts_levels p) n all n p (put k t p) rest rest go
-    (λ lp. sym (cap_within all n (put k t p) rest (omega (arith, put_levels k t p))))
-    (λ gt. omega (arith, put_levels k t p)))
-    (λ gt. omega (arith, put_levels k t p))
+    search (arith, rules, append_assoc, row_turn, comma_stops, bound, length-append, cap_within, put_levels)
 
 -- ---- arguments
 
@@ -615,21 +537,11 @@ group_at t x d n rest =
 
 list_at : (ts : Exprs) (x : Tokens) → RowAt items (ts, no_pairs) x → PrimaryAt (list_of ts) (cut.sign s.LeftBracket ∷ x)
 unfolding r.primary r.opened
-list_at ts x g n rest =
-    let p : LeveledList = (ts, no_pairs) in
-    let go : LeveledList → Reader Expr = λ q v. Ok (list_of q.0, v) in
-    ap (λ o. o >>= go) (g n (length (x ++ rest)) rest (omega (arith, length-append x rest)))
-    ∙ bound (parts_levels p) n (levels (list_of ts)) (suc n) p (list_of ts) rest rest go
-    (λ le. sym (cap_within (levels (list_of ts)) (suc n) (list_of ts) rest (omega arith))) (λ gt. omega arith)
+list_at ts x g n rest = search (arith, rules, length-append, bound, cap_within)
 
 map_at : (ps : Pairs) (x : Tokens) → RowAt entries (no_exprs, ps) x → PrimaryAt (map_of ps) (cut.sign s.LeftBrace ∷ x)
 unfolding r.primary r.opened
-map_at ps x g n rest =
-    let p : LeveledList = (no_exprs, ps) in
-    let go : LeveledList → Reader Expr = λ q v. Ok (map_of q.1, v) in
-    ap (λ o. o >>= go) (g n (length (x ++ rest)) rest (omega (arith, length-append x rest)))
-    ∙ bound (parts_levels p) n (levels (map_of ps)) (suc n) p (map_of ps) rest rest go
-    (λ le. sym (cap_within (levels (map_of ps)) (suc n) (map_of ps) rest (omega arith))) (λ gt. omega arith)
+map_at ps x g n rest = search (arith, rules, length-append, bound, cap_within)
 
 number_at : (v : ℤ) → PrimaryAt (constant (number v)) (cut.number v ∷ [])
 unfolding r.primary
@@ -646,35 +558,24 @@ constant_at l x e n rest =
 
 name_primary : (x : Text) → is_reserved x ≡ false → PrimaryAt (name (encode_utf8_all x)) (cut.name x ∷ [])
 unfolding r.primary
-name_primary x h n rest =
-    ap (λ o. r.word_by (read n) (suc n) o x rest) (no_literal x h)
-    ∙ rw h (sym (cap_within 1 (suc n) (name (encode_utf8_all x)) rest (omega arith)))
+name_primary x h n rest = search (arith, rules, no_literal, cap_within, encode_utf8_all)
 
 -- ---- the levels
 
 chain_at : (k : Level) (a t : Expr) (x y : Tokens) → is_chain k ≡ true → At (next k) a x → OnAt k a t y
     → levels a ≤ levels t → ((rest : Tokens) → Stops k rest → Above k (y ++ rest)) → At k t (x ++ y)
 chain_at k a t x y c d g le ab n rest st =
-    ap (read_at (read n) (suc n) k) (append_assoc x y rest)
-    ∙ chain_reads (read n) (suc n) k (x ++ (y ++ rest)) c
-    ∙ ap (λ o. o >>= on (read n) (suc n) k (suc n)) (d n (y ++ rest) (chain_above k (y ++ rest) c (ab rest st)))
-    ∙ first k a t y le g n (suc n) rest (omega (arith, levels_some a)) st
+    search (arith, rules, append_assoc, chain_reads, chain_above, first, levels_some)
 
 postscript_at : (a t : Expr) (x y : Tokens) → At signed a x → OnAt postscript a t y → levels a ≤ levels t
     → ((rest : Tokens) → PostscriptStops rest → PostfixStops (y ++ rest)) → At postscript t (x ++ y)
 unfolding read_at read_postscript
-postscript_at a t x y d g le ab n rest st =
-    ap (read_at (read n) (suc n) postscript) (append_assoc x y rest)
-    ∙ ap (λ o. o >>= on (read n) (suc n) postscript (suc n)) (d n (y ++ rest) (ab rest st))
-    ∙ first postscript a t y le g n (suc n) rest (omega (arith, levels_some a)) st
+postscript_at a t x y d g le ab n rest st = search (arith, rules, append_assoc, first, levels_some)
 
 postfix_at : (a t : Expr) (x y : Tokens) → PrimaryAt a x → OnAt postfix a t y → levels a ≤ levels t
     → At postfix t (x ++ y)
 unfolding read_at read_postfix
-postfix_at a t x y d g le n rest st =
-    ap (read_at (read n) (suc n) postfix) (append_assoc x y rest)
-    ∙ ap (λ o. o >>= on (read n) (suc n) postfix (suc n)) (d n (y ++ rest))
-    ∙ first postfix a t y le g n (suc n) rest (omega (arith, levels_some a)) st
+postfix_at a t x y d g le n rest st = search (arith, rules, append_assoc, first, levels_some)
 
 -- A prefix operator before a form that is one level deeper.
 in_front : (op : UnaryOperator) (k : Level) (t : Expr) (x : Tokens) → At k t x → (n : ℕ) (rest : Tokens) → Stops k rest
@@ -702,17 +603,11 @@ plus_at t x d n rest st = in_front u.Plus signed t x d n rest st
 
 unsigned_at : (t : Expr) (x : Tokens) → begins_primary x ≡ true → At postfix t x → At signed t x
 unfolding read_at read_signed
-unsigned_at t x b d n rest st =
-    let h = primary-append x rest b in
-    rw (no_minus-primary (x ++ rest) h, no_plus-primary (x ++ rest) h) (d n rest st)
+unsigned_at t x b d n rest st = search (arith, rules, primary-append, no_minus-primary, no_plus-primary)
 
 alone_at : (t : Expr) (x : Tokens) → At sum t x → At comparison t x
 unfolding read_at read_comparison
-alone_at t x d n rest st =
-    let go : Expr → Reader Expr = λ left v. r.compare_by (read n) (suc n) left v (operator comparison v) in
-    ap (λ o. o >>= go) (d n rest st.1)
-    ∙ bound (levels t) (suc n) (levels t) (suc n) t t rest rest go
-    (λ le. ap (r.compare_by (read n) (suc n) t rest) st.0 ∙ sym (cap_within (levels t) (suc n) t rest le)) (λ gt. gt)
+alone_at t x d n rest st = search (arith, rules, bound, cap_within)
 
 compared_at : (op : BinaryOperator) (a b : Expr) (x y : Tokens) → level_of op ≡ comparison → At sum a x → At sum b y
     → At comparison (binary op a b) (x ++ (operator_tokens op ++ y))
@@ -739,11 +634,7 @@ compared_at op a b x y e d f n rest st =
 
 plain_at : (t : Expr) (x : Tokens) → At disjunction t x → At whole t x
 unfolding read_at read_whole if_part
-plain_at t x d n rest st =
-    let go = if_part (read n) (suc n) in
-    ap (λ o. o >>= go) (d n rest st.2)
-    ∙ bound (levels t) (suc n) (levels t) (suc n) t t rest rest go
-    (λ le. rw st.0 (sym (cap_within (levels t) (suc n) t rest le))) (λ gt. gt)
+plain_at t x d n rest st = search (arith, rules, bound, cap_within)
 
 -- An inline `if`, from its parts.
 if_at : (a c t : Expr) (x y z : Tokens) → levels a ≤ levels t → levels c ≤ levels t → At disjunction a x
@@ -751,21 +642,12 @@ if_at : (a c t : Expr) (x y z : Tokens) → levels a ≤ levels t → levels c �
     → (levels a ≤ suc n → levels c ≤ suc n → else_part (read n) (suc n) a c z ≡ cap (levels t) (suc n) t rest)
     → read_whole (read n) (suc n) (x ++ (word (codes "if") ∷ (y ++ z))) ≡ cap (levels t) (suc n) t rest
 unfolding read_at read_whole if_part
-if_at a c t x y z la lc d f n rest st g =
-    let v = word (codes "if") ∷ (y ++ z) in
-    ap (λ o. o >>= if_part (read n) (suc n)) (d n v (if_stops (y ++ z)))
-    ∙ bound (levels a) (suc n) (levels t) (suc n) a t v rest (if_part (read n) (suc n))
-    (λ ha. ap (λ o. o >>= else_part (read n) (suc n) a) (f n z st)
-    ∙ bound (levels c) (suc n) (levels t) (suc n) c t z rest (else_part (read n) (suc n) a) (λ hc. g ha hc)
-    (λ gt. omega arith))
-    (λ gt. omega arith)
+if_at a c t x y z la lc d f n rest st g = search (arith, rules, if_stops, bound)
 
 an_if_at : (c a : Expr) (x y : Tokens) → At disjunction a x → At disjunction c y
     → At whole (when c a) (x ++ (word (codes "if") ∷ y))
 unfolding read_at else_part
-an_if_at c a x y d f n rest st =
-    ap (read_whole (read n) (suc n)) (append_assoc x (word (codes "if") ∷ y) rest)
-    ∙ if_at a c (when c a) x y rest (omega arith) (omega arith) d f n rest st.2 (λ ha hc. rw st.1)
+an_if_at c a x y d f n rest st = search (arith, rules, append_assoc, if_at)
 
 an_if_else_at : (c a b : Expr) (x y z : Tokens) → At disjunction a x → At disjunction c y → At whole b z
     → At whole (choice c a b) (x ++ (word (codes "if") ∷ (y ++ (word (codes "else") ∷ z))))

@@ -56,10 +56,7 @@ some_pair {A} {a} {b} {v} {w} e =
     let p : (a, v) ≡ (b, w) = cc in (ap (λ (q : A × Tokens). q.0) p, ap (λ (q : A × Tokens). q.1) p)
 
 cap_ok : {A : Type 0} (l n : ℕ) (a b : A) (v w : Tokens) → cap l n a v ≡ Ok (b, w) → (l ≤ n) × (a ≡ b) × (v ≡ w)
-cap_ok {A} l n a b v w e =
-    by_test (nat_le l n) _ _ _ e
-    (λ h k. let q = ok_parts k in (grind (arith, nat_tests), q.0, q.1))
-    (λ h k. absurd (cc))
+cap_ok {A} l n a b v w e = search (arith, rules, by_test, nat_le, ok_parts, nat_tests)
 
 some_is : {A : Type 0} {a b : A} → ◌≡◌ {A = Option A} (Some a) (Some b) → a ≡ b
 some_is e = cc
@@ -72,10 +69,7 @@ no_cap l n a v w e = let q = cap_ok l n (Some a) None v w e in let p = q.1 in ab
 
 expect_sound : (k : Sign) (ts v : Tokens) (x : Unit {0}) → expect k ts ≡ Ok (x, v) → ts ≡ cut.sign k ∷ v
 unfolding expect
-expect_sound k ts v x e =
-    by_test (sees k ts) _ _ _ e
-    (λ h q. sees_sound k ts h ∙ ap (λ w. cut.sign k ∷ w) (ok_parts q).1)
-    (λ h q. absurd (cc))
+expect_sound k ts v x e = search (arith, rules, by_test, sees_sound, ok_parts)
 
 pub word_sound : (ts v : Tokens) (x : Text) → word_at ts ≡ Ok (x, v) → ts ≡ cut.name x ∷ v
 unfolding word_at
@@ -83,33 +77,19 @@ word_sound ts v x e = search (arith, rules, ok_parts)
 
 expect_bind : {B : Type 0} (k : Sign) (ts : Tokens) (f : Unit {0} → Reader B) (b : B) (rest : Tokens)
     → (expect k ts >>= f) ≡ Ok (b, rest) → (v : Tokens) × (ts ≡ cut.sign k ∷ v) × (f tt v ≡ Ok (b, rest))
-expect_bind k ts f b rest e =
-    let q = bind_ok (expect k ts) f b rest e in
-    (q.1, expect_sound k ts q.1 q.0 q.2, q.3)
+expect_bind k ts f b rest e = search (arith, rules, bind_ok, expect_sound)
 
 word_bind : {B : Type 0} (ts : Tokens) (f : Text → Reader B) (b : B) (rest : Tokens) → (word_at ts >>= f) ≡ Ok (b, rest)
     → (x : Text) × (v : Tokens) × (ts ≡ cut.name x ∷ v) × (f x v ≡ Ok (b, rest))
-word_bind ts f b rest e =
-    let q = bind_ok (word_at ts) f b rest e in
-    (q.0, q.1, word_sound ts q.1 q.0 q.2, q.3)
+word_bind ts f b rest e = search (arith, rules, bind_ok, word_sound)
 
 pub name_sound : (ts v : Tokens) (x : Text) → name_at ts ≡ Ok (x, v) → (ts ≡ cut.name x ∷ v) × (is_reserved x ≡ false)
 unfolding name_at
-name_sound ts v x e =
-    let a = bind_ok (word_at ts) unreserved x v e in
-    by_test (is_reserved a.0) _ _ _ a.3
-    (λ h k. absurd (cc))
-    (λ h k. let p = ok_parts k in (
-      word_sound ts a.1 a.0 a.2 ∙ ap (λ w. cut.name a.0 ∷ w) p.1 ∙ ap (λ y. cut.name y ∷ v) p.0,
-      subst (λ y. is_reserved y ≡ false) p.0 h,
-    ))
+name_sound ts v x e = search (arith, rules, bind_ok, by_test, ok_parts, word_sound)
 
 name_bind : {B : Type 0} (ts : Tokens) (f : Text → Reader B) (b : B) (rest : Tokens) → (name_at ts >>= f) ≡ Ok (b, rest)
     → (x : Text) × (v : Tokens) × (ts ≡ cut.name x ∷ v) × (is_reserved x ≡ false) × (f x v ≡ Ok (b, rest))
-name_bind ts f b rest e =
-    let q = bind_ok (name_at ts) f b rest e in
-    let d = name_sound ts q.1 q.0 q.2 in
-    (q.0, q.1, d.0, d.1, q.3)
+name_bind ts f b rest e = search (arith, rules, bind_ok, name_sound)
 
 -- ---- operators
 
@@ -118,95 +98,35 @@ one_token : (t : Token) (made op : BinaryOperator) (ts v : Tokens) → ts ≡ t 
     → ◌≡◌ {A = Option (BinaryOperator × Tokens)} (Some (made, drop 1 ts)) (Some (op, v)) → {k : Level}
     → level_of made ≡ k → operator_tokens made ≡ t ∷ []
     → (ts ≡ operator_tokens op ++ v) × (level_of op ≡ k)
-one_token t made op ts v h e {k} l same =
-    let p = some_pair e in (
-      h ∙ ap (λ w. t ∷ w) p.1 ∙ sym (ap (λ w. w ++ v) same) ∙ ap (λ q. operator_tokens q ++ v) p.0,
-      sym (ap level_of p.0) ∙ l,
-    )
+one_token t made op ts v h e {k} l same = search (arith, rules, some_pair)
 
 none_some : {A B : Type 0} (a : A) → ◌≡◌ {A = Option A} None (Some a) → B
 none_some a e = absurd (cc)
 
 not_in_sound : (op : BinaryOperator) (ts v : Tokens) → r.not_in ts ≡ Some (op, v)
     → (ts ≡ operator_tokens op ++ v) × (level_of op ≡ comparison)
-not_in_sound op ts v e =
-    by_test (says (codes "not") ts) _ _ _ e
-    (λ h k. by_test (says (codes "in") (drop 1 ts)) _ _ _ k
-    (λ h2 k2. let p = some_pair k2 in (
-      says_sound (codes "not") ts h ∙ ap (λ w. word (codes "not") ∷ w)
-          (says_sound (codes "in") (drop 1 ts) h2 ∙ ap (λ w. word (codes "in") ∷ w) p.1)
-          ∙ ap (λ q. operator_tokens q ++ v) p.0,
-      ap level_of (sym p.0),
-    ))
-    (λ h2 k2. none_some (op, v) k2))
-    (λ h k. none_some (op, v) k)
+not_in_sound op ts v e = search (arith, rules, by_test, some_pair, says_sound, none_some)
 
 pub operator_sound : (k : Level) (op : BinaryOperator) (ts v : Tokens) → operator k ts ≡ Some (op, v)
     → (ts ≡ operator_tokens op ++ v) × (level_of op ≡ k)
 unfolding operator
 operator_sound whole op ts v e = cc
-operator_sound disjunction op ts v e =
-    by_test (says (codes "or") ts) _ _ _ e
-    (λ h k. one_token (word (codes "or")) o.Or op ts v (says_sound (codes "or") ts h) k refl refl)
-    (λ h0 k0. none_some (op, v) k0)
-operator_sound conjunction op ts v e =
-    by_test (says (codes "and") ts) _ _ _ e
-    (λ h k. one_token (word (codes "and")) o.And op ts v (says_sound (codes "and") ts h) k refl refl)
-    (λ h0 k0. none_some (op, v) k0)
+operator_sound disjunction op ts v e = search (arith, rules, by_test, one_token, says_sound, none_some)
+operator_sound conjunction op ts v e = search (arith, rules, by_test, one_token, says_sound, none_some)
 operator_sound inversion op ts v e = cc
-operator_sound comparison op ts v e =
-    by_test (sees s.Equal ts) _ _ _ e
-    (λ h k. one_token (cut.sign s.Equal) o.Equal op ts v (sees_sound s.Equal ts h) k refl refl)
-    (λ h0 k0. by_test (sees s.NotEqual ts) _ _ _ k0
-    (λ h k. one_token (cut.sign s.NotEqual) o.NotEqual op ts v (sees_sound s.NotEqual ts h) k refl refl)
-    (λ h1 k1. by_test (sees s.Less ts) _ _ _ k1
-    (λ h k. one_token (cut.sign s.Less) o.Less op ts v (sees_sound s.Less ts h) k refl refl)
-    (λ h2 k2. by_test (sees s.LessEqual ts) _ _ _ k2
-    (λ h k. one_token (cut.sign s.LessEqual) o.LessOrEqual op ts v (sees_sound s.LessEqual ts h) k refl refl)
-    (λ h3 k3. by_test (sees s.Greater ts) _ _ _ k3
-    (λ h k. one_token (cut.sign s.Greater) o.Greater op ts v (sees_sound s.Greater ts h) k refl refl)
-    (λ h4 k4. by_test (sees s.GreaterEqual ts) _ _ _ k4
-    (λ h k. one_token (cut.sign s.GreaterEqual) o.GreaterOrEqual op ts v (sees_sound s.GreaterEqual ts h) k refl refl)
-    (λ h5 k5. by_test (says (codes "in") ts) _ _ _ k5
-    (λ h k. one_token (word (codes "in")) o.In op ts v (says_sound (codes "in") ts h) k refl refl)
-    (λ h6 k6. not_in_sound op ts v k6)))))))
-operator_sound sum op ts v e =
-    by_test (sees s.Plus ts) _ _ _ e
-    (λ h k. one_token (cut.sign s.Plus) o.Add op ts v (sees_sound s.Plus ts h) k refl refl)
-    (λ h0 k0. by_test (sees s.Minus ts) _ _ _ k0
-    (λ h k. one_token (cut.sign s.Minus) o.Subtract op ts v (sees_sound s.Minus ts h) k refl refl)
-    (λ h1 k1. none_some (op, v) k1))
-operator_sound concatenation op ts v e =
-    by_test (sees s.Tilde ts) _ _ _ e
-    (λ h k. one_token (cut.sign s.Tilde) o.Concatenate op ts v (sees_sound s.Tilde ts h) k refl refl)
-    (λ h0 k0. none_some (op, v) k0)
-operator_sound product op ts v e =
-    by_test (sees s.Times ts) _ _ _ e
-    (λ h k. one_token (cut.sign s.Times) o.Multiply op ts v (sees_sound s.Times ts h) k refl refl)
-    (λ h0 k0. by_test (sees s.FloorDivide ts) _ _ _ k0
-    (λ h k. one_token (cut.sign s.FloorDivide) o.FloorDivide op ts v (sees_sound s.FloorDivide ts h) k refl refl)
-    (λ h1 k1. by_test (sees s.Percent ts) _ _ _ k1
-    (λ h k. one_token (cut.sign s.Percent) o.Remainder op ts v (sees_sound s.Percent ts h) k refl refl)
-    (λ h2 k2. none_some (op, v) k2)))
-operator_sound power op ts v e =
-    by_test (sees s.Power ts) _ _ _ e
-    (λ h k. one_token (cut.sign s.Power) o.Power op ts v (sees_sound s.Power ts h) k refl refl)
-    (λ h0 k0. none_some (op, v) k0)
+operator_sound comparison op ts v e = search (arith, rules, by_test, one_token, sees_sound, says_sound, not_in_sound)
+operator_sound sum op ts v e = search (arith, rules, by_test, one_token, sees_sound, none_some)
+operator_sound concatenation op ts v e = search (arith, rules, by_test, one_token, sees_sound, none_some)
+operator_sound product op ts v e = search (arith, rules, by_test, one_token, sees_sound, none_some)
+operator_sound power op ts v e = search (arith, rules, by_test, one_token, sees_sound, none_some)
 operator_sound postscript op ts v e = cc
 operator_sound signed op ts v e = cc
 operator_sound postfix op ts v e = cc
 
 is_sound : (b : Bool) (ts v : Tokens) (x : Text) → says (codes "is") ts ≡ true → says (codes "not") (drop 1 ts) ≡ b
     → past b (drop 1 ts) ≡ cut.name x ∷ v → (ts ≡ is_tokens b ++ (cut.name x ∷ v)) × (names_test b x ≡ true)
-is_sound true ts v x h b p = (
-  says_sound (codes "is") ts h ∙ ap (λ w. word (codes "is") ∷ w)
-      (says_sound (codes "not") (drop 1 ts) b ∙ ap (λ w. word (codes "not") ∷ w) p),
-  refl,
-)
-is_sound false ts v x h b p = (
-  says_sound (codes "is") ts h ∙ ap (λ w. word (codes "is") ∷ w) p,
-  not_from_false (bytes_eq x (codes "not")) (subst (λ z. says (codes "not") z ≡ false) p b),
-)
+is_sound true ts v x h b p = search (arith, rules, says_sound)
+is_sound false ts v x h b p = search (arith, rules, says_sound, not_from_false, bytes_eq)
 
 -- ---- trees that are found
 
@@ -290,10 +210,7 @@ item_plain (by_name {r = w} h g d) e =
 pub items_plain : {w : SequenceKind} {p : LeveledList} {x : Tokens} → Holds w p x → w ≡ items → p.1 ≡ no_pairs
 items_plain closed e = refl
 items_plain (last {r = w} {k} {t} {x} d) e = subst (λ j. (put j t no_parts).1 ≡ no_pairs) (sym (item_plain d e)) refl
-items_plain (more {r = w} {k} {t} {p} {x} {y} d g) e =
-    let none = item_plain d e in
-    subst (λ j. (put j t p).1 ≡ no_pairs) (sym none)
-    (items_plain g (ap (λ z. behind_key z k) e ∙ ap (behind_key items) none))
+items_plain (more {r = w} {k} {t} {p} {x} {y} d g) e = search (arith, rules, item_plain, items_plain g)
 
 entry_keyed : {w : SequenceKind} {k : Option Text} {t : Expr} {x : Tokens} → IsPart w k t x → w ≡ entries
     → (j : Text) × (k ≡ Some j)
@@ -306,10 +223,7 @@ pub entries_keyed : {w : SequenceKind} {p : LeveledList} {x : Tokens} → Holds 
 entries_keyed closed e = refl
 entries_keyed (last {r = w} {k} {t} {x} d) e =
     let j = entry_keyed d e in subst (λ i. (put i t no_parts).0 ≡ no_exprs) (sym j.1) refl
-entries_keyed (more {r = w} {k} {t} {p} {x} {y} d g) e =
-    let j = entry_keyed d e in
-    subst (λ i. (put i t p).0 ≡ no_exprs) (sym j.1)
-    (entries_keyed g (ap (λ z. behind_key z k) e ∙ ap (behind_key entries) j.1))
+entries_keyed (more {r = w} {k} {t} {p} {x} {y} d g) e = search (arith, rules, entry_keyed, entries_keyed g)
 
 module _ (inner : Level → Reader Expr) (n : ℕ)
     (sound : (k : Level) (t : Expr) (ts rest : Tokens) → inner k ts ≡ Ok (t, rest) → Found k n t ts rest) where
@@ -506,10 +420,7 @@ module _ (inner : Level → Reader Expr) (n : ℕ)
       → cap (levels made) (suc n) (Some made) w ≡ Ok (Some new, v)
       → ((t : Expr) (rest : Tokens) → FoundOn k (suc n) made t w rest → FoundOn k (suc n) a t ts rest)
       → Steps k a new ts v
-  capped k a made new ts v w e f =
-      let c = cap_ok (levels made) (suc n) (Some made) (Some new) w v e in
-      let same : made ≡ new = some_is c.1 in
-      subst (λ y. Steps k a new ts y) c.2 (subst (λ y. Steps k a y ts w) same (c.0, f))
+  capped k a made new ts v w e f = search (arith, rules, cap_ok, some_is)
 
   -- ---- postfix forms
 
@@ -576,26 +487,7 @@ module _ (inner : Level → Reader Expr) (n : ℕ)
   postfix_stops : (a : Expr) (ts v : Tokens) → postfix_step inner (suc n) a ts ≡ Ok (None, v) → ts ≡ v
   unfolding postfix_step
   postfix_stops a ts v e =
-      by_test (sees s.Dot ts) _ _ _ e
-      (λ h k.
-      let w = word_bind (drop 1 ts)
-      (λ x v. cap (levels (attribute a (encode_utf8_all x))) (suc n) (Some (attribute a (encode_utf8_all x))) v) None v
-      k in
-      no_cap _ _ _ _ _ w.3)
-      (λ h k. by_test (sees s.LeftBracket ts) _ _ _ k
-      (λ h2 k2.
-      let b = bind_ok (inner whole (drop 1 ts))
-      (λ i v. expect s.RightBracket v >>= λ _ w. cap (levels (item a i)) (suc n) (Some (item a i)) w) None v k2 in
-      let q =
-      expect_bind s.RightBracket b.1 (λ _ w. cap (levels (item a b.0)) (suc n) (Some (item a b.0)) w) None v b.3 in
-      no_cap _ _ _ _ _ q.2)
-      (λ h2 k2. by_test (sees s.LeftParen ts) _ _ _ k2
-      (λ h3 k3.
-      let f : LeveledList → Reader (Option Expr) =
-      λ p v. cap (levels (call a p.0 p.1)) (suc n) (Some (call a p.0 p.1)) v in
-      let b = bind_ok (r.row inner (suc n) (length (drop 1 ts)) arguments (drop 1 ts)) f None v k3 in
-      no_cap _ _ _ _ _ b.3)
-      (λ h3 k3. (ok_parts k3).1)))
+      search (arith, rules, by_test, word_bind, encode_utf8_all, no_cap, bind_ok, expect_bind, ok_parts)
 
   postfix_sound : (t : Expr) (ts rest : Tokens) → read_postfix inner (suc n) ts ≡ Ok (t, rest)
       → Found postfix (suc n) t ts rest
@@ -733,26 +625,15 @@ module _ (inner : Level → Reader Expr) (n : ℕ)
   postscript_grows : (a new : Expr) (ts v : Tokens) → postscript_step inner (suc n) a ts ≡ Ok (Some new, v)
       → Steps postscript a new ts v
   unfolding postscript_step
-  postscript_grows a new ts v e =
-      by_test (sees s.Pipe ts) _ _ _ e
-      (λ h k. filter_grows a new ts v h k)
-      (λ h k. by_test (says (codes "is") ts) _ _ _ k
-      (λ h2 k2. test_grows a new (says (codes "not") (drop 1 ts)) ts v h2 refl k2)
-      (λ h2 k2. no_some new ts v k2))
+  postscript_grows a new ts v e = search (arith, rules, by_test, filter_grows, test_grows, no_some)
 
   filter_goes : {G : Type 0} (a : Expr) (ts v : Tokens) → filter_step inner (suc n) a ts ≡ Ok (None, v) → G
   unfolding filter_step
-  filter_goes a ts v e =
-      let w = name_bind ts (filter_named a) None v e in
-      let b = bind_ok (r.arguments_at inner (suc n) w.1) (filter_made a w.0) None v w.4 in
-      no_cap _ _ _ _ _ b.3
+  filter_goes a ts v e = search (arith, rules, name_bind, bind_ok, no_cap)
 
   test_goes : {G : Type 0} (b : Bool) (a : Expr) (ts v : Tokens) → test_step inner (suc n) b a ts ≡ Ok (None, v) → G
   unfolding test_step
-  test_goes b a ts v e =
-      let w = word_bind (past b ts) (test_named b a) None v e in
-      let c = bind_ok (r.test_arguments inner (suc n) w.1) (test_made b a w.0) None v w.3 in
-      no_cap _ _ _ _ _ c.3
+  test_goes b a ts v e = search (arith, rules, word_bind, bind_ok, no_cap)
 
   postscript_stops : (a : Expr) (ts v : Tokens) → postscript_step inner (suc n) a ts ≡ Ok (None, v) → ts ≡ v
   unfolding postscript_step
@@ -804,10 +685,7 @@ module _ (inner : Level → Reader Expr) (n : ℕ)
     chain_by_stops : (a : Expr) (ts v : Tokens) (found : Option (BinaryOperator × Tokens))
         → chain_by inner (suc n) operand a ts found ≡ Ok (None, v) → ts ≡ v
     chain_by_stops a ts v None e = (ok_parts e).1
-    chain_by_stops a ts v (Some p) e =
-        let b =
-        bind_ok (operand p.1) (λ c z. cap (levels (binary p.0 a c)) (suc n) (Some (binary p.0 a c)) z) None v e in
-        no_cap _ _ _ _ _ b.3
+    chain_by_stops a ts v (Some p) e = search (arith, rules, bind_ok, no_cap)
 
     chain_step_sound : StepSound k (chain_step inner (suc n) k operand)
     unfolding chain_step
@@ -860,12 +738,7 @@ module _ (inner : Level → Reader Expr) (n : ℕ)
   comparison_sound : (t : Expr) (ts rest : Tokens) → read_comparison inner (suc n) ts ≡ Ok (t, rest)
       → Found comparison (suc n) t ts rest
   unfolding read_comparison
-  comparison_sound t ts rest e =
-      let a = bind_ok (read_sum inner (suc n) ts) (λ left v. r.compare_by inner (suc n) left v (operator comparison v))
-      t rest e in
-      let d = sum_sound a.0 ts a.1 a.2 in
-      subst (λ z. Found comparison (suc n) t z rest) (sym d.1)
-      (compare_by_sound a.0 t d.0 a.1 rest d.2 d.3 (operator comparison a.1) refl a.3)
+  comparison_sound t ts rest e = search (arith, rules, bind_ok, sum_sound, compare_by_sound)
 
   inversion_sound : (t : Expr) (ts rest : Tokens) → read_inversion inner (suc n) ts ≡ Ok (t, rest)
       → Found inversion (suc n) t ts rest
@@ -938,10 +811,7 @@ module _ (inner : Level → Reader Expr) (n : ℕ)
   whole_sound : (t : Expr) (ts rest : Tokens) → read_whole inner (suc n) ts ≡ Ok (t, rest)
       → Found whole (suc n) t ts rest
   unfolding read_whole
-  whole_sound t ts rest e =
-      let a = bind_ok (read_disjunction inner (suc n) ts) (if_part inner (suc n)) t rest e in
-      let d = disjunction_sound a.0 ts a.1 a.2 in
-      subst (λ z. Found whole (suc n) t z rest) (sym d.1) (if_sound a.0 t d.0 a.1 rest d.2 d.3 a.3)
+  whole_sound t ts rest e = search (arith, rules, bind_ok, disjunction_sound, if_sound)
 
   at_sound : (k : Level) (t : Expr) (ts rest : Tokens) → read_at inner (suc n) k ts ≡ Ok (t, rest)
       → Found k (suc n) t ts rest

@@ -39,12 +39,7 @@ pub same_turns : (n : ℕ) (step : Expr → Reader (Option Expr)) → Raises n s
 unfolding loop
 same_turns n step g zero b t ts le p q = absurd (omega arith)
 same_turns n step g (suc a) zero t ts le p q = absurd (omega arith)
-same_turns n step g (suc a) (suc b) t ts le p q =
-    same_turn step a b t (step t ts) (λ new v e.
-    let r : (levels new ≤ n) × (levels t < levels new) = all_ok (Raised n t) (step t ts) (Some new) v (g t ts) e in
-    let fits : levels new ≤ n = r.0 in
-    let more : levels t < levels new = r.1 in
-    same_turns n step g a b new v fits (omega arith) (omega arith))
+same_turns n step g (suc a) (suc b) t ts le p q = search (arith, rules, same_turn, all_ok, same_turns n step g a b)
 
 -- A step that adds a level, and the loop after it.
 pub cap_turn : {M : Type 0} (m : ℕ) (step : Expr → Reader (Option Expr)) → Raises (suc m) step

@@ -136,10 +136,7 @@ found_none (Err x) = refl
 
 pub row_starts : (inner : Level → Reader Expr) (n count end : ℕ) (found : LeveledList) (r : SequenceKind) (ts : Tokens)
     → end ≡ count → found ≡ no_parts → row inner n count r ts ≡ (row inner n (end - 0) r ts >>= after_found found)
-row_starts inner n count end found r ts e f =
-    let same : end - 0 ≡ count = omega (arith, e) in
-    found_none (row inner n count r ts) ∙ ap (λ m. row inner n m r ts >>= after_found no_parts) (sym same)
-    ∙ ap (λ p. row inner n (end - 0) r ts >>= after_found p) (sym f)
+row_starts inner n count end found r ts e f = grind (arith, found_none)
 
 -- ---- levels of parts
 

@@ -121,11 +121,7 @@ pub looser_next : (entry : Level) (below : ℕ) (fs : List Form) (k : Level) (t 
     → rank k < rank (goal_of entry fs)
     → outcome_at entry below fs (complete k t) ts ≡ outcome_at entry below fs (grown (looser k) t) ts
 unfolding outcome_at finish onward climb
-looser_next entry below fs k t ts less =
-    let most : rank (goal_of entry fs) ≤ 11 = rank_most (goal_of entry fs) in
-    let up : rank (looser k) ≡ suc (rank k) = looser_rank k (omega arith) in
-    let turn : rank (goal_of entry fs) - rank k ≡ suc (rank (goal_of entry fs) - rank (looser k)) = omega arith in
-    ap (λ d. unwind entry below fs (climb (read below) (suc below) d k t ts)) turn
+looser_next entry below fs k t ts less = grind (arith, rank_most, looser_rank)
 
 -- A token that continues no form of the level completes a tree of the level.
 quiet_next : (entry : Level) (below : ℕ) (fs : List Form) (k : Level) (t : Expr) (ts : Tokens)
@@ -141,11 +137,7 @@ quiet_next entry below fs k t ts less =
 skips : (entry : Level) (below : ℕ) (fs : List Form) (t : Expr) (ts : Tokens) (d : ℕ) (k n : Level)
     → rank n ≡ suc d + rank k → rank n ≤ rank (goal_of entry fs) → (0 < d → rank n ≤ rank (joined ts))
     → outcome_at entry below fs (complete k t) ts ≡ outcome_at entry below fs (grown n t) ts
-skips entry below fs t ts zero k n e le h =
-    let most : rank n ≤ 11 = rank_most n in
-    let up : rank (looser k) ≡ suc (rank k) = looser_rank k (omega arith) in
-    looser_next entry below fs k t ts (omega arith)
-    ∙ ap (λ j. outcome_at entry below fs (grown j t) ts) (rank_same (looser k) n (omega arith))
+skips entry below fs t ts zero k n e le h = grind (arith, rank_most, looser_rank, looser_next, rank_same)
 skips entry below fs t ts (suc d) k n e le h =
     let most : rank n ≤ 11 = rank_most n in
     let far : rank n ≤ rank (joined ts) = h (omega arith) in
@@ -257,10 +249,7 @@ module _ (entry : Level) (below : ℕ) (old : List Pending) (k g : Level) (t : E
       (omega (arith, leads.within)) (λ h. leads.between (omega (arith, h, leads.past)))
 
   within : nat_le (rank g) (rank k) ≡ true → rank (goal_of entry (stacked old [])) ≤ rank k
-  within test =
-      let ranks : rank g ≡ rank (goal_of entry (stacked old [])) = ap rank same in
-      let le : rank g ≤ rank k = grind (arith, nat_tests) in
-      omega arith
+  within test = grind (arith, nat_tests)
 
   pub done_moves : length old ≡ 0 → nat_le (rank g) (rank k) ≡ true
       → outcome_at entry below (stacked old []) (complete k t) ts ≡ Ok (t, ts)
@@ -278,15 +267,7 @@ module _ (entry : Level) (below : ℕ) (old : List Pending) (k g : Level) (t : E
       → outcome_at entry below (stacked old []) (complete k t) ts
       ≡ unwind entry b (stacked new [])
       (resume (read b) (suc b) (form_view f) t ts >>= finish (read b) (suc b) (goal_of entry (stacked new [])))
-  pop_moves b new f e is test =
-      let stack : stacked old [] ≡ form_view f ∷ stacked new [] = pushed new old f e in
-      let le : rank (awaited (form_view f)) ≤ rank k =
-      omega (arith, within test, ap (λ fs. rank (goal_of entry fs)) stack) in
-      ap (λ fs. outcome_at entry below fs (complete k t) ts) stack
-      ∙ pop_next entry below (stacked new []) (form_view f) k t ts le
-      ∙ ap (λ c. unwind entry c (stacked new [])
-      (resume (read c) (suc c) (form_view f) t ts >>= finish (read c) (suc c) (goal_of entry (stacked new []))))
-      (sym is)
+  pop_moves b new f e is test = grind (arith, pushed, within, pop_next)
 
 pub first_moves : (entry : Level) (limit below : ℕ) (items : List Pending) (ts : Tokens) → limit ≡ suc below
     → items ≡ [] → read limit entry ts ≡ begun_in entry below (stacked items []) ts

@@ -82,26 +82,12 @@ mutual
   spells_bound (an_if {x = x} {y = y} a c) =
       omega (arith, spells_bound a, spells_bound c, tokens-append x (word (codes "if") ∷ y))
   spells_bound (an_if_else {x = x} {y = y} {z = z} a c b) =
-      omega (
-        arith,
-        spells_bound a,
-        spells_bound c,
-        spells_bound b,
-        tokens-append x (word (codes "if") ∷ (y ++ (word (codes "else") ∷ z))),
-        tokens-append y (word (codes "else") ∷ z),
-      )
+      search (arith, rules, spells_bound a, spells_bound c, spells_bound b, tokens-append)
   spells_bound (chain {x = x} {y = y} e d g) = omega (arith, spells_bound d, goes_bound g, tokens-append x y)
   spells_bound (inverted d) = omega (arith, spells_bound d)
   spells_bound (upright d) = spells_bound d
   spells_bound (compared {op = op} {x = x} {y = y} e a b) =
-      omega (
-        arith,
-        spells_bound a,
-        spells_bound b,
-        operator_weighs op,
-        tokens-append x (operator_tokens op ++ y),
-        tokens-append (operator_tokens op) y,
-      )
+      search (arith, rules, spells_bound a, spells_bound b, operator_weighs, tokens-append)
   spells_bound (alone d) = spells_bound d
   spells_bound (postscripts {x = x} {y = y} d g) = omega (arith, spells_bound d, goes_bound g, tokens-append x y)
   spells_bound (minus d) = omega (arith, spells_bound d)
@@ -113,24 +99,10 @@ mutual
       → (weight t ≤ weight a + tokens_weight y) × (expr_bytes t ≤ expr_bytes a + tokens_bytes y)
   goes_bound stay = omega arith
   goes_bound (operated {op = op} {x = x} {y = y} c l d g) =
-      omega (
-        arith,
-        spells_bound d,
-        goes_bound g,
-        operator_weighs op,
-        tokens-append (operator_tokens op) (x ++ y),
-        tokens-append x y,
-      )
+      search (arith, rules, spells_bound d, goes_bound g, operator_weighs, tokens-append)
   goes_bound (filtered {x = x} {y = y} r d g) = omega (arith, arguments_bound d, goes_bound g, tokens-append x y)
   goes_bound (tested {b = b} {x = x} {y = y} n h d g) =
-      omega (
-        arith,
-        test_arguments_bound d,
-        goes_bound g,
-        is_weighs b,
-        tokens-append (is_tokens b) (cut.name n ∷ (x ++ y)),
-        tokens-append x y,
-      )
+      search (arith, rules, test_arguments_bound d, goes_bound g, is_weighs, tokens-append)
   goes_bound (attributed g) = omega (arith, goes_bound g)
   goes_bound (indexed {x = x} {y = y} d g) =
       omega (arith, spells_bound d, goes_bound g, tokens-append x (cut.sign s.RightBracket ∷ y))

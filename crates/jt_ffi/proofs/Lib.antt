@@ -1,4 +1,5 @@
 pub mod HandlesAgree
 pub mod TemplateTables
-mod Steps
+mod HandleKinds
+mod HandleWalks
 pub mod CallErrors

@@ -1,37 +1,52 @@
--- Examples of filters, computed: the printed text of an expression, with or without escaping.
-use Rattle.std.specs.Prelude.{◌≡◌, ℕ, Bool, true, false, ◌||◌, not, List, [], ◌∷◌, ◌++◌, Option, Some, None, pos}
-use Rattle.std.specs.Prelude.{Result, Ok, Err, codes, refl, if◌then◌else◌}
+-- Examples of filters, computed: the printed text of expressions, with or without escaping.
+use Rattle.std.specs.Prelude.{◌≡◌, ℕ, zero, suc, Bool, true, false, ◌||◌, not, List, [], ◌∷◌, ◌++◌, Option, Some, None}
+use Rattle.std.specs.Prelude.{Result, Ok, Err, codes, map, pos, refl, if◌then◌else◌}
+use Prim.Native.String.{String}
 use Rattle.jt_value.specs.declared.fault.Fault.{Fault}
 use Rattle.jt_value.specs.declared.fault.Fault.TheVariants as fault
 use Rattle.jt_value.specs.Tree.{Tree, undefined, nothing, truth_value, number, text, markup, printed}
 use Rattle.jt_escape.specs.Escaping.{escaped}
+use Rattle.jt_ids.specs.declared.op_id.OpId.{OpId}
 use Rattle.jt_ids.specs.declared.op_id.OpId.TheVariants as op
+use Rattle.jt_ids.specs.declared.test_id.TestId.{TestId}
 use Rattle.jt_ids.specs.declared.test_id.TestId.TheVariants as test
-use Rattle.jt_op_semantics.specs.Making.{mapped}
-use Rattle.jt_op_semantics.specs.Making.{listed as listed_all}
+use Rattle.jt_op_semantics.specs.Making.{mapped, listed}
 use Rattle.jt_op_semantics.specs.Operation.{operation, as_truth}
 use Rattle.jt_op_semantics.specs.Testing.{tested, is_markup}
-use Rattle.jt_ids.specs.declared.filter_id.FilterId.TheVariants as filter
+use Rattle.jt_ids.specs.declared.filter_id.FilterId.{FilterId}
+use Rattle.jt_ids.specs.declared.filter_id.FilterId.TheVariants as f
 use Rattle.std.specs.Char.{encode_utf8}
 use Rattle.std.specs.Fmt.{digits}
 use Rattle.std.specs.Str.{chars}
 use Rattle.jt_filter_semantics.specs.Filtering.{filtered}
 
-abbrev behind : Result Tree Fault → Result (List Tree) Fault → Result (List Tree) Fault
-behind (Ok t) (Ok ts) = Ok (t ∷ ts)
-behind (Ok t) (Err f) = Err f
-behind (Err f) r = Err f
+infixl 80 ◌▹◌
+infix 70 ◌prints◌
+infix 70 ◌gives◌
+infix 70 ◌fails◌
+-- The value of an expression.
+abbrev Given : Type 0
+Given = Result Tree Fault
 
-abbrev evaluated : List (Result Tree Fault) → Result (List Tree) Fault
+-- The expressions of a template, and what it prints.
+abbrev Row : Type 0
+Row = List Given × Result (List ℕ) Fault
+
+abbrev behind : Given → Result (List Tree) Fault → Result (List Tree) Fault
+behind (Ok t) (Ok ts) = Ok (t ∷ ts)
+behind (Ok t) (Err e) = Err e
+behind (Err e) r = Err e
+
+abbrev evaluated : List Given → Result (List Tree) Fault
 evaluated [] = Ok []
 evaluated (r ∷ rs) = behind r (evaluated rs)
 
-abbrev called : (List Tree → Result Tree Fault) → Result (List Tree) Fault → Result Tree Fault
-called f (Ok ts) = f ts
-called f (Err e) = Err e
+abbrev called : (List Tree → Given) → Result (List Tree) Fault → Given
+called g (Ok ts) = g ts
+called g (Err e) = Err e
 
-abbrev call : (List Tree → Result Tree Fault) → List (Result Tree Fault) → Result Tree Fault
-call f rs = called f (evaluated rs)
+abbrev call : (List Tree → Given) → List Given → Given
+call g rs = called g (evaluated rs)
 
 abbrev printed_by : Bool → Tree → Option (List ℕ) → Result (List ℕ) Fault
 printed_by escaping t None = Err fault.Unprintable
@@ -39,985 +54,369 @@ printed_by escaping t (Some s) = Ok (if not escaping || is_markup t then s else 
 
 abbrev joined_texts : Result (List ℕ) Fault → Result (List ℕ) Fault → Result (List ℕ) Fault
 joined_texts (Ok s) (Ok t) = Ok (s ++ t)
-joined_texts (Ok s) (Err f) = Err f
-joined_texts (Err f) r = Err f
+joined_texts (Ok s) (Err e) = Err e
+joined_texts (Err e) r = Err e
 
-abbrev printing_one : Bool → Result Tree Fault → Result (List ℕ) Fault
+abbrev printing_one : Bool → Given → Result (List ℕ) Fault
 printing_one escaping (Ok t) = printed_by escaping t (printed t)
-printing_one escaping (Err f) = Err f
+printing_one escaping (Err e) = Err e
 
-abbrev printing : Bool → List (Result Tree Fault) → Result (List ℕ) Fault
+abbrev printing : Bool → List Given → Result (List ℕ) Fault
 printing escaping [] = Ok []
 printing escaping (r ∷ rs) = joined_texts (printing_one escaping r) (printing escaping rs)
 
--- '{{ x }}{{ x|safe }}'
-row_1 : printing true (Ok (text (60 ∷ 38 ∷ 39 ∷ 34 ∷ 62 ∷ []))
-    ∷ (call (filtered filter.Safe true) (Ok (text (60 ∷ 38 ∷ 39 ∷ 34 ∷ 62 ∷ [])) ∷ [])) ∷ [])
-    ≡ Ok (38 ∷ 108 ∷ 116 ∷ 59 ∷ 38 ∷ 97 ∷ 109 ∷ 112 ∷ 59 ∷ 38 ∷ 35 ∷ 51 ∷ 57 ∷ 59 ∷ 38 ∷ 35 ∷ 51 ∷ 52 ∷ 59 ∷ 38 ∷ 103
-    ∷ 116 ∷ 59 ∷ 60 ∷ 38 ∷ 39 ∷ 34 ∷ 62 ∷ [])
-unfolding digits chars encode_utf8
-row_1 = refl
-
--- '{{ "<" ~ ("<b>"|safe) }}'
-row_2 : printing true ((call (operation op.JoinEscaping)
-    (Ok (text (codes "<")) ∷ (call (filtered filter.Safe true) (Ok (text (codes "<b>")) ∷ [])) ∷ [])) ∷ [])
-    ≡ Ok (codes "&lt;<b>")
-unfolding digits chars encode_utf8
-row_2 = refl
-
--- '{{ [3, 1, 2]|sort|join(",") }} {{ ["b", "A", "a"]|unique|join }} {{ -1|abs }}'
-row_3 : printing true ((call (filtered filter.Join true)
-    ((call (filtered filter.Sort true)
-    ((call listed_all (Ok (number (pos 3)) ∷ Ok (number (pos 1)) ∷ Ok (number (pos 2)) ∷ [])) ∷ []))
-    ∷ Ok (text (codes ",")) ∷ []))
-    ∷ Ok (markup (codes " ")) ∷ (call (filtered filter.Join true)
-    ((call (filtered filter.Unique true)
-    ((call listed_all (Ok (text (codes "b")) ∷ Ok (text (codes "A")) ∷ Ok (text (codes "a")) ∷ [])) ∷ [])) ∷ []))
-    ∷ Ok (markup (codes " "))
-    ∷ (call (filtered filter.Abs true) ((call (operation op.Negate) (Ok (number (pos 1)) ∷ [])) ∷ [])) ∷ [])
-    ≡ Ok (codes "1,2,3 bA 1")
-unfolding digits chars encode_utf8
-row_3 = refl
-
--- '{{ ["<", "<"|safe]|join }}'
-row_4 : printing true ((call (filtered filter.Join true)
-    ((call listed_all (Ok (text (codes "<")) ∷ (call (filtered filter.Safe true) (Ok (text (codes "<")) ∷ [])) ∷ []))
-    ∷ [])) ∷ [])
-    ≡ Ok (codes "&lt;<")
-unfolding digits chars encode_utf8
-row_4 = refl
-
--- '{{ [9223372036854775807, 1, "x"]|sum }}'
-row_5 : printing true ((call (filtered filter.Sum true)
-    ((call listed_all (Ok (number (pos 9223372036854775807)) ∷ Ok (number (pos 1)) ∷ Ok (text (codes "x")) ∷ [])) ∷ []))
-    ∷ [])
-    ≡ Err fault.BadType
-unfolding digits chars encode_utf8
-row_5 = refl
-
--- '{{ [1, 2, 3]|select("odd")|join(",") }}'
-row_6 : printing true ((call (filtered filter.Join true)
-    ((call (filtered filter.Select true) ((call listed_all
-    (Ok (number (pos 1)) ∷ Ok (number (pos 2)) ∷ Ok (number (pos 3)) ∷ []))
-    ∷ Ok (text (codes "odd")) ∷ []))
-    ∷ Ok (text (codes ",")) ∷ [])) ∷ [])
-    ≡ Ok (codes "1,3")
-unfolding digits chars encode_utf8
-row_6 = refl
-
--- '{{ [{"a": 1}, {"a": 2}]|map(attribute="a")|sum }}'
-row_7 : printing true ((call (filtered filter.Sum true)
-    ((call (filtered filter.MapAttribute true)
-    ((call listed_all ((call mapped (Ok (text (codes "a")) ∷ Ok (number (pos 1)) ∷ []))
-    ∷ (call mapped (Ok (text (codes "a")) ∷ Ok (number (pos 2)) ∷ [])) ∷ []))
-    ∷ Ok (text (codes "a")) ∷ [])) ∷ [])) ∷ [])
-    ≡ Ok (codes "3")
-unfolding digits chars encode_utf8
-row_7 = refl
-
--- '{{ ["x", "y"]|map("upper")|join }}'
-row_8 : printing true ((call (filtered filter.Join true)
-    ((call (filtered filter.Map true)
-    ((call listed_all (Ok (text (codes "x")) ∷ Ok (text (codes "y")) ∷ [])) ∷ Ok (text (codes "upper")) ∷ [])) ∷ []))
-    ∷ [])
-    ≡ Ok (codes "XY")
-unfolding digits chars encode_utf8
-row_8 = refl
-
--- '{{ [{"a": 1}, {"a": 2}]|rejectattr("a", "eq", 2)|length }}'
-row_9 : printing true ((call (filtered filter.Length true)
-    ((call (filtered filter.RejectAttr true) ((call listed_all
-    ((call mapped (Ok (text (codes "a")) ∷ Ok (number (pos 1)) ∷ []))
-    ∷ (call mapped (Ok (text (codes "a")) ∷ Ok (number (pos 2)) ∷ [])) ∷ []))
-    ∷ Ok (text (codes "a")) ∷ Ok (text (codes "eq")) ∷ Ok (number (pos 2)) ∷ [])) ∷ [])) ∷ [])
-    ≡ Ok (codes "1")
-unfolding digits chars encode_utf8
-row_9 = refl
-
--- '{{ [[[[[[[[[[[[[[[[[[[[[[[[[[[[[[[[]]]]]]]]]]]]]]]]]]]]]]]]]]]]]]]]|length }}'
-row_10 : printing true ((call (filtered filter.Length true)
-    ((call listed_all ((call listed_all ((call listed_all
-    ((call listed_all ((call listed_all ((call listed_all
-    ((call listed_all ((call listed_all ((call listed_all
-    ((call listed_all ((call listed_all ((call listed_all
-    ((call listed_all ((call listed_all ((call listed_all
-    ((call listed_all ((call listed_all ((call listed_all
-    ((call listed_all ((call listed_all ((call listed_all
-    ((call listed_all ((call listed_all ((call listed_all
-    ((call listed_all ((call listed_all ((call listed_all
-    ((call listed_all
-    ((call listed_all ((call listed_all ((call listed_all ((call listed_all ([])) ∷ [])) ∷ [])) ∷ [])) ∷ [])) ∷ []))
-    ∷ [])) ∷ [])) ∷ [])) ∷ [])) ∷ [])) ∷ [])) ∷ [])) ∷ [])) ∷ [])) ∷ [])) ∷ [])) ∷ [])) ∷ [])) ∷ [])) ∷ [])) ∷ []))
-    ∷ [])) ∷ [])) ∷ [])) ∷ [])) ∷ [])) ∷ [])) ∷ [])) ∷ [])) ∷ [])) ∷ [])) ∷ [])) ∷ [])
-    ≡ Ok (codes "1")
-unfolding digits chars encode_utf8
-row_10 = refl
-
--- '{{ -3|abs }}{{ (0 - 9223372036854775807 - 1)|abs }}'
-row_11 : printing true ((call (filtered filter.Abs true) ((call (operation op.Negate) (Ok (number (pos 3)) ∷ [])) ∷ []))
-    ∷ (call (filtered filter.Abs true) ((call (operation op.Subtract)
-    ((call (operation op.Subtract) (Ok (number (pos 0)) ∷ Ok (number (pos 9223372036854775807)) ∷ []))
-    ∷ Ok (number (pos 1)) ∷ [])) ∷ [])) ∷ [])
-    ≡ Err fault.Overflow
-unfolding digits chars encode_utf8
-row_11 = refl
-
--- '{{ true|abs }}'
-row_12 : printing true ((call (filtered filter.Abs true) (Ok (truth_value true) ∷ [])) ∷ []) ≡ Err fault.BadType
-unfolding digits chars encode_utf8
-row_12 = refl
-
--- '{{ nope|abs }}'
-row_13 : printing true ((call (filtered filter.Abs true) (Ok undefined ∷ [])) ∷ []) ≡ Err fault.Undefined
-unfolding digits chars encode_utf8
-row_13 = refl
-
--- "{{ 'éAB c'|capitalize }}{{ 'ÀB'|lower }}{{ 'é'|upper }}"
-row_14 : printing true ((call (filtered filter.Capitalize true) (Ok (text (195 ∷ 169 ∷ 65 ∷ 66 ∷ 32 ∷ 99 ∷ [])) ∷ []))
-    ∷ (call (filtered filter.Lower true) (Ok (text (195 ∷ 128 ∷ 66 ∷ [])) ∷ []))
-    ∷ (call (filtered filter.Upper true) (Ok (text (195 ∷ 169 ∷ [])) ∷ [])) ∷ [])
-    ≡ Ok (195 ∷ 169 ∷ 97 ∷ 98 ∷ 32 ∷ 99 ∷ 195 ∷ 128 ∷ 98 ∷ 195 ∷ 169 ∷ [])
-unfolding digits chars encode_utf8
-row_14 = refl
-
--- '{{ none|upper }}{{ nope|upper }}{{ 1|upper }}'
-row_15 : printing true ((call (filtered filter.Upper true) (Ok nothing ∷ []))
-    ∷ (call (filtered filter.Upper true) (Ok undefined ∷ []))
-    ∷ (call (filtered filter.Upper true) (Ok (number (pos 1)) ∷ [])) ∷ [])
-    ≡ Ok (codes "NONE1")
-unfolding digits chars encode_utf8
-row_15 = refl
-
--- '{{ [1]|upper }}'
-row_16 : printing true ((call (filtered filter.Upper true) ((call listed_all (Ok (number (pos 1)) ∷ [])) ∷ [])) ∷ [])
-    ≡ Err fault.Unprintable
-unfolding digits chars encode_utf8
-row_16 = refl
-
--- "{{ nope|default }}{{ nope|d('x') }}{{ 0|d('x') }}{{ 0|d('x', true) }}"
-row_17 : printing true ((call (filtered filter.Default true) (Ok undefined ∷ []))
-    ∷ (call (filtered filter.Default true) (Ok undefined ∷ Ok (text (codes "x")) ∷ []))
-    ∷ (call (filtered filter.Default true) (Ok (number (pos 0)) ∷ Ok (text (codes "x")) ∷ []))
-    ∷ (call (filtered filter.Default true) (Ok (number (pos 0)) ∷ Ok (text (codes "x")) ∷ Ok (truth_value true) ∷ []))
-    ∷ [])
-    ≡ Ok (codes "x0x")
-unfolding digits chars encode_utf8
-row_17 = refl
-
--- "{{ 0|default(boolean=1, default_value='y') }}{{ ''|d(boolean=true) }}"
-row_18 : printing true ((call (filtered filter.Default true)
-    (Ok (number (pos 0)) ∷ Ok (text (codes "y")) ∷ Ok (number (pos 1)) ∷ []))
-    ∷ (call (filtered filter.Default true) (Ok (text []) ∷ (Ok (text [])) ∷ Ok (truth_value true) ∷ [])) ∷ [])
-    ≡ Ok (codes "y")
-unfolding digits chars encode_utf8
-row_18 = refl
-
--- "{{ none|default('x') }}"
-row_19 : printing true ((call (filtered filter.Default true) (Ok nothing ∷ Ok (text (codes "x")) ∷ [])) ∷ [])
-    ≡ Ok (codes "None")
-unfolding digits chars encode_utf8
-row_19 = refl
-
--- '{{ nope|default(gone) is undefined }}'
-row_20 : printing true ((call (λ ts. as_truth (tested test.Undefined ts))
-    ((call (filtered filter.Default true) (Ok undefined ∷ Ok undefined ∷ [])) ∷ [])) ∷ [])
-    ≡ Ok (codes "True")
-unfolding digits chars encode_utf8
-row_20 = refl
-
--- "{{ {'b': 1, 'A': 2, 'a': 3}|dictsort|length }}"
-row_21 : printing true ((call (filtered filter.Length true)
-    ((call (filtered filter.DictSort true) ((call mapped
-    (Ok (text (codes "b")) ∷ Ok (number (pos 1)) ∷ Ok (text (codes "A")) ∷ Ok (number (pos 2)) ∷ Ok (text (codes "a"))
-    ∷ Ok (number (pos 3)) ∷ [])) ∷ [])) ∷ [])) ∷ [])
-    ≡ Ok (codes "3")
-unfolding digits chars encode_utf8
-row_21 = refl
-
--- '{{ [1]|dictsort }}'
-row_22 : printing true ((call (filtered filter.DictSort true) ((call listed_all (Ok (number (pos 1)) ∷ [])) ∷ [])) ∷ [])
-    ≡ Err fault.BadType
-unfolding digits chars encode_utf8
-row_22 = refl
-
--- '{{ nope|dictsort }}'
-row_23 : printing true ((call (filtered filter.DictSort true) (Ok undefined ∷ [])) ∷ []) ≡ Err fault.Undefined
-unfolding digits chars encode_utf8
-row_23 = refl
-
--- "{{ ''|first is undefined }}{{ 'ab'|first }}{{ 'ab'|last }}"
-row_24 : printing true ((call (λ ts. as_truth (tested test.Undefined ts))
-    ((call (filtered filter.First true) (Ok (text []) ∷ [])) ∷ []))
-    ∷ (call (filtered filter.First true) (Ok (text (codes "ab")) ∷ []))
-    ∷ (call (filtered filter.Last true) (Ok (text (codes "ab")) ∷ [])) ∷ [])
-    ≡ Ok (codes "Trueab")
-unfolding digits chars encode_utf8
-row_24 = refl
-
--- '{{ 5|first }}'
-row_25 : printing true ((call (filtered filter.First true) (Ok (number (pos 5)) ∷ [])) ∷ []) ≡ Err fault.NotIterable
-unfolding digits chars encode_utf8
-row_25 = refl
-
--- "{{ {'x': 1}|first }}{{ nope|last is undefined }}"
-row_26 : printing true ((call (filtered filter.First true)
-    ((call mapped (Ok (text (codes "x")) ∷ Ok (number (pos 1)) ∷ [])) ∷ []))
-    ∷ (call (λ ts. as_truth (tested test.Undefined ts)) ((call (filtered filter.Last true) (Ok undefined ∷ [])) ∷ []))
-    ∷ [])
-    ≡ Ok (codes "xTrue")
-unfolding digits chars encode_utf8
-row_26 = refl
-
--- "{{ '12'|int }}{{ '+5'|int }}{{ '-07'|int }}{{ true|int }}"
-row_27 : printing true ((call (filtered filter.Int true) (Ok (text (codes "12")) ∷ []))
-    ∷ (call (filtered filter.Int true) (Ok (text (codes "+5")) ∷ []))
-    ∷ (call (filtered filter.Int true) (Ok (text (codes "-07")) ∷ []))
-    ∷ (call (filtered filter.Int true) (Ok (truth_value true) ∷ [])) ∷ [])
-    ≡ Ok (codes "125-71")
-unfolding digits chars encode_utf8
-row_27 = refl
-
--- "{{ ' 5'|int }}{{ '5.0'|int }}{{ ''|int }}{{ '+'|int }}{{ '1_0'|int }}"
-row_28 : printing true ((call (filtered filter.Int true) (Ok (text (codes " 5")) ∷ []))
-    ∷ (call (filtered filter.Int true) (Ok (text (codes "5.0")) ∷ []))
-    ∷ (call (filtered filter.Int true) (Ok (text []) ∷ []))
-    ∷ (call (filtered filter.Int true) (Ok (text (codes "+")) ∷ []))
-    ∷ (call (filtered filter.Int true) (Ok (text (codes "1_0")) ∷ [])) ∷ [])
-    ≡ Ok (codes "00000")
-unfolding digits chars encode_utf8
-row_28 = refl
-
--- "{{ 'x'|int(none) }}{{ none|int(7) }}{{ []|int('d') }}{{ 'x'|int(default=2) }}"
-row_29 : printing true ((call (filtered filter.Int true) (Ok (text (codes "x")) ∷ Ok nothing ∷ []))
-    ∷ (call (filtered filter.Int true) (Ok nothing ∷ Ok (number (pos 7)) ∷ []))
-    ∷ (call (filtered filter.Int true) ((call listed_all ([])) ∷ Ok (text (codes "d")) ∷ []))
-    ∷ (call (filtered filter.Int true) (Ok (text (codes "x")) ∷ Ok (number (pos 2)) ∷ [])) ∷ [])
-    ≡ Ok (codes "None7d2")
-unfolding digits chars encode_utf8
-row_29 = refl
-
--- '{{ nope|int }}'
-row_30 : printing true ((call (filtered filter.Int true) (Ok undefined ∷ [])) ∷ []) ≡ Err fault.Undefined
-unfolding digits chars encode_utf8
-row_30 = refl
-
--- "{{ '9223372036854775808'|int }}"
-row_31 : printing true ((call (filtered filter.Int true) (Ok (text (codes "9223372036854775808")) ∷ [])) ∷ [])
-    ≡ Ok (codes "0")
-unfolding digits chars encode_utf8
-row_31 = refl
-
--- "{{ '-9223372036854775808'|int }}"
-row_32 : printing true ((call (filtered filter.Int true) (Ok (text (codes "-9223372036854775808")) ∷ [])) ∷ [])
-    ≡ Ok (codes "-9223372036854775808")
-unfolding digits chars encode_utf8
-row_32 = refl
-
--- '{{ nope|items|length }}'
-row_33 : printing true
-    ((call (filtered filter.Length true) ((call (filtered filter.Items true) (Ok undefined ∷ [])) ∷ [])) ∷ [])
-    ≡ Ok (codes "0")
-unfolding digits chars encode_utf8
-row_33 = refl
-
--- '{{ 1|items }}'
-row_34 : printing true ((call (filtered filter.Items true) (Ok (number (pos 1)) ∷ [])) ∷ []) ≡ Err fault.BadType
-unfolding digits chars encode_utf8
-row_34 = refl
-
--- "{{ [1, none, nope, 'a']|join('-') }}"
-row_35 : printing true ((call (filtered filter.Join true)
-    ((call listed_all (Ok (number (pos 1)) ∷ Ok nothing ∷ Ok undefined ∷ Ok (text (codes "a")) ∷ []))
-    ∷ Ok (text (codes "-")) ∷ [])) ∷ [])
-    ≡ Ok (codes "1-None--a")
-unfolding digits chars encode_utf8
-row_35 = refl
-
--- "{{ 'ab'|join('-') }}{{ []|join('x') }}{{ {'k': 1}|join }}"
-row_36 : printing true ((call (filtered filter.Join true) (Ok (text (codes "ab")) ∷ Ok (text (codes "-")) ∷ []))
-    ∷ (call (filtered filter.Join true) ((call listed_all ([])) ∷ Ok (text (codes "x")) ∷ []))
-    ∷ (call (filtered filter.Join true) ((call mapped (Ok (text (codes "k")) ∷ Ok (number (pos 1)) ∷ [])) ∷ [])) ∷ [])
-    ≡ Ok (codes "a-bk")
-unfolding digits chars encode_utf8
-row_36 = refl
-
--- '{{ [[1]]|join }}'
-row_37 : printing true ((call (filtered filter.Join true)
-    ((call listed_all ((call listed_all (Ok (number (pos 1)) ∷ [])) ∷ [])) ∷ [])) ∷ [])
-    ≡ Err fault.Unprintable
-unfolding digits chars encode_utf8
-row_37 = refl
-
--- '{{ 5|join([1]) }}'
-row_38 : printing true
-    ((call (filtered filter.Join true) (Ok (number (pos 5)) ∷ (call listed_all (Ok (number (pos 1)) ∷ [])) ∷ [])) ∷ [])
-    ≡ Err fault.NotIterable
-unfolding digits chars encode_utf8
-row_38 = refl
-
--- '{{ []|join([1]) }}'
-row_39 : printing true ((call (filtered filter.Join true)
-    ((call listed_all ([])) ∷ (call listed_all (Ok (number (pos 1)) ∷ [])) ∷ [])) ∷ [])
-    ≡ Err fault.Unprintable
-unfolding digits chars encode_utf8
-row_39 = refl
-
--- '{{ [1, 2]|join(d=0) }}'
-row_40 : printing true ((call (filtered filter.Join true)
-    ((call listed_all (Ok (number (pos 1)) ∷ Ok (number (pos 2)) ∷ [])) ∷ Ok (number (pos 0)) ∷ [])) ∷ [])
-    ≡ Ok (codes "102")
-unfolding digits chars encode_utf8
-row_40 = refl
-
--- "{{ 'añ'|length }}{{ [1]|count }}{{ {}|length }}{{ nope|length }}"
-row_41 : printing true ((call (filtered filter.Length true) (Ok (text (97 ∷ 195 ∷ 177 ∷ [])) ∷ []))
-    ∷ (call (filtered filter.Length true) ((call listed_all (Ok (number (pos 1)) ∷ [])) ∷ []))
-    ∷ (call (filtered filter.Length true) ((call mapped ([])) ∷ []))
-    ∷ (call (filtered filter.Length true) (Ok undefined ∷ [])) ∷ [])
-    ≡ Ok (codes "2100")
-unfolding digits chars encode_utf8
-row_41 = refl
-
--- '{{ 5|length }}'
-row_42 : printing true ((call (filtered filter.Length true) (Ok (number (pos 5)) ∷ [])) ∷ []) ≡ Err fault.BadType
-unfolding digits chars encode_utf8
-row_42 = refl
-
--- '{{ none|length }}'
-row_43 : printing true ((call (filtered filter.Length true) (Ok nothing ∷ [])) ∷ []) ≡ Err fault.BadType
-unfolding digits chars encode_utf8
-row_43 = refl
-
--- "{{ 'ab'|list == ['a', 'b'] }}"
-row_44 : printing true ((call (operation op.Equal)
-    ((call (filtered filter.List true) (Ok (text (codes "ab")) ∷ []))
-    ∷ (call listed_all (Ok (text (codes "a")) ∷ Ok (text (codes "b")) ∷ [])) ∷ [])) ∷ [])
-    ≡ Ok (codes "True")
-unfolding digits chars encode_utf8
-row_44 = refl
-
--- '{{ true|list }}'
-row_45 : printing true ((call (filtered filter.List true) (Ok (truth_value true) ∷ [])) ∷ []) ≡ Err fault.NotIterable
-unfolding digits chars encode_utf8
-row_45 = refl
-
--- "{{ [2, 3, 3]|max }}{{ ['b', 'B', 'a']|max }}{{ ['b', 'A', 'a']|min }}"
-row_46 : printing true ((call (filtered filter.Max true)
-    ((call listed_all (Ok (number (pos 2)) ∷ Ok (number (pos 3)) ∷ Ok (number (pos 3)) ∷ [])) ∷ []))
-    ∷ (call (filtered filter.Max true)
-    ((call listed_all (Ok (text (codes "b")) ∷ Ok (text (codes "B")) ∷ Ok (text (codes "a")) ∷ [])) ∷ []))
-    ∷ (call (filtered filter.Min true)
-    ((call listed_all (Ok (text (codes "b")) ∷ Ok (text (codes "A")) ∷ Ok (text (codes "a")) ∷ [])) ∷ [])) ∷ [])
-    ≡ Ok (codes "3bA")
-unfolding digits chars encode_utf8
-row_46 = refl
-
--- "{{ []|max is undefined }}{{ 'bca'|min }}"
-row_47 : printing true ((call (λ ts. as_truth (tested test.Undefined ts))
-    ((call (filtered filter.Max true) ((call listed_all ([])) ∷ [])) ∷ []))
-    ∷ (call (filtered filter.Min true) (Ok (text (codes "bca")) ∷ [])) ∷ [])
-    ≡ Ok (codes "Truea")
-unfolding digits chars encode_utf8
-row_47 = refl
-
--- "{{ [1, 'a']|max }}"
-row_48 : printing true
-    ((call (filtered filter.Max true) ((call listed_all (Ok (number (pos 1)) ∷ Ok (text (codes "a")) ∷ [])) ∷ [])) ∷ [])
-    ≡ Err fault.BadType
-unfolding digits chars encode_utf8
-row_48 = refl
-
--- '{{ [1, nope]|max }}'
-row_49 : printing true
-    ((call (filtered filter.Max true) ((call listed_all (Ok (number (pos 1)) ∷ Ok undefined ∷ [])) ∷ [])) ∷ [])
-    ≡ Err fault.Undefined
-unfolding digits chars encode_utf8
-row_49 = refl
-
--- '{{ [none]|min }}'
-row_50 : printing true ((call (filtered filter.Min true) ((call listed_all (Ok nothing ∷ [])) ∷ [])) ∷ [])
-    ≡ Err fault.BadType
-unfolding digits chars encode_utf8
-row_50 = refl
-
--- "{{ ['a'|safe]|max }}"
-row_51 : printing true ((call (filtered filter.Max true)
-    ((call listed_all ((call (filtered filter.Safe true) (Ok (text (codes "a")) ∷ [])) ∷ [])) ∷ [])) ∷ [])
-    ≡ Err fault.BadType
-unfolding digits chars encode_utf8
-row_51 = refl
-
--- "{{ 'aXaX'|replace('X', '') }}{{ 'aaa'|replace('aa', 'b') }}"
-row_52 : printing true ((call (filtered filter.Replace true)
-    (Ok (text (codes "aXaX")) ∷ Ok (text (codes "X")) ∷ Ok (text []) ∷ []))
-    ∷ (call (filtered filter.Replace true)
-    (Ok (text (codes "aaa")) ∷ Ok (text (codes "aa")) ∷ Ok (text (codes "b")) ∷ [])) ∷ [])
-    ≡ Ok (codes "aaba")
-unfolding digits chars encode_utf8
-row_52 = refl
-
--- "{{ 'a'|replace('', 'b') }}"
-row_53 : printing true
-    ((call (filtered filter.Replace true) (Ok (text (codes "a")) ∷ Ok (text []) ∷ Ok (text (codes "b")) ∷ [])) ∷ [])
-    ≡ Err fault.BadArgument
-unfolding digits chars encode_utf8
-row_53 = refl
-
--- "{{ 'a'|replace(1, 'b') }}"
-row_54 : printing true ((call (filtered filter.Replace true)
-    (Ok (text (codes "a")) ∷ Ok (number (pos 1)) ∷ Ok (text (codes "b")) ∷ [])) ∷ [])
-    ≡ Err fault.BadArgument
-unfolding digits chars encode_utf8
-row_54 = refl
-
--- "{{ 'a'|replace('a', none) }}"
-row_55 : printing true
-    ((call (filtered filter.Replace true) (Ok (text (codes "a")) ∷ Ok (text (codes "a")) ∷ Ok nothing ∷ [])) ∷ [])
-    ≡ Err fault.BadArgument
-unfolding digits chars encode_utf8
-row_55 = refl
-
--- '{{ 5|replace(1, 2) }}'
-row_56 : printing true
-    ((call (filtered filter.Replace true) (Ok (number (pos 5)) ∷ Ok (number (pos 1)) ∷ Ok (number (pos 2)) ∷ [])) ∷ [])
-    ≡ Err fault.BadType
-unfolding digits chars encode_utf8
-row_56 = refl
-
--- '{{ nope|replace(1, 2) }}'
-row_57 : printing true
-    ((call (filtered filter.Replace true) (Ok undefined ∷ Ok (number (pos 1)) ∷ Ok (number (pos 2)) ∷ [])) ∷ [])
-    ≡ Err fault.Undefined
-unfolding digits chars encode_utf8
-row_57 = refl
-
--- "{{ ('a'|safe)|replace('a', 'b') }}"
-row_58 : printing true ((call (filtered filter.Replace true)
-    ((call (filtered filter.Safe true) (Ok (text (codes "a")) ∷ [])) ∷ Ok (text (codes "a")) ∷ Ok (text (codes "b"))
-    ∷ [])) ∷ [])
-    ≡ Err fault.BadType
-unfolding digits chars encode_utf8
-row_58 = refl
-
--- "{{ 'a'|replace(old='a', new='b') }}"
-row_59 : printing true ((call (filtered filter.Replace true)
-    (Ok (text (codes "a")) ∷ Ok (text (codes "a")) ∷ Ok (text (codes "b")) ∷ [])) ∷ [])
-    ≡ Ok (codes "b")
-unfolding digits chars encode_utf8
-row_59 = refl
-
--- "{{ 'añ'|reverse }}{{ [1, 2]|reverse|join }}{{ nope|reverse|length }}"
-row_60 : printing true ((call (filtered filter.Reverse true) (Ok (text (97 ∷ 195 ∷ 177 ∷ [])) ∷ []))
-    ∷ (call (filtered filter.Join true) ((call (filtered filter.Reverse true)
-    ((call listed_all (Ok (number (pos 1)) ∷ Ok (number (pos 2)) ∷ [])) ∷ [])) ∷ []))
-    ∷ (call (filtered filter.Length true) ((call (filtered filter.Reverse true) (Ok undefined ∷ [])) ∷ [])) ∷ [])
-    ≡ Ok (195 ∷ 177 ∷ 97 ∷ 50 ∷ 49 ∷ 48 ∷ [])
-unfolding digits chars encode_utf8
-row_60 = refl
-
--- "{{ {'a': 1, 'b': 2}|reverse|join }}"
-row_61 : printing true ((call (filtered filter.Join true)
-    ((call (filtered filter.Reverse true) ((call mapped
-    (Ok (text (codes "a")) ∷ Ok (number (pos 1)) ∷ Ok (text (codes "b")) ∷ Ok (number (pos 2)) ∷ [])) ∷ [])) ∷ []))
-    ∷ [])
-    ≡ Ok (codes "ba")
-unfolding digits chars encode_utf8
-row_61 = refl
-
--- "{{ [3, 1, 2]|sort(true)|join }}{{ ['b', 'A', 'a', 'B']|sort|join }}"
-row_62 : printing true ((call (filtered filter.Join true)
-    ((call (filtered filter.Sort true) ((call listed_all
-    (Ok (number (pos 3)) ∷ Ok (number (pos 1)) ∷ Ok (number (pos 2)) ∷ []))
-    ∷ Ok (truth_value true) ∷ [])) ∷ []))
-    ∷ (call (filtered filter.Join true) ((call (filtered filter.Sort true)
-    ((call listed_all
-    (Ok (text (codes "b")) ∷ Ok (text (codes "A")) ∷ Ok (text (codes "a")) ∷ Ok (text (codes "B")) ∷ [])) ∷ [])) ∷ []))
-    ∷ [])
-    ≡ Ok (codes "321AabB")
-unfolding digits chars encode_utf8
-row_62 = refl
-
--- "{{ ['b', 'A', 'a', 'B']|sort(reverse=1)|join }}"
-row_63 : printing true ((call (filtered filter.Join true)
-    ((call (filtered filter.Sort true) ((call listed_all
-    (Ok (text (codes "b")) ∷ Ok (text (codes "A")) ∷ Ok (text (codes "a")) ∷ Ok (text (codes "B")) ∷ []))
-    ∷ Ok (number (pos 1)) ∷ [])) ∷ [])) ∷ [])
-    ≡ Ok (codes "bBAa")
-unfolding digits chars encode_utf8
-row_63 = refl
-
--- "{{ [1, 'a']|sort }}"
-row_64 : printing true ((call (filtered filter.Sort true)
-    ((call listed_all (Ok (number (pos 1)) ∷ Ok (text (codes "a")) ∷ [])) ∷ [])) ∷ [])
-    ≡ Err fault.BadType
-unfolding digits chars encode_utf8
-row_64 = refl
-
--- '{{ []|sort|length }}{{ nope|sort|length }}'
-row_65 : printing true ((call (filtered filter.Length true)
-    ((call (filtered filter.Sort true) ((call listed_all ([])) ∷ [])) ∷ []))
-    ∷ (call (filtered filter.Length true) ((call (filtered filter.Sort true) (Ok undefined ∷ [])) ∷ [])) ∷ [])
-    ≡ Ok (codes "00")
-unfolding digits chars encode_utf8
-row_65 = refl
-
--- '{{ [1, nope]|sort }}'
-row_66 : printing true
-    ((call (filtered filter.Sort true) ((call listed_all (Ok (number (pos 1)) ∷ Ok undefined ∷ [])) ∷ [])) ∷ [])
-    ≡ Err fault.Undefined
-unfolding digits chars encode_utf8
-row_66 = refl
-
--- "{{ 'bA'|sort|join }}"
-row_67 : printing true
-    ((call (filtered filter.Join true) ((call (filtered filter.Sort true) (Ok (text (codes "bA")) ∷ [])) ∷ [])) ∷ [])
-    ≡ Ok (codes "Ab")
-unfolding digits chars encode_utf8
-row_67 = refl
-
--- '{{ []|sum }}{{ [1, 2]|sum }}'
-row_68 : printing true ((call (filtered filter.Sum true) ((call listed_all ([])) ∷ []))
-    ∷ (call (filtered filter.Sum true) ((call listed_all (Ok (number (pos 1)) ∷ Ok (number (pos 2)) ∷ [])) ∷ [])) ∷ [])
-    ≡ Ok (codes "03")
-unfolding digits chars encode_utf8
-row_68 = refl
-
--- '{{ [true]|sum }}'
-row_69 : printing true ((call (filtered filter.Sum true) ((call listed_all (Ok (truth_value true) ∷ [])) ∷ [])) ∷ [])
-    ≡ Err fault.BadType
-unfolding digits chars encode_utf8
-row_69 = refl
-
--- "{{ 'a'|sum }}"
-row_70 : printing true ((call (filtered filter.Sum true) (Ok (text (codes "a")) ∷ [])) ∷ []) ≡ Err fault.BadType
-unfolding digits chars encode_utf8
-row_70 = refl
-
--- '{{ [9223372036854775807, 1, -5]|sum }}'
-row_71 : printing true ((call (filtered filter.Sum true)
-    ((call listed_all (Ok (number (pos 9223372036854775807)) ∷ Ok (number (pos 1))
-    ∷ (call (operation op.Negate) (Ok (number (pos 5)) ∷ [])) ∷ [])) ∷ [])) ∷ [])
-    ≡ Err fault.Overflow
-unfolding digits chars encode_utf8
-row_71 = refl
-
--- '{{ [nope]|sum }}'
-row_72 : printing true ((call (filtered filter.Sum true) ((call listed_all (Ok undefined ∷ [])) ∷ [])) ∷ [])
-    ≡ Err fault.Undefined
-unfolding digits chars encode_utf8
-row_72 = refl
-
--- "{{ '\\v a\\n'|trim }}|{{ '\\u00a0a'|trim }}"
-row_73 : printing true ((call (filtered filter.Trim true) (Ok (text (11 ∷ 32 ∷ 97 ∷ 10 ∷ [])) ∷ []))
-    ∷ Ok (markup (codes "|")) ∷ (call (filtered filter.Trim true) (Ok (text (194 ∷ 160 ∷ 97 ∷ [])) ∷ [])) ∷ [])
-    ≡ Ok (97 ∷ 124 ∷ 194 ∷ 160 ∷ 97 ∷ [])
-unfolding digits chars encode_utf8
-row_73 = refl
-
--- '{{ 12|trim }}'
-row_74 : printing true ((call (filtered filter.Trim true) (Ok (number (pos 12)) ∷ [])) ∷ []) ≡ Ok (codes "12")
-unfolding digits chars encode_utf8
-row_74 = refl
-
--- "{{ [1, true, 'a', 'A', 2]|unique|join }}"
-row_75 : printing true ((call (filtered filter.Join true)
-    ((call (filtered filter.Unique true) ((call listed_all
-    (Ok (number (pos 1)) ∷ Ok (truth_value true) ∷ Ok (text (codes "a")) ∷ Ok (text (codes "A")) ∷ Ok (number (pos 2))
-    ∷ [])) ∷ [])) ∷ [])) ∷ [])
-    ≡ Ok (codes "1a2")
-unfolding digits chars encode_utf8
-row_75 = refl
-
--- '{{ [[1], [true]]|unique|length }}'
-row_76 : printing true ((call (filtered filter.Length true)
-    ((call (filtered filter.Unique true) ((call listed_all
-    ((call listed_all (Ok (number (pos 1)) ∷ [])) ∷ (call listed_all (Ok (truth_value true) ∷ [])) ∷ [])) ∷ [])) ∷ []))
-    ∷ [])
-    ≡ Ok (codes "1")
-unfolding digits chars encode_utf8
-row_76 = refl
-
--- "{{ ['a', 'A'|safe]|unique|length }}"
-row_77 : printing true ((call (filtered filter.Length true)
-    ((call (filtered filter.Unique true) ((call listed_all
-    (Ok (text (codes "a")) ∷ (call (filtered filter.Safe true) (Ok (text (codes "A")) ∷ [])) ∷ [])) ∷ [])) ∷ [])) ∷ [])
-    ≡ Ok (codes "1")
-unfolding digits chars encode_utf8
-row_77 = refl
-
--- '{{ 1|upper() }}'
-row_78 : printing true ((call (filtered filter.Upper true) (Ok (number (pos 1)) ∷ [])) ∷ []) ≡ Ok (codes "1")
-unfolding digits chars encode_utf8
-row_78 = refl
-
--- '{{ 5|join(1 // 0) }}'
-row_79 : printing true ((call (filtered filter.Join true)
-    (Ok (number (pos 5)) ∷ (call (operation op.FloorDivide) (Ok (number (pos 1)) ∷ Ok (number (pos 0)) ∷ [])) ∷ []))
-    ∷ [])
-    ≡ Err fault.ZeroDivide
-unfolding digits chars encode_utf8
-row_79 = refl
-
--- "{{ {'a': 1}|attr('a') }}{{ 1|attr('a') }}"
-row_80 : printing true ((call (filtered filter.Attr true)
-    ((call mapped (Ok (text (codes "a")) ∷ Ok (number (pos 1)) ∷ [])) ∷ Ok (text (codes "a")) ∷ []))
-    ∷ (call (filtered filter.Attr true) (Ok (number (pos 1)) ∷ Ok (text (codes "a")) ∷ [])) ∷ [])
-    ≡ Ok (codes "1")
-unfolding digits chars encode_utf8
-row_80 = refl
-
--- '{{ nope|attr(1) }}'
-row_81 : printing true ((call (filtered filter.Attr true) (Ok undefined ∷ Ok (number (pos 1)) ∷ [])) ∷ [])
-    ≡ Err fault.Undefined
-unfolding digits chars encode_utf8
-row_81 = refl
-
--- '{{ 1|attr(1) }}'
-row_82 : printing true ((call (filtered filter.Attr true) (Ok (number (pos 1)) ∷ Ok (number (pos 1)) ∷ [])) ∷ [])
-    ≡ Err fault.BadArgument
-unfolding digits chars encode_utf8
-row_82 = refl
-
--- "{{ {'a': 1}|attr(name='a') }}"
-row_83 : printing true ((call (filtered filter.Attr true)
-    ((call mapped (Ok (text (codes "a")) ∷ Ok (number (pos 1)) ∷ [])) ∷ Ok (text (codes "a")) ∷ [])) ∷ [])
-    ≡ Ok (codes "1")
-unfolding digits chars encode_utf8
-row_83 = refl
-
--- "{{ [1, 2]|map('string')|join('-') }}"
-row_84 : printing true ((call (filtered filter.Join true)
-    ((call (filtered filter.Map true)
-    ((call listed_all (Ok (number (pos 1)) ∷ Ok (number (pos 2)) ∷ [])) ∷ Ok (text (codes "string")) ∷ []))
-    ∷ Ok (text (codes "-")) ∷ [])) ∷ [])
-    ≡ Ok (codes "1-2")
-unfolding digits chars encode_utf8
-row_84 = refl
-
--- "{{ ['a']|map('replace', 'a', 'b')|join }}"
-row_85 : printing true ((call (filtered filter.Join true)
-    ((call (filtered filter.Map true) ((call listed_all (Ok (text (codes "a")) ∷ [])) ∷ Ok (text (codes "replace"))
-    ∷ Ok (text (codes "a")) ∷ Ok (text (codes "b")) ∷ [])) ∷ [])) ∷ [])
-    ≡ Ok (codes "b")
-unfolding digits chars encode_utf8
-row_85 = refl
-
--- "{{ [nope, 1]|map('default', 'x')|join }}"
-row_86 : printing true ((call (filtered filter.Join true)
-    ((call (filtered filter.Map true) ((call listed_all (Ok undefined ∷ Ok (number (pos 1)) ∷ []))
-    ∷ Ok (text (codes "default")) ∷ Ok (text (codes "x")) ∷ [])) ∷ [])) ∷ [])
-    ≡ Ok (codes "x1")
-unfolding digits chars encode_utf8
-row_86 = refl
-
--- "{{ [[1], [2, 3]]|map('join', ',')|join(';') }}"
-row_87 : printing true ((call (filtered filter.Join true)
-    ((call (filtered filter.Map true) ((call listed_all
-    ((call listed_all (Ok (number (pos 1)) ∷ [])) ∷ (call listed_all (Ok (number (pos 2)) ∷ Ok (number (pos 3)) ∷ []))
-    ∷ []))
-    ∷ Ok (text (codes "join")) ∷ Ok (text (codes ",")) ∷ []))
-    ∷ Ok (text (codes ";")) ∷ [])) ∷ [])
-    ≡ Ok (codes "1;2,3")
-unfolding digits chars encode_utf8
-row_87 = refl
-
--- "{{ 5|map('upper') }}"
-row_88 : printing true ((call (filtered filter.Map true) (Ok (number (pos 5)) ∷ Ok (text (codes "upper")) ∷ [])) ∷ [])
-    ≡ Err fault.NotIterable
-unfolding digits chars encode_utf8
-row_88 = refl
-
--- "{{ [[1]]|map('upper') }}"
-row_89 : printing true ((call (filtered filter.Map true)
-    ((call listed_all ((call listed_all (Ok (number (pos 1)) ∷ [])) ∷ [])) ∷ Ok (text (codes "upper")) ∷ [])) ∷ [])
-    ≡ Err fault.Unprintable
-unfolding digits chars encode_utf8
-row_89 = refl
-
--- "{{ [nope]|map(attribute='a') }}"
-row_90 : printing true ((call (filtered filter.MapAttribute true)
-    ((call listed_all (Ok undefined ∷ [])) ∷ Ok (text (codes "a")) ∷ [])) ∷ [])
-    ≡ Err fault.Undefined
-unfolding digits chars encode_utf8
-row_90 = refl
-
--- "{{ [{'a': 1}, 5]|map(attribute='a')|join('-') }}"
-row_91 : printing true ((call (filtered filter.Join true)
-    ((call (filtered filter.MapAttribute true)
-    ((call listed_all ((call mapped (Ok (text (codes "a")) ∷ Ok (number (pos 1)) ∷ [])) ∷ Ok (number (pos 5)) ∷ []))
-    ∷ Ok (text (codes "a")) ∷ []))
-    ∷ Ok (text (codes "-")) ∷ [])) ∷ [])
-    ≡ Ok (codes "1-")
-unfolding digits chars encode_utf8
-row_91 = refl
-
--- "{{ [0, 1, '', 'a']|select|join }}{{ [0, 1, '', 'a']|reject|length }}"
-row_92 : printing true ((call (filtered filter.Join true)
-    ((call (filtered filter.Select true)
-    ((call listed_all (Ok (number (pos 0)) ∷ Ok (number (pos 1)) ∷ Ok (text []) ∷ Ok (text (codes "a")) ∷ [])) ∷ []))
-    ∷ []))
-    ∷ (call (filtered filter.Length true) ((call (filtered filter.Reject true)
-    ((call listed_all (Ok (number (pos 0)) ∷ Ok (number (pos 1)) ∷ Ok (text []) ∷ Ok (text (codes "a")) ∷ [])) ∷ []))
-    ∷ [])) ∷ [])
-    ≡ Ok (codes "1a2")
-unfolding digits chars encode_utf8
-row_92 = refl
-
--- "{{ [1, 2, 3]|select('divisibleby', 2)|join }}"
-row_93 : printing true ((call (filtered filter.Join true)
-    ((call (filtered filter.Select true) ((call listed_all
-    (Ok (number (pos 1)) ∷ Ok (number (pos 2)) ∷ Ok (number (pos 3)) ∷ []))
-    ∷ Ok (text (codes "divisibleby")) ∷ Ok (number (pos 2)) ∷ [])) ∷ [])) ∷ [])
-    ≡ Ok (codes "2")
-unfolding digits chars encode_utf8
-row_93 = refl
-
--- "{{ [1]|select('divisibleby', 0) }}"
-row_94 : printing true ((call (filtered filter.Select true)
-    ((call listed_all (Ok (number (pos 1)) ∷ [])) ∷ Ok (text (codes "divisibleby")) ∷ Ok (number (pos 0)) ∷ [])) ∷ [])
-    ≡ Err fault.ZeroDivide
-unfolding digits chars encode_utf8
-row_94 = refl
-
--- "{{ []|select('divisibleby', 0)|length }}"
-row_95 : printing true ((call (filtered filter.Length true)
-    ((call (filtered filter.Select true)
-    ((call listed_all ([])) ∷ Ok (text (codes "divisibleby")) ∷ Ok (number (pos 0)) ∷ [])) ∷ [])) ∷ [])
-    ≡ Ok (codes "0")
-unfolding digits chars encode_utf8
-row_95 = refl
-
--- "{{ ['a']|select('odd') }}"
-row_96 : printing true ((call (filtered filter.Select true)
-    ((call listed_all (Ok (text (codes "a")) ∷ [])) ∷ Ok (text (codes "odd")) ∷ [])) ∷ [])
-    ≡ Err fault.BadType
-unfolding digits chars encode_utf8
-row_96 = refl
-
--- "{{ [1, 2, 3]|reject('in', [1, 2])|join }}"
-row_97 : printing true ((call (filtered filter.Join true)
-    ((call (filtered filter.Reject true) ((call listed_all
-    (Ok (number (pos 1)) ∷ Ok (number (pos 2)) ∷ Ok (number (pos 3)) ∷ []))
-    ∷ Ok (text (codes "in")) ∷ (call listed_all (Ok (number (pos 1)) ∷ Ok (number (pos 2)) ∷ [])) ∷ [])) ∷ [])) ∷ [])
-    ≡ Ok (codes "3")
-unfolding digits chars encode_utf8
-row_97 = refl
-
--- "{{ [nope, 1]|select('defined')|join }}"
-row_98 : printing true ((call (filtered filter.Join true)
-    ((call (filtered filter.Select true)
-    ((call listed_all (Ok undefined ∷ Ok (number (pos 1)) ∷ [])) ∷ Ok (text (codes "defined")) ∷ [])) ∷ [])) ∷ [])
-    ≡ Ok (codes "1")
-unfolding digits chars encode_utf8
-row_98 = refl
-
--- "{{ [{'a': 0}, {'a': 1}]|selectattr('a')|length }}"
-row_99 : printing true ((call (filtered filter.Length true)
-    ((call (filtered filter.SelectAttr true) ((call listed_all
-    ((call mapped (Ok (text (codes "a")) ∷ Ok (number (pos 0)) ∷ []))
-    ∷ (call mapped (Ok (text (codes "a")) ∷ Ok (number (pos 1)) ∷ [])) ∷ []))
-    ∷ Ok (text (codes "a")) ∷ [])) ∷ [])) ∷ [])
-    ≡ Ok (codes "1")
-unfolding digits chars encode_utf8
-row_99 = refl
-
--- "{{ [nope]|selectattr('a') }}"
-row_100 : printing true
-    ((call (filtered filter.SelectAttr true) ((call listed_all (Ok undefined ∷ [])) ∷ Ok (text (codes "a")) ∷ [])) ∷ [])
-    ≡ Err fault.Undefined
-unfolding digits chars encode_utf8
-row_100 = refl
-
--- "{{ [{'a': 1}, {}]|selectattr('a', 'defined')|length }}"
-row_101 : printing true ((call (filtered filter.Length true)
-    ((call (filtered filter.SelectAttr true) ((call listed_all
-    ((call mapped (Ok (text (codes "a")) ∷ Ok (number (pos 1)) ∷ [])) ∷ (call mapped ([])) ∷ []))
-    ∷ Ok (text (codes "a")) ∷ Ok (text (codes "defined")) ∷ [])) ∷ [])) ∷ [])
-    ≡ Ok (codes "1")
-unfolding digits chars encode_utf8
-row_101 = refl
-
--- "{{ [1, 2]|rejectattr('a')|length }}"
-row_102 : printing true ((call (filtered filter.Length true)
-    ((call (filtered filter.RejectAttr true)
-    ((call listed_all (Ok (number (pos 1)) ∷ Ok (number (pos 2)) ∷ [])) ∷ Ok (text (codes "a")) ∷ [])) ∷ [])) ∷ [])
-    ≡ Ok (codes "2")
-unfolding digits chars encode_utf8
-row_102 = refl
-
--- '{{ "<"|e|e }}{{ "<"|forceescape|forceescape }}'
-row_103 : printing true ((call (filtered filter.Escape true)
-    ((call (filtered filter.Escape true) (Ok (text (codes "<")) ∷ [])) ∷ []))
-    ∷ (call (filtered filter.ForceEscape true)
-    ((call (filtered filter.ForceEscape true) (Ok (text (codes "<")) ∷ [])) ∷ [])) ∷ [])
-    ≡ Ok (codes "&lt;&amp;lt;")
-unfolding digits chars encode_utf8
-row_103 = refl
-
--- '{{ ("<"|safe) + "<" }}'
-row_104 : printing true ((call (operation op.Add)
-    ((call (filtered filter.Safe true) (Ok (text (codes "<")) ∷ [])) ∷ Ok (text (codes "<")) ∷ [])) ∷ [])
-    ≡ Ok (codes "<&lt;")
-unfolding digits chars encode_utf8
-row_104 = refl
-
--- '{{ "<" + ("<"|safe) }}{{ ("<"|safe) + ("<"|safe) }}'
-row_105 : printing true ((call (operation op.Add)
-    (Ok (text (codes "<")) ∷ (call (filtered filter.Safe true) (Ok (text (codes "<")) ∷ [])) ∷ []))
-    ∷ (call (operation op.Add) ((call (filtered filter.Safe true) (Ok (text (codes "<")) ∷ []))
-    ∷ (call (filtered filter.Safe true) (Ok (text (codes "<")) ∷ [])) ∷ [])) ∷ [])
-    ≡ Ok (codes "&lt;<<<")
-unfolding digits chars encode_utf8
-row_105 = refl
-
--- '{{ ("<"|safe) * 2 }}'
-row_106 : printing true ((call (operation op.Multiply)
-    ((call (filtered filter.Safe true) (Ok (text (codes "<")) ∷ [])) ∷ Ok (number (pos 2)) ∷ [])) ∷ [])
-    ≡ Ok (codes "<<")
-unfolding digits chars encode_utf8
-row_106 = refl
-
--- '{{ ("<b>"|safe)|upper }}{{ ("<"|safe)|string }}'
-row_107 : printing true ((call (filtered filter.Upper true)
-    ((call (filtered filter.Safe true) (Ok (text (codes "<b>")) ∷ [])) ∷ []))
-    ∷ (call (filtered filter.String true) ((call (filtered filter.Safe true) (Ok (text (codes "<")) ∷ [])) ∷ [])) ∷ [])
-    ≡ Ok (codes "<B><")
-unfolding digits chars encode_utf8
-row_107 = refl
-
--- '{{ ("<"|safe)[0] }}'
-row_108 : printing true ((call (operation op.Item)
-    ((call (filtered filter.Safe true) (Ok (text (codes "<")) ∷ [])) ∷ Ok (number (pos 0)) ∷ [])) ∷ [])
-    ≡ Ok (codes "&lt;")
-unfolding digits chars encode_utf8
-row_108 = refl
-
--- '{{ ("<"|safe)|reverse }}{{ ("<"|safe)|first }}'
-row_109 : printing true ((call (filtered filter.Reverse true)
-    ((call (filtered filter.Safe true) (Ok (text (codes "<")) ∷ [])) ∷ []))
-    ∷ (call (filtered filter.First true) ((call (filtered filter.Safe true) (Ok (text (codes "<")) ∷ [])) ∷ [])) ∷ [])
-    ≡ Ok (codes "&lt;&lt;")
-unfolding digits chars encode_utf8
-row_109 = refl
-
--- '{{ ("<"|safe)|list|join }}'
-row_110 : printing true ((call (filtered filter.Join true)
-    ((call (filtered filter.List true) ((call (filtered filter.Safe true) (Ok (text (codes "<")) ∷ [])) ∷ [])) ∷ []))
-    ∷ [])
-    ≡ Ok (codes "&lt;")
-unfolding digits chars encode_utf8
-row_110 = refl
-
--- '{{ ("<"|safe) ~ 1 ~ "<" }}'
-row_111 : printing true ((call (operation op.JoinEscaping)
-    ((call (operation op.JoinEscaping)
-    ((call (filtered filter.Safe true) (Ok (text (codes "<")) ∷ [])) ∷ Ok (number (pos 1)) ∷ []))
-    ∷ Ok (text (codes "<")) ∷ [])) ∷ [])
-    ≡ Ok (codes "<1&lt;")
-unfolding digits chars encode_utf8
-row_111 = refl
-
--- '{{ ["<"]|join("<"|safe) }}'
-row_112 : printing true ((call (filtered filter.Join true)
-    ((call listed_all (Ok (text (codes "<")) ∷ [])) ∷ (call (filtered filter.Safe true) (Ok (text (codes "<")) ∷ []))
-    ∷ [])) ∷ [])
-    ≡ Ok (codes "&lt;")
-unfolding digits chars encode_utf8
-row_112 = refl
-
--- '{{ ["a", "b"]|join("<"|safe) }}{{ ["<", 1|safe]|join("<") }}'
-row_113 : printing true ((call (filtered filter.Join true)
-    ((call listed_all (Ok (text (codes "a")) ∷ Ok (text (codes "b")) ∷ []))
-    ∷ (call (filtered filter.Safe true) (Ok (text (codes "<")) ∷ [])) ∷ []))
-    ∷ (call (filtered filter.Join true) ((call listed_all
-    (Ok (text (codes "<")) ∷ (call (filtered filter.Safe true) (Ok (number (pos 1)) ∷ [])) ∷ []))
-    ∷ Ok (text (codes "<")) ∷ [])) ∷ [])
-    ≡ Ok (codes "a<b&lt;&lt;1")
-unfolding digits chars encode_utf8
-row_113 = refl
-
--- '{{ "<" ~ ("<"|safe) is escaped }}{{ ("<" ~ ("<"|safe)) is escaped }}'
-row_114 : printing false ((call (operation op.Join)
-    (Ok (text (codes "<")) ∷ (call (λ ts. as_truth (tested test.Escaped ts))
-    ((call (filtered filter.Safe false) (Ok (text (codes "<")) ∷ [])) ∷ [])) ∷ []))
-    ∷ (call (λ ts. as_truth (tested test.Escaped ts))
-    ((call (operation op.Join)
-    (Ok (text (codes "<")) ∷ (call (filtered filter.Safe false) (Ok (text (codes "<")) ∷ [])) ∷ [])) ∷ [])) ∷ [])
-    ≡ Ok (codes "<TrueFalse")
-unfolding digits chars encode_utf8
-row_114 = refl
-
--- '{{ "<"|e }}{{ "<" + ("<"|safe) }}'
-row_115 : printing false ((call (filtered filter.Escape false) (Ok (text (codes "<")) ∷ []))
-    ∷ (call (operation op.Add)
-    (Ok (text (codes "<")) ∷ (call (filtered filter.Safe false) (Ok (text (codes "<")) ∷ [])) ∷ [])) ∷ [])
-    ≡ Ok (codes "&lt;&lt;<")
-unfolding digits chars encode_utf8
-row_115 = refl
-
--- '{{ "<" }}{{ "<"|e }}'
-row_116 : printing false
-    (Ok (text (codes "<")) ∷ (call (filtered filter.Escape false) (Ok (text (codes "<")) ∷ [])) ∷ [])
-    ≡ Ok (codes "<&lt;")
-unfolding digits chars encode_utf8
-row_116 = refl
-
--- "{{ []|map('nope') }}"
-row_117 : printing true
-    ((call (filtered filter.Map true) ((call listed_all ([])) ∷ Ok (text (codes "nope")) ∷ [])) ∷ [])
-    ≡ Err fault.BadArgument
-unfolding digits chars encode_utf8
-row_117 = refl
-
--- "{{ 5|map('nope') }}"
-row_118 : printing true ((call (filtered filter.Map true) (Ok (number (pos 5)) ∷ Ok (text (codes "nope")) ∷ [])) ∷ [])
-    ≡ Err fault.NotIterable
-unfolding digits chars encode_utf8
-row_118 = refl
-
--- "{{ []|map('select') }}"
-row_119 : printing true
-    ((call (filtered filter.Map true) ((call listed_all ([])) ∷ Ok (text (codes "select")) ∷ [])) ∷ [])
-    ≡ Err fault.BadArgument
-unfolding digits chars encode_utf8
-row_119 = refl
-
--- "{{ []|map('replace', 'a') }}"
-row_120 : printing true ((call (filtered filter.Map true)
-    ((call listed_all ([])) ∷ Ok (text (codes "replace")) ∷ Ok (text (codes "a")) ∷ [])) ∷ [])
-    ≡ Err fault.BadArgument
-unfolding digits chars encode_utf8
-row_120 = refl
-
--- "{{ []|select('odd', 1) }}"
-row_121 : printing true ((call (filtered filter.Select true)
-    ((call listed_all ([])) ∷ Ok (text (codes "odd")) ∷ Ok (number (pos 1)) ∷ [])) ∷ [])
-    ≡ Err fault.BadArgument
-unfolding digits chars encode_utf8
-row_121 = refl
-
--- "{{ []|selectattr(1) }}"
-row_122 : printing true
-    ((call (filtered filter.SelectAttr true) ((call listed_all ([])) ∷ Ok (number (pos 1)) ∷ [])) ∷ [])
-    ≡ Err fault.BadArgument
-unfolding digits chars encode_utf8
-row_122 = refl
-
--- "{{ [{'a': 'x'}]|map('attr', 'a')|join }}"
-row_123 : printing true ((call (filtered filter.Join true)
-    ((call (filtered filter.Map true) ((call listed_all
-    ((call mapped (Ok (text (codes "a")) ∷ Ok (text (codes "x")) ∷ [])) ∷ []))
-    ∷ Ok (text (codes "attr")) ∷ Ok (text (codes "a")) ∷ [])) ∷ [])) ∷ [])
-    ≡ Ok (codes "x")
-unfolding digits chars encode_utf8
-row_123 = refl
-
--- "{{ [{'a': 1}, {'a': 2}]|rejectattr('a', 'eq', 2)|length }}"
-row_124 : printing true ((call (filtered filter.Length true)
-    ((call (filtered filter.RejectAttr true) ((call listed_all
-    ((call mapped (Ok (text (codes "a")) ∷ Ok (number (pos 1)) ∷ []))
-    ∷ (call mapped (Ok (text (codes "a")) ∷ Ok (number (pos 2)) ∷ [])) ∷ []))
-    ∷ Ok (text (codes "a")) ∷ Ok (text (codes "eq")) ∷ Ok (number (pos 2)) ∷ [])) ∷ [])) ∷ [])
-    ≡ Ok (codes "1")
-unfolding digits chars encode_utf8
-row_124 = refl
+-- Literals, an unknown name, and a text outside tags.
+abbrev n : ℕ → Given
+n i = Ok (number (pos i))
+
+abbrev bytes : List ℕ → Given
+bytes s = Ok (text s)
+
+abbrev t : String → Given
+t s = bytes (codes s)
+
+abbrev none : Given
+none = Ok nothing
+
+abbrev truth : Given
+truth = Ok (truth_value true)
+
+abbrev nope : Given
+nope = Ok undefined
+
+abbrev outside : String → Given
+outside s = Ok (markup (codes s))
+
+abbrev ls : List Given → Given
+ls = call listed
+
+abbrev nested : ℕ → Given
+nested zero = ls []
+nested (suc k) = ls (nested k ∷ [])
+
+abbrev dict : List Given → Given
+dict = call mapped
+
+-- Operators, tests, and filters with their arguments.
+abbrev on : OpId → Given → Given → Given
+on o a b = call (operation o) (a ∷ b ∷ [])
+
+abbrev minus : Given → Given
+minus a = call (operation op.Negate) (a ∷ [])
+
+abbrev is : TestId → Given → Given
+is k a = call (λ ts. as_truth (tested k ts)) (a ∷ [])
+
+abbrev by : FilterId → Given → Given
+by g a = call (filtered g true) (a ∷ [])
+
+abbrev by1 : FilterId → Given → Given → Given
+by1 g b a = call (filtered g true) (a ∷ b ∷ [])
+
+abbrev by2 : FilterId → Given → Given → Given → Given
+by2 g b c a = call (filtered g true) (a ∷ b ∷ c ∷ [])
+
+abbrev by3 : FilterId → Given → Given → Given → Given → Given
+by3 g b c d a = call (filtered g true) (a ∷ b ∷ c ∷ d ∷ [])
+
+abbrev raw_by : FilterId → Given → Given
+raw_by g a = call (filtered g false) (a ∷ [])
+
+abbrev ◌▹◌ : Given → (Given → Given) → Given
+a ▹ g = g a
+
+abbrev ◌gives◌ : List Given → List ℕ → Row
+rs gives s = (rs, Ok s)
+
+abbrev ◌prints◌ : List Given → String → Row
+rs prints s = rs gives codes s
+
+abbrev ◌fails◌ : List Given → Fault → Row
+rs fails e = (rs, Err e)
+
+-- Templates that escape.
+abbrev rows : List Row
+rows =
+    -- '{{ x }}{{ x|safe }}'
+    (t "<&'\">" ∷ t "<&'\">" ▹ by f.Safe ∷ []) prints "&lt;&amp;&#39;&#34;&gt;<&'\">"
+    -- '{{ "<" ~ ("<b>"|safe) }}'
+    ∷ (on op.JoinEscaping (t "<") (t "<b>" ▹ by f.Safe) ∷ []) prints "&lt;<b>"
+    -- '{{ [3, 1, 2]|sort|join(",") }} {{ ["b", "A", "a"]|unique|join }} {{ -1|abs }}'
+    ∷ (ls (n 3 ∷ n 1 ∷ n 2 ∷ []) ▹ by f.Sort ▹ by1 f.Join (t ",") ∷ outside " "
+    ∷ ls (t "b" ∷ t "A" ∷ t "a" ∷ []) ▹ by f.Unique ▹ by f.Join ∷ outside " " ∷ minus (n 1) ▹ by f.Abs ∷ [])
+    prints "1,2,3 bA 1"
+    -- '{{ ["<", "<"|safe]|join }}'
+    ∷ (ls (t "<" ∷ t "<" ▹ by f.Safe ∷ []) ▹ by f.Join ∷ []) prints "&lt;<"
+    -- '{{ [9223372036854775807, 1, "x"]|sum }}'
+    ∷ (ls (n 9223372036854775807 ∷ n 1 ∷ t "x" ∷ []) ▹ by f.Sum ∷ []) fails fault.BadType
+    -- '{{ [1, 2, 3]|select("odd")|join(",") }}'
+    ∷ (ls (n 1 ∷ n 2 ∷ n 3 ∷ []) ▹ by1 f.Select (t "odd") ▹ by1 f.Join (t ",") ∷ []) prints "1,3"
+    -- '{{ [{"a": 1}, {"a": 2}]|map(attribute="a")|sum }}'
+    ∷ (ls (dict (t "a" ∷ n 1 ∷ []) ∷ dict (t "a" ∷ n 2 ∷ []) ∷ []) ▹ by1 f.MapAttribute (t "a") ▹ by f.Sum ∷ [])
+    prints "3"
+    -- '{{ ["x", "y"]|map("upper")|join }}'
+    ∷ (ls (t "x" ∷ t "y" ∷ []) ▹ by1 f.Map (t "upper") ▹ by f.Join ∷ []) prints "XY"
+    -- '{{ [{"a": 1}, {"a": 2}]|rejectattr("a", "eq", 2)|length }}'
+    ∷ (ls (dict (t "a" ∷ n 1 ∷ []) ∷ dict (t "a" ∷ n 2 ∷ []) ∷ []) ▹ by3 f.RejectAttr (t "a") (t "eq") (n 2)
+    ▹ by f.Length ∷ []) prints "1"
+    -- '{{ [[[[[[[[[[[[[[[[[[[[[[[[[[[[[[[[]]]]]]]]]]]]]]]]]]]]]]]]]]]]]]]]|length }}'
+    ∷ (nested 31 ▹ by f.Length ∷ []) prints "1"
+    -- '{{ -3|abs }}{{ (0 - 9223372036854775807 - 1)|abs }}'
+    ∷ (minus (n 3) ▹ by f.Abs ∷ on op.Subtract (on op.Subtract (n 0) (n 9223372036854775807)) (n 1) ▹ by f.Abs ∷ [])
+    fails fault.Overflow
+    -- '{{ true|abs }}'
+    ∷ (truth ▹ by f.Abs ∷ []) fails fault.BadType
+    -- '{{ nope|abs }}'
+    ∷ (nope ▹ by f.Abs ∷ []) fails fault.Undefined
+    -- "{{ 'éAB c'|capitalize }}{{ 'ÀB'|lower }}{{ 'é'|upper }}"
+    ∷ (bytes (195 ∷ 169 ∷ 65 ∷ 66 ∷ 32 ∷ 99 ∷ []) ▹ by f.Capitalize ∷ bytes (195 ∷ 128 ∷ 66 ∷ []) ▹ by f.Lower
+    ∷ bytes (195 ∷ 169 ∷ []) ▹ by f.Upper ∷ [])
+    gives (195 ∷ 169 ∷ 97 ∷ 98 ∷ 32 ∷ 99 ∷ 195 ∷ 128 ∷ 98 ∷ 195 ∷ 169 ∷ [])
+    -- '{{ none|upper }}{{ nope|upper }}{{ 1|upper }}'
+    ∷ (none ▹ by f.Upper ∷ nope ▹ by f.Upper ∷ n 1 ▹ by f.Upper ∷ []) prints "NONE1"
+    -- '{{ [1]|upper }}'
+    ∷ (ls (n 1 ∷ []) ▹ by f.Upper ∷ []) fails fault.Unprintable
+    -- "{{ nope|default }}{{ nope|d('x') }}{{ 0|d('x') }}{{ 0|d('x', true) }}"
+    ∷ (nope ▹ by f.Default ∷ nope ▹ by1 f.Default (t "x") ∷ n 0 ▹ by1 f.Default (t "x")
+    ∷ n 0 ▹ by2 f.Default (t "x") truth ∷ []) prints "x0x"
+    -- "{{ 0|default(boolean=1, default_value='y') }}{{ ''|d(boolean=true) }}"
+    ∷ (n 0 ▹ by2 f.Default (t "y") (n 1) ∷ t "" ▹ by2 f.Default (t "") truth ∷ []) prints "y"
+    -- "{{ none|default('x') }}"
+    ∷ (none ▹ by1 f.Default (t "x") ∷ []) prints "None"
+    -- '{{ nope|default(gone) is undefined }}'
+    ∷ (nope ▹ by1 f.Default nope ▹ is test.Undefined ∷ []) prints "True"
+    -- "{{ {'b': 1, 'A': 2, 'a': 3}|dictsort|length }}"
+    ∷ (dict (t "b" ∷ n 1 ∷ t "A" ∷ n 2 ∷ t "a" ∷ n 3 ∷ []) ▹ by f.DictSort ▹ by f.Length ∷ []) prints "3"
+    -- '{{ [1]|dictsort }}'
+    ∷ (ls (n 1 ∷ []) ▹ by f.DictSort ∷ []) fails fault.BadType
+    -- '{{ nope|dictsort }}'
+    ∷ (nope ▹ by f.DictSort ∷ []) fails fault.Undefined
+    -- "{{ ''|first is undefined }}{{ 'ab'|first }}{{ 'ab'|last }}"
+    ∷ (t "" ▹ by f.First ▹ is test.Undefined ∷ t "ab" ▹ by f.First ∷ t "ab" ▹ by f.Last ∷ []) prints "Trueab"
+    -- '{{ 5|first }}'
+    ∷ (n 5 ▹ by f.First ∷ []) fails fault.NotIterable
+    -- "{{ {'x': 1}|first }}{{ nope|last is undefined }}"
+    ∷ (dict (t "x" ∷ n 1 ∷ []) ▹ by f.First ∷ nope ▹ by f.Last ▹ is test.Undefined ∷ []) prints "xTrue"
+    -- "{{ '12'|int }}{{ '+5'|int }}{{ '-07'|int }}{{ true|int }}"
+    ∷ (t "12" ▹ by f.Int ∷ t "+5" ▹ by f.Int ∷ t "-07" ▹ by f.Int ∷ truth ▹ by f.Int ∷ []) prints "125-71"
+    -- "{{ ' 5'|int }}{{ '5.0'|int }}{{ ''|int }}{{ '+'|int }}{{ '1_0'|int }}"
+    ∷ (t " 5" ▹ by f.Int ∷ t "5.0" ▹ by f.Int ∷ t "" ▹ by f.Int ∷ t "+" ▹ by f.Int ∷ t "1_0" ▹ by f.Int ∷ [])
+    prints "00000"
+    -- "{{ 'x'|int(none) }}{{ none|int(7) }}{{ []|int('d') }}{{ 'x'|int(default=2) }}"
+    ∷ (t "x" ▹ by1 f.Int none ∷ none ▹ by1 f.Int (n 7) ∷ ls [] ▹ by1 f.Int (t "d") ∷ t "x" ▹ by1 f.Int (n 2) ∷ [])
+    prints "None7d2"
+    -- '{{ nope|int }}'
+    ∷ (nope ▹ by f.Int ∷ []) fails fault.Undefined
+    -- "{{ '9223372036854775808'|int }}"
+    ∷ (t "9223372036854775808" ▹ by f.Int ∷ []) prints "0"
+    -- "{{ '-9223372036854775808'|int }}"
+    ∷ (t "-9223372036854775808" ▹ by f.Int ∷ []) prints "-9223372036854775808"
+    -- '{{ nope|items|length }}'
+    ∷ (nope ▹ by f.Items ▹ by f.Length ∷ []) prints "0"
+    -- '{{ 1|items }}'
+    ∷ (n 1 ▹ by f.Items ∷ []) fails fault.BadType
+    -- "{{ [1, none, nope, 'a']|join('-') }}"
+    ∷ (ls (n 1 ∷ none ∷ nope ∷ t "a" ∷ []) ▹ by1 f.Join (t "-") ∷ []) prints "1-None--a"
+    -- "{{ 'ab'|join('-') }}{{ []|join('x') }}{{ {'k': 1}|join }}"
+    ∷ (t "ab" ▹ by1 f.Join (t "-") ∷ ls [] ▹ by1 f.Join (t "x") ∷ dict (t "k" ∷ n 1 ∷ []) ▹ by f.Join ∷ [])
+    prints "a-bk"
+    -- '{{ [[1]]|join }}'
+    ∷ (ls (ls (n 1 ∷ []) ∷ []) ▹ by f.Join ∷ []) fails fault.Unprintable
+    -- '{{ 5|join([1]) }}'
+    ∷ (n 5 ▹ by1 f.Join (ls (n 1 ∷ [])) ∷ []) fails fault.NotIterable
+    -- '{{ []|join([1]) }}'
+    ∷ (ls [] ▹ by1 f.Join (ls (n 1 ∷ [])) ∷ []) fails fault.Unprintable
+    -- '{{ [1, 2]|join(d=0) }}'
+    ∷ (ls (n 1 ∷ n 2 ∷ []) ▹ by1 f.Join (n 0) ∷ []) prints "102"
+    -- "{{ 'añ'|length }}{{ [1]|count }}{{ {}|length }}{{ nope|length }}"
+    ∷ (bytes (97 ∷ 195 ∷ 177 ∷ []) ▹ by f.Length ∷ ls (n 1 ∷ []) ▹ by f.Length ∷ dict [] ▹ by f.Length
+    ∷ nope ▹ by f.Length ∷ []) prints "2100"
+    -- '{{ 5|length }}'
+    ∷ (n 5 ▹ by f.Length ∷ []) fails fault.BadType
+    -- '{{ none|length }}'
+    ∷ (none ▹ by f.Length ∷ []) fails fault.BadType
+    -- "{{ 'ab'|list == ['a', 'b'] }}"
+    ∷ (on op.Equal (t "ab" ▹ by f.List) (ls (t "a" ∷ t "b" ∷ [])) ∷ []) prints "True"
+    -- '{{ true|list }}'
+    ∷ (truth ▹ by f.List ∷ []) fails fault.NotIterable
+    -- "{{ [2, 3, 3]|max }}{{ ['b', 'B', 'a']|max }}{{ ['b', 'A', 'a']|min }}"
+    ∷ (ls (n 2 ∷ n 3 ∷ n 3 ∷ []) ▹ by f.Max ∷ ls (t "b" ∷ t "B" ∷ t "a" ∷ []) ▹ by f.Max
+    ∷ ls (t "b" ∷ t "A" ∷ t "a" ∷ []) ▹ by f.Min ∷ []) prints "3bA"
+    -- "{{ []|max is undefined }}{{ 'bca'|min }}"
+    ∷ (ls [] ▹ by f.Max ▹ is test.Undefined ∷ t "bca" ▹ by f.Min ∷ []) prints "Truea"
+    -- "{{ [1, 'a']|max }}"
+    ∷ (ls (n 1 ∷ t "a" ∷ []) ▹ by f.Max ∷ []) fails fault.BadType
+    -- '{{ [1, nope]|max }}'
+    ∷ (ls (n 1 ∷ nope ∷ []) ▹ by f.Max ∷ []) fails fault.Undefined
+    -- '{{ [none]|min }}'
+    ∷ (ls (none ∷ []) ▹ by f.Min ∷ []) fails fault.BadType
+    -- "{{ ['a'|safe]|max }}"
+    ∷ (ls (t "a" ▹ by f.Safe ∷ []) ▹ by f.Max ∷ []) fails fault.BadType
+    -- "{{ 'aXaX'|replace('X', '') }}{{ 'aaa'|replace('aa', 'b') }}"
+    ∷ (t "aXaX" ▹ by2 f.Replace (t "X") (t "") ∷ t "aaa" ▹ by2 f.Replace (t "aa") (t "b") ∷ []) prints "aaba"
+    -- "{{ 'a'|replace('', 'b') }}"
+    ∷ (t "a" ▹ by2 f.Replace (t "") (t "b") ∷ []) fails fault.BadArgument
+    -- "{{ 'a'|replace(1, 'b') }}"
+    ∷ (t "a" ▹ by2 f.Replace (n 1) (t "b") ∷ []) fails fault.BadArgument
+    -- "{{ 'a'|replace('a', none) }}"
+    ∷ (t "a" ▹ by2 f.Replace (t "a") none ∷ []) fails fault.BadArgument
+    -- '{{ 5|replace(1, 2) }}'
+    ∷ (n 5 ▹ by2 f.Replace (n 1) (n 2) ∷ []) fails fault.BadType
+    -- '{{ nope|replace(1, 2) }}'
+    ∷ (nope ▹ by2 f.Replace (n 1) (n 2) ∷ []) fails fault.Undefined
+    -- "{{ ('a'|safe)|replace('a', 'b') }}"
+    ∷ (t "a" ▹ by f.Safe ▹ by2 f.Replace (t "a") (t "b") ∷ []) fails fault.BadType
+    -- "{{ 'a'|replace(old='a', new='b') }}"
+    ∷ (t "a" ▹ by2 f.Replace (t "a") (t "b") ∷ []) prints "b"
+    -- "{{ 'añ'|reverse }}{{ [1, 2]|reverse|join }}{{ nope|reverse|length }}"
+    ∷ (bytes (97 ∷ 195 ∷ 177 ∷ []) ▹ by f.Reverse ∷ ls (n 1 ∷ n 2 ∷ []) ▹ by f.Reverse ▹ by f.Join
+    ∷ nope ▹ by f.Reverse ▹ by f.Length ∷ []) gives (195 ∷ 177 ∷ 97 ∷ 50 ∷ 49 ∷ 48 ∷ [])
+    -- "{{ {'a': 1, 'b': 2}|reverse|join }}"
+    ∷ (dict (t "a" ∷ n 1 ∷ t "b" ∷ n 2 ∷ []) ▹ by f.Reverse ▹ by f.Join ∷ []) prints "ba"
+    -- "{{ [3, 1, 2]|sort(true)|join }}{{ ['b', 'A', 'a', 'B']|sort|join }}"
+    ∷ (ls (n 3 ∷ n 1 ∷ n 2 ∷ []) ▹ by1 f.Sort truth ▹ by f.Join
+    ∷ ls (t "b" ∷ t "A" ∷ t "a" ∷ t "B" ∷ []) ▹ by f.Sort ▹ by f.Join ∷ []) prints "321AabB"
+    -- "{{ ['b', 'A', 'a', 'B']|sort(reverse=1)|join }}"
+    ∷ (ls (t "b" ∷ t "A" ∷ t "a" ∷ t "B" ∷ []) ▹ by1 f.Sort (n 1) ▹ by f.Join ∷ []) prints "bBAa"
+    -- "{{ [1, 'a']|sort }}"
+    ∷ (ls (n 1 ∷ t "a" ∷ []) ▹ by f.Sort ∷ []) fails fault.BadType
+    -- '{{ []|sort|length }}{{ nope|sort|length }}'
+    ∷ (ls [] ▹ by f.Sort ▹ by f.Length ∷ nope ▹ by f.Sort ▹ by f.Length ∷ []) prints "00"
+    -- '{{ [1, nope]|sort }}'
+    ∷ (ls (n 1 ∷ nope ∷ []) ▹ by f.Sort ∷ []) fails fault.Undefined
+    -- "{{ 'bA'|sort|join }}"
+    ∷ (t "bA" ▹ by f.Sort ▹ by f.Join ∷ []) prints "Ab"
+    -- '{{ []|sum }}{{ [1, 2]|sum }}'
+    ∷ (ls [] ▹ by f.Sum ∷ ls (n 1 ∷ n 2 ∷ []) ▹ by f.Sum ∷ []) prints "03"
+    -- '{{ [true]|sum }}'
+    ∷ (ls (truth ∷ []) ▹ by f.Sum ∷ []) fails fault.BadType
+    -- "{{ 'a'|sum }}"
+    ∷ (t "a" ▹ by f.Sum ∷ []) fails fault.BadType
+    -- '{{ [9223372036854775807, 1, -5]|sum }}'
+    ∷ (ls (n 9223372036854775807 ∷ n 1 ∷ minus (n 5) ∷ []) ▹ by f.Sum ∷ []) fails fault.Overflow
+    -- '{{ [nope]|sum }}'
+    ∷ (ls (nope ∷ []) ▹ by f.Sum ∷ []) fails fault.Undefined
+    -- "{{ '\\v a\\n'|trim }}|{{ '\\u00a0a'|trim }}"
+    ∷ (bytes (11 ∷ 32 ∷ 97 ∷ 10 ∷ []) ▹ by f.Trim ∷ outside "|" ∷ bytes (194 ∷ 160 ∷ 97 ∷ []) ▹ by f.Trim ∷ [])
+    gives (97 ∷ 124 ∷ 194 ∷ 160 ∷ 97 ∷ [])
+    -- '{{ 12|trim }}'
+    ∷ (n 12 ▹ by f.Trim ∷ []) prints "12"
+    -- "{{ [1, true, 'a', 'A', 2]|unique|join }}"
+    ∷ (ls (n 1 ∷ truth ∷ t "a" ∷ t "A" ∷ n 2 ∷ []) ▹ by f.Unique ▹ by f.Join ∷ []) prints "1a2"
+    -- '{{ [[1], [true]]|unique|length }}'
+    ∷ (ls (ls (n 1 ∷ []) ∷ ls (truth ∷ []) ∷ []) ▹ by f.Unique ▹ by f.Length ∷ []) prints "1"
+    -- "{{ ['a', 'A'|safe]|unique|length }}"
+    ∷ (ls (t "a" ∷ t "A" ▹ by f.Safe ∷ []) ▹ by f.Unique ▹ by f.Length ∷ []) prints "1"
+    -- '{{ 1|upper() }}'
+    ∷ (n 1 ▹ by f.Upper ∷ []) prints "1"
+    -- '{{ 5|join(1 // 0) }}'
+    ∷ (n 5 ▹ by1 f.Join (on op.FloorDivide (n 1) (n 0)) ∷ []) fails fault.ZeroDivide
+    -- "{{ {'a': 1}|attr('a') }}{{ 1|attr('a') }}"
+    ∷ (dict (t "a" ∷ n 1 ∷ []) ▹ by1 f.Attr (t "a") ∷ n 1 ▹ by1 f.Attr (t "a") ∷ []) prints "1"
+    -- '{{ nope|attr(1) }}'
+    ∷ (nope ▹ by1 f.Attr (n 1) ∷ []) fails fault.Undefined
+    -- '{{ 1|attr(1) }}'
+    ∷ (n 1 ▹ by1 f.Attr (n 1) ∷ []) fails fault.BadArgument
+    -- "{{ {'a': 1}|attr(name='a') }}"
+    ∷ (dict (t "a" ∷ n 1 ∷ []) ▹ by1 f.Attr (t "a") ∷ []) prints "1"
+    -- "{{ [1, 2]|map('string')|join('-') }}"
+    ∷ (ls (n 1 ∷ n 2 ∷ []) ▹ by1 f.Map (t "string") ▹ by1 f.Join (t "-") ∷ []) prints "1-2"
+    -- "{{ ['a']|map('replace', 'a', 'b')|join }}"
+    ∷ (ls (t "a" ∷ []) ▹ by3 f.Map (t "replace") (t "a") (t "b") ▹ by f.Join ∷ []) prints "b"
+    -- "{{ [nope, 1]|map('default', 'x')|join }}"
+    ∷ (ls (nope ∷ n 1 ∷ []) ▹ by2 f.Map (t "default") (t "x") ▹ by f.Join ∷ []) prints "x1"
+    -- "{{ [[1], [2, 3]]|map('join', ',')|join(';') }}"
+    ∷ (ls (ls (n 1 ∷ []) ∷ ls (n 2 ∷ n 3 ∷ []) ∷ []) ▹ by2 f.Map (t "join") (t ",") ▹ by1 f.Join (t ";") ∷ [])
+    prints "1;2,3"
+    -- "{{ 5|map('upper') }}"
+    ∷ (n 5 ▹ by1 f.Map (t "upper") ∷ []) fails fault.NotIterable
+    -- "{{ [[1]]|map('upper') }}"
+    ∷ (ls (ls (n 1 ∷ []) ∷ []) ▹ by1 f.Map (t "upper") ∷ []) fails fault.Unprintable
+    -- "{{ [nope]|map(attribute='a') }}"
+    ∷ (ls (nope ∷ []) ▹ by1 f.MapAttribute (t "a") ∷ []) fails fault.Undefined
+    -- "{{ [{'a': 1}, 5]|map(attribute='a')|join('-') }}"
+    ∷ (ls (dict (t "a" ∷ n 1 ∷ []) ∷ n 5 ∷ []) ▹ by1 f.MapAttribute (t "a") ▹ by1 f.Join (t "-") ∷ []) prints "1-"
+    -- "{{ [0, 1, '', 'a']|select|join }}{{ [0, 1, '', 'a']|reject|length }}"
+    ∷ (ls (n 0 ∷ n 1 ∷ t "" ∷ t "a" ∷ []) ▹ by f.Select ▹ by f.Join
+    ∷ ls (n 0 ∷ n 1 ∷ t "" ∷ t "a" ∷ []) ▹ by f.Reject ▹ by f.Length ∷ []) prints "1a2"
+    -- "{{ [1, 2, 3]|select('divisibleby', 2)|join }}"
+    ∷ (ls (n 1 ∷ n 2 ∷ n 3 ∷ []) ▹ by2 f.Select (t "divisibleby") (n 2) ▹ by f.Join ∷ []) prints "2"
+    -- "{{ [1]|select('divisibleby', 0) }}"
+    ∷ (ls (n 1 ∷ []) ▹ by2 f.Select (t "divisibleby") (n 0) ∷ []) fails fault.ZeroDivide
+    -- "{{ []|select('divisibleby', 0)|length }}"
+    ∷ (ls [] ▹ by2 f.Select (t "divisibleby") (n 0) ▹ by f.Length ∷ []) prints "0"
+    -- "{{ ['a']|select('odd') }}"
+    ∷ (ls (t "a" ∷ []) ▹ by1 f.Select (t "odd") ∷ []) fails fault.BadType
+    -- "{{ [1, 2, 3]|reject('in', [1, 2])|join }}"
+    ∷ (ls (n 1 ∷ n 2 ∷ n 3 ∷ []) ▹ by2 f.Reject (t "in") (ls (n 1 ∷ n 2 ∷ [])) ▹ by f.Join ∷ []) prints "3"
+    -- "{{ [nope, 1]|select('defined')|join }}"
+    ∷ (ls (nope ∷ n 1 ∷ []) ▹ by1 f.Select (t "defined") ▹ by f.Join ∷ []) prints "1"
+    -- "{{ [{'a': 0}, {'a': 1}]|selectattr('a')|length }}"
+    ∷ (ls (dict (t "a" ∷ n 0 ∷ []) ∷ dict (t "a" ∷ n 1 ∷ []) ∷ []) ▹ by1 f.SelectAttr (t "a") ▹ by f.Length ∷ [])
+    prints "1"
+    -- "{{ [nope]|selectattr('a') }}"
+    ∷ (ls (nope ∷ []) ▹ by1 f.SelectAttr (t "a") ∷ []) fails fault.Undefined
+    -- "{{ [{'a': 1}, {}]|selectattr('a', 'defined')|length }}"
+    ∷ (ls (dict (t "a" ∷ n 1 ∷ []) ∷ dict [] ∷ []) ▹ by2 f.SelectAttr (t "a") (t "defined") ▹ by f.Length ∷ [])
+    prints "1"
+    -- "{{ [1, 2]|rejectattr('a')|length }}"
+    ∷ (ls (n 1 ∷ n 2 ∷ []) ▹ by1 f.RejectAttr (t "a") ▹ by f.Length ∷ []) prints "2"
+    -- '{{ "<"|e|e }}{{ "<"|forceescape|forceescape }}'
+    ∷ (t "<" ▹ by f.Escape ▹ by f.Escape ∷ t "<" ▹ by f.ForceEscape ▹ by f.ForceEscape ∷ []) prints "&lt;&amp;lt;"
+    -- '{{ ("<"|safe) + "<" }}'
+    ∷ (on op.Add (t "<" ▹ by f.Safe) (t "<") ∷ []) prints "<&lt;"
+    -- '{{ "<" + ("<"|safe) }}{{ ("<"|safe) + ("<"|safe) }}'
+    ∷ (on op.Add (t "<") (t "<" ▹ by f.Safe) ∷ on op.Add (t "<" ▹ by f.Safe) (t "<" ▹ by f.Safe) ∷ [])
+    prints "&lt;<<<"
+    -- '{{ ("<"|safe) * 2 }}'
+    ∷ (on op.Multiply (t "<" ▹ by f.Safe) (n 2) ∷ []) prints "<<"
+    -- '{{ ("<b>"|safe)|upper }}{{ ("<"|safe)|string }}'
+    ∷ (t "<b>" ▹ by f.Safe ▹ by f.Upper ∷ t "<" ▹ by f.Safe ▹ by f.String ∷ []) prints "<B><"
+    -- '{{ ("<"|safe)[0] }}'
+    ∷ (on op.Item (t "<" ▹ by f.Safe) (n 0) ∷ []) prints "&lt;"
+    -- '{{ ("<"|safe)|reverse }}{{ ("<"|safe)|first }}'
+    ∷ (t "<" ▹ by f.Safe ▹ by f.Reverse ∷ t "<" ▹ by f.Safe ▹ by f.First ∷ []) prints "&lt;&lt;"
+    -- '{{ ("<"|safe)|list|join }}'
+    ∷ (t "<" ▹ by f.Safe ▹ by f.List ▹ by f.Join ∷ []) prints "&lt;"
+    -- '{{ ("<"|safe) ~ 1 ~ "<" }}'
+    ∷ (on op.JoinEscaping (on op.JoinEscaping (t "<" ▹ by f.Safe) (n 1)) (t "<") ∷ []) prints "<1&lt;"
+    -- '{{ ["<"]|join("<"|safe) }}'
+    ∷ (ls (t "<" ∷ []) ▹ by1 f.Join (t "<" ▹ by f.Safe) ∷ []) prints "&lt;"
+    -- '{{ ["a", "b"]|join("<"|safe) }}{{ ["<", 1|safe]|join("<") }}'
+    ∷ (ls (t "a" ∷ t "b" ∷ []) ▹ by1 f.Join (t "<" ▹ by f.Safe)
+    ∷ ls (t "<" ∷ n 1 ▹ by f.Safe ∷ []) ▹ by1 f.Join (t "<") ∷ []) prints "a<b&lt;&lt;1"
+    -- "{{ []|map('nope') }}"
+    ∷ (ls [] ▹ by1 f.Map (t "nope") ∷ []) fails fault.BadArgument
+    -- "{{ 5|map('nope') }}"
+    ∷ (n 5 ▹ by1 f.Map (t "nope") ∷ []) fails fault.NotIterable
+    -- "{{ []|map('select') }}"
+    ∷ (ls [] ▹ by1 f.Map (t "select") ∷ []) fails fault.BadArgument
+    -- "{{ []|map('replace', 'a') }}"
+    ∷ (ls [] ▹ by2 f.Map (t "replace") (t "a") ∷ []) fails fault.BadArgument
+    -- "{{ []|select('odd', 1) }}"
+    ∷ (ls [] ▹ by2 f.Select (t "odd") (n 1) ∷ []) fails fault.BadArgument
+    -- "{{ []|selectattr(1) }}"
+    ∷ (ls [] ▹ by1 f.SelectAttr (n 1) ∷ []) fails fault.BadArgument
+    -- "{{ [{'a': 'x'}]|map('attr', 'a')|join }}"
+    ∷ (ls (dict (t "a" ∷ t "x" ∷ []) ∷ []) ▹ by2 f.Map (t "attr") (t "a") ▹ by f.Join ∷ []) prints "x"
+    ∷ []
+
+rows_hold : map (λ (r : Row). printing true r.0) rows ≡ map (λ (r : Row). r.1) rows
+unfolding digits chars encode_utf8
+rows_hold = refl
+
+-- Templates that do not escape.
+abbrev raw_rows : List Row
+raw_rows =
+    -- '{{ "<" ~ ("<"|safe) is escaped }}{{ ("<" ~ ("<"|safe)) is escaped }}'
+    (on op.Join (t "<") (t "<" ▹ raw_by f.Safe ▹ is test.Escaped)
+    ∷ on op.Join (t "<") (t "<" ▹ raw_by f.Safe) ▹ is test.Escaped ∷ []) prints "<TrueFalse"
+    -- '{{ "<"|e }}{{ "<" + ("<"|safe) }}'
+    ∷ (t "<" ▹ raw_by f.Escape ∷ on op.Add (t "<") (t "<" ▹ raw_by f.Safe) ∷ []) prints "&lt;&lt;<"
+    -- '{{ "<" }}{{ "<"|e }}'
+    ∷ (t "<" ∷ t "<" ▹ raw_by f.Escape ∷ []) prints "<&lt;"
+    ∷ []
+
+raw_rows_hold : map (λ (r : Row). printing false r.0) raw_rows ≡ map (λ (r : Row). r.1) raw_rows
+unfolding digits chars encode_utf8
+raw_rows_hold = refl

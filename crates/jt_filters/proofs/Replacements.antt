@@ -6,7 +6,7 @@ use Rattle.std.specs.Str.{IsUtf8}
 use Rattle.std.proofs.lemmas.Str.{IsUtf8-drop}
 use Rattle.std.proofs.lemmas.List.{drop_at}
 use Rattle.jt_op_semantics.specs.Membership.{begins_with}
-use Rattle.jt_ops.proofs.SubstringSearch.{begins_append, begins_split}
+use Rattle.jt_op_semantics.proofs.SubstringSearch.{begins_append, begins_split}
 use Rattle.jt_filter_semantics.specs.Texts.{replaced_behind}
 
 skipped : (k : ℕ) (old new s : List ℕ) → replaced_behind k old new s ≡ replaced_behind 0 old new (drop k s)

@@ -28,14 +28,7 @@ use Rattle.jt_image.proofs.ReadPrefix.{all_weaker, all_both}
 -- ---- the length of a spelling
 
 pub name_len : (n : Name) → length (name_bytes n) ≡ length n.text + 4
-name_len n =
-    omega (
-      arith,
-      length-append (to_le_bytes w16 n.slot) (to_le_bytes w16 (length n.text) ++ n.text),
-      length-append (to_le_bytes w16 (length n.text)) n.text,
-      wide16.len n.slot,
-      wide16.len (length n.text),
-    )
+name_len n = search (arith, rules, length-append, wide16)
 
 pub text_len : (t : List ℕ) (tag : ℕ) → length (tag ∷ (to_le_bytes w32 (length t) ++ t)) ≡ length t + 5
 text_len t tag = omega (arith, length-append (to_le_bytes w32 (length t)) t, wide32.len (length t))
@@ -44,51 +37,22 @@ pub number_len : (n : ℕ) (tag : ℕ) → length (tag ∷ to_le_bytes w64 n) �
 number_len n tag = omega (arith, wide64.len n)
 
 header_len : (u : Section) → length (header_bytes u) ≡ 8
-header_len u =
-    omega (
-      arith,
-      length-append (to_le_bytes w16 u.locals) (to_le_bytes w32 (length u.code)),
-      wide16.len u.locals,
-      wide32.len (length u.code),
-    )
+header_len u = search (arith, rules, length-append, wide16, wide32)
 
 headers_len : (us : List Section) → length (flat_map header_bytes us) ≡ 8 * length us
 headers_len [] = omega arith
-headers_len (u ∷ us) =
-    omega (
-      arith,
-      ap length (flat_map-cons header_bytes u us),
-      length-append (header_bytes u) (flat_map header_bytes us),
-      header_len u,
-      headers_len us,
-    )
+headers_len (u ∷ us) = search (arith, rules, flat_map-cons, length-append, header_len, headers_len us)
 
 instruction_len : (i : Instruction) → length (instruction_bytes i) ≡ 8
-instruction_len i =
-    let w = wire_of i in
-    omega (arith, length-append (to_le_bytes w16 w.b) (to_le_bytes w32 w.c), wide16.len w.b, wide32.len w.c)
+instruction_len i = search (arith, rules, length-append, wide16, wide32)
 
 instructions_len : (is : List Instruction) → length (flat_map instruction_bytes is) ≡ 8 * length is
 instructions_len [] = omega arith
-instructions_len (i ∷ is) =
-    omega (
-      arith,
-      ap length (flat_map-cons instruction_bytes i is),
-      length-append (instruction_bytes i) (flat_map instruction_bytes is),
-      instruction_len i,
-      instructions_len is,
-    )
+instructions_len (i ∷ is) = search (arith, rules, flat_map-cons, length-append, instruction_len, instructions_len is)
 
 codes_len : (us : List Section) → length (flat_map code_bytes us) ≡ 8 * total_len us
 codes_len [] = omega arith
-codes_len (u ∷ us) =
-    omega (
-      arith,
-      ap length (flat_map-cons code_bytes u us),
-      length-append (code_bytes u) (flat_map code_bytes us),
-      instructions_len u.code,
-      codes_len us,
-    )
+codes_len (u ∷ us) = search (arith, rules, flat_map-cons, code_bytes, length-append, instructions_len, codes_len us)
 
 eleven : (a b c d e f g h i j z : List ℕ) → length
     (a ++ (b ++ (c ++ (d ++ (e ++ (f ++ (g ++ (h ++ (i ++ (j ++ z))))))))))
@@ -118,27 +82,11 @@ spelled_len k =
 
 locs_len : (ss : List SourceLoc) → length (flat_map loc_bytes ss) ≡ 6 * length ss
 locs_len [] = omega arith
-locs_len (s ∷ ss) =
-    omega (
-      arith,
-      ap length (flat_map-cons loc_bytes s ss),
-      length-append (to_le_bytes w16 s.template) (to_le_bytes w32 s.line),
-      length-append (loc_bytes s) (flat_map loc_bytes ss),
-      wide16.len s.template,
-      wide32.len s.line,
-      locs_len ss,
-    )
+locs_len (s ∷ ss) = search (arith, rules, flat_map-cons, length-append, wide16, wide32, locs_len ss)
 
 pub places_len : (ts : List (List ℕ)) (ss : List SourceLoc)
     → length (place_bytes version.Two ts ss) ≡ 2 + (length (flat_map template_bytes ts) + 6 * length ss)
-places_len ts ss =
-    omega (
-      arith,
-      length-append (to_le_bytes w16 (length ts)) (flat_map template_bytes ts ++ flat_map loc_bytes ss),
-      length-append (flat_map template_bytes ts) (flat_map loc_bytes ss),
-      wide16.len (length ts),
-      locs_len ss,
-    )
+places_len ts ss = search (arith, rules, length-append, wide16, locs_len)
 
 -- ---- names
 
@@ -175,30 +123,21 @@ named_next globals before n h = search (arith, rules, lt-ltb)
 
 pub short_names : (ns : List Name) → AllByRecursion (λ n. length n.text ≤ max_count) ns
     → AllByRecursion (λ n. IsUtf8 n.text) ns → AllByRecursion IsShort ns
-short_names ns fits utf8 =
-    all_both (λ n. length n.text ≤ max_count) (λ n. IsUtf8 n.text) IsShort ns
-    (λ n short text. record { fits = omega (arith, short); utf8 = text }) fits utf8
+short_names ns fits utf8 = search (arith, rules, all_both)
 
 -- ---- templates
 
 pub short_texts : (ts : List (List ℕ)) → AllByRecursion (λ t. length t ≤ max_count) ts → AllByRecursion IsUtf8 ts
     → AllByRecursion IsShortText ts
-short_texts ts fits utf8 =
-    all_both (λ t. length t ≤ max_count) IsUtf8 IsShortText ts
-    (λ t short text. record { fits = omega (arith, short); utf8 = text }) fits utf8
+short_texts ts fits utf8 = search (arith, rules, all_both)
 
 are_templates : (ts : List (List ℕ)) → AllByRecursion IsShortText ts → AllByRecursion (λ t. 0 < length t) ts
     → AllByRecursion IsTemplate ts
-are_templates ts short some =
-    all_both IsShortText (λ t. 0 < length t) IsTemplate ts (λ t s n. record { some = n; fits = s.fits; utf8 = s.utf8 })
-    short some
+are_templates ts short some = search (arith, rules, all_both)
 
 -- If each text may follow those before it, the texts are a table of templates.
 pub in_order_texts : (ts : List (List ℕ)) → AllGood IsNextText [] ts → AreTemplates ts
-in_order_texts ts h = record {
-  some = all_weaker IsTemplate (λ t. 0 < length t) ts (λ t is. is.some) (found_templates [] ts h);
-  ascend = ascend_texts ts h;
-}
+in_order_texts ts h = search (arith, rules, all_weaker, found_templates, ascend, ascend_texts)
 
 pub all_next_texts : (ts : List (List ℕ)) → AllByRecursion IsShortText ts → AreTemplates ts → AllGood IsNextText [] ts
 all_next_texts ts short h = good_templates ts (are_templates ts short h.some) h.ascend

@@ -51,25 +51,12 @@ slot_again : (globals : ℕ) (before : List Name) (slot : ℕ) (rest : List ℕ)
     → IsFree globals before slot → slot_at globals before (to_le_bytes w16 slot ++ rest) ≡ Ok (slot, rest)
 unfolding slot_at
 slot_again globals before slot rest small h =
-    let below : ltb slot globals ≡ true = lt-ltb _ _ h.below in
-    let test : (nat_lt slot globals && not (is_used slot before)) ≡ true = rw (below, h.free) refl in
-    bind_again (number_at w16 (to_le_bytes w16 slot ++ rest))
-    (λ s. check (nat_lt s.0 globals && not (is_used s.0 before)) BadTable (Ok s)) slot rest (Ok (slot, rest))
-    (number_again w16 (2 ^ 16) wide16 slot rest (omega (arith, h.below, small)))
-    (check_again (nat_lt slot globals && not (is_used slot before)) BadTable (Ok (slot, rest)) test)
+    search (arith, rules, lt-ltb, bind_again, number_again, wide16, check_again)
 
 name_again : (globals : ℕ) → globals < 2 ^ 16 → (before : List Name) (n : Name) (rest : List ℕ)
     → IsNamed globals before n → name_at globals before (name_bytes n ++ rest) ≡ Ok (n, rest)
 unfolding name_at
-name_again globals small before n rest h =
-    ap (name_at globals before) (append_assoc (to_le_bytes w16 n.slot) (template_bytes n.text) rest)
-    ∙ bind_again (slot_at globals before (to_le_bytes w16 n.slot ++ (template_bytes n.text ++ rest)))
-    (λ slot. text_after (last_name before) slot.1 >>= λ t. Ok (record { slot = slot.0; text = t.0 }, t.1)) n.slot
-    (template_bytes n.text ++ rest) (Ok (n, rest))
-    (slot_again globals before n.slot (template_bytes n.text ++ rest) small h.slot)
-    (bind_again (text_after (last_name before) (template_bytes n.text ++ rest))
-    (λ t. Ok (record { slot = n.slot; text = t.0 }, t.1)) n.text rest (Ok (n, rest))
-    (next_again (last_name before) n.text rest h.next) refl)
+name_again globals small before n rest h = search (arith, rules, append_assoc, bind_again, slot_again, next_again)
 
 -- No slot of these names has a name yet.
 abbrev pub IsClear : List Name → List Name → Type 0
@@ -132,10 +119,7 @@ names_again globals small ns rest h =
 long_text_again : (t rest : List ℕ) → (length t < 2 ^ 32) × IsUtf8 t
     → long_text_at (long_bytes t ++ rest) ≡ Ok (t, rest)
 unfolding long_text_at
-long_text_again t rest h =
-    ap long_text_at (append_assoc (to_le_bytes w32 (length t)) t rest)
-    ∙ bind_again (number_at w32 (to_le_bytes w32 (length t) ++ (t ++ rest))) (λ len. text_at len.0 len.1) (length t)
-    (t ++ rest) (Ok (t, rest)) (number_again w32 (2 ^ 32) wide32 (length t) (t ++ rest) h.0) (text_again t rest h.1)
+long_text_again t rest h = search (arith, rules, append_assoc, bind_again, number_again, wide32, text_again)
 
 constant_again : (before : List Constant) (x : Constant) (rest : List ℕ) → IsConstant x
     → constant_at (constant_bytes x ++ rest) ≡ Ok (x, rest)
@@ -150,12 +134,8 @@ constant_again before (number z) rest h =
     (Ok (number z, rest))
     (number_again w64 (2 ^ 64) wide64 bits rest (Fits-lt-pow {w = w64} {n = bits} (Fits-of_z {w = w64} {z = z} h)))
     (ap (λ (i : ℤ). let r : Constant × List ℕ = (number i, rest) in Ok r) (to_z-of_z w64 z h))
-constant_again before (text t) rest h =
-    bind_again (long_text_at (long_bytes t ++ rest)) (λ t. Ok (text t.0, t.1)) t rest (Ok (text t, rest))
-    (long_text_again t rest h) refl
-constant_again before (markup t) rest h =
-    bind_again (long_text_at (long_bytes t ++ rest)) (λ t. Ok (markup t.0, t.1)) t rest (Ok (markup t, rest))
-    (long_text_again t rest h) refl
+constant_again before (text t) rest h = search (arith, rules, bind_again, long_bytes, long_text_again)
+constant_again before (markup t) rest h = search (arith, rules, bind_again, long_bytes, long_text_again)
 
 good_constants : (before cs : List Constant) → AllByRecursion IsConstant cs → AllGood good_constant before cs
 good_constants before [] h = tt
@@ -192,45 +172,18 @@ kind_again first k rest le plain = check_again (nat_le k (cond first 0 1)) BadTa
 locals_again : (p n : ℕ) (rest : List ℕ) → n ≤ max_locals → p ≤ n
     → locals_at p (to_le_bytes w16 n ++ rest) ≡ Ok (n, rest)
 unfolding locals_at
-locals_again p n rest small within =
-    bind_again (number_at w16 (to_le_bytes w16 n ++ rest))
-    (λ n. check (nat_le n.0 max_locals) LimitPassed (check (nat_le p n.0) BadTable (Ok n))) n rest (Ok (n, rest))
-    (number_again w16 (2 ^ 16) wide16 n rest (omega (arith, small)))
-    (check_again (nat_le n max_locals) LimitPassed (check (nat_le p n) BadTable (Ok (n, rest))) (le-leb _ _ small)
-    ∙ check_again (nat_le p n) BadTable (Ok (n, rest)) (le-leb _ _ within))
+locals_again p n rest small within = search (arith, rules, bind_again, number_again, wide16, check_again, le-leb)
 
 len_again : (total n : ℕ) (rest : List ℕ) → total + n ≤ max_instructions
     → len_at total (to_le_bytes w32 n ++ rest) ≡ Ok (n, rest)
 unfolding len_at
-len_again total n rest small =
-    bind_again (number_at w32 (to_le_bytes w32 n ++ rest))
-    (λ n. check (nat_le (total + n.0) max_instructions) LimitPassed (Ok n)) n rest (Ok (n, rest))
-    (number_again w32 (2 ^ 32) wide32 n rest (omega (arith, small)))
-    (check_again (nat_le (total + n) max_instructions) LimitPassed (Ok (n, rest)) (le-leb _ _ small))
+len_again total n rest small = search (arith, rules, bind_again, number_again, wide32, check_again, le-leb)
 
 header_again : (first : Bool) (total : ℕ) (h : Header) (rest : List ℕ) → IsHeader first total h
     → header_of first total (head_bytes h ++ rest) ≡ Ok (h, rest)
 unfolding header_of
 header_again first total h rest g =
-    let after = to_le_bytes w16 h.locals ++ (to_le_bytes w32 h.len ++ rest) in
-    ap (λ (t : List ℕ). header_of first total (h.parameters ∷ h.kind ∷ t))
-    (append_assoc (to_le_bytes w16 h.locals) (to_le_bytes w32 h.len) rest)
-    ∙ bind_again (parameters_at first (h.parameters ∷ h.kind ∷ after))
-    (λ p. kind_at first p.1 >>= λ k. locals_at p.0 k.1
-    >>= λ l. len_at total l.1 >>= λ n. Ok (record { parameters = p.0; kind = k.0; locals = l.0; len = n.0 }, n.1))
-    h.parameters (h.kind ∷ after) (Ok (h, rest)) (parameters_again first h.parameters (h.kind ∷ after) g.plain)
-    (bind_again (kind_at first (h.kind ∷ after))
-    (λ k. locals_at h.parameters k.1 >>= λ l.
-    len_at total l.1 >>= λ n. Ok (record { parameters = h.parameters; kind = k.0; locals = l.0; len = n.0 }, n.1))
-    h.kind after (Ok (h, rest)) (kind_again first h.kind after g.kind g.emits)
-    (bind_again (locals_at h.parameters after)
-    (λ l.
-    len_at total l.1 >>= λ n. Ok (record { parameters = h.parameters; kind = h.kind; locals = l.0; len = n.0 }, n.1))
-    h.locals (to_le_bytes w32 h.len ++ rest) (Ok (h, rest))
-    (locals_again h.parameters h.locals (to_le_bytes w32 h.len ++ rest) g.locals g.within)
-    (bind_again (len_at total (to_le_bytes w32 h.len ++ rest))
-    (λ n. Ok (record { parameters = h.parameters; kind = h.kind; locals = h.locals; len = n.0 }, n.1)) h.len rest
-    (Ok (h, rest)) (len_again total h.len rest g.fits) refl)))
+    search (arith, rules, append_assoc, bind_again, parameters_again, kind_again, locals_again, len_again)
 
 -- ---- instructions
 
@@ -549,9 +502,7 @@ magic_again rest =
 start_again : (v : Version) (rest : List ℕ)
     → start_at (magic ++ (to_le_bytes w16 (version_number v) ++ rest)) ≡ Ok (v, rest)
 unfolding start_at
-start_again v rest =
-    let r = to_le_bytes w16 (version_number v) ++ rest in
-    step_again (magic_at (magic ++ r)) (λ rest. version_at rest) r (Ok (v, rest)) (magic_again r) (version_again v rest)
+start_again v rest = search (arith, rules, step_again, magic_again, version_again)
 
 -- The entry of a code is its first unit.
 first_of : (k : Code) → HasEntry k → HasFirst k.units

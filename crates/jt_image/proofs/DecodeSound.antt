@@ -161,14 +161,7 @@ markup_constant tag rest fits e =
 tagged_found : (tag : ℕ) (rest : List ℕ) → IsBytes rest → AllOk (constant_of tag rest) (IsRead tag rest)
 unfolding constant_of
 tagged_found tag rest fits =
-    let P : Constant × List ℕ → Type 0 = IsRead tag rest in
-    cond_all (eqb tag 0) _ _ P (λ e. (tagged tag 0 rest [] rest e (none_taken rest fits), tt)) (λ _.
-    cond_all (eqb tag 1) _ _ P (λ e. (tagged tag 1 rest [] rest e (none_taken rest fits), tt)) (λ _.
-    cond_all (eqb tag 2) _ _ P (λ e. (tagged tag 2 rest [] rest e (none_taken rest fits), tt)) (λ _.
-    cond_all (eqb tag 3) _ _ P (λ e. (tagged tag 3 rest [] rest e (none_taken rest fits), tt)) (λ _.
-    cond_all (eqb tag 4) _ _ P (number_constant tag rest fits) (λ _.
-    cond_all (eqb tag 5) _ _ P (text_constant tag rest fits) (λ _.
-    cond_all (eqb tag 6) _ _ P (markup_constant tag rest fits) (λ _. tt)))))))
+    search (arith, rules, cond_all, tagged, none_taken, number_constant, text_constant, markup_constant)
 
 pub constant_found : (bytes : List ℕ) → IsBytes bytes → Found constant_bytes IsConstant bytes (constant_at bytes)
 unfolding constant_at
@@ -321,35 +314,7 @@ choose w false x y h k = k
 
 pub instruction_wire : (w : Instr) → HasWire w (instruction_of w)
 unfolding instruction_of
-instruction_wire w =
-    choose w (eqb w.op 1) _ _ (λ e. c_wire w 1 (op.Const w.c) e refl) (
-    choose w (eqb w.op 2) _ _ (λ e. c_wire w 2 (op.Load w.c) e refl) (
-    choose w (eqb w.op 3) _ _ (λ e. c_wire w 3 (op.Store w.c) e refl) (
-    choose w (eqb w.op 4) _ _ (λ e. c_wire w 4 (op.GLoad w.c) e refl) (
-    choose w (eqb w.op 5) _ _ (λ e. c_wire w 5 (op.GStore w.c) e refl) (
-    choose w (eqb w.op 6) _ _ (λ e. none_wire w 6 op.Drop e refl) (
-    choose w (eqb w.op 7) _ _ (λ e. none_wire w 7 op.Dup e refl) (
-    choose w (eqb w.op 8) _ _ (λ e. a_wire w 8 (op.Emit w.a) e refl) (
-    choose w (eqb w.op 9) _ _ (λ e. c_wire w 9 (op.Data w.c) e refl) (
-    choose w (eqb w.op 10) _ _ (λ e. c_wire w 10 (op.Jump w.c) e refl) (
-    choose w (eqb w.op 11) _ _ (λ e. c_wire w 11 (op.JumpIfFalse w.c) e refl) (
-    choose w (eqb w.op 12) _ _ (λ e. c_wire w 12 (op.JumpIfTrue w.c) e refl) (
-    choose w (eqb w.op 13) _ _ (λ e. a_wire w 13 (op.Op w.a) e refl) (
-    choose w (eqb w.op 14) _ _ (λ e. same_wire w 14 w.a w.b w.c e refl refl refl) (
-    choose w (eqb w.op 15) _ _ (λ e. ab_wire w 15 (op.Test w.a w.b) e refl) (
-    choose w (eqb w.op 16) _ _ (λ e. c_wire w 16 (op.MakeList w.c) e refl) (
-    choose w (eqb w.op 17) _ _ (λ e. c_wire w 17 (op.MakeMap w.c) e refl) (
-    choose w (eqb w.op 18) _ _ (λ e. none_wire w 18 op.LoopStart e refl) (
-    choose w (eqb w.op 19) _ _ (λ e. c_wire w 19 (op.LoopNext w.c) e refl) (
-    choose w (eqb w.op 20) _ _ (λ e. ac_wire w 20 (op.LoopGet w.a w.c) e refl) (
-    choose w (eqb w.op 21) _ _ (λ e. c_wire w 21 (op.LoopKeep w.c) e refl) (
-    choose w (eqb w.op 22) _ _ (λ e. none_wire w 22 op.LoopRewind e refl) (
-    choose w (eqb w.op 23) _ _ (λ e. none_wire w 23 op.LoopEnd e refl) (
-    choose w (eqb w.op 24) _ _ (λ e. none_wire w 24 op.CaptureBegin e refl) (
-    choose w (eqb w.op 25) _ _ (λ e. a_wire w 25 (op.CaptureEnd w.a) e refl) (
-    choose w (eqb w.op 26) _ _ (λ e. c_wire w 26 (op.Unpack w.c) e refl) (
-    choose w (eqb w.op 27) _ _ (λ e. c_wire w 27 (op.Call w.c) e refl) (
-    choose w (eqb w.op 28) _ _ (λ e. none_wire w 28 op.Return e refl) tt)))))))))))))))))))))))))))
+instruction_wire w = search (arith, rules, choose, c_wire, none_wire, a_wire, same_wire, ab_wire, ac_wire)
 
 -- A decoded instruction has the fields from which it was decoded.
 pub wire_from : (w : Instr) (i : Instruction) → instruction_of w ≡ Some i → wire_of i ≡ w
@@ -466,12 +431,7 @@ pub many_count : {A : Type 0} (step : List A → List ℕ → Read A) (n : ℕ) 
     → AllOk (many_at step n before bytes) (λ x. length x.0 ≡ length before + n)
 unfolding many_at
 many_count step zero before bytes = omega arith
-many_count {A} step (suc n) before bytes =
-    bind_any (step before bytes) (λ x. many_at step n (before ++ x.0 ∷ []) x.1)
-    (λ x. length x.0 ≡ length before + suc n) (λ x.
-    all_map (many_at step n (before ++ x.0 ∷ []) x.1) (λ y. length y.0 ≡ length (before ++ x.0 ∷ []) + n)
-    (λ y. length y.0 ≡ length before + suc n) (many_count step n (before ++ x.0 ∷ []) x.1)
-    (λ y e. omega (arith, e, length-append before (x.0 ∷ []))))
+many_count {A} step (suc n) before bytes = search (arith, rules, bind_any, all_map, many_count step n, length-append)
 
 each_total : (hs : List Header) (before : List Section) (bytes : List ℕ)
     → AllOk (each_at section_at hs before bytes) (λ x. total_len x.0 ≡ total_len before + header_total hs)

@@ -31,9 +31,7 @@ pub place_gives : (h : Header) (bytes rest : List ℕ)
     → instructions_at h.len bytes ≡ Ok (instructions_in h.len bytes, rest)
     → section_at h bytes ≡ Ok (section_of h (instructions_in h.len bytes), rest)
 unfolding section_at
-place_gives h bytes rest e =
-    ap
-    (λ (r : Read). r >>= λ code. let o : Result (Section × List ℕ) ImageError = Ok (section_of h code.0, code.1) in o) e
+place_gives h bytes rest e = search (arith, rules)
 
 pub place_whole : (n : ℕ) (bytes rest : List ℕ) → instructions_at n bytes ≡ Ok (instructions_in n bytes, rest)
     → length (instructions_in n bytes) ≡ n
@@ -92,16 +90,12 @@ one_on w t p o h =
 
 split_front : (i : Instruction) (is : List Instruction) (rest : List ℕ)
     → instruction_bytes i ++ (flat_map instruction_bytes is ++ rest) ≡ flat_map instruction_bytes (i ∷ is) ++ rest
-split_front i is rest =
-    sym (ap (λ (b : List ℕ). b ++ rest) (flat_map-cons instruction_bytes i is)
-    ∙ append_assoc (instruction_bytes i) (flat_map instruction_bytes is) rest)
+split_front i is rest = search (arith, rules, flat_map-cons, append_assoc)
 
 at_point : (is : List Instruction) (rest : List ℕ) (p : ℕ) → AllByRecursion IsInstruction is → p < length is
     → IsAt (flat_map instruction_bytes is ++ rest) p (slice_get is p)
 at_point [] rest p h lt = absurd (omega (arith, lt))
-at_point (i ∷ is) rest zero h lt =
-    subst (λ (b : List ℕ). IsAt b 0 (Some i)) (split_front i is rest)
-    (at_front i (flat_map instruction_bytes is ++ rest) h.0)
+at_point (i ∷ is) rest zero h lt = search (arith, rules, split_front, at_front)
 at_point (i ∷ is) rest (suc p) h lt =
     let more = at_point is rest p h.1 (omega (arith, lt)) in
     subst (λ (b : List ℕ). IsAt b (suc p) (slice_get is p)) (split_front i is rest)
@@ -149,17 +143,13 @@ loc_on s t i o h =
 
 split_loc : (s : SourceLoc) (ss : List SourceLoc) (rest : List ℕ)
     → loc_bytes s ++ (flat_map loc_bytes ss ++ rest) ≡ flat_map loc_bytes (s ∷ ss) ++ rest
-split_loc s ss rest =
-    sym (ap (λ (b : List ℕ). b ++ rest) (flat_map-cons loc_bytes s ss)
-    ∙ append_assoc (loc_bytes s) (flat_map loc_bytes ss) rest)
+split_loc s ss rest = search (arith, rules, flat_map-cons, append_assoc)
 
 loc_at_number : (templates : ℕ) (ss : List SourceLoc) (rest : List ℕ) (i : ℕ) → templates < 2 ^ 16
     → AllByRecursion (IsSourceLoc templates) ss → i < length ss
     → IsSourceLocAt (flat_map loc_bytes ss ++ rest) i (slice_get ss i)
 loc_at_number templates [] rest i small h lt = absurd (omega (arith, lt))
-loc_at_number templates (s ∷ ss) rest zero small h lt =
-    subst (λ (b : List ℕ). IsSourceLocAt b 0 (Some s)) (split_loc s ss rest)
-    (loc_front templates s (flat_map loc_bytes ss ++ rest) small h.0)
+loc_at_number templates (s ∷ ss) rest zero small h lt = search (arith, rules, split_loc, loc_front)
 loc_at_number templates (s ∷ ss) rest (suc i) small h lt =
     let more = loc_at_number templates ss rest i small h.1 (omega (arith, lt)) in
     subst (λ (b : List ℕ). IsSourceLocAt b (suc i) (slice_get ss i)) (split_loc s ss rest)

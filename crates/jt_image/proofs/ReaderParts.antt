@@ -34,10 +34,7 @@ is_first-push (g ∷ hs) h = refl
 pub text_ok : (n : ℕ) (bytes : List ℕ) → n ≤ length bytes → IsUtf8 (take n bytes)
     → text_at n bytes ≡ Ok (take n bytes, drop n bytes)
 unfolding text_at
-text_ok n bytes le u =
-    let short : ltb (length bytes) n ≡ false = le-ltb _ _ le in
-    let good : is_utf8 (take n bytes) ≡ true = is_utf8-from_IsUtf8 _ u in
-    rw (short, good) refl
+text_ok n bytes le u = search (arith, rules, le-ltb, is_utf8-from_IsUtf8)
 
 not_utf8 : (bs : List ℕ) (b : Bool) → is_utf8 bs ≡ b → ¬ (IsUtf8 bs) → b ≡ false
 not_utf8 bs true e h = absurd (h (IsUtf8-from_is_utf8 bs e))
@@ -45,10 +42,7 @@ not_utf8 bs false e h = refl
 
 pub text_bad : (n : ℕ) (bytes : List ℕ) → n ≤ length bytes → ¬ (IsUtf8 (take n bytes)) → text_at n bytes ≡ Err BadText
 unfolding text_at
-text_bad n bytes le u =
-    let short : ltb (length bytes) n ≡ false = le-ltb _ _ le in
-    let bad : is_utf8 (take n bytes) ≡ false = not_utf8 (take n bytes) _ refl u in
-    rw (short, bad) refl
+text_bad n bytes le u = search (arith, rules, le-ltb, not_utf8)
 
 -- ---- the table of used slots
 
@@ -77,6 +71,4 @@ none_used (suc n) zero = refl
 none_used (suc n) (suc s) = none_used n s
 
 pub IsTable-start : (used : List Bool) (globals : ℕ) → used ≡ replicate globals false → IsTable used globals []
-IsTable-start used globals e =
-    subst (λ (us : List Bool). IsTable us globals []) (sym e)
-    (record { len = length-replicate globals false; each = λ s lt. none_used globals s })
+IsTable-start used globals e = search (arith, rules, length-replicate, none_used)

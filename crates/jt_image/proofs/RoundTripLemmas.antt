@@ -19,10 +19,7 @@ number_again w limit wide n rest lt = search (arith, rules, le-ltb, length-appen
 
 pub text_again : (t rest : List ℕ) → IsUtf8 t → text_at (length t) (t ++ rest) ≡ Ok (t, rest)
 unfolding text_at
-text_again t rest u =
-    let long : ltb (length (t ++ rest)) (length t) ≡ false = le-ltb _ _ (omega (arith, length-append t rest)) in
-    let good : is_utf8 t ≡ true = is_utf8-from_IsUtf8 t u in
-    rw (long, take_at t rest (length t) refl, drop_at t rest (length t) refl, good) refl
+text_again t rest u = search (arith, rules, le-ltb, length-append, is_utf8-from_IsUtf8, take_at, drop_at)
 
 -- If a reader succeeds, the next reader continues.
 pub bind_again : {A B : Type 0} (r : Read A) (f : A × List ℕ → Result B ImageError) (x : A) (rest : List ℕ)

@@ -25,17 +25,11 @@ module _ {A : Type 0} (step : List A → List ℕ → Result (A × List ℕ) Ima
   pub ends : (e : ImageError) → i < count → Fails e (step before bytes) → many_at step (count - i) before bytes ≡ total
       → Fails e total
   unfolding many_at
-  ends e lt h so_far = Fails-along e (step before bytes) total h (λ f.
-      let k : count - i ≡ suc (count - (i + 1)) = omega arith in
-      let one : many_at step (count - i) before bytes ≡ Err e = rw (k, f) refl in
-      sym so_far ∙ one)
+  ends e lt h so_far = search (arith, rules)
 
   pub is_done : count ≤ i → many_at step (count - i) before bytes ≡ total → total ≡ Ok (before, bytes)
   unfolding many_at
-  is_done le so_far =
-      let k : count - i ≡ 0 = omega arith in
-      let one : many_at step (count - i) before bytes ≡ Ok (before, bytes) = rw k refl in
-      sym so_far ∙ one
+  is_done le so_far = search (arith, rules)
 
 module _ {R H A : Type 0} (step : H → List ℕ → Result (A × List ℕ) ImageError) (view : R → H) (hs : List R) (i : ℕ)
     (before : List A) (bytes : List ℕ) (total : Result (List A × List ℕ) ImageError) where
@@ -46,22 +40,14 @@ module _ {R H A : Type 0} (step : H → List ℕ → Result (A × List ℕ) Imag
       → step (view (get_or hs i d)) bytes ≡ Ok (x, after) → each_at step (map view (drop i hs)) before bytes ≡ total
       → each_at step (map view (drop (i + 1) hs)) (before ++ x ∷ []) after ≡ total
   unfolding each_at
-  each_goes_on d x after lt e so_far =
-      let one : each_at step (map view (drop i hs)) before bytes
-      ≡ each_at step (map view (drop (i + 1) hs)) (before ++ x ∷ []) after = rw (rest_of d lt, e) refl in
-      sym one ∙ so_far
+  each_goes_on d x after lt e so_far = search (arith, rules, rest_of)
 
   pub each_ends : (d : R) (e : ImageError) → i < length hs → Fails e (step (view (get_or hs i d)) bytes)
       → each_at step (map view (drop i hs)) before bytes ≡ total → Fails e total
   unfolding each_at
-  each_ends d e lt h so_far = Fails-along e (step (view (get_or hs i d)) bytes) total h (λ f.
-      let one : each_at step (map view (drop i hs)) before bytes ≡ Err e = rw (rest_of d lt, f) refl in
-      sym so_far ∙ one)
+  each_ends d e lt h so_far = search (arith, rules, get_or, rest_of)
 
   pub each_is_done : length hs ≤ i → each_at step (map view (drop i hs)) before bytes ≡ total
       → total ≡ Ok (before, bytes)
   unfolding each_at
-  each_is_done le so_far =
-      let none : drop i hs ≡ [] = drop_all i hs le in
-      let one : each_at step (map view (drop i hs)) before bytes ≡ Ok (before, bytes) = rw none refl in
-      sym so_far ∙ one
+  each_is_done le so_far = search (arith, rules, drop_all)

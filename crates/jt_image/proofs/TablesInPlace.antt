@@ -36,11 +36,7 @@ use Rattle.jt_image.proofs.RoundTripLemmas.{number_again, text_again, bind_again
 -- ---- the remaining bytes
 
 pub all_last : (bytes : List ℕ) → length bytes ≤ max_bytes → AreLast bytes bytes
-all_last bytes small = record {
-  small = small;
-  within = omega arith;
-  are = ap (λ (n : ℕ). drop n bytes) (let e : length bytes - length bytes ≡ 0 = omega arith in e);
-}
+all_last bytes small = search (arith, rules)
 
 pub takes_last : (bytes rest taken after : List ℕ) → Takes rest taken after → AreLast bytes rest → AreLast bytes after
 takes_last bytes rest taken after t h =
@@ -126,10 +122,7 @@ name_step globals before bytes rest n after small fits h e =
 bare_text_again : (t rest : List ℕ) → length t < 2 ^ 16 → IsUtf8 t
     → bare_text_at (template_bytes t ++ rest) ≡ Ok (t, rest)
 unfolding bare_text_at
-bare_text_again t rest len utf8 =
-    ap bare_text_at (append_assoc (to_le_bytes w16 (length t)) t rest)
-    ∙ bind_again (number_at w16 (to_le_bytes w16 (length t) ++ (t ++ rest))) (λ len. text_at len.0 len.1) (length t)
-    (t ++ rest) (Ok (t, rest)) (number_again w16 (2 ^ 16) wide16 (length t) (t ++ rest) len) (text_again t rest utf8)
+bare_text_again t rest len utf8 = search (arith, rules, append_assoc, bind_again, number_again, wide16, text_again)
 
 pub template_step : (before : List (List ℕ)) (bytes rest t after : List ℕ) → IsBytes bytes → AreLast bytes rest
     → template_at before rest ≡ Ok (t, after) → Step template_in HasTemplate bytes rest t after
@@ -324,10 +317,7 @@ module _ (n : ℕ) (bytes front offsets rest : List ℕ) where
   read_on : all_templates_at front ≡ Ok (templates_in bytes offsets, rest)
       → trailer_at version.Two n front ≡ (locs_at (length offsets) n rest >>= back_of)
   unfolding trailer_at
-  read_on e =
-      ap (λ (r : Read (List (List ℕ))).
-      r >>= λ ts. locs_at (length ts.0) n ts.1 >>= λ ss. Ok (record { templates = ts.0; places = ss.0 }, ss.1)) e
-      ∙ ap (λ (k : ℕ). locs_at k n rest >>= back_of) counted
+  read_on e = search (arith, rules, counted)
 
   pub back_gives : (after : List ℕ) → all_templates_at front ≡ Ok (templates_in bytes offsets, rest)
       → locs_at (length offsets) n rest ≡ Ok (read_or [] (locs_at (length offsets) n rest), after) → AreLast bytes rest
@@ -338,20 +328,13 @@ module _ (n : ℕ) (bytes front offsets rest : List ℕ) where
         },
         after,
       )
-  back_gives after e f h =
-      read_on e ∙ ap (λ (r : Read (List SourceLoc)). r >>= back_of) f
-      ∙ ap (λ (b : List ℕ). back_of (read_or [] (locs_at (length offsets) n b), after)) (sym h.are)
+  back_gives after e f h = search (arith, rules, read_on)
 
   pub back_fails : (d : ImageError) → all_templates_at front ≡ Ok (templates_in bytes offsets, rest)
       → Fails d (locs_at (length offsets) n rest) → Fails d (trailer_at version.Two n front)
-  back_fails d e f =
-      Fails-along d (locs_at (length offsets) n rest) (trailer_at version.Two n front) f
-      (λ g. read_on e ∙ ap (λ (r : Read (List SourceLoc)). r >>= back_of) g)
+  back_fails d e f = search (arith, rules, read_on)
 
 pub templates_fail : (n : ℕ) (front : List ℕ) (d : ImageError) → Fails d (all_templates_at front)
     → Fails d (trailer_at version.Two n front)
 unfolding trailer_at
-templates_fail n front d f =
-    Fails-along d (all_templates_at front) (trailer_at version.Two n front) f
-    (λ g. ap (λ (r : Read (List (List ℕ))).
-    r >>= λ ts. locs_at (length ts.0) n ts.1 >>= λ ss. Ok (record { templates = ts.0; places = ss.0 }, ss.1)) g)
+templates_fail n front d f = search (arith, rules)

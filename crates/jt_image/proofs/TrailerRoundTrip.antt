@@ -50,14 +50,8 @@ version_found bytes fits =
 pub version_again : (v : Version) (rest : List ℕ)
     → version_at (to_le_bytes w16 (version_number v) ++ rest) ≡ Ok (v, rest)
 unfolding version_at
-version_again version.One rest =
-    bind_again (number_at w16 (to_le_bytes w16 1 ++ rest))
-    (λ found. if found.0 == 1 then Ok (version.One, found.1) else if found.0 == 2 then Ok (version.Two, found.1)
-    else Err BadVersion) 1 rest (Ok (version.One, rest)) (number_again w16 (2 ^ 16) wide16 1 rest (omega arith)) refl
-version_again version.Two rest =
-    bind_again (number_at w16 (to_le_bytes w16 2 ++ rest))
-    (λ found. if found.0 == 1 then Ok (version.One, found.1) else if found.0 == 2 then Ok (version.Two, found.1)
-    else Err BadVersion) 2 rest (Ok (version.Two, rest)) (number_again w16 (2 ^ 16) wide16 2 rest (omega arith)) refl
+version_again version.One rest = search (arith, rules, bind_again, number_again, wide16)
+version_again version.Two rest = search (arith, rules, bind_again, number_again, wide16)
 
 -- ---- templates
 
@@ -73,13 +67,7 @@ pub next_again : (last : Option (List ℕ)) (t rest : List ℕ) → IsNext last 
     → text_after last (template_bytes t ++ rest) ≡ Ok (t, rest)
 unfolding text_after
 next_again last t rest h =
-    ap (text_after last) (append_assoc (to_le_bytes w16 (length t)) t rest)
-    ∙ bind_again (number_at w16 (to_le_bytes w16 (length t) ++ (t ++ rest)))
-    (λ len. text_at len.0 len.1 >>= λ t. check (follows last t.0) BadTable (Ok t)) (length t) (t ++ rest) (Ok (t, rest))
-    (number_again w16 (2 ^ 16) wide16 (length t) (t ++ rest) h.fits)
-    (bind_again (text_at (length t) (t ++ rest)) (λ t. check (follows last t.0) BadTable (Ok t)) t rest (Ok (t, rest))
-    (text_again t rest h.utf8)
-    (check_again (follows last t) BadTable (Ok (t, rest)) h.follows))
+    search (arith, rules, append_assoc, bind_again, number_again, wide16, text_again, check_again)
 
 template_again : (before : List (List ℕ)) (t rest : List ℕ) → IsNextText before t
     → template_at before (template_bytes t ++ rest) ≡ Ok (t, rest)

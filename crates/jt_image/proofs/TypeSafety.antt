@@ -280,9 +280,7 @@ module _ (k : Code) (m : MachineState) (g : IsFit k m) (l : Successors) (agree :
 
   -- A step that pushes a value and goes on is fine.
   pushed : (t : Tree) → goes_on g.unit m.point (kind.Value ∷ s) ≡ Ok l → Fine (straight (push t es m.state) m)
-  pushed t e =
-      lands_on (m.point + 1) (value t ∷ es) (pushing t) (behind (kind.Value ∷ s) e) refl (λ n sized fits. (fits, sized))
-      refl
+  pushed t e = search (arith, rules, lands_on, behind)
 
   const_fine : (c : ℕ) → effect k g.unit m.point (op.Const c) s ≡ Ok l → Fine (strict k g.unit (op.Const c) m)
   const_fine c e =
@@ -316,9 +314,7 @@ module _ (k : Code) (m : MachineState) (g : IsFit k m) (l : Successors) (agree :
       → g.shapes (m.point + 1) ≡ Some (kinds_of fs) → ((n : ℕ) → AreSized n es → AreSized n fs)
       → FinePlain (put bytes bs (with_entries m.state fs))
   put_fine bytes [] fs count here sized = absurd (omega arith)
-  put_fine bytes (b ∷ bs) fs count here sized =
-      lands (m.point + 1) fs m.state.locals m.state.globals ((b ++ bytes) ∷ bs) (emitting bytes) here refl refl count
-      (λ n z _. sized n z) refl
+  put_fine bytes (b ∷ bs) fs count here sized = search (arith, rules, lands)
 
   printed_fine : (o : Option (List ℕ)) (fs : List StackEntry) → length m.state.buffers ≡ suc (captures fs + above)
       → g.shapes (m.point + 1) ≡ Some (kinds_of fs) → ((n : ℕ) → AreSized n es → AreSized n fs)
@@ -330,10 +326,7 @@ module _ (k : Code) (m : MachineState) (g : IsFit k m) (l : Successors) (agree :
   emit_fine a e = search (arith, rules, require_ok, in_place, taken, printed_fine, behind)
 
   data_fine : (c : ℕ) → effect k g.unit m.point (op.Data c) s ≡ Ok l → Fine (strict k g.unit (op.Data c) m)
-  data_fine c e =
-      let a = require_ok _ _ _ l e in
-      in_place _ _ a.0
-      (put_fine (text_of (slice_get k.constants c)) m.state.buffers es g.buffers (behind s a.1) (λ n z. z))
+  data_fine c e = search (arith, rules, require_ok, in_place, put_fine, behind)
 
   jump_fine : (p : ℕ) → effect k g.unit m.point (op.Jump p) s ≡ Ok l → Fine (strict k g.unit (op.Jump p) m)
   jump_fine p e = lands_on p es no_demand (jumps_ok k g.unit g.shapes p s l e agree) refl (λ n z _. z) refl
@@ -356,9 +349,7 @@ module _ (k : Code) (m : MachineState) (g : IsFit k m) (l : Successors) (agree :
   given_fine : (r : Result Tree Fault) (fs : List StackEntry) → captures fs ≡ captures es
       → goes_on g.unit m.point (kind.Value ∷ kinds_of fs) ≡ Ok l → ((n : ℕ) → AreSized n es → AreSized n fs)
       → FinePlain (push_given r fs m.state)
-  given_fine (Ok t) fs count e sized =
-      lands_on (m.point + 1) (value t ∷ fs) (pushing t) (behind (kind.Value ∷ kinds_of fs) e) count
-      (λ n z fits. (fits, sized n z)) refl
+  given_fine (Ok t) fs count e sized = search (arith, rules, lands_on, behind)
   given_fine (Err x) fs count e sized = tt
 
   makes_fine : (n : ℕ) (operate : List Tree → Result Tree Fault)
@@ -383,9 +374,7 @@ module _ (k : Code) (m : MachineState) (g : IsFit k m) (l : Successors) (agree :
   begins_fine : (r : Result Items Fault) (fs : List StackEntry) → captures fs ≡ captures es
       → goes_on g.unit m.point (kind.Frame ∷ kinds_of fs) ≡ Ok l → ((n : ℕ) → AreSized n es → AreSized n fs)
       → FinePlain (begins r fs m.state)
-  begins_fine (Ok ts) fs count e sized =
-      lands_on (m.point + 1) (frame (loop_over (trees_of ts)) ∷ fs) no_demand (behind (kind.Frame ∷ kinds_of fs) e)
-      count (λ n z _. sized n z) refl
+  begins_fine (Ok ts) fs count e sized = search (arith, rules, lands_on, behind)
   begins_fine (Err x) fs count e sized = tt
 
   start_fine : effect k g.unit m.point op.LoopStart s ≡ Ok l → Fine (strict k g.unit op.LoopStart m)
@@ -431,9 +420,7 @@ module _ (k : Code) (m : MachineState) (g : IsFit k m) (l : Successors) (agree :
   -- ---- captures
 
   open_fine : effect k g.unit m.point op.CaptureBegin s ≡ Ok l → Fine (strict k g.unit op.CaptureBegin m)
-  open_fine e =
-      lands (m.point + 1) (capture ∷ es) m.state.locals m.state.globals ([] ∷ m.state.buffers) no_demand
-      (behind (kind.Capture ∷ s) e) refl refl (omega (arith, g.buffers)) (λ n z _. z) refl
+  open_fine e = search (arith, rules, lands, behind)
 
   closes_fine : (b : Bool) (bs : List (List ℕ)) (fs : List StackEntry) → length bs ≡ suc (captures es + above)
       → captures es ≡ suc (captures fs) → goes_on g.unit m.point (kind.Value ∷ kinds_of fs) ≡ Ok l

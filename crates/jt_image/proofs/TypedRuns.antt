@@ -64,9 +64,7 @@ one_end k (suc n) (suc m) c o p e f = same_end k n m (next k c) o p e f (λ d a 
 
 length-filled : (x : Pairs) (ns : List Name) (gs : List Tree) → length (filled x ns gs) ≡ length gs
 length-filled x [] gs = refl
-length-filled x (n ∷ ns) gs =
-    length-filled x ns (slice_set gs n.slot (unwrap_or (look n.text x) tree.undefined))
-    ∙ length-set gs n.slot (unwrap_or (look n.text x) tree.undefined)
+length-filled x (n ∷ ns) gs = search (arith, rules, length-filled x ns, length-set)
 
 length-replicate : {A : Type 0} (n : ℕ) (a : A) → length (replicate n a) ≡ n
 length-replicate zero a = refl

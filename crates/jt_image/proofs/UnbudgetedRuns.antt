@@ -197,22 +197,10 @@ sum_of a b = record {
 }
 
 first_at_least : (a b c : Budget) → AtLeast (sum_of a b) c → AtLeast a c
-first_at_least a b c at = record {
-  fuel = omega (arith, at.fuel);
-  depth = omega (arith, at.depth);
-  output = omega (arith, at.output);
-  size = omega (arith, at.size);
-  nesting = omega (arith, at.nesting);
-}
+first_at_least a b c at = search (arith, rules)
 
 second_at_least : (a b c : Budget) → AtLeast (sum_of a b) c → AtLeast b c
-second_at_least a b c at = record {
-  fuel = omega (arith, at.fuel);
-  depth = omega (arith, at.depth);
-  output = omega (arith, at.output);
-  size = omega (arith, at.size);
-  nesting = omega (arith, at.nesting);
-}
+second_at_least a b c at = search (arith, rules)
 
 context_fits : (x : Pairs) (ns : List Name) → (a : Budget) × ((b : Budget) → AtLeast a b → passed b x ns ≡ None)
 context_fits x [] = (only_fuel 0, λ b at. refl)

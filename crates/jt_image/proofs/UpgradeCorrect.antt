@@ -50,19 +50,14 @@ grouped : (k : Code) (z : List ℕ) → behind k ++ z ≡ to_le_bytes w16 k.glob
     ++ (to_le_bytes w16 (length k.names) ++ (flat_map name_bytes k.names
     ++ (to_le_bytes w16 (length k.constants) ++ (flat_map constant_bytes k.constants
     ++ (to_le_bytes w16 (length k.units) ++ (flat_map header_bytes k.units ++ (flat_map code_bytes k.units ++ z)))))))
-grouped k z =
-    regroup (to_le_bytes w16 k.globals) (to_le_bytes w16 (length k.names)) (flat_map name_bytes k.names)
-    (to_le_bytes w16 (length k.constants)) (flat_map constant_bytes k.constants) (to_le_bytes w16 (length k.units))
-    (flat_map header_bytes k.units) (flat_map code_bytes k.units) z
+grouped k z = search (arith, rules, regroup, code_bytes)
 
 none_behind : (k : Code) → k.version ≡ version.One → place_bytes k.version k.templates k.places ≡ []
 none_behind k e = ap (λ (v : Version). place_bytes v k.templates k.places) e
 
 -- After the magic number and the version, version 1 has exactly these bytes.
 pub behind_start : (k : Code) → k.version ≡ version.One → drop 6 (spelling k) ≡ behind k
-behind_start k e =
-    sym (grouped k (place_bytes k.version k.templates k.places)) ∙ ap (λ (z : List ℕ). behind k ++ z) (none_behind k e)
-    ∙ append-nil (behind k)
+behind_start k e = search (arith, rules, grouped, none_behind, append-nil)
 
 pub unplaced_spelled : (k : Code) → k.version ≡ version.One
     → magic ++ (to_le_bytes w16 2 ++ (drop 6 (spelling k) ++ replicate (2 + 6 * total_len k.units) 0))
@@ -71,13 +66,7 @@ unplaced_spelled k e = search (arith, rules, behind_start, zeros, grouped)
 
 length_zeros : (n : ℕ) → length (flat_map loc_bytes (replicate n no_loc)) ≡ 6 * n
 length_zeros zero = omega arith
-length_zeros (suc n) =
-    omega (
-      arith,
-      ap length (flat_map-cons loc_bytes no_loc (replicate n no_loc)),
-      length-append (loc_bytes no_loc) (flat_map loc_bytes (replicate n no_loc)),
-      length_zeros n,
-    )
+length_zeros (suc n) = search (arith, rules, flat_map-cons, length-append, length_zeros n)
 
 pub unplaced_len : (k : Code) → k.version ≡ version.One
     → length (spelling (unplaced k)) ≡ length (spelling k) + (2 + 6 * total_len k.units)
@@ -115,11 +104,7 @@ no_place (suc n) (suc i) = no_place n i
 
 module _ (k : Code) (bare : k.places ≡ []) where
   same_place : (u p : ℕ) → place_at (unplaced k) u p ≡ place_at k u p
-  same_place u p =
-      no_place (total_len k.units) (total_len (take u k.units) + p)
-      ∙ sym (ap
-      (λ (ss : List SourceLoc). option_and_then (place_of k.templates) (slice_get ss (total_len (take u k.units) + p)))
-      bare)
+  same_place u p = search (arith, rules, no_place)
 
   same_action : (u : Section) (i : Instruction) (m : MachineState) → action (unplaced k) u i m ≡ action k u i m
   same_action u a1 m = search (arith, rules)
@@ -128,9 +113,7 @@ module _ (k : Code) (bare : k.places ≡ []) where
   same_tables a0 s = search (arith, rules)
 
   same_strict : (u : Section) (i : Instruction) (m : MachineState) → strict (unplaced k) u i m ≡ strict k u i m
-  same_strict u i m =
-      ap (λ t. if t then action (unplaced k) u i m else wrong) (same_tables i m.state)
-      ∙ ap (λ a. if in_tables k i m.state then a else wrong) (same_action u i m)
+  same_strict u i m = search (arith, rules, same_tables, same_action)
 
   same_at : (q : Option (Section × Instruction)) (c : Config) → next_at (unplaced k) q c ≡ next_at k q c
   same_at a0 c = search (arith, rules, same_place, same_strict)

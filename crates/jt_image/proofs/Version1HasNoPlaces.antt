@@ -16,9 +16,7 @@ use Rattle.jt_image.specs.Step.{strict, cost}
 use Rattle.jt_image.specs.Run.{Next, Ends, spends, placed, next_at, next, start, then_goes, after, RunFrom, Run}
 
 no_place : (k : Code) → k.places ≡ [] → (u p : ℕ) → place_at k u p ≡ None
-no_place k e u p =
-    ap (λ (ss : List SourceLoc). option_and_then (place_of k.templates) (slice_get ss (total_len (take u k.units) + p)))
-    e
+no_place k e u p = search (arith, rules)
 
 placed_by : (z : Option Place) (n : Next) (f : Fault) (q : Option Place) → placed z n ≡ Ends (config.fault f q) → q ≡ z
 placed_by z a1 f q e = search (arith, rules)
@@ -26,10 +24,7 @@ placed_by z a1 f q e = search (arith, rules)
 module _ (k : Code) (bare : k.places ≡ []) (f : Fault) (q : Option Place) where
   bare_at : (o : Option (Section × Instruction)) (c : Config) → next_at k o c ≡ Ends (config.fault f q) → q ≡ None
   bare_at None c e = absurd cc
-  bare_at (Some (u, i)) c e =
-      placed_by (place_at k c.machine.unit c.machine.point)
-      (spends (cost i c.machine.state) (strict k u i c.machine) c.left) f q e
-      ∙ no_place k bare c.machine.unit c.machine.point
+  bare_at (Some (u, i)) c e = search (arith, rules, placed_by, no_place)
 
   bare_then : (n : ℕ) (c : Config) (x : Next) → next k c ≡ x → then_goes x (after k n) ≡ Ends (config.fault f q)
       → ((d : Config) → after k n d ≡ Ends (config.fault f q) → q ≡ None) → q ≡ None

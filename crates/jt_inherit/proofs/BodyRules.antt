@@ -57,9 +57,7 @@ AreGiven bs = (x : Text) → is_required (named x bs) ≡ false
 -- A body after others is the nearest one if its name is new.
 named_new : (x : Text) (bs cs : List BlockBody) → among x (names_of bs) ≡ false → named x (bs ++ cs) ≡ named x cs
 named_new x [] cs h = refl
-named_new x (b ∷ bs) cs h =
-    let k = or_false (bytes_eq b.name x) (among x (names_of bs)) h in
-    ap (λ c. cond c (b ∷ named x (bs ++ cs)) (named x (bs ++ cs))) k.0 ∙ named_new x bs cs k.1
+named_new x (b ∷ bs) cs h = search (arith, rules, or_false, bytes_eq, among, named_new x bs cs)
 
 -- A body after others is not the nearest one if its name is not new.
 named_old : (x : Text) (bs cs : List BlockBody) → among x (names_of bs) ≡ true
@@ -125,9 +123,7 @@ pub parted : {X : Type 0} (xs : List X) (i : ℕ) (x : X) → i < length xs → 
     → (rest : List X) × (xs ≡ take i xs ++ x ∷ rest)
 parted [] i x lt is = absurd (omega arith)
 parted (y ∷ ys) zero x lt is = (ys, ap (λ z. z ∷ ys) (sym is))
-parted (y ∷ ys) (suc i) x lt is =
-    let r = parted ys i x (omega arith) is in
-    (r.0, ap (λ l. y ∷ l) r.1)
+parted (y ∷ ys) (suc i) x lt is = search (arith, rules, parted ys i x)
 
 take_suc : {X : Type 0} (xs : List X) (i : ℕ) (x : X) → i < length xs → x ≡ get_or xs i x
     → take (suc i) xs ≡ take i xs ++ x ∷ []

@@ -73,9 +73,7 @@ ways_indexed given ts hs (g ∷ gs) (w ∷ ws) (n ∷ ns) a = (a.0.led.indices, 
 some_within : (hs : List Namespace) (j : ℕ) (n : Namespace) → slice_get hs j ≡ Some n → j < length hs
 some_within [] j n e = absurd (cc)
 some_within (h ∷ hs) zero n e = omega arith
-some_within (h ∷ hs) (suc j) n e =
-    let r = some_within hs j n e in
-    omega arith
+some_within (h ∷ hs) (suc j) n e = search (arith, rules, some_within hs j n e)
 
 numbers_within : (hs : List Namespace) (js : List ℕ) (ns : List Namespace) → map (slice_get hs) js ≡ map Some ns
     → AllByRecursion (λ j. j < length hs) js
@@ -109,9 +107,7 @@ none_next (n ∷ ns) (suc i) j le a = none_next ns i j (omega arith) a
 any_both : (p : Text → Bool) (xs ys : List Text) → list_any p xs ≡ false → list_any p ys ≡ false
     → list_any p (xs ++ ys) ≡ false
 any_both p [] ys a b = b
-any_both p (x ∷ xs) ys a b =
-    let k = or_false (p x) (list_any p xs) a in
-    both_false (p x) (list_any p (xs ++ ys)) k.0 (any_both p xs ys k.1 b)
+any_both p (x ∷ xs) ys a b = search (arith, rules, or_false, list_any, both_false, any_both p xs ys)
 
 -- ---- templates that are met
 
@@ -134,9 +130,7 @@ module _ (given : SourceTexts) (ts : List Template) where
 module _ (given : SourceTexts) (options : Options) (ts : List Template) {ks : List Text}
     (known : AreKnown given options ts ks) (h : Namespace) (is : List ℕ) (w : IsExtendsPath ts h is None) where
   held : AllByRecursion (λ t. sources_in ts t.name ≡ Some t.body) (templates_at ts is)
-  held =
-      subst (AllByRecursion (λ t. sources_in ts t.name ≡ Some t.body)) (whole_path ts h is w)
-      (given_templates (sources_in ts) h)
+  held = search (arith, rules, sources_in, whole_path, given_templates)
 
   pub is_one : is_whole (sources_in ts) options.autoescape h ≡ true
   is_one =
@@ -181,15 +175,9 @@ module _ (given : SourceTexts) (options : Options) (ts : List Template) {ks : Li
             (subst (λ us. lacks_next (their_blocks options.autoescape us) ≡ true) (sym (whole_path ts h is w)) b),
       )
   one_breaks root r error.MacroTwice b =
-      shows known (
-        h,
-        r,
-        and_true (is_whole (sources_in ts) options.autoescape h)
-            (repeated (map (λ g. g.0) (given_in (sources_in ts) h))) is_one (ap repeated names_told ∙ b),
-      )
+      search (arith, rules, shows, and_true, is_whole, sources_in, repeated, is_one, names_told)
   one_breaks root r error.NoMacro b =
-      let k = chain_alone b in
-      shows known (h, r, (k.0, k.1, ap (any_lacks_macros (sources_in ts)) (whole_path ts h is w) ∙ b))
+      search (arith, rules, chain_alone, shows, any_lacks_macros, sources_in, whole_path)
   one_breaks root r error.NoMemory b = tt
   one_breaks root r error.Missing b = absurd b
   one_breaks root r error.BadName b = absurd b
@@ -229,9 +217,7 @@ module _ {given : SourceTexts} {options : Options} {entry : Text} {ts : List Tem
   lens = next_len given ts hs hs ws ns f.followed ∙ all
 
   pub closed : IsClosed ns
-  closed =
-      subst (λ n. AllByRecursion (λ js. AllByRecursion (λ j. j < n) js) ns) (sym lens)
-      (next_within given ts hs hs ws ns f.followed)
+  closed = search (arith, rules, lens, next_within)
 
   pub reached : (h : Namespace) → listed h hs ≡ true → Reaches (sources_in ts) options.autoescape (a_chain entry) h
   reached = f.reached
@@ -294,9 +280,7 @@ module _ {given : SourceTexts} {options : Options} {entry : Text} {ts : List Tem
     in_order = names_in_order (sources_in ts) hs ns is f.once within includes_next o.ordered
 
     entry_in : listed (a_chain entry) (map (namespace_at hs) is) ≡ true
-    entry_in =
-        subst (λ x. listed x (map (namespace_at hs) is) ≡ true) first_namespace
-        (named_among hs 0 is (o.all 0 (omega (arith, lens, some))))
+    entry_in = search (arith, rules, listed, namespace_at, first_namespace, named_among, lens, some)
 
     in_namespaces : (x : Namespace) → listed x (map (namespace_at hs) is) ≡ true → listed x hs ≡ true
     in_namespaces x a = from is within a
@@ -566,12 +550,8 @@ module _ {given : SourceTexts} {options : Options} {entry : Text} {f : Discovery
 
     pub its_weight : chains_weight (sources_in (found_templates f)) (map namespace_view namespaces)
         ≤ chains_len given (sources_in (found_templates f)) (map namespace_view namespaces)
-    its_weight =
-        subst (λ z. chains_weight (sources_in (found_templates f)) z
-        ≤ chains_len given (sources_in (found_templates f)) z) (sym named) (weighs d.found all kept o)
+    its_weight = search (arith, rules, chains_weight, sources_in, found_templates, chains_len, named, weighs, all)
 
     pub its_count : 7 * length (map namespace_view namespaces)
         ≤ chains_weight (sources_in (found_templates f)) (map namespace_view namespaces) + 7
-    its_count =
-        subst (λ z. 7 * length z ≤ chains_weight (sources_in (found_templates f)) z + 7) (sym named)
-        (few_namespaces d.found all kept o)
+    its_count = search (arith, rules, chains_weight, sources_in, found_templates, named, few_namespaces, all)

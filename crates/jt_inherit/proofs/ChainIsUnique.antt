@@ -35,9 +35,7 @@ source_named ts n b e = sym (some_source ts n) ∙ ap is_some e
 module _ (given : SourceTexts) (options : Options) where
   has_source : (ts : List Template) (n : Text) (b : Body) → AllByRecursion (IsRead given options) ts
       → sources_in ts n ≡ Some b → given n ≢ None
-  has_source ts n b a e =
-      let r = source_read (IsRead given options) ts n b a e in
-      λ none. let no : None ≡ Some r.source = sym none ∙ r.found in absurd (cc)
+  has_source ts n b a e = search (arith, rules, source_read)
 
   module _ (entry : Text) (d : Seen) (is : IsChain given entry options d) where
     d_asked : (n : Text) → (among n (names d.templates) ≡ true) ↔

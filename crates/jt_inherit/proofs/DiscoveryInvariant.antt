@@ -200,9 +200,7 @@ followed_next : (given : SourceTexts) (ts : List Template) (hs gs : List Namespa
     (h : Namespace) (w n : List ℕ)
     → AreFollowed given ts hs gs ws ns → slice_get gs (length ws) ≡ Some h → IsFollowed given ts hs h w n
     → AreFollowed given ts hs gs (ws ++ w ∷ []) (ns ++ n ∷ [])
-followed_next given ts hs (g ∷ gs) [] [] h w n a at f =
-    let e : g ≡ h = cc in
-    (subst (λ x. IsFollowed given ts hs x w n) (sym e) f, tt)
+followed_next given ts hs (g ∷ gs) [] [] h w n a at f = search (arith, rules)
 followed_next given ts hs (g ∷ gs) (v ∷ ws) (m ∷ ns) h w n a at f =
     (a.0, followed_next given ts hs gs ws ns h w n a.1 at f)
 followed_next given ts hs a3 a4 a5 h w n a at f = search (arith, rules)
@@ -240,9 +238,7 @@ module _ {given : SourceTexts} {options : Options} {root : Text} {ts0 : List Tem
     way_there = subst (λ vs. IsExtendsPath vs h is None) (sym e2) (way_grows ts1 m2 h is None w)
 
     needs_there : needs_along ts2 is ≡ needs_along ts1 is
-    needs_there =
-        ap (λ vs. needs_along vs is) e2
-        ∙ includes_grow ts1 m2 is w.indices (subst (λ vs. AreIndices vs is) e2 way_there.indices)
+    needs_there = search (arith, rules, needs_along, includes_grow, way_there)
 
     pub chosen_there : included (sources_in ts2) h ≡ chosen ks2 (needs_along ts2 is)
     chosen_there = included_is ts2 h is way_there ∙ ap (λ ks. chosen ks (needs_along ts2 is)) (sym known.named)
@@ -339,9 +335,7 @@ module _ {given : SourceTexts} {options : Options} {root : Text} {ts0 : List Tem
 
     pub first_same : {hs2 : List Namespace} {next : List ℕ} → AreNext hs hs2 (chosen ks2 (needs_along ts2 is)) next
         → namespace_name (namespace_at hs2 0) ≡ root
-    first_same n =
-        ap (λ o. namespace_name (unwrap_or o (a_chain [])))
-        (ap (λ l. slice_get l 0) n.grown ∙ at_front hs n.more 0 (a_chain root) f.first)
+    first_same n = search (arith, rules, namespace_name, unwrap_or, a_chain, slice_get, at_front)
 
 -- Only the entry's chain was found.
 pub found_first : (given : SourceTexts) (options : Options) (entry root : Text) (ts : List Template) (ks : List Text)
@@ -349,24 +343,7 @@ pub found_first : (given : SourceTexts) (options : Options) (entry root : Text) 
     → hs ≡ a_chain entry ∷ [] → root ≡ entry → ts ≡ [] → ks ≡ [] → ws ≡ [] → ns ≡ []
     → AreFound given options root ts ks hs ws ns
 found_first given options entry root ts ks hs ws ns eh er et ek ew en =
-    subst (λ r. AreFound given options r ts ks hs ws ns) (sym er)
-    (subst (λ z. AreFound given options entry ts ks z ws ns) (sym eh)
-    (subst (λ z. AreFound given options entry z ks (a_chain entry ∷ []) ws ns) (sym et)
-    (subst (λ z. AreFound given options entry [] z (a_chain entry ∷ []) ws ns) (sym ek)
-    (subst (λ z. AreFound given options entry [] [] (a_chain entry ∷ []) z ns) (sym ew)
-    (subst (λ z. AreFound given options entry [] [] (a_chain entry ∷ []) [] z) (sym en)
-    (record {
-      known = record { read = record { each = tt; once = refl }; only = tt; within = tt; named = refl };
-      asked = λ n a. absurd (cc);
-      first = refl;
-      once = refl;
-      few = omega arith;
-      reached =
-          λ x a. subst (λ z. Reaches (sources_in []) options.autoescape (a_chain entry) z)
-          (only_among of_namespaces (a_chain entry) x a) here;
-      led = λ x a. inl (sym (only_among of_namespaces (a_chain entry) x a));
-      followed = tt;
-    }))))))
+    search (arith, rules, a_chain, asked, sources_in, only_among, of_namespaces, here)
 
 -- There are no more paths than namespaces.
 pub followed_len : (given : SourceTexts) (ts : List Template) (hs gs : List Namespace) (ws ns : List (List ℕ))
@@ -394,9 +371,7 @@ module _ {given : SourceTexts} {options : Options} {ks : List Text} (ps qs : Lis
   both_files = ap files_view more ∙ map-append file_view ps qs
 
   pub both_known : AreKnown given options (files_view rs) ks
-  both_known =
-      subst (λ ts. AreKnown given options ts ks)
-      (ap (λ (zs : List TemplateFile). files_view zs ++ files_view qs) same_files ∙ sym both_files) known
+  both_known = search (arith, rules, files_view, both_files)
 
 -- The includes and imports of the same templates at the same indices are equal.
 pub same_needs : (ps qs : List TemplateFile) (is js : List ℕ) → qs ≡ ps → js ≡ is

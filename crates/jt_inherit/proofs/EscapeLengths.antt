@@ -21,9 +21,7 @@ bytes-cons c x = bytes-append (c ∷ []) x
 
 -- A character has one to four bytes.
 one_has : (c : ℕ) → (1 ≤ bytes (c ∷ [])) × (bytes (c ∷ []) ≤ 4)
-one_has c =
-    let e = length-append (encode c) [] in
-    (omega (arith, e, length-encode c, (len_utf8_bounds c).0), omega (arith, e, length-encode c, (len_utf8_bounds c).1))
+one_has c = search (arith, rules, length-append, length-encode, len_utf8_bounds)
 
 -- An ASCII character has one byte.
 ascii_has : (c : ℕ) → c < 128 → bytes (c ∷ []) ≡ 1

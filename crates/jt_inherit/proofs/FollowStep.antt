@@ -1,5 +1,5 @@
 -- One step of the search: the numbers of the namespaces that a followed one leads to.
-use Rattle.std.proofs.Common.{◌≡◌, ℕ, zero, suc, ◌+◌, ◌<◌, ◌≤◌, Bool, true, false, not, cond, ◌||◌, if◌then◌else◌, List}
+use Rattle.std.proofs.Common.{◌≡◌, ℕ, zero, suc, ◌+◌, ◌<◌, ◌≤◌, Bool, true, false, not, cond, ◌||◌, List}
 use Rattle.std.proofs.Common.{[], ◌∷◌, ◌++◌, length, map, take, drop, get_or, refl, sym, ap, subst, ◌∙◌, arith, inl}
 use Rattle.std.proofs.Common.{inr, ◌⊎◌, ⊎_elim, Some, length-append, rules}
 use Rattle.std.proofs.lemmas.List.{take_more}
@@ -180,9 +180,6 @@ many_turn old mid ks ns k d is n lt p f =
 pub asked_at : (all : Bool) (ns : List NeededTemplate) (k : ℕ) (d : NeededTemplate) → k < length ns
     → (all || not (get_or ns k d).ignoring) ≡ true → among (get_or ns k d).name.now (needed all (needs_view ns)) ≡ true
 asked_at all [] k d lt e = absurd (omega arith)
-asked_at all (n ∷ ns) zero d lt e =
-    ap (λ b. among n.name.now ((if b then n.name.now ∷ [] else []) ++ needed all (needs_view ns))) e
-    ∙ ap (λ b. b || among n.name.now (needed all (needs_view ns))) (reflexive n.name.now)
+asked_at all (n ∷ ns) zero d lt e = search (arith, rules, among, needed, needs_view, reflexive)
 asked_at all (n ∷ ns) (suc k) d lt e =
-    among_behind of_texts (get_or ns k d).name.now (if all || not n.ignoring then n.name.now ∷ [] else [])
-    (needed all (needs_view ns)) (asked_at all ns k d (omega arith) e)
+    search (arith, rules, among_behind, of_texts, get_or, needed, needs_view, asked_at all ns k d)

@@ -1,5 +1,5 @@
 -- The imports of templates; libraries import nothing.
-use Rattle.std.proofs.Common.{◌≡◌, Bool, true, false, ◌&&◌, List, [], ◌∷◌, ◌++◌, map, refl, sym, ap, ◌∙◌, arith, rules}
+use Rattle.std.proofs.Common.{◌≡◌, Bool, true, false, ◌&&◌, List, [], ◌∷◌, ◌++◌, map, refl, ap, arith, rules}
 use Rattle.jt_ast.specs.Statements as trees
 use Rattle.jt_chains.specs.Chain.{of_a_library}
 use Rattle.jt_chains.specs.Chain.{imports_in, all_given_from}
@@ -14,9 +14,7 @@ use Rattle.jt_inherit.proofs.Vocabulary.{imported_names, includes_in, Need, incl
 pub all_imports : (ts : List Template) → flat_map (λ t. map library_need (libraries_in t.body)) ts
     ≡ map library_need (flat_map (λ t. libraries_in t.body) ts)
 all_imports [] = refl
-all_imports (t ∷ ts) =
-    ap (λ l. map library_need (libraries_in t.body) ++ l) (all_imports ts)
-    ∙ sym (map-append library_need (libraries_in t.body) (flat_map (λ (u : Template). libraries_in u.body) ts))
+all_imports (t ∷ ts) = search (arith, rules, library_need, libraries_in, all_imports ts, map-append, flat_map)
 
 -- Each import needs its library.
 pub imports_needed : (all : Bool) (ns : List Text) → needed all (map library_need ns) ≡ ns
@@ -63,9 +61,7 @@ mutual
 
 pub all_includes : (ts : List Template) → AreIncludes (flat_map (λ t. includes_in include_need t.body) ts)
 all_includes [] = tt
-all_includes (t ∷ ts) =
-    both (includes_in include_need t.body) (flat_map (λ (u : Template). includes_in include_need u.body) ts)
-    (by_body t.body) (all_includes ts)
+all_includes (t ∷ ts) = search (arith, rules, both, includes_in, include_need, flat_map, by_body, all_includes ts)
 
 pub includes_chosen : (ks : List Text) (ns : List Need) → AreIncludes ns
     → chosen ks ns ≡ map a_chain (filter (λ n. among n ks) (needed true ns))

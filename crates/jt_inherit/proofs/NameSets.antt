@@ -1,5 +1,5 @@
 -- Sets of names: lookup, and the numbers after an insertion.
-use Rattle.std.proofs.Common.{◌≡◌, ℕ, false, cond, ◌||◌, List, [], ◌∷◌, ◌++◌, length, refl, ap, ◌∙◌, arith, Option}
+use Rattle.std.proofs.Common.{◌≡◌, ℕ, false, cond, List, [], ◌∷◌, ◌++◌, length, refl, ◌∙◌, arith, Option}
 use Rattle.std.proofs.Common.{Some, String, Global, string_bytes, MatchOption, rules}
 use Rattle.jt_inherit.proofs.Vocabulary.{slice_get, get_by_text, list_any, bytes_eq, slice_get-map, among, Text, Table}
 use Rattle.jt_inherit.proofs.Vocabulary.{AreNumbers, is_text, strings, same, symmetric}
@@ -7,9 +7,7 @@ use Rattle.jt_inherit.proofs.NumberTables.{first_none, first_found, numbers_more
 
 any_string : (x : Text) (ks : List (String Global)) → list_any (is_text x) ks ≡ among x (strings ks)
 any_string x [] = refl
-any_string x (k ∷ ks) =
-    ap (λ b. b || list_any (is_text x) ks) (symmetric x (string_bytes k))
-    ∙ ap (λ b. bytes_eq (string_bytes k) x || b) (any_string x ks)
+any_string x (k ∷ ks) = search (arith, rules, list_any, is_text, symmetric, string_bytes, bytes_eq, any_string x ks)
 
 pub find_told : (x : Text) (ks : List (String Global)) (m : Table) (r : Option ℕ) → AreNumbers is_text ks m
     → r ≡ get_by_text m x

@@ -56,13 +56,7 @@ templates_lead : (ts : List Template) → 7
     ≤ templates_weight ts
 templates_lead [] = omega arith
 templates_lead (t ∷ ts) =
-    omega (
-      arith,
-      length-append (needs_in true t.body) (flat_map (λ u. needs_in true u.body) ts),
-      length-append (libraries_in t.body) (flat_map (λ u. libraries_in u.body) ts),
-      body_leads t.body,
-      templates_lead ts,
-    )
+    search (arith, rules, length-append, needs_in, flat_map, libraries_in, body_leads, templates_lead ts)
 
 filtered_le : (p : Text → Bool) (xs : List Text) → length (filter p xs) ≤ length xs
 filtered_le p [] = omega arith
@@ -83,12 +77,7 @@ module _ (sources : Sources) where
   includes_weigh : (hs : List Namespace) → 7 * length (flat_map (included sources) hs) ≤ chains_weight sources hs
   includes_weigh [] = omega arith
   includes_weigh (h ∷ hs) =
-      omega (
-        arith,
-        length-append (included sources h) (flat_map (included sources) hs),
-        namespace_weighs h,
-        includes_weigh hs,
-      )
+      search (arith, rules, length-append, included, flat_map, namespace_weighs, includes_weigh hs)
 
   -- A namespace that is in an order leads only to namespaces of this order.
   later : (m : Namespace) (b : Bool) (hs : List Namespace) → listed m hs ≡ true → (b || listed m hs) ≡ true

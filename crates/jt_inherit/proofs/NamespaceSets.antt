@@ -1,5 +1,5 @@
 -- Sets of chains and libraries: lookup, and the effect of an insertion.
-use Rattle.std.proofs.Common.{◌≡◌, ℕ, ◌+◌, ◌<◌, ◌≤◌, Bool, true, false, cond, ◌||◌, if◌then◌else◌, List, [], ◌∷◌, ◌++◌}
+use Rattle.std.proofs.Common.{◌≡◌, ℕ, ◌+◌, ◌<◌, ◌≤◌, Bool, true, false, cond, if◌then◌else◌, List, [], ◌∷◌, ◌++◌}
 use Rattle.std.proofs.Common.{length, drop, get_or, refl, sym, ap, ◌∙◌, arith, Option, Some, string_bytes, MatchOption}
 use Rattle.std.proofs.Common.{length-append, rules}
 use Rattle.jt_inherit.specs.internal.Numbers as numbers
@@ -13,9 +13,7 @@ use Rattle.jt_inherit.proofs.NamespaceMembership.{chains_both, same, symmetric}
 pub any_namespace : (h : Namespace) (ks : List NamespaceKey)
     → list_any (λ k. same_namespace h (key_view k)) ks ≡ listed h (keys_view ks)
 any_namespace h [] = refl
-any_namespace h (k ∷ ks) =
-    ap (λ b. b || list_any (λ (j : NamespaceKey). same_namespace h (key_view j)) ks) (symmetric h (key_view k))
-    ∙ ap (λ b. same_namespace (key_view k) h || b) (any_namespace h ks)
+any_namespace h (k ∷ ks) = search (arith, rules, list_any, same_namespace, key_view, symmetric, any_namespace h ks)
 
 pub find_told : (h : Namespace) (ks : List NamespaceKey) (r : Option ℕ)
     → r ≡ position_from (λ k. same_namespace h (key_view k)) 0 ks
@@ -83,12 +81,9 @@ library_kept ks k m told is =
 pub library_more : (old new : List Namespace) (k : NamespaceKey) → new ≡ old ++ key_view k ∷ [] → k.is_library ≡ true
     → length (chains_of new) ≡ length (chains_of old)
 library_more old new k e is =
-    ap (λ l. length (chains_of l)) e ∙ ap (λ h. length (chains_of (old ++ h ∷ []))) (is_library k is)
-    ∙ ap length (chains_both old (a_library (string_bytes k.name) ∷ [])) ∙ ap length (append-nil (chains_of old))
+    search (arith, rules, chains_of, is_library, chains_both, a_library, string_bytes, append-nil)
 
 pub chain_more : (old new : List Namespace) (k : NamespaceKey) → new ≡ old ++ key_view k ∷ [] → k.is_library ≡ false
     → length (chains_of new) ≡ length (chains_of old) + 1
 chain_more old new k e is =
-    ap (λ l. length (chains_of l)) e ∙ ap (λ h. length (chains_of (old ++ h ∷ []))) (is_chain k is)
-    ∙ ap length (chains_both old (a_chain (string_bytes k.name) ∷ []))
-    ∙ length-append (chains_of old) (string_bytes k.name ∷ [])
+    search (arith, rules, chains_of, is_chain, chains_both, a_chain, string_bytes, length-append)

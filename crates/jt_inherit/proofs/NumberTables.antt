@@ -36,9 +36,7 @@ module _ {A : Type 0} (p : A → Bool) where
 
   pub first_more : (i : ℕ) (xs : List A) (y : A) → list_any p xs ≡ false
       → position_from p i (xs ++ y ∷ []) ≡ cond (p y) (Some (i + length xs)) None
-  first_more i [] y n =
-      let e : i ≡ i + 0 = omega arith in
-      ap (λ j. cond (p y) (Some j) None) e
+  first_more i [] y n = search (arith, rules)
   first_more i (x ∷ xs) y n = search (arith, rules, first_more (i + 1) xs y)
 
   pub first_same : (i : ℕ) (xs : List A) (y : A) → p y ≡ false → position_from p i (xs ++ y ∷ []) ≡ position_from p i xs

@@ -61,9 +61,7 @@ pub and_true : (a b : Bool) → a ≡ true → b ≡ true → (a && b) ≡ true
 and_true a b p q = ap (λ c. c && b) p ∙ q
 
 pub too_few : (n : ℕ) (b : Bool) → n ≤ 64 → ((n == 65) && b) ≡ false
-too_few n b le =
-    let e : (n == 65) ≡ false = grind (arith, nat_tests) in
-    ap (λ c. c && b) e
+too_few n b le = search (arith, rules, nat_tests)
 
 pub few_names : (n : ℕ) → n ≤ 64 → nat_lt n 65 ≡ true
 few_names n le = grind (arith, nat_tests)

@@ -39,9 +39,7 @@ leads_grow s r g (Some n) (t ∷ ts) p l = (l.0, g n t.body l.1, leads_grow s r 
 pub leads_more : (s : Sources) (o : Option Text) (ts : List Template) (t : Template) → Leads s o ts (Some t.name)
     → s t.name ≡ Some t.body → Leads s o (ts ++ t ∷ []) (extends_of t.body)
 leads_more s None [] t l e = absurd (cc)
-leads_more s (Some n) [] t l e =
-    let h : n ≡ t.name = cc in
-    (sym h, ap s h ∙ e, refl)
+leads_more s (Some n) [] t l e = search (arith, rules)
 leads_more s None (u ∷ ts) t l e = absurd l
 leads_more s (Some n) (u ∷ ts) t l e = (l.0, l.1, leads_more s (extends_of u.body) ts t l.2 e)
 
@@ -53,14 +51,11 @@ none_up s (suc k) = refl
 
 pub names_lead : (s : Sources) (m k : ℕ) (o : Option Text) (ts : List Template) (p : Option Text) → m ≡ length ts + k
     → Leads s o ts p → names_up s m o ≡ names ts ++ names_up s k p
-names_lead s m k o [] p e l =
-    let h : m ≡ k = omega arith in
-    ap (λ j. names_up s j o) h ∙ ap (names_up s k) l
+names_lead s m k o [] p e l = search (arith, rules, names_up)
 names_lead s m k None (t ∷ ts) p e l = absurd l
 names_lead s zero k (Some n) (t ∷ ts) p e l = absurd (omega arith)
 names_lead s (suc m) k (Some n) (t ∷ ts) p e l =
-    ap (λ o. n ∷ names_up s m (parent_of o)) l.1 ∙ ap (λ x. x ∷ names_up s m (extends_of t.body)) (sym l.0)
-    ∙ ap (λ xs. t.name ∷ xs) (names_lead s m k (extends_of t.body) ts p (omega arith) l.2)
+    search (arith, rules, names_up, parent_of, extends_of, names_lead s m k)
 
 pub names_to_root : (s : Sources) (m : ℕ) (o : Option Text) (ts : List Template) → length ts ≤ m → Leads s o ts None
     → names_up s m o ≡ names ts
@@ -114,8 +109,7 @@ pub templates_more : (ts : List Template) (is : List ℕ) (i : ℕ) (t : Templat
     → templates_at ts (is ++ i ∷ []) ≡ templates_at ts is ++ t ∷ []
 templates_more ts [] i t e = ap (λ o. option_to_list o ++ []) e
 templates_more ts (j ∷ is) i t e =
-    ap (λ l. option_to_list (slice_get ts j) ++ l) (templates_more ts is i t e)
-    ∙ sym (append_assoc (option_to_list (slice_get ts j)) (templates_at ts is) (t ∷ []))
+    search (arith, rules, option_to_list, slice_get, templates_more ts is i t e, append_assoc, templates_at)
 
 -- The template file at an index, and the templates at the further indices.
 pub templates_turn : (ps : List TemplateFile) (is : List ℕ) (k : ℕ) (p : TemplateFile) → k < length is
@@ -294,9 +288,7 @@ file_last ps qs p n k e is at =
 pub name_of_slice : (ts : List Template) (i : ℕ) (t : Template) → slice_get ts i ≡ Some t
     → slice_get (names ts) i ≡ Some t.name
 name_of_slice [] i t e = absurd (cc)
-name_of_slice (u ∷ ts) zero t e =
-    let h : u ≡ t = cc in
-    ap (λ (z : Template). Some z.name) h
+name_of_slice (u ∷ ts) zero t e = search (arith, rules)
 name_of_slice (u ∷ ts) (suc i) t e = name_of_slice ts i t e
 
 -- A template at the index of its name, appended to a path.
@@ -310,14 +302,10 @@ module _ (ps qs : List TemplateFile) (more : Grow ps qs) (is : List ℕ) {js : L
   us = files_view qs
 
   held : slice_get us i ≡ Some (file_view p)
-  held =
-      map_at file_view qs i p
-      (omega (arith, slice_get_within (names us) i m at, length_names us, length-map qs file_view)) there
+  held = search (arith, rules, map_at, file_view, slice_get_within, length_names, length-map)
 
   named : string_bytes p.name ≡ m
-  named =
-      let told : Some (string_bytes p.name) ≡ Some m = sym (name_of_slice us i (file_view p) held) ∙ at in
-      cc
+  named = search (arith, rules, string_bytes, name_of_slice, file_view, held)
 
   -- The path goes on to the parent.
   way_turn : {h : Text} {o : Option Text} → IsExtendsPath ts (a_chain h) is (Some n)

@@ -2,7 +2,7 @@
 use Rattle.std.proofs.Common.{rules}
 use Rattle.std.proofs.Common.{◌≡◌, ℕ, suc, ◌+◌, ◌-◌, ◌<◌, ◌≤◌, Bool, true, false, List, [], ◌∷◌, ◌++◌}
 use Rattle.std.proofs.Common.{length}
-use Rattle.std.proofs.Common.{String, Global, drop, get_or, map, zero, refl, sym, ap, subst, ◌∙◌, arith, inl, inr}
+use Rattle.std.proofs.Common.{String, Global, drop, get_or, map, zero, refl, sym, ap, subst, ◌∙◌, arith, inl}
 use Rattle.std.proofs.Common.{◌⊎◌, ⊎_elim, Option, Some, None, string_bytes}
 use Rattle.jt_chains.proofs.TemplatesByIndex.{number_at}
 use Rattle.jt_inherit.specs.Findings.{IsBrokenAt}
@@ -47,8 +47,7 @@ pub reached_source : {s : Sources} {e : Bool} {h k : Namespace} → Reaches s e 
     → (k ≡ h) ⊎ (is_some (s (namespace_name k)) ≡ true)
 reached_source here = inl refl
 reached_source {s} {e} (through {namespace = h} {next = m} a rest) =
-    ⊎_elim (λ q. inr (ap (λ z. is_some (s (namespace_name z))) q ∙ listed_source s h m a)) (λ q. inr q)
-    (reached_source rest)
+    search (arith, rules, is_some, namespace_name, listed_source, reached_source rest)
 
 -- ---- paths
 
@@ -242,9 +241,7 @@ module _ {given : SourceTexts} {options : Options} {root : Text} {ts : List Temp
       let root_is = unread_root n is (bad_unread n f) in
       (q.1 ∙ root_is, λ k. f (subst IsName (sym root_is) k))
   head_said n is e f None (Some (v.Template m)) q = absurd q.2
-  head_said n is e f (Some p) (Some (v.Template m)) q =
-      let no = q.0 in
-      absurd (cc)
+  head_said n is e f (Some p) (Some (v.Template m)) q = search (arith, rules)
   head_said n is e f p x q = absurd q
 
   asked_said : (n : Text) (e : ChainError) → IsFaultOf e given n options → (p : TagPlace) (m : String Global)
@@ -273,9 +270,7 @@ module _ {given : SourceTexts} {options : Options} {root : Text} {ts : List Temp
       → IsFaultOf e given n options
       → HasUse (need_test n e) (all_uses us) → (p : Option TagPlace) (x : Option ChainSubject)
       → NamedAt (place_in 0 (tags (need_test n e) (all_uses us))) n e x p → Says given root options p x e
-  need_said {us} whole n e f used p x q =
-      name_said (need_test n e) (all_uses us) used n e f
-      (λ z t. subst (λ l. HasTag (need_test n e) l z) (sym whole) t) p x q
+  need_said {us} whole n e f used p x q = search (arith, rules, name_said, need_test, all_uses)
 
   -- The last template on the path extends the name.
   parent_tag : (us rest : List Template) (t : Template) → templates (sources_in ts) h ≡ (us ++ t ∷ []) ++ rest
@@ -296,15 +291,11 @@ module _ {given : SourceTexts} {options : Options} {root : Text} {ts : List Temp
 
   front : (us : List Template) (t : Template) → templates_at ts is ≡ us ++ t ∷ []
       → (rest : List Template) × (templates (sources_in ts) (a_chain h) ≡ (us ++ t ∷ []) ++ rest)
-  front us t e =
-      let more = chain_front (sources_in ts) h (templates_at ts is) (Some n) few w.leads in
-      (more.0, more.1 ∙ ap (λ l. l ++ more.0) e)
+  front us t e = search (arith, rules, chain_front, sources_in, templates_at, few)
 
   -- The name of a chain whose path is empty.
   own_name : is ≡ [] → h ≡ n
-  own_name e =
-      let told : Some h ≡ Some n = subst (λ l. Leads (sources_in ts) (Some h) (templates_at ts l) (Some n)) e w.leads in
-      cc
+  own_name e = search (arith, rules, sources_in, templates_at)
 
   -- What the tag of the last template shows, if the path is not empty.
   parent_said : (e : ChainError) (x : ChainSubject) → (is ≡ [] → ⊥)
@@ -423,9 +414,7 @@ refused_all given options ps qs more k is e f told b s = search (arith, rules, c
 pub same_path : (P : List TemplateFile → List ℕ → Text → Type 0) {ps qs : List TemplateFile} {is js : List ℕ}
     {n m : Text}
     → qs ≡ ps → js ≡ is → m ≡ n → P qs js m → P ps is n
-same_path P {ps} {qs} {is} {js} {n} {m} a b d h =
-    subst (λ (z : Text). P ps is z) d
-    (subst (λ (z : List ℕ). P ps z m) b (subst (λ (z : List TemplateFile). P z js m) a h))
+same_path P {ps} {qs} {is} {js} {n} {m} a b d h = search (arith, rules)
 
 -- The finding of an included or imported template, by its index among them.
 pub unmet_need : (given : SourceTexts) (options : Options) (ps : List TemplateFile) (is : List ℕ)

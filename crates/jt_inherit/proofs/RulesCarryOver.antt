@@ -11,7 +11,7 @@ use Rattle.jt_chains.specs.Rules.{NoMacro, NotALibrary}
 use Rattle.jt_inherit.proofs.Vocabulary.{flat_map, list_any, is_none, bytes_eq, append-nil, map-append, cases_lt}
 use Rattle.jt_inherit.proofs.Vocabulary.{nat_tests, among, repeated, Text, Body, Sources, Namespace, a_chain, a_library}
 use Rattle.jt_inherit.proofs.Vocabulary.{Template, template, templates, library_template, is_a_library, extends_of}
-use Rattle.jt_inherit.proofs.Vocabulary.{parent_of, names_up, blocks_in, MacroBody, Definition, macros, own}
+use Rattle.jt_inherit.proofs.Vocabulary.{parent_of, names_up, blocks_in, MacroBody, macros, own}
 use Rattle.jt_inherit.proofs.Vocabulary.{libraries_in, lacks_body, lacks_next, their_blocks, their_macros, any_double}
 use Rattle.jt_inherit.proofs.Vocabulary.{any_lacks_macros, names_from, imported_names, Asks, Reaches, here, is_whole}
 use Rattle.jt_inherit.proofs.Vocabulary.{extends_path, of_texts, reflexive, among_behind, among_front, both_false}
@@ -31,9 +31,7 @@ any_front p (x ∷ xs) ys h = search (arith, rules, any_front p xs ys, or_true)
 
 none_front : {A : Type 0} (p : A → Bool) (xs ys : List A) → list_any p (xs ++ ys) ≡ false → list_any p xs ≡ false
 none_front p [] ys h = refl
-none_front p (x ∷ xs) ys h =
-    let k = or_false (p x) (list_any p (xs ++ ys)) h in
-    both_false (p x) (list_any p xs) k.0 (none_front p xs ys k.1)
+none_front p (x ∷ xs) ys h = search (arith, rules, or_false, list_any, both_false, none_front p xs ys)
 
 pub repeated_front : (xs ys : List Text) → repeated xs ≡ true → repeated (xs ++ ys) ≡ true
 repeated_front [] ys h = absurd (cc)
@@ -207,9 +205,7 @@ module _ (s r : Sources) where
 -- The names that stand for macros and libraries.
 pub given_names : (s : Sources) (h : Namespace)
     → map (λ g. g.0) (given s h) ≡ map (λ m. m.name) (macros s h) ++ map (λ g. g.0) (imports s h)
-given_names s h =
-    map-append (λ (g : Text × Definition). g.0) (own h (macros s h)) (imports s h)
-    ∙ ap (λ l. l ++ map (λ (g : Text × Definition). g.0) (imports s h)) (own_named h (macros s h))
+given_names s h = search (arith, rules, map-append, own, macros, own_named)
 
 -- ---- the rules
 
@@ -241,9 +237,7 @@ module _ (s r : Sources) (e : Bool) (entry : Namespace)
   long : (h : Namespace) → Reaches r e entry h
       → ((length (extends_path s e h) == 65) && not (repeated (extends_path s e h))) ≡ true
       → ((length (extends_path r e h) == 65) && not (repeated (extends_path r e h))) ≡ true
-  long h p t =
-      let k = both_true (length (extends_path s e h) == 65) (not (repeated (extends_path s e h))) t in
-      ap (λ l. (length l == 65) && not (repeated l)) (full h p (sixty_five (length (extends_path s e h)) k.0)) ∙ t
+  long h p t = search (arith, rules, both_true, extends_path, repeated, full, sixty_five)
 
   -- A name that occurs twice on the path does so among the first 65 names, or these differ.
   cycle : (h : Text) (k : ℕ) → Reaches r e entry (a_chain h) → repeated (names_up s k (Some h)) ≡ true
@@ -272,10 +266,7 @@ module _ (s r : Sources) (e : Bool) (entry : Namespace)
             long (a_chain h) p (and_true (length (extends_path s e (a_chain h)) == 65)
                 (not (repeated (extends_path s e (a_chain h)))) f (ap not q)),
           ))
-      by false q false f =
-          let no : true ≡ false =
-          sym (first (below (length (extends_path s e (a_chain h))) (up_len s 65 (Some h)) f)) ∙ q in
-          absurd (cc)
+      by false q false f = search (arith, rules, first, below, extends_path, a_chain, up_len)
 
   pub extends_cycle : ExtendsCycle s e entry → ExtendsCycle r e entry ⊎ ChainTooLong r e entry
   extends_cycle x =

@@ -1,5 +1,5 @@
 -- Errors of a source: its segments with their options, and the trees that they spell.
-use Rattle.std.proofs.Common.{◌≡◌, ◌<◌, ◌≤◌, List, [], ◌∷◌, length, map, refl, sym, ap, subst, ◌∙◌, chars, ⊎_elim, Some}
+use Rattle.std.proofs.Common.{◌≡◌, ◌<◌, ◌≤◌, List, [], ◌∷◌, length, map, refl, sym, ap, subst, ◌∙◌, chars, Some}
 use Rattle.std.proofs.Common.{None, arith, rules}
 use Rattle.jt_scan.specs.Cut as cut
 use Rattle.jt_scan.specs.Cut.{Text, IsCut}
@@ -28,9 +28,7 @@ read_cut options (s ∷ ss) h =
     ∙ ap (λ l. let r : Read = (options, segment_view s) in r ∷ l) (read_cut options ss h.1)
 
 pub limited : (given : Text) → (max_source_len < length given → ⊥) → length given ≤ max_source_len
-limited given long =
-    ⊎_elim (λ (gt : max_source_len < length given). absurd (long gt)) (λ (le : length given ≤ max_source_len). le)
-    (cases_lt max_source_len (length given))
+limited given long = search (arith, rules, cases_lt)
 
 module _ (options : Options) (given : Text) (s : Held)
     (is : s ≡ record { text = normalized options.keep_trailing_newline given; options = options })

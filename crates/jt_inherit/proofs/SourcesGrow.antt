@@ -32,9 +32,7 @@ up_some s k n b e = ap (λ o. template n o ++ flat_map (λ m. template m (s m)) 
 
 up_none : (s : Sources) (k : ℕ) (n : Text) → s n ≡ None
     → flat_map (λ m. template m (s m)) (names_up s (suc k) (Some n)) ≡ []
-up_none s k n e =
-    ap (λ o. template n o ++ flat_map (λ m. template m (s m)) (names_up s k (parent_of o))) e
-    ∙ ap (flat_map (λ m. template m (s m))) (none_up s k)
+up_none s k n e = search (arith, rules, template, flat_map, names_up, parent_of, none_up)
 
 -- Each of these names that has a tree in the first sources has the same tree in the second ones.
 abbrev pub Carries : Sources → Sources → List Text → Type 0
@@ -42,9 +40,7 @@ Carries s r xs = (n : Text) → among n xs ≡ true → (b : Body) → s n ≡ S
 
 pub carries_up : (s r : Sources) (k : ℕ) (n : Text) (b : Body) → r n ≡ Some b
     → Carries s r (names_up r (suc k) (Some n)) → Carries s r (names_up r k (extends_of b))
-carries_up s r k n b e g m a =
-    g m (or_true (bytes_eq n m) (among m (names_up r k (parent_of (r n))))
-    (ap (λ o. among m (names_up r k (parent_of o))) e ∙ a))
+carries_up s r k n b e g m a = search (arith, rules, or_true, bytes_eq, among, names_up, parent_of)
 
 pub front_carried : (s r : Sources) (k : ℕ) (n : Text) → Carries s r (names_up r (suc k) (Some n)) → (b : Body)
     → s n ≡ Some b → r n ≡ Some b
@@ -261,9 +257,7 @@ module _ (s r : Sources) (e : Bool) (entry : Namespace)
       through (included_more h p m a) (reaches_more (reaches_next p (included_more h p m a)) rest)
 
   pub asks_more : (n : Text) → Asks s e entry n → Asks r e entry n
-  asks_more n x =
-      let p = reaches_more here x.1 in
-      (x.0, p, asked_more true x.0 p n x.2)
+  asks_more n x = search (arith, rules, reaches_more, here, asked_more)
 
 pub reach_more : (ts us more : List Template) (e : Bool) (h k : Namespace) → us ≡ ts ++ more
     → Reaches (sources_in ts) e h k → Reaches (sources_in us) e h k

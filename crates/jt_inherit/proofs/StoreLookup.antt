@@ -1,6 +1,6 @@
 -- The library of a name in a store: its macros, and the names that are imported from it.
 use Rattle.std.proofs.Common.{◌≡◌, ℕ, ◌<◌, length, get_or, arith, string_bytes, Bool, true, false, ◌&&◌, ◌||◌}
-use Rattle.std.proofs.Common.{if◌then◌else◌, List, [], ◌∷◌, ◌++◌, refl, sym, ap, ◌∙◌, Option, Some, None, rules}
+use Rattle.std.proofs.Common.{List, [], ◌∷◌, refl, sym, ap, ◌∙◌, Option, Some, None, rules}
 use Rattle.jt_chains.specs.Tables.{library_macros}
 use Rattle.jt_chains.specs.Rules.{lacks_one}
 use Rattle.jt_inherit.proofs.Vocabulary.{slice_get, flat_map, is_some, is_none, length-map, append-nil}
@@ -50,9 +50,7 @@ module _ (ps : List TemplateFile) (ks : List Text) (k : AreNamed (files_view ps)
     is_library_read b e = ap is_a_library source_is ∙ sym e
 
     pub macros_there : macros_held p ≡ macros (sources_in (files_view ps)) (a_library n)
-    macros_there =
-        held_read n (string_bytes p.name) (body_of p.template) name_is
-        ∙ sym (ap (λ o. own_macros (library_template n o)) source_is)
+    macros_there = search (arith, rules, held_read, string_bytes, body_of, name_is, library_template, source_is)
 
 no_macros : (s : Sources) (n : Text) → is_a_library (s n) ≡ false → macros s (a_library n) ≡ []
 no_macros s n e = search (arith, rules)
@@ -62,9 +60,7 @@ no_macro x = search (arith, rules)
 
 pub none_from : (xs : List (Text × Text)) → names_from [] xs ≡ []
 none_from [] = refl
-none_from (x ∷ xs) =
-    ap (λ (o : Option MacroBody). (if is_some o then x.1 ∷ [] else []) ++ names_from [] xs) (no_macro x.0)
-    ∙ none_from xs
+none_from (x ∷ xs) = search (arith, rules, is_some, names_from, no_macro, none_from xs)
 
 -- A name that is no library's binds no names and lacks no macros.
 pub nothing_from : (s : Sources) (n : Text) (xs : List (Text × Text)) → is_a_library (s n) ≡ false
@@ -85,6 +81,4 @@ lacks_same s r n (x ∷ xs) e = search (arith, rules, lacks_same s r n xs e)
 pub library_lacks : (s : Sources) (n : Text) (xs : List (Text × Text)) → is_a_library (s n) ≡ true
     → lacks_one s n xs ≡ has_not (macros s (a_library n)) xs
 library_lacks s n [] e = refl
-library_lacks s n (x ∷ xs) e =
-    let none = is_none (public_macro x.0 (macros s (a_library n))) in
-    ap (λ b. (b && none) || lacks_one s n xs) e ∙ ap (λ b. none || b) (library_lacks s n xs e)
+library_lacks s n (x ∷ xs) e = search (arith, rules, is_none, public_macro, macros, a_library, library_lacks s n xs e)

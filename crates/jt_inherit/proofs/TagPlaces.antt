@@ -41,9 +41,7 @@ begin test x xs b h = ap (λ b. cond b (x ∷ tags test xs) (tags test xs)) h
 
 at_place : (test : Use → Bool) (p : TagPlace) (x : Text × Site) → test x.1.made ≡ true
     → Some (place_of x) ≡ Some (place_view p) → IsAt test p x
-at_place test p x h e =
-    let one : place_of x ≡ place_view p = cc in
-    (sym (ap (λ (q : Text × ℕ). q.0) one), sym (ap (λ (q : Text × ℕ). q.1) one), h)
+at_place test p x h e = search (arith, rules, place_view)
 
 at_head : (test : Use → Bool) (p : TagPlace) (x : Text × Site) (xs : List (Text × Site)) → test x.1.made ≡ true
     → place_in 0 (tags test (x ∷ xs)) ≡ Some (place_view p) → IsAt test p x
@@ -132,10 +130,7 @@ tag_front test p ts us h =
 -- A tag of the last template is one of them all.
 pub tag_last : (test : Use → Bool) (p : TagPlace) (ts : List Template) (t : Template)
     → ForSome (IsAt test p) (uses_in t) → HasTag test (ts ++ t ∷ []) p
-tag_last test p ts t h =
-    subst (ForSome (IsAt test p)) (sym (uses-append ts (t ∷ [])))
-    (some_behind (IsAt test p) (all_uses ts) (all_uses (t ∷ []))
-    (some_front (IsAt test p) (uses_in t) [] h))
+tag_last test p ts t h = search (arith, rules, uses-append, some_behind, all_uses, some_front, uses_in)
 
 -- A weaker test passes at the same tag.
 pub tag_weaker : (test weak : Use → Bool) → ((u : Use) → test u ≡ true → weak u ≡ true) → (p : TagPlace)
@@ -162,8 +157,7 @@ some_template : (P : Template → Type 0) (ps : List TemplateFile) (is : List �
     → ForSome P (templates_at (files_view ps) is)
 some_template P ps [] k p lt within at h = absurd (omega arith)
 some_template P ps (i ∷ is) zero p lt within at h =
-    subst (λ o. ForSome P (option_to_list o ++ templates_at (files_view ps) is))
-    (sym (map_at file_view ps i p within at)) (inl h)
+    search (arith, rules, option_to_list, templates_at, files_view, map_at, file_view)
 some_template P ps (i ∷ is) (suc k) p lt within at h =
     some_behind P (option_to_list (slice_get (files_view ps) i)) (templates_at (files_view ps) is)
     (some_template P ps is k p (omega arith) within at h)

@@ -1,5 +1,5 @@
 -- A tree is no longer than its source.
-use Rattle.std.proofs.Common.{◌≡◌, ℕ, ◌+◌, ◌<◌, ◌≤◌, Bool, List, ◌∷◌, ◌++◌, length, ap, arith, chars, IsUtf8, ⊎_elim}
+use Rattle.std.proofs.Common.{◌≡◌, ℕ, ◌+◌, ◌<◌, ◌≤◌, Bool, List, ◌∷◌, length, ap, arith, chars, IsUtf8}
 use Rattle.std.proofs.Common.{rules}
 use Rattle.std.proofs.lemmas.Str.{encodes-chars}
 use Rattle.jt_scan.specs.Cut.{Text, Token, Segment, Spelled, Inside, closed, space, token, Cuts, no_more, more}
@@ -26,25 +26,9 @@ segment_short : {n : ℕ} {s : Segment} {x rest : Text} → IsSegment n s x rest
 segment_short (some_data {c} {d} {rest} n e) = omega (arith, bytes-append (c ∷ d) rest)
 segment_short (a_tag {k} {x = x} i r) =
     omega (arith, inside_short i, behind_short x, bytes-cons 123 (second k ∷ x), bytes-cons (second k) x)
-segment_short (a_comment {x} {rest} n) =
-    omega (
-      arith,
-      bytes-cons 123 (35 ∷ (x ++ (35 ∷ 125 ∷ rest))),
-      bytes-cons 35 (x ++ (35 ∷ 125 ∷ rest)),
-      bytes-append x (35 ∷ 125 ∷ rest),
-      bytes-cons 35 (125 ∷ rest),
-      bytes-cons 125 rest,
-    )
+segment_short (a_comment {x} {rest} n) = search (arith, rules, bytes-cons, bytes-append)
 segment_short (a_raw {ends = ends} {x = x} {d = d} {rest = rest} y i r h e) =
-    omega (
-      arith,
-      inside_short i,
-      behind_short x,
-      bytes-append d y,
-      endraw_short y ends rest e,
-      bytes-cons 123 (37 ∷ x),
-      bytes-cons 37 x,
-    )
+    search (arith, rules, inside_short, behind_short, bytes-append, endraw_short, bytes-cons)
 
 -- The names and texts of segments are no longer than their source.
 pub cut_short : {source : Text} {Ends : Text → Type 0} {ss : List Segment} {x : Text} → Cuts source Ends ss x
@@ -55,9 +39,7 @@ cut_short (more p c) = omega (arith, segment_short p, cut_short c)
 -- A text has at most as many characters as its source has bytes.
 pub few_chars : (keep : Bool) (source text : List ℕ) → IsUtf8 text → text ≡ normalized keep source
     → length (chars text) ≤ length source
-few_chars keep source text u e =
-    omega
-    (arith, length-le-encodes (chars text), ap length (encodes-chars text u), ap length e, never_longer keep source)
+few_chars keep source text u e = search (arith, rules, length-le-encodes, encodes-chars, never_longer)
 
 -- The characters of a text have at most as many bytes as its source.
 pub few_bytes : (keep : Bool) (source text : List ℕ) → IsUtf8 text → text ≡ normalized keep source
@@ -70,6 +52,4 @@ pub taken : (options : Options) (given : Text) (s : Held) → (max_source_len < 
     → (length given ≤ max_source_len
     → s ≡ record { text = normalized options.keep_trailing_newline given; options = options })
     → s.text ≡ normalized options.keep_trailing_newline given
-taken options given s long short =
-    ap (λ (h : Held). h.text) (short (⊎_elim (λ (gt : max_source_len < length given). absurd (long gt))
-    (λ (le : length given ≤ max_source_len). le) (cases_lt max_source_len (length given))))
+taken options given s long short = search (arith, rules, cases_lt)

@@ -9,7 +9,8 @@ use Rattle.jt_chains.specs.Chain.{Namespace, Template, macro_of}
 use Rattle.jt_chains.specs.Parts.{macro_view}
 use Rattle.jt_chains.specs.declared.parts.Macro.{Macro}
 use Rattle.jt_semantics.specs.Layout.{Key, of_macro, index_of, first_default}
-use Rattle.jt_layout.specs.internal.Indices.{first_of, defaults_from}
+use Rattle.jt_layout.specs.internal.Indices.{defaults_from}
+use Rattle.jt_names.specs.Names.{first_of}
 use Rattle.jt_layout.proofs.NamespacesByName.{itself}
 
 module _ (ts : List Template) (x : Text) where

@@ -1,30 +1,19 @@
 -- The first occurrences of names in lists.
 use Rattle.std.proofs.Common.{◌≡◌, ℕ, zero, suc, ◌+◌, ◌<◌, Bool, true, false, ◌||◌, List, [], ◌∷◌, length, map, drop}
-use Rattle.std.proofs.Common.{get_or, refl, ap, ◌∙◌, Option, Some, None, if◌then◌else◌, add-one, arith, rules}
+use Rattle.std.proofs.Common.{get_or, refl, ap, ◌∙◌, Option, Some, None, if◌then◌else◌, arith, rules}
 use Rattle.std.specs.Prelude.{option_map, filter}
-use Rattle.std.specs.Option.{is_none}
 use Rattle.std.proofs.lemmas.List.{drop_more}
 use Rattle.std.specs.Str.{bytes_eq}
-use Rattle.std.proofs.lemmas.Bool.{or_right}
-use denote.Ref.{Bor}
 use Rattle.jt_ast.specs.Expressions.{Text}
-use Rattle.jt_chains.specs.Chain.{Namespace, a_chain, same_namespace, listed, Template, BlockBody, sources_in}
+use Rattle.jt_chains.specs.Chain.{Namespace, a_chain, same_namespace, listed, BlockBody}
 use Rattle.jt_chains.specs.Indices.{namespace_at}
 use Rattle.jt_ir.specs.Slots.{global}
 use Rattle.jt_semantics.specs.Layout.{slot_in, globals_from, counted_from}
 use Rattle.jt_semantics.specs.Resolve.{first_body}
-use Rattle.jt_ast.specs.Texts.{texts}
 use Rattle.jt_layout.specs.NamespaceLayout.{IsNamespaceAt}
-use Rattle.jt_layout.specs.internal.Indices.{first_of, first_namespace}
+use Rattle.jt_layout.specs.internal.Indices.{first_namespace}
+use Rattle.jt_names.specs.Names.{first_of}
 use Rattle.jt_layout.proofs.NamespacesByName.{same_is}
-
--- One name more, before the remaining ones.
-pub first_turn : (ks : List (Bor Text)) (i : ℕ) (k : Bor Text) (x : Text) (n m : ℕ) → i < length ks → k ≡ get_or ks i k
-    → m ≡ n + 1
-    → (if bytes_eq k.now x then Some n else first_of x m (texts (drop (i + 1) ks))) ≡ first_of x n (texts (drop i ks))
-first_turn ks i k x n m lt is e = search (arith, rules, add-one, drop_more)
-
--- ---- the meaning of the first occurrence
 
 -- Names in slots.
 pub in_slots : (x : Text) (n : ℕ) (xs : List Text) → option_map global (first_of x n xs) ≡ slot_in x (globals_from n xs)
@@ -36,12 +25,6 @@ pub first_bodies : (x : Text) (n : ℕ) (bs : List BlockBody)
     → first_of x n (map (λ b. b.name) bs) ≡ first_body (filter (λ b. bytes_eq b.1.name x) (counted_from n bs))
 first_bodies x n [] = refl
 first_bodies x n (b ∷ bs) = search (arith, rules, first_bodies x (suc n) bs)
-
--- Templates.
-pub of_sources : (x : Text) (n : ℕ) (ts : List Template)
-    → is_none (first_of x n (map (λ t. t.name) ts)) ≡ is_none (sources_in ts x)
-of_sources x n [] = refl
-of_sources x n (t ∷ ts) = search (arith, rules, of_sources x (suc n) ts)
 
 -- Chains and libraries.
 abbrev IsFrom : List Namespace → Namespace → ℕ → Option ℕ → Type 0

@@ -1,47 +1,40 @@
 -- The layout of a chain or a library is correct.
 use Rattle.std.proofs.Common.{◌≡◌, ℕ, zero, suc, ◌+◌, ◌<◌, Bool, true, false, not, ◌||◌, List, [], ◌∷◌, ◌++◌, length}
 use Rattle.std.proofs.Common.{map, drop, refl, sym, ap, subst, ◌∙◌, Option, Some, None, if◌then◌else◌, arith}
-use Rattle.std.proofs.Common.{add-one, string_bytes, rules}
+use Rattle.std.proofs.Common.{add-one, rules}
 use Rattle.std.proofs.lemmas.List.{length-map}
 use Rattle.std.specs.Prelude.{slice_get, option_map}
-use Rattle.std.specs.Option.{is_some, is_none}
+use Rattle.std.specs.Option.{is_some}
 use Rattle.std.proofs.lemmas.Bool.{or_right}
 use Rattle.jt_ast.specs.Expressions.{Text}
-use Rattle.jt_chains.specs.Chain.{Namespace, a_chain, same_namespace, listed, Sources, Template, BlockBody, MacroBody}
-use Rattle.jt_chains.specs.Chain.{macros, macro_of, given, given_to, all_bodies, sources_in}
+use Rattle.jt_chains.specs.Chain.{Namespace, a_chain, same_namespace, listed, Sources, Template, MacroBody}
+use Rattle.jt_chains.specs.Chain.{macros, macro_of, all_bodies}
 use Rattle.jt_chains.specs.Includes.{InOrder}
-use Rattle.jt_chains.specs.Named.{names_view}
-use Rattle.jt_chains.specs.TemplateFiles.{namespace_view, file_view, files_view}
+use Rattle.jt_chains.specs.TemplateFiles.{namespace_view}
 use Rattle.jt_chains.specs.Parts.{macro_view, block_view}
 use Rattle.jt_chains.specs.Indices.{namespace_at}
 use Rattle.jt_chains.specs.Uses as uses
 use Rattle.jt_chains.specs.View.{chain_view, namespace_in, sources_of}
 use Rattle.jt_chains.specs.declared.chain.Chain.{Chain}
-use Rattle.jt_chains.specs.declared.files.TemplateFile.{TemplateFile}
 use Rattle.jt_chains.specs.declared.parts.Block.{Block}
 use Rattle.jt_rules.specs.CompileEnv.{CompileEnv}
 use Rattle.jt_ir.specs.Slots.{global}
 use Rattle.jt_semantics.specs.Layout.{in_globals, slot_in, globals_from, counted_from, of_macro, of_body, entry_keys}
-use Rattle.jt_semantics.specs.Layout.{index_of, first_default, default_index, numbered_of, names, block_parameters}
+use Rattle.jt_semantics.specs.Layout.{index_of, first_default, default_index, names, block_parameters}
 use Rattle.jt_semantics.specs.Layout.{is_scoped, unit, defaults_of}
-use Rattle.jt_semantics.specs.Resolve.{first_body}
 use Rattle.jt_layout.specs.internal.Front.{Stands}
 use Rattle.jt_layout.specs.internal.Namespaces.{its_cenv, its_order}
-use Rattle.jt_layout.specs.NamespaceLayout.{is_library, IsCalled, IsGiven}
-use Rattle.jt_layout.specs.internal.Indices.{namespace_named, first_of, defaults_from, nexts}
+use Rattle.jt_layout.specs.NamespaceLayout.{is_library, IsCalled}
+use Rattle.jt_layout.specs.internal.Indices.{namespace_named, defaults_from, nexts}
+use Rattle.jt_names.specs.Names.{first_of}
 use Rattle.jt_layout.specs.declared.front.FirstFree.{FirstFree}
 use Rattle.jt_layout.specs.declared.namespace_layout.NamespaceLayout.{NamespaceLayout}
 use Rattle.jt_layout.proofs.BodyIndices.{length-counted, length-nexts}
 use Rattle.jt_layout.proofs.FirstMacro.{first_macro, no_macro}
-use Rattle.jt_layout.proofs.FirstOccurrences.{in_slots, first_bodies, namespaces_left, of_sources}
-use Rattle.jt_layout.proofs.FirstDefinition.{first_given, nothing_given}
+use Rattle.jt_layout.proofs.FirstOccurrences.{in_slots, namespaces_left}
 use Rattle.jt_layout.proofs.NamespacesByName.{same, itself}
 use Rattle.jt_layout.proofs.NamesInOrder.{no_names}
 use Rattle.jt_layout.proofs.OffsetSteps.{apart, macro_unit, body_unit, default_here, front_turn, count_keys}
-
-map_both : {A B C : Type 0} (f : B → C) (g : A → B) (xs : List A) → map (λ x. f (g x)) xs ≡ map f (map g xs)
-map_both f g [] = refl
-map_both f g (x ∷ xs) = ap (λ l. f (g x) ∷ l) (map_both f g xs)
 
 -- Each namespace is in the list, and not among those after it.
 listed_at : (hs : List Namespace) (i : ℕ) → i < length hs → listed (namespace_at hs i) hs ≡ true
@@ -87,14 +80,14 @@ module _ (c : Chain) (i : ℕ) (lt : i < length c.namespaces.items) (f : FirstFr
     slots_laid ns x p e q =
         ap (option_map global) q ∙ in_slots x f.slot ns ∙ ap (λ l. slot_in x (globals_from f.slot l)) e
 
-    module _ (l : NamespaceLayout) (all : map (macro_view ts) l.macros.items ≡ macros W.sources h)
+    module _ (l : NamespaceLayout) (all : map (macro_view ts) l.known.now.macros.items ≡ macros W.sources h)
         (defaults : l.defaults.items ≡ defaults_from f.default (macros W.sources h))
         (units : l.macro_unit ≡ f.unit + length (entry_keys W h)) where
-      pub is_called : (x : Text) (o : Option ℕ) → o ≡ first_of x 0 (map (λ m. m.name.now) l.macros.items)
+      pub is_called : (x : Text) (o : Option ℕ) → o ≡ first_of x 0 (map (λ m. m.name.now) l.known.now.macros.items)
           → IsCalled W O ts h l x o
-      is_called x None e = ap (macro_of x) (sym all) ∙ no_macro ts x l.macros.items 0 (sym e)
+      is_called x None e = ap (macro_of x) (sym all) ∙ no_macro ts x l.known.now.macros.items 0 (sym e)
       is_called x (Some k) e =
-          let r = first_macro ts x l.macros.items 0 k (sym e) in
+          let r = first_macro ts x l.known.now.macros.items 0 k (sym e) in
           let a = r.2 in
           let is : k ≡ r.0 = omega (arith, r.1) in
           let name : x ≡ a.code.name.now = sym (same a.code.name.now x a.named) in
@@ -103,11 +96,12 @@ module _ (c : Chain) (i : ℕ) (lt : i < length c.namespaces.items) (f : FirstFr
           ∙ a.unit h ks) in
           record {
             code = a.code;
-            found = ap (slice_get l.macros.items) is ∙ a.found;
+            found = ap (slice_get l.known.now.macros.items) is ∙ a.found;
             meant = ap (macro_of x) (sym all) ∙ a.meant;
             first_default =
                 ap (λ ds. slice_get ds k) defaults ∙ ap (λ ms. slice_get (defaults_from f.default ms) k) (sym all)
-                ∙ ap (slice_get (defaults_from f.default (map (macro_view ts) l.macros.items))) is ∙ a.default f.default
+                ∙ ap (slice_get (defaults_from f.default (map (macro_view ts) l.known.now.macros.items))) is
+                ∙ a.default f.default
                 ∙ ap (λ ms. Some (f.default + first_default x ms)) all ∙ ap Some (sym (default_here W O h rest f s x))
                 ∙ ap (λ y. Some (default_index W O h y)) name;
             macro_unit =
@@ -115,18 +109,6 @@ module _ (c : Chain) (i : ℕ) (lt : i < length c.namespaces.items) (f : FirstFr
                 sum)
                 ∙ sym keyed ∙ ap (λ y. unit W O (of_macro h y)) name;
           }
-
-    pub is_given : (l : NamespaceLayout) → names_view ts h l.given.items ≡ given W.sources h → (x : Text) (o : Option ℕ)
-        → o ≡ first_of x 0 (map (λ g. g.name.now) l.given.items) → IsGiven W O ts h l x o
-    is_given l all x None e = ap (given_to x) (sym all) ∙ nothing_given ts h x l.given.items 0 (sym e)
-    is_given l all x (Some k) e =
-        let r = first_given ts h x l.given.items 0 k (sym e) in
-        let is : k ≡ r.0 = omega (arith, r.1) in
-        record {
-          code = r.2.code;
-          found = ap (slice_get l.given.items) is ∙ r.2.found;
-          meant = ap (given_to x) (sym all) ∙ r.2.meant;
-        }
 
     -- The bodies.
     module _ (bs : List Block) (all : map (block_view ts) bs ≡ all_bodies W.sources W.escaping h) where
@@ -138,13 +120,6 @@ module _ (c : Chain) (i : ℕ) (lt : i < length c.namespaces.items) (f : FirstFr
       body_units u m k e g lt' =
           let there : k < length (all_bodies W.sources W.escaping h) = omega (arith, lt', count_blocks) in
           omega (arith, e, g, body_unit W O h rest f s k there)
-
-      pub firsts_laid : (x : Text) (p : Option ℕ) → p ≡ first_of x 0 (map (λ b. b.name.now) bs)
-          → p ≡ first_body (numbered_of W h x)
-      firsts_laid x p e =
-          e ∙ ap (first_of x 0)
-          (map_both (λ (b : BlockBody). b.name) (block_view ts) bs ∙ ap (map (λ (b : BlockBody). b.name)) all)
-          ∙ first_bodies x 0 (all_bodies W.sources W.escaping h)
 
       pub count_next : (ns : List (Option ℕ)) → ns ≡ nexts (counted_from 0 (all_bodies W.sources W.escaping h))
           → length ns ≡ length bs
@@ -200,10 +175,3 @@ names_handed cenv order false n k old e f = f n e ∙ ap (names cenv order) (sym
 pub kind_named : (b : Bool) (n : Text) → b ≡ is_library (namespace_named b n)
 kind_named true n = refl
 kind_named false n = refl
-
--- The templates that were read.
-pub sources_laid : (ps : List TemplateFile) (x : Text) (p : Option ℕ)
-    → p ≡ first_of x 0 (map (λ q. string_bytes q.name) ps) → is_none p ≡ is_none (sources_in (files_view ps) x)
-sources_laid ps x p e =
-    ap is_none (e ∙ ap (first_of x 0) (map_both (λ (t : Template). t.name) file_view ps))
-    ∙ of_sources x 0 (files_view ps)

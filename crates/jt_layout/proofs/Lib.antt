@@ -2,7 +2,6 @@ pub mod BodyIndices
 pub mod FirstMacro
 pub mod FirstOccurrences
 pub mod OffsetSteps
-pub mod FirstDefinition
 pub mod NamespacesByName
 pub mod NamesInOrder
 pub mod LayoutCorrect

@@ -31,8 +31,11 @@ names_put false v o = refl
 
 -- ---- the names of included chains
 
-some_from_none : {A B : Type 0} (o : Option A) (p : Option B) → is_none o ≡ is_none p → is_some o ≡ is_some p
-some_from_none a0 a1 e = search (arith, rules)
+there : {A : Type 0} (o : Option A) → is_none o ≡ false → is_some o ≡ true
+there a0 e = search (arith, rules)
+
+not_there : {A : Type 0} (o : Option A) → is_none o ≡ true → is_some o ≡ false
+not_there a0 e = search (arith, rules)
 
 module _ (N : Text → List Text) (sources : Sources) (ks : List NeededTemplate) (i : ℕ) (d : NeededTemplate)
     (lt : i < length ks) where
@@ -48,14 +51,13 @@ module _ (N : Text → List Text) (sources : Sources) (ks : List NeededTemplate)
   here = ap those (drop_more ks i d lt)
 
   -- A chain that has a source, and one that does not.
-  pub chain_turn : (p : Option ℕ) (old new : List Text) → is_none p ≡ is_none (sources k) → is_some p ≡ true
-      → new ≡ all_inserted (N k) old
+  pub chain_turn : (old new : List Text) → is_none (sources k) ≡ false → new ≡ all_inserted (N k) old
       → all_inserted (those (drop (i + 1) ks)) new ≡ all_inserted (those (drop i ks)) old
-  chain_turn p old new q s e = search (arith, rules, some_from_none, inserted_both, here)
+  chain_turn old new s e = search (arith, rules, there, inserted_both, here)
 
-  pub none_turn : (p : Option ℕ) (old : List Text) → is_none p ≡ is_none (sources k) → is_some p ≡ false
+  pub none_turn : (old : List Text) → is_none (sources k) ≡ true
       → all_inserted (those (drop (i + 1) ks)) old ≡ all_inserted (those (drop i ks)) old
-  none_turn p old q s = search (arith, rules, some_from_none, here)
+  none_turn old s = search (arith, rules, not_there, here)
 
 -- ---- the names of a chain and of the chains that it leads to
 

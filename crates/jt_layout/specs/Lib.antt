@@ -1,4 +1,3 @@
 pub mod NamespaceLayout
-pub mod Names
 pub mod Sums
 pub mod internal

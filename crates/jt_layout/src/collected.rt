@@ -9,13 +9,12 @@ ghost use Rattle.jt_chains.specs.Chain.{a_chain, same_namespace};
 ghost use Rattle.jt_chains.specs.TemplateFiles.{namespace_view};
 ghost use Rattle.jt_semantics.specs.Layout.{in_globals};
 ghost use Rattle.jt_chains.specs.View.{namespace_in};
-ghost use Rattle.jt_layout.specs.internal.Namespaces.{its_cenv, its_order, AreSources, AreNames};
+ghost use Rattle.jt_layout.specs.internal.Namespaces.{its_cenv, its_order, AreNames};
 ghost use Rattle.jt_layout.specs.internal.Indices.{all_names, names_at};
 ghost use Rattle.jt_names.specs.FactsOfChains.{AllKnown};
 
-use crate::index::NameIndex;
 use jt_chains::Namespace;
-use jt_names::{ChainFacts, add_names, list_of};
+use jt_names::{ChainFacts, add_names, is_missing, list_of};
 use jt_value::NoMemory;
 use std::alloc::{AllocError, Global};
 use std::collections::{BTreeMap, BTreeSet};
@@ -83,12 +82,10 @@ fn names_of_chain<'a>(
     alloc: Global,
     facts: &ChainFacts<'a>,
     namespace: usize,
-    sources: &NameIndex<'a>,
     behind: &CollectedNames<'a>,
 ) -> Result<Vec<&'a str>, AllocError>
     requires known { AllKnown facts.now }
     requires stands { namespace < length facts.now.chain.now.namespaces.items }
-    requires sources { AreSources facts.now.chain.now sources.now.indices }
     requires behind { AreNames facts.now.chain.now
         (drop (namespace + 1) (its_order facts.now.chain.now)) behind.now.names }
     ensures { IfOk result (λ ns. texts ns.items ≡ all_names (its_cenv facts.now.chain.now)
@@ -99,7 +96,7 @@ fn names_of_chain<'a>(
     add_names(&mut names, &facts.at(namespace).names)?;
     let included = facts.chain.includes(alloc, namespace)?;
     for include in &included {
-        if sources.index_of(include.name).is_none() {
+        if is_missing(facts.chain, include.name) {
             continue;
         }
         behind.add_to(&mut names, include.name)?;
@@ -112,10 +109,8 @@ fn names_of_chain<'a>(
 pub(crate) fn gather<'a>(
     alloc: Global,
     facts: &ChainFacts<'a>,
-    sources: &NameIndex<'a>,
 ) -> Result<CollectedNames<'a>, NoMemory>
-    requires known { AllKnown facts.now }
-    requires sources { AreSources facts.now.chain.now sources.now.indices }
+    requires { AllKnown facts.now }
     ensures { IfOk result
         (λ g. AreNames facts.now.chain.now (its_order facts.now.chain.now) g.names) }
 {
@@ -127,7 +122,7 @@ pub(crate) fn gather<'a>(
         if itself.is_library {
             continue;
         }
-        let names = names_of_chain(alloc, facts, left, sources, &collected)?;
+        let names = names_of_chain(alloc, facts, left, &collected)?;
         collected.put(itself.name.as_str(), names)?;
     }
     Ok(collected)

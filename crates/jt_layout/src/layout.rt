@@ -10,26 +10,23 @@ ghost use Rattle.jt_layout.specs.internal.Namespaces.{its_cenv, its_order, its_n
 ghost use Rattle.jt_layout.specs.NamespaceLayout.{IsLaidOut};
 ghost use Rattle.jt_names.specs.FactsOfChains.{AllKnown};
 
-use crate::bodies::bodies_of;
+use crate::bodies::{next_bodies, scoped_blocks};
 use crate::collected::{CollectedNames, gather};
 use crate::count::checked_sum;
 use crate::front::FirstFree;
-use crate::given::given_by_name;
-use crate::index::NameIndex;
-use crate::lists::{copied, template_names};
-use crate::macros::macros_of;
+use crate::macros::default_indices;
 use crate::namespace_index::namespace_index;
 use crate::namespace_layout::NamespaceLayout;
 use crate::namespace_tables::NamespaceTables;
-use jt_chains::Namespace;
-use jt_names::ChainFacts;
+use jt_chains::{Namespace, macro_names};
+use jt_names::{ChainFacts, NameIndex};
 use jt_value::NoMemory;
 use std::alloc::Global;
 
 /// The layout of a chain or a library, and the first free numbers after it.
 #[derive(Drop)]
-struct ChainLayout<'a> {
-    namespace_layout: NamespaceLayout<'a>,
+struct ChainLayout<'f, 'a> {
+    namespace_layout: NamespaceLayout<'f, 'a>,
     behind: FirstFree,
 }
 
@@ -85,13 +82,13 @@ fn unit_layout(front: FirstFree, counts: Counts, end: usize) -> Result<UnitLayou
 }
 
 /// Lays out one chain or library.
-fn lay_chain<'a>(
+fn lay_chain<'f, 'a>(
     alloc: Global,
-    facts: &ChainFacts<'a>,
+    facts: &'f ChainFacts<'a>,
     namespace: usize,
     names: Vec<&'a str>,
     front: FirstFree,
-) -> Result<ChainLayout<'a>, NoMemory>
+) -> Result<ChainLayout<'f, 'a>, NoMemory>
     requires known { AllKnown facts.now }
     requires stands { namespace < length facts.now.chain.now.namespaces.items }
     requires named { texts names.items ≡ its_names facts.now.chain.now namespace }
@@ -104,35 +101,31 @@ fn lay_chain<'a>(
     let itself = &facts.chain.namespaces[namespace];
     let known = facts.at(namespace);
     let slots = NameIndex::of(alloc, &names, front.slot)?;
-    let macros = macros_of(alloc, &known.macros, front.default)?;
-    let given = given_by_name(alloc, &known.given)?;
-    let bodies = bodies_of(alloc, &known.blocks)?;
-    let scope_names = copied(alloc, &known.scope_names)?;
+    let macros = macro_names(alloc, &known.macros)?;
+    let called = NameIndex::of(alloc, &macros, 0)?;
+    let defaults = default_indices(alloc, &known.macros, front.default)?;
+    let next_bodies = next_bodies(alloc, &known.blocks)?;
+    let scoped = scoped_blocks(alloc, &known.blocks)?;
     let counts = Counts {
         entries: entries_of(itself),
         names: names.len(),
-        macros: macros.all.len(),
-        bodies: bodies.all.len(),
+        macros: known.macros.len(),
+        bodies: known.blocks.len(),
     };
-    let indices = unit_layout(front, counts, macros.defaults.end)?;
+    let indices = unit_layout(front, counts, defaults.end)?;
     let namespace_layout = NamespaceLayout {
         is_library: itself.is_library,
+        known,
         names,
         slots,
         first_slot: front.slot,
         unit: front.unit,
         macro_unit: indices.macro_unit,
         body_unit: indices.body_unit,
-        macros: macros.all,
-        called: macros.called,
-        defaults: macros.defaults.indices,
-        given: given.all,
-        given_indices: given.indices,
-        blocks: bodies.all,
-        first_bodies: bodies.firsts,
-        next_bodies: bodies.nexts,
-        scope_names,
-        scoped: bodies.scoped,
+        called,
+        defaults: defaults.indices,
+        next_bodies,
+        scoped,
     };
     Ok(ChainLayout {
         namespace_layout,
@@ -142,17 +135,17 @@ fn lay_chain<'a>(
 
 /// The layouts of all chains and libraries, and the number of their units.
 #[derive(Drop)]
-struct Tables<'a> {
-    namespaces: Vec<NamespaceLayout<'a>>,
+struct Tables<'f, 'a> {
+    namespaces: Vec<NamespaceLayout<'f, 'a>>,
     units: usize,
 }
 
 /// Lays out the chains and libraries in order.
-fn lay_chains<'a>(
+fn lay_chains<'f, 'a>(
     alloc: Global,
-    facts: &ChainFacts<'a>,
+    facts: &'f ChainFacts<'a>,
     mut collected: CollectedNames<'a>,
-) -> Result<Tables<'a>, NoMemory>
+) -> Result<Tables<'f, 'a>, NoMemory>
     requires known { AllKnown facts.now }
     requires named { AreNames facts.now.chain.now (its_order facts.now.chain.now)
         collected.names }
@@ -186,7 +179,10 @@ fn lay_chains<'a>(
 /// # Errors
 ///
 /// `NoMemory` if a growth is refused or a number overflows.
-pub fn lay_out<'a>(alloc: Global, facts: &ChainFacts<'a>) -> Result<NamespaceTables<'a>, NoMemory>
+pub fn lay_out<'f, 'a>(
+    alloc: Global,
+    facts: &'f ChainFacts<'a>,
+) -> Result<NamespaceTables<'f, 'a>, NoMemory>
     requires { AllKnown facts.now }
     ensures namespace_layout { IfOk result (λ tables. IsLaidOut tables) }
     ensures chain { IfOk result (λ tables. tables.chain.now ≡ facts.now.chain.now) }
@@ -195,17 +191,15 @@ pub fn lay_out<'a>(alloc: Global, facts: &ChainFacts<'a>) -> Result<NamespaceTab
         length tables.namespaces.items ≡ length facts.now.chain.now.namespaces.items) }
 {
     let chain = facts.chain;
-    let sources = NameIndex::of(alloc, &template_names(alloc, &chain.templates)?, 0)?;
     let indices = namespace_index(alloc, &chain.namespaces, false)?;
     let libraries = namespace_index(alloc, &chain.namespaces, true)?;
-    let collected = gather(alloc, facts, &sources)?;
+    let collected = gather(alloc, facts)?;
     let tables = lay_chains(alloc, facts, collected)?;
     Ok(NamespaceTables {
         chain,
         namespaces: tables.namespaces,
         indices,
         libraries,
-        sources,
         units: tables.units,
         namespace: 0,
     })

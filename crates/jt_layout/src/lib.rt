@@ -10,17 +10,13 @@ mod bodies;
 mod collected;
 mod count;
 mod front;
-mod given;
-mod index;
 mod layout;
-mod lists;
 mod macros;
 mod namespace_index;
 mod namespace_layout;
 mod namespace_tables;
 
 pub use count::checked_sum;
-pub use index::NameIndex;
 pub use jt_value::NoMemory;
 pub use layout::lay_out;
 pub use namespace_layout::NamespaceLayout;

@@ -3,11 +3,11 @@
 ghost use Rattle.std.specs.Prelude.{◌≡◌, map, IfOk};
 ghost use Rattle.jt_ast.specs.Expressions.{Text};
 ghost use Rattle.jt_chains.specs.TemplateFiles.{namespace_view};
-ghost use Rattle.jt_layout.specs.Names.{index_in};
+ghost use Rattle.jt_names.specs.Names.{value_in};
 ghost use Rattle.jt_layout.specs.internal.Indices.{namespace_named, first_namespace};
 
-use crate::index::NameIndex;
 use jt_chains::Namespace;
+use jt_names::NameIndex;
 use jt_value::NoMemory;
 use std::alloc::Global;
 
@@ -19,7 +19,7 @@ pub(crate) fn namespace_index<'a>(
     libraries: bool,
 ) -> Result<NameIndex<'a>, NoMemory>
     ensures { IfOk result (λ i. (x : Text)
-        → index_in i.indices x
+        → value_in i.indices x
         ≡ first_namespace (namespace_named libraries x) 0 (map namespace_view namespaces.now)) }
 {
     let mut indices = NameIndex::new(alloc);

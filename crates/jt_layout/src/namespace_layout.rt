@@ -1,13 +1,14 @@
 //! Defines the layout of one chain or library.
 
-use crate::index::NameIndex;
-use jt_chains::{Block, DefinedName, Macro};
+use jt_names::{NameIndex, NamespaceFacts};
 
 /// The layout of one chain or library: the global slots of its names, and the units of its macros
 /// and bodies. A library has no globals, and no unit of its own.
 #[derive(Drop)]
-pub struct NamespaceLayout<'a> {
+pub struct NamespaceLayout<'f, 'a> {
     pub is_library: bool,
+    /// What is known of the chain or library.
+    pub known: &'f NamespaceFacts<'a>,
     /// The names of the chain and of the chains that it includes, in the order of their slots.
     pub names: Vec<&'a str>,
     /// The slot of each name.
@@ -19,23 +20,12 @@ pub struct NamespaceLayout<'a> {
     pub macro_unit: usize,
     /// The unit of the first body of a block.
     pub body_unit: usize,
-    pub macros: Vec<Macro<'a>>,
     /// The index of the first macro of each name.
     pub called: NameIndex<'a>,
     /// The pool index of each macro's first default.
     pub defaults: Vec<usize>,
-    /// The names that stand for macros and libraries, with their definitions.
-    pub given: Vec<DefinedName<'a>>,
-    /// The index of the first definition of each name.
-    pub given_indices: NameIndex<'a>,
-    /// The bodies of the blocks.
-    pub blocks: Vec<Block<'a>>,
-    /// The index of the first body of each block, by its name.
-    pub first_bodies: NameIndex<'a>,
     /// For each body, the index of the next body of its block that is not required.
     pub next_bodies: Vec<Option<usize>>,
-    /// The names that the scopes bind.
-    pub scope_names: Vec<&'a str>,
-    /// The blocks that have `scope_names` as parameters.
+    /// The blocks that have the names of the scopes as parameters.
     pub scoped: NameIndex<'a>,
 }

@@ -1,20 +1,18 @@
 //! Defines the layouts of all chains and libraries.
 
-use crate::index::NameIndex;
 use crate::namespace_layout::NamespaceLayout;
 use jt_chains::Chain;
+use jt_names::NameIndex;
 
 /// The layouts of all chains and libraries, and the selected one, which is resolved.
 #[derive(Drop)]
-pub struct NamespaceTables<'a> {
+pub struct NamespaceTables<'f, 'a> {
     pub chain: &'a Chain,
-    pub namespaces: Vec<NamespaceLayout<'a>>,
+    pub namespaces: Vec<NamespaceLayout<'f, 'a>>,
     /// The indices of chains by name.
     pub indices: NameIndex<'a>,
     /// The indices of libraries by name.
     pub libraries: NameIndex<'a>,
-    /// The indices of templates by name.
-    pub sources: NameIndex<'a>,
     /// The number of units.
     pub units: usize,
     /// The index of the chain or library that is resolved.

@@ -1,7 +1,6 @@
 -- The number of instructions of a program's code is the size of the program.
-use Rattle.std.proofs.Common.{◌≡◌, ℕ, suc, ◌+◌, List, [], ◌∷◌, length, map, Option, Some, None, refl, ◌∙◌, arith}
+use Rattle.std.proofs.Common.{◌≡◌, ℕ, suc, ◌+◌, List, [], ◌∷◌, length, map, Option, Some, None, refl, arith}
 use Rattle.std.proofs.Common.{length-append, rules}
-use Rattle.jt_image.specs.declared.instruction.Instruction.TheVariants as op
 use Rattle.jt_image.specs.IsCode.{total_len}
 use Rattle.jt_value.specs.Place.{Place}
 use Rattle.jt_ir.specs.Slots as slots
@@ -21,9 +20,7 @@ asm_size (each a) = asm_size a + 2
 asm_size (invoke o u) = 1
 
 pub flat_size : (a : Asm) (n : ℕ) → length (flat a n) ≡ asm_size a
-flat_size (both a b) n =
-    length-append (flat a n) (flat b (n + length (flat a n)))
-    ∙ omega (arith, flat_size a n, flat_size b (n + length (flat a n)))
+flat_size (both a b) n = search (arith, rules, length-append, flat_size a n, flat_size b)
 flat_size (choose a b) n = search (arith, rules, flat_size a (n + 1), flat_size b, length-append)
 flat_size (when a) n = omega (arith, flat_size a (n + 1))
 flat_size (each a) n = search (arith, rules, flat_size a (n + 1), length-append)
@@ -63,14 +60,7 @@ mutual
   stmt_sized (slots.assign tag xs e) h = omega (arith, expr_sized e (Some tag) h, take_sized xs (Some tag))
   stmt_sized (slots.if_else tag c a b) h = omega (arith, expr_sized c (Some tag) h, body_sized a h, body_sized b h)
   stmt_sized (slots.for_each tag xs e c body other) h =
-      omega (
-        arith,
-        expr_sized e (Some tag) h,
-        kept_sized c xs (Some tag),
-        take_sized xs (Some tag),
-        body_sized body 0,
-        body_sized other h,
-      )
+      search (arith, rules, expr_sized, kept_sized, take_sized, body_sized body, body_sized other h)
   stmt_sized (slots.capture escaping s body) h = omega (arith, body_sized body (suc h))
   stmt_sized (slots.run u r) h = omega (arith, row_sized r None h)
 
@@ -80,14 +70,7 @@ mutual
 
 units_sized : (rs : List (Routine ℕ)) → total_len (map unit_of rs) ≡ routines_size rs
 units_sized [] = refl
-units_sized (r ∷ rs) =
-    omega (
-      arith,
-      length-append (flat (body_asm r.body 0) 0) (op.Return ∷ []),
-      flat_size (body_asm r.body 0) 0,
-      body_sized r.body 0,
-      units_sized rs,
-    )
+units_sized (r ∷ rs) = search (arith, rules, length-append, flat_size, body_sized, units_sized rs)
 
 pub program_sized : (p : Program) → total_len (lowered p).units ≡ routines_size p.routines
 program_sized p = units_sized p.routines

@@ -281,12 +281,7 @@ module _ (p : Program) (fit : ProgramFits p) where
   started : (u : ℕ) (ks : List Caller) (r : Routine ℕ) (ts gs : List Tree) (out : Text) (bufs : List (List ℕ))
       → machine u 0 ks (record { entries = []; locals = locals_of r.locals ts; globals = gs; buffers = out ∷ bufs })
       ≡ machine u 0 ks (at_memory [] out bufs (begins r ts gs))
-  started u ks r ts gs out bufs =
-      ap (λ ls. machine u 0 ks (record { entries = []; locals = ls; globals = gs; buffers = out ∷ bufs }))
-      (same_locals r.locals ts)
-      ∙ ap (λ b.
-      machine u 0 ks (record { entries = []; locals = with_locals r.locals ts; globals = gs; buffers = b ∷ bufs }))
-      (sym (append-nil out))
+  started u ks r ts gs out bufs = search (arith, rules, machine, same_locals, append-nil)
 
   performed_runs : (n : ℕ) → CallsRun k table n (calls n)
       → (u : ℕ) (o : Option (Routine ℕ)) (t : Section) (ts gs : List Tree) (q : Option Place) (out : Text)
@@ -316,9 +311,7 @@ module _ (p : Program) (fit : ProgramFits p) where
   -- Calls of the machine do what calls mean.
   runs_calls : (n : ℕ) → CallsRun k table n (calls n)
   runs_calls zero = λ u t ts gs q out bufs a ks is e. (0, omega arith, refl)
-  runs_calls (suc n) =
-      λ u t ts gs q out bufs a ks is e.
-      performed_runs n (runs_calls n) u (slice_get p.routines u) t ts gs q out bufs a ks refl is e
+  runs_calls (suc n) = search (arith, rules, performed_runs, runs_calls n)
 
   abbrev globals : Pairs → List Tree
   globals x = with_locals p.globals (globals_of x p.names)

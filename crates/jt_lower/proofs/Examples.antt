@@ -113,25 +113,7 @@ routines_fit (suc zero) r e =
     let same : block_routine ≡ r = cc in
     subst (RoutineFits program) same
     (record { body = ((codes "<", refl), (omega arith, ((codes ">", refl), tt))); low = omega arith })
-routines_fit (suc (suc zero)) r e =
-    let same : times_routine ≡ r = cc in
-    subst (RoutineFits program) same (record {
-      body = (
-        (
-          omega arith,
-          (
-            omega arith,
-            (
-              (takes 2 2 times_routine refl refl, ((refl, (omega arith, (omega arith, tt))), (omega arith, tt))),
-              tt,
-            ),
-          ),
-          tt,
-        ),
-        tt,
-      );
-      low = omega arith;
-    })
+routines_fit (suc (suc zero)) r e = search (arith, rules, takes)
 routines_fit (suc (suc (suc u))) r e = absurd cc
 
 pooled_fit : (i : ℕ) (t : Tree) → slice_get program.pool i ≡ Some t → IsPooled t

@@ -4,7 +4,6 @@ use Rattle.jt_value.specs.Tree.{Tree}
 use Rattle.jt_value.specs.Place.{Place}
 use Rattle.jt_eval.specs.Eval.{Eval, gives, fails, deeper, bind, at}
 use Rattle.jt_eval.specs.Filters.{Filters}
-use Rattle.jt_eval.specs.Values.{as_value}
 use Rattle.jt_eval.specs.Loops.{Loop}
 use Rattle.jt_ir.specs.Slots as slots
 use Rattle.jt_ir.specs.Slots.{SRow, Targets, SlotStmt, SBody, Program, Memory, SCalls, store, sturns, seval_loop}
@@ -34,12 +33,8 @@ if_has false g h w v = v
 module _ (filters : Filters) (constant : ℕ → Tree) (call : SCalls) (calls : CallsPlaced call) (p : Program)
     (count : ℕ) where
   row_has : (r : SRow ℕ) (l : Option Loop) (m : Memory) → IsBare r → HasPlace (svalues filters constant call r l m)
-  row_has (slots.item (slots.pooled i) r) l m b =
-      bind_has (svalues filters constant call r l m) (λ rs. gives (in_front (constant i) rs)) (row_has r l m b)
-      (λ x. tt)
-  row_has (slots.item (slots.variable s) r) l m b =
-      bind_has (svalues filters constant call r l m) (λ rs. gives (in_front (slots.load s m) rs)) (row_has r l m b)
-      (λ x. tt)
+  row_has (slots.item (slots.pooled i) r) l m b = search (arith, rules, bind_has, row_has r l m b)
+  row_has (slots.item (slots.variable s) r) l m b = search (arith, rules, bind_has, row_has r l m b)
   row_has a0 l m b = search (arith, rules)
 
   turns_has : (means : Option Loop → Memory → Eval Memory) → ((l : Option Loop) (m : Memory) → HasPlace (means l m))
@@ -65,10 +60,7 @@ module _ (filters : Filters) (constant : ℕ → Tree) (call : SCalls) (calls : 
         search (arith, rules, bind_has, at_has, if_has, body_has a inside l, body_has b inside l)
     stmt_has (slots.for_each tag xs e c body other) inside l m f =
         search (arith, rules, bind_has, at_has, over_has, body_has body true, body_has other inside l)
-    stmt_has (slots.capture escaping s body) inside l m f =
-        bind_has (smeanings filters constant call body l (record m { out = [] }))
-        (λ n. gives (store s (as_value escaping n.out) (record n { out = m.out })))
-        (body_has body inside l (record m { out = [] }) f.1) (λ n. tt)
+    stmt_has (slots.capture escaping s body) inside l m f = search (arith, rules, bind_has, body_has body inside l)
     stmt_has (slots.run u r) inside l m f = search (arith, rules, bind_has, row_has)
 
     pub body_has : (b : SBody ℕ) (inside : Bool) (l : Option Loop) (m : Memory) → BodyFits p count inside b

@@ -1,8 +1,7 @@
 -- The code of the filters of a tag is appended filter by filter, and its height is decided so.
-use Rattle.std.proofs.Common.{◌≡◌, ℕ, suc, ◌+◌, ◌-◌, ◌<◌, ◌≤◌, Bool, true, ◌&&◌, List, [], ◌∷◌, length, take, drop}
-use Rattle.std.proofs.Common.{get_or, Option, sym, ap, ◌∙◌, subst, max, arith, rules}
+use Rattle.std.proofs.Common.{◌≡◌, ℕ, suc, ◌+◌, ◌-◌, ◌<◌, ◌≤◌, Bool, true, ◌&&◌, List, [], ◌∷◌, length, take}
+use Rattle.std.proofs.Common.{get_or, Option, sym, subst, max, arith, rules}
 use Rattle.std.specs.Prelude.{nat_le}
-use Rattle.std.proofs.lemmas.List.{drop_more}
 use Rattle.std.proofs.lemmas.Bool.Decides.{nat_tests}
 use Rattle.std.proofs.Math.Bool.{and-true}
 use Rattle.jt_ids.specs.FilterTable.{filter_id}
@@ -11,7 +10,7 @@ use Rattle.jt_ast.specs.Expressions.{Text}
 use Rattle.jt_ir.specs.Slots as slots
 use Rattle.jt_ir.specs.Slots.{SlotExpr, none}
 use Rattle.jt_ir.specs.Size.{row_count, expr_height, row_height}
-use Rattle.jt_ir.specs.View.{row_view, filter_after, filters_after}
+use Rattle.jt_ir.specs.View.{row_view, filters_after}
 use Rattle.jt_ir.specs.declared.program.SlotFilter.{SlotFilter}
 use Rattle.jt_ir.proofs.ExpressionViews.{Entry, filters_next}
 use Rattle.jt_lower.specs.Asm.{Asm, one, both}
@@ -64,8 +63,4 @@ and_again a b c = search (arith, rules)
 pub filters_low : (room : ℕ) (fs : List SlotFilter) (x : SlotExpr ℕ)
     → nat_le (expr_height (filters_after fs x)) room ≡ nat_le (expr_height x) room && rows_low (room - 1) fs
 filters_low room [] x = sym (and-true (nat_le (expr_height x) room))
-filters_low room (f ∷ fs) x =
-    let r = row_height (row_view f.row.items none) in
-    filters_low room fs (filter_after f x)
-    ∙ ap (λ b. b && rows_low (room - 1) fs) (one_low (expr_height x) r room (height_some x))
-    ∙ and_again (nat_le (expr_height x) room) (nat_le r (room - 1)) (rows_low (room - 1) fs)
+filters_low room (f ∷ fs) x = search (arith, rules, one_low, height_some, and_again, filters_low room fs)

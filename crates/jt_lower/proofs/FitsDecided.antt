@@ -1,15 +1,14 @@
 -- The conditions on programs can be computed, for programs of small templates.
-use Rattle.std.specs.Prelude.{ℕ, zero, suc, Bool, true, false, ◌&&◌, ◌==◌, nat_lt, nat_le, List, [], ◌∷◌, length}
+use Rattle.std.specs.Prelude.{ℕ, zero, suc, Bool, true, false, ◌&&◌, ◌==◌, nat_lt, List, [], ◌∷◌, length}
 use Rattle.std.specs.Prelude.{Option, Some, None, slice_get}
 use Rattle.jt_value.specs.Tree as tree
 use Rattle.jt_value.specs.Tree.{Tree}
 use Rattle.jt_ids.specs.OpTable.{op_operands}
 use Rattle.jt_ids.specs.TestTable.{test_values}
 use Rattle.jt_filter_semantics.specs.FilterIds.{filter_of, accepts}
-use Rattle.jt_image.specs.Typed.{max_entries}
 use Rattle.jt_ir.specs.Slots as slots
 use Rattle.jt_ir.specs.Slots.{Slot, local, global, NaryOp, SlotExpr, SRow, Targets, SlotStmt, SBody, Routine, Program}
-use Rattle.jt_ir.specs.Size.{row_count, body_height}
+use Rattle.jt_ir.specs.Size.{row_count}
 
 abbrev even : ℕ → Bool
 even zero = true

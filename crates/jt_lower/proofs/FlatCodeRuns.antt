@@ -40,9 +40,7 @@ machine u p ks m = record { unit = u; point = p; state = m; callers = ks }
 
 -- Each instruction has one place.
 pub placed : (a : Asm) (n : ℕ) → length (places a) ≡ length (flat a n)
-placed (both a b) n =
-    length-append (places a) (places b) ∙ omega
-    (arith, placed a n, placed b (n + length (flat a n)), length-append (flat a n) (flat b (n + length (flat a n))))
+placed (both a b) n = search (arith, rules, length-append, placed a n, placed b)
 placed (choose a b) n = search (arith, rules, placed a (n + 1), placed b, length-append)
 placed (when a) n = omega (arith, placed a (n + 1))
 placed (each a) n = search (arith, rules, placed a (n + 1), length-append)
@@ -368,6 +366,4 @@ module _ (k : Code) (table : Table) where
         (λ x. flat_runs a t u (p + 1) ks x is (has_front _ (p + 1) ca _ h.1)
         (places_front u (p + 1) (places a) (None ∷ []) w.1))
         (turns_left m.entries) m)
-    flat_runs (invoke q v) t u p ks m is h w =
-        invoke_run v (slice_get k.units v) u p ks q m refl
-        (step t u p ks m (op.Call v) (fetched t u p (op.Call v) is h.0))
+    flat_runs (invoke q v) t u p ks m is h w = search (arith, rules, invoke_run, step, fetched)

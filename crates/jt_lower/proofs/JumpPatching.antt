@@ -147,13 +147,7 @@ module _ (templates : List Text) where
   puts_len c d a p h = emitted_len c.code.items d.code.items a (p.emitted h)
 
   pub puts_nothing : (c : Emitter) → Puts templates c nil c
-  puts_nothing c = record {
-    limit = refl;
-    kept = λ h. h;
-    emitted = λ h. emitted_nothing c.code.items;
-    tagged = λ h. sym (append-nil (tags c));
-    place = λ h k. k;
-  }
+  puts_nothing c = search (arith, rules, emitted_nothing, append-nil)
 
   pub puts_then : (c0 c1 c2 : Emitter) (a b : Asm) → Puts templates c0 a c1 → Puts templates c1 b c2
       → Puts templates c0 (both a b) c2
@@ -301,13 +295,7 @@ module _ (templates : List Text) where
   -- A call is emitted as its instruction.
   pub puts_call : (c d : Emitter) (o : Option Place) (u : ℕ) → Puts templates c (one o (op.Call u)) d
       → Puts templates c (invoke o u) d
-  puts_call c d o u p = record {
-    limit = p.limit;
-    kept = p.kept;
-    emitted = p.emitted;
-    tagged = p.tagged;
-    place = λ h k. p.place (record { len = h.len; fields = h.fields }) k;
-  }
+  puts_call c d o u p = search (arith, rules)
 
   pub puts_last : (c d : Emitter) (a : Asm) → Puts templates c a d → Puts templates c (both a nil) d
   puts_last c d a p = puts_then c d d a nil p (puts_nothing d)

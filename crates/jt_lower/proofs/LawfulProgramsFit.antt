@@ -75,9 +75,7 @@ placed_was : (rs : List (Routine Constant)) (n u : ℕ) (q : Routine ℕ) (pool 
     → (r : Routine Constant) × (m : ℕ) × (slice_get rs u ≡ Some r) × (placed_routine r m ≡ q)
     × PoolAt pool m (body_values r.body)
 placed_was [] n u q pool e h = absurd cc
-placed_was (r ∷ rs) n zero q pool e h =
-    let same : placed_routine r n ≡ q = cc in
-    (r, n, refl, same, pool_front pool n (body_values r.body) (routines_values rs) h)
+placed_was (r ∷ rs) n zero q pool e h = search (arith, rules, pool_front)
 placed_was (r ∷ rs) n (suc u) q pool e h =
     placed_was rs (n + length (body_values r.body)) u q pool e
     (pool_back pool n (body_values r.body) (routines_values rs) h)
@@ -101,13 +99,7 @@ mutual
   expr_low (slots.made k es) n = omega (arith, row_low es n)
   expr_low (slots.conjunction a b) n = omega (arith, expr_low a n, expr_low b (n + length (expr_values a)))
   expr_low (slots.disjunction a b) n = omega (arith, expr_low a n, expr_low b (n + length (expr_values a)))
-  expr_low (slots.choice c a b) n =
-      omega (
-        arith,
-        expr_low c n,
-        expr_low a (n + length (expr_values c)),
-        expr_low b (n + length (expr_values c) + length (expr_values a)),
-      )
+  expr_low (slots.choice c a b) n = search (arith, rules, expr_low c n, expr_low a, expr_low b)
   expr_low (slots.invoke u escaping es) n = omega (arith, row_low es n)
   expr_low a0 n = refl
 
@@ -125,13 +117,7 @@ mutual
   stmt_low (slots.put_pooled k) n = refl
   stmt_low (slots.print q escaping e) n = expr_low e n
   stmt_low (slots.assign q xs e) n = omega (arith, expr_low e n)
-  stmt_low (slots.if_else q c a b) n =
-      omega (
-        arith,
-        expr_low c n,
-        body_low a (n + length (expr_values c)),
-        body_low b (n + length (expr_values c) + length (body_values a)),
-      )
+  stmt_low (slots.if_else q c a b) n = search (arith, rules, expr_low, body_low a, body_low b)
   stmt_low (slots.for_each q xs e c body other) n =
       search (arith, rules, expr_low, condition_low, body_low body, body_low other)
   stmt_low (slots.capture escaping s body) n = omega (arith, body_low body n)
@@ -146,13 +132,7 @@ mutual
   expr_sized (slots.made k es) n = omega (arith, row_sized es n)
   expr_sized (slots.conjunction a b) n = omega (arith, expr_sized a n, expr_sized b (n + length (expr_values a)))
   expr_sized (slots.disjunction a b) n = omega (arith, expr_sized a n, expr_sized b (n + length (expr_values a)))
-  expr_sized (slots.choice c a b) n =
-      omega (
-        arith,
-        expr_sized c n,
-        expr_sized a (n + length (expr_values c)),
-        expr_sized b (n + length (expr_values c) + length (expr_values a)),
-      )
+  expr_sized (slots.choice c a b) n = search (arith, rules, expr_sized c n, expr_sized a, expr_sized b)
   expr_sized (slots.invoke u escaping es) n = omega (arith, row_sized es n)
   expr_sized a0 n = refl
 
@@ -171,13 +151,7 @@ mutual
   stmt_sized (slots.put_pooled k) n = refl
   stmt_sized (slots.print q escaping e) n = omega (arith, expr_sized e n)
   stmt_sized (slots.assign q xs e) n = omega (arith, expr_sized e n)
-  stmt_sized (slots.if_else q c a b) n =
-      omega (
-        arith,
-        expr_sized c n,
-        body_sized a (n + length (expr_values c)),
-        body_sized b (n + length (expr_values c) + length (body_values a)),
-      )
+  stmt_sized (slots.if_else q c a b) n = search (arith, rules, expr_sized, body_sized a, body_sized b)
   stmt_sized (slots.for_each q xs e c body other) n =
       search (arith, rules, expr_sized, kept_sized, body_sized body, body_sized other)
   stmt_sized (slots.capture escaping s body) n = omega (arith, body_sized body n)

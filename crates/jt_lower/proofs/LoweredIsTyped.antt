@@ -415,11 +415,8 @@ module _ (p : Program) (count : ℕ) where
     expr_types (slots.field x) o false h S f fr le = absurd cc
     expr_types (slots.field x) o true h S f fr le = (omega arith, gets x h S fr)
     expr_types slots.absent o inside h S f fr le = absurd f
-    expr_types (slots.made x r) o inside h S f fr le = (
-      pushes (row_count r) S,
-      row_types r o inside h S f.1 fr (omega arith),
-      (omega (arith, stack_long (row_count r) S, row_room r), nary_op_types x (row_count r) S f.0),
-    )
+    expr_types (slots.made x r) o inside h S f fr le =
+        search (arith, rules, stack_long, row_room, nary_op_types, row_types r o inside h)
     expr_types (slots.conjunction a b) o inside h S f fr le =
         let one_more : length (kind.Value ∷ S) ≤ max_entries = omega (arith, some_height a) in
         let two_more : length (kind.Value ∷ kind.Value ∷ S) ≤ max_entries = omega arith in (
@@ -457,18 +454,7 @@ module _ (p : Program) (count : ℕ) where
           ),
         )
     expr_types (slots.choice c a b) o inside h S f fr le =
-        let one_more : length (kind.Value ∷ S) ≤ max_entries = omega (arith, some_height c) in (
-          kind.Value ∷ S,
-          expr_types c o inside h S f.0 fr (omega arith),
-          (
-            S,
-            refl,
-            one_more,
-            one_more,
-            expr_types a o inside h S f.1 fr (omega arith),
-            expr_types b o inside h S f.2 fr (omega arith),
-          ),
-        )
+        search (arith, rules, some_height, expr_types c o inside h, expr_types a o inside h, expr_types b o inside h)
     expr_types (slots.invoke v escaping r) o inside h S f fr le =
         let n = row_count r in
         let C = kind.Capture ∷ S in (
@@ -491,11 +477,8 @@ module _ (p : Program) (count : ℕ) where
       subst (λ T. Leading (row_asm o r (suc h)) (kind.Value ∷ S) T) (stack_on (row_count r) S)
           (row_types r o inside (suc h) (kind.Value ∷ S) f.1 (raise inside h kind.Value S fr) (omega arith)),
     )
-    row_types (slots.aside i e r) o inside h S f fr le = (
-      kind.Value ∷ S,
-      expr_types e o inside h S f.1 fr (omega arith),
-      (S, (omega (arith, some_height e), stores (local i) S f.0), row_types r o inside h S f.2 fr (omega arith)),
-    )
+    row_types (slots.aside i e r) o inside h S f fr le =
+        search (arith, rules, some_height, stores, expr_types e o inside h, row_types r o inside h)
 
   -- A turn above the frame of the loop is typed.
   turn_types : (xs : Targets) (o : Option Place) (body : Asm) (S : Shape) → OfTargets (SlotFits p count) xs
@@ -653,9 +636,7 @@ unit_typed p r f =
 
 typed_unit : (p : Program) → ProgramFits p → (n : ℕ) (o : Option (Routine ℕ)) (u : Section) → slice_get p.routines n ≡ o
     → slice_get (lowered p).units n ≡ Some u → IsTypedUnit Equal (lowered p) u
-typed_unit p f n None u is e =
-    let none : slice_get (lowered p).units n ≡ None = slice_get-map unit_of p.routines n ∙ ap (option_map unit_of) is in
-    absurd cc
+typed_unit p f n None u is e = search (arith, rules, slice_get-map)
 typed_unit p f n (Some r) u is e =
     let some : slice_get (lowered p).units n ≡ Some (unit_of r) =
     slice_get-map unit_of p.routines n ∙ ap (option_map unit_of) is in

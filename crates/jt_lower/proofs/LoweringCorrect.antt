@@ -20,13 +20,13 @@ use Rattle.jt_image.specs.Config.{Frame, StackEntry, value, frame, capture, Stat
 use Rattle.jt_ids.specs.LoopTable.{field_of, field_id}
 use Rattle.jt_image.specs.Loops.{trees_of, loop_over, item_at, loop_field_value}
 use Rattle.jt_image.specs.Step as step
-use Rattle.jt_image.specs.Ids.{operator_of, operands_of, filter_of, test_of}
+use Rattle.jt_image.specs.Ids.{operator_of, filter_of, test_of}
 use Rattle.jt_image.specs.Step.{broken, goes, plain, as_frame, on_values, push_given, loop_field_or_undefined, piled}
 use Rattle.jt_image.specs.Step.{spreads, unpacks, begins, makes, operated, filtered_by, tested_by, with_entries}
 use Rattle.jt_image.specs.Step.{put_printed, constant_value, text_of}
 use Rattle.jt_ids.specs.declared.op_id.OpId.{OpId}
 use Rattle.jt_ids.specs.declared.test_id.TestId.{TestId}
-use Rattle.jt_ids.specs.OpTable.{op_id, op_operands}
+use Rattle.jt_ids.specs.OpTable.{op_id}
 use Rattle.jt_ids.specs.TestTable.{test_id}
 use Rattle.jt_op_semantics.specs.Making.{listed, mapped}
 use Rattle.jt_ir.specs.Takes.{InPairs}
@@ -227,12 +227,7 @@ module _ (p : Program) (call : SCalls) (has : HasPool (lowered p) p.pool) (keep 
       then goes (with_entries (at_bufs fs bs m) (piled vs es)) (step.pushing_all vs) else step.faults_by faults.Unpack))
       (code (stores_asm q ss))) e)
       (stores_do ss vs q es bs out m (eq_told (length vs) (length ss) e) fit w)
-  spread_does false ss vs q es bs out m fs e fit w =
-      same_meaning q (Kept out) (at_bufs es bs) _ (store_each ss vs m) (fails faults.Unpack None)
-      (wrong_count ss vs m (eq_untold (length vs) (length ss) e))
-      (ap (λ t. and_then (of_plain q (if t
-      then goes (with_entries (at_bufs fs bs m) (piled vs es)) (step.pushing_all vs) else step.faults_by faults.Unpack))
-      (code (stores_asm q ss))) e)
+  spread_does false ss vs q es bs out m fs e fit w = search (arith, rules, same_meaning, wrong_count, eq_untold)
 
   unpack_does : (r : Result Items Fault) (ss : List (Option Slot)) (q : Option Place) (es : List StackEntry)
       (bs : List (List ℕ)) (out : Text) (m : Memory) (fs : List StackEntry)
@@ -279,18 +274,8 @@ module _ (p : Program) (call : SCalls) (has : HasPool (lowered p) p.pool) (keep 
       → Does q (KeptValue out) (ValueOn es bs) (of_plain q (plain k (nary_op h n) (at_bufs (piled vs es) bs m)))
       (bind (checked (make the_filters h vs)) (valued m))
   unfolding the_filters
-  made_does (slots.operator x) n vs q es bs out m fit e w =
-      same_run q (KeptValue out) (ValueOn es bs) _
-      (of_plain q (makes (op_operands x) (operated (Some x)) (at_bufs (piled vs es) bs m)))
-      (bind (checked (operated (Some x) vs)) (valued m))
-      (ap (λ y. of_plain q (makes (operands_of y) (operated y) (at_bufs (piled vs es) bs m))) (has_operator x))
-      (made_by (op_operands x) (operated (Some x)) vs q es bs out m (e ∙ sym fit) w)
-  made_does (slots.test x) n vs q es bs out m fit e w =
-      same_run q (KeptValue out) (ValueOn es bs) _
-      (of_plain q (makes n (tested_by (Some x)) (at_bufs (piled vs es) bs m)))
-      (bind (checked (tested_by (Some x) vs)) (valued m))
-      (ap (λ y. of_plain q (makes n (tested_by y) (at_bufs (piled vs es) bs m))) (has_test x))
-      (made_by n (tested_by (Some x)) vs q es bs out m e w)
+  made_does (slots.operator x) n vs q es bs out m fit e w = search (arith, rules, same_run, has_operator, made_by)
+  made_does (slots.test x) n vs q es bs out m fit e w = search (arith, rules, same_run, has_test, made_by)
   made_does (slots.filter f true) n vs q es bs out m fit e w =
       made_by n (filtered_by (filter_of f) true) vs q es bs out m e w
   made_does (slots.filter f false) n vs q es bs out m fit e w =
@@ -463,10 +448,7 @@ module _ (p : Program) (call : SCalls) (has : HasPool (lowered p) p.pool) (keep 
       → all ≡ done ++ v ∷ rest → b ≡ length done
       → turns body (suc j) (at_bufs (framed all b kept es) bs m)
       ≡ and_then (body (at_bufs (framed all (suc b) kept es) bs m)) (turns body j)
-  goes_round body all done rest v b kept es bs m j e n =
-      ap (λ t. if t then and_then (body (at_bufs (framed all (suc b) kept es) bs m)) (turns body j)
-      else does (at_bufs (framed all b kept es) bs m))
-      (lt_true b (length all) (omega (arith, ap length e, length-append done (v ∷ rest))))
+  goes_round body all done rest v b kept es bs m j e n = search (arith, rules, lt_true, length-append)
 
   is_over : (body : State → AsmEval) (all done : List Tree) (b : ℕ) (kept : List Tree) (es : List StackEntry)
       (bs : List (List ℕ)) (m : Memory)
@@ -539,11 +521,7 @@ module _ (p : Program) (call : SCalls) (has : HasPool (lowered p) p.pool) (keep 
       → Does q (KeptItems out) (SiftedOn all kept es bs)
       (turns (code (turn_asm q xs (both (expr_asm q c 0) (one q (op.LoopKeep 0))))) (length vs)
       (at_bufs (framed all b kept es) bs m)) (Sifts c xs vs m)
-  sift_does c xs q es bs out all [] done b kept m fx fc e n w opened = (
-    is_over (code (turn_asm q xs (both (expr_asm q c 0) (one q (op.LoopKeep 0))))) all done b kept es bs m e n
-        ∙ ap (λ ts. does (at_bufs (framed all (length all) ts es) bs m)) (sym (append-nil kept)),
-    w,
-  )
+  sift_does c xs q es bs out all [] done b kept m fx fc e n w opened = search (arith, rules, is_over, append-nil)
   sift_does c xs q es bs out all (v ∷ vs) done b kept m fx fc e n w opened =
       let keep_asm = both (expr_asm q c 0) (one q (op.LoopKeep 0)) in
       let turn = code (turn_asm q xs keep_asm) in
@@ -601,9 +579,7 @@ module _ (p : Program) (call : SCalls) (has : HasPool (lowered p) p.pool) (keep 
       (f : List Tree → Eval Listed)
       → ((vs : List Tree) → Does q inv to (g (at_bufs (frame (loop_over vs) ∷ es) bs m)) (f vs))
       → Does q inv to (and_then (of_plain q (begins r es (at_bufs fs bs m))) g) (bind (checked (result_listed r)) f)
-  begin_does (Ok ts) q es bs m fs inv to g f h =
-      subst (λ vs. Does q inv to (g (at_bufs (frame (loop_over (trees_of ts)) ∷ es) bs m)) (f vs)) (listed_same ts)
-      (h (trees_of ts))
+  begin_does (Ok ts) q es bs m fs inv to g f h = search (arith, rules, listed_same)
   begin_does (Err e) q es bs m fs inv to g f h = refl
 
   -- ---- statements

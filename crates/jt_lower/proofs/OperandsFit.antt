@@ -30,7 +30,7 @@ use Rattle.jt_constants.specs.Merged.{moved_unit}
 use Rattle.jt_constants.proofs.MergeIsNoLarger.{units_len, units_room}
 use Rattle.jt_lower.specs.Asm.{Asm, nil, one, both, choose, when, each, invoke, flat}
 use Rattle.jt_lower.specs.Lower.{half, flag, nary_op, load_of, store_of, store_if_of, expr_asm, row_asm, stores_asm}
-use Rattle.jt_lower.specs.Lower.{take_asm, kept_asm, stmt_asm, body_asm, unit_of, constant_of, lowered, compiled}
+use Rattle.jt_lower.specs.Lower.{take_asm, kept_asm, stmt_asm, body_asm, unit_of, compiled}
 use Rattle.jt_lower.specs.Fits.{OfSlots, OfSome, OfTargets, NaryOpFits, TakesRow, SlotFits, ExprFits, RowFits}
 use Rattle.jt_lower.specs.Fits.{ConditionFits, StmtFits, BodyFits, RoutineFits, ProgramFits}
 use Rattle.jt_lower.proofs.CodeSize.{asm_size, flat_size}
@@ -256,6 +256,4 @@ lowered_written p fit globals pool limits =
 
 pub program_written : (p : Program) → ProgramFits p → p.globals < 2 ^ 16 → length p.pool ≤ 2 ^ 32
     → KeepsLimits (compiled p) → AllByRecursion Written (compiled p).units
-program_written p fit globals pool limits =
-    units_room (lowered p).constants (omega (arith, pool, length-map p.pool constant_of)) (map unit_of p.routines)
-    (lowered_written p fit globals pool limits)
+program_written p fit globals pool limits = search (arith, rules, units_room, length-map, lowered_written)

@@ -1,12 +1,12 @@
 -- Constants with indices into the pool have their old meaning.
-use Rattle.std.proofs.Common.{◌≡◌, ℕ, zero, suc, ◌+◌, Bool, true, false, if◌then◌else◌, List, [], ◌∷◌, ◌++◌, length}
+use Rattle.std.proofs.Common.{◌≡◌, ℕ, zero, suc, Bool, true, false, if◌then◌else◌, List, [], ◌∷◌, ◌++◌, length}
 use Rattle.std.proofs.Common.{Option, Some, None, refl, sym, ap, arith, rules}
 use Rattle.std.specs.Prelude.{slice_get, unwrap_or}
 use Rattle.jt_value.specs.Tree as tree
 use Rattle.jt_value.specs.Tree.{Tree}
 use Rattle.jt_value.specs.Place.{Place}
 use Rattle.jt_eval.specs.Eval.{Eval, gives, bind, checked, at}
-use Rattle.jt_eval.specs.Values.{shown, bytes_of, as_value}
+use Rattle.jt_eval.specs.Values.{bytes_of}
 use Rattle.jt_ir.specs.Slots.{with_locals, SlotExpr, SRow, Targets, SlotStmt, SBody, Routine, Memory, Valued, SCalls}
 use Rattle.jt_ir.specs.Slots.{store, take, make, valued, sturns, seval_loop, svalue, svalues, skept, smeaning}
 use Rattle.jt_ir.specs.Slots.{smeanings, seval_invocation, scalls, smean_of}
@@ -97,10 +97,7 @@ module _ (filters : Filters) (pool : List Tree) where
           → smeaning filters (constant_in pool) call s l m ≡ smeaning filters (tree_at pool) call' (placed_stmt s n) l m
       stmt_same (slots.put_pooled k) n l m at =
           ap (λ t. gives (record m { out = m.out ++ bytes_of t })) (constant_same k n at)
-      stmt_same (slots.print q escaping e) n l m p =
-          ap (λ g.
-          at q (bind g (λ r. bind (shown escaping r.value) (λ s. gives (record r.memory { out = r.memory.out ++ s })))))
-          (expr_same e n l m p)
+      stmt_same (slots.print q escaping e) n l m p = search (arith, rules, expr_same)
       stmt_same (slots.assign q xs e) n l m p =
           ap (λ g. at q (bind g (λ r. take xs r.value r.memory))) (expr_same e n l m p)
       stmt_same (slots.if_else q c a b) n l m p =
@@ -118,9 +115,7 @@ module _ (filters : Filters) (pool : List Tree) where
             body_same body,
             body_same other,
           )
-      stmt_same (slots.capture escaping s body) n l m p =
-          ap (λ g. bind g (λ x. gives (store s (as_value escaping x.out) (record x { out = m.out }))))
-          (body_same body n l (record m { out = [] }) p)
+      stmt_same (slots.capture escaping s body) n l m p = search (arith, rules, body_same body n l)
       stmt_same (slots.run u es) n l m p = search (arith, rules, bind_same, row_same)
 
       body_same : (b : SBody Constant) (n : ℕ) (l : Option Loop) (m : Memory) → PoolAt pool n (body_values b)
@@ -134,27 +129,18 @@ module _ (filters : Filters) (pool : List Tree) where
         → seval_invocation filters (constant_in pool) call (slice_get rs u) ts gs
         ≡ seval_invocation filters (tree_at pool) call' (slice_get (placed_routines rs n) u) ts gs
     performed_same [] n u ts gs at = refl
-    performed_same (r ∷ rs) n zero ts gs at =
-        ap (λ g. bind g (λ m. gives (record { text = m.out; globals = m.globals })))
-        (body_same r.body n None (record { locals = with_locals r.locals ts; globals = gs; out = [] })
-        (pool_front pool n (body_values r.body) (routines_values rs) at))
-    performed_same (r ∷ rs) n (suc u) ts gs at =
-        performed_same rs (n + length (body_values r.body)) u ts gs
-        (pool_back pool n (body_values r.body) (routines_values rs) at)
+    performed_same (r ∷ rs) n zero ts gs at = search (arith, rules, body_same, pool_front)
+    performed_same (r ∷ rs) n (suc u) ts gs at = search (arith, rules, pool_back, performed_same rs)
 
   module _ (rs : List (Routine Constant)) (n : ℕ) (at : PoolAt pool n (routines_values rs)) where
     calls_same : (d u : ℕ) (ts gs : List Tree) → scalls filters (constant_in pool) rs d u ts gs
         ≡ scalls filters (tree_at pool) (placed_routines rs n) d u ts gs
     calls_same zero u ts gs = refl
-    calls_same (suc d) u ts gs =
-        performed_same (scalls filters (constant_in pool) rs d) (scalls filters (tree_at pool) (placed_routines rs n) d)
-        (calls_same d) rs n u ts gs at
+    calls_same (suc d) u ts gs = search (arith, rules, performed_same, calls_same d)
 
     means_same : (gs : List Tree) (d : ℕ)
         → smean_of filters (constant_in pool) rs gs d ≡ smean_of filters (tree_at pool) (placed_routines rs n) gs d
-    means_same gs d =
-        ap (λ g. bind g (λ w. gives w.text)) (performed_same (scalls filters (constant_in pool) rs d)
-        (scalls filters (tree_at pool) (placed_routines rs n) d) (calls_same d) rs n 0 [] gs at)
+    means_same gs d = search (arith, rules, performed_same, calls_same)
 
 -- The pool has the given values, then those of the routines.
 pub pooled_same : (filters : Filters) (front : List Tree) (rs : List (Routine Constant)) (gs : List Tree) (d : ℕ)

@@ -46,6 +46,4 @@ told_at k table a2 m go go' t h = search (arith, rules)
 pub told_same : (k : Code) (table : Table) → Tells k table → (n : ℕ) (m : MachineState)
     → placed_exec k table n m ≡ exec k n m
 told_same k table t zero m = refl
-told_same k table t (suc n) m =
-    told_at k table (fetch k m.unit m.point) m (placed_exec k table n) (exec k n) (t m.unit m.point)
-    (told_same k table t n)
+told_same k table t (suc n) m = search (arith, rules, told_at, placed_exec, told_same k table t n)

@@ -1,7 +1,7 @@
 //! Executes instructions that make one value from several: operators, filters, tests, lists and
 //! maps.
 ghost use Rattle.std.specs.Prelude.{◌≡◌, ◌≤◌, ◌+◌, ◌<◌, ◌^◌, ◌∷◌, [], true, length, map, take};
-ghost use Rattle.std.specs.Prelude.{List, Result, Some, None, IfOk};
+ghost use Rattle.std.specs.Prelude.{List, Result, None, IfOk, OnOk};
 ghost use Rattle.jt_value.specs.Tree as tree;
 ghost use Rattle.jt_value.specs.Tree.{Tree};
 ghost use Rattle.jt_value.specs.View.{view};
@@ -22,7 +22,7 @@ ghost use Rattle.jt_machine.specs.InstructionSteps.{apply_filter as filter_next}
 ghost use Rattle.jt_machine.specs.InstructionSteps.{apply_test as test_next, answering};
 ghost use Rattle.jt_machine.specs.InstructionSteps.{push as pushes, step_on as steps_on, values_at};
 ghost use Rattle.jt_machine.specs.InstructionSteps.{below};
-ghost use Rattle.jt_machine.specs.View.{budget_view, config_view, IsNext, continues, values_on};
+ghost use Rattle.jt_machine.specs.View.{budget_view, config_view, IsNext, continues};
 ghost use Rattle.jt_machine.specs.View.{HasValues, IsReady, IsBounded};
 
 use crate::charging::{charge_fuel, push, push_checked};
@@ -47,9 +47,10 @@ pub(crate) fn take_values(
     count: usize,
 ) -> Result<Vec<Value>, NoMemory>
     requires { HasValues count stack.old.running }
-    ensures taken { IfOk result
-        (λ vs. values_on count stack.old.running ≡ Some (map view vs.items, stack.new.running)) }
-    ensures callers { stack.new.callers ≡ stack.old.callers }
+    ensures values { IfOk result
+        (λ vs. values_at count stack.old.running ≡ map view vs.items) }
+    ensures taken { OnOk result
+        (stack.new ≡ with_running (below count stack.old.running) stack.old) }
 {
     let mut values = Vec::new(alloc);
     'values: for _ in 0..count {
@@ -59,20 +60,21 @@ pub(crate) fn take_values(
     Ok(values)
 }
 
-// Charges the fuel for an instruction that reads the top `count` values whole. Returns the outcome
-// if the fuel does not suffice. The values stay on the stack.
+// Charges the additional fuel for an instruction that reads the top `count` values whole. Returns
+// the outcome if the fuel does not suffice. The values stay on the stack.
 fn charge_for_values(state: &mut State, count: usize) -> Option<Outcome>
     requires has { HasValues count state.old.stack.running }
     requires bounded { IsBounded state.old }
     ensures rest { (f : List Tree → Result Tree Fault)
         → make count f (config_view state.old) ≡ continues result state.new (made count f) }
     ensures same { state.new ≡ record state.old { left = state.new.left } }
+    ensures has { HasValues count state.new.stack.running }
 {
     // The prover needs this read, which shows that the limit has 32 bits. So the sum of the sizes
     // is exact.
     let _size = state.left.size;
     let total = sizes(state.stack.top_entries(count));
-    charge_fuel(state, 1 + total / 64)
+    charge_fuel(state, total / 64)
 }
 
 /// Pushes the result of an operation and goes on, or returns how the run ends.
@@ -156,8 +158,7 @@ fn operated(
 
 /// Returns the limits that a budget sets for values.
 pub(crate) fn limits_of(budget: &Budget) -> Limits
-    ensures size { result.size ≡ budget.now.size }
-    ensures nesting { result.nesting ≡ budget.now.nesting }
+    ensures { result ≡ record { size = budget.now.size; nesting = budget.now.nesting } }
 {
     Limits {
         size: budget.size,

@@ -51,9 +51,6 @@ pub(crate) fn call<C: Code>(
     let Some(header) = code.unit(unit as usize) else {
         unreachable!()
     };
-    if let Some(outcome) = charge_fuel(state, 1) {
-        return Ok(Some(outcome));
-    }
     if let Err(spent) = state.left.enter() {
         return Ok(Some(Outcome::Spent(spent)));
     }
@@ -118,9 +115,6 @@ pub(crate) fn finish(alloc: Global, state: &mut State) -> Result<Option<Outcome>
         → return_from u (config_view state.old) ≢ Wrong
         → IsNext result state.new (return_from u (config_view state.old)) }
 {
-    if let Some(outcome) = charge_fuel(state, 1) {
-        return Ok(Some(outcome));
-    }
     let given = state.stack.take_given();
     let Some(caller) = state.stack.leave() else {
         let text = mem::replace(&mut state.buffer, String::new(alloc));

@@ -30,9 +30,6 @@ pub(crate) fn open_capture(alloc: Global, state: &mut State) -> Result<Option<Ou
     requires { state.old.point + 1 < 2 ^ 64 }
     ensures { IsNext result state.new (open_next (config_view state.old)) }
 {
-    if let Some(outcome) = charge_fuel(state, 1) {
-        return Ok(Some(outcome));
-    }
     state.stack.push(StackEntry::Capture)?;
     let around = mem::replace(&mut state.buffer, String::new(alloc));
     push_outer(&mut state.outer, around)?;
@@ -70,9 +67,6 @@ pub(crate) fn close_capture(state: &mut State, marked: bool) -> Result<Option<Ou
 {
     state.stack.pop_capture();
     let around = pop_outer(&mut state.outer);
-    if let Some(outcome) = charge_fuel(state, 1) {
-        return Ok(Some(outcome));
-    }
     if let Some(spent) = flat_limit(1 + state.buffer.len() as u64, &state.left) {
         return Ok(Some(Outcome::Spent(spent)));
     }

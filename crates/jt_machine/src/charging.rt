@@ -28,8 +28,8 @@ pub(crate) fn step_on(state: &mut State) -> Option<Outcome>
 pub(crate) fn charge_fuel(state: &mut State, cost: u64) -> Option<Outcome>
     ensures rest { (go : Config → Next)
         → pays cost (config_view state.old) go ≡ continues result state.new go }
-    ensures same { state.new ≡ record state.old { left = state.new.left } }
-    ensures depth { state.new.left.depth ≡ state.old.left.depth }
+    ensures same { state.new
+        ≡ record state.old { left = record state.old.left { fuel = state.new.left.fuel } } }
 {
     match state.left.charge(cost) {
         Ok(()) => None,
@@ -37,19 +37,19 @@ pub(crate) fn charge_fuel(state: &mut State, cost: u64) -> Option<Outcome>
     }
 }
 
-/// Charges the fuel for an instruction that reads a whole value, or returns the outcome if the fuel
-/// does not suffice.
+/// Charges the additional fuel for an instruction that reads a whole value, or returns the outcome
+/// if the fuel does not suffice.
 pub(crate) fn charge_for(state: &mut State, value: &Value) -> Option<Outcome>
     requires { size (view value.now) ≤ state.old.left.size }
     ensures rest { (go : Config → Next)
-        → pays (1 + size (view value.now) / 64) (config_view state.old) go
+        → pays (size (view value.now) / 64) (config_view state.old) go
         ≡ continues result state.new go }
     ensures same { state.new ≡ record state.old { left = state.new.left } }
 {
     // The prover needs this read, which shows that the limit has 32 bits. So the counted size is
     // exact.
     let _limit = state.left.size;
-    charge_fuel(state, 1 + value.size() / 64)
+    charge_fuel(state, value.size() / 64)
 }
 
 /// Pushes a value and goes on, or returns the outcome if the value exceeds a limit.

@@ -1,7 +1,8 @@
 -- The names of a library, by the index of its template.
 use Rattle.std.proofs.Common.{◌≡◌, ◌≤◌, ℕ, zero, suc, true, false, List, [], ◌∷◌, length, refl, sym, ap, ◌∙◌, Option}
 use Rattle.std.proofs.Common.{arith, rules}
-use Rattle.std.specs.Prelude.{flat_map}
+use Rattle.std.specs.Option.{is_none}
+use Rattle.std.specs.Prelude.{flat_map, nat_le}
 use Rattle.std.proofs.lemmas.List.{append-nil}
 use Rattle.jt_ast.specs.Expressions.{Text}
 use Rattle.jt_ast.specs.Statements.{Body, end}
@@ -11,6 +12,11 @@ use Rattle.jt_chains.specs.Chain.{Template, a_library, holds_macros, library_tem
 use Rattle.jt_chains.specs.Indices.{index_of}
 use Rattle.jt_chains.specs.Uses.{body_names, own_names}
 use Rattle.jt_chains.proofs.LibraryMacros.{body_held, no_body_held}
+
+-- The index of a template that was not read is no index.
+pub missing : (ts : List Template) (n : Text) → nat_le (length ts) (index_of ts n) ≡ is_none (sources_in ts n)
+missing [] n = refl
+missing (t ∷ ts) n = search (arith, rules, missing ts n)
 
 names_alone : (n : Text) (o : Option Body)
     → body_names (first_body (library_template n o)) ≡ flat_map (λ t. body_names t.body) (library_template n o)

@@ -1,13 +1,15 @@
 -- What is known of a chain and of the chains and libraries that it reaches.
-use Rattle.std.specs.Prelude.{◌≡◌, ◌<◌, ℕ, List, length, get_or}
+use Rattle.std.specs.Prelude.{◌≡◌, ◌<◌, ℕ, List, length, map, option_map, get_or}
+use Rattle.jt_ast.specs.Expressions.{Text}
 use Rattle.jt_ast.specs.Texts.{ascending, texts}
-use Rattle.jt_chains.specs.Chain.{macros, given, all_bodies}
-use Rattle.jt_chains.specs.Named.{names_view}
+use Rattle.jt_chains.specs.Chain.{macros, given, given_to, all_bodies}
+use Rattle.jt_chains.specs.Named.{given_view}
 use Rattle.jt_chains.specs.Parts.{macros_view, blocks_view}
 use Rattle.jt_chains.specs.Uses as uses
 use Rattle.jt_chains.specs.View.{its_sources, its_templates, namespace_in}
 use Rattle.jt_chains.specs.declared.chain.Chain.{Chain}
 use Rattle.jt_names.specs.FactsOfTemplates.{AreKnown}
+use Rattle.jt_names.specs.Names.{value_in, AreIndices}
 use Rattle.jt_names.specs.declared.facts.NamespaceFacts.{NamespaceFacts}
 use Rattle.jt_names.specs.declared.facts.ChainFacts.{ChainFacts}
 
@@ -16,10 +18,13 @@ pub record IsKnown (c : Chain) (i : ℕ) (f : NamespaceFacts) : Type 0 where
   pub names : texts f.names.items ≡ ascending (uses.own_names (its_sources c) (namespace_in c i))
   pub scope_names : texts f.scope_names.items ≡ uses.scope_names (its_sources c) (namespace_in c i)
   pub all_macros : macros_view (its_templates c) f.macros.items ≡ macros (its_sources c) (namespace_in c i)
-  pub all_given : names_view (its_templates c) (namespace_in c i) f.given.items
-      ≡ given (its_sources c) (namespace_in c i)
+  pub all_given : (x : Text) → option_map (given_view (its_templates c) (namespace_in c i)) (value_in f.given x)
+      ≡ given_to x (given (its_sources c) (namespace_in c i))
   pub all_blocks : blocks_view (its_templates c) f.blocks.items
       ≡ all_bodies (its_sources c) c.autoescape (namespace_in c i)
+  pub first_bodies :
+      AreIndices 0 (map (λ b. b.name) (all_bodies (its_sources c) c.autoescape (namespace_in c i)))
+      f.first_bodies.indices
 
 -- The facts are those of the first chains and libraries, in their order.
 abbrev pub EachKnown : Chain → List NamespaceFacts → Type 0

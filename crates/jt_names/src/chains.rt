@@ -6,6 +6,7 @@ ghost use Rattle.jt_names.specs.FactsOfTemplates.{AreKnown};
 ghost use Rattle.jt_names.specs.FactsOfChains.{AllKnown, IsKnown, EachKnown};
 
 use crate::facts::{ChainFacts, NamespaceFacts};
+use crate::index::{definitions_of, first_bodies};
 use crate::templates::{TemplateFacts, facts_of_files, names_along, scope_names_along};
 use jt_chains::Chain;
 use std::alloc::{AllocError, Global};
@@ -56,13 +57,16 @@ fn facts_of_namespace<'a>(
     let names = names_along(alloc, templates, indices)?;
     let scope_names = scope_names_along(alloc, templates, indices)?;
     let macros = chain.macros(alloc, namespace)?;
-    let given = chain.given(alloc, namespace)?;
+    let listed = chain.given(alloc, namespace)?;
+    let given = definitions_of(alloc, &listed)?;
     let blocks = chain.blocks(alloc, namespace)?;
+    let first_bodies = first_bodies(alloc, &blocks)?;
     Ok(NamespaceFacts {
         names,
         scope_names,
         macros,
         given,
         blocks,
+        first_bodies,
     })
 }

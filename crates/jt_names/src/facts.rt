@@ -11,9 +11,11 @@ ghost use Rattle.jt_uses.specs.Uses.{body_uses, outside};
 ghost use Rattle.jt_uses.specs.UseView.{sites_view};
 ghost use Rattle.jt_names.specs.FactsOfChains.{AllKnown, IsKnown};
 
+use crate::index::NameIndex;
 use crate::templates::{TemplateFacts, count_at, is_library_at};
-use jt_chains::{Block, Chain, DefinedName, Macro};
+use jt_chains::{Block, Chain, Definition, Macro};
 use jt_uses::UseSite;
+use std::collections::BTreeMap;
 
 /// What is known of a chain or a library.
 #[derive(Drop)]
@@ -23,10 +25,12 @@ pub struct NamespaceFacts<'a> {
     /// The different names that its scopes bind, in ascending order.
     pub scope_names: Vec<&'a str>,
     pub macros: Vec<Macro<'a>>,
-    /// The names that stand for macros and libraries, with their definitions.
-    pub given: Vec<DefinedName<'a>>,
+    /// The definition of each name that stands for a macro or a library.
+    pub given: BTreeMap<&'a str, Definition<'a>>,
     /// The bodies of its blocks.
     pub blocks: Vec<Block<'a>>,
+    /// The index of the first body of each block, by its name.
+    pub first_bodies: NameIndex<'a>,
 }
 
 /// What is known of a chain and of all that it reaches.

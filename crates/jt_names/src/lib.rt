@@ -3,13 +3,14 @@
 //! - The facts, and how they are collected: `facts`, `templates` and `chains`.
 //! - The names that uses read or bind, also in scopes: `own`.
 //! - The names that a body sets: `sets`.
-//! - Names in lists, and in ascending order: `lists` and `ordered`.
+//! - Names in lists, in ascending order, and in maps: `lists`, `ordered` and `index`.
 //!
 //! Read first: specs/FactsOfChains.antt.
 #![tactic(auto)]
 
 mod chains;
 mod facts;
+mod index;
 mod lists;
 mod ordered;
 mod own;
@@ -18,8 +19,9 @@ mod templates;
 
 pub use chains::facts_of;
 pub use facts::{ChainFacts, NamespaceFacts};
+pub use index::NameIndex;
 pub use lists::{keyword_names, names_of, parameter_names};
 pub use ordered::{add_names, in_order, list_of};
 pub use own::is_loop_name;
 pub use sets::set_names;
-pub use templates::TemplateFacts;
+pub use templates::{TemplateFacts, is_missing};

@@ -1,18 +1,20 @@
 //! Collects what is known of each template.
 
 ghost use Rattle.std.specs.Prelude.{◌≡◌, List, length, IfOk};
+ghost use Rattle.std.specs.Option.{is_none};
 ghost use Rattle.jt_ast.specs.Texts.{ascending, texts};
 ghost use Rattle.jt_ast.specs.StatementView.{body_view};
 ghost use Rattle.jt_chains.specs.Along.{along, body_at};
 ghost use Rattle.jt_chains.specs.Chain.{Template, holds_macros};
 ghost use Rattle.jt_chains.specs.TemplateFiles.{files_view};
 ghost use Rattle.jt_chains.specs.Uses.{body_names, scope_names_in};
+ghost use Rattle.jt_chains.specs.View.{its_sources};
 ghost use Rattle.jt_names.specs.FactsOfTemplates.{known_of, facts_in, AreKnown};
 
 use crate::ordered::{add_names, list_of};
 use crate::own::{add_scoped, add_used};
 use jt_ast::Stmt;
-use jt_chains::TemplateFile;
+use jt_chains::{Chain, TemplateFile};
 use jt_uses::{UseSite, uses_of};
 use std::alloc::{AllocError, Global};
 use std::collections::BTreeSet;
@@ -50,6 +52,16 @@ pub(crate) fn facts_of_files(
         found.push(facts_of_body(alloc, file.template.body())?)?;
     }
     Ok(found)
+}
+
+/// Returns whether no template `name` was read.
+pub fn is_missing(chain: &Chain, name: &str) -> bool
+    ensures { result ≡ is_none (its_sources chain.now name.now) }
+{
+    match chain.indices.get(name) {
+        Some(index) => chain.templates.len() <= *index,
+        None => true,
+    }
 }
 
 /// Returns whether the template at `index` is a library. An index out of range stands for a

@@ -1,5 +1,4 @@
 pub mod RefusalsPropagate
-pub mod SubstringSearch
 pub mod AppendSteps
 pub mod MembershipTests
 pub mod Numbers

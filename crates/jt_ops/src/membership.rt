@@ -63,7 +63,7 @@ fn is_text_among(text: &str, values: &[Value]) -> bool
     values.iter().any(|value| equals_text(text, value))
 }
 
-#[tactic(auto, using(crate::proofs::SubstringSearch::is_found))]
+#[tactic(auto, using(jt_op_semantics::proofs::SubstringSearch::is_found))]
 /// Returns whether a text occurs in another one.
 fn occurs_in(part: &str, whole: &str) -> bool
     ensures { result ≡ membership.occurs_in part.now whole.now }

@@ -1,9 +1,8 @@
 -- Trees with one more statement or branch.
-use Rattle.std.proofs.Common.{◌≡◌, ℕ, List, [], ◌∷◌, ◌++◌, refl, ap, Vec, Global}
+use Rattle.std.proofs.Common.{◌≡◌, List, [], ◌∷◌, ◌++◌, refl, ap}
 use Rattle.jt_ast.specs.Statements as trees
 use Rattle.jt_ast.specs.ExpressionView.{expr_view}
 use Rattle.jt_ast.specs.StatementView.{stmt_view, body_view, branches_view}
-use Rattle.jt_ast.specs.declared.expression.Expr.{Expr}
 use Rattle.jt_ast.specs.declared.statement.Stmt.{Stmt}
 use Rattle.jt_ast.proofs.RemainingParts.{Branch}
 use Rattle.jt_parse.specs.internal.Reading.{then_one, then_branch}

@@ -18,16 +18,16 @@ use Rattle.jt_expr.specs.Cursor.{TakesSign}
 use Rattle.jt_ast.specs.Statements.{Parameter, FilterCall, condition_levels}
 use Rattle.jt_parse.specs.Tags.{IsName, IsValue, a_value, IsFilterCall, a_filter, literal_token, IsParameter, plain}
 use Rattle.jt_parse.specs.Tags.{with_default, Condition, no_condition, a_condition, Context, unsaid, with_context}
-use Rattle.jt_parse.specs.Tags.{without_context, missing_words, IsImported, itself, renamed, without_words}
-use Rattle.jt_parse.specs.internal.Readers.{TakesWord, Anything, NoToken, NoSign, NoWord, IsText, IsLiteral, IsDefault}
-use Rattle.jt_parse.specs.internal.Readers.{IsGiven, IsWithout, GivesPair, value_levels, one_filter_call_levels}
+use Rattle.jt_parse.specs.Tags.{without_context, missing_words, IsImported, itself, renamed}
+use Rattle.jt_parse.specs.internal.Readers.{Anything, NoToken, NoSign, NoWord, IsText, IsLiteral, IsDefault}
+use Rattle.jt_parse.specs.internal.Readers.{IsGiven, GivesPair, value_levels, one_filter_call_levels}
 use Rattle.jt_parse.specs.internal.Readers.{ReadsFlat}
 use Rattle.jt_parse.specs.internal.HeadView.{value_view, imported_view}
 use Rattle.jt_ast.specs.StatementView.{filter_call_view, parameter_view}
 use Rattle.jt_ast.specs.declared.statement.FilterCall.{FilterCall as Filter}
 use Rattle.jt_ast.specs.declared.statement.Parameter.{Parameter as Declared}
 use Rattle.jt_parse.proofs.TokenPrefixes.{tokens_tail, behind, same_text, no_tokens, Whole, last_part, part_refused}
-use Rattle.jt_parse.proofs.TokenPrefixes.{sign_refused, word_refused, NameRead, leads_name, name_leads, behind_name}
+use Rattle.jt_parse.proofs.TokenPrefixes.{sign_refused, NameRead, leads_name, name_leads, behind_name}
 
 -- ---- a = e
 

@@ -10,7 +10,7 @@ use Rattle.jt_expr.specs.declared.error.ExprError.TheVariants as e
 use Rattle.jt_expr.specs.Grammar.{Tokens, word, is_reserved}
 use Rattle.jt_expr.specs.Front.{sees, says, past}
 use Rattle.jt_expr.specs.Promises.{Leads, Reads}
-use Rattle.jt_expr.specs.Cursor.{TakesSign, TakesAName}
+use Rattle.jt_expr.specs.Cursor.{TakesSign}
 use Rattle.jt_ast.specs.Expressions.{Text}
 use Rattle.jt_parse.specs.Tags.{IsName, a_name}
 use Rattle.jt_parse.specs.internal.Readers.{TakesWord, Anything, ReadsFlat}

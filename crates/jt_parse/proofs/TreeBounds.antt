@@ -283,13 +283,7 @@ module _ (laws : ExpressionLaws) where
 
   kept_short : (o : Options) (left right : Neighbour) (d : List ℕ)
       → length (encodes (kept.kept o left right d)) ≤ length (encodes d)
-  kept_short o left right d =
-      omega (
-        arith,
-        end_short d (after_left o left d) (left_end o left d),
-        front_short (length (after_left o left d) - length (kept.removed_right o (kept.is_start left) right d))
-            (after_left o left d),
-      )
+  kept_short o left right d = grind (arith, end_short, left_end, front_short)
 
   same_bytes : (d : List ℕ) → length (encode_utf8_all d) ≡ length (encodes d)
   same_bytes d = refl

@@ -3,7 +3,7 @@ use Rattle.std.proofs.Common.{◌≡◌, ◌≢◌, ℕ, ◌-◌, ◌<◌, ◌�
 use Rattle.std.proofs.Common.{take, refl, sym, ap, subst, ◌∙◌, arith, append_assoc, append-nil, length-append, IsUtf8}
 use Rattle.std.proofs.Common.{⊎_elim}
 use Rattle.std.proofs.lemmas.Bool.{cases_lt, and_parts}
-use Rattle.std.proofs.lemmas.Str.{encodes-chars, encodes-append, length-le-encodes, chars-append, chars-nil}
+use Rattle.std.proofs.lemmas.Str.{encodes-chars, encodes-append, length-le-encodes, chars-append}
 use Rattle.std.specs.Str.{chars}
 use lib.Utf8.{encodes}
 use Rattle.jt_scan.specs.Cut.{Text, EndsWith, is_space, after_space}
@@ -148,30 +148,12 @@ longer : (a b : Text) → EndsWith a b → length b ≤ length a
 longer a b e = omega (arith, ap length e.1, length-append e.0 b)
 
 strictly : (a b : Text) → EndsWith a b → length b < length a → length (encodes b) < length (encodes a)
-strictly a b e lt =
-    omega (
-      arith,
-      ap length (ap encodes e.1 ∙ encodes-append e.0 b),
-      length-append (encodes e.0) (encodes b),
-      length-le-encodes e.0,
-      ap length e.1,
-      length-append e.0 b,
-    )
+strictly a b e lt = grind (arith, encodes-append, length-append, length-le-encodes)
 
 -- A suffix with fewer bytes than another one is a suffix of it.
 shorter_end : (t a b : List ℕ) → IsUtf8 a → IsUtf8 b → EndsWith (chars t) (chars a) → EndsWith (chars t) (chars b)
     → length b < length a → EndsWith (chars a) (chars b)
-shorter_end t a b u v e f lt =
-    ⊎_elim
-    (λ (gt : length (chars a) < length (chars b)).
-    absurd (omega (
-      arith,
-      bytes_of a u,
-      bytes_of b v,
-      strictly (chars b) (chars a) (end_of_end f.0 (chars b) e.0 (chars a) (sym f.1 ∙ e.1) (omega arith)) gt,
-    )))
-    (λ (le : length (chars b) ≤ length (chars a)). end_of_end e.0 (chars a) f.0 (chars b) (sym e.1 ∙ f.1) le)
-    (cases_lt (length (chars a)) (length (chars b)))
+shorter_end t a b u v e f lt = grind (arith, bytes_of, strictly, end_of_end, cases_lt)
 
 take_front : (x y : Text) → take (length (x ++ y) - length y) (x ++ y) ≡ x
 take_front x y =
@@ -232,6 +214,4 @@ unturned r b e h = sym e ∙ h
 pub kept_of : (o : Options) (left right : Neighbour) (d front end : Text) (start : Bool) → start ≡ is_start left
     → front ≡ after_left o left d → end ≡ removed_right o start right d
     → without_end (length end) front ≡ kept o left right d
-kept_of o left right d front end start s a r =
-    ap (λ z. without_end (length z) front) (r ∙ ap (λ b. removed_right o b right d) s)
-    ∙ ap (without_end (length (removed_right o (is_start left) right d))) a
+kept_of o left right d front end start s a r = cc

@@ -81,9 +81,7 @@ count_one c ys = search (arith, rules, cases_lt, encode_ascii, nat_tests, count_
 
 count_all : (cs : Text) → count_by is_lf (encodes cs) ≡ count_by is_lf cs
 count_all [] = refl
-count_all (c ∷ cs) =
-    count_one c (encodes cs) ∙ count_cons c (encodes cs) ∙ ap (λ n. cond (is_lf c) 1 0 + n) (count_all cs)
-    ∙ sym (count_cons c cs)
+count_all (c ∷ cs) = search (arith, rules, count_one, count_cons, count_all cs)
 
 pub count_lines : (t : List ℕ) → IsUtf8 t → count_by is_lf t ≡ count_by is_lf (chars t)
 count_lines t u = ap (count_by is_lf) (sym (encodes-chars t u)) ∙ count_all (chars t)
@@ -95,10 +93,7 @@ pub pair_up : (a b : ℕ) (cs : Text) → a < 128 → b < 128 → begins a b cs 
 pair_up a b cs la lb h = search (arith, rules, and_parts, nat_tests, encode_ascii)
 
 byte_char : (a c : ℕ) (ys : List ℕ) → a < 128 → get_or (encode c ++ ys) 0 0 ≡ a → c ≡ a
-byte_char a c ys l h =
-    char_from_byte (encode c ++ ys) ys c refl (omega (arith, h))
-    (omega (arith, length-append (encode c) ys, length-encode c, (len_utf8_bounds c).0))
-    ∙ h
+byte_char a c ys l h = search (arith, rules, char_from_byte, length-append, length-encode, len_utf8_bounds)
 
 pair_then : (a b : ℕ) (cs : Text) → b < 128 → 0 < b → get_or (encodes cs) 0 0 ≡ b → begins a b (a ∷ cs) ≡ true
 pair_then a0 a1 a2 a3 a4 a5 = search (arith, rules, byte_char, nat_tests)
@@ -111,9 +106,7 @@ pair_down a0 a1 a2 a3 a4 a5 a6 a7 a8 = search (arith, rules, byte_char, encode_a
 
 get_or_behind : (xs ys : List ℕ) (k : ℕ) → get_or (xs ++ ys) (length xs + k) 0 ≡ get_or ys k 0
 get_or_behind [] ys k = ap (λ m. get_or ys m 0) (omega arith)
-get_or_behind (x ∷ xs) ys k =
-    ap (λ m. get_or (x ∷ (xs ++ ys)) m 0) (let e : suc (length xs) + k ≡ suc (length xs + k) = omega arith in e)
-    ∙ get_or_behind xs ys k
+get_or_behind (x ∷ xs) ys k = search (arith, rules, get_or, get_or_behind xs ys k)
 
 -- A test of a text's characters, and the property of its bytes that the test decides.
 pub record IsTested (test : Text → Bool) (P : List ℕ → ℕ → Type 0) : Type 0 where
@@ -174,18 +167,10 @@ abbrev pub PairAt : ℕ → ℕ → List ℕ → ℕ → Type 0
 PairAt a b t k = (get_or t k 0 ≡ a) × (get_or t (k + 1) 0 ≡ b)
 
 pub pair_shift : (a b : ℕ) (xs ys : List ℕ) (k : ℕ) → PairAt a b ys k → PairAt a b (xs ++ ys) (length xs + k)
-pair_shift a b xs ys k p = (
-  get_or_behind xs ys k ∙ p.0,
-  ap (λ m. get_or (xs ++ ys) m 0) (let e : length xs + k + 1 ≡ length xs + (k + 1) = omega arith in e)
-      ∙ get_or_behind xs ys (k + 1) ∙ p.1,
-)
+pair_shift a b xs ys k p = search (arith, rules, get_or_behind, get_or)
 
 pub pair_back : (a b : ℕ) (xs ys : List ℕ) → PairAt a b (xs ++ ys) (length xs) → PairAt a b ys 0
-pair_back a b xs ys p = (
-  sym (get_or_behind xs ys 0)
-      ∙ ap (λ m. get_or (xs ++ ys) m 0) (let e : length xs + 0 ≡ length xs = omega arith in e) ∙ p.0,
-  sym (get_or_behind xs ys 1) ∙ p.1,
-)
+pair_back a b xs ys p = search (arith, rules, get_or_behind, get_or)
 
 pub ends_comment_tested : IsTested ends_comment (PairAt 35 125)
 ends_comment_tested = record {
@@ -231,11 +216,7 @@ pub split_by : (test : Text → Bool) (P : List ℕ → ℕ → Type 0) → IsTe
     → n ≡ unwrap_or r (length t) → x ≡ slice_range t 0 n → y ≡ drop n t → IsUtf8 t → IsUtf8 x → IsUtf8 y
     → clear_run test (chars t) ≡ (chars x, chars y)
 split_by test P it t b x y None n m same first le ge is e f u v w =
-    let whole : x ≡ t = e ∙ front_is t n ∙ (rw is (take-length t)) in
-    let none : y ≡ [] = f ∙ (rw is (drop-length t)) in
-    let at : IsFirst (P t) 0 m None = subst (λ z. IsFirst (P z) 0 m None) same first in
-    split_none test P it t u (λ k below p. at k (omega arith) (omega arith) p)
-    ∙ ap₂ (λ (a c : List ℕ). (chars a, c)) (sym whole) (sym (ap chars none ∙ chars-nil))
+    search (arith, rules, front_is, take-length, drop-length, split_none, chars-nil)
 split_by test P it t b x y (Some k) n m same first le ge is e f u v w =
     let at : IsFirst (P t) 0 m (Some k) = subst (λ z. IsFirst (P z) 0 m (Some k)) same first in
     let front : x ≡ take n t = e ∙ front_is t n in

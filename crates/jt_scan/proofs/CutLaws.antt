@@ -45,10 +45,7 @@ opens_none x h = none (begins 123 123 x) (begins 123 37 x) (begins 123 35 x) h
 tag_found : {k : TagKind} {ts : List Token} {mark : Mark} (x : Text) {rest : Text}
     → Inside k 0 ts mark (behind_mark x) rest → (n : ℕ) → is_raw k ts ≡ false
     → tag_at k n x ≡ Ok (tag k (marks (first_mark x) mark) n ts, rest)
-tag_found {k} {ts} {mark} x {rest} i n r =
-    ap (λ o. o >>= λ p z. tag_of k n (marks (first_mark x) p.1) p.0 z)
-    (inside_found i n (length (behind_mark x) + 1) (omega arith))
-    ∙ (rw r refl)
+tag_found {k} {ts} {mark} x {rest} i n r = search (arith, rules, inside_found)
 
 endraw_stops : (y : Text) (p : Marks × Text) → endraw_at y ≡ Some p → Stops ends_raw y
 endraw_stops [] p e = tt
@@ -59,10 +56,7 @@ raw_found : {ts : List Token} {mark : Mark} {ends : Marks} (x d y : Text) {rest 
     → endraw_at y ≡ Some (ends, rest)
     → tag_at Block n x ≡ Ok (raw (marks (first_mark x) mark) d ends, rest)
 unfolding raw_at
-raw_found {ts} {mark} {ends} x d y {rest} i n r h e =
-    ap (λ o. o >>= λ p z. tag_of Block n (marks (first_mark x) p.1) p.0 z)
-    (inside_found i n (length (behind_mark x) + 1) (omega arith))
-    ∙ (rw (r, clear_of ends_raw d y h (endraw_stops y (ends, rest) e)) (rw e refl))
+raw_found {ts} {mark} {ends} x d y {rest} i n r h e = search (arith, rules, inside_found, clear_of, endraw_stops)
 
 pub segment_found : {n : ℕ} {s : Segment} {x rest : Text} → IsSegment n s x rest → segment_at n x ≡ Ok (s, rest)
 unfolding segment_at
@@ -90,8 +84,7 @@ cut_found (no_more e) zero le = absurd (omega arith)
 cut_found (more p c) zero le = absurd (omega arith)
 cut_found {source} {ss} {x} (no_more e) (suc m) le = cut_end source x m e
 cut_found {source} {ss} {x} (more {s} {ss = us} {rest} p c) (suc m) le =
-    cut_more source x rest m s us (omega (arith, (shrinks p).0)) (segment_found p)
-    (cut_found c m (omega (arith, (shrinks p).0)))
+    search (arith, rules, cut_more, shrinks, segment_found, cut_found c m)
 
 -- ---- no other segments are found
 
@@ -224,10 +217,7 @@ raw_refuses n ms x e h =
     by : (d y : Text) → x ≡ d ++ y → NoneBegins ends_raw d y → Stops ends_raw y → (o : Option (Marks × Text))
         → endraw_at y ≡ o → ended_raw n ms d o ≡ Err e → (e ≡ UnclosedRaw n) × NoneBegins ends_raw x []
     by d y w h s (Some p) is q = cc
-    by d y w h s None is q =
-        let f : y ≡ [] = at_end y s is in
-        let g : x ≡ d = w ∙ ap (λ z. d ++ z) f ∙ append-nil d in
-        (sym (err_same q), subst (λ z. NoneBegins ends_raw z []) (sym g) (subst (NoneBegins ends_raw d) f h))
+    by d y w h s None is q = search (arith, rules, at_end, append-nil, err_same)
 
 tag_of_refuses : (k : TagKind) (n : ℕ) (mark : Mark) (ts : List Token) (x u : Text) (e : ScanError)
     → Inside k 0 ts mark (behind_mark x) u → tag_of k n (marks (first_mark x) mark) ts u ≡ Err e
@@ -245,9 +235,7 @@ tag_of_refuses k n mark ts x u e i h =
 tag_refuses : (k : TagKind) (n : ℕ) (x : Text) (e : ScanError) (o : ParseResult Tokens)
     → inside k n (length (behind_mark x) + 1) 0 (behind_mark x) ≡ o
     → (o >>= λ p z. tag_of k n (marks (first_mark x) p.1) p.0 z) ≡ Err e → IsFaulty n e (123 ∷ second k ∷ x)
-tag_refuses k n x e (Ok p) w h =
-    tag_of_refuses k n p.0.1 p.0.0 x p.1 e
-    (inside_says k n (length (behind_mark x) + 1) 0 p.0.0 p.0.1 (behind_mark x) p.1 w) h
+tag_refuses k n x e (Ok p) w h = search (arith, rules, tag_of_refuses, inside_says)
 tag_refuses k n x e (Err d) w h =
     in_tag (inside_refuses k n (length (behind_mark x) + 1) 0 (behind_mark x) e (omega arith)
     (w ∙ ap (λ u. Err u) (err_same h)))

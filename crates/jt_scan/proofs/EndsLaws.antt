@@ -64,11 +64,7 @@ last_from (d ∷ x) c =
 
 pub last_yes : (x : List ℕ) → ends_with_lf x ≡ true → without_last_lf x ≡ take (length x - 1) x
 last_yes [] h = cc
-last_yes (c ∷ x) h =
-    let n : suc (length x) - 1 ≡ length x = omega arith in
-    let is : (get_or (c ∷ x) (length x) 0 == 10) ≡ true =
-    subst (λ m. (get_or (c ∷ x) m 0 == 10) ≡ true) n (and_parts (nat_lt 0 (suc (length x))) _ h).1 in
-    last_from x c ∙ (rw (is, n) refl)
+last_yes (c ∷ x) h = grind (arith, get_or, and_parts, nat_lt, last_from)
 
 pub last_no : (x : List ℕ) → ends_with_lf x ≡ false → without_last_lf x ≡ x
 unfolding without_last_lf

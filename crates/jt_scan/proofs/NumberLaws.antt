@@ -205,9 +205,7 @@ further base n d (c ∷ cs) more h = by (is_digit base c) (c == 95) refl refl cs
     by : (a b : Bool) → is_digit base c ≡ a → (c == 95) ≡ b → (cs : Text) → next_digit base (c ∷ cs) ≡ Some (d, more)
         → (digits_at base n (c ∷ cs) ≡ digits_at base (n * base + d) more) × (d < base)
         × (length more < length (c ∷ cs))
-    by true b e f cs h =
-        let p = got (digit_value c) cs (rw e at h) in
-        (rw e (rw (sym p.0, sym p.1) refl), less (digit_value c) e p.0, omega (arith, ap length p.1))
+    by true b e f cs h = search (arith, rules, got, less)
     by false false e f cs h = let g = rw (e, f) at h in cc
     by false true e f [] h = let g = rw (e, f) at h in cc
     by false true e f (k ∷ ks) h = plain (is_digit base k) refl

@@ -1,10 +1,10 @@
 -- One iteration of the loop over the digits of a number.
-use Rattle.std.proofs.Common.{◌≡◌, ℕ, ◌+◌, ◌*◌, ◌-◌, ◌^◌, ◌<◌, ◌≤◌, ◌==◌, min, true, false, [], ◌∷◌, length, refl, sym}
+use Rattle.std.proofs.Common.{◌≡◌, ℕ, ◌+◌, ◌*◌, ◌-◌, ◌^◌, ◌<◌, ◌≤◌, min, true, false, ◌∷◌, length, refl, sym}
 use Rattle.std.proofs.Common.{ap, subst, ◌∙◌, arith, inl, inr, Some, None, rules}
 use Rattle.std.proofs.lemmas.Bool.{cases_lt}
 use Rattle.std.proofs.Math.Nat.{le-mul_of_pos_right}
-use Rattle.jt_scan.specs.Literals.{Text, digit_value, goes_on, base_of, names_base}
-use Rattle.jt_scan.specs.internal.Scanning.{digits_at, next_digit, based_at, number_at}
+use Rattle.jt_scan.specs.Literals.{Text, goes_on, base_of, names_base}
+use Rattle.jt_scan.specs.internal.Scanning.{digits_at, next_digit, based_at}
 use Rattle.jt_scan.proofs.NumberLaws.{no_further, further, goes_on_none, goes_on_some}
 
 -- The machine number m is v, limited to the greatest one of its type.
@@ -25,9 +25,7 @@ grown_is v m base d n c lt e = elim (cases_lt v (2 ^ 64 - 1)) [
 
     large : 2 ^ 64 - 1 ≤ v → n ≡ min (min ((2 ^ 64 - 1) * base) (2 ^ 64 - 1) + d) (2 ^ 64 - 1)
         → n ≡ min (v * base + d) (2 ^ 64 - 1)
-    large big f =
-        let one : 0 < base = omega arith in
-        omega (arith, f, big, le-mul_of_pos_right v one, le-mul_of_pos_right (2 ^ 64 - 1) one)
+    large big f = search (arith, rules, le-mul_of_pos_right)
 
 -- The digits between the text and the rest have been read.
 abbrev pub IsSum : ℕ → ℕ → Text → ℕ → Text → Type 0

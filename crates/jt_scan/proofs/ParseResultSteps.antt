@@ -1,10 +1,9 @@
 -- Steps of parse results, and runs of characters.
-use Rattle.std.proofs.Common.{◌≡◌, ℕ, ◌&&◌, Bool, true, false, cond, [], ◌∷◌, ◌++◌, drop, refl, ap, sym, ◌∙◌, arith, Ok}
+use Rattle.std.proofs.Common.{◌≡◌, ℕ, Bool, true, false, cond, [], ◌∷◌, ◌++◌, drop, refl, ap, sym, ◌∙◌, arith, Ok}
 use Rattle.std.proofs.Common.{Err, rules}
 use Rattle.std.proofs.lemmas.Bool.Decides.{nat_tests}
 use Rattle.std.proofs.lemmas.Bool.{and_parts}
 use Rattle.unicode_ident.specs.Ident.{is_xid_continue}
-use Rattle.jt_scan.specs.declared.error.ScanError.{ScanError}
 use Rattle.jt_scan.specs.Cut.{Text, AllContinue, NameEnds, NoneBegins, begins}
 use Rattle.jt_scan.specs.internal.Scanning.{ParseResult, ◌>>=◌, front, run, clear_run}
 

@@ -292,11 +292,7 @@ none_behind [] e = inr ([], [], refl, literal.nothing)
 none_behind (c ∷ x) e = inl ([], [], c ∷ x, refl, literal.nothing, refused_by c x (escape c) refl e)
 
 piece_refused : (c : ℕ) (x : Text) → piece_at c x ≡ None → HasBadEscape (c ∷ x) ⊎ EndsOpen (c ∷ x)
-piece_refused c x e =
-    by_test (c == 92) _ _ _ e
-    (λ h k. let same : c ≡ 92 = grind (arith, nat_tests) in
-    subst (λ b. HasBadEscape (b ∷ x) ⊎ EndsOpen (b ∷ x)) (sym same) (none_behind x k))
-    (λ h k. cc)
+piece_refused c x e = grind (arith, by_test, nat_tests, none_behind)
 
 -- If a text does not begin with an octal digit, neither does a prefix of it.
 begins_so : (z w t : Text) → z ≡ w ++ t → NoMore z w

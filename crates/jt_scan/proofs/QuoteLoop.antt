@@ -158,13 +158,7 @@ IsTaken base most start x missing m z =
 
 taken : (base most start missing m : ℕ) (x z : Text) → IsPart base most start x missing m z
     → some_digits base missing z ≡ ([], z) → IsTaken base most start x missing m z
-taken base most start missing m x z p h =
-    let e : some_digits base most x ≡ (p.0, z) = p.3 ∙ ap (joined p.0) h ∙ ap (λ k. (k, z)) (append-nil p.0) in
-    let f : (some_digits base most x).0 ≡ p.0 = ap (λ (q : Text × Text). q.0) e in (
-      omega (arith, p.2, ap length f),
-      p.1 ∙ ap (λ k. min (number_from base start k) (2 ^ 64 - 1)) (sym f),
-      sym (ap (λ (q : Text × Text). q.1) e),
-    )
+taken base most start missing m x z p h = grind (arith, append-nil)
 
 pub part_stops : (base most start missing m : ℕ) (x z : Text) → IsPart base most start x missing m z
     → plain_digit base z ≡ None → IsTaken base most start x missing m z
@@ -181,9 +175,7 @@ small_octal : (d : ℕ) (s : Text) → d ≤ 16 → literal.AllDigits 8 s → le
 small_octal d [] lt a le = omega arith
 small_octal d (b ∷ []) lt a le =
     let one : digit_value b < 8 = less (digit_value b) 8 (digit_value b) a.0 refl in omega arith
-small_octal d (b ∷ c ∷ []) lt a le =
-    let one : digit_value b < 8 = less (digit_value b) 8 (digit_value b) a.0 refl in
-    let two : digit_value c < 8 = less (digit_value c) 8 (digit_value c) a.1.0 refl in omega arith
+small_octal d (b ∷ c ∷ []) lt a le = grind (arith, less)
 small_octal d (b ∷ c ∷ e ∷ s) lt a le = absurd (omega arith)
 
 digit_small : (c : ℕ) → digit_value c ≤ 16

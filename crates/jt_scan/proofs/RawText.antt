@@ -1,5 +1,5 @@
 -- Raw text position by position, and the options of segments.
-use Rattle.std.proofs.Common.{◌≡◌, Bool, true, false, List, [], ◌∷◌, ◌++◌, refl, sym, ap, subst, ◌∙◌, append_assoc}
+use Rattle.std.proofs.Common.{◌≡◌, Bool, true, false, List, [], ◌∷◌, ◌++◌, refl, sym, subst, append_assoc}
 use Rattle.std.proofs.Common.{append-nil, arith, rules}
 use Rattle.jt_scan.specs.Cut.{Text, NoneBegins}
 use Rattle.jt_scan.specs.internal.Scanning.{clear_run}
@@ -24,12 +24,7 @@ none_more test (d ∷ y) c x n h =
 
 pub clear_more : (test : Text → Bool) (source z : Text) (c : _) (x : Text) → IsClearTo test source z → z ≡ c ∷ x
     → test z ≡ false → IsClearTo test source x
-clear_more test source z c x i e h =
-    let n : NoneBegins test i.0 (c ∷ x) = subst (NoneBegins test i.0) e i.2 in (
-      i.0 ++ (c ∷ []),
-      i.1 ∙ ap (λ w. i.0 ++ w) e ∙ sym (append_assoc i.0 (c ∷ []) x),
-      none_more test i.0 c x n (subst (λ w. test w ≡ false) e h),
-    )
+clear_more test source z c x i e h = search (arith, rules, append_assoc, none_more)
 
 pub stops_there : (test : Text → Bool) (x : Text) → test x ≡ true → Stops test x
 stops_there test [] h = tt
@@ -41,9 +36,7 @@ clear_stops test source d x i e s = search (arith, rules, cancel_end, clear_of)
 
 pub clear_whole : (test : Text → Bool) (source x : Text) → IsClearTo test source x → x ≡ []
     → clear_run test source ≡ (source, x)
-clear_whole test source x i e =
-    subst (λ z. IsClearTo test source z → clear_run test source ≡ (source, z)) (sym e)
-    (λ j. clear_stops test source source [] j (sym (append-nil source)) tt) i
+clear_whole test source x i e = search (arith, rules, clear_stops, append-nil)
 
 pub options_more : (o : Options) (ss : List Segment) (s : Segment) → HaveOptions o ss → s.options ≡ o
     → HaveOptions o (ss ++ (s ∷ []))

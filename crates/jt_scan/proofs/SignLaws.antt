@@ -1,6 +1,6 @@
 -- The scanner finds the longest sign at the start of a text, and nothing else.
 use Rattle.std.proofs.Common.{◌≡◌, ℕ, ◌<◌, nat_lt, ◌&&◌, ◌||◌, ◌==◌, Bool, true, false, [], ◌∷◌, ◌++◌, length, Option}
-use Rattle.std.proofs.Common.{Some, None, refl, sym, ap, ap₂, subst, ◌∙◌, arith, cond, rules}
+use Rattle.std.proofs.Common.{Some, None, refl, sym, ap, subst, ◌∙◌, arith, cond, rules}
 use Rattle.std.proofs.lemmas.Bool.Decides.{nat_tests}
 use Rattle.std.specs.Char.{is_ascii_alphabetic}
 use Rattle.std.proofs.lemmas.Bool.{and_parts}
@@ -47,9 +47,7 @@ nothing u e = cc
 
 hit : (c n : ℕ) (t u : Sign) → (c == n) ≡ true → sign_text t ≡ n ∷ [] → ◌≡◌ {A = Option Sign} (Some t) (Some u)
     → sign_text u ≡ c ∷ []
-hit c n t u h w e =
-    let same : t ≡ u = cc in
-    let is : c ≡ n = grind (arith, nat_tests) in sym (ap sign_text same) ∙ w ∙ ap (λ k. k ∷ []) (sym is)
+hit c n t u h w e = search (arith, rules, nat_tests)
 
 one_says : (c : ℕ) (u : Sign) → one_sign c ≡ Some u → sign_text u ≡ c ∷ []
 one_says c u e =
@@ -76,12 +74,7 @@ one_says c u e =
 hit_two : (c d m n : ℕ) (t u : Sign) → (c == m && d == n) ≡ true → sign_text t ≡ m ∷ n ∷ []
     → ((x : Text) → SignEnds t x) → ◌≡◌ {A = Option Sign} (Some t) (Some u)
     → (sign_text u ≡ c ∷ d ∷ []) × ((x : Text) → SignEnds u x)
-hit_two c d m n t u h w a e =
-    let same : t ≡ u = cc in let p = and_parts (c == m) (d == n) h in
-    let is : c ≡ m = grind (arith, nat_tests) in let at : d ≡ n = grind (arith, nat_tests) in (
-      sym (ap sign_text same) ∙ w ∙ ap₂ (λ j k. j ∷ k ∷ []) (sym is) (sym at),
-      subst (λ v. (x : Text) → SignEnds v x) same a,
-    )
+hit_two c d m n t u h w a e = search (arith, rules, and_parts, nat_tests)
 
 ends_Power : (x : Text) → SignEnds s.Power x
 ends_Power [] = tt
@@ -148,11 +141,7 @@ behind_two c d more z r = omega (arith, ap length r)
 
 long : (c d : ℕ) (more : Text) (u : Sign) (z : Text) (o : Option Sign) → two_sign c d ≡ o
     → longest o (one_sign c) more (d ∷ more) ≡ Some (u, z) → FoundSign u (c ∷ d ∷ more) z
-long c d more u z (Some t) w e =
-    let p : (t, more) ≡ (u, z) = cc in
-    let y = two_says c d u (w ∙ ap (λ (q : Sign × Text). Some q.0) p) in
-    let r : more ≡ z = ap (λ (q : Sign × Text). q.1) p in
-    (ap (λ k. c ∷ d ∷ k) r ∙ sym (ap (λ k. k ++ z) y.0), y.1 z, behind_two c d more z r)
+long c d more u z (Some t) w e = search (arith, rules, two_says, behind_two)
 long c d more u z None w e =
     let a = alone_says c (d ∷ more) u z (one_sign c) refl e in
     short c (d ∷ more) u z (shut c d u (one_says c u a.0) w) a.0 a.1

@@ -48,9 +48,7 @@ pub closer_found : (k : TagKind) (mark : Mark) (rest : Text) → may_close k mar
 closer_found k mark rest h = search (arith, rules)
 
 some_parts : {a b : Mark} {u v : Text} → ◌≡◌ {A = Option (Mark × Text)} (Some (a, u)) (Some (b, v)) → (a ≡ b) × (u ≡ v)
-some_parts {a} {b} {u} {v} e =
-    let p : ◌≡◌ {A = Mark × Text} (a, u) (b, v) = cc in
-    (ap (λ (q : Mark × Text). q.0) p, ap (λ (q : Mark × Text). q.1) p)
+some_parts {a} {b} {u} {v} e = search (arith, rules)
 
 abbrev pub IsCloser : TagKind → Mark → Text → Text → Type 0
 IsCloser k mark x rest = (may_close k mark ≡ true) × (x ≡ closing_text k mark rest)

@@ -25,9 +25,7 @@ digit_no_space c h =
     let low : 48 ≤ c = (digit_range c h).0 in let high : c ≤ 57 = (digit_range c h).1 in grind (arith, nat_tests)
 
 pub digit_no_name : (c : ℕ) → is_digit 10 c ≡ true → starts_name c ≡ false
-digit_no_name c h =
-    let low : 48 ≤ c = (digit_range c h).0 in let high : c ≤ 57 = (digit_range c h).1 in
-    no_start c (omega arith) (grind (arith, nat_tests))
+digit_no_name c h = search (arith, rules, digit_range, no_start, nat_tests)
 
 pub below_ten : (r c : ℕ) → r ≡ digit_value c → r < 10 → is_digit 10 c ≡ true
 below_ten r c e h = subst (λ k. nat_lt k 10 ≡ true) e (yes_below r h)
@@ -49,9 +47,7 @@ quote_no_space c h =
     let low : 34 ≤ c = (quote_is c h).0 in let high : c ≤ 39 = (quote_is c h).1 in grind (arith, nat_tests)
 
 quote_no_name : (c : ℕ) → is_quote c ≡ true → starts_name c ≡ false
-quote_no_name c h =
-    let low : 34 ≤ c = (quote_is c h).0 in let high : c ≤ 39 = (quote_is c h).1 in
-    no_start c (omega arith) (grind (arith, nat_tests))
+quote_no_name c h = search (arith, rules, quote_is, no_start, nat_tests)
 
 quote_no_digit : (c : ℕ) → is_quote c ≡ true → is_digit 10 c ≡ false
 quote_no_digit c h = by (is_digit 10 c) refl
@@ -96,18 +92,12 @@ in_range : (line n : ℕ) (rest : Text) → n ≤ max_number → numbered line (
 in_range line n rest le = let e : nat_lt max_number n ≡ false = grind (arith, nat_tests) in rw e refl
 
 meant_found : (line : ℕ) (x v rest : Text) → pieces 0 x ≡ (v, true) → meant line (x, rest) ≡ Ok (text v, rest)
-meant_found line x v rest h =
-    let f : (pieces 0 x).1 ≡ true = ap (λ (q : Text × Bool). q.1) h in
-    let g : (pieces 0 x).0 ≡ v = ap (λ (q : Text × Bool). q.0) h in
-    rw f (ap (λ k. Ok (text k, rest)) g)
+meant_found line x v rest h = search (arith, rules)
 
 pub token_found : (line : ℕ) {t : Token} {s rest : Text} → Spelled t s rest → token_at line (s ++ rest) ≡ Ok (t, rest)
 unfolding token_at
 token_found line (a_name {c} {x} {rest} h a w) = rw (h, run_of x rest a w) refl
-token_found line (a_number {n} {s} {rest} m le) =
-    let f = number_found m in
-    token_numbered line f.0 (s ++ rest) (f.1 ++ rest) (ap (λ y. y ++ rest) f.2) f.3 ∙ ap (numbered line) f.4
-    ∙ in_range line n rest le
+token_found line (a_number {n} {s} {rest} m le) = search (arith, rules, number_found, token_numbered, in_range)
 token_found line (a_text {quote} {x} {v} {rest} h e m) =
     token_quoted line quote (quote ∷ ((x ++ (quote ∷ [])) ++ rest)) ((x ++ (quote ∷ [])) ++ rest) refl h ∙
     ap (λ y. quoted line (enclosed_at quote false y)) (append_assoc x (quote ∷ []) rest)

@@ -85,10 +85,8 @@ pub shrinks : {n : ℕ} {s : Segment} {x rest : Text} → IsSegment n s x rest
 shrinks (some_data {d} {rest} n e) = (omega (arith, length-append d rest), omega (arith, length-append d rest))
 shrinks (a_tag {x} i r) =
     (omega (arith, inside_weighs i, behind_short x), omega (arith, inside_weighs i, behind_short x))
-shrinks (a_raw {ends} {x} {d} {rest} y i r h e) = (
-  omega (arith, inside_weighs i, behind_short x, length-append d y, endraw_short y ends rest e),
-  omega (arith, inside_weighs i, behind_short x, length-append d y, endraw_short y ends rest e),
-)
+shrinks (a_raw {ends} {x} {d} {rest} y i r h e) =
+    search (arith, rules, inside_weighs, behind_short, length-append, endraw_short)
 shrinks (a_comment {x} {rest} n) =
     (omega (arith, length-append x (35 ∷ 125 ∷ rest)), omega (arith, length-append x (35 ∷ 125 ∷ rest)))
 

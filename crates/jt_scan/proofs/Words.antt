@@ -1,5 +1,5 @@
 -- Texts and their characters.
-use Rattle.std.proofs.Common.{◌≡◌, ℕ, zero, suc, ◌<◌, Bool, true, false, ◌&&◌, List, [], ◌∷◌, slice_index, refl, sym}
+use Rattle.std.proofs.Common.{◌≡◌, ℕ, zero, suc, ◌<◌, Bool, true, false, List, [], ◌∷◌, slice_index, refl, sym}
 use Rattle.std.proofs.Common.{nat_eq, length, ap, ◌∙◌, arith, chars, bytes_eq, encode_utf8_all, IsUtf8, if◌then◌else◌}
 use Rattle.std.specs.Bool.{one_answer}
 use lib.Utf8.{scalars}

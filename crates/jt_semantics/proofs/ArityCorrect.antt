@@ -11,7 +11,7 @@ use Rattle.jt_chains.specs.Chain.{Namespace, a_chain, a_library, same_namespace,
 use Rattle.jt_chains.specs.Chain.{blocks_of, blocks_in, blocks_under, all_bodies, bodies, from_given, MacroBody}
 use Rattle.jt_chains.specs.Chain.{macros_in, macros}
 use Rattle.jt_rules.specs.CompileEnv.{CompileEnv}
-use Rattle.jt_chains.specs.Uses.{keywords, set_in}
+use Rattle.jt_chains.specs.Uses.{set_in}
 use Rattle.jt_chains.specs.Includes.{needs_by, needs_in, needs_under, InOrder}
 use Rattle.jt_chains.specs.Rules.{is_empty, lacks_super, Reaches, KeepsRules}
 use Rattle.jt_chains.specs.Supers.{calls_super}
@@ -24,8 +24,8 @@ use Rattle.jt_ir.specs.Pool.{Constant}
 use Rattle.jt_semantics.specs.Resolve.{StaticEnv, top_senv, place, bound_all, next_given, followed, resolved_stmt}
 use Rattle.jt_semantics.specs.Resolve.{resolved_body, resolved_sets, resolved_chain, macro_routine, body_routine}
 use Rattle.jt_semantics.specs.Programs.{body_routines, entry_routines, chain_routines}
-use Rattle.jt_rules.specs.UseSites.{Enclosing, at, binds, declares, bound, parameter_names, outside, expr_use_sites}
-use Rattle.jt_rules.specs.UseSites.{pair_use_sites, condition_use_sites, filter_call_use_sites, stmt_use_sites}
+use Rattle.jt_rules.specs.UseSites.{Enclosing, at, binds, outside}
+use Rattle.jt_rules.specs.UseSites.{filter_call_use_sites, stmt_use_sites}
 use Rattle.jt_rules.specs.UseSites.{body_use_sites, branch_use_sites, chain_use_sites}
 use Rattle.jt_semantics.proofs.CallInvariant.{Included, Tail}
 use Rattle.jt_semantics.proofs.EnvLookup.{same_is, namespace_is, no_both}
@@ -94,24 +94,8 @@ module _ (cenv : CompileEnv) (order : List Namespace) (h : Namespace) where
   macros_fine : (t : Text) (c : Body) (w : Enclosing) → Fine w t cenv.escaping c → Every FineMacro (macros_in t c)
   macros_fine t end w f = tt
   macros_fine t (stmt (macro line x ps body) rest) w f =
-      let declared = at w (declares x ps) ++ bound (parameter_names ps) w in
-      let here = front cenv h (declared ++ body_use_sites body outside) (body_use_sites rest w) f.0 in
-      search (
-        arith,
-        rules,
-        back cenv h declared (body_use_sites body outside) here,
-        each_front,
-        macros_fine t rest w,
-        back cenv h (declared ++ body_use_sites body outside) (body_use_sites rest w) f.0,
-        each_back,
-      )
-  macros_fine t (stmt s rest) w f =
-      macros_fine t rest w (
-        back cenv h (stmt_use_sites s w) (body_use_sites rest w) f.0,
-        f.1.1,
-        each_back IsBodied (blocks_of t s cenv.escaping) (blocks_in t rest cenv.escaping) f.2,
-        each_back IsSourced (needs_by false s) (needs_in false rest) f.3,
-      )
+      search (arith, rules, front, back, each_front, each_back, macros_fine t rest w)
+  macros_fine t (stmt s rest) w f = search (arith, rules, back, each_back, macros_fine t rest w)
 
   abbrev FineBlock : BlockBody → Type 0
   FineBlock b = Fine in_block b.template b.escaping b.body
@@ -127,43 +111,16 @@ module _ (cenv : CompileEnv) (order : List Namespace) (h : Namespace) where
       stmt_fine (block line x scoped required body) on w e k d m =
           ((e, k, d.1, m), body_fine body on in_block e k d.1 m)
       stmt_fine (choose bs other) on w e k d m =
-          search (
-            arith,
-            rules,
-            every_append,
-            branches_fine bs on w,
-            front cenv h (branch_use_sites bs w) (body_use_sites other w) e,
-            each_front,
-            body_fine other on w,
-            back cenv h (branch_use_sites bs w) (body_use_sites other w) e,
-            each_back,
-          )
+          grind (arith, every_append, front, each_front, back, each_back, branches_fine bs on w, body_fine other on w)
       stmt_fine (for_each line xs a c body other) on w e k d m =
-          let inside : Enclosing = record w { in_loop = true } in
-          let bodies = body_use_sites body inside ++ body_use_sites other w in
-          let tests = condition_use_sites c w ++ bodies in
-          let rest = back cenv h (condition_use_sites c w) bodies
-          (back cenv h (bound xs w) tests (back cenv h (expr_use_sites a w) (bound xs w ++ tests) e)) in
-          search (
-            arith,
-            rules,
-            every_append,
-            body_fine body on inside (front cenv h (body_use_sites body inside) (body_use_sites other w) rest),
-            each_front,
-            body_fine other on w (back cenv h (body_use_sites body inside) (body_use_sites other w) rest),
-            each_back,
-          )
+          grind (arith, back, every_append, front, each_front, each_back, body_fine body on, body_fine other on w)
       stmt_fine (set_block line x body) on w e k d m =
           body_fine body on w (back cenv h (at w (binds x)) (body_use_sites body w) e) k d m
-      stmt_fine (with_values line ps body) on w e k d m =
-          body_fine body on w (back cenv h (bound (keywords ps) w) (body_use_sites body w)
-          (back cenv h (pair_use_sites ps w) (bound (keywords ps) w ++ body_use_sites body w) e)) k.1 d m
+      stmt_fine (with_values line ps body) on w e k d m = search (arith, rules, back, body_fine body on w)
       stmt_fine (filter_block line fs body) on w e k d m =
           body_fine body on w (back cenv h (filter_call_use_sites fs w) (body_use_sites body w) e) k.1 d m
       stmt_fine (autoescape line now body) on w e k d m = body_fine body now w e k d m
-      stmt_fine (macro line x ps body) on w e k d m =
-          body_fine body on outside (back cenv h (at w (declares x ps) ++ bound (parameter_names ps) w)
-          (body_use_sites body outside) e) k d m
+      stmt_fine (macro line x ps body) on w e k d m = search (arith, rules, back, body_fine body on)
       stmt_fine a0 on w e k d m = tt
 
       body_fine : (c : Body) (on : Bool) (w : Enclosing) → AllKeep cenv h (body_use_sites c w) → BodyKnown cenv.filters
@@ -171,34 +128,14 @@ module _ (cenv : CompileEnv) (order : List Namespace) (h : Namespace) where
           → Bodied (blocks_in t c on) → Sourced (needs_in false c) → AllFine (blocks_in t c on)
       body_fine end on w e k d m = tt
       body_fine (stmt s rest) on w e k d m =
-          search (
-            arith,
-            rules,
-            every_append,
-            stmt_fine s on w,
-            front cenv h (stmt_use_sites s w) (body_use_sites rest w) e,
-            each_front,
-            body_fine rest on w,
-            back cenv h (stmt_use_sites s w) (body_use_sites rest w) e,
-            each_back,
-          )
+          search (arith, rules, every_append, front, each_front, back, each_back, stmt_fine s on w, body_fine rest on w)
 
       branches_fine : (bs : Branches) (on : Bool) (w : Enclosing) → AllKeep cenv h (branch_use_sites bs w)
           → BranchesKnown cenv.filters bs → Bodied (blocks_under t bs on) → Sourced (needs_under false bs)
           → AllFine (blocks_under t bs on)
       branches_fine no_branches on w e k d m = tt
       branches_fine (branch line c body rest) on w e k d m =
-          let here = expr_use_sites c w ++ body_use_sites body w in
-          let first = front cenv h here (branch_use_sites rest w) e in
-          search (
-            arith,
-            rules,
-            every_append,
-            body_fine body on w (back cenv h (expr_use_sites c w) (body_use_sites body w) first),
-            each_front,
-            branches_fine rest on w (back cenv h here (branch_use_sites rest w) e),
-            each_back,
-          )
+          grind (arith, front, every_append, back, each_front, each_back, body_fine body on w, branches_fine rest on w)
 
   abbrev FineTemplate : Template → Type 0
   FineTemplate t = Fine outside t.name cenv.escaping t.body
@@ -208,16 +145,7 @@ module _ (cenv : CompileEnv) (order : List Namespace) (h : Namespace) where
       → Every (λ t. Bodied (blocks_in t.name t.body cenv.escaping)) ts
       → Sourced (flat_map (λ t. needs_in false t.body) ts) → Every FineTemplate ts
   templates_fine [] e k d m = tt
-  templates_fine (t ∷ ts) e k d m =
-      let others = flat_map (λ t. body_use_sites t.body outside) ts in
-      search (
-        arith,
-        rules,
-        front cenv h (body_use_sites t.body outside) others e,
-        each_front,
-        templates_fine ts (back cenv h (body_use_sites t.body outside) others e),
-        each_back,
-      )
+  templates_fine (t ∷ ts) e k d m = search (arith, rules, front, each_front, back, each_back, templates_fine ts)
 
   all_macros_fine : (ts : List Template) → Every FineTemplate ts
       → Every FineMacro (flat_map (λ t. macros_in t.name t.body) ts)

@@ -1,12 +1,12 @@
 -- If the rules hold and each test and filter is known, each routine of a program gets the number of
 -- values that it takes.
-use Rattle.std.proofs.Common.{◌≡◌, ℕ, suc, Bool, true, false, if◌then◌else◌, List, [], ◌∷◌, ◌++◌, length, Option, Some}
-use Rattle.std.proofs.Common.{None, refl, sym, ap, ◌∙◌, subst, arith, rules}
+use Rattle.std.proofs.Common.{◌≡◌, ℕ, suc, Bool, true, false, List, [], ◌∷◌, ◌++◌, length, Option, Some}
+use Rattle.std.proofs.Common.{None, sym, ap, ◌∙◌, subst, arith, rules}
 use Rattle.std.specs.Option.{is_none}
 use Rattle.jt_ast.specs.Expressions as written
 use Rattle.jt_ast.specs.Expressions.{Expr, Text}
 use Rattle.jt_value.specs.Place.{Place}
-use Rattle.jt_chains.specs.Uses.{keywords, set_in}
+use Rattle.jt_chains.specs.Uses.{set_in}
 use Rattle.jt_ast.specs.Statements.{FilterCall, Stmt, data_of, print, choose, for_each, set, set_block, with_values}
 use Rattle.jt_ast.specs.Statements.{filter_block, autoescape, macro, include, import_as, import_from, extends, block}
 use Rattle.jt_ast.specs.Statements.{Body, end, stmt, Branches, no_branches, branch}
@@ -18,12 +18,12 @@ use Rattle.jt_ir.specs.Slots.{SlotExpr, SBody}
 use Rattle.jt_ir.specs.Size.{row_count}
 use Rattle.jt_ir.specs.Takes.{HasParameters, ConditionTakes, BodyTakes}
 use Rattle.jt_rules.specs.Known.{ConditionKnown, FilterCallKnown, StmtKnown, BodyKnown, BranchesKnown}
-use Rattle.jt_semantics.specs.Layout.{Table, slot_in, block_parameters, globals, numbered_of}
+use Rattle.jt_semantics.specs.Layout.{Table, slot_in, block_parameters, numbered_of}
 use Rattle.jt_ir.specs.Pool.{Constant, known}
-use Rattle.jt_semantics.specs.Resolve.{followed, reads, handed_on, StaticEnv, place, grown, bound_all, copied, scoped}
+use Rattle.jt_semantics.specs.Resolve.{followed, reads, handed_on, StaticEnv, place, bound_all, copied, scoped}
 use Rattle.jt_semantics.specs.Resolve.{first_body, resolved_condition, resolved_filters, resolved_values, placed_body}
 use Rattle.jt_semantics.specs.Resolve.{resolved_stmt, resolved_body, resolved_choice}
-use Rattle.jt_rules.specs.UseSites.{Enclosing, at, binds, bound, expr_use_sites, row_use_sites, pair_use_sites}
+use Rattle.jt_rules.specs.UseSites.{Enclosing, bound, expr_use_sites, row_use_sites, pair_use_sites}
 use Rattle.jt_rules.specs.UseSites.{condition_use_sites, filter_call_use_sites, stmt_use_sites, body_use_sites}
 use Rattle.jt_rules.specs.UseSites.{branch_use_sites}
 use Rattle.jt_semantics.proofs.CallInvariant.{Included}
@@ -101,12 +101,8 @@ module _ (cenv : CompileEnv) (order : List Namespace) where
       → BTakes w.in_loop behind
       → BTakes w.in_loop (resolved_values cenv order ps sp line behind)
   values_take w written.no_pairs sp line behind e t h k r = r
-  values_take w (written.pair x a ps) sp line behind e t h k r = (
-    expr_takes cenv order w a sp e t
-        (front cenv sp.namespace (expr_use_sites a w) (pair_use_sites ps w) h) k.0,
-    values_take w ps (grown sp) line behind e t
-        (back cenv sp.namespace (expr_use_sites a w) (pair_use_sites ps w) h) k.1 r,
-  )
+  values_take w (written.pair x a ps) sp line behind e t h k r =
+      search (arith, rules, expr_takes, front, back, values_take w ps)
 
   condition_takes : (w : Enclosing) (c : Option Expr) (sp : StaticEnv) → Stands cenv order sp.namespace
       → PartTail cenv order w.in_block sp.namespace sp.part → AllKeep cenv sp.namespace (condition_use_sites c w)
@@ -180,34 +176,11 @@ module _ (cenv : CompileEnv) (order : List Namespace) where
         )
     stmt_takes (set line xs a) sp w e t h k n d =
         (expr_takes cenv order w a sp e t (front cenv sp.namespace (expr_use_sites a w) (bound xs w) h) k, tt)
-    stmt_takes (set_block line x body) sp w e t h k n d = (
-      copied_takes w.in_loop (place sp 1) sp.table sp.free (set_in body)
-          (resolved_body cenv order body (bound_all (set_in body) sp))
-          (body_serves body (bound_all (set_in body) sp) w e t
-          (back cenv sp.namespace (at w (binds x)) (body_use_sites body w) h) k n d),
-      tt,
-    )
+    stmt_takes (set_block line x body) sp w e t h k n d = search (arith, rules, copied_takes, back, body_serves body)
     stmt_takes (with_values line ps body) sp w e t h k n d =
-        let rest = back cenv sp.namespace (pair_use_sites ps w) (bound (keywords ps) w ++ body_use_sites body w) h in
-        search (
-          arith,
-          rules,
-          values_take,
-          front cenv sp.namespace (pair_use_sites ps w) (bound (keywords ps) w ++ body_use_sites body w) h,
-          copied_takes,
-          body_serves body,
-          back cenv sp.namespace (bound (keywords ps) w) (body_use_sites body w) rest,
-        )
+        search (arith, rules, back, values_take, front, copied_takes, body_serves body)
     stmt_takes (filter_block line fs body) sp w e t h k n d =
-        search (
-          arith,
-          rules,
-          copied_takes,
-          body_serves body (bound_all (set_in body) (grown sp)) w e t,
-          back cenv sp.namespace (filter_call_use_sites fs w) (body_use_sites body w) h,
-          filters_take,
-          front cenv sp.namespace (filter_call_use_sites fs w) (body_use_sites body w) h,
-        )
+        search (arith, rules, copied_takes, back, filters_take, front, body_serves body)
     stmt_takes (autoescape line on body) sp w e t h k n d = search (arith, rules, copied_takes, body_serves body)
     stmt_takes (macro line x ps body) sp w e t h k n d = tt
     stmt_takes (include line x ignore_missing with_context) sp w e t h k n d =
@@ -215,9 +188,7 @@ module _ (cenv : CompileEnv) (order : List Namespace) where
     stmt_takes (import_as line x new) sp w e t h k n d = tt
     stmt_takes (import_from line x news) sp w e t h k n d = tt
     stmt_takes (extends line x) sp w e t h k n d = tt
-    stmt_takes (block line x scoped required body) sp w e t h k n d =
-        placed_takes w.in_loop sp x (if scoped then sp.table else globals cenv order sp.namespace)
-        (numbered_of cenv sp.namespace x) e d.0 refl
+    stmt_takes (block line x scoped required body) sp w e t h k n d = search (arith, rules, placed_takes)
 
     pub body_serves : (c : Body) (sp : StaticEnv) (w : Enclosing) → Stands cenv order sp.namespace
         → PartTail cenv order w.in_block sp.namespace sp.part → AllKeep cenv sp.namespace (body_use_sites c w)

@@ -7,7 +7,7 @@ use Rattle.std.specs.Prelude.{◌⊎◌, not, ◌||◌, nat_lt, max}
 use Rattle.std.specs.Option.{is_some}
 use Rattle.std.proofs.lemmas.Bool.Decides.{nat_tests}
 use Rattle.std.proofs.lemmas.Bool.{true_from_ne_false}
-use mathlib.Core.Logic.{inl, inr}
+use mathlib.Core.Logic.{inl}
 use Rattle.jt_ids.specs.declared.op_id.OpId.TheVariants as op
 use Rattle.jt_ids.specs.declared.test_id.TestId.{TestId}
 use Rattle.jt_ids.specs.OpTable.{op_operands}
@@ -27,7 +27,7 @@ use Rattle.jt_rules.specs.UseSites.{expr_use_sites, row_use_sites, pair_use_site
 use Rattle.jt_ir.specs.Takes.{InPairs, HasParameters, ExprTakes, RowTakes}
 use Rattle.jt_ast.specs.Statements.{Parameter}
 use Rattle.jt_chains.specs.Chain.{Namespace, listed, BlockBody, bodies, from_given, MacroBody, Callee, a_macro, a_range}
-use Rattle.jt_chains.specs.Chain.{a_super, a_block, a_cycle, no_callee, is_loop, Definition, given, callee, named_alone}
+use Rattle.jt_chains.specs.Chain.{a_super, a_block, a_cycle, no_callee, Definition, given, callee, named_alone}
 use Rattle.jt_chains.specs.Chain.{of_library, in_library}
 use Rattle.jt_ids.specs.declared.loop_field.LoopField.{LoopField}
 use Rattle.jt_ids.specs.LoopTable.{field_named}
@@ -234,9 +234,7 @@ module _ (cenv : CompileEnv) (order : List Namespace) where
       → AllKeep cenv h (if b then at w (reads_loop_field k) else ss) → (AllKeep cenv h ss → ETakes w.in_loop e)
       → ETakes w.in_loop
       (if b then field_from (field_named k) else operation_of op.Item e (slots.pooled (own (tree.text k))))
-  attribute_takes h w true k ss e r f =
-      fields_take w.in_loop (field_named k) (is_there (field_named k) (λ q. r.0.in_loops (inr q)))
-      (true_from_ne_false w.in_loop (λ q. r.0.in_loops (inl q)))
+  attribute_takes h w true k ss e r f = search (arith, rules, fields_take, is_there, true_from_ne_false)
   attribute_takes h w false k ss e r f = (refl, (f r, (tt, tt)))
 
   alone_no_cycle : (o : Option Definition) (x : Text) → named_alone cenv.sources o x ≡ a_cycle → ⊥
@@ -348,19 +346,8 @@ module _ (cenv : CompileEnv) (order : List Namespace) where
       expr_takes (group a) sp e t h k = expr_takes a sp e t h k
       expr_takes (list_of ts) sp e t h k = (tt, row_takes ts sp e t h k none tt)
       expr_takes (written.map_of ps) sp e t h k = (entries_pair ps sp, entries_take ps sp e t h k)
-      expr_takes (attribute a x) sp e t h k =
-          attribute_takes sp.namespace w (is_loop a) x (expr_use_sites a w) (resolved cenv order a sp) h
-          (λ g. expr_takes a sp e t g k)
-      expr_takes (item a b) sp e t h k = (
-        refl,
-        (
-          expr_takes a sp e t (front cenv sp.namespace (expr_use_sites a w) (expr_use_sites b w) h) k.0,
-          (
-            expr_takes b sp e t (back cenv sp.namespace (expr_use_sites a w) (expr_use_sites b w) h) k.1,
-            tt,
-          ),
-        ),
-      )
+      expr_takes (attribute a x) sp e t h k = search (arith, rules, attribute_takes, expr_takes a sp e t)
+      expr_takes (item a b) sp e t h k = search (arith, rules, front, back, expr_takes a sp e t, expr_takes b sp e t)
       expr_takes (written.call f ts ps) sp e t h k =
           let first = (if is_called_by_name f then [] else expr_use_sites f w) in
           let parts = row_use_sites ts w ++ pair_use_sites ps w in
@@ -389,73 +376,32 @@ module _ (cenv : CompileEnv) (order : List Namespace) where
             some_takes,
           )
       expr_takes (written.test a n x ts ps) sp e t h k =
-          let parts = row_use_sites ts w ++ pair_use_sites ps w in
-          let rest = back cenv sp.namespace (expr_use_sites a w) parts h.1 in
-          search (
-            arith,
-            rules,
-            row_counts,
-            turned_takes,
-            tested_takes,
-            h.0.fitting,
-            expr_takes a sp e t (front cenv sp.namespace (expr_use_sites a w) parts h.1) k.1,
-            row_takes ts sp e t (front cenv sp.namespace (row_use_sites ts w) (pair_use_sites ps w) rest) k.2,
-          )
+          grind (arith, back, row_counts, turned_takes, tested_takes, front, expr_takes a sp e t, row_takes ts sp e t)
       expr_takes (unary p a) sp e t h k = (unary_one p, (expr_takes a sp e t h k, tt))
       expr_takes (binary p a b) sp e t h k =
-          search (
-            arith,
-            rules,
-            form_takes,
-            form_two,
-            expr_takes a sp e t (front cenv sp.namespace (expr_use_sites a w) (expr_use_sites b w) h) k.0,
-            expr_takes b sp e t (back cenv sp.namespace (expr_use_sites a w) (expr_use_sites b w) h) k.1,
-          )
-      expr_takes (when c a) sp e t h k = (
-        expr_takes c sp e t (front cenv sp.namespace (expr_use_sites c w) (expr_use_sites a w) h) k.0,
-        expr_takes a sp e t (back cenv sp.namespace (expr_use_sites c w) (expr_use_sites a w) h) k.1,
-        tt,
-      )
+          search (arith, rules, form_takes, form_two, front, back, expr_takes a sp e t, expr_takes b sp e t)
+      expr_takes (when c a) sp e t h k = search (arith, rules, front, back, expr_takes c sp e t, expr_takes a sp e t)
       expr_takes (choice c a b) sp e t h k =
-          let parts = expr_use_sites a w ++ expr_use_sites b w in
-          let rest = back cenv sp.namespace (expr_use_sites c w) parts h in (
-            expr_takes c sp e t (front cenv sp.namespace (expr_use_sites c w) parts h) k.0,
-            expr_takes a sp e t (front cenv sp.namespace (expr_use_sites a w) (expr_use_sites b w) rest) k.1,
-            expr_takes b sp e t (back cenv sp.namespace (expr_use_sites a w) (expr_use_sites b w) rest) k.2,
-          )
+          search (arith, rules, back, front, expr_takes c sp e t, expr_takes a sp e t, expr_takes b sp e t)
 
       pub row_takes : (ts : Exprs) (sp : StaticEnv) → Stands sp.namespace → PartTail w.in_block sp.namespace sp.part
           → AllKeep cenv sp.namespace (row_use_sites ts w) → RowKnown cenv.filters ts → (behind : SRow Constant)
           → RTakes w.in_loop behind → RTakes w.in_loop (resolved_row cenv order ts sp behind)
       row_takes no_exprs sp e t h k behind r = r
-      row_takes (expr a ts) sp e t h k behind r = (
-        expr_takes a sp e t (front cenv sp.namespace (expr_use_sites a w) (row_use_sites ts w) h) k.0,
-        row_takes ts sp e t (back cenv sp.namespace (expr_use_sites a w) (row_use_sites ts w) h) k.1
-            behind r,
-      )
+      row_takes (expr a ts) sp e t h k behind r =
+          search (arith, rules, front, back, expr_takes a sp e t, row_takes ts sp e t)
 
       pub asides_take : (ps : written.Pairs) (sp : StaticEnv) → Stands sp.namespace
           → PartTail w.in_block sp.namespace sp.part → AllKeep cenv sp.namespace (pair_use_sites ps w)
           → PairsKnown cenv.filters ps → (behind : SRow Constant) → RTakes w.in_loop behind
           → RTakes w.in_loop (resolved_asides cenv order ps sp behind)
       asides_take no_pairs sp e t h k behind r = r
-      asides_take (pair x a ps) sp e t h k behind r = (
-        expr_takes a sp e t (front cenv sp.namespace (expr_use_sites a w) (pair_use_sites ps w) h)
-            k.0,
-        asides_take ps (grown sp) e t
-            (back cenv sp.namespace (expr_use_sites a w) (pair_use_sites ps w) h) k.1 behind r,
-      )
+      asides_take (pair x a ps) sp e t h k behind r =
+          search (arith, rules, front, back, expr_takes a sp e t, asides_take ps)
 
       pub entries_take : (ps : written.Pairs) (sp : StaticEnv) → Stands sp.namespace
           → PartTail w.in_block sp.namespace sp.part → AllKeep cenv sp.namespace (pair_use_sites ps w)
           → PairsKnown cenv.filters ps → RTakes w.in_loop (resolved_entries cenv order ps sp)
       entries_take no_pairs sp e t h k = tt
-      entries_take (pair x a ps) sp e t h k = (
-        tt,
-        (
-          expr_takes a sp e t (front cenv sp.namespace (expr_use_sites a w) (pair_use_sites ps w) h)
-              k.0,
-          entries_take ps sp e t
-              (back cenv sp.namespace (expr_use_sites a w) (pair_use_sites ps w) h) k.1,
-        ),
-      )
+      entries_take (pair x a ps) sp e t h k =
+          search (arith, rules, front, back, expr_takes a sp e t, entries_take ps sp e t)

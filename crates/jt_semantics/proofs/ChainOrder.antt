@@ -13,8 +13,8 @@ use Rattle.jt_chains.specs.Chain.{Namespace, a_chain, a_library, same_namespace,
 use Rattle.jt_chains.specs.Chain.{blocks_of, blocks_in, blocks_under, all_bodies, MacroBody, macros_in, macros}
 use Rattle.jt_chains.specs.Chain.{macro_of, libraries}
 use Rattle.jt_rules.specs.CompileEnv.{CompileEnv}
-use Rattle.jt_chains.specs.Uses.{keywords, pair_names, filter_call_names, stmt_names, body_names, branch_names}
-use Rattle.jt_chains.specs.Uses.{own_names, set_in, scope_names_in, scope_names}
+use Rattle.jt_chains.specs.Uses.{stmt_names, body_names, branch_names}
+use Rattle.jt_chains.specs.Uses.{own_names, set_in, scope_names}
 use Rattle.jt_chains.specs.Includes.{needs_by, needs_in, needs_under, with_source, included, AllIn, InOrder}
 use Rattle.jt_semantics.specs.Layout.{in_globals, names_in, names, first_in, first_slot, is_scoped, numbered_bodies}
 use Rattle.jt_semantics.specs.Layout.{scopes}
@@ -130,9 +130,7 @@ names_said bs (x ∷ xs) ss e = (tt, names_said bs xs ss e)
 
 both_said : (bs cs : List BlockBody) (xs ys : List Scoping) → Each (Saying bs) xs → Each (Saying cs) ys
     → Each (Saying (bs ++ cs)) (xs ++ ys)
-both_said bs cs xs ys a b =
-    each_append (Saying (bs ++ cs)) xs ys (each_map (Saying bs) (Saying (bs ++ cs)) xs (saying_left bs cs) a)
-    (each_map (Saying cs) (Saying (bs ++ cs)) ys (saying_right bs cs) b)
+both_said bs cs xs ys a b = search (arith, rules, each_append, each_map, saying_left, saying_right)
 
 module _ (t : Text) where
   mutual
@@ -154,46 +152,33 @@ module _ (t : Text) where
         (blocks_in t body on))
         (scoped_body body on))
     scoped_stmt (choose bs other) on =
-        both_said (blocks_under t bs on) (blocks_in t other on) (scoped_under bs) (scoped_in other)
-        (scoped_branches bs on) (scoped_body other on)
+        search (arith, rules, both_said, scoped_under, scoped_in, scoped_branches bs on, scoped_body other on)
     scoped_stmt (for_each line xs e c body other) on =
-        names_said (blocks_in t body on ++ blocks_in t other on) xs
-        (named (set_in body) ++ (scoped_in body ++ scoped_in other))
-        (names_said (blocks_in t body on ++ blocks_in t other on) (set_in body) (scoped_in body ++ scoped_in other)
-        (both_said (blocks_in t body on) (blocks_in t other on) (scoped_in body) (scoped_in other) (scoped_body body on)
-        (scoped_body other on)))
+        search (arith, rules, names_said, named, scoped_in, both_said, scoped_body body on, scoped_body other on)
     scoped_stmt (set_block line x body) on =
         names_said (blocks_in t body on) (set_in body) (scoped_in body) (scoped_body body on)
-    scoped_stmt (with_values line ps body) on =
-        names_said (blocks_in t body on) (keywords ps) (named (set_in body) ++ scoped_in body)
-        (names_said (blocks_in t body on) (set_in body) (scoped_in body) (scoped_body body on))
+    scoped_stmt (with_values line ps body) on = search (arith, rules, names_said, named, scoped_in, scoped_body body on)
     scoped_stmt (filter_block line fs body) on =
         names_said (blocks_in t body on) (set_in body) (scoped_in body) (scoped_body body on)
     scoped_stmt (autoescape line now body) on =
         names_said (blocks_in t body now) (set_in body) (scoped_in body) (scoped_body body now)
-    scoped_stmt (macro line x ps body) on =
-        names_said (blocks_in t body on) (map (λ p. p.name) ps) (named (set_in body) ++ scoped_in body)
-        (names_said (blocks_in t body on) (set_in body) (scoped_in body) (scoped_body body on))
+    scoped_stmt (macro line x ps body) on = search (arith, rules, names_said, named, scoped_in, scoped_body body on)
     scoped_stmt a0 on = tt
 
     scoped_body : (c : Body) (on : Bool) → Each (Saying (blocks_in t c on)) (scoped_in c)
     scoped_body end on = tt
     scoped_body (stmt s rest) on =
-        both_said (blocks_of t s on) (blocks_in t rest on) (scoped_by s) (scoped_in rest) (scoped_stmt s on)
-        (scoped_body rest on)
+        search (arith, rules, both_said, scoped_by, scoped_in, scoped_stmt s on, scoped_body rest on)
 
     scoped_branches : (bs : Branches) (on : Bool) → Each (Saying (blocks_under t bs on)) (scoped_under bs)
     scoped_branches no_branches on = tt
     scoped_branches (branch line c body rest) on =
-        both_said (blocks_in t body on) (blocks_under t rest on) (scoped_in body) (scoped_under rest)
-        (scoped_body body on) (scoped_branches rest on)
+        search (arith, rules, both_said, scoped_in, scoped_under, scoped_body body on, scoped_branches rest on)
 
 said_templates : (on : Bool) (ts : List Template)
     → Each (Saying (flat_map (λ t. blocks_in t.name t.body on) ts)) (flat_map (λ t. scoped_in t.body) ts)
 said_templates on [] = tt
-said_templates on (t ∷ ts) =
-    both_said (blocks_in t.name t.body on) (flat_map (λ t. blocks_in t.name t.body on) ts) (scoped_in t.body)
-    (flat_map (λ t. scoped_in t.body) ts) (scoped_body t.name t.body on) (said_templates on ts)
+said_templates on (t ∷ ts) = search (arith, rules, both_said, scoped_in, scoped_body, said_templates on ts)
 
 all_proper : (cenv : CompileEnv) (order : List Namespace) (h : Namespace) (ss : List Scoping)
     → Each (Saying (all_bodies cenv.sources cenv.escaping h)) ss → AllAmong (names_of ss) (scopes cenv order h)
@@ -429,11 +414,7 @@ module _ (cenv : CompileEnv) where
       all_names = read_names cenv order h
 
       belongs_front : (s : Stmt) (rest : Body) → Belongs (stmt s rest) → StmtBelongs s
-      belongs_front s rest b = (
-        among_front (stmt_names s) (body_names rest) all_names b.names,
-        each_front (Included cenv order h) (needs_by true s) (needs_in true rest) b.included,
-        each_front (Proper cenv order h) (scoped_by s) (scoped_in rest) b.scoped,
-      )
+      belongs_front s rest b = search (arith, rules, among_front, each_front, scoped_by, scoped_in)
 
       belongs_back : (s : Stmt) (rest : Body) → Belongs (stmt s rest) → Belongs rest
       belongs_back s rest b = search (arith, rules, among_back, each_back, scoped_by, scoped_in)
@@ -452,10 +433,7 @@ module _ (cenv : CompileEnv) where
 
       -- The names that scopes bind are among the names that are read or bound.
       pub scopes_known : AllAmong (scopes cenv order h) (read_names cenv order h)
-      scopes_known =
-          subst (λ zs. AllAmong zs (read_names cenv order h)) (sym (scopes_are cenv order h known))
-          (ascending_among (flat_map (λ t. scope_names_in t.body) (templates cenv.sources h)) (read_names cenv order h)
-          (templates_bind (templates cenv.sources h) (read_names cenv order h) (own_read h at.1 names_are)))
+      scopes_known = search (arith, rules, read_names, scopes_are, ascending_among, templates_bind, own_read, names_are)
 
       macro_bodies : (t : Text) (c : Body) → Belongs c → Every OwnedMacro (macros_in t c)
       macro_bodies t end b = tt
@@ -538,23 +516,17 @@ module _ (cenv : CompileEnv) where
               )
           stmt_blocks (set_block line x body) on b = body_blocks body on (owned body b.0.1 b.1 b.2).belongs
           stmt_blocks (with_values line ps body) on b =
-              body_blocks body on (owned body (among_back (keywords ps) (body_names body) all_names
-              (among_back (pair_names ps) (keywords ps ++ body_names body) all_names b.0)) b.1
-              (behind_proper cenv order h (keywords ps) (named (set_in body) ++ scoped_in body) b.2)).belongs
-          stmt_blocks (filter_block line fs body) on b =
-              body_blocks body on
-              (owned body (among_front (body_names body) (filter_call_names fs) all_names b.0) b.1 b.2).belongs
+              search (arith, rules, owned, among_back, behind_proper, named, scoped_in, body_blocks body on)
+          stmt_blocks (filter_block line fs body) on b = search (arith, rules, owned, among_front, body_blocks body on)
           stmt_blocks (autoescape line now body) on b = body_blocks body now (owned body b.0 b.1 b.2).belongs
           stmt_blocks (macro line x ps body) on b =
-              body_blocks body on (owned body (among_back (map (λ p. p.name) ps) (body_names body) all_names b.0) b.1
-              (behind_proper cenv order h (map (λ p. p.name) ps) (named (set_in body) ++ scoped_in body) b.2)).belongs
+              search (arith, rules, owned, among_back, behind_proper, named, scoped_in, body_blocks body on)
           stmt_blocks a0 on b = tt
 
           body_blocks : (c : Body) (on : Bool) → Belongs c → InBelongs (blocks_in t c on)
           body_blocks end on b = tt
           body_blocks (stmt s rest) on b =
-              every_append (λ b. Owned b.body) (blocks_of t s on) (blocks_in t rest on)
-              (stmt_blocks s on (belongs_front s rest b)) (body_blocks rest on (belongs_back s rest b))
+              search (arith, rules, every_append, belongs_front, belongs_back, stmt_blocks s on, body_blocks rest on)
 
           branch_blocks : (bs : Branches) (on : Bool) → BranchesBelong bs → InBelongs (blocks_under t bs on)
           branch_blocks no_branches on b = tt

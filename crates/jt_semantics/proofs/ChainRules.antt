@@ -1,7 +1,7 @@
 -- If no rule of chains is broken, an included name that may not be missing has a source. Each body
 -- that calls `super()` then has a later body to call.
 use Rattle.std.proofs.Common.{◌≡◌, ℕ, zero, suc, ◌≤◌, ◌==◌, Bool, true, false, ◌&&◌, List, [], ◌∷◌, ◌++◌, length, map}
-use Rattle.std.proofs.Common.{Option, Some, None, refl, sym, ap, ◌∙◌, arith, inl, rules}
+use Rattle.std.proofs.Common.{Option, Some, None, refl, sym, ap, arith, inl, rules}
 use Rattle.std.specs.Prelude.{not, nat_lt, flat_map}
 use Rattle.std.specs.Option.{is_none}
 use Rattle.std.specs.List.{list_any}
@@ -32,9 +32,7 @@ pub lacks_at : (pre : List (ℕ × BlockBody)) (c : ℕ × BlockBody) (bs : List
     → (calls_super c.1.body && is_empty (from_given (map (λ d. d.1) bs))) ≡ false
 lacks_at [] c bs e =
     left_false (calls_super c.1.body && is_empty (from_given (map (λ d. d.1) bs))) (lacks_super (map (λ d. d.1) bs)) e
-lacks_at (p ∷ pre) c bs e =
-    lacks_at pre c bs (right_false (calls_super p.1.body && is_empty (from_given (map (λ d. d.1) (pre ++ (c ∷ bs)))))
-    (lacks_super (map (λ d. d.1) (pre ++ (c ∷ bs)))) e)
+lacks_at (p ∷ pre) c bs e = search (arith, rules, right_false, lacks_at pre c bs)
 
 none_given : (bs : List (ℕ × BlockBody)) (cs : List BlockBody) (o : Option ℕ) → GivenBy bs cs o → o ≡ None
     → is_empty cs ≡ true
@@ -65,25 +63,16 @@ module _ (sources : Sources) (escaping : Bool) (entry h : Namespace) (reached : 
       false_from_ne_true (list_any is_missing (asked sources escaping false h)) (λ e. kept.missing (h, reached, e))
 
   on_way : list_any is_missing (extends_path sources escaping h) ≡ false
-  on_way =
-      left_false (list_any is_missing (extends_path sources escaping h)) (list_any is_missing asked_behind)
-      (sym (list_any-append is_missing (extends_path sources escaping h) asked_behind) ∙ none_missing)
+  on_way = search (arith, rules, left_false, list_any-append, none_missing)
 
   each_there : (ns : List Text) → list_any is_missing ns ≡ false → Each (λ n. is_missing n ≡ false) ns
   each_there [] e = tt
-  each_there (n ∷ ns) e = (
-    left_false (is_missing n) (list_any is_missing ns) e,
-    each_there ns (right_false (is_missing n) (list_any is_missing ns) e),
-  )
+  each_there (n ∷ ns) e = search (arith, rules, left_false, right_false, each_there ns)
 
   -- Each name that the chain's templates include and that may not be missing has a source.
   pub needed_there : Each (λ n. is_none (sources n) ≡ false)
       (flat_map (λ t. needs_in false t.body) (templates sources h))
-  needed_there =
-      each_there needed (left_false (list_any is_missing needed) (list_any is_missing (libraries sources h))
-      (sym (list_any-append is_missing needed (libraries sources h))
-      ∙ right_false (list_any is_missing (extends_path sources escaping h)) (list_any is_missing asked_behind)
-      (sym (list_any-append is_missing (extends_path sources escaping h) asked_behind) ∙ none_missing)))
+  needed_there = search (arith, rules, each_there, left_false, list_any-append, right_false, none_missing)
 
   names_few : (k : ℕ) (o : Option Text) → length (names_up sources k o) ≤ k
   names_few zero o = omega arith

@@ -82,11 +82,7 @@ module _ (sources : Sources) where
 
   imports_all : (c : Body) → AllFrom (libraries_in c) (imports_in sources c)
   imports_all end = tt
-  imports_all (stmt (import_as line n x) rest) = (
-    inl refl,
-    all_more (libraries_in rest) (n ∷ libraries_in rest) (λ m i. inr i) (imports_in sources rest)
-        (imports_all rest),
-  )
+  imports_all (stmt (import_as line n x) rest) = search (arith, rules, all_more, imports_all rest)
   imports_all (stmt (import_from line n xs) rest) =
       search (
         arith,
@@ -138,10 +134,7 @@ module _ (sources : Sources) where
       which : (given_to x (own h (macros sources h)) ≡ Some (one_macro k b))
           ⊎ (given_to x (imports sources h) ≡ Some (one_macro k b))
           → Found h k b
-      which (inl q) =
-          let r = own_found h x (macros sources h) (one_macro k b) q in
-          let same = namespace_is_it r.0 r.1 in
-          (x, ap (λ z. macro_of x (macros sources z)) same ∙ r.2 ∙ ap Some (body_is_it r.0 r.1), inl same)
+      which (inl q) = search (arith, rules, own_found, namespace_is_it, body_is_it)
       which (inr q) =
           let r = look_all x (libraries sources h) (imports sources h) (one_macro k b) (imports_from h) q in (
             r.3.0,
@@ -191,9 +184,7 @@ module _ (sources : Sources) where
         → ((n : Text) → Among n (with_source sources (libraries sources h))
         → AllByRecursion P (macros sources (a_library n)))
         → AllByRecursion (λ g. GivenAll P g.1) (given sources h)
-    given_all h a each =
-        both_all (own h (macros sources h)) (imports sources h) (own_all h (macros sources h) a)
-        (all_of_libraries (libraries sources h) each (imports sources h) (imports_from h))
+    given_all h a each = search (arith, rules, both_all, own_all, all_of_libraries, imports_from)
 
   given_library : (h : Namespace) (x n : Text) → given_to x (given sources h) ≡ Some (library n)
       → Among n (libraries sources h)

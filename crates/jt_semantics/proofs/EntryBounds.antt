@@ -6,7 +6,7 @@ use Rattle.jt_ids.specs.declared.test_id.TestId.{TestId}
 use Rattle.jt_ast.specs.Expressions.{Expr, constant, name, group, list_of, map_of, attribute, item, call, filter, test}
 use Rattle.jt_ast.specs.Expressions.{unary, binary, when, choice, Exprs, no_exprs, expr, Pairs, no_pairs, pair, weight}
 use Rattle.jt_ast.specs.Expressions.{enclosed, perhaps_enclosed, exprs_weight, pairs_weight, Text}
-use Rattle.jt_semantics.specs.Operators.{OperatorForm, form}
+use Rattle.jt_semantics.specs.Operators.{OperatorForm}
 use Rattle.jt_value.specs.Place.{Place}
 use Rattle.jt_chains.specs.Uses.{count, keywords, set_in}
 use Rattle.jt_ast.specs.Statements.{Parameter, FilterCall, Stmt, choose, for_each, set_block, with_values, filter_block}
@@ -17,7 +17,7 @@ use Rattle.jt_chains.specs.Chain.{no_callee, callee}
 use Rattle.jt_ids.specs.declared.loop_field.LoopField.{LoopField}
 use Rattle.jt_rules.specs.CompileEnv.{CompileEnv}
 use Rattle.jt_semantics.specs.Expressions.{filter_parameters}
-use Rattle.jt_semantics.specs.Layout.{Table, slot_in, names, numbered_of, globals, block_parameters, default_index}
+use Rattle.jt_semantics.specs.Layout.{Table, slot_in, names, block_parameters, default_index}
 use Rattle.jt_semantics.specs.Layout.{first_slot, unit, of_chain}
 use Rattle.jt_ir.specs.Slots as slots
 use Rattle.jt_ir.specs.Slots.{Slot, local, SlotExpr, SRow, SBody, variable, run}
@@ -25,7 +25,7 @@ use Rattle.jt_ir.specs.Pool.{Constant, known}
 use Rattle.jt_semantics.specs.Resolve.{value_or, turned_round, tested_by, filtered_by, in_form, field_from, followed}
 use Rattle.jt_semantics.specs.Resolve.{locals_from, fresh_targets, set_targets, filled, filled_some, first_locals}
 use Rattle.jt_semantics.specs.Resolve.{reads, handed_on, Part, StaticEnv, place, grown, bound_all, copied, scoped}
-use Rattle.jt_semantics.specs.Resolve.{first_body, invoked_body, invoked_super, invoked, resolved, resolved_row}
+use Rattle.jt_semantics.specs.Resolve.{invoked_body, invoked_super, invoked, resolved, resolved_row}
 use Rattle.jt_semantics.specs.Resolve.{resolved_asides, resolved_entries, resolved_condition, resolved_filters}
 use Rattle.jt_semantics.specs.Resolve.{resolved_values, placed_body, resolved_stmt, resolved_body, resolved_choice}
 use Rattle.jt_semantics.specs.Resolve.{left_out}
@@ -146,15 +146,7 @@ module _ (cenv : CompileEnv) (order : List Namespace) (q : ℕ) where
   invoked_low a_range sp row asides n ks u w v some f k r a =
       omega (arith, some, r slots.none (2 * q) (omega arith) (omega arith))
   invoked_low a_super sp row asides n ks u w v some f k r a = omega (arith, some, super_low sp sp.part k)
-  invoked_low (a_block x) sp row asides n ks u w v some f k r a =
-      let t = globals cenv order sp.namespace in
-      let xs = block_parameters cenv order sp.namespace x in
-      omega (
-        arith,
-        some,
-        body_low sp.namespace sp.escaping (first_body (numbered_of cenv sp.namespace x)) (reads t xs)
-            (omega (arith, reads_low t xs, k x)),
-      )
+  invoked_low (a_block x) sp row asides n ks u w v some f k r a = search (arith, rules, body_low, reads_low)
   invoked_low a_cycle sp row asides n ks u w v some f k r a =
       omega (arith, f, r slots.none (2 * q) (omega arith) (omega arith))
   invoked_low no_callee sp row asides n ks u w v some f k r a = omega (arith, some)
@@ -205,15 +197,7 @@ module _ (cenv : CompileEnv) (order : List Namespace) (q : ℕ) where
         search (arith, rules, turned_low, tested_low, resolved_low a sp k, row_low ts sp k, is_some_weight, expr_some)
     resolved_low (unary u a) sp k = omega (arith, resolved_low a sp k, expr_some a)
     resolved_low (binary b x y) sp k =
-        omega (
-          arith,
-          form_low (form sp.escaping b) (resolved cenv order x sp) (resolved cenv order y sp),
-          resolved_low x sp k,
-          resolved_low y sp k,
-          operator_some b,
-          expr_some x,
-          expr_some y,
-        )
+        search (arith, rules, form_low, operator_some, expr_some, resolved_low x sp k, resolved_low y sp k)
     resolved_low (when c a) sp k = omega (arith, resolved_low c sp k, resolved_low a sp k, expr_some c, expr_some a)
     resolved_low (choice c a b) sp k = omega (arith, resolved_low c sp k, resolved_low a sp k, resolved_low b sp k)
 
@@ -282,70 +266,30 @@ module _ (cenv : CompileEnv) (order : List Namespace) (q : ℕ) where
   pub scope_low : (b : Body) (sp : StaticEnv)
       → 2 * body_height (resolved_body cenv order b (bound_all (set_in b) sp)) ≤ body_free b + 2 * q
       → 2 * body_height (scoped (set_in b) sp (resolved_body cenv order b)) ≤ max 2 (body_free b + 2 * q)
-  scope_low b sp h =
-      omega (
-        arith,
-        h,
-        copied_low (place sp 1) sp.table sp.free (set_in b) (resolved_body cenv order b (bound_all (set_in b) sp)),
-      )
+  scope_low b sp h = search (arith, rules, copied_low)
 
   mutual
     pub stmt_low : (s : Stmt) (sp : StaticEnv) → HasAtMost cenv order q sp.namespace → stmt_bound s ≤ q
         → 2 * body_height (resolved_stmt cenv order s sp) ≤ stmt_free s + 2 * q
-    stmt_low (choose bs other) sp k g =
-        omega (
-          arith,
-          choice_low bs sp k (omega (arith, g)) (resolved_body cenv order other sp),
-          all_low other sp k (omega (arith, g)),
-        )
+    stmt_low (choose bs other) sp k g = search (arith, rules, choice_low bs sp k, all_low other sp k)
     stmt_low (for_each line xs e c body other) sp k g =
-        search (
-          arith,
-          rules,
-          fresh_low,
-          resolved_low,
-          condition_low,
-          scope_low,
-          all_low body,
-          all_low other sp k (omega (arith, g)),
-        )
+        search (arith, rules, fresh_low, resolved_low, condition_low, scope_low, all_low body, all_low other sp k)
     stmt_low (set_block line x body) sp k g =
         omega (arith, scope_low body sp (all_low body (bound_all (set_in body) sp) k (omega (arith, g))))
     stmt_low (with_values line ps body) sp k g = search (arith, rules, values_low, scope_low, all_low body)
-    stmt_low (filter_block line fs body) sp k g =
-        omega (
-          arith,
-          scope_low body (grown sp) (all_low body (bound_all (set_in body) (grown sp)) k (omega (arith, g))),
-          filters_low fs (grown sp) (variable (local sp.free)) k,
-        )
+    stmt_low (filter_block line fs body) sp k g = search (arith, rules, scope_low, filters_low, all_low body)
     stmt_low (autoescape line on body) sp k g = search (arith, rules, scope_low, all_low body)
-    stmt_low (block line x is required body) sp k g =
-        omega (
-          arith,
-          placed_low sp (first_body (numbered_of cenv sp.namespace x)) x
-              (if is then sp.table else globals cenv order sp.namespace) (k.blocks x),
-        )
+    stmt_low (block line x is required body) sp k g = search (arith, rules, placed_low)
     stmt_low a0 sp k g = search (arith, rules, resolved_low, set_low, include_low)
 
     pub all_low : (b : Body) (sp : StaticEnv) → HasAtMost cenv order q sp.namespace → body_bound b ≤ q
         → 2 * body_height (resolved_body cenv order b sp) ≤ body_free b + 2 * q
     all_low end sp k g = omega arith
-    all_low (stmt s rest) sp k g =
-        omega (
-          arith,
-          stmt_low s sp k (omega (arith, g)),
-          all_low rest sp k (omega (arith, g)),
-          followed_low (resolved_stmt cenv order s sp) (resolved_body cenv order rest sp),
-        )
+    all_low (stmt s rest) sp k g = search (arith, rules, followed_low, stmt_low s sp k, all_low rest sp k)
 
     choice_low : (bs : Branches) (sp : StaticEnv) → HasAtMost cenv order q sp.namespace → branch_bound bs ≤ q
         → (other : SBody Constant) → 2 * body_height (resolved_choice cenv order bs sp other)
         ≤ max (branch_free bs + 2 * q) (2 * body_height other)
     choice_low no_branches sp k g other = omega arith
     choice_low (branch line c body rest) sp k g other =
-        omega (
-          arith,
-          resolved_low c sp k,
-          all_low body sp k (omega (arith, g)),
-          choice_low rest sp k (omega (arith, g)) other,
-        )
+        search (arith, rules, resolved_low, all_low body sp k, choice_low rest sp k)

@@ -168,9 +168,7 @@ module _ (cenv : CompileEnv) (order : List Namespace) where
       by (k ∷ ks) = search (arith, rules, by ks)
 
   pub library_agrees : (n : Text) (ts : List Tree) → GlobalsAgree (a_library n) [] ts
-  library_agrees n ts x i =
-      ap (λ xs. global_held (slot_in x (globals_from (first_slot cenv order (a_library n)) xs)) ts)
-      (sym (names_library n))
+  library_agrees n ts x i = search (arith, rules, names_library)
 
   pub seen_agree : (h : Namespace) (gs : Pairs) (ts : List Tree) → GlobalsAgree h gs ts
       → GlobalsAgree h (seen_by h gs) ts

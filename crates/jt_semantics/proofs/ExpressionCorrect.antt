@@ -17,7 +17,7 @@ use Rattle.jt_op_semantics.specs.Operation as operators
 use Rattle.jt_op_semantics.specs.Operation.{as_truth}
 use Rattle.jt_op_semantics.specs.Testing.{tested}
 use Rattle.jt_op_semantics.specs.Ranges.{ranged}
-use Rattle.jt_op_semantics.specs.Making.{listed, mapped}
+use Rattle.jt_op_semantics.specs.Making.{listed}
 use Rattle.jt_ast.specs.Expressions as written
 use Rattle.jt_ast.specs.Expressions.{Expr, constant, name, group, list_of, map_of, attribute, item, unary, binary, when}
 use Rattle.jt_ast.specs.Expressions.{choice, Exprs, no_exprs, expr, no_pairs, pair, Text}
@@ -33,7 +33,7 @@ use Rattle.jt_chains.specs.Uses.{count, keywords, expr_names, row_names, pair_na
 use Rattle.jt_ast.specs.Statements.{Parameter}
 use Rattle.jt_semantics.specs.Env.{Env, read, top}
 use Rattle.jt_chains.specs.Chain.{Namespace, a_library, BlockBody, bodies, all_bodies, from_given, MacroBody, given}
-use Rattle.jt_chains.specs.Chain.{Callee, a_macro, a_range, a_super, a_block, a_cycle, no_callee, callee, is_loop}
+use Rattle.jt_chains.specs.Chain.{Callee, a_macro, a_range, a_super, a_block, a_cycle, no_callee, callee}
 use Rattle.jt_ids.specs.declared.loop_field.LoopField.{LoopField}
 use Rattle.jt_ids.specs.declared.loop_field.LoopField.TheVariants.{Index0}
 use Rattle.jt_ids.specs.LoopTable.{field_named}
@@ -237,9 +237,7 @@ module _ (cenv : CompileEnv) (order : List Namespace) (calls : Calls) (scall : S
   one_both : {b g : ℕ} {m : Memory} {h : Eval Tree} (o : OpId) (e : SlotExpr Constant)
       → SameEval (Evaluated b g m) h (seen e m)
       → SameEval (Evaluated b g m) (bind h (λ v. operated o (v ∷ []))) (seen (made (operator o) (slots.item e none)) m)
-  one_both {m = m} o e u =
-      by_right (on_one o e m) (bind_both u (λ v r w. done_as (operators.operation o (v ∷ []))
-      (operators.operation o (r.value ∷ [])) (ap (λ x. operators.operation o (x ∷ [])) (sym w.value)) w.kept w.out))
+  one_both {m = m} o e u = search (arith, rules, by_right, on_one, bind_both, done_as)
 
   turned_both : {b g : ℕ} {m : Memory} {h : Eval Tree} (n : Bool) (e : SlotExpr Constant)
       → SameEval (Evaluated b g m) h (seen e m) → SameEval (Evaluated b g m) (turned n h) (seen (turned_round n e) m)
@@ -291,9 +289,7 @@ module _ (cenv : CompileEnv) (order : List Namespace) (calls : Calls) (scall : S
   choice_both : {b g : ℕ} {m : Memory} {h k j : Eval Tree} (c e i : SlotExpr Constant)
       → SameEval (Evaluated b g m) h (seen c m) → Later b g m k e → Later b g m j i
       → SameEval (Evaluated b g m) (either h k j) (seen (slots.choice c e i) m)
-  choice_both c e i u later other =
-      bind_both u (λ v r w.
-      truth_both v r.value w.value (then_both e later r.memory w.kept w.out) (then_both i other r.memory w.kept w.out))
+  choice_both c e i u later other = search (arith, rules, bind_both, truth_both, then_both)
 
   asked_both : {b g : ℕ} {m : Memory} {h : Eval (List Tree)} (t : Option TestId) (es : SRow Constant)
       → SameEval (Rowed b g m) h (seen_row es m) → SameEval (Evaluated b g m) (asked t h) (seen (tested_by t es) m)
@@ -310,9 +306,7 @@ module _ (cenv : CompileEnv) (order : List Namespace) (calls : Calls) (scall : S
   item_gives : (e : SlotExpr Constant) (es : SRow Constant) (m : Memory) (v : Tree) (vs : List Tree)
       → seen e m ≡ gives (record { value = v; memory = m }) → seen_row es m ≡ gives (record { values = vs; memory = m })
       → seen_row (slots.item e es) m ≡ gives (record { values = v ∷ vs; memory = m })
-  item_gives e es m v vs p q =
-      ap (λ g. bind g (λ r. bind (seen_row es r.memory) (λ rs. gives (in_front r.value rs)))) p
-      ∙ ap (λ g. bind g (λ rs. gives (in_front v rs))) q
+  item_gives e es m v vs p q = search (arith, rules)
 
   -- A parameter without an argument by position has the value of the argument by name, or the
   -- default.
@@ -361,9 +355,7 @@ module _ (cenv : CompileEnv) (order : List Namespace) (calls : Calls) (scall : S
   pub reads_give : (table : Table) (xs : List Text) (m : Memory)
       → seen_row (reads table xs) m ≡ gives (record { values = map (λ x. held (slot_in x table) m) xs; memory = m })
   reads_give table [] m = refl
-  reads_give table (x ∷ xs) m =
-      item_gives (read_from (slot_in x table)) (reads table xs) m (held (slot_in x table) m)
-      (map (λ y. held (slot_in y table) m) xs) (read_gives (slot_in x table) m) (reads_give table xs m)
+  reads_give table (x ∷ xs) m = search (arith, rules, item_gives, held, read_gives, reads_give table xs m)
 
   locals_give : (n : ℕ) (xs : List Text) (vs : List Tree) (m : Memory) → length vs ≡ length xs → Held m.locals n vs
       → seen_row (first_locals n xs) m ≡ gives (record { values = vs; memory = m })
@@ -529,12 +521,7 @@ module _ (cenv : CompileEnv) (order : List Namespace) (calls : Calls) (scall : S
   reached : (h k : Namespace) (gs : Pairs) (ts : List Tree) → Known cenv order h → LeadsTo cenv.sources h k
       → Known cenv order k × (GlobalsAgree cenv order h gs ts → GlobalsAgree cenv order k (seen_by k gs) ts)
       × (limit cenv order h ≤ limit cenv order k)
-  reached h k gs ts kn (inl e) = (
-    subst (λ z. Known cenv order z) (sym e) kn,
-    λ a. seen_agree cenv order k gs ts (subst (λ z. GlobalsAgree cenv order z gs ts) (sym e) a),
-    subst (λ z. limit cenv order h ≤ limit cenv order z) (sym e)
-        (let f : limit cenv order h ≤ limit cenv order h = omega arith in f),
-  )
+  reached h k gs ts kn (inl e) = search (arith, rules, seen_agree, limit)
   reached h k gs ts kn (inr r) =
       let b = laid.libraries h kn r.0 r.2 in
       let back = sym r.1 in (
@@ -624,9 +611,7 @@ module _ (cenv : CompileEnv) (order : List Namespace) (calls : Calls) (scall : S
 
       at_globals : (y : Text) → Among y (ns sp)
           → read (top env.globals) y ≡ held (slot_in y (globals cenv order sp.namespace)) m
-      at_globals y i =
-          g.agrees.globals y i
-          ∙ sym (global_reads (first_slot cenv order sp.namespace) (names cenv order sp.namespace) y m)
+      at_globals y i = search (arith, rules, global_reads, names)
 
       seen_params : (b : Bool) → map (λ y. held (slot_in y (globals cenv order sp.namespace)) m)
           (if b then bound_names sp else [])
@@ -634,9 +619,7 @@ module _ (cenv : CompileEnv) (order : List Namespace) (calls : Calls) (scall : S
       seen_params true =
           reads_are (globals cenv order sp.namespace) (top env.globals) m (bound_names sp) (ns sp) at_globals g.fits.few
       seen_params false = refl
-  call_both a_cycle sp env ts ps g named row passed =
-      cycle_both sp (count ts) (values cenv calls ts (around_of cenv order sp l q) env)
-      (resolved_row cenv order ts sp none) row
+  call_both a_cycle sp env ts ps g named row passed = search (arith, rules, cycle_both, values, around_of)
   call_both no_callee sp env ts ps g named row passed = deep
 
   -- ---- Arguments before a row
@@ -689,13 +672,7 @@ module _ (cenv : CompileEnv) (order : List Namespace) (calls : Calls) (scall : S
   aside_apart : (ps : written.Pairs) (sp : StaticEnv) (behind : SRow Constant) (m : Memory)
       → seen_row (resolved_asides cenv order ps sp behind) m ≡ bind (kept_aside ps sp m) (λ n. seen_row behind n)
   aside_apart no_pairs sp behind m = refl
-  aside_apart (pair x e ps) sp behind m =
-      bind_ext (seen (resolved cenv order e sp) m)
-      (λ r. seen_row (resolved_asides cenv order ps (grown sp) behind) (store (local sp.free) r.value r.memory))
-      (λ r. bind (kept_aside ps (grown sp) (store (local sp.free) r.value r.memory)) (λ n. seen_row behind n))
-      (λ r. aside_apart ps (grown sp) behind (store (local sp.free) r.value r.memory))
-      ∙ sym (bind_assoc (seen (resolved cenv order e sp) m)
-      (λ r. kept_aside ps (grown sp) (store (local sp.free) r.value r.memory)) (λ n. seen_row behind n))
+  aside_apart (pair x e ps) sp behind m = search (arith, rules, bind_ext, bind_assoc, aside_apart ps)
 
   pub record Aside (sp : StaticEnv) (m : Memory) (kw : List Text) (ks : Pairs) (n : Memory) : Type 0 where
     pub names : map (λ p. p.0) ks ≡ kw
@@ -726,11 +703,8 @@ module _ (cenv : CompileEnv) (order : List Namespace) (calls : Calls) (scall : S
         made_both a_list listed (resolved_row cenv order ts sp none) (λ vs. refl)
         (weaken (λ vs r w. w.0) (values_same ts sp env m g i))
     value_same (written.map_of ps) sp env m g i =
-        bind_both (entries_same ps sp env m g i)
-        (λ bs r w. done_as (mapped (entries_of bs)) (make fs a_map r.values) (ap mapped (sym w.values)) w.kept w.out)
-    value_same (attribute e k) sp env m g i =
-        attribute_both (is_loop e) k sp (value cenv calls e (around_of cenv order sp l q) env)
-        (resolved cenv order e sp) (expr_names e) i (λ j. value_same e sp env m g j)
+        search (arith, rules, bind_both, done_as, entries_same ps sp env m g i)
+    value_same (attribute e k) sp env m g i = search (arith, rules, attribute_both, around_of, value_same e sp env m g)
     value_same (item e k) sp env m g i =
         two_both op.Item (resolved cenv order e sp) (resolved cenv order k sp)
         (value_same e sp env m g (among_front (expr_names e) (expr_names k) (ns sp) i))

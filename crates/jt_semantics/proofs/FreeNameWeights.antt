@@ -4,7 +4,7 @@
 use Rattle.std.proofs.Common.{◌≡◌, ℕ, suc, ◌+◌, ◌*◌, ◌≤◌, Bool, List, [], ◌∷◌, ◌++◌, length, arith, refl, length-append}
 use Rattle.std.proofs.Common.{rules}
 use Rattle.std.proofs.lemmas.List.{length-map}
-use Rattle.std.specs.Prelude.{flat_map, map}
+use Rattle.std.specs.Prelude.{flat_map}
 use Rattle.std.specs.List.{AllByRecursion}
 use Rattle.jt_ast.specs.Expressions.{Pairs, no_pairs, pair, weight, pairs_weight, Text}
 use Rattle.jt_ast.specs.Texts.{inserted, all_inserted, ascending}
@@ -116,15 +116,11 @@ all_append P (x ∷ xs) ys a b = (a.0, all_append P xs ys a.1 b)
 -- If two parts are paid for by their own weights, both are paid for by the weight of the whole.
 pub both_paid : (w n v m z k : ℕ) → 2 * n ≤ w → 2 * m ≤ v → w + v + 2 * k ≤ z + 2 * n + 2 * m → n + m ≤ k
     → (bs cs : List BlockBody) → AllPaid w n bs → AllPaid v m cs → AllPaid z k (bs ++ cs)
-both_paid w n v m z k p q e l bs cs b c =
-    all_append (λ b. Paid z k b.body) bs cs (all_more w n z k (omega (arith, l)) (omega (arith, q, e)) bs b)
-    (all_more v m z k (omega (arith, l)) (omega (arith, p, e)) cs c)
+both_paid w n v m z k p q e l bs cs b c = search (arith, rules, all_append, all_more)
 
 pub both_macros : (w n v m z k : ℕ) → 2 * n ≤ w → 2 * m ≤ v → w + v + 2 * k ≤ z + 2 * n + 2 * m → n + m ≤ k
     → (bs cs : List MacroBody) → MacrosPaid w n bs → MacrosPaid v m cs → MacrosPaid z k (bs ++ cs)
-both_macros w n v m z k p q e l bs cs b c =
-    all_append (PaidMacro z k) bs cs (macros_more w n z k (omega (arith, l)) (omega (arith, q, e)) bs b)
-    (macros_more v m z k (omega (arith, l)) (omega (arith, p, e)) cs c)
+both_macros w n v m z k p q e l bs cs b c = search (arith, rules, all_append, macros_more)
 
 module _ (t : Text) where
   mutual
@@ -141,16 +137,10 @@ module _ (t : Text) where
         (length xs + body_bound body + body_bound other)
         (omega (arith, body_paid body)) (omega (arith, body_paid other)) (omega arith) (omega arith)
         (blocks_in t body on) (blocks_in t other on) (body_blocks body on) (body_blocks other on)
-    stmt_blocks (set_block line x body) on =
-        all_more (body_weight body) (body_bound body) (11 + body_weight body) (1 + body_bound body) (omega arith)
-        (omega arith) (blocks_in t body on) (body_blocks body on)
+    stmt_blocks (set_block line x body) on = search (arith, rules, all_more, body_blocks body on)
     stmt_blocks (with_values line ps body) on = search (arith, rules, pairs_bound, all_more, body_blocks body on)
-    stmt_blocks (filter_block line fs body) on =
-        all_more (body_weight body) (body_bound body) (9 + filter_call_weight fs + body_weight body) (body_bound body)
-        (omega arith) (omega arith) (blocks_in t body on) (body_blocks body on)
-    stmt_blocks (autoescape line now body) on =
-        all_more (body_weight body) (body_bound body) (11 + body_weight body) (body_bound body) (omega arith)
-        (omega arith) (blocks_in t body now) (body_blocks body now)
+    stmt_blocks (filter_block line fs body) on = search (arith, rules, all_more, body_blocks body on)
+    stmt_blocks (autoescape line now body) on = search (arith, rules, all_more, body_blocks body now)
     stmt_blocks (macro line x ps body) on = search (arith, rules, parameters_bound, all_more, body_blocks body on)
     stmt_blocks a0 on = tt
 
@@ -172,10 +162,7 @@ module _ (t : Text) where
 
   behind : (s : Stmt) (rest : Body) → MacrosPaid (body_weight rest) (body_bound rest) (macros_in t rest)
       → MacrosPaid (stmt_weight s + body_weight rest) (stmt_bound s + body_bound rest) (macros_in t rest)
-  behind s rest p =
-      let e = stmt_paid s in
-      macros_more (body_weight rest) (body_bound rest) (stmt_weight s + body_weight rest)
-      (stmt_bound s + body_bound rest) (omega arith) (omega (arith, e)) (macros_in t rest) p
+  behind s rest p = search (arith, rules, macros_more, stmt_paid s)
 
   pub top_macros : (b : Body) → MacrosPaid (body_weight b) (body_bound b) (macros_in t b)
   top_macros end = tt
@@ -228,70 +215,28 @@ keywords_count (pair x e ps) = omega (arith, keywords_count ps)
 
 mutual
   stmt_scopes : (s : Stmt) → length (set_by s) + length (scope_names_by s) ≤ stmt_bound s
-  stmt_scopes (choose bs other) =
-      omega (
-        arith,
-        branch_scopes bs,
-        body_scopes other,
-        length-append (set_under bs) (set_in other),
-        length-append (scope_names_under bs) (scope_names_in other),
-      )
+  stmt_scopes (choose bs other) = search (arith, rules, length-append, branch_scopes bs, body_scopes other)
   stmt_scopes (for_each line xs e c body other) =
-      omega (
-        arith,
-        body_scopes body,
-        body_scopes other,
-        length-append xs (set_in body ++ (scope_names_in body ++ scope_names_in other)),
-        length-append (set_in body) (scope_names_in body ++ scope_names_in other),
-        length-append (scope_names_in body) (scope_names_in other),
-      )
+      search (arith, rules, length-append, body_scopes body, body_scopes other)
   stmt_scopes (set_block line x body) =
       omega (arith, body_scopes body, length-append (set_in body) (scope_names_in body))
-  stmt_scopes (with_values line ps body) =
-      omega (
-        arith,
-        body_scopes body,
-        keywords_count ps,
-        length-append (keywords ps) (set_in body ++ scope_names_in body),
-        length-append (set_in body) (scope_names_in body),
-      )
+  stmt_scopes (with_values line ps body) = search (arith, rules, keywords_count, length-append, body_scopes body)
   stmt_scopes (filter_block line fs body) =
       omega (arith, body_scopes body, length-append (set_in body) (scope_names_in body))
   stmt_scopes (autoescape line on body) =
       omega (arith, body_scopes body, length-append (set_in body) (scope_names_in body))
   stmt_scopes (block line x scoped required body) =
       omega (arith, body_scopes body, length-append (set_in body) (scope_names_in body))
-  stmt_scopes (macro line x ps body) =
-      omega (
-        arith,
-        body_scopes body,
-        length-map ps (λ (p : Parameter). p.name),
-        length-append (map (λ (p : Parameter). p.name) ps) (set_in body ++ scope_names_in body),
-        length-append (set_in body) (scope_names_in body),
-      )
+  stmt_scopes (macro line x ps body) = search (arith, rules, length-map, length-append, body_scopes body)
   stmt_scopes a0 = omega arith
 
   body_scopes : (b : Body) → length (set_in b) + length (scope_names_in b) ≤ body_bound b
   body_scopes end = omega arith
-  body_scopes (stmt s rest) =
-      omega (
-        arith,
-        stmt_scopes s,
-        body_scopes rest,
-        length-append (set_by s) (set_in rest),
-        length-append (scope_names_by s) (scope_names_in rest),
-      )
+  body_scopes (stmt s rest) = search (arith, rules, length-append, stmt_scopes s, body_scopes rest)
 
   branch_scopes : (bs : Branches) → length (set_under bs) + length (scope_names_under bs) ≤ branch_bound bs
   branch_scopes no_branches = omega arith
-  branch_scopes (branch line c body rest) =
-      omega (
-        arith,
-        body_scopes body,
-        branch_scopes rest,
-        length-append (set_in body) (set_under rest),
-        length-append (scope_names_in body) (scope_names_under rest),
-      )
+  branch_scopes (branch line c body rest) = search (arith, rules, length-append, body_scopes body, branch_scopes rest)
 
 templates_scopes : (ts : List Template) → length (flat_map (λ t. scope_names_in t.body) ts) ≤ templates_bound ts
 templates_scopes [] = omega arith

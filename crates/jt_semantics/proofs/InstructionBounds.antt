@@ -1,7 +1,7 @@
 -- A resolved tree has at most 100 instructions for each token: expressions, rows, statements and
 -- bodies.
 use Rattle.std.proofs.Common.{◌≡◌, ℕ, zero, suc, ◌+◌, ◌*◌, min, ◌≤◌, Bool, true, false, if◌then◌else◌, List, [], ◌∷◌}
-use Rattle.std.proofs.Common.{length, Option, Some, None, arith, refl, length-append, rules, subst, sym}
+use Rattle.std.proofs.Common.{length, Option, Some, None, arith, refl, length-append, rules}
 use Rattle.std.specs.Option.{is_none}
 use Rattle.std.specs.List.{AllByRecursion}
 use Rattle.jt_ids.specs.declared.test_id.TestId.{TestId}
@@ -10,7 +10,7 @@ use Rattle.jt_ast.specs.Expressions.{filter, test, unary, binary, when, choice, 
 use Rattle.jt_ast.specs.Expressions.{pair, weight, literal_weight, operator_weight, is_weight, enclosed, exprs_weight}
 use Rattle.jt_ast.specs.Expressions.{pairs_weight, Text}
 use Rattle.jt_ast.specs.declared.expression.BinaryOperator.{BinaryOperator}
-use Rattle.jt_semantics.specs.Operators.{OperatorForm, form}
+use Rattle.jt_semantics.specs.Operators.{OperatorForm}
 use Rattle.jt_value.specs.Place.{Place}
 use Rattle.jt_chains.specs.Uses.{keywords, set_by, set_in, set_under, count}
 use Rattle.jt_ast.specs.Statements.{Parameter, FilterCall, Stmt, print, choose, for_each, set, set_block, with_values}
@@ -22,21 +22,21 @@ use Rattle.jt_chains.specs.Chain.{callee, a_cycle, given}
 use Rattle.jt_ids.specs.declared.loop_field.LoopField.{LoopField}
 use Rattle.jt_rules.specs.CompileEnv.{CompileEnv}
 use Rattle.jt_semantics.specs.Expressions.{filter_parameters}
-use Rattle.jt_semantics.specs.Layout.{Table, slot_in, names, numbered_of, globals, block_parameters, first_slot, unit}
+use Rattle.jt_semantics.specs.Layout.{Table, slot_in, names, block_parameters, first_slot, unit}
 use Rattle.jt_semantics.specs.Layout.{of_chain}
 use Rattle.jt_ir.specs.Slots as slots
 use Rattle.jt_ir.specs.Slots.{Slot, local, SlotExpr, SRow, Targets, SBody, variable, run}
-use Rattle.jt_ir.specs.Pool.{Constant, known, own}
+use Rattle.jt_ir.specs.Pool.{Constant, known}
 use Rattle.jt_semantics.specs.Resolve.{value_or, turned_round, tested_by, filtered_by, in_form, field_from, followed}
 use Rattle.jt_semantics.specs.Resolve.{fresh, fresh_targets, kept_slots, set_targets, filled, filled_some, first_locals}
 use Rattle.jt_semantics.specs.Resolve.{reads, handed_on, Part, StaticEnv, place, grown, bound_all, copied, scoped}
-use Rattle.jt_semantics.specs.Resolve.{first_body, invoked_body, invoked_super, invoked, resolved, resolved_row}
+use Rattle.jt_semantics.specs.Resolve.{invoked_body, invoked_super, invoked, resolved, resolved_row}
 use Rattle.jt_semantics.specs.Resolve.{resolved_asides, resolved_entries, resolved_condition, resolved_filters}
 use Rattle.jt_semantics.specs.Resolve.{resolved_values, placed_body, resolved_stmt, resolved_body, resolved_choice}
 use Rattle.jt_semantics.specs.Resolve.{left_out, locals_from}
 use Rattle.jt_ir.specs.Size.{targets_size, expr_size, row_size, condition_size, body_size}
 use Rattle.jt_semantics.specs.Measure.{stmt_own, body_own, branch_own, GivenFew, IsFew, HasFewNames}
-use Rattle.jt_eval.specs.Filters.{default_value, some_given}
+use Rattle.jt_eval.specs.Filters.{some_given}
 
 -- ---- Weights are positive
 
@@ -105,12 +105,7 @@ none_given (p ∷ ps) = none_given ps
 pub none_filled : (ps : List Parameter) (n : ℕ) (ks : Table) → filled_some ps n [] ks ≡ slots.none
 none_filled [] n ks = refl
 none_filled (p ∷ ps) (suc n) ks = none_filled ps n ks
-none_filled (p ∷ ps) zero ks =
-    subst (λ b. (if b
-    then slots.item (value_or (slot_in p.name ks) (own (default_value p.default))) (filled_some ps zero [] ks)
-    else slots.none)
-    ≡ slots.none)
-    (sym (none_given (p ∷ ps))) refl
+none_filled (p ∷ ps) zero ks = search (arith, rules, none_given)
 
 pub filter_few : (cenv : CompileEnv) (f : Option ℕ) → ((i : ℕ) → length (cenv.filters.parameters i) ≤ 3)
     → length (filter_parameters cenv.filters f) ≤ 3
@@ -255,13 +250,7 @@ module _ (cenv : CompileEnv) (order : List Namespace) where
         search (arith, rules, turned_size, tested_size, resolved_sized a sp k, row_sized ts sp k, is_some_weight)
     resolved_sized (unary u a) sp k = omega (arith, resolved_sized a sp k)
     resolved_sized (binary b x y) sp k =
-        omega (
-          arith,
-          form_size (form sp.escaping b) (resolved cenv order x sp) (resolved cenv order y sp),
-          resolved_sized x sp k,
-          resolved_sized y sp k,
-          operator_some b,
-        )
+        search (arith, rules, form_size, operator_some, resolved_sized x sp k, resolved_sized y sp k)
     resolved_sized (when c a) sp k = omega (arith, resolved_sized c sp k, resolved_sized a sp k)
     resolved_sized (choice c a b) sp k =
         omega (arith, resolved_sized c sp k, resolved_sized a sp k, resolved_sized b sp k)
@@ -321,25 +310,14 @@ module _ (cenv : CompileEnv) (order : List Namespace) where
   pub scope_sized : (b : Body) (sp : StaticEnv)
       → body_size (resolved_body cenv order b (bound_all (set_in b) sp)) + 2 * length (set_in b) ≤ 100 * body_own b
       → body_size (scoped (set_in b) sp (resolved_body cenv order b)) ≤ 100 * body_own b
-  scope_sized b sp h =
-      omega (
-        arith,
-        h,
-        copied_size (place sp 1) sp.table sp.free (set_in b) (resolved_body cenv order b (bound_all (set_in b) sp)),
-      )
+  scope_sized b sp h = search (arith, rules, copied_size)
 
   mutual
     -- The bound of the instructions of a statement, with the copies at the start of its scope.
     pub stmt_sized : (s : Stmt) (sp : StaticEnv) → IsFew cenv order sp.namespace
         → body_size (resolved_stmt cenv order s sp) + 2 * length (set_by s) ≤ 100 * stmt_own s
     stmt_sized (print line e) sp k = omega (arith, resolved_sized e sp k)
-    stmt_sized (choose bs other) sp k =
-        omega (
-          arith,
-          choice_sized bs sp k (resolved_body cenv order other sp),
-          all_sized other sp k,
-          length-append (set_under bs) (set_in other),
-        )
+    stmt_sized (choose bs other) sp k = search (arith, rules, length-append, choice_sized bs sp k, all_sized other sp k)
     stmt_sized (for_each line xs e c body other) sp k =
         let inner = bound_all xs sp in
         omega (
@@ -375,35 +353,18 @@ module _ (cenv : CompileEnv) (order : List Namespace) where
         )
     stmt_sized (include line n missing with_context) sp k =
         omega (arith, include_sized sp line n missing with_context (is_none (cenv.sources n)) ((k.names (a_chain n)).0))
-    stmt_sized (block line x is required body) sp k =
-        omega (
-          arith,
-          placed_sized sp (first_body (numbered_of cenv sp.namespace x)) x
-              (if is then sp.table else globals cenv order sp.namespace) (k.names sp.namespace),
-        )
+    stmt_sized (block line x is required body) sp k = search (arith, rules, placed_sized)
     stmt_sized a0 sp k = omega arith
 
     pub all_sized : (b : Body) (sp : StaticEnv) → IsFew cenv order sp.namespace
         → body_size (resolved_body cenv order b sp) + 2 * length (set_in b) ≤ 100 * body_own b
     all_sized end sp k = omega arith
     all_sized (stmt s rest) sp k =
-        omega (
-          arith,
-          stmt_sized s sp k,
-          all_sized rest sp k,
-          followed_size (resolved_stmt cenv order s sp) (resolved_body cenv order rest sp),
-          length-append (set_by s) (set_in rest),
-        )
+        search (arith, rules, followed_size, length-append, stmt_sized s sp k, all_sized rest sp k)
 
     choice_sized : (bs : Branches) (sp : StaticEnv) → IsFew cenv order sp.namespace → (other : SBody Constant)
         → body_size (resolved_choice cenv order bs sp other) + 2 * length (set_under bs)
         ≤ 100 * branch_own bs + body_size other
     choice_sized no_branches sp k other = omega arith
     choice_sized (branch line c body rest) sp k other =
-        omega (
-          arith,
-          resolved_sized c sp k,
-          all_sized body sp k,
-          choice_sized rest sp k other,
-          length-append (set_in body) (set_under rest),
-        )
+        search (arith, rules, resolved_sized, length-append, all_sized body sp k, choice_sized rest sp k other)

@@ -1,7 +1,5 @@
 -- In chains that keep the rules, each use keeps the rules of loops, of callees and of arguments.
-use Rattle.std.proofs.Common.{◌≡◌, refl, Bool, true, false, List, [], ◌∷◌, ◌++◌}
-use Rattle.std.specs.Prelude.{◌⊎◌}
-use Rattle.std.proofs.lemmas.Bool.{true_from_ne_false}
+use Rattle.std.proofs.Common.{List, [], ◌∷◌, ◌++◌}
 use mathlib.Core.Logic.{inl, inr}
 use Rattle.jt_chains.specs.Chain.{Namespace}
 use Rattle.jt_rules.specs.CompileEnv.{CompileEnv}

@@ -7,7 +7,7 @@ use Rattle.jt_ids.specs.declared.test_id.TestId.{TestId}
 use Rattle.jt_ast.specs.Expressions.{Expr, constant, name, group, list_of, map_of, attribute, item, call, filter, test}
 use Rattle.jt_ast.specs.Expressions.{unary, binary, when, choice, Exprs, no_exprs, expr, Pairs, no_pairs, pair, weight}
 use Rattle.jt_ast.specs.Expressions.{exprs_weight, pairs_weight, Text}
-use Rattle.jt_semantics.specs.Operators.{OperatorForm, form}
+use Rattle.jt_semantics.specs.Operators.{OperatorForm}
 use Rattle.jt_value.specs.Place.{Place}
 use Rattle.jt_chains.specs.Uses.{keywords, set_by, set_in, set_under}
 use Rattle.jt_ast.specs.Statements.{Parameter, FilterCall, Stmt, print, choose, for_each, set, set_block, with_values}
@@ -16,7 +16,7 @@ use Rattle.jt_ast.specs.Statements.{branch, condition_weight, filter_call_weight
 use Rattle.jt_chains.specs.Chain.{Namespace, a_chain, Callee}
 use Rattle.jt_ids.specs.declared.loop_field.LoopField.{LoopField}
 use Rattle.jt_rules.specs.CompileEnv.{CompileEnv}
-use Rattle.jt_semantics.specs.Layout.{Table, slot_in, globals_from, names, numbered_of, globals, block_parameters}
+use Rattle.jt_semantics.specs.Layout.{Table, slot_in, globals_from, names, globals, block_parameters}
 use Rattle.jt_semantics.specs.Layout.{first_slot, unit, of_chain}
 use Rattle.jt_ir.specs.Slots as slots
 use Rattle.jt_ir.specs.Slots.{Slot, local, SlotExpr, SRow, SBody, variable, run}
@@ -24,7 +24,7 @@ use Rattle.jt_ir.specs.Pool.{Constant, known}
 use Rattle.jt_semantics.specs.Resolve.{value_or, turned_round, tested_by, filtered_by, in_form, field_from, followed}
 use Rattle.jt_semantics.specs.Resolve.{locals_from, fresh, fresh_targets, kept_slots, set_targets, filled, filled_some}
 use Rattle.jt_semantics.specs.Resolve.{first_locals, reads, handed_on, Part, StaticEnv, place, grown, bound_table}
-use Rattle.jt_semantics.specs.Resolve.{bound_all, slot_of, copied, scoped, first_body, invoked_body, invoked_super}
+use Rattle.jt_semantics.specs.Resolve.{bound_all, slot_of, copied, scoped, invoked_body, invoked_super}
 use Rattle.jt_semantics.specs.Resolve.{invoked, resolved, resolved_row, resolved_asides, resolved_entries}
 use Rattle.jt_semantics.specs.Resolve.{resolved_condition, resolved_filters, resolved_values, placed_body}
 use Rattle.jt_semantics.specs.Resolve.{resolved_stmt, resolved_body, resolved_choice, left_out}
@@ -113,9 +113,7 @@ module _ (n : ℕ) (some : 1 ≤ n) where
   filled_local : (ps : List Parameter) (m d : ℕ) (ks : Table) → Below ks → row_locals (filled ps m d ks) ≤ n
   filled_local [] m d ks h = omega arith
   filled_local (p ∷ ps) (suc m) d ks h = filled_local ps m (suc d) ks h
-  filled_local (p ∷ ps) zero d ks h =
-      omega
-      (arith, value_local (slot_in p.name ks) (known d) (slot_below ks p.name h), filled_local ps zero (suc d) ks h)
+  filled_local (p ∷ ps) zero d ks h = search (arith, rules, value_local, slot_below, filled_local ps zero)
 
   some_local : (ps : List Parameter) (m : ℕ) (xs : List Text) (ks : Table) → Below ks
       → row_locals (filled_some ps m xs ks) ≤ n
@@ -197,15 +195,7 @@ module _ (n : ℕ) (some : 1 ≤ n) where
           search (arith, rules, either_local, field_local, localed a sp t (omega (arith, k)))
       localed (item a b) sp t k = omega (arith, localed a sp t (omega (arith, k)), localed b sp t (omega (arith, k)))
       localed (call f ts ps) sp t k =
-          search (
-            arith,
-            rules,
-            invoked_localed,
-            from_below,
-            names_few,
-            row_localed ts sp t (omega (arith, k)),
-            asides_localed ps sp t (omega (arith, k)),
-          )
+          search (arith, rules, invoked_localed, from_below, names_few, row_localed ts sp t, asides_localed ps sp t)
       localed (filter a x ts ps) sp t k =
           search (
             arith,
@@ -219,31 +209,11 @@ module _ (n : ℕ) (some : 1 ≤ n) where
             names_few,
           )
       localed (test a m x ts ps) sp t k =
-          search (
-            arith,
-            rules,
-            turned_local,
-            tested_local,
-            localed a sp t (omega (arith, k)),
-            row_localed ts sp t (omega (arith, k, is_some_weight m)),
-            is_some_weight,
-          )
+          search (arith, rules, turned_local, tested_local, is_some_weight, localed a sp t, row_localed ts sp t)
       localed (unary u a) sp t k = omega (arith, localed a sp t (omega (arith, k)))
-      localed (binary b x y) sp t k =
-          omega (
-            arith,
-            form_local (form sp.escaping b) (resolved cenv order x sp) (resolved cenv order y sp),
-            localed x sp t (omega (arith, k)),
-            localed y sp t (omega (arith, k)),
-          )
+      localed (binary b x y) sp t k = search (arith, rules, form_local, localed x sp t, localed y sp t)
       localed (when c a) sp t k = omega (arith, localed c sp t (omega (arith, k)), localed a sp t (omega (arith, k)))
-      localed (choice c a b) sp t k =
-          omega (
-            arith,
-            localed c sp t (omega (arith, k)),
-            localed a sp t (omega (arith, k)),
-            localed b sp t (omega (arith, k)),
-          )
+      localed (choice c a b) sp t k = search (arith, rules, localed c sp t, localed a sp t, localed b sp t)
 
       pub row_localed : (ts : Exprs) (sp : StaticEnv) → Below sp.table → sp.free + exprs_weight ts ≤ n
           → (b : SRow Constant) → row_locals b ≤ n → row_locals (resolved_row cenv order ts sp b) ≤ n
@@ -319,9 +289,7 @@ module _ (n : ℕ) (some : 1 ≤ n) where
     pub scope_localed : (b : Body) (sp : StaticEnv) → Below sp.table → sp.free + body_own b ≤ n
         → body_locals (resolved_body cenv order b (bound_all (set_in b) sp)) ≤ n
         → body_locals (scoped (set_in b) sp (resolved_body cenv order b)) ≤ n
-    scope_localed b sp t k h =
-        copied_local (place sp 1) sp.table sp.free (set_in b) (resolved_body cenv order b (bound_all (set_in b) sp))
-        (omega (arith, k, in_few b)) t h
+    scope_localed b sp t k h = search (arith, rules, copied_local, in_few)
 
     mutual
       pub stmt_localed : (s : Stmt) (sp : StaticEnv) → Below sp.table → sp.free + stmt_own s ≤ n + length (set_by s)
@@ -348,13 +316,7 @@ module _ (n : ℕ) (some : 1 ≤ n) where
           )
       stmt_localed (set line xs e) sp t k = omega (arith, localed e sp t (omega (arith, k)), set_local sp.table xs t)
       stmt_localed (set_block line x body) sp t k =
-          omega (
-            arith,
-            of_below sp.table x t,
-            scope_localed body sp (t) (omega (arith, k)) (all_localed body (bound_all (set_in body) sp)
-                (bound_below (set_in body) (sp.free) (sp.table) (omega (arith, k, in_few body)) (t))
-                (omega (arith, k))),
-          )
+          search (arith, rules, of_below, scope_localed, bound_below, in_few, all_localed body)
       stmt_localed (with_values line ps body) sp t k =
           let inner = bound_all (keywords ps) sp in
           values_localed ps sp line (scoped (set_in body) inner (resolved_body cenv order body)) t (omega (arith, k))
@@ -381,22 +343,18 @@ module _ (n : ℕ) (some : 1 ≤ n) where
           (bound_below (set_in body) (sp.free) (sp.table) (omega (arith, k, in_few body)) (t)) (omega (arith, k)))
       stmt_localed (include line m missing with_context) sp t k =
           include_localed sp line m missing with_context (is_none (cenv.sources m)) t
-      stmt_localed (block line x is required body) sp t k =
-          placed_localed sp (first_body (numbered_of cenv sp.namespace x)) x
-          (if is then sp.table else globals cenv order sp.namespace) (table_below is sp t)
+      stmt_localed (block line x is required body) sp t k = search (arith, rules, placed_localed, table_below)
       stmt_localed a0 sp t k = omega arith
 
       pub all_localed : (b : Body) (sp : StaticEnv) → Below sp.table → sp.free + body_own b ≤ n + length (set_in b)
           → body_locals (resolved_body cenv order b sp) ≤ n
       all_localed end sp t k = omega arith
       all_localed (stmt s rest) sp t k =
-          search
-          (arith, rules, length-append, stmt_localed s sp t, in_few, all_localed rest sp t, by_few, followed_local)
+          grind (arith, length-append, in_few, by_few, followed_local, stmt_localed s sp t, all_localed rest sp t)
 
       choice_localed : (bs : Branches) (sp : StaticEnv) → Below sp.table
           → sp.free + branch_own bs ≤ n + length (set_under bs) → (other : SBody Constant) → body_locals other ≤ n
           → body_locals (resolved_choice cenv order bs sp other) ≤ n
       choice_localed no_branches sp t k other h = h
       choice_localed (branch line c body rest) sp t k other h =
-          search
-          (arith, rules, length-append, localed, in_few, under_few, all_localed body sp t, choice_localed rest sp t)
+          grind (arith, length-append, localed, in_few, under_few, all_localed body sp t, choice_localed rest sp t)

@@ -15,13 +15,12 @@ use Rattle.jt_eval.specs.Eval.{Eval, gives, fails, deeper, bind, at}
 use Rattle.jt_semantics.specs.Operators.{OperatorForm, form}
 use Rattle.jt_semantics.specs.Expressions.{asked, turned, either, combined, filtered, block_text, super_text, called}
 use Rattle.jt_semantics.specs.Expressions.{value, values, named_values}
-use Rattle.jt_eval.specs.Tests.{test_named}
 use Rattle.jt_ast.specs.Statements.{FilterCall, Stmt, data_of, print, choose, for_each, set, set_block, with_values}
 use Rattle.jt_ast.specs.Statements.{filter_block, autoescape, macro, include, import_as, import_from, extends, block}
 use Rattle.jt_ast.specs.Statements.{Body, end, stmt, Branches, no_branches, branch}
 use Rattle.jt_semantics.specs.Env.{Env, inside, top}
-use Rattle.jt_chains.specs.Chain.{Namespace, Template, BlockBody, bodies, from_given, given, Callee, a_macro, a_range}
-use Rattle.jt_chains.specs.Chain.{a_super, a_block, a_cycle, no_callee, callee, is_loop}
+use Rattle.jt_chains.specs.Chain.{Namespace, Template, BlockBody, bodies, from_given, Callee, a_macro, a_range}
+use Rattle.jt_chains.specs.Chain.{a_super, a_block, a_cycle, no_callee, is_loop}
 use Rattle.jt_eval.specs.Loops.{Loop}
 use Rattle.jt_eval.specs.Filters.{Filters}
 use Rattle.jt_rules.specs.CompileEnv.{CompileEnv}
@@ -117,15 +116,13 @@ module _ (cenv : CompileEnv) (c d : Calls) (under : (x : Invocation) → Approxi
     value_under (attribute e k) a env = if_under (is_loop e) same (bound (value_under e a env) (λ v. same))
     value_under (item e k) a env = bound (value_under e a env) (λ v. bound (value_under k a env) (λ w. same))
     value_under (written.call f ts ps) a env =
-        called_under (callee cenv.sources (given cenv.sources a.namespace) f) a env (values_under ts a env)
-        (named_under ps a env)
+        search (arith, rules, called_under, values_under ts a env, named_under ps a env)
     value_under (written.filter e x ts ps) a env =
         filtered_under cenv.filters (cenv.filters.named x ts ps) a.escaping
         (bound (value_under e a env)
         (λ v. bound (values_under ts a env) (λ vs. bound (named_under ps a env) (λ ks. same))))
     value_under (written.test e n x ts ps) a env =
-        turned_under n
-        (asked_under (test_named x) (bound (value_under e a env) (λ v. bound (values_under ts a env) (λ vs. same))))
+        search (arith, rules, turned_under, asked_under, bound, same, value_under e a env, values_under ts a env)
     value_under (unary o e) a env = bound (value_under e a env) (λ v. same)
     value_under (binary o e f) a env = combined_under (form a.escaping o) (value_under e a env) (value_under f a env)
     value_under (when e f) a env = either_under (value_under e a env) (value_under f a env) same
@@ -176,8 +173,7 @@ module _ (cenv : CompileEnv) (c d : Calls) (under : (x : Invocation) → Approxi
     meaning_under (with_values line ps body) a st =
         bound (at_under (tag a line) (named_under ps a st.env)) (λ bs. bound (meanings_under body a _) (λ r. same))
     meaning_under (filter_block line fs body) a st =
-        bound (bound (meanings_under body a _) (λ r. same))
-        (λ v. at_under (tag a line) (bound (through_under fs a st.env same) (λ w. same)))
+        search (arith, rules, bound, same, at_under, through_under, meanings_under body a)
     meaning_under (autoescape line on body) a st = bound (meanings_under body _ _) (λ r. same)
     meaning_under (macro line x ps body) a st = same
     meaning_under (include line n ignore_missing with_context) a st =
@@ -185,9 +181,7 @@ module _ (cenv : CompileEnv) (c d : Calls) (under : (x : Invocation) → Approxi
     meaning_under (import_as line n new) a st = same
     meaning_under (import_from line n news) a st = same
     meaning_under (extends line n) a st = same
-    meaning_under (block line x scoped required body) a st =
-        bound (block_under a.namespace (bodies cenv.sources cenv.escaping a.namespace x)
-        (if scoped then st.env else top st.env.globals)) (λ s. same)
+    meaning_under (block line x scoped required body) a st = search (arith, rules, bound, block_under, same)
 
     pub meanings_under : (b : Body) (a : EvalContext) (st : State)
         → Approximates (meanings cenv c b a st) (meanings cenv d b a st)
@@ -198,8 +192,7 @@ module _ (cenv : CompileEnv) (c d : Calls) (under : (x : Invocation) → Approxi
         → ((st : State) → Approximates (j st) (k st)) → Approximates (chosen cenv c bs a st j) (chosen cenv d bs a st k)
     chosen_under no_branches a st j k os = os st
     chosen_under (branch line e body rest) a st j k os =
-        bound (at_under (tag a line) (value_under e a st.env))
-        (λ v. if_under (tree.truth v) (meanings_under body a st) (chosen_under rest a st j k os))
+        grind (arith, bound, at_under, value_under, if_under, meanings_under body a st, chosen_under rest a st j k os)
 
   sets_under : (b : Body) (a : EvalContext) (st : State) → Approximates (sets cenv c b a st) (sets cenv d b a st)
   sets_under end a st = same
@@ -234,9 +227,7 @@ more_under same v = v
 
 later_under : (cenv : CompileEnv) (entry : Text) (context : Pairs) (n k m : ℕ) → m ≡ k + n
     → Approximates (mean cenv entry context n) (mean cenv entry context m)
-later_under cenv entry context n zero m e =
-    let q : n ≡ m = omega arith in
-    subst (λ z. Approximates (mean cenv entry context n) (mean cenv entry context z)) q same
+later_under cenv entry context n zero m e = search (arith, rules, same)
 later_under cenv entry context n (suc k) m e =
     let q : suc (k + n) ≡ m = omega arith in
     subst (λ z. Approximates (mean cenv entry context n) (mean cenv entry context z)) q

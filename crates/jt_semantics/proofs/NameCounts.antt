@@ -13,7 +13,7 @@ use Rattle.std.proofs.lemmas.Map.Text.{is_eq-slice_cmp}
 use Rattle.std.proofs.lemmas.Bool.{false_from_ne_true}
 use Rattle.jt_ast.specs.Texts.{among, repeated, inserted, all_inserted, ascending}
 use Rattle.jt_ast.specs.Expressions.{Text}
-use Rattle.jt_ast.specs.Statements.{Parameter, data_of, print, choose, for_each, set, set_block, with_values}
+use Rattle.jt_ast.specs.Statements.{data_of, print, choose, for_each, set, set_block, with_values}
 use Rattle.jt_ast.specs.Statements.{filter_block, autoescape, macro, include, import_as, import_from, extends, block}
 use Rattle.jt_ast.specs.Statements.{Body, end, stmt}
 use Rattle.jt_chains.specs.Chain.{Namespace, a_library, same_namespace, listed, Template, templates, MacroBody}
@@ -26,7 +26,7 @@ use Rattle.jt_eval.specs.TheFilters.{the_filters, filter_of, parameters_of, with
 use Rattle.jt_ids.specs.declared.filter_id.FilterId.{FilterId}
 use Rattle.jt_ids.specs.FilterTable.{argument_names}
 use Rattle.jt_rules.specs.CompileEnv.{CompileEnv, cenv_of}
-use Rattle.jt_rules.specs.UseSites.{at, declares, bound, parameter_names, outside, stmt_use_sites, body_use_sites}
+use Rattle.jt_rules.specs.UseSites.{parameter_names, outside, stmt_use_sites, body_use_sites}
 use Rattle.jt_semantics.specs.Ascends.{IsBefore, Above, Ascends}
 use Rattle.jt_semantics.specs.Layout.{names_in, names}
 use Rattle.jt_semantics.proofs.DefinedNames.{given_all}
@@ -181,42 +181,26 @@ module _ (cenv : CompileEnv) (h : Namespace) where
       → AllByRecursion OneEach (macros_in t c)
   macros_named t end k = tt
   macros_named t (stmt (macro line x ps body) rest) k =
-      let declared = at outside (declares x ps) ++ bound (parameter_names ps) outside in
-      let here = declared ++ body_use_sites body outside in
-      let first = front cenv h declared (body_use_sites body outside)
-      (front cenv h here (body_use_sites rest outside) k) in (
-        false_from_ne_true (repeated (parameter_names ps)) first.0.fitting,
-        macros_named t rest (back cenv h here (body_use_sites rest outside) k),
-      )
+      search (arith, rules, front, false_from_ne_true, back, macros_named t rest)
   macros_named t (stmt (data_of d) rest) k =
       macros_named t rest (back cenv h (stmt_use_sites (data_of d) outside) (body_use_sites rest outside) k)
   macros_named t (stmt (print line x) rest) k =
       macros_named t rest (back cenv h (stmt_use_sites (print line x) outside) (body_use_sites rest outside) k)
   macros_named t (stmt (choose bs other) rest) k =
       macros_named t rest (back cenv h (stmt_use_sites (choose bs other) outside) (body_use_sites rest outside) k)
-  macros_named t (stmt (for_each line xs x c body other) rest) k =
-      macros_named t rest (back cenv h (stmt_use_sites (for_each line xs x c body other) outside)
-      (body_use_sites rest outside) k)
+  macros_named t (stmt (for_each line xs x c body other) rest) k = search (arith, rules, back, macros_named t rest)
   macros_named t (stmt (set line xs x) rest) k =
       macros_named t rest (back cenv h (stmt_use_sites (set line xs x) outside) (body_use_sites rest outside) k)
   macros_named t (stmt (set_block line x body) rest) k =
       macros_named t rest (back cenv h (stmt_use_sites (set_block line x body) outside) (body_use_sites rest outside) k)
-  macros_named t (stmt (with_values line ps body) rest) k =
-      macros_named t rest (back cenv h (stmt_use_sites (with_values line ps body) outside) (body_use_sites rest outside)
-      k)
-  macros_named t (stmt (filter_block line fs body) rest) k =
-      macros_named t rest (back cenv h (stmt_use_sites (filter_block line fs body) outside)
-      (body_use_sites rest outside) k)
-  macros_named t (stmt (autoescape line on body) rest) k =
-      macros_named t rest (back cenv h (stmt_use_sites (autoescape line on body) outside) (body_use_sites rest outside)
-      k)
+  macros_named t (stmt (with_values line ps body) rest) k = search (arith, rules, back, macros_named t rest)
+  macros_named t (stmt (filter_block line fs body) rest) k = search (arith, rules, back, macros_named t rest)
+  macros_named t (stmt (autoescape line on body) rest) k = search (arith, rules, back, macros_named t rest)
   macros_named t (stmt (include line n i w) rest) k =
       macros_named t rest (back cenv h (stmt_use_sites (include line n i w) outside) (body_use_sites rest outside) k)
   macros_named t (stmt (import_as line n new) rest) k =
       macros_named t rest (back cenv h (stmt_use_sites (import_as line n new) outside) (body_use_sites rest outside) k)
-  macros_named t (stmt (import_from line n news) rest) k =
-      macros_named t rest (back cenv h (stmt_use_sites (import_from line n news) outside) (body_use_sites rest outside)
-      k)
+  macros_named t (stmt (import_from line n news) rest) k = search (arith, rules, back, macros_named t rest)
   macros_named t (stmt (extends line n) rest) k =
       macros_named t rest (back cenv h (stmt_use_sites (extends line n) outside) (body_use_sites rest outside) k)
   macros_named t (stmt (block line x s r body) rest) k =
@@ -231,9 +215,7 @@ module _ (cenv : CompileEnv) (h : Namespace) where
 
   module _ (ns : List Text) (few : length ns ≤ 200) where
     named_few : (m : MacroBody) → OneEach m → AllAmong (map (λ p. p.name) m.parameters) ns → Few m
-    named_few m e a =
-        let l = no_more (parameter_names m.parameters) ns (repeated_differs (parameter_names m.parameters) e) a in
-        let k = mapped_len (λ (p : Parameter). p.name) m.parameters in omega (arith, l, k, few)
+    named_few m e a = search (arith, rules, no_more, repeated_differs, mapped_len)
 
     body_few : (t : Text) (c : Body) → AllAmong (body_names c) ns → AllByRecursion OneEach (macros_in t c)
         → AllByRecursion Few (macros_in t c)
@@ -345,5 +327,4 @@ few_by c o n e =
     scopes_few : (k : Namespace) (b : Bool) → listed k c.order ≡ b
         → length (if b then scope_names (sources_of c) k else []) ≤ 200
     scopes_few k a1 p =
-        search
-        (arith, rules, ascending_among, templates_bind, own_of, all_own, no_more, ascends_differs, ascending_ascends)
+        grind (arith, ascending_among, templates_bind, own_of, all_own, no_more, ascends_differs, ascending_ascends)

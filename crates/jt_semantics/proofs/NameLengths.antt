@@ -69,12 +69,9 @@ module _ (t : Text) (n : ℕ) where
   mutual
     stmt_blocks : (s : Stmt) (on : Bool) → stmt_bytes s ≤ n → BlocksShort n (blocks_of t s on)
     stmt_blocks (block line x scoped required body) on h = (omega (arith, h), body_blocks body on (omega (arith, h)))
-    stmt_blocks (choose bs other) on h =
-        all_append (λ b. body_bytes b.body ≤ n) (blocks_under t bs on) (blocks_in t other on)
-        (branch_blocks bs on (omega (arith, h))) (body_blocks other on (omega (arith, h)))
+    stmt_blocks (choose bs other) on h = search (arith, rules, all_append, branch_blocks bs on, body_blocks other on)
     stmt_blocks (for_each line xs e c body other) on h =
-        all_append (λ b. body_bytes b.body ≤ n) (blocks_in t body on) (blocks_in t other on)
-        (body_blocks body on (omega (arith, h))) (body_blocks other on (omega (arith, h)))
+        search (arith, rules, all_append, body_blocks body on, body_blocks other on)
     stmt_blocks (set_block line x body) on h = body_blocks body on (omega (arith, h))
     stmt_blocks (with_values line ps body) on h = body_blocks body on (omega (arith, h))
     stmt_blocks (filter_block line fs body) on h = body_blocks body on (omega (arith, h))
@@ -84,15 +81,12 @@ module _ (t : Text) (n : ℕ) where
 
     body_blocks : (b : Body) (on : Bool) → body_bytes b ≤ n → BlocksShort n (blocks_in t b on)
     body_blocks end on h = tt
-    body_blocks (stmt s rest) on h =
-        all_append (λ b. body_bytes b.body ≤ n) (blocks_of t s on) (blocks_in t rest on)
-        (stmt_blocks s on (omega (arith, h))) (body_blocks rest on (omega (arith, h)))
+    body_blocks (stmt s rest) on h = search (arith, rules, all_append, stmt_blocks s on, body_blocks rest on)
 
     branch_blocks : (bs : Branches) (on : Bool) → branch_bytes bs ≤ n → BlocksShort n (blocks_under t bs on)
     branch_blocks no_branches on h = tt
     branch_blocks (branch line c body rest) on h =
-        all_append (λ b. body_bytes b.body ≤ n) (blocks_in t body on) (blocks_under t rest on)
-        (body_blocks body on (omega (arith, h))) (branch_blocks rest on (omega (arith, h)))
+        search (arith, rules, all_append, body_blocks body on, branch_blocks rest on)
 
   abbrev MacroShort : MacroBody → Type 0
   MacroShort m = (body_bytes m.body ≤ n) × (parameters_bytes m.parameters ≤ n)
@@ -153,10 +147,7 @@ module _ (cenv : CompileEnv) (order : List Namespace) (n : ℕ) (k : Plain cenv)
 
   chain_short : (ts : List Template) → TemplatesShort n ts → Shorts n (body_values (resolved_chain cenv order h ts))
   chain_short [] g = tt
-  chain_short (t ∷ []) g =
-      let c = all_within value_bytes own_bytes cenv order k t.body (top_senv cenv order h t.name) in
-      let f = g.0 in
-      each_short n (body_values (resolved_body cenv order t.body (top_senv cenv order h t.name))) (omega (arith, c, f))
+  chain_short (t ∷ []) g = search (arith, rules, all_within, own_bytes, each_short)
   chain_short (t ∷ (u ∷ us)) g =
       followed_short n (resolved_sets cenv order t.body (top_senv cenv order h t.name))
       (resolved_chain cenv order h (u ∷ us)) (sets_short t.body t.name g.0) (chain_short (u ∷ us) g.1)
@@ -190,9 +181,7 @@ module _ (cenv : CompileEnv) (order : List Namespace) (n : ℕ) (k : Plain cenv)
 
   entry_short : (g : Namespace) → Shorts n (body_values (resolved_chain cenv order g (templates cenv.sources g)))
       → Shorts n (routines_values (entry_routines cenv order g))
-  entry_short (a_chain m) c =
-      all_append (λ v. value_bytes v ≤ n)
-      (body_values (resolved_chain cenv order (a_chain m) (templates cenv.sources (a_chain m)))) [] c tt
+  entry_short (a_chain m) c = search (arith, rules, all_append)
   entry_short (a_library m) c = tt
 
   in_chain : TemplatesShort n (templates cenv.sources h) → Shorts n (routines_values (chain_routines cenv order h))
@@ -238,26 +227,16 @@ module _ (n : ℕ) where
     expr_short (attribute a k) h = search (arith, rules, expr_short a (omega (arith, h)))
     expr_short (item a b) h =
         names_append n (expr_names a) (expr_names b) (expr_short a (omega (arith, h))) (expr_short b (omega (arith, h)))
-    expr_short (call a ts ps) h =
-        names_append n (row_names ts) (pair_names ps) (row_short ts (omega (arith, h)))
-        (pairs_short ps (omega (arith, h)))
+    expr_short (call a ts ps) h = search (arith, rules, names_append, row_short ts, pairs_short ps)
     expr_short (written.filter a x ts ps) h =
-        names_append n (expr_names a) (row_names ts ++ pair_names ps) (expr_short a (omega (arith, h)))
-        (names_append n (row_names ts) (pair_names ps) (row_short ts (omega (arith, h)))
-        (pairs_short ps (omega (arith, h))))
-    expr_short (test a m x ts ps) h =
-        names_append n (expr_names a) (row_names ts ++ pair_names ps) (expr_short a (omega (arith, h)))
-        (names_append n (row_names ts) (pair_names ps) (row_short ts (omega (arith, h)))
-        (pairs_short ps (omega (arith, h))))
+        search (arith, rules, names_append, expr_short a, row_short ts, pairs_short ps)
+    expr_short (test a m x ts ps) h = search (arith, rules, names_append, expr_short a, row_short ts, pairs_short ps)
     expr_short (unary o a) h = expr_short a h
     expr_short (binary o a b) h =
         names_append n (expr_names a) (expr_names b) (expr_short a (omega (arith, h))) (expr_short b (omega (arith, h)))
     expr_short (when c a) h =
         names_append n (expr_names c) (expr_names a) (expr_short c (omega (arith, h))) (expr_short a (omega (arith, h)))
-    expr_short (choice c a b) h =
-        names_append n (expr_names c) (expr_names a ++ expr_names b) (expr_short c (omega (arith, h)))
-        (names_append n (expr_names a) (expr_names b) (expr_short a (omega (arith, h)))
-        (expr_short b (omega (arith, h))))
+    expr_short (choice c a b) h = search (arith, rules, names_append, expr_short c, expr_short a, expr_short b)
 
     row_short : (ts : Exprs) → exprs_bytes ts ≤ n → Names n (row_names ts)
     row_short no_exprs h = tt
@@ -266,9 +245,7 @@ module _ (n : ℕ) where
 
     pairs_short : (ps : Pairs) → pairs_bytes ps ≤ n → Names n (pair_names ps)
     pairs_short no_pairs h = tt
-    pairs_short (pair k a ps) h =
-        names_append n (expr_names a) (pair_names ps) (expr_short a (omega (arith, h)))
-        (pairs_short ps (omega (arith, h)))
+    pairs_short (pair k a ps) h = search (arith, rules, names_append, expr_short a, pairs_short ps)
 
   keys_short : (ps : Pairs) → pairs_bytes ps ≤ n → Names n (keywords ps)
   keys_short no_pairs h = tt
@@ -284,11 +261,7 @@ module _ (n : ℕ) where
 
   filter_call_short : (fs : List FilterCall) → filter_call_bytes fs ≤ n → Names n (filter_call_names fs)
   filter_call_short [] h = tt
-  filter_call_short (f ∷ fs) h =
-      names_append n (row_names f.arguments) (pair_names f.keywords ++ filter_call_names fs)
-      (row_short f.arguments (omega (arith, h)))
-      (names_append n (pair_names f.keywords) (filter_call_names fs) (pairs_short f.keywords (omega (arith, h)))
-      (filter_call_short fs (omega (arith, h))))
+  filter_call_short (f ∷ fs) h = search (arith, rules, names_append, row_short, pairs_short, filter_call_short fs)
 
   given_short : (ps : List Parameter) → parameters_bytes ps ≤ n → Names n (map (λ p. p.name) ps)
   given_short [] h = tt
@@ -297,9 +270,7 @@ module _ (n : ℕ) where
   mutual
     stmt_short : (s : Stmt) → stmt_bytes s ≤ n → Names n (stmt_names s)
     stmt_short (print line e) h = expr_short e h
-    stmt_short (choose bs other) h =
-        names_append n (branch_names bs) (body_names other) (branches_short bs (omega (arith, h)))
-        (body_short other (omega (arith, h)))
+    stmt_short (choose bs other) h = search (arith, rules, names_append, branches_short bs, body_short other)
     stmt_short (for_each line xs e c body other) h =
         search (
           arith,
@@ -315,31 +286,21 @@ module _ (n : ℕ) where
         names_append n (expr_names e) xs (expr_short e (omega (arith, h))) (texts_short xs (omega (arith, h)))
     stmt_short (set_block line x body) h = (omega (arith, h), body_short body (omega (arith, h)))
     stmt_short (with_values line ps body) h =
-        names_append n (pair_names ps) (keywords ps ++ body_names body) (pairs_short ps (omega (arith, h)))
-        (names_append n (keywords ps) (body_names body) (keys_short ps (omega (arith, h)))
-        (body_short body (omega (arith, h))))
-    stmt_short (filter_block line fs body) h =
-        names_append n (body_names body) (filter_call_names fs) (body_short body (omega (arith, h)))
-        (filter_call_short fs (omega (arith, h)))
+        search (arith, rules, names_append, pairs_short, keys_short, body_short body)
+    stmt_short (filter_block line fs body) h = search (arith, rules, names_append, filter_call_short, body_short body)
     stmt_short (autoescape line on body) h = body_short body h
-    stmt_short (macro line x ps body) h =
-        names_append n (map (λ p. p.name) ps) (body_names body) (given_short ps (omega (arith, h)))
-        (body_short body (omega (arith, h)))
+    stmt_short (macro line x ps body) h = search (arith, rules, names_append, given_short, body_short body)
     stmt_short (block line x scoped required body) h = body_short body (omega (arith, h))
     stmt_short a0 h = tt
 
     body_short : (b : Body) → body_bytes b ≤ n → Names n (body_names b)
     body_short end h = tt
-    body_short (stmt s rest) h =
-        names_append n (stmt_names s) (body_names rest) (stmt_short s (omega (arith, h)))
-        (body_short rest (omega (arith, h)))
+    body_short (stmt s rest) h = search (arith, rules, names_append, stmt_short s, body_short rest)
 
     branches_short : (bs : Branches) → branch_bytes bs ≤ n → Names n (branch_names bs)
     branches_short no_branches h = tt
     branches_short (branch line c body rest) h =
-        names_append n (expr_names c) (body_names body ++ branch_names rest) (expr_short c (omega (arith, h)))
-        (names_append n (body_names body) (branch_names rest) (body_short body (omega (arith, h)))
-        (branches_short rest (omega (arith, h))))
+        search (arith, rules, names_append, expr_short, body_short body, branches_short rest)
 
   own_short : (ts : List Template) → TemplatesShort n ts → Names n (flat_map (λ t. body_names t.body) ts)
   own_short [] h = tt
@@ -411,11 +372,7 @@ own_among : (cenv : CompileEnv) (hs : List Namespace) (ns : List Text)
     → ((zs : List Text) → AllAmong zs (flat_map (own_names cenv.sources) hs) → AllAmong zs ns)
     → AllByRecursion (λ h. AllAmong (own_names cenv.sources h) ns) hs
 own_among cenv [] ns f = tt
-own_among cenv (h ∷ hs) ns f = (
-  f (own_names cenv.sources h) (among_left (own_names cenv.sources h) (flat_map (own_names cenv.sources) hs)),
-  own_among cenv hs ns
-      (λ zs a. f zs (among_right zs (own_names cenv.sources h) (flat_map (own_names cenv.sources) hs) a)),
-)
+own_among cenv (h ∷ hs) ns f = search (arith, rules, among_left, among_right, own_among cenv hs ns)
 
 pub program_short : (cenv : CompileEnv) (entry : Namespace) (rest : List Namespace) (n : ℕ) → Plain cenv
     → ChainsShort cenv n (entry ∷ rest) → IsShort n (program cenv (entry ∷ rest) entry)

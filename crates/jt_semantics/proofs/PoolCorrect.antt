@@ -2,15 +2,14 @@
 use Rattle.std.proofs.Common.{◌≡◌, ℕ, zero, suc, ◌+◌, Bool, true, false, if◌then◌else◌, List, [], ◌∷◌, ◌++◌, length}
 use Rattle.std.proofs.Common.{Option, Some, None, refl, ap, ◌∙◌, subst, arith, rules}
 use Rattle.std.specs.Prelude.{slice_get}
-use Rattle.jt_value.specs.Tree as tree
 use Rattle.jt_value.specs.Tree.{Tree}
 use Rattle.jt_value.specs.Place.{Place}
 use Rattle.jt_eval.specs.Eval.{Eval, gives, bind, checked, at}
-use Rattle.jt_eval.specs.Values.{shown, bytes_of, as_value}
-use Rattle.jt_ir.specs.Slots.{with_locals, SlotExpr, pooled, variable, field, absent, made, conjunction, disjunction}
+use Rattle.jt_eval.specs.Values.{bytes_of}
+use Rattle.jt_ir.specs.Slots.{SlotExpr, pooled, variable, field, absent, made, conjunction, disjunction}
 use Rattle.jt_ir.specs.Slots.{choice, invoke, SRow, none, item, aside, Targets, SlotStmt, put_pooled, print, assign}
 use Rattle.jt_ir.specs.Slots.{if_else, for_each, capture, run, SBody, end, stmt, Routine, Memory, Valued, Listed}
-use Rattle.jt_ir.specs.Slots.{SCalls, take, store, make, valued, svalue, svalues, skept, sturns, seval_loop, smeaning}
+use Rattle.jt_ir.specs.Slots.{SCalls, take, make, valued, svalue, svalues, skept, sturns, seval_loop, smeaning}
 use Rattle.jt_ir.specs.Slots.{smeanings, seval_invocation, scalls}
 use Rattle.jt_eval.specs.Loops.{Loop, items_of_value, tree_at}
 use Rattle.jt_eval.specs.Filters.{Filters}
@@ -68,64 +67,20 @@ module _ (fs : Filters) (pool : List Tree) (call call' : SCalls)
     expr_placed (made k es) n l m h =
         ap (λ g. bind g (λ r. bind (checked (make fs k r.values)) (valued r.memory))) (row_placed es n l m h)
     expr_placed (conjunction a b) n l m h =
-        search (
-          arith,
-          rules,
-          then_same,
-          expr_placed a n l m,
-          held_front,
-          if_same,
-          expr_placed b (n + length (expr_values a)) l,
-          held_back,
-        )
+        search (arith, rules, then_same, held_front, if_same, held_back, expr_placed a n l m, expr_placed b)
     expr_placed (disjunction a b) n l m h =
-        search (
-          arith,
-          rules,
-          then_same,
-          expr_placed a n l m,
-          held_front,
-          if_same,
-          expr_placed b (n + length (expr_values a)) l,
-          held_back,
-        )
+        search (arith, rules, then_same, held_front, if_same, held_back, expr_placed a n l m, expr_placed b)
     expr_placed (choice c a b) n l m h =
-        search (
-          arith,
-          rules,
-          held_back,
-          then_same,
-          expr_placed c n l m,
-          held_front,
-          if_same,
-          expr_placed a (n + length (expr_values c)) l,
-          expr_placed b (n + length (expr_values c) + length (expr_values a)) l,
-        )
+        grind (arith, held_back, then_same, held_front, if_same, expr_placed c n l m, expr_placed a, expr_placed b)
     expr_placed (invoke u on es) n l m h = search (arith, rules, then_same, row_placed es n l m h)
 
     row_placed : (es : SRow Constant) (n : ℕ) (l : Option Loop) (m : Memory) → Held pool n (row_values es)
         → row_by_place (placed_row es n) l m ≡ row_by_value es l m
     row_placed none n l m h = refl
     row_placed (item e es) n l m h =
-        search (
-          arith,
-          rules,
-          then_same,
-          expr_placed e n l m,
-          held_front,
-          row_placed es (n + length (expr_values e)) l,
-          held_back,
-        )
+        search (arith, rules, then_same, held_front, held_back, expr_placed e n l m, row_placed es)
     row_placed (aside i e es) n l m h =
-        search (
-          arith,
-          rules,
-          then_same,
-          expr_placed e n l m,
-          held_front,
-          row_placed es (n + length (expr_values e)) l,
-          held_back,
-        )
+        search (arith, rules, then_same, held_front, held_back, expr_placed e n l m, row_placed es)
 
   kept_placed : (c : Option (SlotExpr Constant)) (n : ℕ) (xs : Targets) (vs : List Tree) (m : Memory)
       → Held pool n (condition_values c)
@@ -159,26 +114,11 @@ module _ (fs : Filters) (pool : List Tree) (call call' : SCalls)
         → smeaning fs (tree_at pool) call' (placed_stmt s n) l m ≡ smeaning fs (constant_in pool) call s l m
     stmt_placed (put_pooled k) n l m h =
         ap (λ v. gives (record m { out = m.out ++ bytes_of v })) (constant_placed k n h)
-    stmt_placed (print p on e) n l m h =
-        ap
-        (λ g. at p (bind g (λ r. bind (shown on r.value) (λ s. gives (record r.memory { out = r.memory.out ++ s })))))
-        (expr_placed e n l m h)
+    stmt_placed (print p on e) n l m h = search (arith, rules, expr_placed)
     stmt_placed (assign p xs e) n l m h =
         ap (λ g. at p (bind g (λ r. take xs r.value r.memory))) (expr_placed e n l m h)
     stmt_placed (if_else p c a b) n l m h =
-        let rest = held_back pool n (expr_values c) (body_values a ++ body_values b) h in
-        then_same (at p (by_place (placed_expr c n) l m)) (at p (by_value c l m))
-        (λ r. if tree.truth r.value then body_by_place (placed_body a (n + length (expr_values c))) l r.memory
-        else body_by_place (placed_body b (n + length (expr_values c) + length (body_values a))) l r.memory)
-        (λ r. if tree.truth r.value then body_by_value a l r.memory else body_by_value b l r.memory)
-        (ap (at p) (expr_placed c n l m (held_front pool n (expr_values c) (body_values a ++ body_values b) h)))
-        (λ r. if_same (tree.truth r.value) (body_by_place (placed_body a (n + length (expr_values c))) l r.memory)
-        (body_by_place (placed_body b (n + length (expr_values c) + length (body_values a))) l r.memory)
-        (body_by_value a l r.memory) (body_by_value b l r.memory)
-        (body_placed a (n + length (expr_values c)) l r.memory
-        (held_front pool (n + length (expr_values c)) (body_values a) (body_values b) rest))
-        (body_placed b (n + length (expr_values c) + length (body_values a)) l r.memory
-        (held_back pool (n + length (expr_values c)) (body_values a) (body_values b) rest)))
+        search (arith, rules, held_back, then_same, expr_placed, held_front, if_same, body_placed a, body_placed b)
     stmt_placed (for_each p xs e c body other) n l m h =
         let n1 = n + length (expr_values e) in
         let n2 = n1 + length (condition_values c) in
@@ -209,43 +149,26 @@ module _ (fs : Filters) (pool : List Tree) (call call' : SCalls)
         (λ m'. body_by_place (placed_body other n3) l m') (λ m'. body_by_value other l m')
         (λ m'. body_placed other n3 l m' (held_back pool n2 (body_values body) (body_values other) h2)) xs p r.values
         r.memory)
-    stmt_placed (capture on s body) n l m h =
-        ap (λ g. bind g (λ o. gives (store s (as_value on o.out) (record o { out = m.out }))))
-        (body_placed body n l (record m { out = [] }) h)
+    stmt_placed (capture on s body) n l m h = search (arith, rules, body_placed body n l)
     stmt_placed (run u es) n l m h = search (arith, rules, then_same, row_placed)
 
     pub body_placed : (b : SBody Constant) (n : ℕ) (l : Option Loop) (m : Memory) → Held pool n (body_values b)
         → body_by_place (placed_body b n) l m ≡ body_by_value b l m
     body_placed end n l m h = refl
     body_placed (stmt s rest) n l m h =
-        search (
-          arith,
-          rules,
-          then_same,
-          stmt_placed s n l m,
-          held_front,
-          body_placed rest (n + length (stmt_values s)) l,
-          held_back,
-        )
+        search (arith, rules, then_same, held_front, held_back, stmt_placed s n l m, body_placed rest)
 
   -- A routine keeps its meaning when its constants become indices into the pool.
   pub routine_placed : (rs : List (Routine Constant)) (n u : ℕ) (ts gs : List Tree) → Held pool n (routines_values rs)
       → seval_invocation fs (tree_at pool) call' (slice_get (placed_routines rs n) u) ts gs
       ≡ seval_invocation fs (constant_in pool) call (slice_get rs u) ts gs
   routine_placed [] n u ts gs h = refl
-  routine_placed (r ∷ rs) n zero ts gs h =
-      ap (λ g. bind g (λ m. gives (record { text = m.out; globals = m.globals })))
-      (body_placed r.body n None (record { locals = with_locals r.locals ts; globals = gs; out = [] })
-      (held_front pool n (body_values r.body) (routines_values rs) h))
-  routine_placed (r ∷ rs) n (suc u) ts gs h =
-      routine_placed rs (n + length (body_values r.body)) u ts gs
-      (held_back pool n (body_values r.body) (routines_values rs) h)
+  routine_placed (r ∷ rs) n zero ts gs h = search (arith, rules, body_placed, held_front)
+  routine_placed (r ∷ rs) n (suc u) ts gs h = search (arith, rules, held_back, routine_placed rs)
 
 -- Calls keep their meaning when constants become indices into the pool, at each depth.
 pub calls_placed : (fs : Filters) (pool : List Tree) (rs : List (Routine Constant)) (n : ℕ)
     → Held pool n (routines_values rs) → (d u : ℕ) (ts gs : List Tree)
     → scalls fs (tree_at pool) (placed_routines rs n) d u ts gs ≡ scalls fs (constant_in pool) rs d u ts gs
 calls_placed fs pool rs n h zero u ts gs = refl
-calls_placed fs pool rs n h (suc d) u ts gs =
-    routine_placed fs pool (scalls fs (constant_in pool) rs d) (scalls fs (tree_at pool) (placed_routines rs n) d)
-    (λ v us hs. calls_placed fs pool rs n h d v us hs) rs n u ts gs h
+calls_placed fs pool rs n h (suc d) u ts gs = search (arith, rules, routine_placed, calls_placed fs pool rs n h d)

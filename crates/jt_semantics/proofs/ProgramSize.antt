@@ -1,6 +1,6 @@
 -- The weight of its chains bounds the size of a program: each body is a part of one unit.
 use Rattle.std.proofs.Common.{◌≡◌, ℕ, suc, ◌+◌, ◌*◌, max, ◌≤◌, Bool, true, false, ◌||◌, if◌then◌else◌, List, [], ◌∷◌}
-use Rattle.std.proofs.Common.{◌++◌, length, Option, Some, None, arith, refl, subst, length-append, rules}
+use Rattle.std.proofs.Common.{◌++◌, length, Option, Some, None, arith, refl, length-append, rules}
 use Rattle.std.proofs.lemmas.List.{length-map}
 use Rattle.std.specs.Prelude.{flat_map, filter, map}
 use Rattle.std.specs.List.{AllByRecursion}
@@ -20,7 +20,7 @@ use Rattle.jt_semantics.specs.Layout.{first_slot, names, block_parameters, count
 use Rattle.jt_semantics.specs.Layout.{defaults_of, scopes, is_scoped}
 use Rattle.jt_ir.specs.Slots as slots
 use Rattle.jt_ir.specs.Slots.{SlotExpr, SRow, SlotStmt, SBody, Routine}
-use Rattle.jt_ir.specs.Pool.{Constant, expr_values, condition_values, stmt_values, body_values, routines_values}
+use Rattle.jt_ir.specs.Pool.{Constant, expr_values, condition_values, body_values, routines_values}
 use Rattle.jt_ir.specs.Pool.{placed_expr, placed_row, placed_condition, placed_stmt, placed_body, placed_routines}
 use Rattle.jt_semantics.specs.Resolve.{followed, Part, StaticEnv, bound_table, bound_all, scoped, resolved_stmt}
 use Rattle.jt_semantics.specs.Resolve.{resolved_body, resolved_sets, top_senv, resolved_chain, macro_routine}
@@ -64,9 +64,7 @@ macros_append (x ∷ a) b = omega (arith, macros_append a b)
 module _ (t : Text) where
   mutual
     stmt_once : (s : Stmt) (on : Bool) → stmt_own s + bodies_own (blocks_of t s on) ≤ stmt_weight s
-    stmt_once (choose bs other) on =
-        omega
-        (arith, bodies_append (blocks_under t bs on) (blocks_in t other on), branch_once bs on, body_once other on)
+    stmt_once (choose bs other) on = search (arith, rules, bodies_append, branch_once bs on, body_once other on)
     stmt_once (for_each line xs e c body other) on =
         omega (arith, bodies_append (blocks_in t body on) (blocks_in t other on), body_once body on, body_once other on)
     stmt_once (set_block line x body) on = omega (arith, body_once body on)
@@ -85,8 +83,7 @@ module _ (t : Text) where
     branch_once : (bs : Branches) (on : Bool) → branch_own bs + bodies_own (blocks_under t bs on) ≤ branch_weight bs
     branch_once no_branches on = omega arith
     branch_once (branch line c body rest) on =
-        omega
-        (arith, bodies_append (blocks_in t body on) (blocks_under t rest on), body_once body on, branch_once rest on)
+        search (arith, rules, bodies_append, body_once body on, branch_once rest on)
 
   -- A body weighs at least its own weight, the weight of its blocks and the weight of the macros at
   -- its top.
@@ -94,13 +91,7 @@ module _ (t : Text) where
       → body_own b + bodies_own (blocks_in t b on) + macros_own (macros_in t b) ≤ body_weight b
   top_once end on = omega arith
   top_once (stmt (macro line x ps body) rest) on =
-      omega (
-        arith,
-        top_once rest on,
-        body_once body on,
-        bodies_append (blocks_in t body on) (blocks_in t rest on),
-        parameters_bound ps,
-      )
+      search (arith, rules, body_once, bodies_append, parameters_bound, top_once rest on)
   top_once (stmt s rest) on =
       omega (arith, top_once rest on, stmt_once s on, bodies_append (blocks_of t s on) (blocks_in t rest on))
 
@@ -165,32 +156,17 @@ mutual
   expr_placed : (e : SlotExpr Constant) (n : ℕ)
       → (expr_size (placed_expr e n) ≡ expr_size e) × (expr_height (placed_expr e n) ≡ expr_height e)
   expr_placed (slots.made m es) n = let a = row_placed es n in (omega (arith, a.0), omega (arith, a.1))
-  expr_placed (slots.conjunction x y) n =
-      let a = expr_placed x n in
-      let b = expr_placed y (n + length (expr_values x)) in (omega (arith, a.0, b.0), omega (arith, a.1, b.1))
-  expr_placed (slots.disjunction x y) n =
-      let a = expr_placed x n in
-      let b = expr_placed y (n + length (expr_values x)) in (omega (arith, a.0, b.0), omega (arith, a.1, b.1))
-  expr_placed (slots.choice c x y) n =
-      search (
-        arith,
-        rules,
-        expr_placed c n,
-        expr_placed x (n + length (expr_values c)),
-        expr_placed y (n + length (expr_values c) + length (expr_values x)),
-      )
+  expr_placed (slots.conjunction x y) n = search (arith, rules, expr_placed x n, expr_placed y)
+  expr_placed (slots.disjunction x y) n = search (arith, rules, expr_placed x n, expr_placed y)
+  expr_placed (slots.choice c x y) n = search (arith, rules, expr_placed c n, expr_placed x, expr_placed y)
   expr_placed (slots.invoke u on es) n = let a = row_placed es n in (omega (arith, a.0), omega (arith, a.1))
   expr_placed a0 n = (refl, refl)
 
   row_placed : (es : SRow Constant) (n : ℕ)
       → (row_size (placed_row es n) ≡ row_size es) × (row_height (placed_row es n) ≡ row_height es)
   row_placed slots.none n = (refl, refl)
-  row_placed (slots.item e es) n =
-      let a = expr_placed e n in
-      let b = row_placed es (n + length (expr_values e)) in (omega (arith, a.0, b.0), omega (arith, a.1, b.1))
-  row_placed (slots.aside i e es) n =
-      let a = expr_placed e n in
-      let b = row_placed es (n + length (expr_values e)) in (omega (arith, a.0, b.0), omega (arith, a.1, b.1))
+  row_placed (slots.item e es) n = search (arith, rules, expr_placed e n, row_placed es)
+  row_placed (slots.aside i e es) n = search (arith, rules, expr_placed e n, row_placed es)
 
 condition_placed : (xs : slots.Targets) (c : Option (SlotExpr Constant)) (n : ℕ)
     → (condition_size xs (placed_condition c n) ≡ condition_size xs c)
@@ -204,14 +180,7 @@ mutual
   stmt_placed (slots.put_pooled c) n = (refl, refl)
   stmt_placed (slots.print p on e) n = let a = expr_placed e n in (omega (arith, a.0), a.1)
   stmt_placed (slots.assign p xs e) n = let a = expr_placed e n in (omega (arith, a.0), omega (arith, a.1))
-  stmt_placed (slots.if_else p c x y) n =
-      search (
-        arith,
-        rules,
-        expr_placed,
-        body_placed x (n + length (expr_values c)),
-        body_placed y (n + length (expr_values c) + length (body_values x)),
-      )
+  stmt_placed (slots.if_else p c x y) n = search (arith, rules, expr_placed, body_placed x, body_placed y)
   stmt_placed (slots.for_each p xs e c body other) n =
       search (
         arith,
@@ -227,9 +196,7 @@ mutual
   body_placed : (b : SBody Constant) (n : ℕ)
       → (body_size (placed_body b n) ≡ body_size b) × (body_height (placed_body b n) ≡ body_height b)
   body_placed slots.end n = (refl, refl)
-  body_placed (slots.stmt s rest) n =
-      let a = stmt_placed s n in
-      let b = body_placed rest (n + length (stmt_values s)) in (omega (arith, a.0, b.0), omega (arith, a.1, b.1))
+  body_placed (slots.stmt s rest) n = search (arith, rules, stmt_placed s n, body_placed rest)
 
 routines_placed : (rs : List (Routine Constant)) (n : ℕ) → routines_size (placed_routines rs n) ≡ routines_size rs
 routines_placed [] n = refl
@@ -353,9 +320,7 @@ is_part sources (k ∷ ks) h i = through (same_namespace k h) refl i (λ j. is_p
     through : (b : Bool) → same_namespace k h ≡ b → (b || listed h ks) ≡ true
         → (listed h ks ≡ true → IsPart (chains_weight sources ks) (chains_bound sources ks) (templates sources h))
         → IsPart (chains_weight sources (k ∷ ks)) (chains_bound sources (k ∷ ks)) (templates sources h)
-    through true p q f =
-        subst (λ z. IsPart (chains_weight sources (k ∷ ks)) (chains_bound sources (k ∷ ks)) (templates sources z))
-        (namespace_same k h p) first
+    through true p q f = search (arith, rules, namespace_same, first)
     through false p q f = later (f q)
 
 module _ (cenv : CompileEnv) (order : List Namespace) (ordered : InOrder cenv.sources order)
@@ -434,13 +399,7 @@ chains_sized cenv order (h ∷ hs) k =
 values_append : (a b : List (Routine Constant))
     → length (routines_values (a ++ b)) ≡ length (routines_values a) + length (routines_values b)
 values_append [] b = omega arith
-values_append (r ∷ a) b =
-    omega (
-      arith,
-      values_append a b,
-      length-append (body_values r.body) (routines_values (a ++ b)),
-      length-append (body_values r.body) (routines_values a),
-    )
+values_append (r ∷ a) b = search (arith, rules, length-append, values_append a b)
 
 module _ (cenv : CompileEnv) (order : List Namespace) (h : Namespace)
     (k : (f : ℕ) → length (cenv.filters.parameters f) ≤ 3) where
@@ -495,12 +454,7 @@ module _ (cenv : CompileEnv) (order : List Namespace) (h : Namespace)
   entry_counted : (g : Namespace) → length (body_values (resolved_chain cenv order g (templates cenv.sources g)))
       ≤ templates_own (templates cenv.sources g)
       → length (routines_values (entry_routines cenv order g)) ≤ templates_own (templates cenv.sources g)
-  entry_counted (a_chain n) c =
-      omega (
-        arith,
-        c,
-        length-append (body_values (resolved_chain cenv order (a_chain n) (templates cenv.sources (a_chain n)))) [],
-      )
+  entry_counted (a_chain n) c = search (arith, rules, length-append)
   entry_counted (a_library n) c = omega arith
 
   counted_in_chain : length (routines_values (chain_routines cenv order h))
@@ -538,12 +492,7 @@ units_counted : (cenv : CompileEnv) (order hs : List Namespace) (k : (f : ℕ) �
     → length (flat_map (chain_routines cenv order) hs) ≤ chains_weight cenv.sources hs + length hs
 units_counted cenv order [] k = omega arith
 units_counted cenv order (h ∷ hs) k =
-    omega (
-      arith,
-      units_counted cenv order hs k,
-      units_in_chain cenv order h k,
-      length-append (chain_routines cenv order h) (flat_map (chain_routines cenv order) hs),
-    )
+    search (arith, rules, units_in_chain, length-append, units_counted cenv order hs k)
 
 placed_len : (rs : List (Routine Constant)) (n : ℕ) → length (placed_routines rs n) ≡ length rs
 placed_len [] n = refl

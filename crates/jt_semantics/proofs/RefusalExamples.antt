@@ -1,6 +1,6 @@
 -- Examples of templates that the static rules refuse. The entry is `t`.
 use Rattle.std.proofs.Common.{◌≡◌, refl, sym}
-use Rattle.std.specs.Prelude.{true, false, List, [], ◌∷◌, codes, Some, None, Option}
+use Rattle.std.specs.Prelude.{true, false, List, [], ◌∷◌, codes, Some, None}
 use mathlib.Core.Logic.{inl, inr}
 use Rattle.jt_rules.specs.declared.error.ScopeError.{ScopeError}
 use Rattle.jt_rules.specs.declared.error.ScopeError.TheVariants as error

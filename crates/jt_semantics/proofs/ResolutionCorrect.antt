@@ -5,7 +5,6 @@ use Rattle.std.proofs.Common.{inr, rules}
 use Rattle.std.proofs.lemmas.List.{length-map}
 use Rattle.std.specs.Prelude.{◌||◌, flat_map, max, slice_get}
 use Rattle.std.specs.Str.{bytes_eq}
-use Rattle.jt_value.specs.Tree as tree
 use Rattle.jt_value.specs.Tree.{Tree}
 use Rattle.jt_value.specs.Pairs.{Pairs}
 use Rattle.jt_eval.specs.Eval.{gives, bind}
@@ -25,8 +24,8 @@ use Rattle.jt_chains.specs.Uses.{stmt_names, body_names, set_in}
 use Rattle.jt_chains.specs.Includes.{needs_by, needs_in, InOrder}
 use Rattle.jt_semantics.specs.Layout.{Table, slot_in, globals_from, of_macro, of_body, names, first_slot, globals}
 use Rattle.jt_semantics.specs.Layout.{block_parameters, is_scoped, unit, defaults_of, first_default, default_in}
-use Rattle.jt_semantics.specs.Layout.{default_index, scopes}
-use Rattle.jt_ir.specs.Pool.{Constant, constant_in, routines_values}
+use Rattle.jt_semantics.specs.Layout.{scopes}
+use Rattle.jt_ir.specs.Pool.{Constant, constant_in}
 use Rattle.jt_semantics.specs.Resolve.{followed, StaticEnv, Part, bound_table, bound_all, scoped, resolved_stmt}
 use Rattle.jt_semantics.specs.Resolve.{resolved_body, resolved_sets, top_senv, resolved_chain, chain_routine}
 use Rattle.jt_semantics.specs.Resolve.{macro_routine, body_routine}
@@ -109,16 +108,8 @@ defaults_in x b (m ∷ ms) ts e =
         → Held (defaults_of ms ++ ts) (first_default x ms) (map (λ p. default_value p.default) b.parameters))
         → Held (map (λ p. default_value p.default) m.parameters ++ (defaults_of ms ++ ts))
         (if c then 0 else length m.parameters + first_default x ms) (map (λ p. default_value p.default) b.parameters)
-    through true e f =
-        subst (λ z. Held (map (λ p. default_value p.default) m.parameters ++ (defaults_of ms ++ ts)) 0
-        (map (λ p. default_value p.default) z.parameters)) (is_it e)
-        (held_first (map (λ p. default_value p.default) m.parameters) (defaults_of ms ++ ts))
-    through false e f =
-        subst (λ n. Held (map (λ p. default_value p.default) m.parameters ++ (defaults_of ms ++ ts))
-        (n + first_default x ms) (map (λ p. default_value p.default) b.parameters))
-        (counts m.parameters)
-        (held_after (map (λ p. default_value p.default) m.parameters) (defaults_of ms ++ ts) (first_default x ms)
-        (map (λ p. default_value p.default) b.parameters) (f e))
+    through true e f = search (arith, rules, is_it, held_first)
+    through false e f = search (arith, rules, counts, held_after)
 
 module _ (cenv : CompileEnv) (order : List Namespace) where
   defaults_among : (h : Namespace) (x : Text) (b : MacroBody) (hs : List Namespace) (ts : List Tree)
@@ -157,14 +148,7 @@ module _ (cenv : CompileEnv) (order : List Namespace) where
   defaults_at d (p ∷ ps) h = (h.0, defaults_at (suc d) ps h.1)
 
   defaults_laid : DefaultsLaid cenv order
-  defaults_laid h e x b m =
-      let n = macro_named cenv order x b (macros cenv.sources h) m in
-      defaults_at (default_index cenv order h b.name) b.parameters
-      (held_one tree.undefined
-      (flat_map (λ g. defaults_of (macros cenv.sources g)) order ++ routines_values (routines cenv order))
-      (default_in cenv order order h b.name) (map (λ p. default_value p.default) b.parameters)
-      (defaults_among h b.name b order (routines_values (routines cenv order)) e
-      (ap (λ z. macro_of z (macros cenv.sources h)) n ∙ m)))
+  defaults_laid h e x b m = search (arith, rules, macro_named, defaults_at, held_one, defaults_among)
 
   abbrev lim : Namespace → ℕ
   lim h = limit cenv order h
@@ -213,10 +197,7 @@ module _ (cenv : CompileEnv) (order : List Namespace) where
   left_max a b = omega arith
 
   laid_out : InOrder cenv.sources order → Laid cenv order
-  laid_out ordered = record {
-    defaults = defaults_laid;
-    libraries = λ h e n i. libraries_stand cenv order ordered h e n i;
-  }
+  laid_out ordered = search (arith, rules, defaults_laid, libraries_stand)
 
   -- The body of a routine has one outcome by names and by slots.
   routine_both : (n : ℕ) (calls : Calls) (scall : SCalls) (mean : CallsMean cenv order calls scall)
@@ -460,20 +441,5 @@ module _ (cenv : CompileEnv) (order : List Namespace) where
     -- ---- Calls at each depth, by induction
 
     pub calls_mean : (n : ℕ) → CallsMean cenv order (calls_below cenv n) (scalls cenv.filters cs rs n)
-    calls_mean zero = record {
-      macro_means = λ h e x b m ps gs vs ts nm hv ga. deep;
-      block_means = λ h e x i c behind tail env vs ts sees. deep;
-      chain_means = λ m e gs ts ga. deep;
-    }
-    calls_mean (suc n) = record {
-      macro_means =
-          λ h e x b m ps gs vs ts nm hv ga.
-          macro_knot (calls_below cenv n) (scalls cenv.filters cs rs n) (calls_mean n) h e x b m ps gs vs ts nm hv ga;
-      block_means =
-          λ h e x i c behind tail env vs ts sees. block_knot (calls_below cenv n) (scalls cenv.filters cs rs n)
-          (calls_mean n) h e x i c behind tail env vs ts sees;
-      chain_means =
-          λ m e gs ts ga. by_right
-          (ap (λ o. seval_invocation cenv.filters cs (scalls cenv.filters cs rs n) o [] ts) (chain_is cenv order m e))
-          (chain_knot (calls_below cenv n) (scalls cenv.filters cs rs n) (calls_mean n) m e gs ts ga);
-    }
+    calls_mean zero = search (arith, rules, deep)
+    calls_mean (suc n) = search (arith, rules, macro_knot, block_knot, by_right, chain_is, chain_knot, calls_mean n)

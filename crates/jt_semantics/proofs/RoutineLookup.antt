@@ -68,9 +68,7 @@ module _ (cenv : CompileEnv) (order : List Namespace) where
   body_routines_are : (h : Namespace) (bs : List (ℕ × BlockBody))
       → map (λ p. p.1) (bodies_keyed h bs) ≡ body_routines cenv order h bs
   body_routines_are h [] = refl
-  body_routines_are h (b ∷ bs) =
-      ap (λ rs. body_routine cenv order h b.1 (filter (λ c. bytes_eq c.1.name b.1.name) bs) ∷ rs)
-      (body_routines_are h bs)
+  body_routines_are h (b ∷ bs) = search (arith, rules, body_routines_are h bs)
 
   macro_keys : (h : Namespace) (ms : List MacroBody)
       → map (λ p. p.0) (macros_keyed h ms) ≡ map (λ m. of_macro h m.name) ms
@@ -98,25 +96,16 @@ module _ (cenv : CompileEnv) (order : List Namespace) where
 
   all_keys_are : (hs : List Namespace) → map (λ p. p.0) (flat_map keyed hs) ≡ flat_map (chain_keys cenv) hs
   all_keys_are [] = refl
-  all_keys_are (h ∷ hs) =
-      map-append (λ p. p.0) (keyed h) (flat_map keyed hs)
-      ∙ ap (λ ks. ks ++ map (λ p. p.0) (flat_map keyed hs)) (chain_keys_are h)
-      ∙ ap (λ ks. chain_keys cenv h ++ ks) (all_keys_are hs)
+  all_keys_are (h ∷ hs) = search (arith, rules, map-append, chain_keys_are, all_keys_are hs)
 
   all_routines_are : (hs : List Namespace)
       → map (λ p. p.1) (flat_map keyed hs) ≡ flat_map (chain_routines cenv order) hs
   all_routines_are [] = refl
-  all_routines_are (h ∷ hs) =
-      map-append (λ p. p.1) (keyed h) (flat_map keyed hs)
-      ∙ ap (λ rs. rs ++ map (λ p. p.1) (flat_map keyed hs)) (chain_routines_are h)
-      ∙ ap (λ rs. chain_routines cenv order h ++ rs) (all_routines_are hs)
+  all_routines_are (h ∷ hs) = search (arith, rules, map-append, chain_routines_are, all_routines_are hs)
 
   unit_finds : (k : Key) (r : Routine Constant) → assoc k (flat_map keyed order) ≡ Some r
       → slice_get (routines cenv order) (unit cenv order k) ≡ Some r
-  unit_finds k r e =
-      sym (ap (λ rs. slice_get rs (unit cenv order k)) (all_routines_are order))
-      ∙ sym (ap (λ ks. slice_get (map (λ p. p.1) (flat_map keyed order)) (index_of k ks)) (all_keys_are order))
-      ∙ place_finds k (flat_map keyed order) ∙ e
+  unit_finds k r e = search (arith, rules, all_routines_are, all_keys_are, place_finds)
 
   -- A lookup skips the keys of other chains.
   macros_pass : (h g : Namespace) (x : Text) (ms : List MacroBody) → same_namespace h g ≡ false
@@ -166,11 +155,7 @@ module _ (cenv : CompileEnv) (order : List Namespace) where
       rest : assoc (of_chain n)
           ((macros_keyed g (macros cenv.sources g) ++ bodies_keyed g (numbered_bodies cenv g)) ++ flat_map keyed gs)
           ≡ assoc (of_chain n) (flat_map keyed gs)
-      rest =
-          passed (of_chain n) (macros_keyed g (macros cenv.sources g) ++ bodies_keyed g (numbered_bodies cenv g))
-          (flat_map keyed gs)
-          (passes_append (of_chain n) (macros_keyed g (macros cenv.sources g)) (bodies_keyed g (numbered_bodies cenv g))
-          (macros_no_chain g n (macros cenv.sources g)) (bodies_no_chain g n (numbered_bodies cenv g)))
+      rest = search (arith, rules, passed, g, passes_append, macros_no_chain, bodies_no_chain)
 
       through : (b : Bool) → bytes_eq m n ≡ b → (b || listed (a_chain n) gs) ≡ true
           → (listed (a_chain n) gs ≡ true → assoc (of_chain n) (flat_map keyed gs) ≡ Some (chain_routine cenv order n))

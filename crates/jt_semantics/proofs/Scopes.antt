@@ -1,5 +1,5 @@
 -- The names that scopes bind, and the blocks whose tags have `scoped`, in the order of the tree.
-use Rattle.std.proofs.Common.{◌≡◌, true, false, List, [], ◌∷◌, ◌++◌, map, refl, sym, ap, ◌∙◌, subst, ◌⊎◌, inl, inr}
+use Rattle.std.proofs.Common.{◌≡◌, true, false, List, [], ◌∷◌, ◌++◌, refl, ap, ◌⊎◌, inl, inr}
 use Rattle.std.proofs.Common.{arith, rules}
 use Rattle.std.specs.Prelude.{flat_map}
 use Rattle.jt_ast.specs.Texts.{inserted, all_inserted, ascending}
@@ -7,7 +7,7 @@ use Rattle.jt_ast.specs.Expressions.{Text}
 use Rattle.jt_ast.specs.Statements.{Stmt, choose, for_each, set_block, with_values, filter_block, autoescape, macro}
 use Rattle.jt_ast.specs.Statements.{block, Body, end, stmt, Branches, no_branches, branch}
 use Rattle.jt_chains.specs.Chain.{Namespace, Template, templates}
-use Rattle.jt_chains.specs.Uses.{keywords, filter_call_names, stmt_names, body_names, branch_names, set_in}
+use Rattle.jt_chains.specs.Uses.{filter_call_names, stmt_names, body_names, branch_names, set_in}
 use Rattle.jt_chains.specs.Uses.{scope_names_by, scope_names_in, scope_names_under, scope_names}
 use Rattle.jt_rules.specs.CompileEnv.{CompileEnv}
 use Rattle.jt_semantics.proofs.Among.{Among, AllAmong, all_ascending}
@@ -36,57 +36,39 @@ mutual
   stmt_scopes (block line x true required body) = scope_scopes body
   stmt_scopes (block line x false required body) = scope_scopes body
   stmt_scopes (choose bs other) =
-      names_append (scoped_under bs) (scoped_in other)
-      ∙ ap (λ ys. ys ++ names_of (scoped_in other)) (branches_scopes bs)
-      ∙ ap (λ ys. scope_names_under bs ++ ys) (body_scopes other)
+      search (arith, rules, names_append, scoped_under, scoped_in, branches_scopes bs, body_scopes other)
   stmt_scopes (for_each line xs e c body other) =
       search (arith, rules, names_behind, named, scoped_in, names_append, body_scopes body, body_scopes other)
   stmt_scopes (set_block line x body) = scope_scopes body
-  stmt_scopes (with_values line ps body) =
-      names_behind (keywords ps) (named (set_in body) ++ scoped_in body)
-      ∙ ap (λ ys. keywords ps ++ ys) (scope_scopes body)
+  stmt_scopes (with_values line ps body) = search (arith, rules, names_behind, named, scoped_in, scope_scopes body)
   stmt_scopes (filter_block line fs body) = scope_scopes body
   stmt_scopes (autoescape line on body) = scope_scopes body
-  stmt_scopes (macro line x ps body) =
-      names_behind (map (λ p. p.name) ps) (named (set_in body) ++ scoped_in body)
-      ∙ ap (λ ys. map (λ p. p.name) ps ++ ys) (scope_scopes body)
+  stmt_scopes (macro line x ps body) = search (arith, rules, names_behind, named, scoped_in, scope_scopes body)
   stmt_scopes a0 = refl
 
   scope_scopes : (body : Body) → names_of (named (set_in body) ++ scoped_in body) ≡ set_in body ++ scope_names_in body
   scope_scopes end = refl
   scope_scopes (stmt s rest) =
-      names_behind (set_in (stmt s rest)) (scoped_by s ++ scoped_in rest)
-      ∙ ap (λ ys. set_in (stmt s rest) ++ ys) (names_append (scoped_by s) (scoped_in rest)
-      ∙ ap (λ ys. ys ++ names_of (scoped_in rest)) (stmt_scopes s)
-      ∙ ap (λ ys. scope_names_by s ++ ys) (body_scopes rest))
+      search (arith, rules, names_behind, scoped_by, scoped_in, names_append, stmt_scopes s, body_scopes rest)
 
   body_scopes : (body : Body) → names_of (scoped_in body) ≡ scope_names_in body
   body_scopes end = refl
-  body_scopes (stmt s rest) =
-      names_append (scoped_by s) (scoped_in rest) ∙ ap (λ ys. ys ++ names_of (scoped_in rest)) (stmt_scopes s)
-      ∙ ap (λ ys. scope_names_by s ++ ys) (body_scopes rest)
+  body_scopes (stmt s rest) = search (arith, rules, names_append, scoped_by, scoped_in, stmt_scopes s, body_scopes rest)
 
   branches_scopes : (bs : Branches) → names_of (scoped_under bs) ≡ scope_names_under bs
   branches_scopes no_branches = refl
   branches_scopes (branch line c body rest) =
-      names_append (scoped_in body) (scoped_under rest)
-      ∙ ap (λ ys. ys ++ names_of (scoped_under rest)) (body_scopes body)
-      ∙ ap (λ ys. scope_names_in body ++ ys) (branches_scopes rest)
+      search (arith, rules, names_append, scoped_in, scoped_under, body_scopes body, branches_scopes rest)
 
 templates_scopes : (ts : List Template)
     → names_of (flat_map (λ t. scoped_in t.body) ts) ≡ flat_map (λ t. scope_names_in t.body) ts
 templates_scopes [] = refl
-templates_scopes (t ∷ ts) =
-    names_append (scoped_in t.body) (flat_map (λ u. scoped_in u.body) ts)
-    ∙ ap (λ ys. ys ++ names_of (flat_map (λ u. scoped_in u.body) ts)) (body_scopes t.body)
-    ∙ ap (λ ys. scope_names_in t.body ++ ys) (templates_scopes ts)
+templates_scopes (t ∷ ts) = search (arith, rules, names_append, scoped_in, body_scopes, templates_scopes ts)
 
 -- The scopes of a chain bind exactly the names that its templates bind in scopes.
 pub scopes_bound : (cenv : CompileEnv) (h : Namespace)
     → AllAmong (names_of (flat_map (λ t. scoped_in t.body) (templates cenv.sources h))) (scope_names cenv.sources h)
-scopes_bound cenv h =
-    subst (λ ys. AllAmong ys (scope_names cenv.sources h)) (sym (templates_scopes (templates cenv.sources h)))
-    (all_ascending (flat_map (λ t. scope_names_in t.body) (templates cenv.sources h)))
+scopes_bound cenv h = search (arith, rules, templates_scopes, all_ascending)
 
 -- ---- The names that scopes bind are among the names of the templates
 
@@ -94,9 +76,7 @@ mutual
   stmt_binds : (s : Stmt) (ns : List Text) → AllAmong (stmt_names s) ns → AllAmong (scope_names_by s) ns
   stmt_binds (block line x scoped required body) ns a = scope_binds body ns a
   stmt_binds (choose bs other) ns a =
-      among_both (scope_names_under bs) (scope_names_in other) ns
-      (branches_bind bs ns (among_front (branch_names bs) (body_names other) ns a))
-      (body_binds other ns (among_back (branch_names bs) (body_names other) ns a))
+      search (arith, rules, among_both, among_front, among_back, branches_bind bs ns, body_binds other ns)
   stmt_binds (for_each line xs e c body other) ns a =
       search (arith, rules, among_back, among_front, among_both, in_among, body_binds body ns, body_binds other ns)
   stmt_binds (set_block line x body) ns a = scope_binds body ns a.1
@@ -106,26 +86,19 @@ mutual
       scope_binds body ns (among_front (body_names body) (filter_call_names fs) ns a)
   stmt_binds (autoescape line on body) ns a = scope_binds body ns a
   stmt_binds (macro line x ps body) ns a =
-      among_both (map (λ p. p.name) ps) (set_in body ++ scope_names_in body) ns
-      (among_front (map (λ p. p.name) ps) (body_names body) ns a)
-      (scope_binds body ns (among_back (map (λ p. p.name) ps) (body_names body) ns a))
+      search (arith, rules, among_both, among_front, among_back, scope_binds body ns)
   stmt_binds a0 ns a = tt
 
   scope_binds : (body : Body) (ns : List Text) → AllAmong (body_names body) ns
       → AllAmong (set_in body ++ scope_names_in body) ns
   scope_binds end ns a = tt
   scope_binds (stmt s rest) ns a =
-      among_both (set_in (stmt s rest)) (scope_names_by s ++ scope_names_in rest) ns (in_among (stmt s rest) ns a)
-      (among_both (scope_names_by s) (scope_names_in rest) ns
-      (stmt_binds s ns (among_front (stmt_names s) (body_names rest) ns a))
-      (body_binds rest ns (among_back (stmt_names s) (body_names rest) ns a)))
+      search (arith, rules, among_both, in_among, among_front, among_back, stmt_binds s ns, body_binds rest ns)
 
   body_binds : (body : Body) (ns : List Text) → AllAmong (body_names body) ns → AllAmong (scope_names_in body) ns
   body_binds end ns a = tt
   body_binds (stmt s rest) ns a =
-      among_both (scope_names_by s) (scope_names_in rest) ns
-      (stmt_binds s ns (among_front (stmt_names s) (body_names rest) ns a))
-      (body_binds rest ns (among_back (stmt_names s) (body_names rest) ns a))
+      search (arith, rules, among_both, among_front, among_back, stmt_binds s ns, body_binds rest ns)
 
   branches_bind : (bs : Branches) (ns : List Text) → AllAmong (branch_names bs) ns → AllAmong (scope_names_under bs) ns
   branches_bind no_branches ns a = tt
@@ -136,9 +109,7 @@ pub templates_bind : (ts : List Template) (ns : List Text) → AllAmong (flat_ma
     → AllAmong (flat_map (λ t. scope_names_in t.body) ts) ns
 templates_bind [] ns a = tt
 templates_bind (t ∷ ts) ns a =
-    among_both (scope_names_in t.body) (flat_map (λ u. scope_names_in u.body) ts) ns
-    (body_binds t.body ns (among_front (body_names t.body) (flat_map (λ u. body_names u.body) ts) ns a))
-    (templates_bind ts ns (among_back (body_names t.body) (flat_map (λ u. body_names u.body) ts) ns a))
+    search (arith, rules, among_both, body_binds, among_front, among_back, templates_bind ts ns)
 
 -- ---- The names in order are among the names before they were ordered
 

@@ -74,9 +74,7 @@ taken g (x ∷ y ∷ ys) v k m = several_taken g (x ∷ y ∷ ys) v k m
 pub reads_all : (bs : Pairs) (e f : Env) (y : Text) → read e y ≡ read f y
     → read (all_bound e bs) y ≡ read (all_bound f bs) y
 reads_all [] e f y r = r
-reads_all (b ∷ bs) e f y r =
-    reads_all bs (bound e b.0 b.1) (bound f b.0 b.1) y
-    (read_bound e b.0 y b.1 ∙ ap (λ v. if bytes_eq b.0 y then b.1 else v) r ∙ sym (read_bound f b.0 y b.1))
+reads_all (b ∷ bs) e f y r = search (arith, rules, read_bound, reads_all bs)
 
 reads_bound : (bs : Pairs) (e f : Env) (x : Text) → Among x (map (λ b. b.0) bs)
     → read (all_bound e bs) x ≡ read (all_bound f bs) x

@@ -72,17 +72,14 @@ mutual
   set_among (set line xs e) ns a = among_back (expr_names e) xs ns a
   set_among (set_block line x body) ns a = (a.0, tt)
   set_among (choose bs other) ns a =
-      among_both (set_under bs) (set_in other) ns
-      (under_among bs ns (among_front (branch_names bs) (body_names other) ns a))
-      (in_among other ns (among_back (branch_names bs) (body_names other) ns a))
+      search (arith, rules, among_both, among_front, among_back, under_among bs ns, in_among other ns)
   set_among (for_each line xs e c body other) ns a = search (arith, rules, among_back, in_among other ns)
   set_among a0 ns a = tt
 
   pub in_among : (b : Body) (ns : List Text) → AllAmong (body_names b) ns → AllAmong (set_in b) ns
   in_among end ns a = tt
   in_among (stmt s rest) ns a =
-      among_both (set_by s) (set_in rest) ns (set_among s ns (among_front (stmt_names s) (body_names rest) ns a))
-      (in_among rest ns (among_back (stmt_names s) (body_names rest) ns a))
+      search (arith, rules, among_both, among_front, among_back, set_among s ns, in_among rest ns)
 
   under_among : (bs : Branches) (ns : List Text) → AllAmong (branch_names bs) ns → AllAmong (set_under bs) ns
   under_among no_branches ns a = tt
@@ -183,10 +180,7 @@ module _ (cenv : CompileEnv) (order : List Namespace) (calls : Calls) (scall : S
   pub followed_same : (a b : SBody Constant) (l : Option Loop) (m : Memory)
       → sbody (followed a b) l m ≡ bind (sbody a l m) (λ n. sbody b l n)
   followed_same slots.end b l m = refl
-  followed_same (slots.stmt s rest) b l m =
-      bind_ext (sstmt s l m) (λ n. sbody (followed rest b) l n) (λ n. bind (sbody rest l n) (λ o. sbody b l o))
-      (λ n. followed_same rest b l n)
-      ∙ sym (bind_assoc (sstmt s l m) (λ n. sbody rest l n) (λ o. sbody b l o))
+  followed_same (slots.stmt s rest) b l m = search (arith, rules, bind_ext, bind_assoc, followed_same rest b l)
 
   alone_same : (s : SlotStmt Constant) (l : Option Loop) (m : Memory) → sbody (alone s) l m ≡ sstmt s l m
   alone_same s l m = bind_gives (sstmt s l m)
@@ -364,12 +358,7 @@ module _ (cenv : CompileEnv) (order : List Namespace) (calls : Calls) (scall : S
   -- The invariant holds in a new scope without names.
   good_inside : {sp : StaticEnv} {q : Option Placement} {env : Env} {m : Memory} → Good cenv order sp q env m
       → Good cenv order sp q (inside [] env) m
-  good_inside g = record {
-    known = g.known;
-    fits = g.fits;
-    agrees = record { names = g.agrees.names; globals = g.agrees.globals };
-    part = g.part;
-  }
+  good_inside g = search (arith, rules, names)
 
   -- ---- Names that are set
 

@@ -13,7 +13,7 @@ use Rattle.jt_ast.specs.Expressions.{filter, test, unary, binary, when, choice, 
 use Rattle.jt_ast.specs.Expressions.{pair, weight, enclosed, exprs_weight, pairs_weight, Text}
 use Rattle.jt_ast.specs.Sizes.{literal_bytes, expr_bytes, exprs_bytes, pairs_bytes, condition_bytes, filter_call_bytes}
 use Rattle.jt_ast.specs.Sizes.{stmt_bytes, body_bytes, branch_bytes}
-use Rattle.jt_semantics.specs.Operators.{OperatorForm, operation, negation, conjunction, disjunction, form}
+use Rattle.jt_semantics.specs.Operators.{OperatorForm, operation, negation, conjunction, disjunction}
 use Rattle.jt_value.specs.Place.{Place}
 use Rattle.jt_chains.specs.Uses.{count, keywords, set_in}
 use Rattle.jt_ast.specs.Statements.{Parameter, FilterCall, Stmt, data_of, print, choose, for_each, set, set_block}
@@ -30,14 +30,14 @@ use Rattle.jt_eval.specs.Values.{literal}
 use Rattle.jt_rules.specs.CompileEnv.{CompileEnv}
 use Rattle.jt_semantics.specs.Bytes.{value_bytes}
 use Rattle.jt_semantics.specs.Expressions.{filter_parameters}
-use Rattle.jt_semantics.specs.Layout.{Table, slot_in, names, numbered_of, globals, block_parameters, default_index}
+use Rattle.jt_semantics.specs.Layout.{Table, slot_in, names}
 use Rattle.jt_semantics.specs.Layout.{first_slot, unit, of_chain}
 use Rattle.jt_ir.specs.Slots as slots
 use Rattle.jt_ir.specs.Slots.{Slot, local, SlotExpr, SRow, SBody, variable, run}
 use Rattle.jt_ir.specs.Pool.{Constant, own, known, expr_values, row_values, condition_values, stmt_values, body_values}
 use Rattle.jt_semantics.specs.Resolve.{value_or, turned_round, tested_by, filtered_by, in_form, field_from, followed}
 use Rattle.jt_semantics.specs.Resolve.{locals_from, fresh_targets, filled, filled_some, first_locals, reads, handed_on}
-use Rattle.jt_semantics.specs.Resolve.{Part, StaticEnv, place, grown, bound_all, copied, scoped, next_given, first_body}
+use Rattle.jt_semantics.specs.Resolve.{Part, StaticEnv, place, bound_all, copied, scoped}
 use Rattle.jt_semantics.specs.Resolve.{invoked_body, invoked_super, invoked, resolved, resolved_row, resolved_asides}
 use Rattle.jt_semantics.specs.Resolve.{resolved_entries, resolved_condition, resolved_filters, resolved_values}
 use Rattle.jt_semantics.specs.Resolve.{placed_body, resolved_stmt, resolved_body, resolved_choice, left_out}
@@ -98,9 +98,7 @@ module _ (size : tree.Tree → ℕ) (small : (v : tree.Tree) → size v ≤ valu
 
   pair_joins : (a b : SlotExpr Constant)
       → Joins (row_values (slots.item a (slots.item b slots.none))) (expr_values a) (expr_values b)
-  pair_joins a b =
-      omega
-      (arith, values_append (expr_values a) (row_values (slots.item b slots.none)), values_append (expr_values b) [])
+  pair_joins a b = search (arith, rules, values_append)
 
   single_joins : (a : SlotExpr Constant) → Joins (row_values (slots.item a slots.none)) (expr_values a) []
   single_joins a = values_append (expr_values a) []
@@ -130,13 +128,7 @@ module _ (size : tree.Tree → ℕ) (small : (v : tree.Tree) → size v ≤ valu
   filled_within : (ps : List Parameter) (n d : ℕ) (ks : Table) → Within 0 0 (row_values (filled ps n d ks))
   filled_within [] n d ks = omega arith
   filled_within (p ∷ ps) (suc n) d ks = filled_within ps n (suc d) ks
-  filled_within (p ∷ ps) zero d ks =
-      omega (
-        arith,
-        known_within (slot_in p.name ks) d,
-        filled_within ps zero (suc d) ks,
-        values_append (expr_values (value_or (slot_in p.name ks) (known d))) (row_values (filled ps zero (suc d) ks)),
-      )
+  filled_within (p ∷ ps) zero d ks = search (arith, rules, known_within, values_append, filled_within ps zero)
 
   some_within : (ps : List Parameter) (n : ℕ) (xs : List Text) (ks : Table) → Bare size ps
       → Within (length ps) 0 (row_values (filled_some ps n xs ks))
@@ -155,23 +147,11 @@ module _ (size : tree.Tree → ℕ) (small : (v : tree.Tree) → size v ≤ valu
 
   reads_within : (t : Table) (xs : List Text) → Within 0 0 (row_values (reads t xs))
   reads_within t [] = omega arith
-  reads_within t (x ∷ xs) =
-      omega (
-        arith,
-        known_within (slot_in x t) 0,
-        reads_within t xs,
-        values_append (expr_values (value_or (slot_in x t) (known 0))) (row_values (reads t xs)),
-      )
+  reads_within t (x ∷ xs) = search (arith, rules, known_within, values_append, reads_within t xs)
 
   pub followed_joins : (a b : SBody Constant) → Joins (body_values (followed a b)) (body_values a) (body_values b)
   followed_joins slots.end b = omega arith
-  followed_joins (slots.stmt s rest) b =
-      omega (
-        arith,
-        followed_joins rest b,
-        values_append (stmt_values s) (body_values rest),
-        values_append (stmt_values s) (body_values (followed rest b)),
-      )
+  followed_joins (slots.stmt s rest) b = search (arith, rules, values_append, followed_joins rest b)
 
   alone_joins : (s : slots.SlotStmt Constant) → Joins (body_values (slots.stmt s slots.end)) (stmt_values s) []
   alone_joins s = values_append (stmt_values s) []
@@ -209,27 +189,16 @@ module _ (size : tree.Tree → ℕ) (small : (v : tree.Tree) → size v ≤ valu
 
     super_within : (sp : StaticEnv) (p : Option Part) → Within 0 0 (expr_values (invoked_super cenv order sp p))
     super_within sp None = omega arith
-    super_within sp (Some p) =
-        let xs = block_parameters cenv order sp.namespace p.name in
-        body_within sp.namespace sp.escaping (next_given p.behind) (first_locals 0 xs) (first_within 0 xs)
+    super_within sp (Some p) = search (arith, rules, body_within, first_within)
 
     invoked_within : (e : Callee) (sp : StaticEnv) (row asides : SRow Constant → SRow Constant) (i : ℕ) (ks : Table)
         (c d n m : ℕ)
         → Front c n row → Front d m asides
         → Within (enclosed (c + d)) (n + m) (expr_values (invoked cenv order e sp row asides i ks))
-    invoked_within (a_macro z f) sp row asides i ks c d n m r a =
-        let rest = filled f.parameters i (default_index cenv order z f.name) ks in
-        omega (arith, r (asides rest), a rest, filled_within f.parameters i (default_index cenv order z f.name) ks)
+    invoked_within (a_macro z f) sp row asides i ks c d n m r a = search (arith, rules, filled_within)
     invoked_within a_range sp row asides i ks c d n m r a = omega (arith, r slots.none)
     invoked_within a_super sp row asides i ks c d n m r a = omega (arith, super_within sp sp.part)
-    invoked_within (a_block x) sp row asides i ks c d n m r a =
-        let t = globals cenv order sp.namespace in
-        let xs = block_parameters cenv order sp.namespace x in
-        omega (
-          arith,
-          body_within sp.namespace sp.escaping (first_body (numbered_of cenv sp.namespace x)) (reads t xs)
-              (reads_within t xs),
-        )
+    invoked_within (a_block x) sp row asides i ks c d n m r a = search (arith, rules, body_within, reads_within)
     invoked_within a_cycle sp row asides i ks c d n m r a =
         let index : SlotExpr Constant = slots.made (slots.operator op.Remainder)
         (slots.item (slots.field Index0) (slots.item (slots.pooled (own (tree.number (pos i)))) slots.none)) in
@@ -301,69 +270,27 @@ module _ (size : tree.Tree → ℕ) (small : (v : tree.Tree) → size v ≤ valu
             is_some_weight n,
           )
       expr_within (unary u a) sp = omega (arith, expr_within a sp, single_joins (resolved cenv order a sp))
-      expr_within (binary b x y) sp =
-          omega (
-            arith,
-            form_adds (form sp.escaping b) (resolved cenv order x sp) (resolved cenv order y sp),
-            expr_within x sp,
-            expr_within y sp,
-          )
-      expr_within (when c a) sp =
-          omega (
-            arith,
-            expr_within c sp,
-            expr_within a sp,
-            values_append (expr_values (resolved cenv order c sp)) (expr_values (resolved cenv order a sp) ++ []),
-            values_append (expr_values (resolved cenv order a sp)) [],
-          )
+      expr_within (binary b x y) sp = search (arith, rules, form_adds, expr_within x sp, expr_within y sp)
+      expr_within (when c a) sp = search (arith, rules, values_append, expr_within c sp, expr_within a sp)
       expr_within (choice c a b) sp =
-          let x = expr_values (resolved cenv order a sp) in
-          let y = expr_values (resolved cenv order b sp) in
-          omega (
-            arith,
-            expr_within c sp,
-            expr_within a sp,
-            expr_within b sp,
-            values_append (expr_values (resolved cenv order c sp)) (x ++ y),
-            values_append x y,
-          )
+          search (arith, rules, values_append, expr_within c sp, expr_within a sp, expr_within b sp)
 
       row_adds : (ts : Exprs) (sp : StaticEnv) (b : SRow Constant)
           → Adds (exprs_weight ts) (exprs_bytes ts) (row_values (resolved_row cenv order ts sp b)) (row_values b)
       row_adds no_exprs sp b = omega arith
-      row_adds (expr a ts) sp b =
-          omega (
-            arith,
-            expr_within a sp,
-            row_adds ts sp b,
-            values_append (expr_values (resolved cenv order a sp)) (row_values (resolved_row cenv order ts sp b)),
-          )
+      row_adds (expr a ts) sp b = search (arith, rules, values_append, expr_within a sp, row_adds ts sp b)
 
       asides_adds : (ps : Pairs) (sp : StaticEnv) (b : SRow Constant)
           → (length (row_values (resolved_asides cenv order ps sp b)) + 3 * min 1 (length (keywords ps))
           ≤ pairs_weight 2 ps + length (row_values b))
           × (total size (row_values (resolved_asides cenv order ps sp b)) ≤ pairs_bytes ps + total size (row_values b))
       asides_adds no_pairs sp b = omega arith
-      asides_adds (pair x a ps) sp b =
-          omega (
-            arith,
-            expr_within a sp,
-            asides_adds ps (grown sp) b,
-            values_append (expr_values (resolved cenv order a sp))
-                (row_values (resolved_asides cenv order ps (grown sp) b)),
-          )
+      asides_adds (pair x a ps) sp b = search (arith, rules, values_append, expr_within a sp, asides_adds ps)
 
       entries_within : (ps : Pairs) (sp : StaticEnv)
           → Within (pairs_weight 3 ps) (pairs_bytes ps) (row_values (resolved_entries cenv order ps sp))
       entries_within no_pairs sp = omega arith
-      entries_within (pair x a ps) sp =
-          omega (
-            arith,
-            small (tree.text x),
-            expr_within a sp,
-            entries_within ps sp,
-            values_append (expr_values (resolved cenv order a sp)) (row_values (resolved_entries cenv order ps sp)),
-          )
+      entries_within (pair x a ps) sp = search (arith, rules, values_append, expr_within a sp, entries_within ps sp)
 
     -- ---- Statements
 
@@ -377,39 +304,18 @@ module _ (size : tree.Tree → ℕ) (small : (v : tree.Tree) → size v ≤ valu
         (expr_values e)
     filters_add [] sp e = omega arith
     filters_add (f ∷ fs) sp e =
-        let i = cenv.filters.named f.name f.arguments f.keywords in
-        let ks = locals_from sp.free (keywords f.keywords) in
-        let rest = filled_some (filter_parameters cenv.filters i) (count f.arguments) (keywords f.keywords) ks in
-        let es = resolved_row cenv order f.arguments sp (resolved_asides cenv order f.keywords sp rest) in
-        omega (
-          arith,
-          filters_add fs sp (filtered_by i sp.escaping (slots.item e es)),
-          filtered_adds i sp.escaping (slots.item e es),
-          values_append (expr_values e) (row_values es),
-          row_adds f.arguments sp (resolved_asides cenv order f.keywords sp rest),
-          asides_adds f.keywords sp rest,
-          few_within (filter_parameters cenv.filters i) (count f.arguments) (keywords f.keywords) ks (filter_plain i),
-        )
+        grind (arith, filtered_adds, values_append, row_adds, asides_adds, few_within, filter_plain, filters_add fs sp)
 
     values_add : (ps : Pairs) (sp : StaticEnv) (line : ℕ) (b : SBody Constant)
         → Adds (pairs_weight 2 ps) (pairs_bytes ps) (body_values (resolved_values cenv order ps sp line b))
         (body_values b)
     values_add no_pairs sp line b = omega arith
-    values_add (pair x e ps) sp line b =
-        omega (
-          arith,
-          expr_within e sp,
-          values_add ps (grown sp) line b,
-          values_append (expr_values (resolved cenv order e sp))
-              (body_values (resolved_values cenv order ps (grown sp) line b)),
-        )
+    values_add (pair x e ps) sp line b = search (arith, rules, expr_within, values_append, values_add ps)
 
     placed_within : (sp : StaticEnv) (i : Option ℕ) (x : Text) (t : Table)
         → Within 0 0 (body_values (placed_body cenv order sp i x t))
     placed_within sp None x t = omega arith
-    placed_within sp (Some i) x t =
-        let xs = block_parameters cenv order sp.namespace x in
-        omega (arith, reads_within t xs, values_append (row_values (reads t xs)) [])
+    placed_within sp (Some i) x t = search (arith, rules, reads_within, values_append)
 
     include_within : (sp : StaticEnv) (line : ℕ) (n : Text) (missing c : Bool) (b : Bool)
         → Within 0 0 (body_values (if b then left_out sp line missing
@@ -418,26 +324,12 @@ module _ (size : tree.Tree → ℕ) (small : (v : tree.Tree) → size v ≤ valu
         (slots.stmt (run (unit cenv order (of_chain n)) slots.none) slots.end)))
     include_within sp line n true c true = omega arith
     include_within sp line n false c true = omega arith
-    include_within sp line n missing c false =
-        let t = if c then sp.table else [] in
-        let m = first_slot cenv order (a_chain n) in
-        let xs = names cenv order (a_chain n) in
-        omega (
-          arith,
-          handed_within (place sp line) t m xs,
-          followed_joins (handed_on (place sp line) t m xs)
-              (slots.stmt (run (unit cenv order (of_chain n)) slots.none) slots.end),
-        )
+    include_within sp line n missing c false = search (arith, rules, handed_within, followed_joins)
 
     inner_within : (b : Body) (sp : StaticEnv)
         → Within (body_own b) (body_bytes b) (body_values (resolved_body cenv order b (bound_all (set_in b) sp)))
         → Within (body_own b) (body_bytes b) (body_values (scoped (set_in b) sp (resolved_body cenv order b)))
-    inner_within b sp h =
-        omega (
-          arith,
-          h,
-          copied_adds (place sp 1) sp.table sp.free (set_in b) (resolved_body cenv order b (bound_all (set_in b) sp)),
-        )
+    inner_within b sp h = search (arith, rules, copied_adds)
 
     mutual
       pub stmt_within : (s : Stmt) (sp : StaticEnv)
@@ -461,40 +353,14 @@ module _ (size : tree.Tree → ℕ) (small : (v : tree.Tree) → size v ≤ valu
             inner_within body inner (all_within body (bound_all (set_in body) inner)),
             all_within other sp,
           )
-      stmt_within (set_block line x body) sp =
-          omega (
-            arith,
-            inner_within body sp (all_within body (bound_all (set_in body) sp)),
-            values_append (body_values (scoped (set_in body) sp (resolved_body cenv order body))) [],
-          )
-      stmt_within (with_values line ps body) sp =
-          let inner = bound_all (keywords ps) sp in
-          omega (
-            arith,
-            values_add ps sp line (scoped (set_in body) inner (resolved_body cenv order body)),
-            inner_within body inner (all_within body (bound_all (set_in body) inner)),
-          )
+      stmt_within (set_block line x body) sp = search (arith, rules, inner_within, values_append, all_within body)
+      stmt_within (with_values line ps body) sp = search (arith, rules, values_add, inner_within, all_within body)
       stmt_within (filter_block line fs body) sp =
-          let b = scoped (set_in body) (grown sp) (resolved_body cenv order body) in
-          let v = resolved_filters cenv order fs (grown sp) (variable (local sp.free)) in
-          omega (
-            arith,
-            inner_within body (grown sp) (all_within body (bound_all (set_in body) (grown sp))),
-            filters_add fs (grown sp) (variable (local sp.free)),
-            values_append (body_values b) (expr_values v ++ []),
-            values_append (expr_values v) [],
-          )
-      stmt_within (autoescape line on body) sp =
-          let inner = record sp { escaping = on } in
-          omega (arith, inner_within body inner (all_within body (bound_all (set_in body) inner)))
+          search (arith, rules, inner_within, filters_add, values_append, all_within body)
+      stmt_within (autoescape line on body) sp = search (arith, rules, inner_within, all_within body)
       stmt_within (include line n missing with_context) sp =
           omega (arith, include_within sp line n missing with_context (is_none (cenv.sources n)))
-      stmt_within (block line x is required body) sp =
-          omega (
-            arith,
-            placed_within sp (first_body (numbered_of cenv sp.namespace x)) x
-                (if is then sp.table else globals cenv order sp.namespace),
-          )
+      stmt_within (block line x is required body) sp = search (arith, rules, placed_within)
       stmt_within (data_of t) sp = omega (arith, small (tree.text t))
       stmt_within (print line e) sp =
           omega (arith, expr_within e sp, values_append (expr_values (resolved cenv order e sp)) [])
@@ -505,30 +371,14 @@ module _ (size : tree.Tree → ℕ) (small : (v : tree.Tree) → size v ≤ valu
       pub all_within : (b : Body) (sp : StaticEnv)
           → Within (body_own b) (body_bytes b) (body_values (resolved_body cenv order b sp))
       all_within end sp = omega arith
-      all_within (stmt s rest) sp =
-          omega (
-            arith,
-            stmt_within s sp,
-            all_within rest sp,
-            followed_joins (resolved_stmt cenv order s sp) (resolved_body cenv order rest sp),
-          )
+      all_within (stmt s rest) sp = search (arith, rules, followed_joins, stmt_within s sp, all_within rest sp)
 
       choice_adds : (bs : Branches) (sp : StaticEnv) (other : SBody Constant)
           → Adds (branch_own bs) (branch_bytes bs) (body_values (resolved_choice cenv order bs sp other))
           (body_values other)
       choice_adds no_branches sp other = omega arith
       choice_adds (branch line c body rest) sp other =
-          let b = body_values (resolved_body cenv order body sp) in
-          let r = body_values (resolved_choice cenv order rest sp other) in
-          omega (
-            arith,
-            expr_within c sp,
-            all_within body sp,
-            choice_adds rest sp other,
-            values_append (expr_values (resolved cenv order c sp)) (b ++ r),
-            values_append b r,
-            values_append (expr_values (resolved cenv order c sp) ++ (b ++ r)) [],
-          )
+          search (arith, rules, expr_within, values_append, all_within body sp, choice_adds rest sp other)
 
     pub scope_within : (b : Body) (sp : StaticEnv)
         → Within (body_own b) (body_bytes b) (body_values (scoped (set_in b) sp (resolved_body cenv order b)))

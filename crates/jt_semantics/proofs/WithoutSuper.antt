@@ -12,7 +12,6 @@ use Rattle.jt_ast.specs.Statements.{filter_block, autoescape, macro, include, im
 use Rattle.jt_ast.specs.Statements.{Body, end, stmt, Branches, no_branches, branch}
 use Rattle.jt_chains.specs.Chain.{Namespace, MacroBody, Definition, given, Callee, a_super, named_alone, named_in}
 use Rattle.jt_chains.specs.Chain.{of_library, in_library, callee, is_loop}
-use Rattle.jt_chains.specs.Uses.{keywords}
 use Rattle.jt_chains.specs.Supers.{is_super, has_super, row_super, pairs_super, condition_super, filter_call_super}
 use Rattle.jt_chains.specs.Supers.{stmt_super, calls_super, branches_super}
 use Rattle.jt_rules.specs.CompileEnv.{CompileEnv}
@@ -21,7 +20,7 @@ use Rattle.jt_rules.specs.UseSites.{Enclosing, Use, reads, binds, reads_loop_fie
 use Rattle.jt_rules.specs.UseSites.{names_import, UseSite, at, bound, named_imports, parameter_names, is_called_by_name}
 use Rattle.jt_rules.specs.UseSites.{expr_use_sites, row_use_sites, pair_use_sites, condition_use_sites}
 use Rattle.jt_rules.specs.UseSites.{filter_call_use_sites, stmt_use_sites, body_use_sites, branch_use_sites}
-use Rattle.jt_semantics.proofs.KeptUses.{Keeps, AllKeep, front, back, joined}
+use Rattle.jt_semantics.proofs.KeptUses.{AllKeep, front, back, joined}
 
 pub left_false : (a b : Bool) → (a || b) ≡ false → a ≡ false
 left_false true b e = e
@@ -132,8 +131,7 @@ module _ (cenv : CompileEnv) (h : Namespace) where
     expr_without (written.map_of ps) w s = pairs_without ps w s
     expr_without (attribute a k) w s = either (is_loop a) (one (reads_loop_field k) w tt) (expr_without a w s)
     expr_without (item a b) w s =
-        both (expr_without a w (left_false (has_super a) (has_super b) s))
-        (expr_without b w (right_false (has_super a) (has_super b) s))
+        search (arith, rules, both, left_false, right_false, expr_without a w, expr_without b w)
     expr_without (written.call f ts ps) w s =
         let s1 = right_false (is_super f) (has_super f || (row_super ts || pairs_super ps)) s in
         let s2 = right_false (has_super f) (row_super ts || pairs_super ps) s1 in
@@ -157,30 +155,23 @@ module _ (cenv : CompileEnv) (h : Namespace) where
         (pairs_without ps w (right_false (row_super ts) (pairs_super ps) s1))))
     expr_without (unary o a) w s = expr_without a w s
     expr_without (binary o a b) w s =
-        both (expr_without a w (left_false (has_super a) (has_super b) s))
-        (expr_without b w (right_false (has_super a) (has_super b) s))
+        search (arith, rules, both, left_false, right_false, expr_without a w, expr_without b w)
     expr_without (when c a) w s =
-        both (expr_without c w (left_false (has_super c) (has_super a) s))
-        (expr_without a w (right_false (has_super c) (has_super a) s))
+        search (arith, rules, both, left_false, right_false, expr_without c w, expr_without a w)
     expr_without (choice c a b) w s =
-        let others = right_false (has_super c) (has_super a || has_super b) s in
-        both (expr_without c w (left_false (has_super c) (has_super a || has_super b) s))
-        (both (expr_without a w (left_false (has_super a) (has_super b) others))
-        (expr_without b w (right_false (has_super a) (has_super b) others)))
+        search (arith, rules, right_false, both, left_false, expr_without c w, expr_without a w, expr_without b w)
 
     row_without : (ts : Exprs) (w : Enclosing) → row_super ts ≡ false
         → Follow (row_use_sites ts w) (row_use_sites ts (out_of w))
     row_without no_exprs w s = same
     row_without (expr a ts) w s =
-        both (expr_without a w (left_false (has_super a) (row_super ts) s))
-        (row_without ts w (right_false (has_super a) (row_super ts) s))
+        search (arith, rules, both, left_false, right_false, expr_without a w, row_without ts w)
 
     pairs_without : (ps : written.Pairs) (w : Enclosing) → pairs_super ps ≡ false
         → Follow (pair_use_sites ps w) (pair_use_sites ps (out_of w))
     pairs_without no_pairs w s = same
     pairs_without (pair k a ps) w s =
-        both (expr_without a w (left_false (has_super a) (pairs_super ps) s))
-        (pairs_without ps w (right_false (has_super a) (pairs_super ps) s))
+        search (arith, rules, both, left_false, right_false, expr_without a w, pairs_without ps w)
 
   -- ---- Statements
 
@@ -193,13 +184,7 @@ module _ (cenv : CompileEnv) (h : Namespace) where
       → Follow (filter_call_use_sites fs w) (filter_call_use_sites fs (out_of w))
   filter_call_without [] w s = same
   filter_call_without (f ∷ fs) w s =
-      let others = right_false (row_super f.arguments) (pairs_super f.keywords || filter_call_super fs) s in
-      both (one (filters f.name f.arguments f.keywords) w tt)
-      (both
-      (row_without f.arguments w (left_false (row_super f.arguments) (pairs_super f.keywords || filter_call_super fs)
-      s))
-      (both (pairs_without f.keywords w (left_false (pairs_super f.keywords) (filter_call_super fs) others))
-      (filter_call_without fs w (right_false (pairs_super f.keywords) (filter_call_super fs) others))))
+      search (arith, rules, right_false, both, one, row_without, left_false, pairs_without, filter_call_without fs w)
 
   mutual
     stmt_without : (t : Stmt) (w : Enclosing) → stmt_super t ≡ false
@@ -207,8 +192,7 @@ module _ (cenv : CompileEnv) (h : Namespace) where
     stmt_without (data_of x) w s = same
     stmt_without (print line e) w s = expr_without e w s
     stmt_without (choose bs other) w s =
-        both (branches_without bs w (left_false (branches_super bs) (calls_super other) s))
-        (body_without other w (right_false (branches_super bs) (calls_super other) s))
+        search (arith, rules, both, left_false, right_false, branches_without bs w, body_without other w)
     stmt_without (for_each line xs e c body other) w s =
         let later = condition_super c || (calls_super body || calls_super other) in
         let s1 = right_false (has_super e) later s in
@@ -221,12 +205,9 @@ module _ (cenv : CompileEnv) (h : Namespace) where
     stmt_without (set line xs e) w s = both (expr_without e w s) (names_without xs w)
     stmt_without (set_block line x body) w s = both (one (binds x) w tt) (body_without body w s)
     stmt_without (with_values line ps body) w s =
-        both (pairs_without ps w (left_false (pairs_super ps) (calls_super body) s))
-        (both (names_without (keywords ps) w)
-        (body_without body w (right_false (pairs_super ps) (calls_super body) s)))
+        search (arith, rules, both, pairs_without, left_false, names_without, right_false, body_without body w)
     stmt_without (filter_block line fs body) w s =
-        both (filter_call_without fs w (right_false (calls_super body) (filter_call_super fs) s))
-        (body_without body w (left_false (calls_super body) (filter_call_super fs) s))
+        search (arith, rules, both, filter_call_without, right_false, left_false, body_without body w)
     stmt_without (autoescape line on body) w s = body_without body w s
     stmt_without (macro line x ps body) w s =
         both (both (one (declares x ps) w tt) (names_without (parameter_names ps) w)) same
@@ -240,15 +221,10 @@ module _ (cenv : CompileEnv) (h : Namespace) where
         → Follow (body_use_sites b w) (body_use_sites b (out_of w))
     body_without end w s = same
     body_without (stmt t rest) w s =
-        both (stmt_without t w (left_false (stmt_super t) (calls_super rest) s))
-        (body_without rest w (right_false (stmt_super t) (calls_super rest) s))
+        search (arith, rules, both, left_false, right_false, stmt_without t w, body_without rest w)
 
     branches_without : (bs : Branches) (w : Enclosing) → branches_super bs ≡ false
         → Follow (branch_use_sites bs w) (branch_use_sites bs (out_of w))
     branches_without no_branches w s = same
     branches_without (branch line c body rest) w s =
-        let s1 = right_false (has_super c) (calls_super body || branches_super rest) s in
-        both
-        (both (expr_without c w (left_false (has_super c) (calls_super body || branches_super rest) s))
-        (body_without body w (left_false (calls_super body) (branches_super rest) s1)))
-        (branches_without rest w (right_false (calls_super body) (branches_super rest) s1))
+        search (arith, rules, right_false, both, expr_without, left_false, body_without body w, branches_without rest w)

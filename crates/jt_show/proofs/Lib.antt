@@ -1,5 +1,4 @@
 pub mod CutCorrect
-pub mod EscapedTextCorrect
 pub mod NumberedLines
 pub mod PlacesSeen
 pub mod SlotsNamed

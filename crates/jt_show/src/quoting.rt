@@ -2,8 +2,11 @@
 ghost use Rattle.std.specs.Prelude.{◌≡◌, ◌<◌, ◌++◌, OnOk, codes, length, string_bytes, take};
 ghost use Rattle.std.specs.Fmt.{decimal};
 ghost use Rattle.std.specs.Str.{IsCharBoundary};
+ghost use Rattle.std.proofs.Common.{arith};
+ghost use Rattle.std.proofs.lemmas.Bool.Decides.{nat_tests};
 ghost use Rattle.jt_show.specs.Quoted.{boundary, escape, is_special, most_shown, quoted, shown};
 
+use jt_escape::{Escapes, push_shown};
 use std::alloc::AllocError;
 use std::fmt::Write;
 
@@ -27,7 +30,7 @@ fn put_whole(text: &str, out: &mut String) -> Result<(), AllocError>
         ≡ string_bytes out.old ++ (codes "\"" ++ (shown text.now ++ codes "\""))) }
 {
     out.push_str("\"")?;
-    put_shown(text, out)?;
+    push_shown::<QuotedEscapes>(text, out)?;
     out.push_str("\"")
 }
 
@@ -40,7 +43,7 @@ fn put_cut(text: &str, out: &mut String) -> Result<(), AllocError>
         ++ (codes "\"... of " ++ (decimal (length text.now) ++ codes " bytes"))))) }
 {
     out.push_str("\"")?;
-    put_shown(front(text), out)?;
+    push_shown::<QuotedEscapes>(front(text), out)?;
     let len = text.len();
     write!(out, "\"... of {len} bytes")
 }
@@ -62,37 +65,26 @@ fn boundary(text: &str, most: usize) -> usize
     text.floor_char_boundary(most)
 }
 
-/// Appends a text with its escapes.
-fn put_shown(text: &str, out: &mut String) -> Result<(), AllocError>
-    ensures { OnOk result (string_bytes out.new ≡ string_bytes out.old ++ shown text.now) }
-{
-    // All bytes before `plain` are appended. The bytes from `plain` to `at` are shown unchanged.
-    let mut plain = 0;
-    for (at, byte) in text.as_bytes().iter().enumerate() {
-        if is_special(*byte) {
-            out.push_str(&text[plain..at])?;
-            put_escape(*byte, out)?;
-            plain = at + 1;
+/// The escapes of a text in quotation marks.
+struct QuotedEscapes;
+
+impl Escapes for QuotedEscapes {
+    ghost is_special = { is_special };
+
+    ghost escape = { escape };
+
+    fn is_special(byte: u8) -> bool {
+        byte == b'"' || byte == b'\\' || byte.is_ascii_control()
+    }
+
+    fn push_escape(byte: u8, into: &mut String) -> Result<(), AllocError> {
+        match byte {
+            b'"' => into.push_str("\\\""),
+            b'\\' => into.push_str("\\\\"),
+            b'\n' => into.push_str("\\n"),
+            _ => write!(into, "\\u{{{byte:x}}}"),
         }
     }
-    out.push_str(&text[plain..])
-}
 
-/// Returns whether a byte needs an escape.
-fn is_special(byte: u8) -> bool
-    ensures { result ≡ is_special byte }
-{
-    byte == b'"' || byte == b'\\' || byte.is_ascii_control()
-}
-
-/// Appends the escape of a byte.
-fn put_escape(byte: u8, out: &mut String) -> Result<(), AllocError>
-    ensures { OnOk result (string_bytes out.new ≡ string_bytes out.old ++ escape byte) }
-{
-    match byte {
-        b'"' => out.push_str("\\\""),
-        b'\\' => out.push_str("\\\\"),
-        b'\n' => out.push_str("\\n"),
-        _ => write!(out, "\\u{{{byte:x}}}"),
-    }
+    ghost special_are_ascii = { Prim.grind (arith, nat_tests) };
 }

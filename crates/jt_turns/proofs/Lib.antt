@@ -3,4 +3,3 @@ mod StepsTakeFuel
 mod OpenedSessions
 mod SessionsById
 mod TurnOutcomes
-pub mod EscapedTextCorrect

@@ -1,7 +1,11 @@
 //! Shows names and paths that others chose.
-ghost use Rattle.std.specs.Prelude.{◌≡◌, ◌<◌, ◌/◌, ◌%◌, ◌++◌, IfOk, OnOk, string_bytes};
+ghost use Rattle.std.specs.Prelude.{◌≡◌, ◌<◌, ◌/◌, ◌%◌, ◌++◌, IfOk, string_bytes};
+ghost use Rattle.std.proofs.Common.{arith};
+ghost use Rattle.std.proofs.lemmas.Bool.Decides.{nat_tests};
+ghost use Rattle.std.specs.Char.{is_ascii_control};
 ghost use Rattle.jt_turns.specs.Shown.{escape, hex_digit, one_line, shown};
 
+use jt_escape::{Escapes, push_shown};
 use std::alloc::{AllocError, Global};
 
 /// Returns the line of a text. Each control character in it is shown as `\x` and two hexadecimal
@@ -19,28 +23,30 @@ pub fn shown_text(alloc: Global, text: &str) -> Result<String, AllocError>
     ensures { IfOk result (λ made. string_bytes made ≡ shown text.now) }
 {
     let mut made = String::new(alloc);
-    // All bytes before `plain` are appended. The bytes from `plain` to `at` are shown unchanged.
-    let mut plain = 0;
-    for (at, byte) in text.as_bytes().iter().enumerate() {
-        if byte.is_ascii_control() {
-            made.push_str(&text[plain..at])?;
-            push_escape(&mut made, *byte)?;
-            plain = at + 1;
-        }
-    }
-    made.push_str(&text[plain..])?;
+    push_shown::<ControlEscapes>(text, &mut made)?;
     Ok(made)
 }
 
-/// Appends `\x` and the two hexadecimal digits of a byte.
-fn push_escape(made: &mut String, byte: u8) -> Result<(), AllocError>
-    ensures { OnOk result (string_bytes made.new ≡ string_bytes made.old ++ escape byte) }
-{
-    let (high, low) = hex_digits(byte);
-    made.push_str("\\x")?;
-    made.push_str(high)?;
-    made.push_str(low)?;
-    Ok(())
+/// The escapes of control characters.
+struct ControlEscapes;
+
+impl Escapes for ControlEscapes {
+    ghost is_special = { is_ascii_control };
+
+    ghost escape = { escape };
+
+    fn is_special(byte: u8) -> bool {
+        byte.is_ascii_control()
+    }
+
+    fn push_escape(byte: u8, into: &mut String) -> Result<(), AllocError> {
+        let (high, low) = hex_digits(byte);
+        into.push_str("\\x")?;
+        into.push_str(high)?;
+        into.push_str(low)
+    }
+
+    ghost special_are_ascii = { Prim.grind (arith, nat_tests) };
 }
 
 /// Returns the two hexadecimal digits of a byte.

@@ -7,8 +7,12 @@ use Rattle.jt_ast.specs.ExpressionView.{exprs_view, pairs_view}
 use Rattle.jt_ast.specs.Texts.{ascending}
 use Rattle.jt_ast.specs.declared.expression.Expr as expression
 use Rattle.jt_chains.specs.Chain.{Namespace, Sources, Definition, Callee, given, given_to}
+use Rattle.jt_chains.specs.Named.{given_view}
 use Rattle.jt_chains.specs.Uses.{count, own_names}
+use Rattle.jt_chains.specs.View.{chain_view}
 use Rattle.jt_chains.specs.declared.chain.Chain.{Chain}
+use Rattle.jt_chains.specs.declared.definitions.Definition as found
+use Rattle.jt_names.specs.FactsOfChains.{IsKnown}
 use Rattle.jt_checks.specs.internal.ScopeLookup.{cenv_in, namespace_in, names_of}
 use Rattle.jt_rules.specs.CompileEnv.{CompileEnv}
 use Rattle.jt_checks.specs.internal.RuleTests as rules
@@ -32,6 +36,14 @@ its_given s = given (its_sources s) (its_namespace s)
 
 abbrev pub given_in : Scope → Text → Option Definition
 given_in s n = given_to n (its_given s)
+
+-- The view of a definition in the code.
+abbrev pub given_as : Scope → found.Definition → Definition
+given_as s g = given_view (chain_view s.chain.now).templates (its_namespace s) g
+
+-- The facts of a scope are those of its chain or library.
+abbrev pub HasFacts : Scope → Type 0
+HasFacts s = IsKnown s.chain.now s.namespace s.known.now
 
 -- The name of an expression that is a bare name.
 abbrev pub name_in : Expr → Option Text

@@ -1,11 +1,9 @@
 -- The indices of names and namespaces in lists, and the names of chains. Only private clauses cite
 -- this module.
-use Rattle.std.specs.Prelude.{◌≡◌, ℕ, suc, ◌+◌, Bool, List, [], ◌∷◌, ◌++◌, length, flat_map, Option, Some, None}
+use Rattle.std.specs.Prelude.{ℕ, suc, ◌+◌, Bool, List, [], ◌∷◌, ◌++◌, length, flat_map, Option, Some, None}
 use Rattle.std.specs.Prelude.{if◌then◌else◌, filter, Vec}
 use Rattle.std.specs.declared.alloc.Global.{Global}
-use Rattle.std.specs.Ordering.{nat_cmp}
-use Rattle.std.specs.Cmp.Lexicographic.{slice_cmp}
-use Rattle.std.specs.BTreeMap.{BTreeMap, get_by}
+use Rattle.std.specs.BTreeMap.{BTreeMap}
 use Rattle.std.specs.Str.{bytes_eq}
 use denote.Ref.{Bor}
 use Rattle.jt_ast.specs.Expressions.{Text}
@@ -16,16 +14,7 @@ use Rattle.jt_chains.specs.Uses.{own_names}
 use Rattle.jt_rules.specs.CompileEnv.{CompileEnv}
 use Rattle.jt_semantics.specs.Layout.{names_in}
 use Rattle.jt_semantics.specs.Resolve.{next_given}
-use Rattle.jt_layout.specs.Names.{index_in}
-
--- The number of the first of these texts that is x; the texts are numbered from n.
-abbrev pub first_of : Text → ℕ → List Text → Option ℕ
-first_of x n [] = None
-first_of x n (y ∷ ys) = if bytes_eq y x then Some n else first_of x (suc n) ys
-
--- The map has the number of the first occurrence of each name; the names are numbered from n.
-abbrev pub AreIndices : ℕ → List Text → BTreeMap (Bor Text) ℕ → Type 0
-AreIndices n xs m = (x : Text) → index_in m x ≡ first_of x n xs
+use Rattle.jt_names.specs.Names.{value_in}
 
 -- The chain or the library of a name.
 abbrev pub namespace_named : Bool → Text → Namespace
@@ -48,7 +37,7 @@ texts_of None = []
 texts_of (Some v) = texts v.items
 
 abbrev pub names_at : BTreeMap (Bor Text) (Vec (Bor Text) Global) → Text → List Text
-names_at m x = texts_of (get_by (λ k. slice_cmp nat_cmp x k.now) m)
+names_at m x = texts_of (value_in m x)
 
 -- The pool index of the first default of each macro, from n on.
 abbrev pub defaults_from : ℕ → List MacroBody → List ℕ

@@ -3,15 +3,13 @@
 use Rattle.std.specs.Prelude.{◌≡◌, ℕ, List, Vec}
 use Rattle.std.specs.declared.alloc.Global.{Global}
 use Rattle.std.specs.BTreeMap.{BTreeMap}
-use Rattle.std.specs.Option.{is_none}
 use denote.Ref.{Bor}
 use Rattle.jt_ast.specs.Expressions.{Text}
 use Rattle.jt_chains.specs.Chain.{Namespace, a_chain}
-use Rattle.jt_chains.specs.View.{chain_view, namespace_in, its_sources}
+use Rattle.jt_chains.specs.View.{chain_view, namespace_in}
 use Rattle.jt_chains.specs.declared.chain.Chain.{Chain}
 use Rattle.jt_rules.specs.CompileEnv.{CompileEnv, cenv_of}
 use Rattle.jt_semantics.specs.Layout.{names, names_in}
-use Rattle.jt_layout.specs.Names.{index_in}
 use Rattle.jt_layout.specs.internal.Indices.{names_at}
 
 module _ (c : Chain) where
@@ -27,10 +25,6 @@ module _ (c : Chain) where
   its_names i = names its_cenv its_order (namespace_in c i)
 
   -- ---- lookup by name
-
-  -- The map has a number for each template that was read.
-  abbrev pub AreSources : BTreeMap (Bor Text) ℕ → Type 0
-  AreSources m = (x : Text) → is_none (index_in m x) ≡ is_none (its_sources c x)
 
   -- The map has the names of each remaining chain, and no other entries.
   abbrev pub AreNames : List Namespace → BTreeMap (Bor Text) (Vec (Bor Text) Global) → Type 0

@@ -1,22 +1,16 @@
-use Rattle.std.proofs.Common.{map, ap, ◌∙◌, arith}
+use Rattle.std.proofs.Common.{Some, map, ap, ◌∙◌, arith}
 use Rattle.jt_chains.specs.Parts.{block_view}
 use Rattle.jt_chains.specs.View.{chain_view}
-use Rattle.jt_semantics.specs.Programs.{body_routines}
+use Rattle.jt_semantics.specs.Layout.{numbered_bodies}
+use Rattle.jt_semantics.specs.Resolve.{StaticEnv}
 use Rattle.jt_ast.specs.Texts.{texts}
-use Rattle.jt_bind.specs.internal.Scoped.{cenv_in, order_in, namespace_in, templates_in}
+use Rattle.jt_bind.specs.internal.Scoped.{part_at, cenv_in, namespace_in}
 use Rattle.jt_bind.proofs.RoutineConcatenation.{lead_last, routines_left}
 use Rattle.jt_bind.proofs.NumberedBodies.{numbered_end, block_routine}
 use Rattle.jt_bind.proofs.routines.resolve_blocks.Goals as goal
 
 pub returns : goal.returns
-returns c =
-    let l = c.loop-index in
-    let scope = c.args.tables.now in
-    let all = ap (map (block_view (chain_view scope.chain.now).templates)) c.deref-block-items.ensures.value
-    ∙ c.here-here.ensures.all_blocks in
-    lead_last (templates_in scope) _ _ _ _ _ (routines_left (templates_in scope) _ _ _ _ _ _ _
-    (ap (body_routines (cenv_in scope) (order_in scope) (namespace_in scope))
-    (numbered_end scope c.deref-block-items.result.now all l.index (omega arith))) l.invariant)
+returns c = grind (arith, lead_last, routines_left, numbered_end)
 
 pub loop-index-preserved : goal.loop-index-preserved
 loop-index-preserved c =
@@ -24,6 +18,9 @@ loop-index-preserved c =
     let scope = c.args.tables.now in
     let all = ap (map (block_view (chain_view scope.chain.now).templates)) c.deref-block-items.ensures.value
     ∙ c.here-here.ensures.all_blocks in
-    block_routine scope c.deref-block-items.result.now all l.index c.block-item.result _ _ _ _ _ _ _ _ _
+    block_routine scope c.deref-block-items.result.now all l.index c.block-item.result _ _ _ _ _ _ _ _ _ _
     c.loop-index-test.true c.block-item.is (ap texts c.in_ok-parameters.ensures.items ∙ c.block_parameters.ensures)
-    l.invariant c.in_ok-resolve_routine.ensures c.in_ok-push.ensures.items
+    (ap (λ (z : StaticEnv). record z {
+      escaping = c.block-item.result.escaping;
+      part = part_at (numbered_bodies (cenv_in scope) (namespace_in scope)) (Some l.index);
+    }) c.top_senv.ensures) l.invariant c.in_ok-resolve_routine.ensures c.in_ok-push.ensures.items

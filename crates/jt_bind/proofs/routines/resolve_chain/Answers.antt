@@ -1,4 +1,4 @@
-use Rattle.std.proofs.Common.{◌≡◌, ℕ, ◌<◌, List, length, map, refl, sym, ap, ◌∙◌, subst, arith}
+use Rattle.std.proofs.Common.{◌≡◌, ℕ, ◌<◌, List, length, map, refl, ap, ◌∙◌, subst, arith}
 use Rattle.std.proofs.lemmas.List.{length-map}
 use Rattle.jt_chains.specs.Chain.{a_chain, templates}
 use Rattle.jt_chains.specs.Layers.{layer_view}
@@ -7,9 +7,6 @@ use Rattle.jt_chains.specs.Indices.{namespace_at}
 use Rattle.jt_chains.specs.View.{chain_view, sources_of}
 use Rattle.jt_chains.specs.declared.chain.Chain.{Chain}
 use Rattle.jt_chains.specs.declared.layers.Layer.{Layer}
-use Rattle.jt_ir.specs.Locals.{body_locals}
-use Rattle.jt_ir.specs.View.{body_view}
-use Rattle.jt_ir.specs.declared.program.SlotStmt.{SlotStmt}
 use Rattle.jt_bind.specs.internal.Scoped.{values, cenv_in, order_in, namespace_in, templates_in}
 use Rattle.jt_semantics.specs.Resolve.{resolved_chain}
 use Rattle.jt_bind.proofs.BodyConcatenation.{emits_begun, emits_of}

@@ -22,7 +22,8 @@ returns c =
     let P : List Planned → Type 0 = λ z. AreRoutines T z c.args.routines.now.items l.routines.items
     (values c.args.pool.now) (values l.pool) in
     subst P (ap (λ (z : List Macro). map (λ (m : Macro). F (macro_view ts m)) z) c.deref-called-items.ensures.value
-    ∙ sym (map-map F (macro_view ts) c.here-here.result.now.macros.items) ∙ ap (map F) c.here-here.ensures.all_macros)
+    ∙ sym (map-map F (macro_view ts) c.here-here.result.now.known.now.macros.items)
+    ∙ ap (map F) c.here-here.ensures.all_macros)
     (lead_last T (remaining scope ms 0) _ _ _ _ (routines_left T _ _ _ _ _ _ _ (at_drop_all
     (λ (z : List Macro). map (λ (m : Macro). F (macro_view ts m)) z) ms l.called-index (omega arith)) l.invariant))
 

@@ -1,13 +1,9 @@
-use Rattle.std.proofs.Common.{max, ap, ◌∙◌, arith, rules}
-use Rattle.jt_ast.specs.Texts.{texts}
+use Rattle.std.proofs.Common.{arith, rules}
 use Rattle.jt_checks.proofs.ArgumentsFit.{equal_ok, named_well, not_taken, not_filled, filled_well}
 use Rattle.jt_checks.proofs.arguments.filter_takes.Goals as goal
 
 pub returns-then-not-takes : goal.returns-then-not-takes
-returns-then-not-takes c =
-    not_taken c.args.filter c.args.parameters.now c.args.filled c.max-values.result (texts c.args.names.now)
-    c.takes.result (c.max-values.ensures ∙ ap (max c.args.filled) c.reached.ensures.value) c.takes.ensures
-    c.if-not-takes.true
+returns-then-not-takes c = search (arith, rules, not_taken)
 
 pub returns-then-not-is_filled : goal.returns-then-not-is_filled
 returns-then-not-is_filled c = search (arith, rules, not_filled)

@@ -1,13 +1,12 @@
 use Rattle.std.proofs.Common.{◌≡◌, sym, ap, ◌∙◌, Some}
 use Rattle.std.specs.Prelude.{option_map}
-use mathlib.Core.Logic.{inr}
 use Rattle.jt_ast.specs.ExpressionView.{exprs_view, pairs_view}
-use Rattle.jt_chains.specs.Chain.{given, given_to, of_library}
+use Rattle.jt_chains.specs.Chain.{library, given, given_to, of_library}
 use Rattle.jt_chains.specs.Parts.{macro_view}
 use Rattle.jt_chains.specs.View.{chain_view}
 use Rattle.jt_checks.specs.internal.RuleTests as rules
-use Rattle.jt_checks.specs.internal.ScopeLookup.{cenv_in, known_of, known_view}
-use Rattle.jt_checks.specs.internal.ScopeView.{its_cenv, its_namespace}
+use Rattle.jt_checks.specs.internal.ScopeLookup.{cenv_in}
+use Rattle.jt_checks.specs.internal.ScopeView.{its_cenv, its_namespace, given_as}
 use Rattle.jt_checks.specs.internal.UseRules.{within_view}
 use Rattle.jt_checks.proofs.AttributeForms.{called_library}
 use Rattle.jt_checks.proofs.calls.library_call_broken.Goals as goal
@@ -18,8 +17,8 @@ returns-in_ok-fits-in-Some c =
     let s = c.args.scope.now in
     let n = c.in-Some-Library.library.now in
     let o = given_to c.args.path.0.now (given (its_cenv s).sources (its_namespace s)) in
-    let known : known_of o ≡ Some (inr n) = sym c.known.ensures ∙ ap (option_map known_view) c.in-Some-Library.is
-    ∙ ap (λ k. Some (known_view k)) c.in-Some-Library.field-0-is in
+    let known : o ≡ Some (library n) = sym c.given.ensures ∙ ap (option_map (given_as s)) c.in-Some-Library.is
+    ∙ ap (λ k. Some (given_as s k)) c.in-Some-Library.field-0-is in
     let us = exprs_view c.args.row.now in
     let ps = pairs_view c.args.pairs.now in
     let w = within_view c.args.within in
@@ -37,8 +36,8 @@ returns-in-None c =
     let s = c.args.scope.now in
     let n = c.in-Some-Library.library.now in
     let o = given_to c.args.path.0.now (given (its_cenv s).sources (its_namespace s)) in
-    let known : known_of o ≡ Some (inr n) = sym c.known.ensures ∙ ap (option_map known_view) c.in-Some-Library.is
-    ∙ ap (λ k. Some (known_view k)) c.in-Some-Library.field-0-is in
+    let known : o ≡ Some (library n) = sym c.given.ensures ∙ ap (option_map (given_as s)) c.in-Some-Library.is
+    ∙ ap (λ k. Some (given_as s k)) c.in-Some-Library.field-0-is in
     let us = exprs_view c.args.row.now in
     let ps = pairs_view c.args.pairs.now in
     let w = within_view c.args.within in

@@ -8,7 +8,6 @@ use Rattle.jt_image.specs.declared.parts.Parts.{Parts}
 use Rattle.jt_image.specs.declared.version.Version.TheVariants as version
 use Rattle.jt_image.specs.Parts.{each_of, section_of_unit}
 use Rattle.jt_constants.specs.Merged.{constant_of, each_once, new_indices}
-use Rattle.jt_constants.specs.Refusals.{RefusesTable}
 use Rattle.jt_constants.proofs.MergeIsNoLarger.{units_len}
 use Rattle.jt_ir.specs.View.{routine_view, templates_of}
 use Rattle.jt_ir.specs.declared.program.Routine.{Routine}
@@ -48,12 +47,7 @@ pub returns-clause-short : goal.returns-clause-short
 returns-clause-short c = search (arith, rules, units_len, ps)
 
 pub returns-in_err-table-clause-refused : goal.returns-in_err-table-clause-refused
-returns-in_err-table-clause-refused c =
-    let e = c.in_err-table.field-0.0 in
-    let p = err_from_is_err_and c.from_residual-in_err-table.result c.from_residual-in_err-table.ensures.1 in
-    let refused = subst (λ (vs : List Value). RefusesTable e (map constant_of (map view vs))) c.deref.ensures.value
-    c.in_err-table.ensures.refused in
-    rw (p.1, p.2) (table_refused e c.args.program.now refused)
+returns-in_err-table-clause-refused c = search (arith, rules, err_from_is_err_and, table_refused)
 
 pub returns-in_err-code-clause-refused : goal.returns-in_err-code-clause-refused
 returns-in_err-code-clause-refused c = search (arith, rules, err_from_is_err_and, length-map, units_refused)

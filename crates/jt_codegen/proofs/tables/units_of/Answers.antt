@@ -1,12 +1,10 @@
-use Rattle.std.proofs.Common.{◌≡◌, ℕ, List, [], ◌∷◌, ◌++◌, ◌+◌, ◌-◌, ◌≤◌, Option, drop, length, sym, subst, arith}
+use Rattle.std.proofs.Common.{◌≡◌, ℕ, List, [], ◌∷◌, ◌++◌, ◌+◌, ◌-◌, Option, drop, length, sym, subst, arith}
 use Rattle.std.proofs.Common.{rules}
 use Rattle.std.proofs.lemmas.Result.{err_from_is_err_and}
 use Rattle.jt_image.specs.declared.parts.Unit as given
 use Rattle.jt_ir.specs.declared.program.Place.{Place}
 use Rattle.jt_codegen.proofs.ProgramTables.{Made, tags, all_places, made_more, made_all, made_short, unit_refused}
 use Rattle.jt_codegen.proofs.ProgramTables.{item_holds}
-use Rattle.jt_codegen.specs.Units.{max_parameters}
-use Rattle.jt_image.specs.IsCode.{max_locals}
 use Rattle.jt_codegen.proofs.ProgramTables.{places_more, places_all}
 use Rattle.jt_codegen.proofs.tables.units_of.Goals as goal
 
@@ -19,14 +17,10 @@ returns-in_err-emitted-clause-refused c =
     (c.in_err-emitted.ensures.refused templates) (l.invariant templates).0)
 
 pub emit_unit-requires-clause-parameters : goal.emit_unit-requires-clause-parameters
-emit_unit-requires-clause-parameters c =
-    item_holds (λ r. r.parameters ≤ max_parameters) c.args.routines.now c.loop-routine.routine-index
-    c.routine-item.result c.requires.parameters c.loop-routine-test.true c.routine-item.is
+emit_unit-requires-clause-parameters c = search (arith, rules, item_holds)
 
 pub emit_unit-requires-clause-locals : goal.emit_unit-requires-clause-locals
-emit_unit-requires-clause-locals c =
-    item_holds (λ r. r.locals ≤ max_locals) c.args.routines.now c.loop-routine.routine-index c.routine-item.result
-    c.requires.locals c.loop-routine-test.true c.routine-item.is
+emit_unit-requires-clause-locals c = search (arith, rules, item_holds)
 
 pub loop-routine-preserved : goal.loop-routine-preserved
 loop-routine-preserved c = λ templates.

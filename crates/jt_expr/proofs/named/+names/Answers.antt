@@ -26,17 +26,7 @@ has_unknown-returns-then-is_filter_unknown t c =
     grind (arith, common_steps)
 
 pub has_unknown-returns-else-is_filter_unknown : goal.has_unknown-returns-else-is_filter_unknown
-has_unknown-returns-else-is_filter_unknown t c =
-    let whole = ap (spec.has_unknown c.args.named)
-    (ap expr_view c.in-Filter.is
-    ∙ view_Filter c.in-Filter.input c.in-Filter.name c.in-Filter.arguments c.in-Filter.keywords) in
-    let last = c.has_unknown_with-else-is_filter_unknown.ensures in
-    grind (arith, common_steps)
+has_unknown-returns-else-is_filter_unknown t c = grind (arith, view_Filter, common_steps)
 
 pub has_unknown-returns-else-is_unknown_test : goal.has_unknown-returns-else-is_unknown_test
-has_unknown-returns-else-is_unknown_test t c =
-    let whole = ap (spec.has_unknown c.args.named)
-    (ap expr_view c.in-Test.is
-    ∙ view_Test c.in-Test.value c.in-Test.polarity c.in-Test.name c.in-Test.arguments c.in-Test.keywords) in
-    let last = c.has_unknown_with-else-is_unknown_test.ensures in
-    grind (arith, common_steps)
+has_unknown-returns-else-is_unknown_test t c = grind (arith, view_Test, common_steps)

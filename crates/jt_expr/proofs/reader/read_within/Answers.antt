@@ -11,9 +11,7 @@ use Rattle.jt_expr.proofs.reader.read_within.Goals as goal
 
 pub returns-then-limit-eq0 : goal.returns-then-limit-eq0
 unfolding read
-returns-then-limit-eq0 c =
-    let none : c.args.limit ≡ 0 = omega arith in
-    ap (λ n. read n (level_of_form c.args.form) (ahead c.args.cursor.now)) none
+returns-then-limit-eq0 c = search (arith, rules)
 
 pub returns-in_err-step : goal.returns-in_err-step
 returns-in_err-step c =

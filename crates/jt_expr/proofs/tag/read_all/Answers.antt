@@ -5,11 +5,7 @@ use Rattle.jt_expr.proofs.WholeTagExact.{OfAll, refused_before, left_over, all_r
 use Rattle.jt_expr.proofs.tag.read_all.Goals as goal
 
 pub returns-in_err-expr : goal.returns-in_err-expr
-returns-in_err-expr c =
-    let q : OfAll c.args.limit (map token_view c.args.tokens.now) (Err c.in_err-expr.field-0.0) = subst
-    (λ z. OfAll c.args.limit z (Err c.in_err-expr.field-0.0)) c.new-rest.ensures
-    (refused_before _ _ _ _ c.in_err-expr.ensures.promises) in
-    search rules
+returns-in_err-expr c = search (arith, rules, refused_before)
 
 pub returns-then-left-gt0 : goal.returns-then-left-gt0
 returns-then-left-gt0 c =

@@ -13,11 +13,7 @@ pub split_at-requires-2 : goal.split_at-requires-2
 split_at-requires-2 c = rw c.split_at.ensures.back (template_read (drop c.args.at c.args.bytes.now) c.requires).long
 
 pub text_in-requires : goal.text_in-requires
-text_in-requires c =
-    rw (c.split_at-2.ensures.back, c.u16_in-len.ensures, c.split_at.ensures.back)
-    (template_read (drop c.args.at c.args.bytes.now) c.requires).text
+text_in-requires c = search (arith, rules, template_read)
 
 pub returns : goal.returns
-returns c =
-    rw (c.text_in.ensures, c.split_at-2.ensures.back, c.u16_in-len.ensures, c.split_at.ensures.back)
-    (sym (template_read (drop c.args.at c.args.bytes.now) c.requires).is)
+returns c = search (arith, rules, template_read)

@@ -8,7 +8,4 @@ pub returns-clause-there : goal.returns-clause-there
 returns-clause-there c = search (arith, rules, place_whole)
 
 pub returns-clause-last : goal.returns-clause-last
-returns-clause-last c =
-    instructions_last c.args.header.now.len c.args.bytes.now c.args.front.now
-    (instructions_in c.args.header.now.len c.args.front.now) c.in_ok-rest.rest.now
-    (λ i. omega (arith, c.type_inv.bytes i)) c.requires c.in_ok-rest.ensures
+returns-clause-last c = search (arith, rules, instructions_last)

@@ -4,6 +4,4 @@ use Rattle.jt_image.proofs.PartsForAssembly.{short_codes}
 use Rattle.jt_image.proofs.spelling.put_parts.Goals as goal
 
 pub put_headers-requires : goal.put_headers-requires
-put_headers-requires c =
-    rw c.deref-3.ensures.value
-    (short_codes (units_view c.args.parts.now.units.items) (omega (arith, c.requires.code.instructions)))
+put_headers-requires c = grind (arith, short_codes)

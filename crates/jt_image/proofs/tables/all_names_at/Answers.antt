@@ -58,6 +58,4 @@ names-preserved c =
     }
 
 pub returns-clause-gives : goal.returns-clause-gives
-returns-clause-gives c =
-    is_done (name_at c.args.globals) c.in_ok-count.count c.names.counter (names_in c.args.bytes.now c.names.names.items)
-    c.names.rest.now (all_names_at c.args.globals c.args.front.now) c.names-test.false c.names.invariant.walks.so_far
+returns-clause-gives c = search (arith, rules, is_done)

@@ -20,6 +20,4 @@ pub headers-preserved : goal.headers-preserved
 headers-preserved c = search (arith, rules, map_push, goes_on, header_total-push, is_first-push)
 
 pub returns-clause-gives : goal.returns-clause-gives
-returns-clause-gives c =
-    is_done header_at c.args.count c.headers.counter (headers_view c.headers.headers.items) c.headers.rest.now
-    (many_at header_at c.args.count [] c.args.bytes.now) c.headers-test.false c.headers.invariant.so_far
+returns-clause-gives c = search (arith, rules, is_done)

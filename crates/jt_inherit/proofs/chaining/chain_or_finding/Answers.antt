@@ -1,7 +1,7 @@
 use Rattle.std.proofs.Common.{arith, rules}
-use Rattle.std.proofs.Common.{List, ap, subst}
+use Rattle.std.proofs.Common.{List, subst}
 use Rattle.jt_chains.specs.Tables.{AreAt}
-use Rattle.jt_inherit.proofs.Vocabulary.{err_from_is_err_and, files_view, TemplateFile, found_templates, ChainFinding}
+use Rattle.jt_inherit.proofs.Vocabulary.{err_from_is_err_and, files_view, TemplateFile, found_templates}
 use Rattle.jt_inherit.proofs.PathTemplates.{all_short}
 use Rattle.jt_inherit.proofs.RingFound.{order_finds}
 use Rattle.jt_inherit.proofs.ChainIsUnique.{no_chain, one_chain}
@@ -47,9 +47,7 @@ returns-clause-weighs g c =
     c.in_ok-namespaces.namespaces.items c.in_ok-namespaces.ensures
 
 pub returns-clause-short : goal.returns-clause-short
-returns-clause-short g c =
-    all_short (g.L.Library.sources c.args.library.now) (found_templates c.in_ok-found.found)
-    c.in_ok-found.ensures.done.found.known.within
+returns-clause-short g c = search (arith, rules, all_short, found_templates)
 
 pub returns-clause-few : goal.returns-clause-few
 returns-clause-few g c =
@@ -81,14 +79,10 @@ returns-in_err-order-clause-only g c =
     (order_finds d.found (all d) e c.in_err-order.ensures.refused).broken)
 
 pub returns-in_err-namespaces-clause-only : goal.returns-in_err-namespaces-clause-only
-returns-in_err-namespaces-clause-only g c =
-    let p = err_from_is_err_and c.from_residual-in_err-namespaces.result c.from_residual-in_err-namespaces.ensures.1 in
-    rw p.1 (λ d i. ap (λ (f : ChainFinding). f.error) p.2)
+returns-in_err-namespaces-clause-only g c = search (arith, rules, err_from_is_err_and)
 
 pub returns-in_err-indices-clause-only : goal.returns-in_err-indices-clause-only
-returns-in_err-indices-clause-only g c =
-    let p = err_from_is_err_and c.from_residual-in_err-indices.result c.from_residual-in_err-indices.ensures.1 in
-    rw p.1 (λ d i. ap (λ (f : ChainFinding). f.error) p.2)
+returns-in_err-indices-clause-only g c = search (arith, rules, err_from_is_err_and)
 
 pub returns-clause-only : goal.returns-clause-only
 returns-clause-only g c =

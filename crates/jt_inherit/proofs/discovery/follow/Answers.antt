@@ -20,9 +20,7 @@ pub get-namespace-requires : goal.get-namespace-requires
 get-namespace-requires g c = search (arith, rules, length-map)
 
 pub check_library-requires-clause-named : goal.check_library-requires-clause-named
-check_library-requires-clause-named g c =
-    let known = c.requires.found.known in
-    (known.named, ap repeated known.named ∙ known.read.once)
+check_library-requires-clause-named g c = search (arith, rules, repeated)
 
 pub check_library-requires-clause-indices : goal.check_library-requires-clause-indices
 check_library-requires-clause-indices g c = search (arith, rules, ways_indexed)

@@ -1,4 +1,4 @@
-use Rattle.std.proofs.Common.{◌≡◌, length, arith, string_bytes}
+use Rattle.std.proofs.Common.{arith, string_bytes}
 use Rattle.jt_inherit.proofs.Vocabulary.{length-map, err_from_is_err_and, key_view, namespaces_view}
 use Rattle.jt_inherit.proofs.FollowStep.{next_there, next_new, put_fault}
 use Rattle.jt_inherit.proofs.including.number_of.Goals as goal
@@ -16,9 +16,4 @@ returns-in_err-put_new-clause-refused c =
     c.in_err-put_new.field-0.0 c.requires.once c.in_default.ensures c.in_err-put_new.ensures.refused)
 
 pub returns-clause-next : goal.returns-clause-next
-returns-clause-next c =
-    let len : c.len-number.result ≡ length (namespaces_view c.args.namespaces.now) =
-    omega (arith, c.len-number.ensures.len, length-map c.args.namespaces.now.items.items key_view) in
-    next_new (namespaces_view c.args.namespaces.now) (namespaces_view c.put_new.new.namespaces)
-    (key_view c.args.namespace) c.len-number.result c.in_ok-put_new.ensures.put c.requires.once c.in_default.ensures
-    c.in_ok-put_new.ensures.few len
+returns-clause-next c = grind (arith, namespaces_view, length-map, key_view, next_new)

@@ -7,9 +7,7 @@ use Rattle.jt_inherit.proofs.PlacedErrors.{index_at_end}
 use Rattle.jt_inherit.proofs.placing.parent_place.Goals as goal
 
 pub returns-in_default : goal.returns-in_default
-returns-in_default c =
-    ap (λ o. place_in 0 (tags (is_extends c.args.name.now) (uses_at (files_view c.args.files.now) o)))
-    c.in_default.ensures.value
+returns-in_default c = search (arith, rules, place_in, tags, is_extends, uses_at, files_view)
 
 pub bounds-files-last : goal.bounds-files-last
 bounds-files-last c = search (arith, rules, index_at_end, length-map)

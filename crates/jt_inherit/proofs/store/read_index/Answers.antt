@@ -42,6 +42,4 @@ pub returns-in-Some-clause-from : goal.returns-in-Some-clause-from
 returns-in-Some-clause-from g c = λ n a. inl a
 
 pub returns-clause-from : goal.returns-clause-from
-returns-clause-from g c =
-    among_last (names_view c.args.names.now) (names_view c.add_file.new.names) (string_bytes c.in_ok-file.file.name)
-    c.args.name.now c.in_ok-add_file.ensures.names c.in_ok-file.ensures.named
+returns-clause-from g c = search (arith, rules, among_last, names_view, string_bytes)

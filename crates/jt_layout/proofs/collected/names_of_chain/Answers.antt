@@ -1,8 +1,7 @@
 use Rattle.std.proofs.Common.{◌≡◌, List, [], true, ◌+◌, drop, sym, ap}
-use Rattle.std.proofs.Common.{◌∙◌, Vec, Global, not, get_or, ◌<◌, length, arith}
+use Rattle.std.proofs.Common.{◌∙◌, Vec, Global, get_or, ◌<◌, length, arith}
 use Rattle.std.proofs.lemmas.Result.{IfOk-weaker}
 use Rattle.std.specs.Prelude.{flat_map}
-use Rattle.std.specs.Option.{is_none}
 use Rattle.std.proofs.lemmas.List.{at_drop_all, length-map}
 use denote.Ref.{Bor}
 use Rattle.jt_ast.specs.Expressions.{Text}
@@ -22,16 +21,14 @@ use Rattle.jt_layout.proofs.NamesInOrder.{chain_turn, none_turn, names_here}
 use Rattle.jt_layout.proofs.collected.names_of_chain.Invariants.{names_of}
 use Rattle.jt_layout.proofs.collected.names_of_chain.Goals as goal
 
-pub loop-include-preserved-then-is_none : goal.loop-include-preserved-then-is_none
-loop-include-preserved-then-is_none c =
+pub loop-include-preserved-then-is_missing : goal.loop-include-preserved-then-is_missing
+loop-include-preserved-then-is_missing c =
     let chain = c.args.facts.now.chain.now in
     let N : Text → List Text =
     (λ x. names_in (its_cenv chain) (drop (c.args.namespace + 1) (its_order chain)) (a_chain x)) in
     let l = c.loop-include in
-    let k = get_or c.deref-include-items.result.now l.include-index _ in
     none_turn N (its_sources chain) c.deref-include-items.result.now l.include-index _ c.loop-include-test.true
-    c.index_of.result (texts l.names.keys)
-    (ap is_none c.index_of.ensures ∙ c.requires.sources k.name.now) (c.is_none.ensures ∙ ap not c.if-is_none.true)
+    (texts l.names.keys) (sym c.is_missing.ensures ∙ c.if-is_missing.true)
     ∙ l.invariant
 
 pub loop-include-preserved : goal.loop-include-preserved
@@ -42,8 +39,7 @@ loop-include-preserved c =
     let l = c.loop-include in
     let k = get_or c.deref-include-items.result.now l.include-index _ in
     chain_turn N (its_sources chain) c.deref-include-items.result.now l.include-index _ c.loop-include-test.true
-    c.index_of.result (texts l.names.keys) (texts c.add_to.new.names.keys)
-    (ap is_none c.index_of.ensures ∙ c.requires.sources k.name.now) (c.is_none.ensures ∙ ap not c.if-is_none.false)
+    (texts l.names.keys) (texts c.add_to.new.names.keys) (sym c.is_missing.ensures ∙ c.if-is_missing.false)
     (c.in_ok-add_to.ensures ∙ ap (λ xs. all_inserted xs (texts l.names.keys)) (c.requires.behind k.name.now))
     ∙ l.invariant
 

@@ -1,14 +1,14 @@
 use Rattle.std.proofs.Common.{◌≡◌, ◌≤◌, length, map, drop}
 use Rattle.jt_ast.specs.Expressions.{Text}
 use Rattle.jt_chains.specs.TemplateFiles.{namespace_view}
-use Rattle.jt_layout.specs.Names.{index_in}
+use Rattle.jt_names.specs.Names.{value_in}
 use Rattle.jt_layout.specs.internal.Indices.{namespace_named, first_namespace}
 use Rattle.jt_layout.proofs.namespace_index.namespace_index.Given as goal
 
 abbrev pub invariant-loop-left : goal.invariant-loop-left
 invariant-loop-left l = record {
   within : l.left ≤ length l.namespaces;
-  indexed : (x : Text) → index_in l.indices.indices x
+  indexed : (x : Text) → value_in l.indices.indices x
       ≡ first_namespace (namespace_named l.libraries x) l.left (map namespace_view (drop l.left l.namespaces));
 }
 

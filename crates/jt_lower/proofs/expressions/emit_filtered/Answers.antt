@@ -15,16 +15,7 @@ use Rattle.jt_lower.proofs.RowCode.{stands_raised}
 use Rattle.jt_lower.proofs.expressions.emit_filtered.Goals as goal
 
 pub overflow_add-count_values : goal.overflow_add-count_values
-overflow_add-count_values c =
-    let row = c.filter-item.result.row in
-    omega (
-      arith,
-      c.count_values.ensures,
-      count_low c.deref-in-loop-filter.result.now,
-      c.deref-in-loop-filter.ensures.len,
-      row.ok.1,
-      row.small,
-    )
+overflow_add-count_values c = grind (arith, count_low)
 
 pub loop-filter-preserved : goal.loop-filter-preserved
 loop-filter-preserved c = λ ts h before s p.

@@ -1,12 +1,11 @@
-use Rattle.std.proofs.Common.{◌≡◌, ◌∙◌, Some, ap}
+use Rattle.std.proofs.Common.{◌≡◌, ◌∙◌, Some}
 use Rattle.std.specs.Prelude.{◌==◌}
 use Rattle.jt_ops.specs.Limited.{limited, Answers}
 use Rattle.jt_filter_semantics.specs.Filtering.{filtered}
 use Rattle.jt_image.specs.Step.{filtered_by}
-use Rattle.jt_machine.specs.declared.state.State.{State}
 use Rattle.jt_machine.specs.InstructionSteps.{apply_filter, made, values_at}
 use Rattle.jt_machine.specs.View.{budget_view, config_view}
-use Rattle.jt_machine.proofs.PoppedValues.{makes_of, filter_is, answers_fit, has_same}
+use Rattle.jt_machine.proofs.PoppedValues.{makes_of, filter_is, answers_fit}
 use Rattle.jt_machine.proofs.aggregates.apply_filter.Goals as goal
 
 pub charge_for_values-requires-clause-has : goal.charge_for_values-requires-clause-has
@@ -26,24 +25,12 @@ pub filtered-answer-requires : goal.filtered-answer-requires
 filtered-answer-requires c =
     let is = filter_is c.args.id c.args.count c.args.flag c.in-Some.filter (config_view c.args.state.now)
     c.in-Some.ensures c.requires.ready.not_wrong in
-    let there = makes_of c.args.count (filtered_by (Some c.in-Some.filter) (c.args.flag == 1))
-    (config_view c.args.state.now) (λ w. c.requires.ready.not_wrong (is.makes ∙ w)) in
-    record {
-      has =
-          has_same c.args.count c.charge_for_values.new.state.stack.running c.args.state.now.stack.running
-          (ap (λ (s : State). s.stack.running) c.in_default-charge_for_values.ensures.same) there;
-      least = is.least;
-      most = is.most;
-    }
+    record { has = c.charge_for_values.ensures.has; least = is.least; most = is.most }
 
 pub push_answer-requires-clause-fits : goal.push_answer-requires-clause-fits
 push_answer-requires-clause-fits c =
-    let left = c.charge_for_values.new.state.left in
-    let given =
-    filtered c.in-Some.filter (c.args.flag == 1) (values_at c.args.count c.charge_for_values.new.state.stack.running) in
-    let a : Answers c.filtered-answer.result (limited left.size left.nesting given) =
-    rw (c.limits_of-limits.ensures.size, c.limits_of-limits.ensures.nesting) at c.filtered-answer.ensures.answers in
-    answers_fit (budget_view left) given c.filtered-answer.result a
+    answers_fit (budget_view c.charge_for_values.new.state.left) _ c.filtered-answer.result
+    (rw c.limits_of-limits.ensures at c.filtered-answer.ensures.answers)
 
 pub returns : goal.returns
 returns c =
@@ -53,7 +40,7 @@ returns c =
     let is = filter_is c.args.id c.args.count c.args.flag c.in-Some.filter (config_view c.args.state.now)
     c.in-Some.ensures c.requires.ready.not_wrong in
     let a : Answers c.filtered-answer.result (limited left.size left.nesting given) =
-    rw (c.limits_of-limits.ensures.size, c.limits_of-limits.ensures.nesting) at c.filtered-answer.ensures.answers in
+    rw c.limits_of-limits.ensures at c.filtered-answer.ensures.answers in
     let e : apply_filter c.args.id c.args.count c.args.flag (config_view c.args.state.now)
     ≡ made c.args.count (filtered_by (Some c.in-Some.filter) (c.args.flag == 1))
     (config_view c.charge_for_values.new.state) =

@@ -1,12 +1,11 @@
-use Rattle.std.proofs.Common.{◌≡◌, ◌∙◌, Some, Err, ap}
+use Rattle.std.proofs.Common.{◌≡◌, ◌∙◌, Some, Err}
 use Rattle.jt_ops.specs.Limited.{limited, Answers}
 use Rattle.jt_op_semantics.specs.Operation.{as_truth}
 use Rattle.jt_op_semantics.specs.Testing.{tested}
 use Rattle.jt_image.specs.Step.{tested_by}
-use Rattle.jt_machine.specs.declared.state.State.{State}
 use Rattle.jt_machine.specs.InstructionSteps.{apply_test, made, values_at}
 use Rattle.jt_machine.specs.View.{config_view}
-use Rattle.jt_machine.proofs.PoppedValues.{makes_of, test_is, test_answers, truth_given, has_same}
+use Rattle.jt_machine.proofs.PoppedValues.{makes_of, test_is, test_answers, truth_given}
 use Rattle.jt_machine.proofs.aggregates.apply_test.Goals as goal
 
 pub charge_for_values-requires-clause-has : goal.charge_for_values-requires-clause-has
@@ -21,15 +20,6 @@ returns-in-Some-charge_for_values c =
     let is = test_is c.args.id c.args.count c.in-Some.id (config_view c.args.state.now) c.in-Some.ensures
     c.requires.ready.not_wrong in
     is.1 ∙ c.in-Some-charge_for_values.ensures.rest (tested_by (Some c.in-Some.id))
-
-pub tested-requires-clause-has : goal.tested-requires-clause-has
-tested-requires-clause-has c =
-    let is = test_is c.args.id c.args.count c.in-Some.id (config_view c.args.state.now) c.in-Some.ensures
-    c.requires.ready.not_wrong in
-    let there = makes_of c.args.count (tested_by (Some c.in-Some.id)) (config_view c.args.state.now)
-    (λ w. c.requires.ready.not_wrong (is.1 ∙ w)) in
-    has_same c.args.count c.charge_for_values.new.state.stack.running c.args.state.now.stack.running
-    (ap (λ (s : State). s.stack.running) c.in_default-charge_for_values.ensures.same) there
 
 pub tested-requires-clause-many : goal.tested-requires-clause-many
 tested-requires-clause-many c =

@@ -18,3 +18,6 @@ returns-clause-rest c f =
     omega (arith, known.0, known.1, rw held at c.sizes-total.ensures) in
     make_pays c.args.count f (config_view c.args.state.now) h
     ∙ rw (← measured) (c.charge_fuel.ensures.rest (made c.args.count f))
+
+pub returns-clause-has : goal.returns-clause-has
+returns-clause-has c = rw c.charge_fuel.ensures.same c.requires.has

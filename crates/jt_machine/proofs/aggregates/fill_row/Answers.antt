@@ -1,35 +1,21 @@
-use Rattle.std.proofs.Common.{◌≡◌, ◌∙◌, ◌-◌, ◌+◌, ◌∷◌, ℕ, suc, Some, List, length, map, take, drop, refl, sym, ap}
+use Rattle.std.proofs.Common.{◌≡◌, ◌∙◌, ◌-◌, ◌+◌, ◌∷◌, ℕ, suc, List, length, map, take, drop, refl, sym, ap}
 use Rattle.std.proofs.Common.{arith}
 use Rattle.std.specs.Prelude.{slice_set}
 use Rattle.std.proofs.Math.ListN.{length-set}
 use Rattle.jt_value.specs.View.{view}
 use Rattle.jt_value.specs.declared.value.Value.{Value}
-use Rattle.jt_image.specs.Config.{StackEntry, Caller, value}
-use Rattle.jt_machine.specs.Activations.{Activations, with_running}
+use Rattle.jt_image.specs.Config.{value}
+use Rattle.jt_machine.specs.Activations.{Activations}
 use Rattle.jt_machine.specs.View.{values_on}
 use Rattle.jt_machine.proofs.TopValues.{row_set, row_none}
 use Rattle.jt_machine.proofs.PoppedValues.{found, more_is, one_taken, values_are}
 use Rattle.jt_machine.proofs.aggregates.fill_row.Goals as goal
 
 pub pop-requires : goal.pop-requires
-pop-requires c =
-    let left : c.args.count - c.values.taken ≡ suc (c.args.count - (c.values.taken + 1)) =
-    omega (arith, c.values-test.true) in
-    more_is _ _ (map view (drop (c.args.count - c.values.taken) (take c.args.count c.values.row))) c.requires.has.values
-    c.values.stack.running c.requires.has.rest left (c.values.invariant.left ∙ c.requires.has.is)
+pop-requires c = grind (arith, more_is)
 
 pub values-init : goal.values-init
-values-init c =
-    let n : c.args.count - 0 ≡ c.args.count = omega arith in
-    let row = take c.args.count c.args.row.now in
-    record {
-      left =
-          ap (λ (m : ℕ). found m (map view (drop m row)) c.args.stack.now.running) n
-          ∙ ap (λ (vs : List Value). found c.args.count (map view vs) c.args.stack.now.running)
-          (row_none c.args.count c.args.row.now);
-      callers = refl;
-      len = refl;
-    }
+values-init c = grind (arith, found, row_none)
 
 pub values-preserved : goal.values-preserved
 values-preserved c =
@@ -59,20 +45,7 @@ values-preserved c =
     }
 
 pub returns-clause-values : goal.returns-clause-values
-returns-clause-values c =
-    let none : c.args.count - c.values.taken ≡ 0 = omega (arith, c.values-test.false) in
-    let vs = map view (take c.args.count c.values.row) in
-    let there : values_on c.args.count c.args.stack.now.running ≡ Some (vs, c.values.stack.running) =
-    sym (rw none at c.values.invariant.left) in
-    sym (values_are c.args.count c.args.stack.now.running vs c.values.stack.running there).0
+returns-clause-values c = grind (arith, values_are)
 
 pub returns-clause-taken : goal.returns-clause-taken
-returns-clause-taken c =
-    let none : c.args.count - c.values.taken ≡ 0 = omega (arith, c.values-test.false) in
-    let vs = map view (take c.args.count c.values.row) in
-    let there : values_on c.args.count c.args.stack.now.running ≡ Some (vs, c.values.stack.running) =
-    sym (rw none at c.values.invariant.left) in
-    ap (λ (cs : List Caller). let a : Activations = record { running = c.values.stack.running; callers = cs } in a)
-    c.values.invariant.callers
-    ∙ ap (λ (es : List StackEntry). with_running es c.args.stack.now)
-    (sym (values_are c.args.count c.args.stack.now.running vs c.values.stack.running there).1)
+returns-clause-taken c = grind (arith, values_are)

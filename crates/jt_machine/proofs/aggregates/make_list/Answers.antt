@@ -1,14 +1,13 @@
-use Rattle.std.proofs.Common.{◌≡◌, ◌∙◌, map, None, ap, sym}
+use Rattle.std.proofs.Common.{◌≡◌, ◌∙◌, None, sym}
 use Rattle.jt_value.specs.Tree as tree
-use Rattle.jt_value.specs.View.{view, items_of}
+use Rattle.jt_value.specs.View.{items_of}
 use Rattle.jt_image.specs.Step.{listed, with_entries}
 use Rattle.jt_image.specs.Run.{limit_of}
-use Rattle.jt_machine.specs.declared.state.State.{State}
 use Rattle.jt_machine.specs.InstructionSteps.{make, made, push, step_on, with_state, values_at, below}
-use Rattle.jt_machine.specs.View.{config_view, limit_view, budget_view}
+use Rattle.jt_machine.specs.View.{config_view, limit_view}
 use Rattle.jt_machine.proofs.AllocationPoints.{lost}
 use Rattle.jt_machine.proofs.StepLemmas.{push_spent, push_goes_on}
-use Rattle.jt_machine.proofs.PoppedValues.{makes_of, has_same, values_are}
+use Rattle.jt_machine.proofs.PoppedValues.{makes_of}
 use Rattle.jt_machine.proofs.aggregates.make_list.Goals as goal
 
 pub charge_for_values-requires-clause-has : goal.charge_for_values-requires-clause-has
@@ -18,12 +17,6 @@ charge_for_values-requires-clause-has c =
 pub returns-in-Some : goal.returns-in-Some
 returns-in-Some c = c.in-Some.ensures.rest listed
 
-pub top_entries-requires : goal.top_entries-requires
-top_entries-requires c =
-    has_same c.args.count c.charge_for_values.new.state.stack.running c.args.state.now.stack.running
-    (ap (λ (s : State). s.stack.running) c.in_default.ensures.same)
-    (makes_of c.args.count listed (config_view c.args.state.now) c.requires.ready.not_wrong)
-
 pub returns-in-Some-list_limit : goal.returns-in-Some-list_limit
 returns-in-Some-list_limit c =
     let n = c.args.count in
@@ -32,12 +25,6 @@ returns-in-Some-list_limit c =
     let e = with_state d (with_entries d.machine.state (below n d.machine.state.entries)) in
     c.in_default.ensures.rest listed ∙ push_spent t e step_on (limit_view c.in-Some-list_limit.spent)
     (rw c.top_entries.ensures at c.in-Some-list_limit.ensures)
-
-pub take_values-requires : goal.take_values-requires
-take_values-requires c =
-    has_same c.args.count c.charge_for_values.new.state.stack.running c.args.state.now.stack.running
-    (ap (λ (s : State). s.stack.running) c.in_default.ensures.same)
-    (makes_of c.args.count listed (config_view c.args.state.now) c.requires.ready.not_wrong)
 
 pub returns-in_err-values : goal.returns-in_err-values
 returns-in_err-values c =
@@ -61,21 +48,15 @@ returns-in_err-list c =
 
 pub push_checked-requires-clause-fits : goal.push_checked-requires-clause-fits
 push_checked-requires-clause-fits c =
-    let n = c.args.count in
     let d = config_view c.charge_for_values.new.state in
-    let are = values_are n d.machine.state.entries (map view c.in_ok-values.values.items)
-    c.take_values.new.stack.running c.in_ok-values.ensures.taken in
-    let fits : None ≡ limit_of (budget_view c.charge_for_values.new.state.left)
-    (tree.list (items_of (values_at n d.machine.state.entries))) =
+    let fits : None ≡ limit_of d.left (tree.list (items_of (values_at c.args.count d.machine.state.entries))) =
     rw c.top_entries.ensures at c.in_default-list_limit.ensures in
-    rw c.in_ok-list.ensures (sym (rw are.0 at fits))
+    rw c.in_ok-list.ensures (sym (rw c.in_ok-values.ensures.values at fits))
 
 pub returns : goal.returns
 returns c =
     let n = c.args.count in
     let d = config_view c.charge_for_values.new.state in
-    let are = values_are n d.machine.state.entries (map view c.in_ok-values.values.items)
-    c.take_values.new.stack.running c.in_ok-values.ensures.taken in
     let is : make n listed (config_view c.args.state.now) ≡ made n listed d = c.in_default.ensures.rest listed in
-    let h = rw (c.in_ok-list.ensures, c.in_ok-values.ensures.callers) at c.push_checked.ensures in
-    rw (is, are.0, are.1) h
+    rw (is, c.in_ok-values.ensures.values)
+    (rw (c.in_ok-list.ensures, c.in_ok-values.ensures.taken) at c.push_checked.ensures)

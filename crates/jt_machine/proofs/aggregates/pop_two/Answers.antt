@@ -1,7 +1,4 @@
-use Rattle.std.proofs.Common.{◌≡◌, ◌∙◌, [], ◌∷◌, sym, ap, refl, arith}
-use Rattle.jt_value.specs.View.{view}
-use Rattle.jt_image.specs.Config.{value}
-use Rattle.jt_machine.specs.Activations.{Activations}
+use Rattle.std.proofs.Common.{[], refl, arith}
 use Rattle.jt_machine.proofs.PoppedValues.{more_is, one_taken}
 use Rattle.jt_machine.proofs.aggregates.pop_two.Goals as goal
 
@@ -10,12 +7,7 @@ pop-last-requires c =
     more_is 2 1 [] c.requires.values c.args.stack.now.running c.requires.rest (omega arith) c.requires.is
 
 pub pop-first-requires : goal.pop-first-requires
-pop-first-requires c =
-    let t = view c.pop-last.result in
-    let top : c.args.stack.now.running ≡ value t ∷ c.pop-last.new.self.running =
-    ap (λ (a : Activations). a.running) c.pop-last.ensures in
-    more_is 1 0 (t ∷ []) c.requires.values c.pop-last.new.self.running c.requires.rest (omega arith)
-    (sym (one_taken 2 1 [] c.args.stack.now.running c.pop-last.new.self.running t (omega arith) top) ∙ c.requires.is)
+pop-first-requires c = grind (arith, more_is, one_taken)
 
 pub returns-clause-values : goal.returns-clause-values
 returns-clause-values c = rw (c.pop-last.ensures, c.pop-first.ensures) refl

@@ -1,9 +1,7 @@
-use Rattle.std.proofs.Common.{◌≡◌, ◌∙◌, ◌-◌, ◌+◌, ◌∷◌, suc, map, reverse, sym, ap, arith}
+use Rattle.std.proofs.Common.{◌≡◌, ◌∙◌, ◌-◌, ◌+◌, suc, map, reverse, arith}
 use Rattle.jt_machine.proofs.MapEntries.{map-reverse}
 use Rattle.jt_value.specs.View.{view}
-use Rattle.jt_image.specs.Config.{value}
-use Rattle.jt_machine.specs.Activations.{Activations}
-use Rattle.jt_machine.proofs.PoppedValues.{more_is, one_taken, none_left, pushed}
+use Rattle.jt_machine.proofs.PoppedValues.{more_is, one_taken, none_left, pushed, values_are}
 use Rattle.jt_machine.proofs.aggregates.take_values.Goals as goal
 
 pub pop-requires : goal.pop-requires
@@ -14,25 +12,10 @@ pop-requires c =
     (c.values.invariant.taken ∙ c.requires.is)
 
 pub values-preserved : goal.values-preserved
-values-preserved c =
-    let left : c.args.count - c.values.counter ≡ suc (c.args.count - (c.values.counter + 1)) =
-    omega (arith, c.values-test.true) in
-    let grown : reverse (map view c.push.new.self.items)
-    ≡ view c.pop.result ∷ reverse (map view c.values.values.items) =
-    ap (λ vs. reverse (map view vs)) c.in_ok-push.ensures.items ∙ pushed c.values.values.items c.pop.result in
-    let top : c.values.stack.running ≡ value (view c.pop.result) ∷ c.pop.new.self.running =
-    ap (λ (a : Activations). a.running) c.pop.ensures in
-    let same : c.values.stack.callers ≡ c.pop.new.self.callers = ap (λ (a : Activations). a.callers) c.pop.ensures in
-    record {
-      taken =
-          rw grown (sym (one_taken _ _ (reverse (map view c.values.values.items)) c.values.stack.running
-          c.pop.new.self.running (view c.pop.result) left top)
-          ∙ c.values.invariant.taken);
-      callers = sym same ∙ c.values.invariant.callers;
-    }
+values-preserved c = grind (arith, pushed, one_taken)
+
+pub returns-clause-values : goal.returns-clause-values
+returns-clause-values c = grind (arith, none_left, map-reverse, values_are)
 
 pub returns-clause-taken : goal.returns-clause-taken
-returns-clause-taken c =
-    let none : c.args.count - c.values.counter ≡ 0 = omega (arith, c.values-test.false) in
-    rw (c.reverse.ensures.items, map-reverse view c.values.values.items)
-    (sym c.values.invariant.taken ∙ none_left _ (reverse (map view c.values.values.items)) c.values.stack.running none)
+returns-clause-taken c = grind (arith, none_left, values_are)

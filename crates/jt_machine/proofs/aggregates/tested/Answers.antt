@@ -8,11 +8,7 @@ pop_one-value-requires c =
     subst (λ (n : ℕ). HasValues n c.args.stack.now.running) one c.requires.has
 
 pub returns-then-count-eq1-clause-answer : goal.returns-then-count-eq1-clause-answer
-returns-then-count-eq1-clause-answer c =
-    let one : c.args.count ≡ 1 = c.if-count-eq1.true in
-    rw (one, c.pop_one-value.ensures.values) c.test.ensures
+returns-then-count-eq1-clause-answer c = cc
 
 pub returns-then-count-eq1-clause-taken : goal.returns-then-count-eq1-clause-taken
-returns-then-count-eq1-clause-taken c =
-    let one : c.args.count ≡ 1 = c.if-count-eq1.true in
-    rw one c.pop_one-value.ensures.taken
+returns-then-count-eq1-clause-taken c = cc

@@ -11,13 +11,7 @@ overflow_add-size c =
     omega (arith, inside, c.bytes.invariant.few, c.escaped_len.ensures.few)
 
 pub bytes-preserved : goal.bytes-preserved
-bytes-preserved c =
-    let more = taken_more c.args.text.now c.as_bytes-byte-items.result.now c.bytes.byte-index c.escaped_len.result
-    c.as_bytes-byte-items.ensures.value c.bytes-test.true c.escaped_len.ensures.len in
-    record {
-      taken = omega (arith, more, c.bytes.invariant.taken);
-      few = omega (arith, c.escaped_len.ensures.few, c.bytes.invariant.few);
-    }
+bytes-preserved c = grind (arith, taken_more)
 
 pub returns : goal.returns
 returns c =

@@ -1,9 +1,6 @@
-use Rattle.std.proofs.Common.{sym, arith}
-use Rattle.jt_machine.specs.View.{budget_view}
+use Rattle.std.proofs.Common.{arith}
 use Rattle.jt_machine.proofs.StepLemmas.{within}
 use Rattle.jt_machine.proofs.limits.limit_by.Goals as goal
 
 pub returns-in-Ok : goal.returns-in-Ok
-returns-in-Ok c =
-    λ t sized deep. sym (within (budget_view c.args.budget.now) t (omega (arith, c.in-Ok.ensures.ok, sized))
-    (omega (arith, c.in-Ok.ensures.ok, deep)))
+returns-in-Ok c = grind (arith, within)

@@ -18,37 +18,24 @@ steps-init g c =
       made = c.requires.made;
     }
 
-pub step-requires-clause-not_wrong : goal.step-requires-clause-not_wrong
-step-requires-clause-not_wrong g c =
-    let r = underway_gone (g.C.Code.code c.args.code.now) _ _ c.steps.state c.run_fast-stopped.new.state
-    c.steps.invariant.reached c.run_fast-stopped.ensures.gone in
-    (reached_sound c.code_laws.ensures (g.C.Code.code c.args.code.now) c.requires.whole c.requires.typed r.context
-    r.budget (config_view c.run_fast-stopped.new.state) (r.steps, r.reached)).not_wrong
-
-pub step-requires-clause-bounded : goal.step-requires-clause-bounded
-step-requires-clause-bounded g c =
-    let r = underway_gone (g.C.Code.code c.args.code.now) _ _ c.steps.state c.run_fast-stopped.new.state
-    c.steps.invariant.reached c.run_fast-stopped.ensures.gone in
-    let s = (reached_sound c.code_laws.ensures (g.C.Code.code c.args.code.now) c.requires.whole c.requires.typed
-    r.context r.budget (config_view c.run_fast-stopped.new.state) (r.steps, r.reached)) in
-    record { sized = s.sized; few = s.few }
+pub step-requires-clause-sound : goal.step-requires-clause-sound
+step-requires-clause-sound g c =
+    let r = underway_gone c.steps.invariant.reached c.run_fast-stopped.ensures.gone in
+    reached_sound c.code_laws.ensures (g.C.Code.code c.args.code.now) c.requires.whole c.requires.typed r.context
+    r.budget (config_view c.run_fast-stopped.new.state) (r.steps, r.reached)
 
 pub step-requires-clause-depth : goal.step-requires-clause-depth
 step-requires-clause-depth g c =
-    (underway_gone (g.C.Code.code c.args.code.now) _ _ c.steps.state c.run_fast-stopped.new.state
-    c.steps.invariant.reached c.run_fast-stopped.ensures.gone).depth
+    (underway_gone c.steps.invariant.reached c.run_fast-stopped.ensures.gone).depth
 
 pub steps-preserved : goal.steps-preserved
 steps-preserved g c =
     let k = g.C.Code.code c.args.code.now in
     let e : next k (config_view c.run_fast-stopped.new.state) ≡ Goes (config_view c.step.new.state) =
     c.in_ok-outcome.ensures.next ∙ rw c.in_default.is refl in
-    let r =
-    underway_gone k _ _ c.steps.state c.run_fast-stopped.new.state
-    c.steps.invariant.reached c.run_fast-stopped.ensures.gone in
-    let far = slice_gone k c.args.k c.steps.left c.run_fast-stopped.result.left (config_view c.args.state.now)
-    c.steps.state
-    c.run_fast-stopped.new.state c.steps.invariant.within c.steps.invariant.so_far c.run_fast-stopped.ensures.gone in
+    let r = underway_gone c.steps.invariant.reached c.run_fast-stopped.ensures.gone in
+    let far = slice_gone c.args.k (config_view c.args.state.now) c.steps.invariant.within c.steps.invariant.so_far
+    c.run_fast-stopped.ensures.gone in
     record {
       within = omega (
         arith,
@@ -80,9 +67,8 @@ returns-in-Some-clause-steps g c =
     let o = outcome_view c.in-Some.outcome in
     let e : next k (config_view c.run_fast-stopped.new.state) ≡ Ends o =
     c.in_ok-outcome.ensures.next ∙ rw c.in-Some.is refl in
-    let far = slice_gone k c.args.k c.steps.left c.run_fast-stopped.result.left (config_view c.args.state.now)
-    c.steps.state
-    c.run_fast-stopped.new.state c.steps.invariant.within c.steps.invariant.so_far c.run_fast-stopped.ensures.gone in
+    let far = slice_gone c.args.k (config_view c.args.state.now) c.steps.invariant.within c.steps.invariant.so_far
+    c.run_fast-stopped.ensures.gone in
     ended_within k (c.args.k - c.run_fast-stopped.result.left) c.args.k (config_view c.args.state.now)
     (config_view c.run_fast-stopped.new.state) o far e
     (omega (arith, c.steps.invariant.within, c.run_fast-stopped.ensures.gone.count))
@@ -90,23 +76,20 @@ returns-in-Some-clause-steps g c =
 pub returns-then-stopped-eq0-clause-steps : goal.returns-then-stopped-eq0-clause-steps
 returns-then-stopped-eq0-clause-steps g c =
     let k = g.C.Code.code c.args.code.now in
-    let far = slice_gone k c.args.k c.steps.left c.run_fast-stopped.result.left (config_view c.args.state.now)
-    c.steps.state
-    c.run_fast-stopped.new.state c.steps.invariant.within c.steps.invariant.so_far c.run_fast-stopped.ensures.gone in
+    let far = slice_gone c.args.k (config_view c.args.state.now) c.steps.invariant.within c.steps.invariant.so_far
+    c.run_fast-stopped.ensures.gone in
     all_made k (c.args.k - c.run_fast-stopped.result.left) c.args.k (config_view c.args.state.now)
     (config_view c.run_fast-stopped.new.state) far (omega arith) (omega arith)
 
 pub returns-then-stopped-eq0-clause-reached : goal.returns-then-stopped-eq0-clause-reached
 returns-then-stopped-eq0-clause-reached g c =
-    underway_gone (g.C.Code.code c.args.code.now) _ _ c.steps.state c.run_fast-stopped.new.state
-    c.steps.invariant.reached c.run_fast-stopped.ensures.gone
+    underway_gone c.steps.invariant.reached c.run_fast-stopped.ensures.gone
 
 pub returns-in_err-outcome-clause-memory : goal.returns-in_err-outcome-clause-memory
 returns-in_err-outcome-clause-memory g c =
     let k = g.C.Code.code c.args.code.now in
-    let far = slice_gone k c.args.k c.steps.left c.run_fast-stopped.result.left (config_view c.args.state.now)
-    c.steps.state
-    c.run_fast-stopped.new.state c.steps.invariant.within c.steps.invariant.so_far c.run_fast-stopped.ensures.gone in
+    let far = slice_gone c.args.k (config_view c.args.state.now) c.steps.invariant.within c.steps.invariant.so_far
+    c.run_fast-stopped.ensures.gone in
     let comes : ComesToGrow k (config_view c.args.state.now) = record {
       steps = c.args.k - c.run_fast-stopped.result.left;
       last = config_view c.run_fast-stopped.new.state;

@@ -6,38 +6,23 @@ use Rattle.jt_image.specs.Run.{next, Goes, Ends, passed, start}
 use Rattle.jt_machine.specs.ConstantCache.{AreCached}
 use Rattle.jt_machine.specs.View.{budget_view, config_view, outcome_view}
 use Rattle.jt_machine.specs.Growing.{ComesToGrow}
-use Rattle.jt_machine.proofs.DrainedOutput.{on_err}
-use Rattle.jt_machine.proofs.FastPathCorrect.{reached_gone, ending_gone}
-use Rattle.jt_machine.proofs.StepLemmas.{ending_now, ending_back, reached_next, reached_sound}
+use Rattle.jt_machine.proofs.DrainedOutput.{ends_at, on_err}
+use Rattle.jt_machine.proofs.FastPathCorrect.{gone_sound, reached_gone}
+use Rattle.jt_machine.proofs.StepLemmas.{reached_next}
 use Rattle.jt_machine.proofs.runs.run_code.Goals as goal
 
 pub steps-init : goal.steps-init
-steps-init g c =
-    record {
-      reached = (0, ap Goes (sym c.in_ok-state.ensures.state));
-      same = λ o e. rw c.in_ok-state.ensures.state at e;
-      depth = c.in_ok-state.ensures.depth;
-      made =
-          subst (λ (es : List (ℕ × Value)). AreCached (g.C.Code.code c.args.code.now) es) (sym c.new-made.ensures.items)
-          tt;
-    }
+steps-init g c = record {
+  reached = (0, ap Goes (sym c.in_ok-state.ensures.state));
+  depth = c.in_ok-state.ensures.depth;
+  made =
+      subst (λ (es : List (ℕ × Value)). AreCached (g.C.Code.code c.args.code.now) es) (sym c.new-made.ensures.items) tt;
+}
 
-pub step-requires-clause-not_wrong : goal.step-requires-clause-not_wrong
-step-requires-clause-not_wrong g c =
-    let k = g.C.Code.code c.args.code.now in
-    let r = reached_gone k (pairs_of c.args.context.now) (budget_view c.args.budget) _ _ c.steps.state
-    c.run_fast-stopped.new.state c.steps.invariant.reached c.run_fast-stopped.ensures.gone in
-    (reached_sound c.code_laws.ensures k c.requires.whole c.requires.typed (pairs_of c.args.context.now)
-    (budget_view c.args.budget) (config_view c.run_fast-stopped.new.state) r).not_wrong
-
-pub step-requires-clause-bounded : goal.step-requires-clause-bounded
-step-requires-clause-bounded g c =
-    let k = g.C.Code.code c.args.code.now in
-    let r = reached_gone k (pairs_of c.args.context.now) (budget_view c.args.budget) _ _ c.steps.state
-    c.run_fast-stopped.new.state c.steps.invariant.reached c.run_fast-stopped.ensures.gone in
-    let s = (reached_sound c.code_laws.ensures k c.requires.whole c.requires.typed (pairs_of c.args.context.now)
-    (budget_view c.args.budget) (config_view c.run_fast-stopped.new.state) r) in
-    record { sized = s.sized; few = s.few }
+pub step-requires-clause-sound : goal.step-requires-clause-sound
+step-requires-clause-sound g c =
+    gone_sound c.code_laws.ensures c.requires.whole c.requires.typed (pairs_of c.args.context.now)
+    (budget_view c.args.budget) c.steps.invariant.reached c.run_fast-stopped.ensures.gone
 
 pub step-requires-clause-depth : goal.step-requires-clause-depth
 step-requires-clause-depth g c =
@@ -51,42 +36,31 @@ step-requires-clause-depth g c =
 pub steps-preserved : goal.steps-preserved
 steps-preserved g c =
     let k = g.C.Code.code c.args.code.now in
+    let x = pairs_of c.args.context.now in
+    let b = budget_view c.args.budget in
+    let gone = c.run_fast-stopped.ensures.gone in
     let e : next k (config_view c.run_fast-stopped.new.state) ≡ Goes (config_view c.step.new.state) =
     c.in_ok-outcome.ensures.next ∙ rw c.in_default-2.is refl in
-    let r = reached_gone k (pairs_of c.args.context.now) (budget_view c.args.budget) _ _ c.steps.state
-    c.run_fast-stopped.new.state c.steps.invariant.reached c.run_fast-stopped.ensures.gone in
     record {
-      reached =
-          reached_next k (pairs_of c.args.context.now) (budget_view c.args.budget)
-          (config_view c.run_fast-stopped.new.state)
-          (config_view c.step.new.state) r e;
-      same =
-          λ o r. c.steps.invariant.same o (ending_gone k _ _ c.steps.state c.run_fast-stopped.new.state o
-          c.run_fast-stopped.ensures.gone
-          (ending_back k (config_view c.run_fast-stopped.new.state) (config_view c.step.new.state) o e r));
+      reached = reached_next k x b _ _ (reached_gone x b c.steps.invariant.reached gone) e;
       depth =
           omega (
             arith,
             c.steps.invariant.depth,
-            c.run_fast-stopped.ensures.gone.depth,
-            ap (λ (waiting : List Caller). length waiting) c.run_fast-stopped.ensures.gone.callers,
-            (reached_sound c.code_laws.ensures k c.requires.whole c.requires.typed (pairs_of c.args.context.now)
-                (budget_view c.args.budget) (config_view c.run_fast-stopped.new.state) r).depth
-                (config_view c.step.new.state) e,
+            gone.depth,
+            ap (λ (waiting : List Caller). length waiting) gone.callers,
+            (gone_sound c.code_laws.ensures c.requires.whole c.requires.typed x b c.steps.invariant.reached gone).depth
+                _ e,
           );
       made = c.in_ok-outcome.ensures.made;
     }
 
 pub steps-smaller : goal.steps-smaller
 steps-smaller g c =
-    let k = g.C.Code.code c.args.code.now in
-    let e : next k (config_view c.run_fast-stopped.new.state) ≡ Goes (config_view c.step.new.state) =
-    c.in_ok-outcome.ensures.next ∙ rw c.in_default-2.is refl in
-    let r = reached_gone k (pairs_of c.args.context.now) (budget_view c.args.budget) _ _ c.steps.state
-    c.run_fast-stopped.new.state c.steps.invariant.reached c.run_fast-stopped.ensures.gone in
-    let less = (reached_sound c.code_laws.ensures k c.requires.whole c.requires.typed (pairs_of c.args.context.now)
-    (budget_view c.args.budget) (config_view c.run_fast-stopped.new.state) r).takes
-    (config_view c.step.new.state) e in
+    let e : next (g.C.Code.code c.args.code.now) (config_view c.run_fast-stopped.new.state)
+    ≡ Goes (config_view c.step.new.state) = c.in_ok-outcome.ensures.next ∙ rw c.in_default-2.is refl in
+    let less = (gone_sound c.code_laws.ensures c.requires.whole c.requires.typed (pairs_of c.args.context.now)
+    (budget_view c.args.budget) c.steps.invariant.reached c.run_fast-stopped.ensures.gone).takes _ e in
     omega (arith, less, c.run_fast-stopped.ensures.gone.fuel)
 
 pub returns-in-Some-2-clause-outcome : goal.returns-in-Some-2-clause-outcome
@@ -97,11 +71,9 @@ returns-in-Some-2-clause-outcome g c =
     let b = budget_view c.args.budget in
     let e : next k (config_view c.run_fast-stopped.new.state) ≡ Ends o =
     c.in_ok-outcome.ensures.next ∙ rw c.in-Some-2.is refl in
-    let r = c.steps.invariant.same o (ending_gone k _ _ c.steps.state c.run_fast-stopped.new.state o
-    c.run_fast-stopped.ensures.gone
-    (ending_now k (config_view c.run_fast-stopped.new.state) o e)) in
+    let r = reached_gone x b c.steps.invariant.reached c.run_fast-stopped.ensures.gone in
     let n : passed b x k.names ≡ None = sym c.in_default.ensures in
-    rw n r
+    rw n (ends_at k r.0 (start k x b) (config_view c.run_fast-stopped.new.state) o r.1 e)
 
 pub returns-in_err-state-clause-memory : goal.returns-in_err-state-clause-memory
 returns-in_err-state-clause-memory g c =
@@ -112,8 +84,7 @@ returns-in_err-outcome-clause-memory g c =
     let k = g.C.Code.code c.args.code.now in
     let x = pairs_of c.args.context.now in
     let b = budget_view c.args.budget in
-    let r = reached_gone k x b _ _ c.steps.state c.run_fast-stopped.new.state c.steps.invariant.reached
-    c.run_fast-stopped.ensures.gone in
+    let r = reached_gone x b c.steps.invariant.reached c.run_fast-stopped.ensures.gone in
     let comes : ComesToGrow k (start k x b) = record {
       steps = r.0;
       last = config_view c.run_fast-stopped.new.state;

@@ -35,22 +35,11 @@ step-requires-clause-prefetched g c =
     (ap (λ (y : Config). y.machine.unit) c.in_ok-send.ensures.emptied)
     (ap (λ (y : Config). y.machine.point) c.in_ok-send.ensures.emptied) c.run_fast-stopped.ensures.prefetched
 
-pub step-requires-clause-not_wrong : goal.step-requires-clause-not_wrong
-step-requires-clause-not_wrong g c =
-    (gone_sent c.code_laws.ensures (g.C.Code.code c.args.code.now) c.requires.whole c.requires.typed
-    (pairs_of c.args.context.now) (budget_view c.args.budget) (g.W.Sink.taken c.args.sink.now)
-    (g.W.Sink.taken c.steps.sink) (g.W.Sink.taken c.send.new.sink) _ _ c.steps.state c.run_fast-stopped.new.state
+pub step-requires-clause-sound : goal.step-requires-clause-sound
+step-requires-clause-sound g c =
+    (gone_sent c.code_laws.ensures c.requires.whole c.requires.typed (g.W.Sink.taken c.send.new.sink)
     (config_view c.send.new.state) tt c.steps.invariant.so_far c.run_fast-stopped.ensures.gone c.in_ok-send.ensures.put
-    c.in_ok-send.ensures.emptied).sound.not_wrong
-
-pub step-requires-clause-bounded : goal.step-requires-clause-bounded
-step-requires-clause-bounded g c =
-    let s = (gone_sent c.code_laws.ensures (g.C.Code.code c.args.code.now) c.requires.whole c.requires.typed
-    (pairs_of c.args.context.now) (budget_view c.args.budget) (g.W.Sink.taken c.args.sink.now)
-    (g.W.Sink.taken c.steps.sink) (g.W.Sink.taken c.send.new.sink) _ _ c.steps.state c.run_fast-stopped.new.state
-    (config_view c.send.new.state) tt c.steps.invariant.so_far c.run_fast-stopped.ensures.gone c.in_ok-send.ensures.put
-    c.in_ok-send.ensures.emptied) in
-    record { sized = s.sound.sized; few = s.sound.few }
+    c.in_ok-send.ensures.emptied).sound
 
 pub step-requires-clause-depth : goal.step-requires-clause-depth
 step-requires-clause-depth g c =
@@ -68,8 +57,7 @@ steps-preserved g c =
     let k = g.C.Code.code c.args.code.now in
     let x = pairs_of c.args.context.now in
     let b = budget_view c.args.budget in
-    let s = gone_sent c.code_laws.ensures k c.requires.whole c.requires.typed x b (g.W.Sink.taken c.args.sink.now)
-    (g.W.Sink.taken c.steps.sink) (g.W.Sink.taken c.send.new.sink) _ _ c.steps.state c.run_fast-stopped.new.state
+    let s = gone_sent c.code_laws.ensures c.requires.whole c.requires.typed (g.W.Sink.taken c.send.new.sink)
     (config_view c.send.new.state) tt c.steps.invariant.so_far c.run_fast-stopped.ensures.gone c.in_ok-send.ensures.put
     c.in_ok-send.ensures.emptied in
     let e : next k (config_view c.send.new.state) ≡ Goes (config_view c.step.new.state) =
@@ -94,15 +82,11 @@ steps-preserved g c =
 
 pub steps-smaller : goal.steps-smaller
 steps-smaller g c =
-    let k = g.C.Code.code c.args.code.now in
-    let x = pairs_of c.args.context.now in
-    let b = budget_view c.args.budget in
-    let s = gone_sent c.code_laws.ensures k c.requires.whole c.requires.typed x b (g.W.Sink.taken c.args.sink.now)
-    (g.W.Sink.taken c.steps.sink) (g.W.Sink.taken c.send.new.sink) _ _ c.steps.state c.run_fast-stopped.new.state
+    let s = gone_sent c.code_laws.ensures c.requires.whole c.requires.typed (g.W.Sink.taken c.send.new.sink)
     (config_view c.send.new.state) tt c.steps.invariant.so_far c.run_fast-stopped.ensures.gone c.in_ok-send.ensures.put
     c.in_ok-send.ensures.emptied in
-    let e : next k (config_view c.send.new.state) ≡ Goes (config_view c.step.new.state) =
-    c.in_ok-outcome.ensures.next ∙ rw c.in_default-2.is refl in
+    let e : next (g.C.Code.code c.args.code.now) (config_view c.send.new.state) ≡ Goes (config_view c.step.new.state)
+    = c.in_ok-outcome.ensures.next ∙ rw c.in_default-2.is refl in
     omega (
       arith,
       s.sound.takes (config_view c.step.new.state) e,
@@ -132,8 +116,7 @@ returns-in_err-send-clause-begun g c =
     on_err c.from_residual-in_err-send.result
     (cut_short k x b (g.W.Sink.taken c.args.sink.now) (g.W.Sink.taken c.steps.sink) (g.W.Sink.taken c.send.new.sink)
     (config_view c.run_fast-stopped.new.state) t.1.front t.0 n safe tt
-    (so_far_gone k x b (g.W.Sink.taken c.args.sink.now) (g.W.Sink.taken c.steps.sink) _ _ c.steps.state
-    c.run_fast-stopped.new.state c.steps.invariant.so_far c.run_fast-stopped.ensures.gone) t.1.parts t.1.taken)
+    (so_far_gone c.steps.invariant.so_far c.run_fast-stopped.ensures.gone) t.1.parts t.1.taken)
 
 pub returns-in_err-outcome-clause-begun : goal.returns-in_err-outcome-clause-begun
 returns-in_err-outcome-clause-begun g c =
@@ -144,8 +127,7 @@ returns-in_err-outcome-clause-begun g c =
     let safe = (c.code_laws.ensures.runs k c.requires.whole c.requires.typed).safe x b in
     let mid = g.W.Sink.taken c.send.new.sink in
     let d = config_view c.send.new.state in
-    let s = gone_sent c.code_laws.ensures k c.requires.whole c.requires.typed x b (g.W.Sink.taken c.args.sink.now)
-    (g.W.Sink.taken c.steps.sink) (g.W.Sink.taken c.send.new.sink) _ _ c.steps.state c.run_fast-stopped.new.state
+    let s = gone_sent c.code_laws.ensures c.requires.whole c.requires.typed (g.W.Sink.taken c.send.new.sink)
     (config_view c.send.new.state) tt c.steps.invariant.so_far c.run_fast-stopped.ensures.gone c.in_ok-send.ensures.put
     c.in_ok-send.ensures.emptied in
     on_err c.from_residual-in_err-outcome.result
@@ -162,8 +144,7 @@ returns-in_err-close-clause-begun g c =
     let mid = g.W.Sink.taken c.send.new.sink in
     let d = config_view c.send.new.state in
     let o = outcome_view c.in-Some-2.outcome in
-    let s = gone_sent c.code_laws.ensures k c.requires.whole c.requires.typed x b (g.W.Sink.taken c.args.sink.now)
-    (g.W.Sink.taken c.steps.sink) (g.W.Sink.taken c.send.new.sink) _ _ c.steps.state c.run_fast-stopped.new.state
+    let s = gone_sent c.code_laws.ensures c.requires.whole c.requires.typed (g.W.Sink.taken c.send.new.sink)
     (config_view c.send.new.state) tt c.steps.invariant.so_far c.run_fast-stopped.ensures.gone c.in_ok-send.ensures.put
     c.in_ok-send.ensures.emptied in
     let e : next k d ≡ Ends o = c.in_ok-outcome.ensures.next ∙ rw c.in-Some-2.is refl in
@@ -181,8 +162,7 @@ returns-in-Some-2-clause-ended g c =
     let mid = g.W.Sink.taken c.send.new.sink in
     let d = config_view c.send.new.state in
     let o = outcome_view c.in-Some-2.outcome in
-    let s = gone_sent c.code_laws.ensures k c.requires.whole c.requires.typed x b (g.W.Sink.taken c.args.sink.now)
-    (g.W.Sink.taken c.steps.sink) (g.W.Sink.taken c.send.new.sink) _ _ c.steps.state c.run_fast-stopped.new.state
+    let s = gone_sent c.code_laws.ensures c.requires.whole c.requires.typed (g.W.Sink.taken c.send.new.sink)
     (config_view c.send.new.state) tt c.steps.invariant.so_far c.run_fast-stopped.ensures.gone c.in_ok-send.ensures.put
     c.in_ok-send.ensures.emptied in
     let e : next k d ≡ Ends o = c.in_ok-outcome.ensures.next ∙ rw c.in-Some-2.is refl in
@@ -198,8 +178,7 @@ returns-in_err-outcome-clause-wanted g c =
     let k = g.C.Code.code c.args.code.now in
     let x = pairs_of c.args.context.now in
     let b = budget_view c.args.budget in
-    let s = gone_sent c.code_laws.ensures k c.requires.whole c.requires.typed x b (g.W.Sink.taken c.args.sink.now)
-    (g.W.Sink.taken c.steps.sink) (g.W.Sink.taken c.send.new.sink) _ _ c.steps.state c.run_fast-stopped.new.state
+    let s = gone_sent c.code_laws.ensures c.requires.whole c.requires.typed (g.W.Sink.taken c.send.new.sink)
     (config_view c.send.new.state) tt c.steps.invariant.so_far c.run_fast-stopped.ensures.gone c.in_ok-send.ensures.put
     c.in_ok-send.ensures.emptied in
     if_err_given c.from_residual-in_err-outcome.result _ _ (

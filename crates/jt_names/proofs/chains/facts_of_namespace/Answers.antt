@@ -1,19 +1,24 @@
-use Rattle.std.proofs.Common.{◌≡◌, List, ℕ, refl, ap, ◌∙◌}
+use Rattle.std.proofs.Common.{◌≡◌, List, ℕ, map, refl, ap, ◌∙◌}
 use Rattle.std.specs.Prelude.{flat_map}
 use Rattle.jt_ast.specs.Expressions.{Text}
 use Rattle.jt_ast.specs.Statements.{Body}
 use Rattle.jt_ast.specs.Texts.{ascending}
 use Rattle.jt_chains.specs.Along.{along}
-use Rattle.jt_chains.specs.Chain.{templates}
+use Rattle.jt_chains.specs.Chain.{templates, given_to}
+use Rattle.jt_chains.specs.Named.{names_view}
+use Rattle.jt_chains.specs.Parts.{blocks_view}
 use Rattle.jt_chains.specs.Uses.{body_names, scope_names_in}
 use Rattle.jt_chains.specs.View.{its_sources, its_templates, namespace_in}
 use Rattle.jt_chains.proofs.TemplatesByIndex.{namespace_along}
+use Rattle.jt_names.specs.Names.{first_of}
 use Rattle.jt_names.proofs.chains.facts_of_namespace.Goals as goal
 
 pub returns : goal.returns
 returns c =
     let chain = c.args.chain.now in
     let there = c.requires.stands in
+    let ts = its_templates chain in
+    let h = namespace_in chain c.args.namespace in
     let all : (g : Body → List Text) (is : List ℕ) → is ≡ c.index.result.now.templates.items
     → ascending (along (its_templates chain) (λ n b. g b) is)
     ≡ ascending (flat_map (λ t. g t.body) (templates (its_sources chain) (namespace_in chain c.args.namespace)))
@@ -27,6 +32,13 @@ returns c =
           c.in_ok-scope_names.ensures (its_templates chain) c.requires.known
           ∙ all scope_names_in c.deref-2.result.now c.deref-2.ensures.value;
       all_macros = c.in_ok-macros.ensures.there there;
-      all_given = c.in_ok-given.ensures.there there;
+      all_given =
+          λ x. c.in_ok-given.ensures ts h x
+          ∙ ap (λ gs. given_to x (names_view ts h gs)) c.deref-3.ensures.value
+          ∙ ap (given_to x) (c.in_ok-listed.ensures.there there);
       all_blocks = c.in_ok-blocks.ensures.there there;
+      first_bodies =
+          λ x. c.in_ok-first_bodies.ensures ts x
+          ∙ ap (λ bs. first_of x 0 (map (λ b. b.name) (blocks_view ts bs))) c.deref-4.ensures.value
+          ∙ ap (λ bs. first_of x 0 (map (λ b. b.name) bs)) (c.in_ok-blocks.ensures.there there);
     }

@@ -1,10 +1,5 @@
-use Rattle.std.proofs.Common.{rules, refl, codes, Some, Ok, Err, option_map}
-use Rattle.jt_expr.specs.Promises.{Reads}
+use Rattle.std.proofs.Common.{rules, refl, codes, Some, Ok, Err}
 use Rattle.jt_expr.specs.Cursor.{ahead}
-use Rattle.jt_ast.specs.ExpressionView.{expr_view}
-use Rattle.jt_ast.specs.Statements.{condition_levels}
-use Rattle.jt_parse.specs.Tags.{Condition}
-use Rattle.jt_parse.specs.internal.Readers.{NoToken}
 use Rattle.jt_parse.proofs.TokenPrefixes.{word_taken, word_left, no_word}
 use Rattle.jt_parse.proofs.TagParts.{no_condition_read, condition_last}
 use Rattle.jt_parse.proofs.tags.condition.Goals as goal

@@ -1,8 +1,6 @@
-use Rattle.std.proofs.Common.{rules, refl, Some, Ok, Err, option_map}
+use Rattle.std.proofs.Common.{rules, refl, Some, Ok, Err}
 use Rattle.jt_scan.specs.declared.segment.Sign.TheVariants as s
 use Rattle.jt_expr.specs.Cursor.{ahead}
-use Rattle.jt_ast.specs.ExpressionView.{literal_view}
-use Rattle.jt_parse.specs.internal.Readers.{ReadsFlat, IsDefault, NoSign}
 use Rattle.jt_parse.proofs.TokenPrefixes.{sign_taken}
 use Rattle.jt_parse.proofs.TagParts.{default_last}
 use Rattle.jt_parse.proofs.tags.default_of.Goals as goal

@@ -1,6 +1,5 @@
-use Rattle.std.proofs.Common.{rules, refl, codes, ℕ, Ok, Err}
+use Rattle.std.proofs.Common.{rules, refl, ℕ, Ok, Err}
 use Rattle.jt_expr.specs.Cursor.{ahead}
-use Rattle.jt_parse.specs.internal.Readers.{ReadsHead}
 use Rattle.jt_parse.specs.declared.opening_tags.Head.TheVariants as h
 use Rattle.jt_parse.proofs.FirstTags.{for_unnamed, for_without_in, for_over_none, for_last}
 use Rattle.jt_parse.proofs.tags.for_head.Goals as goal

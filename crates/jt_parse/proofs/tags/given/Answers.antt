@@ -1,6 +1,5 @@
-use Rattle.std.proofs.Common.{rules, refl, codes, Some, Ok, Err, option_map, string_bytes, Global}
+use Rattle.std.proofs.Common.{rules, refl, codes, Some, Ok, Err}
 use Rattle.jt_expr.specs.Cursor.{ahead}
-use Rattle.jt_parse.specs.internal.Readers.{ReadsFlat, IsGiven, NoWord}
 use Rattle.jt_parse.proofs.TokenPrefixes.{word_taken, word_left, no_word}
 use Rattle.jt_parse.proofs.TagParts.{not_given, given_last}
 use Rattle.jt_parse.proofs.tags.given.Goals as goal

@@ -1,8 +1,5 @@
-use Rattle.std.proofs.Common.{rules, codes, Err}
+use Rattle.std.proofs.Common.{rules, Err}
 use Rattle.jt_expr.specs.Cursor.{ahead}
-use Rattle.jt_parse.specs.Tags.{IsImported}
-use Rattle.jt_parse.specs.internal.Readers.{ReadsFlat, NoWord}
-use Rattle.jt_parse.specs.internal.HeadView.{imported_view}
 use Rattle.jt_parse.proofs.TagParts.{imported_unnamed, imported_last, imported_done}
 use Rattle.jt_parse.proofs.tags.imported.Goals as goal
 

@@ -1,6 +1,5 @@
-use Rattle.std.proofs.Common.{rules, ap, codes, ℕ, Ok, Err}
+use Rattle.std.proofs.Common.{rules, ap, ℕ, Ok, Err}
 use Rattle.jt_expr.specs.Cursor.{ahead}
-use Rattle.jt_parse.specs.internal.Readers.{ReadsHead}
 use Rattle.jt_parse.specs.Tags.{a_statement}
 use Rattle.jt_parse.specs.declared.opening_tags.Head.TheVariants as h
 use Rattle.jt_ast.specs.StatementView.{is_ignored, passes_context}

@@ -1,9 +1,5 @@
 use Rattle.std.proofs.Common.{rules, refl, Ok, Err}
-use Rattle.jt_scan.specs.declared.segment.Sign.TheVariants as s
 use Rattle.jt_expr.specs.Cursor.{ahead}
-use Rattle.jt_parse.specs.Tags.{IsParameter}
-use Rattle.jt_parse.specs.internal.Readers.{ReadsFlat, NoSign}
-use Rattle.jt_ast.specs.StatementView.{parameter_view}
 use Rattle.jt_parse.proofs.TagParts.{parameter_unnamed, parameter_last}
 use Rattle.jt_parse.proofs.tags.parameter.Goals as goal
 

@@ -1,10 +1,5 @@
 use Rattle.std.proofs.Common.{rules, refl, Ok, Err}
-use Rattle.jt_expr.specs.Grammar.{whole}
-use Rattle.jt_expr.specs.Promises.{Reads, EndsAt}
 use Rattle.jt_expr.specs.Cursor.{ahead}
-use Rattle.jt_parse.specs.Tags.{IsValue}
-use Rattle.jt_parse.specs.internal.Readers.{value_levels}
-use Rattle.jt_parse.specs.internal.HeadView.{value_view}
 use Rattle.jt_parse.proofs.TagParts.{value_unnamed, value_unassigned, value_last}
 use Rattle.jt_parse.proofs.tags.value.Goals as goal
 

@@ -1,6 +1,5 @@
-use Rattle.std.proofs.Common.{rules, codes, ℕ, ap, sym, ◌∙◌, Ok, Err, arith}
+use Rattle.std.proofs.Common.{rules, ℕ, ap, sym, ◌∙◌, Ok, Err, arith}
 use Rattle.jt_expr.specs.Cursor.{ahead}
-use Rattle.jt_parse.specs.internal.Readers.{ReadsHead}
 use Rattle.jt_parse.specs.declared.opening_tags.Head.TheVariants as h
 use Rattle.jt_parse.specs.declared.opening_tags.BlockStart.TheVariants as o
 use Rattle.jt_parse.specs.Tags.{an_opening, values}

@@ -1,4 +1,4 @@
-use Rattle.std.proofs.Common.{◌≡◌, ℕ, ◌+◌, ◌-◌, ◌<◌, ◌≤◌, ◌==◌, List, length, take, drop, get_or, true, sym, ap, subst}
+use Rattle.std.proofs.Common.{◌≡◌, ℕ, ◌+◌, ◌-◌, ◌<◌, ◌≤◌, ◌==◌, List, length, take, drop, get_or, true, sym, ap}
 use Rattle.std.proofs.Common.{◌∙◌, arith, get_or-take, get_or-drop, length-take, length-drop}
 use Rattle.std.proofs.lemmas.Bool.Decides.{nat_tests}
 use Rattle.memchr.specs.Find.{is_byte, Nowhere, Passes}
@@ -41,9 +41,4 @@ returns-in-Some c =
     )
 
 pub returns-in-None : goal.returns-in-None
-returns-in-None c =
-    let s = c.args.text.now in let a = c.args.start in
-    let le : a ≤ length s = c.requires in
-    nowhere s a (length s - a) (length s) le (omega arith)
-    (subst (λ m. Nowhere (Passes (is_byte 123) (take (length s - a) (drop a s))) 0 m) (long s a le) c.in-None.ensures)
-    (omega arith)
+returns-in-None c = grind (arith, nowhere, long)

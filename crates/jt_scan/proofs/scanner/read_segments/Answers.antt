@@ -19,10 +19,7 @@ returns-in_err-found-clause-cut c =
     search rules
 
 pub before-requires : goal.before-requires
-before-requires c =
-    let le : 0 < length c.segments.rest.now = grind (arith, nat_tests) in
-    ends_with c.segments.line (part_view c.in_ok-found.found) (chars c.segments.rest.now)
-    (chars c.in_ok-found.behind.now) (not_empty c.segments.rest.now c.segments.invariant.0 le) c.in_ok-found.ensures
+before-requires c = search (arith, rules, nat_tests, ends_with, not_empty)
 
 pub overflow_cast-line : goal.overflow_cast-line
 overflow_cast-line c =
@@ -39,10 +36,7 @@ overflow_add-line c =
     omega (arith, f, c.lines.ensures)
 
 pub segments-smaller : goal.segments-smaller
-segments-smaller c =
-    let le : 0 < length c.segments.rest.now = grind (arith, nat_tests) in
-    leaves_less c.segments.line (part_view c.in_ok-found.found) (chars c.segments.rest.now)
-    (chars c.in_ok-found.behind.now) (not_empty c.segments.rest.now c.segments.invariant.0 le) c.in_ok-found.ensures
+segments-smaller c = search (arith, rules, nat_tests, leaves_less, not_empty)
 
 pub segments-preserved : goal.segments-preserved
 segments-preserved c =

@@ -1,4 +1,4 @@
-use Rattle.std.proofs.Common.{◌++◌, ◌∷◌, [], false, ap, sym, ◌∙◌, rules, arith}
+use Rattle.std.proofs.Common.{◌++◌, ◌∷◌, [], false, ap, ◌∙◌, rules, arith}
 use Rattle.std.specs.String.{string_bytes}
 use Rattle.std.proofs.lemmas.Str.{IsCharBoundary-after_ascii}
 use lib.Utf8.{encode}
@@ -27,8 +27,4 @@ ends-preserved c =
     )
 
 pub returns : goal.returns
-returns c =
-    c.in_ok-push_str-2.ensures.bytes ∙ ap (λ z. string_bytes c.ends.held ++ z)
-    (sym (ends_whole c.ends.rest.now
-    (no_cr c.as_bytes.result.now c.ends.rest.now c.as_bytes.ensures.value c.in_default.ensures)))
-    ∙ c.ends.invariant.1
+returns c = search (arith, rules, ends_whole, no_cr)

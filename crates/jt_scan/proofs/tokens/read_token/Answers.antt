@@ -1,4 +1,4 @@
-use Rattle.std.proofs.Common.{◌≡◌, false, true, sym, ap, ◌∙◌, arith}
+use Rattle.std.proofs.Common.{◌≡◌, false, sym, ap, ◌∙◌, arith}
 use Rattle.std.specs.Str.{chars}
 use Rattle.jt_scan.specs.Literals.{is_digit}
 use Rattle.jt_scan.specs.internal.Scanning.{signed}
@@ -21,11 +21,7 @@ returns-then-starts_name c =
     (sym c.if-starts_name.ensures) c.behind_name-rest.ensures c.before-then-starts_name.ensures
 
 pub returns-then-digit_value-lt10 : goal.returns-then-digit_value-lt10
-returns-then-digit_value-lt10 c =
-    let d : is_digit 10 c.in-Some.c ≡ true =
-    below_ten c.digit_value.result c.in-Some.c c.digit_value.ensures (omega (arith, c.if-digit_value-lt10.true)) in
-    rw (token_numbered c.args.line c.in-Some.c (chars c.args.text.now) (chars c.in-Some.more.now) c.in-Some.ensures d)
-    c.number_token.ensures
+returns-then-digit_value-lt10 c = grind (arith, below_ten, token_numbered)
 
 pub returns-then-is_quote : goal.returns-then-is_quote
 returns-then-is_quote c =

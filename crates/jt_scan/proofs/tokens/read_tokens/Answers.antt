@@ -7,11 +7,7 @@ use Rattle.jt_scan.proofs.TokenLoop.{read_none, tokens_end, tokens_go_on, tokens
 use Rattle.jt_scan.proofs.tokens.read_tokens.Goals as goal
 
 pub tokens-init : goal.tokens-init
-tokens-init c = (
-  search rules,
-  omega arith,
-  rw c.in_ok-tokens.ensures.items (read_none c.args.kind c.args.line (chars c.args.text.now)),
-)
+tokens-init c = search (arith, rules, read_none)
 
 pub returns-in_err-found : goal.returns-in_err-found
 returns-in_err-found c =

@@ -2,7 +2,7 @@ use Rattle.std.proofs.Common.{List, None, sym, ap, ◌∙◌, arith, rules}
 use Rattle.std.proofs.lemmas.List.{at_drop_all}
 use denote.Ref.{Bor}
 use Rattle.jt_ast.specs.Expressions.{Text}
-use Rattle.jt_layout.specs.Names.{index_in}
+use Rattle.jt_names.specs.Names.{value_in}
 use Rattle.jt_ast.specs.Texts.{texts}
 use Rattle.jt_bind.specs.internal.Names.{last_among}
 use Rattle.jt_bind.proofs.PlacesAndScopes.{placed_next}
@@ -14,7 +14,7 @@ invariant_of-result c =
     let ks = c.deref-name-items.result.now in
     record {
       indexed =
-          λ x. sym (at_drop_all (λ (z : List (Bor Text)). last_among x (texts z) l.local (index_in l.index.indices x))
+          λ x. sym (at_drop_all (λ (z : List (Bor Text)). last_among x (texts z) l.local (value_in l.index.indices x))
           ks
           l.name-index (omega arith))
           ∙ l.invariant x

@@ -1,11 +1,11 @@
 use Rattle.std.proofs.Common.{◌≡◌, None, drop}
 use Rattle.jt_ast.specs.Expressions.{Text}
-use Rattle.jt_layout.specs.Names.{index_in}
+use Rattle.jt_names.specs.Names.{value_in}
 use Rattle.jt_ast.specs.Texts.{texts}
 use Rattle.jt_bind.specs.internal.Names.{last_among}
 use Rattle.jt_bind.proofs.name_scope.NameScope.new.Given as goal
 
 abbrev pub invariant-loop-name : goal.invariant-loop-name
 invariant-loop-name l =
-    (x : Text) → last_among x (texts (drop l.name-index l.name-items)) l.local (index_in l.index.indices x)
+    (x : Text) → last_among x (texts (drop l.name-index l.name-items)) l.local (value_in l.index.indices x)
     ≡ last_among x (texts l.name-items) l.fn.first None

@@ -1,42 +1,34 @@
-use Rattle.std.proofs.Common.{◌≡◌, ℕ, ◌+◌, Bool, false, List, [], length, drop, refl, sym, ap, ◌∙◌, subst, arith}
-use Rattle.std.proofs.Common.{add-one, Option, Some, None, if◌then◌else◌}
+use Rattle.std.proofs.Common.{◌≡◌, ℕ, ◌+◌, List, [], length, drop, sym, ap, ◌∙◌, subst, arith}
+use Rattle.std.proofs.Common.{add-one, Some, None}
 use Rattle.std.specs.Prelude.{option_map}
 use Rattle.std.proofs.lemmas.List.{at_drop_all}
 use Rattle.std.proofs.lemmas.Result.{IfOk-weaker}
 use Rattle.jt_value.specs.Tree as tree
-use Rattle.jt_ids.specs.declared.op_id.OpId.{OpId}
 use Rattle.jt_ids.specs.declared.op_id.OpId.TheVariants as op
-use Rattle.jt_ids.specs.declared.test_id.TestId.{TestId}
-use Rattle.jt_ast.specs.Expressions as trees
-use Rattle.jt_ast.specs.ExpressionView.{is_negated, expr_view, exprs_view, pairs_view}
+use Rattle.jt_ast.specs.ExpressionView.{expr_view, exprs_view, pairs_view}
 use Rattle.jt_ast.specs.declared.expression.Expr.{Expr}
 use Rattle.jt_ids.specs.FilterTable.{filter_id}
 use Rattle.jt_ast.specs.StatementView.{parameters_view}
-use Rattle.jt_chains.specs.Chain as chain
 use Rattle.jt_chains.specs.Chain.{a_macro, a_range, a_super, a_block, a_cycle, no_callee}
-use Rattle.jt_chains.specs.Uses.{count, keywords}
-use Rattle.jt_semantics.specs.Operators.{OperatorForm, range_of}
-use Rattle.jt_semantics.specs.Resolve.{operation_of, turned_round, in_form, field_from, filled, filled_some, tested_by}
-use Rattle.jt_semantics.specs.Resolve.{locals_from, invoked, no_value}
+use Rattle.jt_chains.specs.Uses.{keywords}
+use Rattle.jt_semantics.specs.Operators.{range_of}
+use Rattle.jt_semantics.specs.Resolve.{filled, filled_some}
+use Rattle.jt_semantics.specs.Resolve.{locals_from}
 use Rattle.jt_semantics.specs.Expressions.{filter_parameters}
-use Rattle.jt_ids.specs.LoopTable.{field_named}
 use Rattle.jt_ir.specs.Pool.{Constant, own}
 use Rattle.jt_ir.specs.Slots as slots
 use Rattle.jt_ir.specs.Slots.{invoke}
 use Rattle.jt_eval.specs.TheFilters.{the_filters, filter_parameters as written_parameters}
 use Rattle.jt_ir.specs.View.{expr_view as coded, row_view}
-use Rattle.jt_ir.specs.declared.program.SlotExpr as code
-use Rattle.jt_ir.specs.declared.program.SlotExpr.TheVariants as e
 use Rattle.jt_ir.specs.declared.program.NaryOp.TheVariants as m
 use Rattle.jt_bind.specs.internal.Callees.{IsCallee}
-use Rattle.jt_bind.specs.internal.Formed.{form_view}
 use Rattle.jt_bind.specs.declared.callee.Callee.{Callee}
-use Rattle.jt_bind.specs.internal.Scoped.{values, IsPlaced, cenv_in, order_in, callee_in, senv_in, expr_in, row_in}
-use Rattle.jt_bind.specs.internal.Scoped.{asides_in, entries_in, filter_row_in, filtered_in}
+use Rattle.jt_bind.specs.internal.Scoped.{values, IsPlaced, cenv_in, order_in, callee_in, expr_in, row_in}
+use Rattle.jt_bind.specs.internal.Scoped.{asides_in, entries_in, filter_row_in}
 use Rattle.jt_bind.proofs.CalleeResolution.{count_length, macro_called, called_placed}
 use Rattle.jt_bind.proofs.ExpressionDepths.{call_depth, filter_depth, test_depth}
 use Rattle.jt_bind.proofs.FilterTags.{named_is, parameters_are}
-use Rattle.jt_bind.proofs.RowConcatenation.{same_tree, begun, of_whole, of_left, row_both, row_item, row_aside}
+use Rattle.jt_bind.proofs.RowConcatenation.{begun, of_whole, of_left, row_both, row_item, row_aside}
 use Rattle.jt_bind.proofs.RowConcatenation.{made_placed, invoked_placed}
 use Rattle.jt_ast.proofs.RemainingParts.{Entry, row_left, pairs_left}
 use Rattle.jt_ast.proofs.ExpressionViews.{view_Item, view_Call, view_Filter, view_Test, view_Unary, view_Binary}
@@ -430,39 +422,10 @@ resolve_call-returns-in-Unknown t c =
 -- ---- the remaining trees are less deep
 
 pub resolve_expression-resolve_call-requires : goal.resolve_expression-resolve_call-requires
-resolve_expression-resolve_call-requires t c =
-    let us = c.deref-in-Call-2.result.now in
-    let qs = c.deref-in-Call-3.result.now in (
-      omega (
-        arith,
-        call_depth c.args.expr.now us qs c.in-Call.called c.in-Call.row c.in-Call.pairs c.in-Call.is
-            c.deref-in-Call-2.ensures.value c.deref-in-Call-3.ensures.value,
-      ),
-      tt,
-    )
+resolve_expression-resolve_call-requires t c = grind (arith, call_depth)
 
 pub resolve_expression-resolve_filter-requires : goal.resolve_expression-resolve_filter-requires
-resolve_expression-resolve_filter-requires t c =
-    let a = c.deref-in-Filter.result.now in
-    let us = c.deref-in-Filter-3.result.now in
-    let qs = c.deref-in-Filter-4.result.now in (
-      omega (
-        arith,
-        filter_depth c.args.expr.now a us qs c.in-Filter.value c.in-Filter.name c.in-Filter.row c.in-Filter.pairs
-            c.in-Filter.is c.deref-in-Filter.ensures c.deref-in-Filter-3.ensures.value
-            c.deref-in-Filter-4.ensures.value,
-      ),
-      tt,
-    )
+resolve_expression-resolve_filter-requires t c = grind (arith, filter_depth)
 
 pub resolve_expression-resolve_test-requires : goal.resolve_expression-resolve_test-requires
-resolve_expression-resolve_test-requires t c =
-    let a = c.deref-in-Test.result.now in
-    let us = c.deref-in-Test-3.result.now in (
-      omega (
-        arith,
-        test_depth c.args.expr.now a us c.in-Test.value c.in-Test.polarity c.in-Test.name c.in-Test.row
-            c.in-Test.keywords c.in-Test.is c.deref-in-Test.ensures c.deref-in-Test-3.ensures.value,
-      ),
-      tt,
-    )
+resolve_expression-resolve_test-requires t c = grind (arith, test_depth)

@@ -1,10 +1,9 @@
-use Rattle.std.proofs.Common.{◌+◌, List, [], drop, refl, sym, ap, subst, ◌∙◌, arith, Global}
+use Rattle.std.proofs.Common.{◌+◌, List, [], drop, sym, ap, subst, ◌∙◌, arith, Global}
 use Rattle.std.specs.Prelude.{Vec}
 use Rattle.std.proofs.lemmas.List.{at_drop_all}
 use Rattle.std.proofs.lemmas.Result.{IfOk-weaker}
 use Rattle.jt_ast.specs.ExpressionView.{expr_view, pairs_view}
-use Rattle.jt_ast.specs.Statements as trees
-use Rattle.jt_ast.specs.StatementView.{is_ignored, passes_context, names_view, filter_calls_view, stmt_view, body_view}
+use Rattle.jt_ast.specs.StatementView.{filter_calls_view, stmt_view, body_view}
 use Rattle.jt_ast.specs.StatementView.{branches_view}
 use Rattle.jt_ast.specs.declared.statement.Stmt.{Stmt}
 use Rattle.jt_ir.specs.Slots as slots

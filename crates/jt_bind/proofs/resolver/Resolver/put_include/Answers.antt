@@ -1,4 +1,4 @@
-use Rattle.std.proofs.Common.{◌≡◌, refl, ℕ, [], sym, ap, ◌∙◌, subst, true, false, Option, arith, rules}
+use Rattle.std.proofs.Common.{◌≡◌, refl, ℕ, [], sym, ap, ◌∙◌, subst, true, false, Option}
 use Rattle.std.specs.Option.{is_none}
 use Rattle.std.proofs.lemmas.Result.{IfOk-weaker}
 use Rattle.jt_ast.specs.Statements as trees

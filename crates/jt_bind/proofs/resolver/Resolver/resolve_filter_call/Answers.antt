@@ -1,7 +1,6 @@
-use Rattle.std.proofs.Common.{◌≡◌, ℕ, List, [], map, take, sym, ap, ◌∙◌, subst, Option, None, Some, arith, rules}
+use Rattle.std.proofs.Common.{◌≡◌, [], map, take, sym, ap, ◌∙◌, subst, None, Some}
 use Rattle.std.specs.Prelude.{option_map}
 use Rattle.std.proofs.lemmas.List.{take_at, take-map}
-use Rattle.jt_value.specs.Tree.{Tree}
 use Rattle.jt_value.specs.View.{view}
 use Rattle.jt_ast.specs.Expressions as trees
 use Rattle.jt_ast.specs.ExpressionView.{exprs_view, pairs_view}
@@ -14,7 +13,7 @@ use Rattle.jt_ir.specs.Slots as slots
 use Rattle.jt_ir.specs.View.{expr_view, filter_after, filters_after}
 use Rattle.jt_ir.specs.declared.program.SlotFilter.{SlotFilter}
 use Rattle.jt_ir.proofs.ExpressionViews.{filters_push}
-use Rattle.jt_bind.specs.internal.Scoped.{values, IsPlaced, RowLeads, cenv_in, filter_row_in, filtered_in}
+use Rattle.jt_bind.specs.internal.Scoped.{values, RowLeads, cenv_in, filter_row_in}
 use Rattle.jt_bind.proofs.FilterTags.{named_is, filter_placed}
 use Rattle.jt_bind.proofs.resolver.Resolver.resolve_filter_call.Goals as goal
 

@@ -1,10 +1,8 @@
-use Rattle.std.proofs.Common.{List, length, max, sym, ap, ◌∙◌}
+use Rattle.std.proofs.Common.{length, max, sym, ap, ◌∙◌}
 use Rattle.std.proofs.lemmas.List.{length-map}
 use denote.Ref.{Bor}
 use Rattle.jt_ast.specs.Expressions.{Text}
 use Rattle.jt_ast.specs.StatementView as written
-use Rattle.jt_ir.specs.View.{body_view}
-use Rattle.jt_ir.specs.declared.program.SlotStmt.{SlotStmt}
 use Rattle.jt_ast.specs.Texts.{texts}
 use Rattle.jt_ir.specs.Locals.{body_locals}
 use Rattle.jt_semantics.specs.Resolve.{bound_all}

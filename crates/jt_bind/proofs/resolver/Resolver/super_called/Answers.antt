@@ -28,7 +28,7 @@ use Rattle.jt_bind.proofs.NumberedBodies.{counted_left, counted_end, next_within
 use Rattle.jt_bind.proofs.resolver.Resolver.super_called.Goals as goal
 
 module _ (s : Chains) (here : NamespaceLayout) (bs : List Block) (i : ℕ) (body : Block) (n : Option ℕ)
-    (laid : IsTable s (namespace_in s) here) (are : bs ≡ here.blocks.items) (lt : i < length bs)
+    (laid : IsTable s (namespace_in s) here) (are : bs ≡ here.known.now.blocks.items) (lt : i < length bs)
     (is : (d : Block) → body ≡ get_or bs i d) (next : n ≡ get_or here.next_bodies.items i n) where
   abbrev view : Block → BlockBody
   view = block_view (chain_view s.chain.now).templates
@@ -42,28 +42,28 @@ module _ (s : Chains) (here : NamespaceLayout) (bs : List Block) (i : ℕ) (body
   abbrev parameters : List Text
   parameters = block_parameters (cenv_in s) (order_in s) (namespace_in s) body.name.now
 
-  long : length here.blocks.items ≡ length all
-  long = sym (length-map here.blocks.items view) ∙ ap length laid.all_blocks
+  long : length here.known.now.blocks.items ≡ length all
+  long = sym (length-map here.known.now.blocks.items view) ∙ ap length laid.all_blocks
 
-  within : i < length here.blocks.items
-  within = let same : length bs ≡ length here.blocks.items = ap length are in omega arith
+  within : i < length here.known.now.blocks.items
+  within = let same : length bs ≡ length here.known.now.blocks.items = ap length are in omega arith
 
   -- The body at the index, and the bodies after it.
   left : drop i (numbered_bodies (cenv_in s) (namespace_in s)) ≡ (i, view body) ∷ rest
   left =
       counted_left i all (view body) (omega (arith, within, long))
       ∙ ap (λ (x : BlockBody). (i, x) ∷ rest) (ap (λ (l : List BlockBody). get_or l i (view body)) (sym laid.all_blocks)
-      ∙ get_or-map view here.blocks.items i body ∙ ap (λ (l : List Block). view (get_or l i body)) (sym are)
+      ∙ get_or-map view here.known.now.blocks.items i body ∙ ap (λ (l : List Block). view (get_or l i body)) (sym are)
       ∙ ap view (sym (is body)))
 
   -- The next body of its block.
   next_is : n ≡ next_given (filter (λ (z : ℕ × BlockBody). bytes_eq z.1.name body.name.now) rest)
   next_is =
       laid.nexts i n
-      (slice_get_read here.next_bodies.items (length here.blocks.items) i n (sym laid.all_next) within next) (view body)
-      rest left
+      (slice_get_read here.next_bodies.items (length here.known.now.blocks.items) i n (sym laid.all_next) within next)
+      (view body) rest left
 
-  next_below : (k : ℕ) → n ≡ Some k → k < length here.blocks.items
+  next_below : (k : ℕ) → n ≡ Some k → k < length here.known.now.blocks.items
   next_below k e =
       let found : k < suc i + length (drop (i + 1) all) =
       next_within (λ (z : ℕ × BlockBody). bytes_eq z.1.name body.name.now) (suc i) k (drop (i + 1) all)
@@ -100,9 +100,9 @@ returns-in_default-get c = λ p.
     let namespace_layout = c.here-here.ensures in
     let view = block_view (chain_view s.chain.now).templates in
     let bs = all_bodies cenv.sources cenv.escaping h in
-    let same : length here.blocks.items ≡ length bs =
-    sym (length-map here.blocks.items view) ∙ ap length namespace_layout.all_blocks in
-    let value : length c.deref.result.now ≡ length here.blocks.items = ap length c.deref.ensures.value in
+    let same : length here.known.now.blocks.items ≡ length bs =
+    sym (length-map here.known.now.blocks.items view) ∙ ap length namespace_layout.all_blocks in
+    let value : length c.deref.result.now ≡ length here.known.now.blocks.items = ap length c.deref.ensures.value in
     let outside : length c.deref.result.now ≤ i = c.in_default-get.ensures.lookup.3 in
     let past : length bs ≤ i = omega arith in
     let P : Option Part → Type 0 =

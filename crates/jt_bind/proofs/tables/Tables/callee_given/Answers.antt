@@ -1,4 +1,4 @@
-use Rattle.std.proofs.Common.{◌≡◌, ℕ, sym, ap, ◌∙◌, subst, Some, arith, rules}
+use Rattle.std.proofs.Common.{◌≡◌, ℕ, sym, ap, ◌∙◌, subst, Some}
 use Rattle.std.proofs.lemmas.Result.{IfOk-weaker}
 use Rattle.jt_ast.specs.Expressions as trees
 use Rattle.jt_chains.specs.Chain as chain

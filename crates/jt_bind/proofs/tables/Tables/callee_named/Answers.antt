@@ -1,4 +1,4 @@
-use Rattle.std.proofs.Common.{◌≡◌, sym, ap, ◌∙◌, subst, Option, None, arith, rules}
+use Rattle.std.proofs.Common.{◌≡◌, sym, ap, ◌∙◌, subst, Option, None}
 use Rattle.std.specs.Prelude.{option_map}
 use Rattle.jt_chains.specs.Chain.{Definition, given_to, named_alone}
 use Rattle.jt_chains.specs.Named.{given_view}

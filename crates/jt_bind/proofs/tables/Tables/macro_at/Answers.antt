@@ -1,4 +1,4 @@
-use Rattle.std.proofs.Common.{◌≡◌, ℕ, sym, ap, ◌∙◌, subst, Option, arith, rules}
+use Rattle.std.proofs.Common.{◌≡◌, ℕ, sym, ap, ◌∙◌, subst, Option}
 use Rattle.std.proofs.lemmas.Option.{get_or_from_slice_get}
 use Rattle.jt_ast.specs.StatementView.{parameters_view}
 use Rattle.jt_chains.specs.Parts.{macro_view}
@@ -22,7 +22,8 @@ returns c =
     let P : Option ℕ → Type 0 = λ o. IsCalled (cenv_in scope) (order_in scope) ts h there x o in
     let at = subst P (sym c.index_of.ensures ∙ c.in-Some.is) (namespace_layout.by_names x) in
     let found : c.index-found.result.now ≡ at.code =
-    c.index-found.ensures ∙ get_or_from_slice_get there.macros.items i at.code c.index-found.result.now at.found in (
+    c.index-found.ensures
+    ∙ get_or_from_slice_get there.known.now.macros.items i at.code c.index-found.result.now at.found in (
       h,
       macro_view ts at.code,
       (

@@ -1,5 +1,8 @@
-use Rattle.std.proofs.Common.{◌∙◌}
+use Rattle.std.proofs.Common.{arith, rules}
+use Rattle.jt_checks.specs.internal.ScopeLookup.{cenv_in, namespace_in}
+use Rattle.jt_checks.proofs.ScopeLookup.{has_body}
 use Rattle.jt_checks.proofs.scope.Scope.is_block.Goals as goal
 
 pub returns : goal.returns
-returns c = c.contains.ensures ∙ c.args.self.now.knows_blocks c.args.name.now
+unfolding cenv_in namespace_in
+returns c = search (arith, rules, has_body)

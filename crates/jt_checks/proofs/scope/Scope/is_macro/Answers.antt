@@ -1,6 +1,8 @@
 use Rattle.std.proofs.Common.{arith, rules}
-use Rattle.jt_checks.proofs.ScopeLookup.{name_known}
+use Rattle.jt_checks.specs.internal.ScopeLookup.{cenv_in, namespace_in}
+use Rattle.jt_checks.proofs.ScopeLookup.{mapped}
 use Rattle.jt_checks.proofs.scope.Scope.is_macro.Goals as goal
 
 pub returns : goal.returns
-returns c = search (arith, rules, name_known)
+unfolding cenv_in namespace_in
+returns c = search (arith, rules, mapped)

@@ -7,23 +7,7 @@ use Rattle.jt_expr.proofs.RowCollection.{exprs_levels-one}
 use Rattle.jt_expr.proofs.part.LeveledList.push_item.Goals as goal
 
 pub invariant_of-self-2 : goal.invariant_of-self-2
-invariant_of-self-2 c =
-    let old = c.args.self.now.items.items in
-    let e = ap exprs_levels (ap exprs_view c.in_ok-push.ensures.items ∙ exprs-push old c.into_inner.result) in
-    let same =
-    ap (λ t. exprs_levels (then_exprs (exprs_view old) (expr (expr_view t) no_exprs))) c.into_inner.ensures in
-    record {
-      items_counted =
-          omega (
-            arith,
-            e,
-            same,
-            exprs_levels-one (exprs_view old) (expr_view c.args.part.expr.value),
-            c.args.self.now.items_counted,
-            c.args.part.counted,
-          );
-      pairs_counted = c.args.self.now.pairs_counted;
-    }
+invariant_of-self-2 c = grind (arith, exprs-push, exprs_levels-one)
 
 pub returns : goal.returns
 returns c =

@@ -7,25 +7,7 @@ use Rattle.jt_expr.proofs.RowCollection.{pairs_levels-one}
 use Rattle.jt_expr.proofs.part.LeveledList.push_pair.Goals as goal
 
 pub invariant_of-self-2 : goal.invariant_of-self-2
-invariant_of-self-2 c =
-    let old = c.args.self.now.pairs.items in
-    let e =
-    ap pairs_levels (ap pairs_view c.in_ok-push.ensures.items ∙ pairs-push old (c.args.key, c.into_inner.result)) in
-    let same = ap
-    (λ t. pairs_levels (then_pairs (pairs_view old) (pair (string_bytes c.args.key) (expr_view t) no_pairs)))
-    c.into_inner.ensures in
-    record {
-      items_counted = c.args.self.now.items_counted;
-      pairs_counted =
-          omega (
-            arith,
-            e,
-            same,
-            pairs_levels-one (pairs_view old) (string_bytes c.args.key) (expr_view c.args.part.expr.value),
-            c.args.self.now.pairs_counted,
-            c.args.part.counted,
-          );
-    }
+invariant_of-self-2 c = grind (arith, pairs-push, string_bytes, pairs_levels-one)
 
 pub returns : goal.returns
 returns c =

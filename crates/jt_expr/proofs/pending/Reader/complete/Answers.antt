@@ -12,35 +12,13 @@ use Rattle.jt_expr.proofs.StackedForms.{length_pushed}
 use Rattle.jt_expr.proofs.pending.Reader.complete.Goals as goal
 
 pub returns-then-not-admits-clause-gives : goal.returns-then-not-admits-clause-gives
-returns-then-not-admits-clause-gives c =
-    let self = c.args.self.now in
-    let k = level_view c.args.level in
-    let g = level_view c.goal-goal.result in
-    let test : nat_le (rank g) (rank k) ≡ false = cc in
-    skip_moves (level_view self.entry) self.below self.pending.items k g (tree_of c.args.tree)
-    (ahead c.args.cursor.now) c.goal-goal.ensures (level_view c.towards-next.result)
-    (subst (λ j. Leads k j g (level_view c.towards-next.result)) c.continued.ensures c.towards-next.ensures) test
+returns-then-not-admits-clause-gives c = search (arith, rules, nat_le, skip_moves)
 
 pub returns-in_default-clause-gives : goal.returns-in_default-clause-gives
-returns-in_default-clause-gives c =
-    let self = c.args.self.now in
-    let k = level_view c.args.level in
-    let g = level_view c.goal-goal.result in
-    let test : nat_le (rank g) (rank k) ≡ true = cc in
-    let none : length self.pending.items ≡ 0 = omega (arith, c.in_default.ensures.cases) in
-    done_moves (level_view self.entry) self.below self.pending.items k g (tree_of c.args.tree) (ahead c.args.cursor.now)
-    c.goal-goal.ensures none test
+returns-in_default-clause-gives c = search (arith, rules, nat_le, done_moves)
 
 pub invariant_of-self-2 : goal.invariant_of-self-2
-invariant_of-self-2 c =
-    record {
-      bounded = omega (
-        arith,
-        depth_pushed c.pop.new.self.items c.args.self.now.pending.items c.in-Some.form c.in-Some.ensures.items,
-        c.args.self.now.bounded,
-        c.deeper.ensures,
-      );
-    }
+invariant_of-self-2 c = search (arith, rules, depth_pushed)
 
 pub returns-in_err-resume-clause-gives : goal.returns-in_err-resume-clause-gives
 returns-in_err-resume-clause-gives c =
@@ -74,19 +52,4 @@ returns-clause-gives c =
     ∙ ap (λ b. outcome_at (level_view self.entry) b (forms_of c.pop.new.self.items) s v) c.rules.ensures
 
 pub returns-clause-falls : goal.returns-clause-falls
-returns-clause-falls c =
-    let below = c.rules.result.below in
-    let ts = ahead c.args.cursor.now in
-    let f = form_view c.in-Some.form in
-    let t = tree_of c.args.tree in
-    let b : Bounded (reached f) (from ts) (move_view c.in_ok-resume.field-0) (ahead c.resume.new.cursor) =
-    all_ok (Bounded (reached f) (from ts)) (moves.resume (read below) (suc below) f t ts)
-    (move_view c.in_ok-resume.field-0) (ahead c.resume.new.cursor)
-    (resume_bounded (read below) (suc below) f t ts) c.in_ok-resume.ensures in (
-      b.proper,
-      omega (
-        arith,
-        b.bound,
-        length_pushed c.pop.new.self.items c.args.self.now.pending.items c.in-Some.form c.in-Some.ensures.items,
-      ),
-    )
+returns-clause-falls c = search (arith, rules, from, all_ok, resume_bounded, length_pushed)

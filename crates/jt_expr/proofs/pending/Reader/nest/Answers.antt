@@ -9,22 +9,10 @@ use Rattle.jt_expr.proofs.StackedForms.{depth_grows, length_pushed, nest_moves, 
 use Rattle.jt_expr.proofs.pending.Reader.nest.Goals as goal
 
 pub returns-then-self-eq0-clause-gives : goal.returns-then-self-eq0-clause-gives
-returns-then-self-eq0-clause-gives c =
-    let self = c.args.self.now in
-    nest_refused (level_view self.entry) self.below self.pending.items (form_view c.args.form) (ahead c.args.cursor.now)
-    (omega arith)
+returns-then-self-eq0-clause-gives c = search (arith, rules, nest_refused)
 
 pub invariant_of-self : goal.invariant_of-self
-invariant_of-self c =
-    record {
-      bounded = omega (
-        arith,
-        depth_grows (is_ok c.push.result) c.args.self.now.pending.items c.push.new.self.items c.args.form
-            c.push.ensures.items,
-        c.args.self.now.bounded,
-        c.requires,
-      );
-    }
+invariant_of-self c = search (arith, rules, depth_grows, is_ok)
 
 pub returns-in_err-begin-clause-gives : goal.returns-in_err-begin-clause-gives
 returns-in_err-begin-clause-gives c =
@@ -45,16 +33,4 @@ returns-clause-gives c =
     (ahead c.begin.new.cursor) c.in_ok-begin.ensures
 
 pub returns-clause-falls : goal.returns-clause-falls
-returns-clause-falls c =
-    let self = c.args.self.now in
-    let below = self.below - 1 in
-    let goal_level = goal_of (level_view self.entry) (forms_of c.push.new.self.items) in
-    let ts = ahead c.args.cursor.now in
-    let b : Begun (read below) (suc below) ts (move_view c.in_ok-begin.field-0) (ahead c.begin.new.cursor) =
-    all_ok (Begun (read below) (suc below) ts) (moves.begin (read below) (suc below) goal_level ts)
-    (move_view c.in_ok-begin.field-0) (ahead c.begin.new.cursor)
-    (begin_bounded (read below) (suc below) goal_level ts) c.in_ok-begin.ensures in (
-      b.0,
-      omega
-          (arith, b.1, length_pushed self.pending.items c.push.new.self.items c.args.form c.in_ok-push.ensures.items),
-    )
+returns-clause-falls c = search (arith, rules, all_ok, begin_bounded, length_pushed)

@@ -9,25 +9,10 @@ use Rattle.jt_expr.proofs.StackedForms.{depth_grows, length_pushed, wait_moves, 
 use Rattle.jt_expr.proofs.pending.Reader.wait.Goals as goal
 
 pub invariant_of-self : goal.invariant_of-self
-invariant_of-self c =
-    record {
-      bounded = omega (
-        arith,
-        depth_grows (is_ok c.push.result) c.args.self.now.pending.items c.push.new.self.items c.args.form
-            c.push.ensures.items,
-        c.args.self.now.bounded,
-        c.requires,
-      );
-    }
+invariant_of-self c = search (arith, rules, depth_grows, is_ok)
 
 pub returns-in_err-begin-clause-gives : goal.returns-in_err-begin-clause-gives
-returns-in_err-begin-clause-gives c =
-    let self = c.args.self.now in
-    let items = c.push.new.self.items in
-    let e = wait_moves (level_view self.entry) self.below self.pending.items items c.args.form (ahead c.args.cursor.now)
-    c.in_ok-push.ensures.items c.requires in
-    let q = refused_move (level_view self.entry) self.below (forms_of items) _ _ e _ c.in_err-begin.ensures in
-    search rules
+returns-in_err-begin-clause-gives c = search (arith, rules, wait_moves, refused_move)
 
 pub returns-clause-gives : goal.returns-clause-gives
 returns-clause-gives c =
@@ -39,15 +24,4 @@ returns-clause-gives c =
     (ahead c.begin.new.cursor) c.in_ok-begin.ensures
 
 pub returns-clause-falls : goal.returns-clause-falls
-returns-clause-falls c =
-    let self = c.args.self.now in
-    let goal_level = goal_of (level_view self.entry) (forms_of c.push.new.self.items) in
-    let ts = ahead c.args.cursor.now in
-    let b : Begun (read self.below) (suc self.below) ts (move_view c.in_ok-begin.field-0) (ahead c.begin.new.cursor) =
-    all_ok (Begun (read self.below) (suc self.below) ts) (moves.begin (read self.below) (suc self.below) goal_level ts)
-    (move_view c.in_ok-begin.field-0) (ahead c.begin.new.cursor)
-    (begin_bounded (read self.below) (suc self.below) goal_level ts) c.in_ok-begin.ensures in (
-      b.0,
-      omega
-          (arith, b.1, length_pushed self.pending.items c.push.new.self.items c.args.form c.in_ok-push.ensures.items),
-    )
+returns-clause-falls c = search (arith, rules, all_ok, begin_bounded, length_pushed)

@@ -14,15 +14,7 @@ use Rattle.jt_image.proofs.offsets.Reader.place.Goals.{After-loc}
 told : (c : After-loc) (o : Option SourceLoc) → c.loc.result ≡ o
     → place_there c.args.self.now c.args.unit c.args.point
     ≡ option_and_then (place_of c.args.self.now.templates) (option_map loc_view o)
-told c o is =
-    let q = c.in-Some.place in
-    let lt : c.args.point < q.len = omega arith in
-    let known = place_is c.self.inside.bytes.now c.self.inside.offsets.now c.self.invariant.there c.args.unit
-    c.args.point q (sym c.unit_at.ensures ∙ c.in-Some.is) lt in
-    subst (λ (k : Code). place_there k c.args.unit c.args.point
-    ≡ option_and_then (place_of k.templates) (slice_get k.places (q.first + c.args.point)))
-    c.self.view_is known
-    ∙ ap (option_and_then (place_of c.args.self.now.templates)) (sym c.loc.ensures ∙ ap (option_map loc_view) is)
+told c o is = grind (arith, place_is, option_map)
 
 pub returns-in-Some-loc : goal.returns-in-Some-loc
 returns-in-Some-loc c =

@@ -1,0 +1,14 @@
+use Rattle.std.proofs.Common.{◌≡◌, ◌+◌, ◌≤◌, length, drop}
+use Rattle.jt_ast.specs.Expressions.{Text}
+use Rattle.jt_ast.specs.Texts.{texts}
+use Rattle.jt_names.specs.Names.{value_in, first_of}
+use Rattle.jt_names.proofs.index.NameIndex.of.Given as goal
+
+abbrev pub invariant-loop-left : goal.invariant-loop-left
+invariant-loop-left l = record {
+  within : l.left ≤ length l.names;
+  indexed : (x : Text) → value_in l.index.indices x ≡ first_of x (l.first + l.left) (texts (drop l.left l.names));
+}
+
+abbrev pub decreases-loop-left : goal.decreases-loop-left
+decreases-loop-left l = l.left
