@@ -15,7 +15,7 @@ use Rattle.jt_args.proofs.Passed.{neither}
 -- A command is required, so a line without a fault has one.
 has_command : (help given wanted has : Bool) → check_kinds (not has && (help && given)) (not has && true) wanted ≡ []
     → has ≡ true
-has_command a0 a1 a2 a3 a4 = search (arith, rules)
+has_command help given wanted has a4 = search (arith, rules)
 
 -- The name is that of one of the commands.
 abbrev IsOneOf : Option Text → List Shape → Type 0

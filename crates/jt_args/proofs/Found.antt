@@ -29,7 +29,7 @@ text_or_none (Some s) d v e f = ap (λ x. unwrap_or x []) f
 pub flagged : (text : Option Text) (b : Bool) → IfSome text IsSwitch → (text ≡ None → b ≡ false)
     → (text ≡ Some (codes "true") → b ≡ true)
     → (text ≡ Some (codes "false") → b ≡ false) → IsFlag text b
-flagged a0 a1 a2 a3 a4 a5 = search (arith, rules)
+flagged text b a2 a3 a4 a5 = search (arith, rules)
 
 -- What always holds also holds of a success.
 pub always : {T E : Type 0} (r : Result T E) (P : Type 0) → P → OnOk r P

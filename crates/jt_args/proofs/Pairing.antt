@@ -35,7 +35,7 @@ apart s d e = d (ap (λ (t : Text). unwrap_or (slice_get t 0) 0) e)
 
 paired : (name : Text) (rows : List Row) (k : Command) (o : Options) (b : Budget) (n : ℕ) → IsCommand name rows k o b n
     → ArePaired (Some (name, rows))
-paired a0 a1 a2 a3 a4 a5 a6 = search (arith, rules, of_other, apart, come)
+paired name rows k o b n a6 = search (arith, rules, of_other, apart, come)
 
 -- The words of a job that is requested come in pairs.
 pub paired_of : (found : Option (Text × List Row)) (j : Job) → IsAsked found j → ArePaired found

@@ -25,7 +25,7 @@ without_minus_is (x ∷ xs) = go (x == 45)
 
 -- A numeral has no plus before its digits.
 no_plus : (ds : List ℕ) → IsNumeral 10 ds → without_leading_plus ds ≡ ds
-no_plus a0 a1 = search (arith, rules, ne_eqb, digit_from_value)
+no_plus ds a1 = search (arith, rules, ne_eqb, digit_from_value)
 
 -- A signed number in a range that is not below 0 has a minus only in `-0`. Without the minus it is
 -- a number in the range.

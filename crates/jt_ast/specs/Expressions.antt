@@ -1,5 +1,6 @@
 -- The syntax trees of expressions, as written: no name is resolved yet. Texts are UTF-8 bytes.
-use Rattle.std.specs.Prelude.{ℕ, ℤ, suc, ◌+◌, ◌-◌, max, min, Bool, true, false, List}
+use Rattle.std.specs.Prelude.{ℕ, ℤ, suc, ◌+◌, ◌-◌, max, min, Bool, true, false, List, codes}
+use Rattle.std.specs.Str.{bytes_eq}
 use Rattle.jt_ast.specs.declared.expression.UnaryOperator.{UnaryOperator}
 use Rattle.jt_ast.specs.declared.expression.BinaryOperator.{BinaryOperator}
 use Rattle.jt_ast.specs.declared.expression.BinaryOperator.TheVariants as o
@@ -49,6 +50,11 @@ mutual
 abbrev pub count : Exprs → ℕ
 count no_exprs = 0
 count (expr first rest) = suc (count rest)
+
+-- The expression is the bare name `loop`.
+abbrev pub is_loop : Expr → Bool
+is_loop (name x) = bytes_eq x (codes "loop")
+is_loop e = false
 
 -- ---- levels
 

@@ -2,15 +2,12 @@
 use Rattle.std.proofs.Common.{◌≡◌, ℕ, ◌+◌, List, [], ◌∷◌, ◌++◌, length, ap, ◌∙◌, subst, Bool, Some, None}
 use Rattle.std.proofs.Common.{append_assoc, append-nil, length-append, arith, rules}
 use Rattle.jt_value.specs.Tree.{Tree}
-use Rattle.jt_ast.specs.Expressions as trees
 use Rattle.jt_ir.specs.Pool.{Constant}
 use Rattle.jt_ir.specs.Slots as slots
 use Rattle.jt_ir.specs.Slots.{SlotExpr, SRow, NaryOp}
 use Rattle.jt_ir.specs.View.{expr_view, row_view}
 use Rattle.jt_ir.specs.declared.program.SlotExpr as code
-use Rattle.jt_bind.specs.internal.Scoped.{IsPlaced, RowLeads, expr_in}
-use Rattle.jt_bind.specs.internal.Chains.{Chains}
-use Rattle.jt_bind.specs.declared.senv.StaticEnv.{StaticEnv}
+use Rattle.jt_bind.specs.internal.Scoped.{IsPlaced, RowLeads}
 use Rattle.jt_ir.proofs.ExpressionViews.{Entry, row_push}
 
 -- ---- expressions
@@ -58,11 +55,7 @@ pub invoked_placed : (u : ℕ) (escaping : Bool) (whole : SRow Constant) (es : L
     → IsPlaced (slots.invoke u escaping whole) z p q
 invoked_placed u escaping whole es z p q h e = search (arith, rules, append-nil)
 
--- ---- equal trees
-
-pub same_tree : (s : Chains) (senv : StaticEnv) (x y : trees.Expr) (e : SlotExpr ℕ) (p q : List Tree) → x ≡ y
-    → IsPlaced (expr_in s x senv) e p q → IsPlaced (expr_in s y senv) e p q
-same_tree s senv x y e p q h = let P : trees.Expr → Type 0 = λ z. IsPlaced (expr_in s z senv) e p q in subst P h
+-- ---- equal parts
 
 -- The list begins with no expressions.
 pub begun : (whole left : SRow Constant) (es fs gs : List Entry) (p q : List Tree) → es ≡ gs

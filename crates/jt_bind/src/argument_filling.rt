@@ -1,32 +1,32 @@
 //! Fills the parameters that no positional argument fills.
 
-ghost use Rattle.std.specs.Prelude.{◌≡◌, List, drop, length, IfOk};
-ghost use Rattle.jt_value.specs.Tree.{Tree};
-ghost use Rattle.jt_ast.specs.ExpressionView as written;
-ghost use Rattle.jt_chains.specs.Uses.{keywords};
-ghost use Rattle.jt_semantics.specs.Layout.{slot_in};
-ghost use Rattle.jt_semantics.specs.Resolve as resolve;
-ghost use Rattle.jt_bind.specs.internal.Resolving.{RowAdds, by_name, kept_of, filled_of};
-ghost use Rattle.jt_bind.specs.internal.Resolving.{some_filled_of};
-ghost use Rattle.jt_bind.specs.internal.Scoped.{IsAdded, RowLeads};
-ghost use Rattle.jt_ast.specs.Texts.{among};
+ghost use Rattle.std.specs.Prelude.{◌≡◌, IfOk, List, drop, length};
+ghost use Rattle.jt_ast.specs.ExpressionView.{pairs_view};
 ghost use Rattle.jt_ast.specs.StatementView.{parameter_view, parameters_view};
-ghost use Rattle.jt_eval.specs.Filters.{some_given, default_value};
-ghost use Rattle.jt_eval.specs.TheFilters as the;
+ghost use Rattle.jt_ast.specs.Texts.{among};
+ghost use Rattle.jt_bind.specs.internal.Resolving.{RowAdds, by_name, filled_of, kept_of};
+ghost use Rattle.jt_bind.specs.internal.Scoped.{IsAdded, RowLeads};
+ghost use Rattle.jt_chains.specs.Uses.{keywords};
+ghost use Rattle.jt_eval.specs.Filters.{default_value, some_given};
 ghost use Rattle.jt_ir.specs.Pool.{own};
+ghost use Rattle.jt_semantics.specs.Layout.{slot_in};
+ghost use Rattle.jt_value.specs.Tree.{Tree};
+ghost use Rattle.jt_semantics.specs.Resolve as resolve;
+ghost use Rattle.jt_eval.specs.TheFilters as the;
 ghost use Rattle.jt_ir.specs.Slots as slots;
 
+use crate::Result;
 use crate::callee::Signature;
 use crate::lookup::value_or;
 use crate::operator_forms::default_of;
-use crate::pool::add_value;
+use crate::pool::{Pool, add_value};
 use crate::resolver::{Arguments, Resolver};
+use crate::rows::Row;
 use jt_ast::{Expr, Parameter};
 use jt_eval::filter_parameters;
 use jt_ids::FilterId;
 use jt_ir::SlotExpr;
 use jt_layout::checked_sum;
-use jt_value::{NoMemory, Value};
 
 impl<'t, 'f, 's, 'a> Resolver<'t, 'f, 's, 'a> {
     /// Appends the values of the parameters of a macro that no positional argument fills. Each
@@ -37,11 +37,10 @@ impl<'t, 'f, 's, 'a> Resolver<'t, 'f, 's, 'a> {
         &self,
         signature: Signature<'_>,
         arguments: Arguments<'_>,
-        done: &mut Vec<(Option<usize>, SlotExpr)>,
-    ) -> Result<(), NoMemory>
-        ensures { IfOk result (λ u. (p : List Tree)
-            → RowLeads (filled_of self.now signature.entry arguments.entry) slots.none
-            done.old.items done.new.items p p) }
+        done: &mut Row,
+    ) -> Result<()>
+        ensures { IfOk result (λ u. (p : List Tree) → RowLeads (filled_of self.now signature.entry
+            arguments.entry) slots.none done.old.items done.new.items p p) }
     {
         let given = arguments.row.len();
         let mut default = checked_sum(signature.first_default, given)?;
@@ -60,32 +59,16 @@ impl<'t, 'f, 's, 'a> Resolver<'t, 'f, 's, 'a> {
         &self,
         filter: FilterId,
         arguments: Arguments<'_>,
-        done: &mut Vec<(Option<usize>, SlotExpr)>,
-        pool: &mut Vec<Value>,
-    ) -> Result<(), NoMemory>
+        done: &mut Row,
+        pool: &mut Pool,
+    ) -> Result<()>
         ensures { IfOk result (λ u. RowAdds (resolve.filled_some (the.filter_parameters filter)
             (length arguments.entry.row.now) (keywords (by_name arguments.entry))
             (kept_of self.now (by_name arguments.entry))) slots.none done.old done.new pool.old
             pool.new) }
     {
         let parameters = filter_parameters(self.alloc, filter)?;
-        self.fill_some(&parameters, arguments, done, pool)
-    }
-
-    /// Appends the values of parameters that no positional argument fills, up to the last one that
-    /// a keyword argument names.
-    #[inline(never)]
-    fn fill_some(
-        &self,
-        parameters: &[Parameter],
-        arguments: Arguments<'_>,
-        done: &mut Vec<(Option<usize>, SlotExpr)>,
-        pool: &mut Vec<Value>,
-    ) -> Result<(), NoMemory>
-        ensures { IfOk result (λ u. RowAdds (some_filled_of self.now parameters.now arguments.entry)
-            slots.none done.old done.new pool.old pool.new) }
-    {
-        let rest = behind(parameters, arguments.row.len());
+        let rest = behind(&parameters, arguments.row.len());
         for (index, parameter) in rest.iter().enumerate() {
             let left = &rest[index..];
             if !is_some_given(left, arguments.pairs) {
@@ -102,10 +85,10 @@ impl<'t, 'f, 's, 'a> Resolver<'t, 'f, 's, 'a> {
         &self,
         parameter: &Parameter,
         pairs: &[(String, Expr)],
-        pool: &mut Vec<Value>,
-    ) -> Result<SlotExpr, NoMemory>
+        pool: &mut Pool,
+    ) -> Result<SlotExpr>
         ensures { IfOk result (λ e. IsAdded (resolve.value_or (slot_in
-            (parameter_view parameter.now).name (kept_of self.now (written.pairs_view pairs.now)))
+            (parameter_view parameter.now).name (kept_of self.now (pairs_view pairs.now)))
             (own (default_value (parameter_view parameter.now).default))) e pool.old pool.new) }
     {
         match self.kept(pairs, parameter.name.as_str())? {
@@ -129,7 +112,7 @@ fn behind(parameters: &[Parameter], given: usize) -> &[Parameter]
 /// Returns whether a keyword argument names one of the parameters.
 fn is_some_given(parameters: &[Parameter], pairs: &[(String, Expr)]) -> bool
     ensures { result
-        ≡ some_given (parameters_view parameters.now) (keywords (written.pairs_view pairs.now)) }
+        ≡ some_given (parameters_view parameters.now) (keywords (pairs_view pairs.now)) }
 {
     for parameter in parameters {
         if is_given(parameter.name.as_str(), pairs) {
@@ -141,7 +124,7 @@ fn is_some_given(parameters: &[Parameter], pairs: &[(String, Expr)]) -> bool
 
 /// Returns whether a keyword argument has the name.
 fn is_given(name: &str, pairs: &[(String, Expr)]) -> bool
-    ensures { result ≡ among name.now (keywords (written.pairs_view pairs.now)) }
+    ensures { result ≡ among name.now (keywords (pairs_view pairs.now)) }
 {
     for (key, _) in pairs {
         if key.as_str() == name {

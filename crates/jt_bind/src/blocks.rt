@@ -2,22 +2,21 @@
 
 ghost use Rattle.std.specs.Prelude.{◌≡◌, IfOk};
 ghost use Rattle.jt_ast.specs.Texts.{texts};
+ghost use Rattle.jt_bind.specs.internal.Resolving.{IsBlock, super_of, table_of};
+ghost use Rattle.jt_bind.specs.internal.Scoped.{IsRow, PutsNone, first_unit_in, parameters_in};
 ghost use Rattle.jt_semantics.specs.Resolve as resolve;
-ghost use Rattle.jt_bind.specs.internal.Resolving.{table_of, IsBlock, super_of};
-ghost use Rattle.jt_bind.specs.internal.Scoped.{PutsNone, IsRow, parameters_in, first_unit_in};
 
+use crate::Result;
 use crate::lookup::absent;
 use crate::resolver::Resolver;
-use crate::rows::first_locals;
+use crate::rows::{Row, first_locals};
 use crate::tables::Tables;
 use jt_ir::SlotExpr;
 use jt_layout::checked_sum;
-use jt_value::NoMemory;
-use std::alloc::Global;
 
 impl<'f, 'a> Tables<'f, 'a> {
     /// Returns the unit of the first body of a block, if the block has one.
-    pub(crate) fn first_body(&self, name: &str) -> Result<Option<usize>, NoMemory>
+    pub(crate) fn first_body(&self, name: &str) -> Result<Option<usize>>
         ensures { IfOk result (λ u. u ≡ first_unit_in self.now name.now) }
     {
         let here = self.here();
@@ -41,10 +40,7 @@ impl<'f, 'a> Tables<'f, 'a> {
 
 impl<'t, 'f, 's, 'a> Resolver<'t, 'f, 's, 'a> {
     /// Returns the arguments for the bodies of a block: reads of their parameters.
-    pub(crate) fn block_arguments(
-        &self,
-        name: &str,
-    ) -> Result<Vec<(Option<usize>, SlotExpr)>, NoMemory>
+    pub(crate) fn block_arguments(&self, name: &str) -> Result<Row>
         ensures { IfOk result (IsRow
             (resolve.reads (table_of self.now) (parameters_in self.now.tables.now name.now))) }
     {
@@ -54,7 +50,7 @@ impl<'t, 'f, 's, 'a> Resolver<'t, 'f, 's, 'a> {
     /// Resolves the call of a block, which does not see the names of the enclosing scopes. A block
     /// without a body is absent.
     #[inline(never)]
-    pub(crate) fn block_called(&self, name: &str) -> Result<SlotExpr, NoMemory>
+    pub(crate) fn block_called(&self, name: &str) -> Result<SlotExpr>
         ensures { IfOk result (λ e. IsBlock self.now name.now e) }
     {
         let Some(unit) = self.tables.first_body(name)? else {
@@ -76,7 +72,7 @@ impl<'t, 'f, 's, 'a> Resolver<'t, 'f, 's, 'a> {
     /// parameters of the current one. The call is absent outside a block and if there is no next
     /// body.
     #[inline(never)]
-    pub(crate) fn super_called(&self) -> Result<SlotExpr, NoMemory>
+    pub(crate) fn super_called(&self) -> Result<SlotExpr>
         ensures { IfOk result (PutsNone (super_of self.now)) }
     {
         let here = self.tables.here();

@@ -1,23 +1,22 @@
 //! Resolves the callee of a call.
 
-ghost use Rattle.std.specs.Prelude.{◌≡◌, ◌<◌, false, length, List, Option, None, Some, option_map};
-ghost use Rattle.std.specs.Prelude.{codes, IfOk};
+ghost use Rattle.std.specs.Prelude.{◌<◌, ◌≡◌, IfOk, List, None, Some, codes, false, length};
+ghost use Rattle.std.specs.Prelude.{option_map};
 ghost use Rattle.std.specs.Str.{bytes_eq};
-ghost use Rattle.jt_ast.specs.Expressions as trees;
-ghost use Rattle.jt_ast.specs.ExpressionView as written;
-ghost use Rattle.jt_chains.specs.Chain as chain;
-ghost use Rattle.jt_chains.specs.Named.{given_view};
-ghost use Rattle.jt_chains.specs.Indices.{namespace_at};
+ghost use Rattle.jt_ast.specs.ExpressionView.{expr_view};
 ghost use Rattle.jt_bind.specs.internal.Callees.{IsCallee, IsLaidThere, library_of};
-ghost use Rattle.jt_bind.specs.internal.Scoped.{cenv_in, order_in, given_in, given_as, IsCalled};
-ghost use Rattle.jt_bind.specs.internal.Scoped.{IsMacroOf};
+ghost use Rattle.jt_bind.specs.internal.Scoped.{IsCalled, IsMacroOf, cenv_in, given_as, given_in};
+ghost use Rattle.jt_bind.specs.internal.Scoped.{order_in};
+ghost use Rattle.jt_chains.specs.Indices.{namespace_at};
 ghost use Rattle.jt_rules.specs.CompileEnv.{CompileEnv};
+ghost use Rattle.jt_ast.specs.Expressions as trees;
+ghost use Rattle.jt_chains.specs.Chain as chain;
 
+use crate::Result;
 use crate::tables::Tables;
 use jt_ast::{Expr, Parameter};
 use jt_chains::{Definition, is_private};
 use jt_layout::checked_sum;
-use jt_value::NoMemory;
 
 /// The signature of a macro: its parameters, its unit, and the pool index of its first default.
 #[derive(Clone, Copy)]
@@ -43,8 +42,8 @@ pub(crate) enum Callee<'s> {
 impl<'f, 'a> Tables<'f, 'a> {
     /// Returns the callee that the expression before the arguments of a call names.
     #[inline(never)]
-    pub(crate) fn callee_of<'s>(&'s self, called: &'s Expr) -> Result<Callee<'s>, NoMemory>
-        ensures { IfOk result (λ k. IsCalled self.now (written.expr_view called.now) k) }
+    pub(crate) fn callee_of<'s>(&'s self, called: &'s Expr) -> Result<Callee<'s>>
+        ensures { IfOk result (λ k. IsCalled self.now (expr_view called.now) k) }
     {
         match called {
             Expr::Name(name) => self.callee_named(name.as_str()),
@@ -55,7 +54,7 @@ impl<'f, 'a> Tables<'f, 'a> {
 
     /// Returns the callee of a bare name. A macro or a library of the name hides `range` and
     /// `super`.
-    fn callee_named<'s>(&'s self, name: &str) -> Result<Callee<'s>, NoMemory>
+    fn callee_named<'s>(&'s self, name: &str) -> Result<Callee<'s>>
         ensures { IfOk result (λ k. IsCalled self.now (trees.name name.now) k) }
     {
         match self.given_named(name) {
@@ -73,10 +72,9 @@ impl<'f, 'a> Tables<'f, 'a> {
     }
 
     /// Returns the callee of a name with this definition. A library itself cannot be called.
-    fn callee_given<'s>(&'s self, given: Definition<'_>) -> Result<Callee<'s>, NoMemory>
-        ensures { IfOk result (λ k. (x : trees.Text)
-            → chain.given_to x (given_in self.now) ≡ Some (given_as self.now given.entry)
-            → IsCalled self.now (trees.name x) k) }
+    fn callee_given<'s>(&'s self, given: Definition<'_>) -> Result<Callee<'s>>
+        ensures { IfOk result (λ k. (x : trees.Text) → chain.given_to x (given_in self.now) ≡ Some
+            (given_as self.now given.entry) → IsCalled self.now (trees.name x) k) }
     {
         self.stands();
         match given {
@@ -87,7 +85,7 @@ impl<'f, 'a> Tables<'f, 'a> {
     }
 
     /// Returns the macro `name` of the chain or library at index `namespace`.
-    fn macro_at<'s>(&'s self, namespace: usize, name: &str) -> Result<Callee<'s>, NoMemory>
+    fn macro_at<'s>(&'s self, namespace: usize, name: &str) -> Result<Callee<'s>>
         requires { namespace < length (order_in self.now) }
         ensures { IfOk result
             (λ k. IsMacroOf self.now (namespace_at (order_in self.now) namespace) name.now k) }
@@ -105,11 +103,10 @@ impl<'f, 'a> Tables<'f, 'a> {
     }
 
     /// Returns the macro `name` of a library, if the library is laid out.
-    fn library_macro<'s>(&'s self, library: &str, name: &str) -> Result<Callee<'s>, NoMemory>
-        ensures { IfOk result (λ k.
-            IsLaidThere (cenv_in self.now) (order_in self.now) (chain.a_library library.now)
-            name.now
-            → IsMacroOf self.now (chain.a_library library.now) name.now k) }
+    fn library_macro<'s>(&'s self, library: &str, name: &str) -> Result<Callee<'s>>
+        ensures { IfOk result (λ k. IsLaidThere (cenv_in self.now) (order_in self.now)
+            (chain.a_library library.now) name.now → IsMacroOf self.now
+            (chain.a_library library.now) name.now k) }
     {
         match self.library_index(library) {
             Some(index) => self.macro_at(index, name),
@@ -118,9 +115,9 @@ impl<'f, 'a> Tables<'f, 'a> {
     }
 
     /// Returns the callee of an attribute.
-    fn callee_by<'s>(&'s self, of: &Expr, name: &'s str) -> Result<Callee<'s>, NoMemory>
+    fn callee_by<'s>(&'s self, of: &Expr, name: &'s str) -> Result<Callee<'s>>
         ensures { IfOk result
-            (λ k. IsCalled self.now (trees.attribute (written.expr_view of.now) name.now) k) }
+            (λ k. IsCalled self.now (trees.attribute (expr_view of.now) name.now) k) }
     {
         match of {
             Expr::Name(of) => self.member_of(of.as_str(), name),
@@ -129,7 +126,7 @@ impl<'f, 'a> Tables<'f, 'a> {
     }
 
     /// Returns a block of `self`, `cycle` of a loop, or a macro of a library.
-    fn member_of<'s>(&'s self, of: &str, name: &'s str) -> Result<Callee<'s>, NoMemory>
+    fn member_of<'s>(&'s self, of: &str, name: &'s str) -> Result<Callee<'s>>
         ensures { IfOk result
             (λ k. IsCalled self.now (trees.attribute (trees.name of.now) name.now) k) }
     {
@@ -143,7 +140,7 @@ impl<'f, 'a> Tables<'f, 'a> {
 
     /// Returns a macro of a library, by the name that the library has here. Private macros do not
     /// exist for an importer.
-    fn imported_macro<'s>(&'s self, of: &str, name: &str) -> Result<Callee<'s>, NoMemory>
+    fn imported_macro<'s>(&'s self, of: &str, name: &str) -> Result<Callee<'s>>
         requires not_self { bytes_eq of.now (codes "self") ≡ false }
         requires not_loop { bytes_eq of.now (codes "loop") ≡ false }
         ensures { IfOk result
@@ -164,7 +161,10 @@ impl<'f, 'a> Tables<'f, 'a> {
         ensures { option_map (λ n. n.now) result
             ≡ library_of (chain.given_to name.now (given_in self.now)) }
     {
-        library_in(self.given_named(name)?)
+        match self.given_named(name)? {
+            Definition::Library(library) => Some(library),
+            Definition::Own(_) | Definition::Imported(_, _) => None,
+        }
     }
 }
 
@@ -177,16 +177,5 @@ fn built_in<'s>(name: &str) -> Callee<'s>
         "range" => Callee::Range,
         "super" => Callee::Super,
         _ => Callee::Unknown,
-    }
-}
-
-/// Returns the library of a definition, if it is one.
-fn library_in(given: Definition<'_>) -> Option<&str>
-    ensures { (ts : List chain.Template) (h : chain.Namespace)
-        → option_map (λ n. n.now) result ≡ library_of (Some (given_view ts h given.entry)) }
-{
-    match given {
-        Definition::Library(name) => Some(name),
-        Definition::Own(_) | Definition::Imported(_, _) => None,
     }
 }

@@ -1,30 +1,36 @@
 //! Appends resolved statements to others.
 
-ghost use Rattle.std.specs.Prelude.{◌≡◌, List, [], ◌∷◌, ◌++◌, IfOk};
-ghost use Rattle.jt_value.specs.Tree as tree;
-ghost use Rattle.jt_bind.specs.internal.Chains.{Chains};
-ghost use Rattle.jt_semantics.specs.Resolve.{alone};
-ghost use Rattle.jt_bind.specs.internal.Scoped.{values, IsShown, templates_in};
+ghost use Rattle.std.specs.Prelude.{◌++◌, ◌∷◌, ◌≡◌, IfOk, List, []};
 ghost use Rattle.jt_ast.specs.Expressions.{Text};
+ghost use Rattle.jt_bind.specs.internal.Chains.{Chains};
+ghost use Rattle.jt_bind.specs.internal.Scoped.{IsShown, templates_in, values};
+ghost use Rattle.jt_bind.specs.internal.Stated.{Emits, line_in, place_of};
 ghost use Rattle.jt_ir.specs.Pool.{Constant, own};
+ghost use Rattle.jt_semantics.specs.Resolve.{alone};
+ghost use Rattle.jt_value.specs.Tree as tree;
 ghost use Rattle.jt_ir.specs.Slots as slots;
 ghost use Rattle.jt_ir.specs.declared.program.SlotStmt.TheVariants as s;
-ghost use Rattle.jt_bind.specs.internal.Stated.{Emits, line_in, place_of};
 
+use crate::Result;
 use crate::held::Held;
+use crate::pool::Pool;
+use crate::rows::Row;
 use crate::senv::StaticEnv;
 use jt_ir::{Filtered, Slot, SlotBranch, SlotExpr, SlotStmt, Targets};
-use jt_value::{NoMemory, Value};
+use jt_value::Value;
 use std::alloc::Global;
+
+/// Resolved statements.
+pub(crate) type SlotBody = Vec<SlotStmt>;
 
 /// Emits a text outside tags.
 #[inline(never)]
 pub(crate) fn put_data(
     alloc: Global,
     text: &str,
-    done: &mut Vec<SlotStmt>,
-    pool: &mut Vec<Value>,
-) -> Result<(), NoMemory>
+    done: &mut SlotBody,
+    pool: &mut Pool,
+) -> Result<()>
     ensures { IfOk result (λ u. (templates : List Text)
         → Emits templates (alone (slots.put_pooled (own (tree.text text.now)))) done.old.items
         done.new.items (values pool.old) (values pool.new)) }
@@ -41,12 +47,10 @@ pub(crate) fn put_print(
     senv: &StaticEnv<'_, '_>,
     line: u32,
     value: SlotExpr,
-    done: &mut Vec<SlotStmt>,
-) -> Result<(), NoMemory>
+    done: &mut SlotBody,
+) -> Result<()>
     ensures { IfOk result (λ u. (scope : Chains) (c : slots.SlotExpr Constant)
-        (p q : List tree.Tree)
-        → IsShown c value p q
-        → Emits (templates_in scope)
+        (p q : List tree.Tree) → IsShown c value p q → Emits (templates_in scope)
         (alone (slots.print (line_in scope senv.now line) senv.now.escaping c)) done.old.items
         done.new.items p q) }
 {
@@ -60,8 +64,8 @@ pub(crate) fn put_filtered(
     senv: &StaticEnv<'_, '_>,
     line: u32,
     filtered: Filtered,
-    done: &mut Vec<SlotStmt>,
-) -> Result<(), NoMemory>
+    done: &mut SlotBody,
+) -> Result<()>
     ensures { IfOk result (λ u. done.new.items ≡ done.old.items
         ++ s.Print (place_of senv.now line) senv.now.escaping filtered ∷ []) }
 {
@@ -80,8 +84,8 @@ pub(crate) fn put_assign(
     line: u32,
     targets: Targets,
     value: SlotExpr,
-    done: &mut Vec<SlotStmt>,
-) -> Result<(), NoMemory>
+    done: &mut SlotBody,
+) -> Result<()>
     ensures { IfOk result (λ u. done.new.items ≡ done.old.items
         ++ s.Assign (place_of senv.now line) targets value ∷ []) }
 {
@@ -98,7 +102,7 @@ pub(crate) fn put_assign(
 pub(crate) fn put_branch(
     made: &mut Vec<SlotBranch<SlotStmt>>,
     branch: SlotBranch<SlotStmt>,
-) -> Result<(), NoMemory>
+) -> Result<()>
     ensures { IfOk result (λ u. made.new.items ≡ made.old.items ++ branch ∷ []) }
 {
     made.push(branch)?;
@@ -109,9 +113,9 @@ pub(crate) fn put_branch(
 #[inline(never)]
 pub(crate) fn put_choice(
     branches: Vec<SlotBranch<SlotStmt>>,
-    other: Vec<SlotStmt>,
-    done: &mut Vec<SlotStmt>,
-) -> Result<(), NoMemory>
+    other: SlotBody,
+    done: &mut SlotBody,
+) -> Result<()>
     ensures { IfOk result (λ u. done.new.items ≡ done.old.items ++ s.If branches other ∷ []) }
 {
     done.push(SlotStmt::If(branches, other))?;
@@ -131,7 +135,7 @@ pub(crate) struct LoopHead {
 #[derive(Drop)]
 pub(crate) struct Turns {
     pub head: Box<LoopHead>,
-    pub body: Vec<SlotStmt>,
+    pub body: SlotBody,
 }
 
 /// Emits a loop and its `else` part.
@@ -140,9 +144,9 @@ pub(crate) fn put_loop(
     senv: &StaticEnv<'_, '_>,
     line: u32,
     turns: Held<Turns>,
-    other: Vec<SlotStmt>,
-    done: &mut Vec<SlotStmt>,
-) -> Result<(), NoMemory>
+    other: SlotBody,
+    done: &mut SlotBody,
+) -> Result<()>
     ensures { IfOk result (λ u. done.new.items ≡ done.old.items
         ++ s.For (place_of senv.now line) turns.part.head.value.targets turns.part.head.value.items
         turns.part.head.value.condition turns.part.body other ∷ []) }
@@ -169,9 +173,9 @@ pub(crate) fn put_loop(
 pub(crate) fn put_capture(
     escaping: bool,
     slot: Slot,
-    body: Vec<SlotStmt>,
-    done: &mut Vec<SlotStmt>,
-) -> Result<(), NoMemory>
+    body: SlotBody,
+    done: &mut SlotBody,
+) -> Result<()>
     ensures { IfOk result (λ u. done.new.items ≡ done.old.items
         ++ s.Capture escaping slot body ∷ []) }
 {
@@ -185,11 +189,7 @@ pub(crate) fn put_capture(
 
 /// Emits a run of the routine `unit`, which prints, with the arguments `row`.
 #[inline(never)]
-pub(crate) fn put_run(
-    unit: usize,
-    row: Vec<(Option<usize>, SlotExpr)>,
-    done: &mut Vec<SlotStmt>,
-) -> Result<(), NoMemory>
+pub(crate) fn put_run(unit: usize, row: Row, done: &mut SlotBody) -> Result<()>
     ensures { IfOk result (λ u. done.new.items ≡ done.old.items ++ s.Run unit row ∷ []) }
 {
     done.push(SlotStmt::Run(unit, row))?;

@@ -1,22 +1,22 @@
 //! Resolves expressions: names to slots, and literals and keys to indices of a pool.
 
-ghost use Rattle.std.specs.Prelude.{false, length, IfOk, Some};
-ghost use Rattle.jt_ast.specs.Expressions as trees;
-ghost use Rattle.jt_ast.specs.ExpressionView as written;
+ghost use Rattle.std.specs.Prelude.{IfOk, Some, length};
+ghost use Rattle.jt_ast.specs.ExpressionView.{expr_view, exprs_view, is_negated, literal_view};
+ghost use Rattle.jt_ast.specs.ExpressionView.{pairs_view};
+ghost use Rattle.jt_bind.specs.internal.Resolving.{IsResolved, RowAdds, RowPuts, asides_of};
+ghost use Rattle.jt_bind.specs.internal.Resolving.{by_name, by_position, called_of, entries_of};
+ghost use Rattle.jt_bind.specs.internal.Resolving.{expr_of, filter_row_of, given_of, row_of};
+ghost use Rattle.jt_bind.specs.internal.Scoped.{IsAdded, turn_in};
+ghost use Rattle.jt_eval.specs.Values.{literal};
 ghost use Rattle.jt_ids.specs.FilterTable.{filter_id};
-ghost use Rattle.jt_semantics.specs.Operators as operators;
+ghost use Rattle.jt_ir.specs.Pool.{own};
+ghost use Rattle.jt_ir.specs.View.{nary_op_view};
+ghost use Rattle.jt_ast.specs.Expressions as trees;
 ghost use Rattle.jt_semantics.specs.Resolve as resolve;
 ghost use Rattle.jt_ids.specs.declared.op_id.OpId.TheVariants as op;
-ghost use Rattle.jt_eval.specs.Values.{literal};
-ghost use Rattle.jt_ir.specs.Pool.{own};
 ghost use Rattle.jt_ir.specs.Slots as slots;
-ghost use Rattle.jt_bind.specs.internal.Resolving.{IsResolved, RowAdds, RowPuts, by_position};
-ghost use Rattle.jt_bind.specs.internal.Resolving.{by_name, expr_of};
-ghost use Rattle.jt_bind.specs.internal.Resolving.{row_of, asides_of, given_of, called_of};
-ghost use Rattle.jt_bind.specs.internal.Resolving.{entries_of};
-ghost use Rattle.jt_bind.specs.internal.Resolving.{filter_row_of};
-ghost use Rattle.jt_bind.specs.internal.Scoped.{values, IsAdded, turn_in};
 
+use crate::Result;
 use crate::callee::{Callee, Signature};
 use crate::held::{Held, boxed};
 use crate::lookup::{absent, no_value, reading, told};
@@ -24,34 +24,29 @@ use crate::operator_forms::{
     OperatorForm, chosen, conjunction, disjunction, form_of, item_in_turn, literal_value, on_one,
     range_of, turned, unary_operation,
 };
-use crate::pool::{add_text, add_value};
+use crate::pool::{Pool, add_text, add_value};
 use crate::resolver::{Arguments, Resolver};
-use crate::rows::put_argument;
+use crate::rows::{Row, put_argument};
 use jt_ast::{BinaryOperator, Expr, Literal, Polarity, UnaryOperator};
 use jt_eval::{filter_of, test_of};
 use jt_ids::{FilterId, LoopField, OpId};
 use jt_ir::{NaryOp, SlotExpr};
 use jt_layout::checked_sum;
 use jt_names::is_loop_name;
-use jt_value::{NoMemory, Value};
+use std::slice;
 
 impl<'t, 'f, 's, 'a> Resolver<'t, 'f, 's, 'a> {
     /// Resolves an expression.
     #[tactic(auto, using(jt_ast::proofs::ExpressionViews::view_List, jt_ast::proofs::ExpressionViews::view_Map, jt_ast::proofs::ExpressionViews::view_Attribute))]
     #[cycle(expressions)]
-    pub(crate) fn resolve_expression(
-        &self,
-        expr: &Expr,
-        pool: &mut Vec<Value>,
-    ) -> Result<SlotExpr, NoMemory>
-        ensures { IfOk result (λ e. IsResolved self.now (written.expr_view expr.now) e
-            pool.old pool.new) }
+    pub(crate) fn resolve_expression(&self, expr: &Expr, pool: &mut Pool) -> Result<SlotExpr>
+        ensures { IfOk result (λ e. IsResolved self.now (expr_view expr.now) e pool.old pool.new) }
     {
         match expr {
             Expr::Constant(literal) => self.resolve_constant(literal, pool),
             Expr::Name(name) => Ok(reading(self.slot(name.as_str()))),
             Expr::Group(inside) => self.resolve_expression(inside, pool),
-            Expr::List(row) => self.resolve_list(row, pool),
+            Expr::List(row) => self.resolve_made(NaryOp::List, row, pool),
             Expr::Map(pairs) => self.resolve_map(pairs, pool),
             Expr::Attribute(value, key) => self.resolve_attribute(value, key, pool),
             Expr::Item(value, index) => { self.resolve_operation(OpId::Item, value, index, pool) }
@@ -90,42 +85,55 @@ impl<'t, 'f, 's, 'a> Resolver<'t, 'f, 's, 'a> {
 
     /// Resolves a literal.
     #[inline(never)]
-    fn resolve_constant(
-        &self,
-        constant: &Literal,
-        pool: &mut Vec<Value>,
-    ) -> Result<SlotExpr, NoMemory>
-        ensures { IfOk result (λ e. IsAdded
-            (slots.pooled (own (literal (written.literal_view constant.now)))) e pool.old
-            pool.new) }
+    fn resolve_constant(&self, constant: &Literal, pool: &mut Pool) -> Result<SlotExpr>
+        ensures { IfOk result (λ e. IsAdded (slots.pooled (own (literal
+            (literal_view constant.now)))) e pool.old pool.new) }
     {
         add_value(pool, literal_value(self.alloc, constant)?)
     }
 
-    /// Resolves a list.
+    /// Resolves expressions and applies an operation to them.
     #[cycle(expressions)]
     #[inline(never)]
-    fn resolve_list(&self, row: &[Expr], pool: &mut Vec<Value>) -> Result<SlotExpr, NoMemory>
-        ensures { IfOk result (λ e. IsResolved self.now
-            (trees.list_of (written.exprs_view row.now)) e pool.old pool.new) }
+    fn resolve_made(&self, op: NaryOp, row: &[Expr], pool: &mut Pool) -> Result<SlotExpr>
+        ensures { IfOk result (λ e. IsAdded (slots.made (nary_op_view op)
+            (row_of self.now (exprs_view row.now) slots.none)) e pool.old pool.new) }
     {
         let mut items = Held {
             part: Vec::new(self.alloc),
         };
         self.resolve_row(row, &mut items.part, pool)?;
-        Ok(SlotExpr::Made(NaryOp::List, items.into_part()))
+        Ok(SlotExpr::Made(op, items.into_part()))
+    }
+
+    /// Resolves a value and expressions after it, and applies an operation to them.
+    #[cycle(expressions)]
+    #[inline(never)]
+    fn resolve_applied(
+        &self,
+        op: NaryOp,
+        value: &Expr,
+        row: &[Expr],
+        pool: &mut Pool,
+    ) -> Result<SlotExpr>
+        ensures { IfOk result (λ e. IsAdded (slots.made (nary_op_view op)
+            (slots.item (expr_of self.now (expr_view value.now))
+            (row_of self.now (exprs_view row.now) slots.none))) e pool.old pool.new) }
+    {
+        let mut operands = Held {
+            part: Vec::with_capacity(self.alloc, row.len() + 1)?,
+        };
+        self.resolve_operand(value, &mut operands.part, pool)?;
+        self.resolve_row(row, &mut operands.part, pool)?;
+        Ok(SlotExpr::Made(op, operands.into_part()))
     }
 
     /// Resolves a map.
     #[cycle(expressions)]
     #[inline(never)]
-    fn resolve_map(
-        &self,
-        pairs: &[(String, Expr)],
-        pool: &mut Vec<Value>,
-    ) -> Result<SlotExpr, NoMemory>
+    fn resolve_map(&self, pairs: &[(String, Expr)], pool: &mut Pool) -> Result<SlotExpr>
         ensures { IfOk result (λ e. IsResolved self.now
-            (trees.map_of (written.pairs_view pairs.now)) e pool.old pool.new) }
+            (trees.map_of (pairs_view pairs.now)) e pool.old pool.new) }
     {
         let mut entries = Held {
             part: Vec::new(self.alloc),
@@ -137,14 +145,9 @@ impl<'t, 'f, 's, 'a> Resolver<'t, 'f, 's, 'a> {
     /// Resolves an attribute, or a field of `loop`.
     #[cycle(expressions)]
     #[inline(never)]
-    fn resolve_attribute(
-        &self,
-        value: &Expr,
-        key: &str,
-        pool: &mut Vec<Value>,
-    ) -> Result<SlotExpr, NoMemory>
+    fn resolve_attribute(&self, value: &Expr, key: &str, pool: &mut Pool) -> Result<SlotExpr>
         ensures { IfOk result (λ e. IsResolved self.now
-            (trees.attribute (written.expr_view value.now) key.now) e pool.old pool.new) }
+            (trees.attribute (expr_view value.now) key.now) e pool.old pool.new) }
     {
         if is_loop_name(value) {
             return Ok(told(LoopField::by_name(key)));
@@ -166,18 +169,12 @@ impl<'t, 'f, 's, 'a> Resolver<'t, 'f, 's, 'a> {
         op: OpId,
         left: &Expr,
         right: &Expr,
-        pool: &mut Vec<Value>,
-    ) -> Result<SlotExpr, NoMemory>
-        ensures { IfOk result (λ e. IsAdded (resolve.operation_of op
-            (expr_of self.now (written.expr_view left.now))
-            (expr_of self.now (written.expr_view right.now))) e pool.old pool.new) }
+        pool: &mut Pool,
+    ) -> Result<SlotExpr>
+        ensures { IfOk result (λ e. IsAdded (resolve.operation_of op (expr_of self.now
+            (expr_view left.now)) (expr_of self.now (expr_view right.now))) e pool.old pool.new) }
     {
-        let mut operands = Held {
-            part: Vec::with_capacity(self.alloc, 2)?,
-        };
-        self.resolve_operand(left, &mut operands.part, pool)?;
-        self.resolve_operand(right, &mut operands.part, pool)?;
-        Ok(SlotExpr::Made(NaryOp::Operator(op), operands.into_part()))
+        self.resolve_applied(NaryOp::Operator(op), left, slice::from_ref(right), pool)
     }
 
     /// Resolves a unary operator.
@@ -187,13 +184,17 @@ impl<'t, 'f, 's, 'a> Resolver<'t, 'f, 's, 'a> {
         &self,
         operator: UnaryOperator,
         operand: &Expr,
-        pool: &mut Vec<Value>,
-    ) -> Result<SlotExpr, NoMemory>
+        pool: &mut Pool,
+    ) -> Result<SlotExpr>
         ensures { IfOk result (λ e. IsResolved self.now
-            (trees.unary operator (written.expr_view operand.now)) e pool.old pool.new) }
+            (trees.unary operator (expr_view operand.now)) e pool.old pool.new) }
     {
-        let value = self.resolve_expression(operand, pool)?;
-        on_one(self.alloc, unary_operation(operator), value)
+        self.resolve_applied(
+            NaryOp::Operator(unary_operation(operator)),
+            operand,
+            &[],
+            pool,
+        )
     }
 
     /// Resolves a binary operator.
@@ -204,11 +205,10 @@ impl<'t, 'f, 's, 'a> Resolver<'t, 'f, 's, 'a> {
         operator: BinaryOperator,
         left: &Expr,
         right: &Expr,
-        pool: &mut Vec<Value>,
-    ) -> Result<SlotExpr, NoMemory>
-        ensures { IfOk result (λ e. IsResolved self.now
-            (trees.binary operator (written.expr_view left.now) (written.expr_view right.now)) e
-            pool.old pool.new) }
+        pool: &mut Pool,
+    ) -> Result<SlotExpr>
+        ensures { IfOk result (λ e. IsResolved self.now (trees.binary operator (expr_view left.now)
+            (expr_view right.now)) e pool.old pool.new) }
     {
         match form_of(self.senv.escaping, operator) {
             OperatorForm::Operation(op) => self.resolve_operation(op, left, right, pool),
@@ -232,15 +232,9 @@ impl<'t, 'f, 's, 'a> Resolver<'t, 'f, 's, 'a> {
     /// Resolves a conditional expression without an `else` part.
     #[cycle(expressions)]
     #[inline(never)]
-    fn resolve_when(
-        &self,
-        condition: &Expr,
-        value: &Expr,
-        pool: &mut Vec<Value>,
-    ) -> Result<SlotExpr, NoMemory>
-        ensures { IfOk result (λ e. IsResolved self.now
-            (trees.when (written.expr_view condition.now) (written.expr_view value.now)) e pool.old
-            pool.new) }
+    fn resolve_when(&self, condition: &Expr, value: &Expr, pool: &mut Pool) -> Result<SlotExpr>
+        ensures { IfOk result (λ e. IsResolved self.now (trees.when (expr_view condition.now)
+            (expr_view value.now)) e pool.old pool.new) }
     {
         let asked = self.resolve_boxed(condition, pool)?;
         let first = self.resolve_boxed(value, pool)?;
@@ -256,11 +250,10 @@ impl<'t, 'f, 's, 'a> Resolver<'t, 'f, 's, 'a> {
         condition: &Expr,
         value: &Expr,
         other: &Expr,
-        pool: &mut Vec<Value>,
-    ) -> Result<SlotExpr, NoMemory>
-        ensures { IfOk result (λ e. IsResolved self.now
-            (trees.choice (written.expr_view condition.now) (written.expr_view value.now)
-            (written.expr_view other.now)) e pool.old pool.new) }
+        pool: &mut Pool,
+    ) -> Result<SlotExpr>
+        ensures { IfOk result (λ e. IsResolved self.now (trees.choice (expr_view condition.now)
+            (expr_view value.now) (expr_view other.now)) e pool.old pool.new) }
     {
         let asked = self.resolve_boxed(condition, pool)?;
         let first = self.resolve_boxed(value, pool)?;
@@ -271,12 +264,8 @@ impl<'t, 'f, 's, 'a> Resolver<'t, 'f, 's, 'a> {
     /// Resolves an expression and returns it on the heap.
     #[cycle(expressions)]
     #[inline(never)]
-    fn resolve_boxed(
-        &self,
-        expr: &Expr,
-        pool: &mut Vec<Value>,
-    ) -> Result<Held<Box<SlotExpr>>, NoMemory>
-        ensures { IfOk result (λ o. IsResolved self.now (written.expr_view expr.now) o.part.value
+    fn resolve_boxed(&self, expr: &Expr, pool: &mut Pool) -> Result<Held<Box<SlotExpr>>>
+        ensures { IfOk result (λ o. IsResolved self.now (expr_view expr.now) o.part.value
             pool.old pool.new) }
     {
         boxed(self.alloc, self.resolve_expression(expr, pool)?)
@@ -291,56 +280,25 @@ impl<'t, 'f, 's, 'a> Resolver<'t, 'f, 's, 'a> {
         polarity: Polarity,
         name: &str,
         row: &[Expr],
-        pool: &mut Vec<Value>,
-    ) -> Result<SlotExpr, NoMemory>
-        ensures { IfOk result (λ e. (ps : trees.Pairs)
-            → IsResolved self.now (trees.test (written.expr_view value.now)
-            (written.is_negated polarity) name.now (written.exprs_view row.now) ps) e pool.old
-            pool.new) }
+        pool: &mut Pool,
+    ) -> Result<SlotExpr>
+        ensures { IfOk result (λ e. (ps : trees.Pairs) → IsResolved self.now
+            (trees.test (expr_view value.now) (is_negated polarity) name.now (exprs_view row.now)
+            ps) e pool.old pool.new) }
     {
-        let test = self.resolve_plain_test(value, name, row, pool)?;
+        let Some(id) = test_of(name) else {
+            return turned(self.alloc, polarity.is_negated(), absent());
+        };
+        let test = self.resolve_applied(NaryOp::Test(id), value, row, pool)?;
         turned(self.alloc, polarity.is_negated(), test)
-    }
-
-    /// Resolves a test without negation.
-    #[cycle(expressions)]
-    #[inline(never)]
-    fn resolve_plain_test(
-        &self,
-        value: &Expr,
-        name: &str,
-        row: &[Expr],
-        pool: &mut Vec<Value>,
-    ) -> Result<SlotExpr, NoMemory>
-        ensures { IfOk result (λ e. (ps : trees.Pairs)
-            → IsResolved self.now (trees.test (written.expr_view value.now) false name.now
-            (written.exprs_view row.now) ps) e pool.old pool.new) }
-    {
-        match test_of(name) {
-            None => Ok(absent()),
-            Some(test) => {
-                let mut operands = Held {
-                    part: Vec::new(self.alloc),
-                };
-                self.resolve_operand(value, &mut operands.part, pool)?;
-                self.resolve_row(row, &mut operands.part, pool)?;
-                Ok(SlotExpr::Made(NaryOp::Test(test), operands.into_part()))
-            }
-        }
     }
 
     /// Resolves an expression and appends it as an argument.
     #[cycle(expressions)]
     #[inline(never)]
-    fn resolve_operand(
-        &self,
-        value: &Expr,
-        done: &mut Vec<(Option<usize>, SlotExpr)>,
-        pool: &mut Vec<Value>,
-    ) -> Result<(), NoMemory>
-        ensures { IfOk result (λ u. RowPuts
-            (slots.item (expr_of self.now (written.expr_view value.now))) done.old done.new
-            pool.old pool.new) }
+    fn resolve_operand(&self, value: &Expr, done: &mut Row, pool: &mut Pool) -> Result<()>
+        ensures { IfOk result (λ u. RowPuts (slots.item (expr_of self.now (expr_view value.now)))
+            done.old done.new pool.old pool.new) }
     {
         let next = self.resolve_expression(value, pool)?;
         put_argument(done, None, next)
@@ -354,11 +312,10 @@ impl<'t, 'f, 's, 'a> Resolver<'t, 'f, 's, 'a> {
         value: &Expr,
         name: &str,
         arguments: Arguments<'_>,
-        pool: &mut Vec<Value>,
-    ) -> Result<SlotExpr, NoMemory>
-        ensures { IfOk result (λ e. IsResolved self.now
-            (trees.filter (written.expr_view value.now) name.now (by_position arguments.entry)
-            (by_name arguments.entry)) e pool.old pool.new) }
+        pool: &mut Pool,
+    ) -> Result<SlotExpr>
+        ensures { IfOk result (λ e. IsResolved self.now (trees.filter (expr_view value.now) name.now
+            (by_position arguments.entry) (by_name arguments.entry)) e pool.old pool.new) }
     {
         match filter_of(name, arguments.row, arguments.pairs) {
             None => Ok(absent()),
@@ -386,9 +343,9 @@ impl<'t, 'f, 's, 'a> Resolver<'t, 'f, 's, 'a> {
         &self,
         filter: FilterId,
         arguments: Arguments<'_>,
-        done: &mut Vec<(Option<usize>, SlotExpr)>,
-        pool: &mut Vec<Value>,
-    ) -> Result<(), NoMemory>
+        done: &mut Row,
+        pool: &mut Pool,
+    ) -> Result<()>
         ensures { IfOk result (λ u. RowAdds (filter_row_of self.now (Some (filter_id filter))
             (by_position arguments.entry) (by_name arguments.entry)) slots.none done.old done.new
             pool.old pool.new) }
@@ -404,14 +361,17 @@ impl<'t, 'f, 's, 'a> Resolver<'t, 'f, 's, 'a> {
         &self,
         called: &Expr,
         arguments: Arguments<'_>,
-        pool: &mut Vec<Value>,
-    ) -> Result<SlotExpr, NoMemory>
-        ensures { IfOk result (λ e. IsResolved self.now (trees.call (written.expr_view called.now)
+        pool: &mut Pool,
+    ) -> Result<SlotExpr>
+        ensures { IfOk result (λ e. IsResolved self.now (trees.call (expr_view called.now)
             (by_position arguments.entry) (by_name arguments.entry)) e pool.old pool.new) }
     {
         match self.tables.callee_of(&*called)? {
             Callee::Macro(signature) => self.resolve_macro(signature, arguments, pool),
-            Callee::Range => self.resolve_range(arguments.row, pool),
+            Callee::Range => {
+                let op = NaryOp::Operator(range_of(arguments.row.len()));
+                self.resolve_made(op, arguments.row, pool)
+            }
             Callee::Super => self.super_called(),
             Callee::Block(name) => self.block_called(name),
             Callee::Cycle => self.resolve_cycle(arguments.row, pool),
@@ -426,8 +386,8 @@ impl<'t, 'f, 's, 'a> Resolver<'t, 'f, 's, 'a> {
         &self,
         signature: Signature<'_>,
         arguments: Arguments<'_>,
-        pool: &mut Vec<Value>,
-    ) -> Result<SlotExpr, NoMemory>
+        pool: &mut Pool,
+    ) -> Result<SlotExpr>
         ensures { IfOk result (λ e. IsAdded (slots.invoke signature.entry.unit
             self.now.senv.escaping (called_of self.now signature.entry arguments.entry)) e pool.old
             pool.new) }
@@ -445,43 +405,23 @@ impl<'t, 'f, 's, 'a> Resolver<'t, 'f, 's, 'a> {
         })
     }
 
-    /// Resolves a call of `range`.
-    #[cycle(expressions)]
-    #[inline(never)]
-    fn resolve_range(&self, row: &[Expr], pool: &mut Vec<Value>) -> Result<SlotExpr, NoMemory>
-        ensures { IfOk result (λ e. IsAdded (slots.made
-            (slots.operator (operators.range_of (length row.now)))
-            (row_of self.now (written.exprs_view row.now) slots.none)) e pool.old pool.new) }
-    {
-        let mut operands = Held {
-            part: Vec::new(self.alloc),
-        };
-        self.resolve_row(row, &mut operands.part, pool)?;
-        Ok(SlotExpr::Made(NaryOp::Operator(range_of(row.len())), operands.into_part()))
-    }
-
     /// Resolves `loop.cycle`: the item of a list at the index of the turn, modulo its length.
     #[cycle(expressions)]
     #[inline(never)]
-    fn resolve_cycle(&self, row: &[Expr], pool: &mut Vec<Value>) -> Result<SlotExpr, NoMemory>
+    fn resolve_cycle(&self, row: &[Expr], pool: &mut Pool) -> Result<SlotExpr>
         ensures { IfOk result (λ e. IsAdded (resolve.operation_of op.Item
-            (expr_of self.now (trees.list_of (written.exprs_view row.now)))
+            (expr_of self.now (trees.list_of (exprs_view row.now)))
             (turn_in (length row.now))) e pool.old pool.new) }
     {
-        let items = self.resolve_list(row, pool)?;
+        let items = self.resolve_made(NaryOp::List, row, pool)?;
         item_in_turn(self.alloc, items, row.len(), pool)
     }
 
     /// Resolves a list of expressions and appends them.
     #[cycle(expressions)]
     #[inline(never)]
-    pub(crate) fn resolve_row(
-        &self,
-        row: &[Expr],
-        done: &mut Vec<(Option<usize>, SlotExpr)>,
-        pool: &mut Vec<Value>,
-    ) -> Result<(), NoMemory>
-        ensures { IfOk result (λ u. RowPuts (row_of self.now (written.exprs_view row.now)) done.old
+    pub(crate) fn resolve_row(&self, row: &[Expr], done: &mut Row, pool: &mut Pool) -> Result<()>
+        ensures { IfOk result (λ u. RowPuts (row_of self.now (exprs_view row.now)) done.old
             done.new pool.old pool.new) }
     {
         for expr in row {
@@ -497,10 +437,10 @@ impl<'t, 'f, 's, 'a> Resolver<'t, 'f, 's, 'a> {
     pub(crate) fn resolve_asides(
         &self,
         pairs: &[(String, Expr)],
-        done: &mut Vec<(Option<usize>, SlotExpr)>,
-        pool: &mut Vec<Value>,
-    ) -> Result<(), NoMemory>
-        ensures { IfOk result (λ u. RowPuts (asides_of self.now (written.pairs_view pairs.now))
+        done: &mut Row,
+        pool: &mut Pool,
+    ) -> Result<()>
+        ensures { IfOk result (λ u. RowPuts (asides_of self.now (pairs_view pairs.now))
             done.old done.new pool.old pool.new) }
     {
         let mut senv = self.senv;
@@ -515,12 +455,7 @@ impl<'t, 'f, 's, 'a> Resolver<'t, 'f, 's, 'a> {
 
     /// Resolves the positional arguments, then the keyword arguments.
     #[cycle(expressions)]
-    fn resolve_given(
-        &self,
-        arguments: Arguments<'_>,
-        done: &mut Vec<(Option<usize>, SlotExpr)>,
-        pool: &mut Vec<Value>,
-    ) -> Result<(), NoMemory>
+    fn resolve_given(&self, arguments: Arguments<'_>, done: &mut Row, pool: &mut Pool) -> Result<()>
         ensures { IfOk result (λ u. RowPuts (given_of self.now arguments.entry) done.old done.new
             pool.old pool.new) }
     {
@@ -534,10 +469,10 @@ impl<'t, 'f, 's, 'a> Resolver<'t, 'f, 's, 'a> {
     fn resolve_entries(
         &self,
         pairs: &[(String, Expr)],
-        done: &mut Vec<(Option<usize>, SlotExpr)>,
-        pool: &mut Vec<Value>,
-    ) -> Result<(), NoMemory>
-        ensures { IfOk result (λ u. RowAdds (entries_of self.now (written.pairs_view pairs.now))
+        done: &mut Row,
+        pool: &mut Pool,
+    ) -> Result<()>
+        ensures { IfOk result (λ u. RowAdds (entries_of self.now (pairs_view pairs.now))
             slots.none done.old done.new pool.old pool.new) }
     {
         for (key, value) in pairs {

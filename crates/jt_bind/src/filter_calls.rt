@@ -1,20 +1,21 @@
 //! Resolves the filters of a filter tag.
 
-ghost use Rattle.std.specs.Prelude.{◌≡◌, List, length, IfOk};
-ghost use Rattle.jt_value.specs.Tree.{Tree};
+ghost use Rattle.std.specs.Prelude.{◌≡◌, IfOk, List, length};
 ghost use Rattle.jt_ast.specs.StatementView.{filter_call_view, filter_calls_view};
-ghost use Rattle.jt_ir.specs.Pool.{Constant};
-ghost use Rattle.jt_ir.specs.Slots as slots;
-ghost use Rattle.jt_ir.specs.View.{slot_view, filtered_view};
 ghost use Rattle.jt_bind.specs.internal.Resolving.{filter_call_of, filter_calls_of};
-ghost use Rattle.jt_bind.specs.internal.Scoped.{values, IsPlaced};
+ghost use Rattle.jt_bind.specs.internal.Scoped.{IsPlaced, values};
+ghost use Rattle.jt_ir.specs.Pool.{Constant};
+ghost use Rattle.jt_ir.specs.View.{filtered_view, slot_view};
+ghost use Rattle.jt_value.specs.Tree.{Tree};
+ghost use Rattle.jt_ir.specs.Slots as slots;
 
+use crate::Result;
 use crate::lookup::absent;
+use crate::pool::Pool;
 use crate::resolver::{Arguments, Resolver};
 use jt_ast::FilterCall;
 use jt_eval::filter_of;
 use jt_ir::{Filtered, Slot, SlotExpr, SlotFilter};
-use jt_value::{NoMemory, Value};
 
 impl<'t, 'f, 's, 'a> Resolver<'t, 'f, 's, 'a> {
     /// Returns the value of a slot with the filters of a tag, which are applied in order.
@@ -23,12 +24,11 @@ impl<'t, 'f, 's, 'a> Resolver<'t, 'f, 's, 'a> {
         &self,
         filter_calls: &[FilterCall],
         value: Slot,
-        pool: &mut Vec<Value>,
-    ) -> Result<Filtered, NoMemory>
-        ensures { IfOk result (λ v. IsPlaced
-            (filter_calls_of self.now (filter_calls_view filter_calls.now)
-            (slots.variable (slot_view value))) (filtered_view v) (values pool.old)
-            (values pool.new)) }
+        pool: &mut Pool,
+    ) -> Result<Filtered>
+        ensures { IfOk result (λ v. IsPlaced (filter_calls_of self.now
+            (filter_calls_view filter_calls.now) (slots.variable (slot_view value)))
+            (filtered_view v) (values pool.old) (values pool.new)) }
     {
         let start = pool.len();
         let mut resolved = Filtered {
@@ -48,13 +48,12 @@ impl<'t, 'f, 's, 'a> Resolver<'t, 'f, 's, 'a> {
         filter_call: &FilterCall,
         start: usize,
         done: &mut Filtered,
-        pool: &mut Vec<Value>,
-    ) -> Result<(), NoMemory>
-        ensures { IfOk result (λ u. (c : slots.SlotExpr Constant) (p : List Tree)
-            → length p ≡ start
-            → IsPlaced c (filtered_view done.old) p (values pool.old)
-            → IsPlaced (filter_call_of self.now (filter_call_view filter_call.now) c)
-            (filtered_view done.new) p (values pool.new)) }
+        pool: &mut Pool,
+    ) -> Result<()>
+        ensures { IfOk result (λ u. (c : slots.SlotExpr Constant) (p : List Tree) → length p ≡ start
+            → IsPlaced c (filtered_view done.old) p (values pool.old) → IsPlaced
+            (filter_call_of self.now (filter_call_view filter_call.now) c) (filtered_view done.new)
+            p (values pool.new)) }
     {
         let row = filter_call.arguments.as_slice();
         let pairs = filter_call.keywords.as_slice();

@@ -3,8 +3,8 @@
 
 ghost use Rattle.std.specs.Prelude.{◌≡◌, IfOk};
 
+use crate::Result;
 use jt_ir::SlotExpr;
-use jt_value::NoMemory;
 use std::alloc::Global;
 
 /// A resolved part that is part of nothing else yet.
@@ -32,7 +32,7 @@ impl<T: Drop> Drop for Held<T> {
 
 /// Puts a resolved expression on the heap.
 #[inline(never)]
-pub(crate) fn boxed(alloc: Global, expr: SlotExpr) -> Result<Held<Box<SlotExpr>>, NoMemory>
+pub(crate) fn boxed(alloc: Global, expr: SlotExpr) -> Result<Held<Box<SlotExpr>>>
     ensures { IfOk result (λ o. o.part.value ≡ expr) }
 {
     Ok(Held {

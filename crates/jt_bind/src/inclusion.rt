@@ -1,25 +1,25 @@
 //! Resolves block tags and includes: the text of another body or chain stands at the tag.
 
-ghost use Rattle.std.specs.Prelude.{◌≡◌, ℕ, Bool, List, [], IfOk, if◌then◌else◌};
-ghost use Rattle.jt_bind.specs.internal.Chains.{Chains};
-ghost use Rattle.jt_semantics.specs.Resolve as resolve;
-ghost use Rattle.jt_semantics.specs.Layout.{slot_in};
-ghost use Rattle.jt_bind.specs.internal.Resolving.{line_of, stmt_of, table_of, templates_of};
-ghost use Rattle.jt_bind.specs.internal.Scoped.{PutsNone, globals_in, senv_in, templates_in};
-ghost use Rattle.jt_ast.specs.Statements as trees;
+ghost use Rattle.std.specs.Prelude.{if◌then◌else◌, ◌≡◌, Bool, IfOk, List, [], ℕ};
 ghost use Rattle.jt_ast.specs.StatementView.{is_ignored, passes_context};
 ghost use Rattle.jt_ast.specs.Texts.{texts};
-ghost use Rattle.jt_value.specs.Tree.{Tree};
+ghost use Rattle.jt_bind.specs.internal.Chains.{Chains};
+ghost use Rattle.jt_bind.specs.internal.Resolving.{line_of, stmt_of, table_of, templates_of};
+ghost use Rattle.jt_bind.specs.internal.Scoped.{PutsNone, globals_in, senv_in, templates_in};
 ghost use Rattle.jt_bind.specs.internal.Stated.{Emits};
+ghost use Rattle.jt_semantics.specs.Layout.{slot_in};
+ghost use Rattle.jt_value.specs.Tree.{Tree};
+ghost use Rattle.jt_semantics.specs.Resolve as resolve;
+ghost use Rattle.jt_ast.specs.Statements as trees;
 
-use crate::emission::{put_assign, put_print, put_run};
+use crate::Result;
+use crate::emission::{SlotBody, put_assign, put_print, put_run};
 use crate::lookup::{absent, no_value, reading};
 use crate::resolver::Resolver;
 use crate::senv::StaticEnv;
 use jt_ast::{IncludeContext, Missing};
-use jt_ir::{Slot, SlotExpr, SlotStmt, Targets};
+use jt_ir::{Slot, SlotExpr, Targets};
 use jt_layout::{NamespaceLayout, checked_sum};
-use jt_value::NoMemory;
 
 /// Emits an include of a name without a source: nothing if it may be missing, or else a print of an
 /// absent value.
@@ -27,8 +27,8 @@ fn put_missing(
     senv: &StaticEnv<'_, '_>,
     line: u32,
     ignore_missing: bool,
-    done: &mut Vec<SlotStmt>,
-) -> Result<(), NoMemory>
+    done: &mut SlotBody,
+) -> Result<()>
     ensures { IfOk result (λ u. (s : Chains) (p : List Tree)
         → Emits (templates_in s) (resolve.left_out (senv_in s senv.now) line ignore_missing)
         done.old.items done.new.items p p) }
@@ -69,8 +69,8 @@ impl<'t, 'f, 's, 'a> Resolver<'t, 'f, 's, 'a> {
         line: u32,
         with_context: bool,
         there: &NamespaceLayout<'_, '_>,
-        done: &mut Vec<SlotStmt>,
-    ) -> Result<(), NoMemory>
+        done: &mut SlotBody,
+    ) -> Result<()>
         ensures { IfOk result (λ u. (p : List Tree)
             → Emits (templates_of self.now) (resolve.handed_on (line_of self.now line)
             (if with_context then table_of self.now else []) there.now.first_slot
@@ -99,8 +99,8 @@ impl<'t, 'f, 's, 'a> Resolver<'t, 'f, 's, 'a> {
         name: &str,
         missing: Missing,
         names: IncludeContext,
-        done: &mut Vec<SlotStmt>,
-    ) -> Result<(), NoMemory>
+        done: &mut SlotBody,
+    ) -> Result<()>
         ensures { IfOk result (λ u. (p : List Tree)
             → Emits (templates_of self.now) (stmt_of self.now (trees.include line name.now
             (is_ignored missing) (passes_context names))) done.old.items done.new.items p p) }
@@ -118,16 +118,10 @@ impl<'t, 'f, 's, 'a> Resolver<'t, 'f, 's, 'a> {
 
     /// Emits a block at its tag. A block without a body prints an absent value.
     #[inline(never)]
-    pub(crate) fn put_block(
-        &self,
-        name: &str,
-        scoped: bool,
-        done: &mut Vec<SlotStmt>,
-    ) -> Result<(), NoMemory>
+    pub(crate) fn put_block(&self, name: &str, scoped: bool, done: &mut SlotBody) -> Result<()>
         ensures { IfOk result (λ u. (line : ℕ) (required : Bool) (body : trees.Body) (p : List Tree)
-            → Emits (templates_of self.now)
-            (stmt_of self.now (trees.block line name.now scoped required body)) done.old.items
-            done.new.items p p) }
+            → Emits (templates_of self.now) (stmt_of self.now (trees.block line name.now scoped
+            required body)) done.old.items done.new.items p p) }
     {
         let Some(unit) = self.tables.first_body(name)? else {
             return put_print(&self.senv, 1, absent(), done);

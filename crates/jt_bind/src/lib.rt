@@ -36,3 +36,6 @@ mod targets;
 
 pub use jt_value::NoMemory;
 pub use resolving::resolved;
+
+/// The result of a resolution, which fails only if a growth is refused or a number overflows.
+pub(crate) type Result<T> = std::result::Result<T, NoMemory>;

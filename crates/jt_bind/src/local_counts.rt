@@ -1,17 +1,17 @@
 //! Counts the locals that resolved statements use: one more than the last one that is stored or
 //! loaded.
 
-ghost use Rattle.std.specs.Prelude.{◌≡◌, ℕ, List, max, option_map, map, IfOk};
+ghost use Rattle.std.specs.Prelude.{◌≡◌, IfOk, List, map, max, option_map, ℕ};
 ghost use Rattle.jt_ast.specs.Expressions.{Text};
+ghost use Rattle.jt_ir.specs.View.{body_view, expr_view, filtered_view, row_view, slot_view};
+ghost use Rattle.jt_ir.specs.View.{stmt_view, targets_view};
 ghost use Rattle.jt_bind.specs.internal.Counts as counts;
 ghost use Rattle.jt_ir.specs.Locals as locals;
 ghost use Rattle.jt_ir.specs.Slots as slots;
-ghost use Rattle.jt_ir.specs.View.{slot_view, targets_view, expr_view, row_view, stmt_view};
-ghost use Rattle.jt_ir.specs.View.{body_view, filtered_view};
 
+use crate::Result;
 use jt_ir::{Filtered, Slot, SlotBranch, SlotExpr, SlotStmt, Targets};
 use jt_layout::checked_sum;
-use jt_value::NoMemory;
 
 /// Returns the greater of two numbers.
 pub(crate) fn larger(left: usize, right: usize) -> usize
@@ -21,7 +21,7 @@ pub(crate) fn larger(left: usize, right: usize) -> usize
 }
 
 /// Counts the locals of a slot.
-fn slot_locals(slot: Slot) -> Result<usize, NoMemory>
+fn slot_locals(slot: Slot) -> Result<usize>
     ensures { IfOk result (λ n. n ≡ locals.slot_locals (slot_view slot)) }
 {
     match slot {
@@ -31,7 +31,7 @@ fn slot_locals(slot: Slot) -> Result<usize, NoMemory>
 }
 
 /// Counts the locals of a slot, if there is one.
-fn target_locals(slot: Option<Slot>) -> Result<usize, NoMemory>
+fn target_locals(slot: Option<Slot>) -> Result<usize>
     ensures { IfOk result (λ n. n ≡ counts.target_locals (option_map slot_view slot)) }
 {
     match slot {
@@ -41,7 +41,7 @@ fn target_locals(slot: Option<Slot>) -> Result<usize, NoMemory>
 }
 
 /// Counts the locals of an argument that may be kept aside in a local.
-fn aside_locals(kept: Option<usize>) -> Result<usize, NoMemory>
+fn aside_locals(kept: Option<usize>) -> Result<usize>
     ensures { IfOk result (λ n. n ≡ counts.aside_locals kept) }
 {
     match kept {
@@ -51,9 +51,8 @@ fn aside_locals(kept: Option<usize>) -> Result<usize, NoMemory>
 }
 
 /// Counts the locals of slots.
-fn slots_locals(slots: &[Option<Slot>]) -> Result<usize, NoMemory>
-    ensures { IfOk result
-        (λ n. n ≡ locals.slots_locals (map (option_map slot_view) slots.now)) }
+fn slots_locals(slots: &[Option<Slot>]) -> Result<usize>
+    ensures { IfOk result (λ n. n ≡ locals.slots_locals (map (option_map slot_view) slots.now)) }
 {
     let mut most = 0;
     for slot in slots {
@@ -63,7 +62,7 @@ fn slots_locals(slots: &[Option<Slot>]) -> Result<usize, NoMemory>
 }
 
 /// Counts the locals of targets.
-fn targets_locals(targets: &Targets) -> Result<usize, NoMemory>
+fn targets_locals(targets: &Targets) -> Result<usize>
     ensures { IfOk result (λ n. n ≡ locals.targets_locals (targets_view targets.now)) }
 {
     match targets {
@@ -74,7 +73,7 @@ fn targets_locals(targets: &Targets) -> Result<usize, NoMemory>
 
 /// Counts the locals of an expression.
 #[cycle(expressions)]
-fn expr_locals(expr: &SlotExpr) -> Result<usize, NoMemory>
+fn expr_locals(expr: &SlotExpr) -> Result<usize>
     ensures { IfOk result (λ n. n ≡ locals.expr_locals (expr_view expr.now)) }
 {
     match expr {
@@ -106,7 +105,7 @@ fn expr_locals(expr: &SlotExpr) -> Result<usize, NoMemory>
 
 /// Counts the locals of a list of expressions.
 #[cycle(expressions)]
-fn row_locals(row: &[(Option<usize>, SlotExpr)]) -> Result<usize, NoMemory>
+fn row_locals(row: &[(Option<usize>, SlotExpr)]) -> Result<usize>
     ensures { IfOk result (λ n. n ≡ locals.row_locals (row_view row.now slots.none)) }
 {
     let mut most = 0;
@@ -118,7 +117,7 @@ fn row_locals(row: &[(Option<usize>, SlotExpr)]) -> Result<usize, NoMemory>
 }
 
 /// Counts the locals of a value and of the filters after it.
-fn filtered_locals(filtered: &Filtered) -> Result<usize, NoMemory>
+fn filtered_locals(filtered: &Filtered) -> Result<usize>
     ensures { IfOk result (λ n. n ≡ locals.expr_locals (filtered_view filtered.now)) }
 {
     let mut most = expr_locals(&filtered.value)?;
@@ -129,9 +128,8 @@ fn filtered_locals(filtered: &Filtered) -> Result<usize, NoMemory>
 }
 
 /// Counts the locals of a condition, if there is one.
-fn condition_locals(condition: &Option<SlotExpr>) -> Result<usize, NoMemory>
-    ensures { IfOk result
-        (λ n. n ≡ locals.condition_locals (option_map expr_view condition.now)) }
+fn condition_locals(condition: &Option<SlotExpr>) -> Result<usize>
+    ensures { IfOk result (λ n. n ≡ locals.condition_locals (option_map expr_view condition.now)) }
 {
     match condition {
         Some(condition) => expr_locals(condition),
@@ -141,7 +139,7 @@ fn condition_locals(condition: &Option<SlotExpr>) -> Result<usize, NoMemory>
 
 /// Counts the locals of the branches of an `if`.
 #[cycle(statements)]
-fn branches_locals(branches: &[SlotBranch<SlotStmt>]) -> Result<usize, NoMemory>
+fn branches_locals(branches: &[SlotBranch<SlotStmt>]) -> Result<usize>
     ensures { IfOk result
         (λ n. (templates : List Text) → n ≡ counts.branches_locals templates branches.now) }
 {
@@ -155,7 +153,7 @@ fn branches_locals(branches: &[SlotBranch<SlotStmt>]) -> Result<usize, NoMemory>
 
 /// Counts the locals of a statement.
 #[cycle(statements)]
-fn stmt_locals(statement: &SlotStmt) -> Result<usize, NoMemory>
+fn stmt_locals(statement: &SlotStmt) -> Result<usize>
     ensures { IfOk result (λ n. (templates : List Text) (behind : slots.SBody ℕ)
         → locals.body_locals (stmt_view templates statement.now behind)
         ≡ max n (locals.body_locals behind)) }
@@ -203,7 +201,7 @@ fn stmt_locals(statement: &SlotStmt) -> Result<usize, NoMemory>
 
 /// Counts the locals of statements.
 #[cycle(statements)]
-pub(crate) fn body_locals(body: &[SlotStmt]) -> Result<usize, NoMemory>
+pub(crate) fn body_locals(body: &[SlotStmt]) -> Result<usize>
     ensures { IfOk result (λ n. (templates : List Text) (behind : slots.SBody ℕ)
         → locals.body_locals (body_view templates body.now behind)
         ≡ max n (locals.body_locals behind)) }

@@ -1,22 +1,22 @@
 //! Looks up the slots of names and builds reads of them.
 
-ghost use Rattle.std.specs.Prelude.{◌≡◌, option_map, IfOk};
-ghost use Rattle.jt_ast.specs.ExpressionView as written;
-ghost use Rattle.jt_semantics.specs.Layout.{slot_in};
-ghost use Rattle.jt_semantics.specs.Resolve as resolve;
-ghost use Rattle.jt_ir.specs.Pool.{known};
-ghost use Rattle.jt_ir.specs.Slots as slots;
-ghost use Rattle.jt_ir.specs.View.{slot_view};
+ghost use Rattle.std.specs.Prelude.{◌≡◌, IfOk, option_map};
+ghost use Rattle.jt_ast.specs.ExpressionView.{pairs_view};
 ghost use Rattle.jt_bind.specs.internal.Resolving.{kept_of, table_of};
 ghost use Rattle.jt_bind.specs.internal.Scoped.{PutsNone, globals_in};
+ghost use Rattle.jt_ir.specs.Pool.{known};
+ghost use Rattle.jt_ir.specs.View.{slot_view};
+ghost use Rattle.jt_semantics.specs.Layout.{slot_in};
+ghost use Rattle.jt_semantics.specs.Resolve as resolve;
+ghost use Rattle.jt_ir.specs.Slots as slots;
 
+use crate::Result;
 use crate::resolver::Resolver;
 use crate::tables::Tables;
 use jt_ast::Expr;
 use jt_ids::LoopField;
 use jt_ir::{Slot, SlotExpr};
 use jt_layout::checked_sum;
-use jt_value::NoMemory;
 
 /// Returns a read of the slot, or of the pool index `index` if there is no slot.
 pub(crate) fn value_or(slot: Option<Slot>, index: usize) -> SlotExpr
@@ -89,13 +89,9 @@ impl<'t, 'f, 's, 'a> Resolver<'t, 'f, 's, 'a> {
     }
 
     /// Returns the local that holds the keyword argument of the name, if there is one.
-    pub(crate) fn kept(
-        &self,
-        pairs: &[(String, Expr)],
-        name: &str,
-    ) -> Result<Option<Slot>, NoMemory>
+    pub(crate) fn kept(&self, pairs: &[(String, Expr)], name: &str) -> Result<Option<Slot>>
         ensures { IfOk result (λ s. option_map slot_view s
-            ≡ slot_in name.now (kept_of self.now (written.pairs_view pairs.now))) }
+            ≡ slot_in name.now (kept_of self.now (pairs_view pairs.now))) }
     {
         let mut local = self.senv.free;
         for (key, _) in pairs {

@@ -2,13 +2,13 @@
 
 ghost use Rattle.std.specs.Prelude.{◌≡◌, IfOk, None};
 ghost use Rattle.jt_ast.specs.Expressions.{Text};
-ghost use Rattle.jt_names.specs.Names.{value_in};
 ghost use Rattle.jt_ast.specs.Texts.{texts};
 ghost use Rattle.jt_bind.specs.internal.Names.{last_among};
+ghost use Rattle.jt_names.specs.Names.{value_in};
 
+use crate::Result;
 use jt_layout::checked_sum;
 use jt_names::NameIndex;
-use jt_value::NoMemory;
 use std::alloc::Global;
 
 /// Names in consecutive locals, from `first` on. The last occurrence of a repeated name counts.
@@ -23,7 +23,7 @@ pub(crate) struct NameScope<'a> {
 
 impl<'a> NameScope<'a> {
     /// Creates the scope of the names, in locals from `first` on.
-    pub(crate) fn new(alloc: Global, names: Vec<&'a str>, first: usize) -> Result<Self, NoMemory>
+    pub(crate) fn new(alloc: Global, names: Vec<&'a str>, first: usize) -> Result<Self>
         ensures named { IfOk result (λ f. texts f.names.items ≡ texts names.entry.items) }
         ensures first { IfOk result (λ f. f.first ≡ first) }
     {

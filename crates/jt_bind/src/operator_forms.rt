@@ -1,23 +1,24 @@
 //! Resolves the operators of the language to operations.
 
 ghost use Rattle.std.specs.Prelude.{◌≡◌, IfOk, List};
-ghost use Rattle.jt_value.specs.Tree.{Tree};
-ghost use Rattle.jt_value.specs.View.{view};
 ghost use Rattle.jt_ast.specs.ExpressionView.{literal_view};
 ghost use Rattle.jt_ast.specs.StatementView.{parameter_view};
+ghost use Rattle.jt_bind.specs.internal.Formed.{IsNumber, form_view};
+ghost use Rattle.jt_bind.specs.internal.Scoped.{IsAdded, IsShown, MadeOfOne, MadeOfTwo, turn_in};
+ghost use Rattle.jt_bind.specs.internal.Scoped.{values};
 ghost use Rattle.jt_eval.specs.Filters.{default_value};
+ghost use Rattle.jt_eval.specs.Values.{literal};
+ghost use Rattle.jt_ir.specs.Pool.{Constant};
+ghost use Rattle.jt_value.specs.Tree.{Tree};
+ghost use Rattle.jt_value.specs.View.{view};
 ghost use Rattle.jt_semantics.specs.Operators as operators;
 ghost use Rattle.jt_semantics.specs.Resolve as resolve;
-ghost use Rattle.jt_ir.specs.Pool.{Constant};
 ghost use Rattle.jt_ir.specs.Slots as slots;
-ghost use Rattle.jt_eval.specs.Values.{literal};
-ghost use Rattle.jt_bind.specs.internal.Formed.{form_view, IsNumber};
-ghost use Rattle.jt_bind.specs.internal.Scoped.{values, IsShown, IsAdded, MadeOfOne, MadeOfTwo};
-ghost use Rattle.jt_bind.specs.internal.Scoped.{turn_in};
 ghost use Rattle.jt_ids.specs.declared.op_id.OpId.TheVariants as op;
 
+use crate::Result;
 use crate::held::Held;
-use crate::pool::add_value;
+use crate::pool::{Pool, add_value};
 use jt_ast::{BinaryOperator, Literal, Parameter, UnaryOperator};
 use jt_ids::{LoopField, OpId};
 use jt_ir::{NaryOp, SlotExpr};
@@ -39,7 +40,7 @@ pub(crate) enum OperatorForm {
 
 /// Returns the value of a literal.
 #[inline(never)]
-pub(crate) fn literal_value(alloc: Global, constant: &Literal) -> Result<Value, NoMemory>
+pub(crate) fn literal_value(alloc: Global, constant: &Literal) -> Result<Value>
     ensures { IfOk result (λ v. view v ≡ literal (literal_view constant.now)) }
 {
     match constant {
@@ -51,9 +52,8 @@ pub(crate) fn literal_value(alloc: Global, constant: &Literal) -> Result<Value, 
 }
 
 /// Returns the default of a parameter, or undefined if it has none.
-pub(crate) fn default_of(alloc: Global, parameter: &Parameter) -> Result<Value, NoMemory>
-    ensures { IfOk result
-        (λ v. view v ≡ default_value (parameter_view parameter.now).default) }
+pub(crate) fn default_of(alloc: Global, parameter: &Parameter) -> Result<Value>
+    ensures { IfOk result (λ v. view v ≡ default_value (parameter_view parameter.now).default) }
 {
     match &parameter.default {
         Some(literal) => literal_value(alloc, literal),
@@ -121,7 +121,7 @@ fn join(escaping: bool) -> OpId
 
 /// Returns the expression that applies `op` to `operand`.
 #[inline(never)]
-pub(crate) fn on_one(alloc: Global, op: OpId, operand: SlotExpr) -> Result<SlotExpr, NoMemory>
+pub(crate) fn on_one(alloc: Global, op: OpId, operand: SlotExpr) -> Result<SlotExpr>
     ensures { IfOk result (MadeOfOne (λ a. slots.made (slots.operator op)
         (slots.item a slots.none)) operand) }
 {
@@ -132,12 +132,7 @@ pub(crate) fn on_one(alloc: Global, op: OpId, operand: SlotExpr) -> Result<SlotE
 
 /// Returns the expression that applies `op` to `left` and `right`.
 #[inline(never)]
-pub(crate) fn on_two(
-    alloc: Global,
-    op: OpId,
-    left: SlotExpr,
-    right: SlotExpr,
-) -> Result<SlotExpr, NoMemory>
+pub(crate) fn on_two(alloc: Global, op: OpId, left: SlotExpr, right: SlotExpr) -> Result<SlotExpr>
     ensures { IfOk result (MadeOfTwo (resolve.operation_of op) left right) }
 {
     let mut row = Vec::new(alloc);
@@ -148,7 +143,7 @@ pub(crate) fn on_two(
 
 /// Returns the expression, negated if `negated` holds.
 #[inline(never)]
-pub(crate) fn turned(alloc: Global, negated: bool, inside: SlotExpr) -> Result<SlotExpr, NoMemory>
+pub(crate) fn turned(alloc: Global, negated: bool, inside: SlotExpr) -> Result<SlotExpr>
     ensures { IfOk result (MadeOfOne (resolve.turned_round negated) inside) }
 {
     if negated {
@@ -178,11 +173,9 @@ pub(crate) fn chosen(
     value: Held<Box<SlotExpr>>,
     other: Held<Box<SlotExpr>>,
 ) -> SlotExpr
-    ensures { (c a b : slots.SlotExpr Constant) (p q r s : List Tree)
-        → IsShown c condition.part.value p q
-        → IsShown a value.part.value q r
-        → IsShown b other.part.value r s
-        → IsShown (slots.choice c a b) result p s }
+    ensures { (c a b : slots.SlotExpr Constant) (p q r s : List Tree) → IsShown c
+        condition.part.value p q → IsShown a value.part.value q r → IsShown b other.part.value r s →
+        IsShown (slots.choice c a b) result p s }
 {
     SlotExpr::Choice {
         condition: condition.into_part(),
@@ -193,7 +186,7 @@ pub(crate) fn chosen(
 
 /// Returns the expression for the index of a loop's turn modulo `count`.
 #[inline(never)]
-fn turn_among(alloc: Global, count: usize, pool: &mut Vec<Value>) -> Result<SlotExpr, NoMemory>
+fn turn_among(alloc: Global, count: usize, pool: &mut Pool) -> Result<SlotExpr>
     ensures { IfOk result (λ e. IsAdded (turn_in count) e pool.old pool.new) }
 {
     let number = number_of(count)?;
@@ -212,8 +205,8 @@ pub(crate) fn item_in_turn(
     alloc: Global,
     items: SlotExpr,
     count: usize,
-    pool: &mut Vec<Value>,
-) -> Result<SlotExpr, NoMemory>
+    pool: &mut Pool,
+) -> Result<SlotExpr>
     ensures { IfOk result (λ e. (a : slots.SlotExpr Constant) (p : List Tree)
         → IsShown a items p (values pool.old)
         → IsShown (resolve.operation_of op.Item a (turn_in count)) e p (values pool.new)) }
@@ -223,7 +216,7 @@ pub(crate) fn item_in_turn(
 }
 
 /// Returns a count as a value.
-fn number_of(count: usize) -> Result<Value, NoMemory>
+fn number_of(count: usize) -> Result<Value>
     ensures { IsNumber count result }
 {
     match i64::try_from(count) {

@@ -1,19 +1,23 @@
 //! Appends values to the pool.
 
 ghost use Rattle.std.specs.Prelude.{IfOk};
-ghost use Rattle.jt_value.specs.Tree as tree;
-ghost use Rattle.jt_value.specs.View.{view};
-ghost use Rattle.jt_ir.specs.Pool.{own};
-ghost use Rattle.jt_ir.specs.Slots as slots;
 ghost use Rattle.jt_bind.specs.internal.Scoped.{IsAdded};
+ghost use Rattle.jt_ir.specs.Pool.{own};
+ghost use Rattle.jt_value.specs.View.{view};
+ghost use Rattle.jt_value.specs.Tree as tree;
+ghost use Rattle.jt_ir.specs.Slots as slots;
 
+use crate::Result;
 use jt_ir::SlotExpr;
-use jt_value::{NoMemory, Value};
+use jt_value::Value;
 use std::alloc::Global;
+
+/// The values of a program.
+pub(crate) type Pool = Vec<Value>;
 
 /// Appends a value to the pool and returns the expression that reads it.
 #[inline(never)]
-pub(crate) fn add_value(pool: &mut Vec<Value>, value: Value) -> Result<SlotExpr, NoMemory>
+pub(crate) fn add_value(pool: &mut Pool, value: Value) -> Result<SlotExpr>
     ensures { IfOk result (λ e. IsAdded (slots.pooled (own (view value))) e pool.old pool.new) }
 {
     let index = pool.len();
@@ -23,11 +27,7 @@ pub(crate) fn add_value(pool: &mut Vec<Value>, value: Value) -> Result<SlotExpr,
 
 /// Appends a text to the pool and returns the expression that reads it.
 #[inline(never)]
-pub(crate) fn add_text(
-    alloc: Global,
-    text: &str,
-    pool: &mut Vec<Value>,
-) -> Result<SlotExpr, NoMemory>
+pub(crate) fn add_text(alloc: Global, text: &str, pool: &mut Pool) -> Result<SlotExpr>
     ensures { IfOk result
         (λ e. IsAdded (slots.pooled (own (tree.text text.now))) e pool.old pool.new) }
 {

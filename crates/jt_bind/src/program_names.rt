@@ -1,21 +1,21 @@
 //! Collects the names of a program and counts its globals.
 
-ghost use Rattle.std.specs.Prelude.{◌≡◌, map, IfOk, string_bytes};
-ghost use Rattle.jt_chains.specs.TemplateFiles.{files_view};
+ghost use Rattle.std.specs.Prelude.{◌≡◌, IfOk, map, string_bytes};
+ghost use Rattle.jt_ast.specs.Texts.{texts};
+ghost use Rattle.jt_bind.specs.internal.Scoped.{cenv_in, order_in};
 ghost use Rattle.jt_chains.specs.Indices.{namespace_at};
+ghost use Rattle.jt_chains.specs.TemplateFiles.{files_view};
 ghost use Rattle.jt_semantics.specs.Layout as layout;
 ghost use Rattle.jt_semantics.specs.Programs as programs;
-ghost use Rattle.jt_bind.specs.internal.Scoped.{cenv_in, order_in};
-ghost use Rattle.jt_ast.specs.Texts.{texts};
 
+use crate::Result;
 use crate::tables::Tables;
 use jt_chains::TemplateFile;
 use jt_layout::checked_sum;
-use jt_value::NoMemory;
 use std::alloc::Global;
 
 /// Copies names to owned strings.
-fn strings_of(alloc: Global, names: &[&str]) -> Result<Vec<String>, NoMemory>
+fn strings_of(alloc: Global, names: &[&str]) -> Result<Vec<String>>
     ensures { IfOk result (λ ss. map string_bytes ss.items ≡ texts names.now) }
 {
     let mut strings = Vec::with_capacity(alloc, names.len())?;
@@ -26,7 +26,7 @@ fn strings_of(alloc: Global, names: &[&str]) -> Result<Vec<String>, NoMemory>
 }
 
 /// Returns the names of templates.
-pub(crate) fn template_names(alloc: Global, files: &[TemplateFile]) -> Result<Vec<String>, NoMemory>
+pub(crate) fn template_names(alloc: Global, files: &[TemplateFile]) -> Result<Vec<String>>
     ensures { IfOk result
         (λ ss. map string_bytes ss.items ≡ map (λ t. t.name) (files_view files.now)) }
 {
@@ -38,7 +38,7 @@ pub(crate) fn template_names(alloc: Global, files: &[TemplateFile]) -> Result<Ve
 }
 
 /// Returns the names of the entry's chain, in the order of their slots.
-pub(crate) fn entry_names(alloc: Global, tables: &Tables<'_, '_>) -> Result<Vec<String>, NoMemory>
+pub(crate) fn entry_names(alloc: Global, tables: &Tables<'_, '_>) -> Result<Vec<String>>
     ensures { IfOk result (λ ss. map string_bytes ss.items ≡ layout.names (cenv_in tables.now)
         (order_in tables.now) (namespace_at (order_in tables.now) 0)) }
 {
@@ -47,7 +47,7 @@ pub(crate) fn entry_names(alloc: Global, tables: &Tables<'_, '_>) -> Result<Vec<
 }
 
 /// Returns the number of globals of the chains.
-pub(crate) fn count_globals(tables: &Tables<'_, '_>) -> Result<usize, NoMemory>
+pub(crate) fn count_globals(tables: &Tables<'_, '_>) -> Result<usize>
     ensures { IfOk result (λ n. n ≡ programs.count_globals (cenv_in tables.now)
         (order_in tables.now) (order_in tables.now)) }
 {

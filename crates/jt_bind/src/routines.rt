@@ -2,27 +2,29 @@
 //! its blocks.
 
 ghost use Rattle.std.specs.Prelude.{◌≡◌, IfOk};
-ghost use Rattle.jt_chains.specs.Chain.{a_chain};
-ghost use Rattle.jt_semantics.specs.Resolve as resolve;
-ghost use Rattle.jt_bind.specs.internal.Resolving.{sets_of, routine_of, layer_of, templates_of};
-ghost use Rattle.jt_bind.specs.internal.Scoped.{values, cenv_in, order_in, namespace_in};
-ghost use Rattle.jt_bind.specs.internal.Scoped.{senv_in, top_in, templates_in};
 ghost use Rattle.jt_ast.specs.Expressions.{Text};
 ghost use Rattle.jt_ast.specs.StatementView.{body_view};
 ghost use Rattle.jt_ast.specs.Texts.{texts};
-ghost use Rattle.jt_bind.specs.internal.Routines.{RoutineIs, AreRoutines, entry_in, macros_in};
-ghost use Rattle.jt_bind.specs.internal.Routines.{blocks_in, routines_in};
+ghost use Rattle.jt_bind.specs.internal.Resolving.{Puts, layer_of, routine_of, sets_of};
+ghost use Rattle.jt_bind.specs.internal.Routines.{AreRoutines, RoutineIs, blocks_in, entry_in};
+ghost use Rattle.jt_bind.specs.internal.Routines.{macros_in, routines_in};
+ghost use Rattle.jt_bind.specs.internal.Scoped.{cenv_in, namespace_in, order_in, senv_in};
+ghost use Rattle.jt_bind.specs.internal.Scoped.{templates_in, top_in, values};
 ghost use Rattle.jt_bind.specs.internal.Stated.{Emits, layers_in};
+ghost use Rattle.jt_chains.specs.Chain.{a_chain};
+ghost use Rattle.jt_semantics.specs.Resolve as resolve;
 
+use crate::Result;
+use crate::emission::SlotBody;
 use crate::local_counts::{body_locals, larger};
+use crate::pool::Pool;
 use crate::resolver::Resolver;
 use crate::senv::StaticEnv;
 use crate::tables::Tables;
 use jt_ast::Stmt;
 use jt_chains::Layer;
-use jt_ir::{Routine, SlotStmt};
+use jt_ir::Routine;
 use jt_names::parameter_names;
-use jt_value::{NoMemory, Value};
 use std::alloc::Global;
 
 /// Returns the environment at the top of a template, where names are globals.
@@ -44,11 +46,10 @@ impl<'t, 'f, 's, 'a> Resolver<'t, 'f, 's, 'a> {
         &self,
         body: &'a [Stmt],
         parameters: Vec<&'a str>,
-        pool: &mut Vec<Value>,
-    ) -> Result<Routine, NoMemory>
-        ensures { IfOk result (λ r. RoutineIs self.now.tables.now
-            (routine_of self.now (texts parameters.entry.items) (body_view body.now)) r
-            pool.old pool.new) }
+        pool: &mut Pool,
+    ) -> Result<Routine>
+        ensures { IfOk result (λ r. RoutineIs self.now.tables.now (routine_of self.now
+            (texts parameters.entry.items) (body_view body.now)) r pool.old pool.new) }
     {
         let count = parameters.len();
         let mut done = Vec::new(self.alloc);
@@ -62,15 +63,9 @@ impl<'t, 'f, 's, 'a> Resolver<'t, 'f, 's, 'a> {
     }
 
     /// Resolves the statements that set names, and appends them.
-    fn resolve_sets(
-        &self,
-        body: &'a [Stmt],
-        done: &mut Vec<SlotStmt>,
-        pool: &mut Vec<Value>,
-    ) -> Result<(), NoMemory>
-        ensures { IfOk result (λ u. Emits (templates_of self.now)
-            (sets_of self.now (body_view body.now)) done.old.items done.new.items
-            (values pool.old) (values pool.new)) }
+    fn resolve_sets(&self, body: &'a [Stmt], done: &mut SlotBody, pool: &mut Pool) -> Result<()>
+        ensures { IfOk result (λ _. Puts self.now (sets_of self.now (body_view body.now)) done.old
+            done.new pool.old pool.new) }
     {
         for statement in body {
             self.resolve_if_set(statement, done, pool)?;
@@ -84,12 +79,11 @@ impl<'t, 'f, 's, 'a> Resolver<'t, 'f, 's, 'a> {
         &self,
         body: &'a [Stmt],
         is_root: bool,
-        done: &mut Vec<SlotStmt>,
-        pool: &mut Vec<Value>,
-    ) -> Result<(), NoMemory>
-        ensures { IfOk result (λ u. Emits (templates_of self.now)
-            (layer_of self.now (body_view body.now) is_root) done.old.items done.new.items
-            (values pool.old) (values pool.new)) }
+        done: &mut SlotBody,
+        pool: &mut Pool,
+    ) -> Result<()>
+        ensures { IfOk result (λ _. Puts self.now (layer_of self.now (body_view body.now) is_root)
+            done.old done.new pool.old pool.new) }
     {
         if is_root {
             return self.resolve_body(body, done, pool);
@@ -103,12 +97,11 @@ fn resolve_layers<'a>(
     alloc: Global,
     tables: &Tables<'_, 'a>,
     layers: &[Layer<'a>],
-    done: &mut Vec<SlotStmt>,
-    pool: &mut Vec<Value>,
-) -> Result<(), NoMemory>
-    ensures { IfOk result (λ u. Emits (templates_in tables.now)
-        (layers_in tables.now layers.now) done.old.items done.new.items (values pool.old)
-        (values pool.new)) }
+    done: &mut SlotBody,
+    pool: &mut Pool,
+) -> Result<()>
+    ensures { IfOk result (λ u. Emits (templates_in tables.now) (layers_in tables.now layers.now)
+        done.old.items done.new.items (values pool.old) (values pool.new)) }
 {
     for (index, layer) in layers.iter().enumerate() {
         let is_root = index + 1 == layers.len();
@@ -123,15 +116,10 @@ fn resolve_layers<'a>(
 }
 
 /// Resolves the routine of a chain, without its macros and blocks.
-fn resolve_chain<'a>(
-    alloc: Global,
-    tables: &Tables<'_, 'a>,
-    pool: &mut Vec<Value>,
-) -> Result<Routine, NoMemory>
-    ensures { IfOk result (λ r. (n : Text)
-        → namespace_in tables.now ≡ a_chain n
-        → RoutineIs tables.now (resolve.chain_routine (cenv_in tables.now) (order_in tables.now) n)
-        r pool.old pool.new) }
+fn resolve_chain<'a>(alloc: Global, tables: &Tables<'_, 'a>, pool: &mut Pool) -> Result<Routine>
+    ensures { IfOk result (λ r. (n : Text) → namespace_in tables.now ≡ a_chain n → RoutineIs
+        tables.now (resolve.chain_routine (cenv_in tables.now) (order_in tables.now) n) r pool.old
+        pool.new) }
 {
     tables.stands();
     let layers = tables.chain().layers(alloc, tables.namespace())?;
@@ -150,8 +138,8 @@ fn resolve_entry<'a>(
     alloc: Global,
     tables: &Tables<'_, 'a>,
     routines: &mut Vec<Routine>,
-    pool: &mut Vec<Value>,
-) -> Result<(), NoMemory>
+    pool: &mut Pool,
+) -> Result<()>
     ensures { IfOk result (λ u. AreRoutines (templates_in tables.now) (entry_in tables.now)
         routines.old.items routines.new.items (values pool.old) (values pool.new)) }
 {
@@ -168,8 +156,8 @@ fn resolve_macros<'a>(
     alloc: Global,
     tables: &Tables<'_, 'a>,
     routines: &mut Vec<Routine>,
-    pool: &mut Vec<Value>,
-) -> Result<(), NoMemory>
+    pool: &mut Pool,
+) -> Result<()>
     ensures { IfOk result (λ u. AreRoutines (templates_in tables.now) (macros_in tables.now)
         routines.old.items routines.new.items (values pool.old) (values pool.new)) }
 {
@@ -191,8 +179,8 @@ fn resolve_blocks<'a>(
     alloc: Global,
     tables: &Tables<'_, 'a>,
     routines: &mut Vec<Routine>,
-    pool: &mut Vec<Value>,
-) -> Result<(), NoMemory>
+    pool: &mut Pool,
+) -> Result<()>
     ensures { IfOk result (λ u. AreRoutines (templates_in tables.now) (blocks_in tables.now)
         routines.old.items routines.new.items (values pool.old) (values pool.new)) }
 {
@@ -220,8 +208,8 @@ pub(crate) fn resolve_namespace<'a>(
     alloc: Global,
     tables: &Tables<'_, 'a>,
     routines: &mut Vec<Routine>,
-    pool: &mut Vec<Value>,
-) -> Result<(), NoMemory>
+    pool: &mut Pool,
+) -> Result<()>
     ensures { IfOk result (λ u. AreRoutines (templates_in tables.now) (routines_in tables.now)
         routines.old.items routines.new.items (values pool.old) (values pool.new)) }
 {

@@ -1,21 +1,24 @@
 //! Builds lists of resolved expressions.
 
-ghost use Rattle.std.specs.Prelude.{◌≡◌, List, [], ◌∷◌, ◌++◌, length, IfOk};
+ghost use Rattle.std.specs.Prelude.{◌++◌, ◌∷◌, ◌≡◌, IfOk, List, [], length};
 ghost use Rattle.jt_ast.specs.Expressions.{Text};
 ghost use Rattle.jt_ast.specs.Texts.{texts};
-ghost use Rattle.jt_semantics.specs.Resolve as resolve;
 ghost use Rattle.jt_bind.specs.internal.Resolving.{table_of};
 ghost use Rattle.jt_bind.specs.internal.Scoped.{IsRow};
+ghost use Rattle.jt_semantics.specs.Resolve as resolve;
 
+use crate::Result;
 use crate::lookup::reading;
 use crate::resolver::Resolver;
 use jt_ir::{Slot, SlotExpr};
-use jt_value::NoMemory;
 use std::alloc::Global;
+
+/// Expressions in order; each one that is kept aside has the number of its local.
+pub(crate) type Row = Vec<(Option<usize>, SlotExpr)>;
 
 impl<'t, 'f, 's, 'a> Resolver<'t, 'f, 's, 'a> {
     /// Returns reads of the names, in their order.
-    pub(crate) fn reads(&self, names: &[&str]) -> Result<Vec<(Option<usize>, SlotExpr)>, NoMemory>
+    pub(crate) fn reads(&self, names: &[&str]) -> Result<Row>
         ensures { IfOk result (IsRow (resolve.reads (table_of self.now) (texts names.now))) }
     {
         let mut row = Vec::new(self.alloc);
@@ -27,13 +30,9 @@ impl<'t, 'f, 's, 'a> Resolver<'t, 'f, 's, 'a> {
 }
 
 /// Returns reads of the first `count` locals.
-pub(crate) fn first_locals(
-    alloc: Global,
-    count: usize,
-) -> Result<Vec<(Option<usize>, SlotExpr)>, NoMemory>
-    ensures { IfOk result (λ row. (xs : List Text)
-        → length xs ≡ count
-        → IsRow (resolve.first_locals 0 xs) row) }
+pub(crate) fn first_locals(alloc: Global, count: usize) -> Result<Row>
+    ensures { IfOk result (λ row. (xs : List Text) → length xs ≡ count → IsRow
+        (resolve.first_locals 0 xs) row) }
 {
     let mut row = Vec::new(alloc);
     for local in 0..count {
@@ -44,11 +43,7 @@ pub(crate) fn first_locals(
 
 /// Appends an argument, which is kept aside in a local if `aside` has its number.
 #[inline(never)]
-pub(crate) fn put_argument(
-    done: &mut Vec<(Option<usize>, SlotExpr)>,
-    aside: Option<usize>,
-    value: SlotExpr,
-) -> Result<(), NoMemory>
+pub(crate) fn put_argument(done: &mut Row, aside: Option<usize>, value: SlotExpr) -> Result<()>
     ensures { IfOk result (λ u. done.new.items ≡ done.old.items ++ (aside, value) ∷ []) }
 {
     done.push((aside, value))?;

@@ -1,22 +1,22 @@
 //! Enters scopes, which keep names in locals of their own.
 
-ghost use Rattle.std.specs.Prelude.{◌≡◌, List, IfOk};
-ghost use Rattle.jt_semantics.specs.Resolve.{copied};
+ghost use Rattle.std.specs.Prelude.{IfOk, List};
+ghost use Rattle.jt_ast.specs.Texts.{texts};
 ghost use Rattle.jt_bind.specs.internal.Resolving.{line_of, table_of, templates_of};
-ghost use Rattle.jt_bind.specs.internal.Scoped.{HasInside, Enters};
+ghost use Rattle.jt_bind.specs.internal.Scoped.{Enters, HasInside};
 ghost use Rattle.jt_bind.specs.internal.Stated.{Emits};
 ghost use Rattle.jt_ir.specs.Slots.{end};
+ghost use Rattle.jt_semantics.specs.Resolve.{copied};
 ghost use Rattle.jt_value.specs.Tree.{Tree};
-ghost use Rattle.jt_ast.specs.Texts.{texts};
 
-use crate::emission::put_assign;
+use crate::Result;
+use crate::emission::{SlotBody, put_assign};
 use crate::lookup::reading;
 use crate::name_scope::NameScope;
 use crate::resolver::Resolver;
 use crate::senv::StaticEnv;
-use jt_ir::{Slot, SlotStmt, Targets};
+use jt_ir::{Slot, Targets};
 use jt_layout::checked_sum;
-use jt_value::NoMemory;
 use std::alloc::Global;
 use std::rc::Rc;
 
@@ -33,7 +33,7 @@ fn framed_by<'a>(
     alloc: Global,
     senv: &StaticEnv<'_, 'a>,
     names: Vec<&'a str>,
-) -> Result<Vec<Rc<NameScope<'a>>>, NoMemory>
+) -> Result<Vec<Rc<NameScope<'a>>>>
     ensures { IfOk result (λ fs. HasInside senv.now (texts names.entry.items) fs.items) }
 {
     let mut name_scopes = Vec::new(alloc);
@@ -51,7 +51,7 @@ pub(crate) fn entered<'a>(
     alloc: Global,
     senv: &StaticEnv<'_, 'a>,
     names: Vec<&'a str>,
-) -> Result<EnteredScope<'a>, NoMemory>
+) -> Result<EnteredScope<'a>>
     ensures { IfOk result (λ i. Enters senv.now (texts names.entry.items) i) }
 {
     let free = checked_sum(senv.free, names.len())?;
@@ -62,11 +62,7 @@ pub(crate) fn entered<'a>(
 impl<'t, 'f, 's, 'a> Resolver<'t, 'f, 's, 'a> {
     /// Emits copies of the names' values into locals from the first free one on.
     #[inline(never)]
-    pub(crate) fn put_copies(
-        &self,
-        names: &[&str],
-        done: &mut Vec<SlotStmt>,
-    ) -> Result<(), NoMemory>
+    pub(crate) fn put_copies(&self, names: &[&str], done: &mut SlotBody) -> Result<()>
         ensures { IfOk result (λ u. (p : List Tree) → Emits (templates_of self.now)
             (copied (line_of self.now 1) (table_of self.now) self.now.senv.free (texts names.now)
             end) done.old.items done.new.items p p) }

@@ -31,9 +31,8 @@ impl<'s, 'a> StaticEnv<'s, 'a> {
 
     /// Returns the environment without scopes, so that names are globals.
     pub(crate) fn outside(self) -> StaticEnv<'s, 'a>
-        ensures { (scope : Chains)
-            → senv_in scope result
-            ≡ record (senv_in scope self.entry) { table = globals_in scope } }
+        ensures { (scope : Chains) → senv_in scope result ≡ record (senv_in scope self.entry)
+            { table = globals_in scope } }
     {
         StaticEnv {
             name_scopes: &self.name_scopes[..0],
@@ -44,9 +43,8 @@ impl<'s, 'a> StaticEnv<'s, 'a> {
     /// Returns the environment inside an entered scope, so that the names of the scope are in
     /// locals.
     pub(crate) fn inside(self, inner: &'s EnteredScope<'a>) -> StaticEnv<'s, 'a>
-        ensures { (names : List Text) (scope : Chains)
-            → Enters self.entry names inner.now
-            → senv_in scope result ≡ bound_all names (senv_in scope self.entry) }
+        ensures { (names : List Text) (scope : Chains) → Enters self.entry names inner.now → senv_in
+            scope result ≡ bound_all names (senv_in scope self.entry) }
     {
         StaticEnv {
             name_scopes: &inner.name_scopes,

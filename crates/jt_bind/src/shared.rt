@@ -1,26 +1,24 @@
 //! Builds the values at the beginning of the pool.
 
-ghost use Rattle.std.specs.Prelude.{◌≡◌, ◌++◌, List, map, IfOk};
+ghost use Rattle.std.specs.Prelude.{◌++◌, ◌≡◌, IfOk, List, map};
+ghost use Rattle.jt_ast.specs.StatementView.{parameter_view};
+ghost use Rattle.jt_bind.specs.internal.Scoped.{cenv_in, order_in, values};
 ghost use Rattle.jt_chains.specs.Chain.{Template};
 ghost use Rattle.jt_chains.specs.Parts.{macro_view};
-ghost use Rattle.jt_semantics.specs.Layout as layout;
-ghost use Rattle.jt_bind.specs.internal.Scoped.{values, cenv_in, order_in};
-ghost use Rattle.jt_ast.specs.StatementView.{parameter_view};
 ghost use Rattle.jt_eval.specs.Filters.{default_value};
+ghost use Rattle.jt_semantics.specs.Layout as layout;
 
+use crate::Result;
 use crate::operator_forms::default_of;
+use crate::pool::Pool;
 use crate::tables::Tables;
 use jt_ast::Parameter;
 use jt_chains::Macro;
-use jt_value::{NoMemory, Value};
+use jt_value::Value;
 use std::alloc::Global;
 
 /// Appends the defaults of parameters to the pool.
-fn add_defaults(
-    alloc: Global,
-    parameters: &[Parameter],
-    pool: &mut Vec<Value>,
-) -> Result<(), NoMemory>
+fn add_defaults(alloc: Global, parameters: &[Parameter], pool: &mut Pool) -> Result<()>
     ensures { IfOk result (λ _. values pool.new
         ≡ values pool.old ++ map (λ p. default_value (parameter_view p).default) parameters.now) }
 {
@@ -31,7 +29,7 @@ fn add_defaults(
 }
 
 /// Appends the defaults of macros to the pool.
-fn add_macros(alloc: Global, macros: &[Macro<'_>], pool: &mut Vec<Value>) -> Result<(), NoMemory>
+fn add_macros(alloc: Global, macros: &[Macro<'_>], pool: &mut Pool) -> Result<()>
     ensures { IfOk result (λ _. (ts : List Template) → values pool.new
         ≡ values pool.old ++ layout.defaults_of (map (macro_view ts) macros.now)) }
 {
@@ -42,7 +40,7 @@ fn add_macros(alloc: Global, macros: &[Macro<'_>], pool: &mut Vec<Value>) -> Res
 }
 
 /// Returns a pool that holds the undefined value and the defaults of all macros.
-pub(crate) fn shared_values(alloc: Global, tables: &Tables<'_, '_>) -> Result<Vec<Value>, NoMemory>
+pub(crate) fn shared_values(alloc: Global, tables: &Tables<'_, '_>) -> Result<Pool>
     ensures { IfOk result
         (λ vs. values vs ≡ layout.shared (cenv_in tables.now) (order_in tables.now)) }
 {

@@ -1,27 +1,28 @@
 //! Resolves statements: names to slots, and literals and data to indices of a pool.
 
-ghost use Rattle.std.specs.Prelude.{ℕ, [], option_map, IfOk, if◌then◌else◌};
-ghost use Rattle.jt_ast.specs.ExpressionView as written;
-ghost use Rattle.jt_semantics.specs.Resolve as resolve;
-ghost use Rattle.jt_semantics.specs.Meaning.{is_set};
-ghost use Rattle.jt_bind.specs.internal.Resolving.{BranchIs, TurnsAre};
-ghost use Rattle.jt_bind.specs.internal.Resolving.{templates_of, senv_of, stmt_of, body_of};
-ghost use Rattle.jt_bind.specs.internal.Resolving.{scoped_of};
-ghost use Rattle.jt_bind.specs.internal.Resolving.{expr_of, values_of, inside_of, condition_of};
-ghost use Rattle.jt_bind.specs.internal.Scoped.{values};
-ghost use Rattle.jt_ast.specs.Statements as trees;
-ghost use Rattle.jt_ast.specs.StatementView.{stmt_view, body_view, branches_view, names_view};
-ghost use Rattle.jt_ast.specs.StatementView.{filter_calls_view};
-ghost use Rattle.jt_ir.specs.Slots as slots;
-ghost use Rattle.jt_ir.specs.View.{slot_view};
+ghost use Rattle.std.specs.Prelude.{if◌then◌else◌, IfOk, [], option_map, ℕ};
+ghost use Rattle.jt_ast.specs.ExpressionView.{expr_view, pairs_view};
+ghost use Rattle.jt_ast.specs.StatementView.{body_view, branches_view, filter_calls_view};
+ghost use Rattle.jt_ast.specs.StatementView.{names_view, stmt_view};
 ghost use Rattle.jt_ast.specs.Texts.{texts};
+ghost use Rattle.jt_bind.specs.internal.Resolving.{BranchIs, Puts, PutsStmt, TurnsAre, body_of};
+ghost use Rattle.jt_bind.specs.internal.Resolving.{condition_of, expr_of, inside_of, scoped_of};
+ghost use Rattle.jt_bind.specs.internal.Resolving.{senv_of, stmt_of, templates_of, values_of};
+ghost use Rattle.jt_bind.specs.internal.Scoped.{values};
 ghost use Rattle.jt_bind.specs.internal.Stated.{Emits, IsAsked, IsHead};
+ghost use Rattle.jt_ir.specs.View.{slot_view};
+ghost use Rattle.jt_semantics.specs.Meaning.{is_set};
+ghost use Rattle.jt_semantics.specs.Resolve as resolve;
+ghost use Rattle.jt_ast.specs.Statements as trees;
+ghost use Rattle.jt_ir.specs.Slots as slots;
 
+use crate::Result;
 use crate::emission::{
-    LoopHead, Turns, put_assign, put_branch, put_capture, put_choice, put_data, put_filtered,
-    put_loop, put_print,
+    LoopHead, SlotBody, Turns, put_assign, put_branch, put_capture, put_choice, put_data,
+    put_filtered, put_loop, put_print,
 };
 use crate::held::Held;
+use crate::pool::Pool;
 use crate::resolver::{ForTag, Resolver};
 use crate::scope_entry::entered;
 use crate::targets::fresh_targets;
@@ -29,7 +30,6 @@ use jt_ast::{Branch, Expr, FilterCall, Stmt};
 use jt_ir::{Slot, SlotBranch, SlotExpr, SlotStmt, Targets};
 use jt_layout::checked_sum;
 use jt_names::{keyword_names, names_of, set_names};
-use jt_value::{NoMemory, Value};
 
 impl<'t, 'f, 's, 'a> Resolver<'t, 'f, 's, 'a> {
     /// Resolves statements and appends them to `done`.
@@ -37,11 +37,11 @@ impl<'t, 'f, 's, 'a> Resolver<'t, 'f, 's, 'a> {
     pub(crate) fn resolve_body(
         &self,
         body: &'a [Stmt],
-        done: &mut Vec<SlotStmt>,
-        pool: &mut Vec<Value>,
-    ) -> Result<(), NoMemory>
-        ensures { IfOk result (λ u. Emits (templates_of self.now) (body_of self.now (body_view
-            body.now)) done.old.items done.new.items (values pool.old) (values pool.new)) }
+        done: &mut SlotBody,
+        pool: &mut Pool,
+    ) -> Result<()>
+        ensures { IfOk result (λ _. Puts self.now (body_of self.now (body_view body.now)) done.old
+            done.new pool.old pool.new) }
     {
         for statement in body {
             self.resolve_statement(statement, done, pool)?;
@@ -55,11 +55,11 @@ impl<'t, 'f, 's, 'a> Resolver<'t, 'f, 's, 'a> {
     pub(crate) fn resolve_statement(
         &self,
         statement: &'a Stmt,
-        done: &mut Vec<SlotStmt>,
-        pool: &mut Vec<Value>,
-    ) -> Result<(), NoMemory>
-        ensures { IfOk result (λ u. Emits (templates_of self.now) (stmt_of self.now (stmt_view
-            statement.now)) done.old.items done.new.items (values pool.old) (values pool.new)) }
+        done: &mut SlotBody,
+        pool: &mut Pool,
+    ) -> Result<()>
+        ensures { IfOk result (λ _. PutsStmt self.now (stmt_view statement.now) done.old done.new
+            pool.old pool.new) }
     {
         match statement {
             Stmt::Data(text) => put_data(self.alloc, text, done, pool),
@@ -111,12 +111,12 @@ impl<'t, 'f, 's, 'a> Resolver<'t, 'f, 's, 'a> {
     pub(crate) fn resolve_if_set(
         &self,
         statement: &'a Stmt,
-        done: &mut Vec<SlotStmt>,
-        pool: &mut Vec<Value>,
-    ) -> Result<(), NoMemory>
-        ensures { IfOk result (λ u. Emits (templates_of self.now) (if is_set (stmt_view
-            statement.now) then stmt_of self.now (stmt_view statement.now) else slots.end)
-            done.old.items done.new.items (values pool.old) (values pool.new)) }
+        done: &mut SlotBody,
+        pool: &mut Pool,
+    ) -> Result<()>
+        ensures { IfOk result (λ _. Puts self.now (if is_set (stmt_view statement.now) then stmt_of
+            self.now (stmt_view statement.now) else slots.end) done.old done.new pool.old
+            pool.new) }
     {
         match statement {
             Stmt::Set {
@@ -155,13 +155,13 @@ impl<'t, 'f, 's, 'a> Resolver<'t, 'f, 's, 'a> {
         tag: ForTag<'a>,
         body: &'a [Stmt],
         other: &'a [Stmt],
-        done: &mut Vec<SlotStmt>,
-        pool: &mut Vec<Value>,
-    ) -> Result<(), NoMemory>
-        ensures { IfOk result (λ u. Emits (templates_of self.now) (stmt_of self.now (trees.for_each
-            tag.entry.line (names_view tag.entry.names.now) (written.expr_view tag.entry.over.now)
-            (option_map written.expr_view tag.entry.condition.now) (body_view body.now) (body_view
-            other.now))) done.old.items done.new.items (values pool.old) (values pool.new)) }
+        done: &mut SlotBody,
+        pool: &mut Pool,
+    ) -> Result<()>
+        ensures { IfOk result (λ _. PutsStmt self.now (trees.for_each tag.entry.line
+            (names_view tag.entry.names.now) (expr_view tag.entry.over.now)
+            (option_map expr_view tag.entry.condition.now) (body_view body.now)
+            (body_view other.now)) done.old done.new pool.old pool.new) }
     {
         let turns = self.resolve_turns(body, tag, pool)?;
         let last = self.resolve_whole(other, pool)?;
@@ -175,12 +175,11 @@ impl<'t, 'f, 's, 'a> Resolver<'t, 'f, 's, 'a> {
         &self,
         branches: &'a [Branch<Stmt>],
         other: &'a [Stmt],
-        done: &mut Vec<SlotStmt>,
-        pool: &mut Vec<Value>,
-    ) -> Result<(), NoMemory>
-        ensures { IfOk result (λ u. Emits (templates_of self.now) (stmt_of self.now (trees.choose
-            (branches_view branches.now) (body_view other.now))) done.old.items done.new.items
-            (values pool.old) (values pool.new)) }
+        done: &mut SlotBody,
+        pool: &mut Pool,
+    ) -> Result<()>
+        ensures { IfOk result (λ _. PutsStmt self.now (trees.choose (branches_view branches.now)
+            (body_view other.now)) done.old done.new pool.old pool.new) }
     {
         let mut made = Held {
             part: Vec::with_capacity(self.alloc, branches.len())?,
@@ -198,8 +197,8 @@ impl<'t, 'f, 's, 'a> Resolver<'t, 'f, 's, 'a> {
     fn resolve_branch(
         &self,
         branch: &'a Branch<Stmt>,
-        pool: &mut Vec<Value>,
-    ) -> Result<SlotBranch<SlotStmt>, NoMemory>
+        pool: &mut Pool,
+    ) -> Result<SlotBranch<SlotStmt>>
         ensures { IfOk result (λ b. BranchIs self.now branch.now b pool.old pool.new) }
     {
         let asked = self.resolve_expression(&branch.condition, pool)?;
@@ -219,12 +218,11 @@ impl<'t, 'f, 's, 'a> Resolver<'t, 'f, 's, 'a> {
         &self,
         body: &'a [Stmt],
         tag: ForTag<'a>,
-        pool: &mut Vec<Value>,
-    ) -> Result<Held<Turns>, NoMemory>
+        pool: &mut Pool,
+    ) -> Result<Held<Turns>>
         ensures { IfOk result (λ t. TurnsAre self.now (names_view tag.entry.names.now)
-            (written.expr_view tag.entry.over.now)
-            (option_map written.expr_view tag.entry.condition.now) (body_view body.now) t.part
-            pool.old pool.new) }
+            (expr_view tag.entry.over.now) (option_map expr_view tag.entry.condition.now)
+            (body_view body.now) t.part pool.old pool.new) }
     {
         let inner = entered(self.alloc, &self.senv, names_of(self.alloc, tag.names)?)?;
         let inside = Resolver {
@@ -248,13 +246,12 @@ impl<'t, 'f, 's, 'a> Resolver<'t, 'f, 's, 'a> {
         &self,
         inside: &Resolver<'t, 'f, '_, 'a>,
         tag: ForTag<'a>,
-        pool: &mut Vec<Value>,
-    ) -> Result<Box<LoopHead>, NoMemory>
+        pool: &mut Pool,
+    ) -> Result<Box<LoopHead>>
         ensures { IfOk result (λ h. IsHead (resolve.fresh_targets self.now.senv.free
-            (names_view tag.entry.names.now)) (expr_of self.now (written.expr_view
-            tag.entry.over.now)) (condition_of inside.now (option_map written.expr_view
-            tag.entry.condition.now) (senv_of inside.now)) h.value (values pool.old)
-            (values pool.new)) }
+            (names_view tag.entry.names.now)) (expr_of self.now (expr_view tag.entry.over.now))
+            (condition_of inside.now (option_map expr_view tag.entry.condition.now)
+            (senv_of inside.now)) h.value (values pool.old) (values pool.new)) }
     {
         let items = self.resolve_expression(tag.over, pool)?;
         let condition = inside.resolve_condition(tag.condition, pool)?;
@@ -275,12 +272,11 @@ impl<'t, 'f, 's, 'a> Resolver<'t, 'f, 's, 'a> {
         body: &'a [Stmt],
         line: u32,
         pairs: &'a [(String, Expr)],
-        done: &mut Vec<SlotStmt>,
-        pool: &mut Vec<Value>,
-    ) -> Result<(), NoMemory>
-        ensures { IfOk result (λ u. Emits (templates_of self.now) (stmt_of self.now
-            (trees.with_values line (written.pairs_view pairs.now) (body_view body.now)))
-            done.old.items done.new.items (values pool.old) (values pool.new)) }
+        done: &mut SlotBody,
+        pool: &mut Pool,
+    ) -> Result<()>
+        ensures { IfOk result (λ _. PutsStmt self.now (trees.with_values line (pairs_view pairs.now)
+            (body_view body.now)) done.old done.new pool.old pool.new) }
     {
         self.resolve_values(line, pairs, done, pool)?;
         self.resolve_within(body, keyword_names(self.alloc, pairs)?, done, pool)
@@ -295,12 +291,12 @@ impl<'t, 'f, 's, 'a> Resolver<'t, 'f, 's, 'a> {
         body: &'a [Stmt],
         line: u32,
         filters: &[FilterCall],
-        done: &mut Vec<SlotStmt>,
-        pool: &mut Vec<Value>,
-    ) -> Result<(), NoMemory>
-        ensures { IfOk result (λ u. Emits (templates_of self.now) (stmt_of self.now
-            (trees.filter_block line (filter_calls_view filters.now) (body_view body.now)))
-            done.old.items done.new.items (values pool.old) (values pool.new)) }
+        done: &mut SlotBody,
+        pool: &mut Pool,
+    ) -> Result<()>
+        ensures { IfOk result (λ _. PutsStmt self.now (trees.filter_block line
+            (filter_calls_view filters.now) (body_view body.now)) done.old done.new pool.old
+            pool.new) }
     {
         let kept = Slot::Local(self.senv.free);
         let mut inside = *self;
@@ -318,12 +314,11 @@ impl<'t, 'f, 's, 'a> Resolver<'t, 'f, 's, 'a> {
         &self,
         body: &'a [Stmt],
         names: Vec<&'a str>,
-        done: &mut Vec<SlotStmt>,
-        pool: &mut Vec<Value>,
-    ) -> Result<(), NoMemory>
-        ensures { IfOk result (λ u. Emits (templates_of self.now) (scoped_of self.now (body_view
-            body.now) (inside_of self.now (texts names.entry.items))) done.old.items done.new.items
-            (values pool.old) (values pool.new)) }
+        done: &mut SlotBody,
+        pool: &mut Pool,
+    ) -> Result<()>
+        ensures { IfOk result (λ _. Puts self.now (scoped_of self.now (body_view body.now)
+            (inside_of self.now (texts names.entry.items))) done.old done.new pool.old pool.new) }
     {
         let inner = entered(self.alloc, &self.senv, names)?;
         let inside = Resolver {
@@ -337,15 +332,9 @@ impl<'t, 'f, 's, 'a> Resolver<'t, 'f, 's, 'a> {
     /// with its value outside.
     #[cycle(statements)]
     #[inline(never)]
-    fn resolve_scoped(
-        &self,
-        body: &'a [Stmt],
-        done: &mut Vec<SlotStmt>,
-        pool: &mut Vec<Value>,
-    ) -> Result<(), NoMemory>
-        ensures { IfOk result (λ u. Emits (templates_of self.now) (scoped_of self.now (body_view
-            body.now) (senv_of self.now)) done.old.items done.new.items (values pool.old) (values
-            pool.new)) }
+    fn resolve_scoped(&self, body: &'a [Stmt], done: &mut SlotBody, pool: &mut Pool) -> Result<()>
+        ensures { IfOk result (λ _. Puts self.now (scoped_of self.now (body_view body.now)
+            (senv_of self.now)) done.old done.new pool.old pool.new) }
     {
         let names = set_names(self.alloc, body)?;
         self.put_copies(&names, done)?;
@@ -357,33 +346,11 @@ impl<'t, 'f, 's, 'a> Resolver<'t, 'f, 's, 'a> {
         inside.resolve_body(body, done, pool)
     }
 
-    /// Resolves a body in a scope of its own and returns it.
-    #[cycle(statements)]
-    fn resolve_inside(
-        &self,
-        body: &'a [Stmt],
-        pool: &mut Vec<Value>,
-    ) -> Result<Vec<SlotStmt>, NoMemory>
-        ensures { IfOk result (λ ss. Emits (templates_of self.now) (scoped_of self.now (body_view
-            body.now) (senv_of self.now)) [] ss.items (values pool.old) (values pool.new)) }
-    {
-        let mut done = Held {
-            part: Vec::new(self.alloc),
-        };
-        self.resolve_scoped(body, &mut done.part, pool)?;
-        Ok(done.into_part())
-    }
-
     /// Resolves a body in the current scope and returns it.
     #[cycle(statements)]
-    fn resolve_whole(
-        &self,
-        body: &'a [Stmt],
-        pool: &mut Vec<Value>,
-    ) -> Result<Vec<SlotStmt>, NoMemory>
-        ensures { IfOk result
-            (λ ss. Emits (templates_of self.now) (body_of self.now (body_view body.now)) [] ss.items
-            (values pool.old) (values pool.new)) }
+    fn resolve_whole(&self, body: &'a [Stmt], pool: &mut Pool) -> Result<SlotBody>
+        ensures { IfOk result (λ ss. Emits (templates_of self.now) (body_of self.now
+            (body_view body.now)) [] ss.items (values pool.old) (values pool.new)) }
     {
         let mut done = Held {
             part: Vec::new(self.alloc),
@@ -399,16 +366,18 @@ impl<'t, 'f, 's, 'a> Resolver<'t, 'f, 's, 'a> {
         &self,
         body: &'a [Stmt],
         slot: Slot,
-        done: &mut Vec<SlotStmt>,
-        pool: &mut Vec<Value>,
-    ) -> Result<(), NoMemory>
-        ensures { IfOk result (λ u. Emits (templates_of self.now) (resolve.alone (slots.capture
+        done: &mut SlotBody,
+        pool: &mut Pool,
+    ) -> Result<()>
+        ensures { IfOk result (λ _. Puts self.now (resolve.alone (slots.capture
             self.now.senv.escaping (slot_view slot) (scoped_of self.now (body_view body.now)
-            (senv_of self.now)))) done.old.items done.new.items (values pool.old)
-            (values pool.new)) }
+            (senv_of self.now)))) done.old done.new pool.old pool.new) }
     {
-        let text = self.resolve_inside(body, pool)?;
-        put_capture(self.senv.escaping, slot, text, done)
+        let mut text = Held {
+            part: Vec::new(self.alloc),
+        };
+        self.resolve_scoped(body, &mut text.part, pool)?;
+        put_capture(self.senv.escaping, slot, text.into_part(), done)
     }
 
     /// Resolves a body in a scope and an autoescape state of its own, and appends it.
@@ -418,12 +387,11 @@ impl<'t, 'f, 's, 'a> Resolver<'t, 'f, 's, 'a> {
         &self,
         body: &'a [Stmt],
         escaping: bool,
-        done: &mut Vec<SlotStmt>,
-        pool: &mut Vec<Value>,
-    ) -> Result<(), NoMemory>
-        ensures { IfOk result (λ u. (line : ℕ) → Emits (templates_of self.now) (stmt_of self.now
-            (trees.autoescape line escaping (body_view body.now))) done.old.items done.new.items
-            (values pool.old) (values pool.new)) }
+        done: &mut SlotBody,
+        pool: &mut Pool,
+    ) -> Result<()>
+        ensures { IfOk result (λ u. (line : ℕ) → PutsStmt self.now (trees.autoescape line escaping
+            (body_view body.now)) done.old done.new pool.old pool.new) }
     {
         let mut inside = *self;
         inside.senv.escaping = escaping;
@@ -436,12 +404,11 @@ impl<'t, 'f, 's, 'a> Resolver<'t, 'f, 's, 'a> {
         &self,
         line: u32,
         value: &Expr,
-        done: &mut Vec<SlotStmt>,
-        pool: &mut Vec<Value>,
-    ) -> Result<(), NoMemory>
-        ensures { IfOk result (λ u. Emits (templates_of self.now) (stmt_of self.now (trees.print
-            line (written.expr_view value.now))) done.old.items done.new.items (values pool.old)
-            (values pool.new)) }
+        done: &mut SlotBody,
+        pool: &mut Pool,
+    ) -> Result<()>
+        ensures { IfOk result (λ _. PutsStmt self.now (trees.print line (expr_view value.now))
+            done.old done.new pool.old pool.new) }
     {
         let shown = self.resolve_expression(value, pool)?;
         put_print(&self.senv, line, shown, done)
@@ -452,11 +419,10 @@ impl<'t, 'f, 's, 'a> Resolver<'t, 'f, 's, 'a> {
     fn resolve_condition(
         &self,
         condition: &Option<Expr>,
-        pool: &mut Vec<Value>,
-    ) -> Result<Option<SlotExpr>, NoMemory>
-        ensures { IfOk result (λ k. IsAsked (condition_of self.now
-            (option_map written.expr_view condition.now) (senv_of self.now)) k (values pool.old)
-            (values pool.new)) }
+        pool: &mut Pool,
+    ) -> Result<Option<SlotExpr>>
+        ensures { IfOk result (λ k. IsAsked (condition_of self.now (option_map expr_view
+            condition.now) (senv_of self.now)) k (values pool.old) (values pool.new)) }
     {
         match condition {
             Some(condition) => Ok(Some(self.resolve_expression(condition, pool)?)),
@@ -471,12 +437,11 @@ impl<'t, 'f, 's, 'a> Resolver<'t, 'f, 's, 'a> {
         &self,
         line: u32,
         pairs: &[(String, Expr)],
-        done: &mut Vec<SlotStmt>,
-        pool: &mut Vec<Value>,
-    ) -> Result<(), NoMemory>
-        ensures { IfOk result (λ u. Emits (templates_of self.now) (values_of self.now
-            (written.pairs_view pairs.now) line slots.end) done.old.items done.new.items
-            (values pool.old) (values pool.new)) }
+        done: &mut SlotBody,
+        pool: &mut Pool,
+    ) -> Result<()>
+        ensures { IfOk result (λ _. Puts self.now (values_of self.now (pairs_view pairs.now) line
+            slots.end) done.old done.new pool.old pool.new) }
     {
         let mut senv = self.senv;
         for (_, value) in pairs {

@@ -1,19 +1,19 @@
 //! Holds the layouts of the chains and libraries.
 
-ghost use Rattle.std.specs.Prelude.{◌≡◌, ◌<◌, length, IfOk};
 ghost use Rattle.std.specs.Option.{is_none};
+ghost use Rattle.std.specs.Prelude.{◌<◌, ◌≡◌, IfOk, length};
+ghost use Rattle.jt_bind.specs.internal.Scoped.{AreTables, IsTable, cenv_in, namespace_in};
+ghost use Rattle.jt_bind.specs.internal.Scoped.{order_in};
 ghost use Rattle.jt_chains.specs.Chain.{a_chain, a_library};
 ghost use Rattle.jt_chains.specs.Indices.{namespace_at};
 ghost use Rattle.jt_layout.specs.NamespaceLayout.{IsNamespaceAt};
 ghost use Rattle.jt_names.specs.FactsOfChains.{AllKnown};
 ghost use Rattle.jt_semantics.specs.Layout.{keys};
-ghost use Rattle.jt_bind.specs.internal.Scoped.{cenv_in, order_in, namespace_in, IsTable};
-ghost use Rattle.jt_bind.specs.internal.Scoped.{AreTables};
 
+use crate::Result;
 use jt_chains::Chain;
 use jt_layout::{NamespaceLayout, NamespaceTables, lay_out};
 use jt_names::{ChainFacts, is_missing};
-use jt_value::NoMemory;
 use std::alloc::Global;
 use std::marker::Model;
 
@@ -40,7 +40,7 @@ impl<'f, 'a> Model for Tables<'f, 'a> {
 
 impl<'f, 'a> Tables<'f, 'a> {
     /// Lays out the chains and libraries, and selects the entry's chain.
-    pub(crate) fn new(alloc: Global, facts: &'f ChainFacts<'a>) -> Result<Self, NoMemory>
+    pub(crate) fn new(alloc: Global, facts: &'f ChainFacts<'a>) -> Result<Self>
         requires { AllKnown facts.now }
         ensures chain { IfOk result (λ t. t.chain.now ≡ facts.now.chain.now) }
         ensures first { IfOk result (λ t. t.namespace ≡ 0) }

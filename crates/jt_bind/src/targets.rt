@@ -1,21 +1,21 @@
 //! Resolves the targets of assignments and loops.
 
-ghost use Rattle.std.specs.Prelude.{◌≡◌, None, map, IfOk, option_map};
-ghost use Rattle.jt_semantics.specs.Resolve as resolve;
-ghost use Rattle.jt_semantics.specs.Layout.{slot_in};
+ghost use Rattle.std.specs.Prelude.{◌≡◌, IfOk, None, map, option_map};
+ghost use Rattle.jt_ast.specs.StatementView.{names_view};
+ghost use Rattle.jt_ast.specs.Texts.{texts};
 ghost use Rattle.jt_bind.specs.internal.Names.{last_among};
 ghost use Rattle.jt_bind.specs.internal.Resolving.{table_of};
-ghost use Rattle.jt_ast.specs.StatementView.{names_view};
-ghost use Rattle.jt_ir.specs.View.{slot_view, targets_view};
-ghost use Rattle.jt_ast.specs.Texts.{texts};
 ghost use Rattle.jt_bind.specs.internal.Stated.{slot_if};
+ghost use Rattle.jt_ir.specs.View.{slot_view, targets_view};
+ghost use Rattle.jt_semantics.specs.Layout.{slot_in};
+ghost use Rattle.jt_semantics.specs.Resolve as resolve;
 
+use crate::Result;
 use crate::name_scope::NameScope;
 use crate::resolver::Resolver;
 use jt_ir::{Slot, Targets};
 use jt_layout::checked_sum;
 use jt_names::names_of;
-use jt_value::NoMemory;
 use std::alloc::Global;
 
 impl<'t, 'f, 's, 'a> Resolver<'t, 'f, 's, 'a> {
@@ -40,7 +40,7 @@ impl<'t, 'f, 's, 'a> Resolver<'t, 'f, 's, 'a> {
     }
 
     /// Returns the slots of names that are set. The last value of a repeated name counts.
-    fn kept_slots(&self, names: &[String]) -> Result<Vec<Option<Slot>>, NoMemory>
+    fn kept_slots(&self, names: &[String]) -> Result<Vec<Option<Slot>>>
         ensures { IfOk result (λ ss. map (option_map slot_view) ss.items
             ≡ resolve.kept_slots (table_of self.now) (names_view names.now)) }
     {
@@ -54,7 +54,7 @@ impl<'t, 'f, 's, 'a> Resolver<'t, 'f, 's, 'a> {
 
     /// Returns the targets of a tag that sets names.
     #[inline(never)]
-    pub(crate) fn set_targets(&self, names: &[String]) -> Result<Targets, NoMemory>
+    pub(crate) fn set_targets(&self, names: &[String]) -> Result<Targets>
         ensures { IfOk result (λ t. targets_view t
             ≡ resolve.set_targets (table_of self.now) (names_view names.now)) }
     {
@@ -66,7 +66,7 @@ impl<'t, 'f, 's, 'a> Resolver<'t, 'f, 's, 'a> {
 }
 
 /// Returns consecutive locals from `first` on, one for each name.
-fn fresh_slots(alloc: Global, first: usize, names: &[String]) -> Result<Vec<Option<Slot>>, NoMemory>
+fn fresh_slots(alloc: Global, first: usize, names: &[String]) -> Result<Vec<Option<Slot>>>
     ensures { IfOk result
         (λ ss. map (option_map slot_view) ss.items ≡ resolve.fresh first (names_view names.now)) }
 {
@@ -81,11 +81,7 @@ fn fresh_slots(alloc: Global, first: usize, names: &[String]) -> Result<Vec<Opti
 
 /// Returns the targets of a loop: consecutive locals from `first` on.
 #[inline(never)]
-pub(crate) fn fresh_targets(
-    alloc: Global,
-    first: usize,
-    names: &[String],
-) -> Result<Targets, NoMemory>
+pub(crate) fn fresh_targets(alloc: Global, first: usize, names: &[String]) -> Result<Targets>
     ensures { IfOk result
         (λ t. targets_view t ≡ resolve.fresh_targets first (names_view names.now)) }
 {

@@ -1,21 +1,17 @@
 -- Includes that are collected by one function, in terms of those collected by another one.
-use Rattle.std.proofs.Common.{◌≡◌, Bool, List, [], ◌∷◌, ◌++◌, refl, sym, ap, ◌∙◌, arith, rules}
-use Rattle.std.specs.Prelude.{flat_map}
-use Rattle.std.proofs.lemmas.List.{append-nil, append_assoc}
-use Rattle.jt_ast.specs.Expressions.{Text}
-use Rattle.jt_ast.specs.Statements.{Stmt, choose, for_each, set_block, with_values, filter_block, autoescape, macro}
-use Rattle.jt_ast.specs.Statements.{block, Body, end, stmt, Branches, no_branches, branch}
-use Rattle.jt_chains.specs.Chain.{Template}
-use Rattle.jt_chains.specs.Includes.{includes_by, includes_in, includes_under, need, needs_in}
-use Rattle.jt_chains.specs.Needs.{Need, include_need, needed}
+use Rattle.jt_chains.proofs.Vocabulary.{◌≡◌, Bool, List, [], ◌∷◌, ◌++◌, refl, ap, ◌∙◌, arith, rules, flat_map}
+use Rattle.jt_chains.proofs.Vocabulary.{append-nil, Text, Stmt, macro, Body, end, stmt, Template, includes_by}
+use Rattle.jt_chains.proofs.Vocabulary.{includes_in, includes_under, include_need}
+use Rattle.std.proofs.lemmas.Grind.{flat_map-append}
+use Rattle.jt_ast.specs.Statements.{choose, for_each, set_block, with_values, filter_block, autoescape}
+use Rattle.jt_ast.specs.Statements.{block, Branches, no_branches, branch}
+use Rattle.jt_chains.specs.Includes.{need, needs_in}
+use Rattle.jt_chains.specs.Needs.{Need, needed}
 
 -- The names of includes are the needed ones.
 module _ (all : Bool) where
   pub needed-append : (ns ms : List Need) → needed all (ns ++ ms) ≡ needed all ns ++ needed all ms
-  needed-append [] ms = refl
-  needed-append (n ∷ ns) ms =
-      ap (λ l. need all n.name n.ignoring ++ l) (needed-append ns ms)
-      ∙ sym (append_assoc (need all n.name n.ignoring) (needed all ns) (needed all ms))
+  needed-append = flat_map-append (λ n. need all n.name n.ignoring)
 
   both : (ns ms : List Need) (xs ys : List Text) → needed all ns ≡ xs → needed all ms ≡ ys
       → needed all (ns ++ ms) ≡ xs ++ ys
@@ -23,12 +19,8 @@ module _ (all : Bool) where
 
   mutual
     by_statement : (s : Stmt) → needed all (includes_by include_need s) ≡ includes_by (need all) s
-    by_statement (choose bs other) =
-        both (includes_under include_need bs) (includes_in include_need other) (includes_under (need all) bs)
-        (includes_in (need all) other) (by_branches bs) (by_body other)
-    by_statement (for_each line xs e c body other) =
-        both (includes_in include_need body) (includes_in include_need other) (includes_in (need all) body)
-        (includes_in (need all) other) (by_body body) (by_body other)
+    by_statement (choose bs other) = both _ _ _ _ (by_branches bs) (by_body other)
+    by_statement (for_each line xs e c body other) = both _ _ _ _ (by_body body) (by_body other)
     by_statement (set_block line x body) = by_body body
     by_statement (with_values line ps body) = by_body body
     by_statement (filter_block line fs body) = by_body body
@@ -39,19 +31,13 @@ module _ (all : Bool) where
 
     pub by_body : (b : Body) → needed all (includes_in include_need b) ≡ needs_in all b
     by_body end = refl
-    by_body (stmt s rest) =
-        both (includes_by include_need s) (includes_in include_need rest) (includes_by (need all) s)
-        (includes_in (need all) rest) (by_statement s) (by_body rest)
+    by_body (stmt s rest) = both _ _ _ _ (by_statement s) (by_body rest)
 
     by_branches : (bs : Branches) → needed all (includes_under include_need bs) ≡ includes_under (need all) bs
     by_branches no_branches = refl
-    by_branches (branch line c body rest) =
-        both (includes_in include_need body) (includes_under include_need rest) (includes_in (need all) body)
-        (includes_under (need all) rest) (by_body body) (by_branches rest)
+    by_branches (branch line c body rest) = both _ _ _ _ (by_body body) (by_branches rest)
 
   pub by_templates : (ts : List Template)
       → needed all (flat_map (λ t. includes_in include_need t.body) ts) ≡ flat_map (λ t. needs_in all t.body) ts
   by_templates [] = refl
-  by_templates (t ∷ ts) =
-      both (includes_in include_need t.body) (flat_map (λ u. includes_in include_need u.body) ts) (needs_in all t.body)
-      (flat_map (λ u. needs_in all u.body) ts) (by_body t.body) (by_templates ts)
+  by_templates (t ∷ ts) = both _ _ _ _ (by_body t.body) (by_templates ts)

@@ -1,35 +1,25 @@
 -- Templates by their indices.
-use Rattle.std.proofs.Common.{◌≡◌, ℕ, zero, suc, ◌+◌, ◌<◌, Bool, true, false, ◌||◌, if◌then◌else◌, List, [], ◌∷◌, ◌++◌}
-use Rattle.std.proofs.Common.{length, map, drop, get_or, refl, sym, ap, subst, ◌∙◌, arith, Option, Some, None, rules}
-use Rattle.std.specs.Prelude.{slice_get, flat_map, unwrap_or, option_map}
+use Rattle.jt_chains.proofs.Vocabulary.{◌≡◌, ℕ, suc, ◌+◌, ◌<◌, Bool, true, false, ◌||◌, if◌then◌else◌, List, [], ◌∷◌}
+use Rattle.jt_chains.proofs.Vocabulary.{◌++◌, length, map, drop, get_or, refl, sym, ap, subst, ◌∙◌, arith, Option, Some}
+use Rattle.jt_chains.proofs.Vocabulary.{None, rules, slice_get, flat_map, unwrap_or, option_map, length-map}
+use Rattle.jt_chains.proofs.Vocabulary.{bytes_eq-Decides, bytes_eq, Text, Body, end, body_of, body_at, along}
+use Rattle.jt_chains.proofs.Vocabulary.{macros_along, blocks_along, layers_along, Sources, Template, template}
+use Rattle.jt_chains.proofs.Vocabulary.{holds_macros, library_template, templates, sources_in, macros_in, blocks_in}
+use Rattle.jt_chains.proofs.Vocabulary.{includes_in, include_need, includes_along, repeated, file_view, files_view}
+use Rattle.jt_chains.proofs.Vocabulary.{namespace_view, AreWhole, name_at, namespace_at, TemplateFile}
+use Rattle.std.proofs.Common.{zero}
 use Rattle.std.specs.List.{AllByRecursion}
-use Rattle.std.proofs.lemmas.List.{drop_more, append_assoc, length-map}
-use Rattle.std.proofs.lemmas.Option.{slice_get_within}
+use Rattle.std.proofs.lemmas.List.{drop_more, append_assoc}
+use Rattle.std.proofs.lemmas.Option.{slice_get_within, slice_get-map, slice_get_read}
 use Rattle.std.proofs.lemmas.Cmp.{nat_list_eq_equiv}
-use Rattle.std.proofs.lemmas.Slice.Eq.{bytes_eq-Decides}
-use Rattle.std.specs.Str.{bytes_eq}
 use Rattle.std.proofs.lemmas.Bool.{or_parts}
-use Rattle.jt_ast.specs.Expressions.{Text}
-use Rattle.jt_ast.specs.Statements.{Body, end}
-use Rattle.jt_ast.specs.StatementView.{body_of}
-use Rattle.jt_chains.specs.Along.{AreIndices, body_at, along, macros_along, blocks_along, layers_along}
-use Rattle.jt_chains.specs.Chain as chain
-use Rattle.jt_chains.specs.Chain.{Sources, Template, template, holds_macros, library_template, templates, max_templates}
-use Rattle.jt_chains.specs.Chain.{names_up, sources_in, macros_in, blocks_in}
-use Rattle.jt_chains.specs.Includes.{includes_in}
-use Rattle.jt_chains.specs.Needs.{include_need, includes_along}
-use Rattle.jt_ast.specs.Texts.{among, repeated}
-use Rattle.jt_chains.specs.TemplateFiles.{file_view, files_view, namespace_view, names_at, AreWhole}
-use Rattle.jt_chains.specs.Parts.{name_at}
-use Rattle.jt_chains.specs.Indices.{namespace_at}
-use Rattle.jt_chains.specs.declared.files.TemplateFile.{TemplateFile}
+use Rattle.jt_chains.specs.Along.{AreIndices}
+use Rattle.jt_chains.specs.Chain.{max_templates}
+use Rattle.jt_chains.specs.Chain.{names_up}
+use Rattle.jt_ast.specs.Texts.{among}
+use Rattle.jt_chains.specs.TemplateFiles.{names_at}
 use Rattle.jt_chains.specs.declared.chain.Namespace.{Namespace}
-
-pub all_at : {X : Type 0} (P : X → Type 0) (xs : List X) (i : ℕ) (x : X) → i < length xs → x ≡ get_or xs i x
-    → AllByRecursion P xs → P x
-all_at P [] i x lt is a = absurd (omega arith)
-all_at P (y ∷ ys) zero x lt is a = subst P (sym is) a.0
-all_at P (y ∷ ys) (suc i) x lt is a = all_at P ys i x (omega arith) is a.1
+use Rattle.jt_chains.specs.Chain as chain
 
 pub number_at : (P : ℕ → Type 0) (xs : List ℕ) (i : ℕ) → i < length xs → AllByRecursion P xs → P (get_or xs i 0)
 number_at P [] i lt a = absurd (omega arith)
@@ -38,9 +28,7 @@ number_at P (y ∷ ys) (suc i) lt a = number_at P ys i (omega arith) a.1
 
 pub map_at : {X Y : Type 0} (f : X → Y) (xs : List X) (i : ℕ) (x : X) → i < length xs → x ≡ get_or xs i x
     → slice_get (map f xs) i ≡ Some (f x)
-map_at f [] i x lt is = absurd (omega arith)
-map_at f (y ∷ ys) zero x lt is = ap (λ z. Some (f z)) (sym is)
-map_at f (y ∷ ys) (suc i) x lt is = map_at f ys i x (omega arith) is
+map_at f xs i x lt is = slice_get-map f xs i ∙ ap (option_map f) (slice_get_read xs (length xs) i x refl lt is)
 
 -- The tree of the template file at an index.
 pub file_at : (ps : List TemplateFile) (i : ℕ) (p : TemplateFile) → i < length ps → p ≡ get_or ps i p
@@ -168,35 +156,33 @@ given_templates s (chain.a_library n) = alone (s n) refl
 alike : (t u : Template) → t.name ≡ u.name → t.body ≡ u.body → t ≡ u
 alike t u p q = search (arith, rules)
 
--- If names differ, the names at the indices determine the templates.
-pub indexed_by_names : (ts : List Template) (is : List ℕ) (us : List Template) → repeated (map (λ u. u.name) ts) ≡ false
+-- If names differ, the name at an index determines the template.
+template_named : (ts : List Template) (i : ℕ) (u : Template) → repeated (map (λ v. v.name) ts) ≡ false
+    → sources_in ts u.name ≡ Some u.body → option_map (λ (t : Template). t.name) (slice_get ts i) ≡ Some u.name
+    → slice_get ts i ≡ Some u
+template_named ts i u once g e = by (slice_get ts i) refl
+  where
+    by : (o : Option Template) → slice_get ts i ≡ o → slice_get ts i ≡ Some u
+    by None at =
+        let k : None ≡ Some u.name = sym (ap (option_map (λ (v : Template). v.name)) at) ∙ e in
+        absurd (cc)
+    by (Some t) at =
+        let k : Some t.name ≡ Some u.name = sym (ap (option_map (λ (v : Template). v.name)) at) ∙ e in
+        let p : t.name ≡ u.name = cc in
+        let q : Some t.body ≡ Some u.body = sym (only_one ts i t once at) ∙ ap (sources_in ts) p ∙ g in
+        at ∙ ap Some (alike t u p (cc))
+
+indexed_by_names : (ts : List Template) (is : List ℕ) (us : List Template) → repeated (map (λ u. u.name) ts) ≡ false
     → Definition (sources_in ts) us → names_at ts is ≡ map (λ t. Some t.name) us
     → map (slice_get ts) is ≡ map Some us
 indexed_by_names ts [] [] once g e = refl
 indexed_by_names ts [] (u ∷ us) once g e = absurd (cc)
 indexed_by_names ts (i ∷ is) [] once g e = absurd (cc)
-indexed_by_names ts (i ∷ is) (u ∷ us) once g e = by (slice_get ts i) refl (indexed_by_names ts is us once g.1 rest)
-  where
-    here : option_map (λ (t : Template). t.name) (slice_get ts i) ≡ Some u.name
-    here = cc
-
-    rest : names_at ts is ≡ map (λ (t : Template). Some t.name) us
-    rest = cc
-
-    found : (t : Template) → slice_get ts i ≡ Some t → t ≡ u
-    found t at =
-        let p : t.name ≡ u.name =
-        (let k : Some t.name ≡ Some u.name = sym (ap (option_map (λ (v : Template). v.name)) at) ∙ here in cc) in
-        let q : Some t.body ≡ Some u.body = sym (only_one ts i t once at) ∙ ap (sources_in ts) p ∙ g.0 in
-        alike t u p (cc)
-
-    by : (o : Option Template) → slice_get ts i ≡ o → map (slice_get ts) is ≡ map Some us
-        → map (slice_get ts) (i ∷ is) ≡ map Some (u ∷ us)
-    by None at r =
-        let k : None ≡ Some u.name = sym (ap (option_map (λ (v : Template). v.name)) at) ∙ here in
-        absurd (cc)
-    by (Some t) at r =
-        ap (λ o. o ∷ map (slice_get ts) is) (at ∙ ap Some (found t at)) ∙ ap (λ l. Some u ∷ l) r
+indexed_by_names ts (i ∷ is) (u ∷ us) once g e =
+    let here : option_map (λ (t : Template). t.name) (slice_get ts i) ≡ Some u.name = cc in
+    let rest : names_at ts is ≡ map (λ (t : Template). Some t.name) us = cc in
+    ap (λ o. o ∷ map (slice_get ts) is) (template_named ts i u once g.0 here)
+    ∙ ap (λ l. Some u ∷ l) (indexed_by_names ts is us once g.1 rest)
 
 -- The names at the indices of a chain are those of its templates.
 pub whole_at : (ts : List Template) (hs : List Namespace) (i : ℕ) (h : Namespace) → i < length hs → h ≡ get_or hs i h

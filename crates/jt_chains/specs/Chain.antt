@@ -5,6 +5,7 @@ use Rattle.std.specs.Prelude.{flat_map, filter, Option, Some, None, codes, if◌
 use Rattle.std.specs.List.{list_any}
 use Rattle.std.specs.Str.{bytes_eq}
 use Rattle.jt_ast.specs.Expressions.{Expr, name, attribute, Text}
+pub use Rattle.jt_ast.specs.Expressions.{is_loop}
 use Rattle.jt_ast.specs.Statements.{Parameter, Stmt, data_of, choose, for_each, set_block, with_values, filter_block}
 use Rattle.jt_ast.specs.Statements.{autoescape, macro, import_as, import_from, extends, block, Body, end, stmt}
 use Rattle.jt_ast.specs.Statements.{Branches, no_branches, branch}
@@ -299,8 +300,3 @@ module _ (sources : Sources) where
   callee definitions (name x) = named_alone (given_to x definitions) x
   callee definitions (attribute (name of) x) = named_in (given_to of definitions) of x
   callee definitions other = no_callee
-
--- The expression is the bare name `loop`.
-abbrev pub is_loop : Expr → Bool
-is_loop (name x) = bytes_eq x (codes "loop")
-is_loop e = false

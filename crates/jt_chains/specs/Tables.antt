@@ -1,5 +1,6 @@
 -- Tables of names: the first index of a name among templates, and among the macros of a library.
-use Rattle.std.specs.Prelude.{◌≡◌, ℕ, suc, true, false, if◌then◌else◌, List, [], length, Option, Some, None, unwrap_or}
+use Rattle.std.specs.Prelude.{◌≡◌, ℕ, suc, Bool, true, false, if◌then◌else◌, List, [], length, Option, Some, None}
+use Rattle.std.specs.Prelude.{unwrap_or}
 use Rattle.std.specs.declared.string.String.{String}
 use Rattle.std.specs.declared.alloc.Global.{Global}
 use Rattle.std.specs.Coded.{×_prop, Coded-set, coded_ℕ, coded_bool, coded_option, Π_prop}
@@ -17,12 +18,15 @@ Table = BTreeMap (String Global) ℕ
 abbrev pub library_macros : Text → Body → List MacroBody
 library_macros n b = if holds_macros b then macros_in n b else []
 
+-- The statement is a macro of this name.
+abbrev pub is_named : Text → Stmt → Bool
+is_named x (macro line macro_name parameters body) = bytes_eq macro_name x
+is_named x s = false
+
 -- The index of the first macro of a name among statements, which are counted from i.
 abbrev pub macro_index : Text → ℕ → Body → Option ℕ
 macro_index x i end = None
-macro_index x i (stmt (macro line macro_name parameters body) rest) =
-    if bytes_eq macro_name x then Some i else macro_index x (suc i) rest
-macro_index x i (stmt first rest) = macro_index x (suc i) rest
+macro_index x i (stmt first rest) = if is_named x first then Some i else macro_index x (suc i) rest
 
 -- The macro that a statement of a template defines.
 abbrev pub as_macro : Text → Stmt → Option MacroBody

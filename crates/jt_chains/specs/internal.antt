@@ -1,1 +1,2 @@
-pub mod BodySites
+pub mod AddsBlocks
+pub mod Importers

@@ -1,6 +1,6 @@
 //! Collects the defined names of a chain: its own macros, imported macros, and libraries.
 
-ghost use Rattle.std.specs.Prelude.{◌≡◌, ◌<◌, ◌++◌, [], List, length, map, option_map, not};
+ghost use Rattle.std.specs.Prelude.{◌≡◌, ◌<◌, ◌≤◌, ◌++◌, [], List, length, map, option_map, not};
 ghost use Rattle.std.specs.Prelude.{if◌then◌else◌, IfOk};
 ghost use Rattle.std.specs.List.{list_any};
 ghost use Rattle.jt_ast.specs.StatementView.{stmt_view, body_view, given_view};
@@ -15,9 +15,9 @@ ghost use Rattle.jt_chains.specs.Indices.{index_of};
 ghost use Rattle.jt_chains.specs.Named.{Adds, names_view};
 ghost use Rattle.jt_chains.specs.View.{NoneBeyond, namespace_in, imports_along, its_sources};
 ghost use Rattle.jt_chains.specs.View.{its_templates};
+ghost use Rattle.jt_chains.specs.internal.Importers.{AreFrom, importers};
 
-use crate::chain::{Chain, Namespace};
-use crate::files::TemplateFile;
+use crate::chain::Chain;
 use crate::parts::{Macro, body_of_file};
 use jt_ast::Stmt;
 use std::alloc::{AllocError, Global};
@@ -80,6 +80,7 @@ fn file_named(chain: &Chain, name: &str) -> usize
 }
 
 /// Returns the statements of a library, or none if there is no library of this name.
+#[tactic(auto, using(crate::proofs::LibraryMacros::body_held, crate::proofs::LibraryMacros::no_body_held))]
 fn body_of_library<'a>(chain: &'a Chain, name: &str) -> &'a [Stmt]
     ensures { body_view result.now
         ≡ first_body (templates (its_sources chain.now) (a_library name.now)) }
@@ -142,78 +143,6 @@ fn add_imports<'a>(
     Ok(())
 }
 
-/// Adds the names that the imports of the templates at `indices` bind.
-fn imports_at<'a>(
-    chain: &'a Chain,
-    indices: &[usize],
-    found: &mut Vec<DefinedName<'a>>,
-) -> Result<(), AllocError>
-    ensures { IfOk result (λ _. Adds (its_templates chain.now) found.old.items found.new.items
-        (λ h. imports_along chain.now indices.now)) }
-{
-    for index in indices {
-        add_imports(chain, body_of_file(&chain.templates, *index), found)?;
-    }
-    Ok(())
-}
-
-/// Adds the names of macros, defined as a chain's or library's own.
-fn add_own<'a>(
-    files: &'a [TemplateFile],
-    macros: &[Macro<'a>],
-    found: &mut Vec<DefinedName<'a>>,
-) -> Result<(), AllocError>
-    ensures { IfOk result (λ _. Adds (files_view files.now) found.old.items found.new.items
-        (λ h. own h (macros_view (files_view files.now) macros.now))) }
-{
-    for one in macros {
-        found.push(DefinedName {
-            name: one.name,
-            given: Definition::Own(*one),
-        })?;
-    }
-    Ok(())
-}
-
-/// Returns the defined names of a chain or library whose own macros are `macros`.
-fn names_of<'a>(
-    alloc: Global,
-    chain: &'a Chain,
-    namespace: &Namespace,
-    macros: &[Macro<'a>],
-) -> Result<Vec<DefinedName<'a>>, AllocError>
-    ensures { IfOk result (λ ns. (h : chains.Namespace) →
-        names_view (its_templates chain.now) h ns.items
-        ≡ own h (macros_view (its_templates chain.now) macros.now)
-        ++ (if namespace.now.is_library then []
-        else imports_along chain.now namespace.now.templates.items)) }
-{
-    let mut names = Vec::new(alloc);
-    add_own(&chain.templates, macros, &mut names)?;
-    if namespace.is_library {
-        return Ok(names);
-    }
-    imports_at(chain, &namespace.templates, &mut names)?;
-    Ok(names)
-}
-
-impl Chain {
-    /// Returns all names of a chain that stand for a macro or a library, its own macros first.
-    /// Returns none if `namespace` is out of range.
-    pub fn given(&self, alloc: Global, namespace: usize) -> Result<Vec<DefinedName<'_>>, AllocError>
-        ensures there { namespace < length self.now.namespaces.items → IfOk result (λ names.
-            names_view (its_templates self.now) (namespace_in self.now namespace) names.items
-            ≡ given (its_sources self.now) (namespace_in self.now namespace)) }
-        ensures nowhere { NoneBeyond self.now namespace result }
-    {
-        let macros = self.macros(alloc, namespace)?;
-        match self.namespaces.get(namespace) {
-            Some(found) => names_of(alloc, self, found, &macros),
-            None => Ok(Vec::new(alloc)),
-        }
-    }
-}
-
 /// Adds the names of the libraries that a template imports, once for each import tag.
 fn add_libraries<'a>(body: &'a [Stmt], found: &mut Vec<&'a str>) -> Result<(), AllocError>
     ensures { IfOk result (λ _. texts found.new.items
@@ -229,26 +158,45 @@ fn add_libraries<'a>(body: &'a [Stmt], found: &mut Vec<&'a str>) -> Result<(), A
     Ok(())
 }
 
-/// Returns the names of the libraries that a chain imports. A library imports none.
-fn libraries_of<'a>(
-    alloc: Global,
-    files: &'a [TemplateFile],
-    namespace: &Namespace,
-) -> Result<Vec<&'a str>, AllocError>
-    ensures { IfOk result (λ ns. texts ns.items ≡ (if namespace.now.is_library then []
-        else along (files_view files.now) (λ n b. libraries_in b) namespace.now.templates.items)) }
-{
-    let mut found = Vec::new(alloc);
-    if namespace.is_library {
-        return Ok(found);
-    }
-    for index in &namespace.templates {
-        add_libraries(body_of_file(files, *index), &mut found)?;
-    }
-    Ok(found)
-}
-
 impl Chain {
+    /// Returns the indices of the templates of a chain, whose imports bind names. Returns none for
+    /// a library, which imports nothing, and if `namespace` is out of range.
+    #[tactic(auto, using(crate::proofs::ImportersByIndex::chain_importers, crate::proofs::ImportersByIndex::library_importers))]
+    fn importers(&self, namespace: usize) -> &[usize]
+        ensures there { namespace < length self.now.namespaces.items →
+            AreFrom (its_templates self.now) result.now
+            (importers (its_sources self.now) (namespace_in self.now namespace)) }
+        ensures nowhere { length self.now.namespaces.items ≤ namespace → result.now ≡ [] }
+    {
+        match self.namespaces.get(namespace) {
+            Some(found) if found.is_library => &[],
+            Some(found) => &found.templates,
+            None => &[],
+        }
+    }
+
+    /// Returns all names of a chain that stand for a macro or a library, its own macros first.
+    /// Returns none if `namespace` is out of range.
+    pub fn given(&self, alloc: Global, namespace: usize) -> Result<Vec<DefinedName<'_>>, AllocError>
+        ensures there { namespace < length self.now.namespaces.items → IfOk result (λ names.
+            names_view (its_templates self.now) (namespace_in self.now namespace) names.items
+            ≡ given (its_sources self.now) (namespace_in self.now namespace)) }
+        ensures nowhere { NoneBeyond self.now namespace result }
+    {
+        let macros = self.macros(alloc, namespace)?;
+        let mut names = Vec::new(alloc);
+        for one in &macros {
+            names.push(DefinedName {
+                name: one.name,
+                given: Definition::Own(*one),
+            })?;
+        }
+        for index in self.importers(namespace) {
+            add_imports(self, body_of_file(&self.templates, *index), &mut names)?;
+        }
+        Ok(names)
+    }
+
     /// Returns the names of the libraries that a chain imports, once for each import tag. Returns
     /// none if `namespace` is out of range.
     pub fn libraries(&self, alloc: Global, namespace: usize) -> Result<Vec<&str>, AllocError>
@@ -257,13 +205,15 @@ impl Chain {
             ≡ libraries (its_sources self.now) (namespace_in self.now namespace)) }
         ensures nowhere { NoneBeyond self.now namespace result }
     {
-        match self.namespaces.get(namespace) {
-            Some(found) => libraries_of(alloc, &self.templates, found),
-            None => Ok(Vec::new(alloc)),
+        let mut found = Vec::new(alloc);
+        for index in self.importers(namespace) {
+            add_libraries(body_of_file(&self.templates, *index), &mut found)?;
         }
+        Ok(found)
     }
 
     /// Returns the macro of this name that the library offers to importers.
+    #[tactic(auto, using(crate::proofs::TemplatesByIndex::file_at, crate::proofs::LibraryMacros::library_at, crate::proofs::LibraryMacros::library_nowhere, crate::proofs::MacroTableLookup::no_public))]
     pub fn library_macro(&self, library: &str, name: &str) -> Option<Macro<'_>>
         ensures { option_map (macro_view (its_templates self.now)) result
             ≡ chains.public_macro name.now (macros (its_sources self.now) (a_library library.now)) }

@@ -50,37 +50,34 @@ fn add_statement<'a>(
         | Stmt::Set { .. }
         | Stmt::Import { .. }
         | Stmt::From { .. }
-        | Stmt::Extends(_, _) => Ok(()),
-        Stmt::Include { name, missing, .. } => {
-            found.push(NeededTemplate {
-                name: name.as_str(),
-                ignoring: missing.is_ignored(),
-                is_library: false,
-            })?;
-            Ok(())
-        }
+        | Stmt::Extends(_, _) => {}
+        Stmt::Include { name, missing, .. } => found.push(NeededTemplate {
+            name: name.as_str(),
+            ignoring: missing.is_ignored(),
+            is_library: false,
+        })?,
         Stmt::If(branches, other) => {
             for Branch { body, .. } in branches {
                 add_includes(found, body)?;
             }
             add_includes(found, other)?;
-            Ok(())
         }
         Stmt::For { body, other, .. } => {
             add_includes(found, body)?;
             add_includes(found, other)?;
-            Ok(())
         }
         Stmt::SetBlock { body, .. }
         | Stmt::With { body, .. }
         | Stmt::FilterBlock { body, .. }
         | Stmt::Autoescape { body, .. }
         | Stmt::Macro { body, .. }
-        | Stmt::Block { body, .. } => add_includes(found, body),
+        | Stmt::Block { body, .. } => add_includes(found, body)?,
     }
+    Ok(())
 }
 
 /// Returns the includes of the templates at `indices`. An index out of range adds none.
+#[tactic(auto, using(crate::proofs::TemplatesByIndex::along_turn))]
 pub fn includes_at<'a>(
     alloc: Global,
     files: &'a [TemplateFile],
@@ -99,6 +96,7 @@ pub fn includes_at<'a>(
 impl Chain {
     /// Returns the includes of a chain, once for each tag, the entry template's first. Returns an
     /// empty list if `namespace` is out of range.
+    #[tactic(auto, using(crate::proofs::TemplatesByIndex::namespace_includes))]
     pub fn includes(
         &self,
         alloc: Global,

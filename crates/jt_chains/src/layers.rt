@@ -1,7 +1,7 @@
 //! Lists the templates of a chain.
 
 ghost use Rattle.std.specs.Prelude.{◌≡◌, ◌<◌, length, map, IfOk};
-ghost use Rattle.jt_chains.specs.Along.{AreIndices, layers_along};
+ghost use Rattle.jt_chains.specs.Along.{layers_along};
 ghost use Rattle.jt_chains.specs.Chain.{templates};
 ghost use Rattle.jt_chains.specs.TemplateFiles.{files_view};
 ghost use Rattle.jt_chains.specs.Layers.{layer_view};
@@ -9,6 +9,7 @@ ghost use Rattle.jt_chains.specs.View.{NoneBeyond, namespace_in, its_sources, it
 
 use crate::chain::Chain;
 use crate::files::TemplateFile;
+use crate::parts::body_of_file;
 use jt_ast::Stmt;
 use std::alloc::{AllocError, Global};
 
@@ -25,7 +26,6 @@ fn layers_at<'a>(
     files: &'a [TemplateFile],
     indices: &[usize],
 ) -> Result<Vec<Layer<'a>>, AllocError>
-    requires { AreIndices (files_view files.now) indices.now }
     ensures { IfOk result (λ ls. map (layer_view (files_view files.now)) ls.items
         ≡ layers_along (files_view files.now) indices.now) }
 {
@@ -33,7 +33,7 @@ fn layers_at<'a>(
     for index in indices {
         found.push(Layer {
             template: *index,
-            body: files[*index].template.body(),
+            body: body_of_file(files, *index),
         })?;
     }
     Ok(found)

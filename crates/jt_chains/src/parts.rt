@@ -5,9 +5,9 @@ ghost use Rattle.jt_ast.specs.StatementView.{stmt_view, body_view};
 ghost use Rattle.jt_ast.specs.Texts.{texts};
 ghost use Rattle.jt_chains.specs.Chain.{macros, macros_in, all_bodies, blocks_of, blocks_in};
 ghost use Rattle.jt_chains.specs.TemplateFiles.{files_view};
-ghost use Rattle.jt_chains.specs.Parts.{block_view, macros_view, blocks_view, name_at};
+ghost use Rattle.jt_chains.specs.Parts.{macros_view, blocks_view, name_at};
 ghost use Rattle.jt_chains.specs.Along.{body_at, macros_along, blocks_along};
-ghost use Rattle.jt_chains.specs.internal.BodySites.{AddsBlocks, site_name};
+ghost use Rattle.jt_chains.specs.internal.AddsBlocks.{AddsBlocks};
 ghost use Rattle.jt_chains.specs.View.{NoneBeyond, namespace_in, its_sources, its_templates};
 
 use crate::chain::Chain;
@@ -36,42 +36,11 @@ pub struct Block<'a> {
     pub body: &'a [Stmt],
 }
 
-/// The context of statements: their template and the autoescape state.
+/// The context of statements: the index of their template and the autoescape state.
 #[derive(Clone, Copy)]
-struct BodySite<'a> {
-    files: &'a [TemplateFile],
+struct BodySite {
     template: usize,
     escaping: bool,
-}
-
-impl<'a> BodySite<'a> {
-    /// Returns this site with another autoescape state.
-    fn inside(self, escaping: bool) -> Self
-        ensures { result ≡ record self.entry { escaping = escaping } }
-    {
-        BodySite { escaping, ..self }
-    }
-
-    /// Returns the body of a block whose tag is at this site.
-    fn block(self, name: &'a str, scoped: bool, required: bool, body: &'a [Stmt]) -> Block<'a>
-        ensures { block_view (files_view self.entry.files.now) result ≡ record {
-          template = site_name self.entry;
-          name = name.now;
-          scoped = scoped;
-          required = required;
-          escaping = self.entry.escaping;
-          body = body_view body.now;
-        } }
-    {
-        Block {
-            template: self.template,
-            name,
-            scoped,
-            required,
-            escaping: self.escaping,
-            body,
-        }
-    }
 }
 
 /// Adds the macros at the top level of a template.
@@ -107,12 +76,12 @@ pub(crate) fn add_macros<'a>(
 /// Adds the bodies of the blocks in statements, nested ones included, in the order of the source.
 #[cycle(blocks)]
 fn add_blocks<'a>(
-    site: BodySite<'a>,
+    site: BodySite,
     body: &'a [Stmt],
     found: &mut Vec<Block<'a>>,
 ) -> Result<(), AllocError>
-    ensures { IfOk result (λ _. AddsBlocks site.entry found.old.items found.new.items
-        (blocks_in (site_name site.entry) (body_view body.now) site.entry.escaping)) }
+    ensures { IfOk result (λ _. AddsBlocks found.old.items found.new.items
+        (λ ts. blocks_in (name_at ts site.template) (body_view body.now) site.escaping)) }
 {
     for statement in body {
         add_statement(site, statement, found)?;
@@ -123,12 +92,12 @@ fn add_blocks<'a>(
 /// Adds the bodies of the blocks in a statement, nested ones included, in the order of the source.
 #[cycle(blocks)]
 fn add_statement<'a>(
-    site: BodySite<'a>,
+    site: BodySite,
     statement: &'a Stmt,
     found: &mut Vec<Block<'a>>,
 ) -> Result<(), AllocError>
-    ensures { IfOk result (λ _. AddsBlocks site.entry found.old.items found.new.items
-        (blocks_of (site_name site.entry) (stmt_view statement.now) site.entry.escaping)) }
+    ensures { IfOk result (λ _. AddsBlocks found.old.items found.new.items
+        (λ ts. blocks_of (name_at ts site.template) (stmt_view statement.now) site.escaping)) }
 {
     match statement {
         Stmt::Data(_)
@@ -137,7 +106,7 @@ fn add_statement<'a>(
         | Stmt::Include { .. }
         | Stmt::Import { .. }
         | Stmt::From { .. }
-        | Stmt::Extends(_, _) => Ok(()),
+        | Stmt::Extends(_, _) => {}
         Stmt::Block {
             name,
             scoped,
@@ -145,30 +114,39 @@ fn add_statement<'a>(
             body,
             ..
         } => {
-            found.push(site.block(name, *scoped, *required, body))?;
+            found.push(Block {
+                template: site.template,
+                name,
+                scoped: *scoped,
+                required: *required,
+                escaping: site.escaping,
+                body,
+            })?;
             add_blocks(site, body, found)?;
-            Ok(())
         }
         Stmt::Autoescape { escaping, body, .. } => {
-            add_blocks(site.inside(*escaping), body, found)
+            let inside = BodySite {
+                escaping: *escaping,
+                ..site
+            };
+            add_blocks(inside, body, found)?;
         }
         Stmt::If(branches, other) => {
             for Branch { body, .. } in branches {
                 add_blocks(site, body, found)?;
             }
             add_blocks(site, other, found)?;
-            Ok(())
         }
         Stmt::For { body, other, .. } => {
             add_blocks(site, body, found)?;
             add_blocks(site, other, found)?;
-            Ok(())
         }
         Stmt::SetBlock { body, .. }
         | Stmt::With { body, .. }
         | Stmt::FilterBlock { body, .. }
-        | Stmt::Macro { body, .. } => add_blocks(site, body, found),
+        | Stmt::Macro { body, .. } => add_blocks(site, body, found)?,
     }
+    Ok(())
 }
 
 /// Returns the statements of the template at `index`, or none if the index is out of range.
@@ -182,6 +160,7 @@ pub(crate) fn body_of_file(files: &[TemplateFile], index: usize) -> &[Stmt]
 }
 
 /// Returns the macros of the templates at `indices`. An index out of range adds none.
+#[tactic(auto, using(crate::proofs::TemplatesByIndex::along_turn))]
 pub fn macros_at<'a>(
     alloc: Global,
     files: &'a [TemplateFile],
@@ -216,17 +195,11 @@ pub fn blocks_of_file<'a>(
         ≡ blocks_in (name_at (files_view files.now) index) (body_at (files_view files.now) index)
         escaping) }
 {
-    let mut found = Vec::new(alloc);
-    let site = BodySite {
-        files,
-        template: index,
-        escaping,
-    };
-    add_blocks(site, body_of_file(files, index), &mut found)?;
-    Ok(found)
+    blocks_at(alloc, files, &[index], escaping)
 }
 
 /// Returns the bodies of all blocks of the templates at `indices`. An index out of range adds none.
+#[tactic(auto, using(crate::proofs::TemplatesByIndex::along_turn))]
 pub fn blocks_at<'a>(
     alloc: Global,
     files: &'a [TemplateFile],
@@ -239,7 +212,6 @@ pub fn blocks_at<'a>(
     let mut found = Vec::new(alloc);
     for index in indices {
         let site = BodySite {
-            files,
             template: *index,
             escaping,
         };
@@ -251,6 +223,7 @@ pub fn blocks_at<'a>(
 impl Chain {
     /// Returns all macros of a chain, the entry template's first. Returns an empty list if
     /// `namespace` is out of range.
+    #[tactic(auto, using(crate::proofs::TemplatesByIndex::namespace_macros))]
     pub fn macros(&self, alloc: Global, namespace: usize) -> Result<Vec<Macro<'_>>, AllocError>
         ensures there { namespace < length self.now.namespaces.items → IfOk result (λ found.
             macros_view (its_templates self.now) found.items
@@ -265,6 +238,7 @@ impl Chain {
 
     /// Returns the bodies of all blocks of a chain, the entry template's first. Returns an empty
     /// list if `namespace` is out of range.
+    #[tactic(auto, using(crate::proofs::TemplatesByIndex::namespace_blocks))]
     pub fn blocks(&self, alloc: Global, namespace: usize) -> Result<Vec<Block<'_>>, AllocError>
         ensures there { namespace < length self.now.namespaces.items → IfOk result (λ bodies.
             blocks_view (its_templates self.now) bodies.items

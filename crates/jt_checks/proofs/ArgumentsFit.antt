@@ -1,22 +1,13 @@
 -- Arguments that fit parameters.
-use Rattle.std.proofs.Common.{◌≡◌, ℕ, zero, suc, ◌+◌, ◌<◌, ◌≤◌, ◌-◌, min, max, Some, take, length-drop, nat_lt, Bool}
-use Rattle.std.proofs.Common.{true, false, not, ◌&&◌, List, [], ◌∷◌, length, drop, refl, sym, ap, ◌∙◌, arith, Result}
-use Rattle.std.proofs.Common.{Ok, Err, IfOk, rules}
-use Rattle.std.specs.List.{list_any}
-use Rattle.std.proofs.lemmas.Bool.Decides.{nat_tests}
-use Rattle.jt_ast.specs.ExpressionView.{exprs_view}
-use Rattle.jt_ast.specs.declared.expression.Expr.{Expr}
-use Rattle.jt_ast.specs.Texts.{among, repeated}
-use Rattle.jt_ast.specs.Expressions.{Text}
-use Rattle.jt_ast.specs.StatementView.{parameters_view}
-use Rattle.jt_ast.specs.declared.statement.Parameter.{Parameter}
-use Rattle.jt_chains.specs.Uses.{count}
+use Rattle.std.proofs.Common.{max, Result, Ok, Err, IfOk}
 use Rattle.jt_filter_semantics.specs.FilterIds.{accepts}
-use Rattle.jt_ids.specs.declared.filter_id.FilterId.{FilterId}
-use Rattle.jt_checks.specs.internal.Fitting.{filter_takes}
-use Rattle.jt_checks.specs.internal.RuleTests as rules
+use Rattle.jt_checks.proofs.Vocabulary.{◌≡◌, ℕ, zero, suc, ◌+◌, ◌<◌, ◌≤◌, ◌-◌, min, Some, take, length-drop, nat_lt}
+use Rattle.jt_checks.proofs.Vocabulary.{Bool, true, false, not, ◌&&◌, List, [], ◌∷◌, length, drop, refl, sym, ap, ◌∙◌}
+use Rattle.jt_checks.proofs.Vocabulary.{arith, rules, list_any, nat_tests, exprs_view, Expr, among, repeated, Text}
+use Rattle.jt_checks.proofs.Vocabulary.{parameters_view, Parameter, count, FilterId, filter_takes}
 use Rattle.jt_checks.proofs.FilledParameters.{filled_behind}
 use Rattle.jt_checks.proofs.RowLengths.{counted}
+use Rattle.jt_checks.specs.internal.RuleTests as rules
 
 pub equal_ok : {E : Type 0} → (r : Result Bool E) (u v : Bool) → u ≡ v → IfOk r (λ b. b ≡ u) → IfOk r (λ b. b ≡ v)
 equal_ok (Ok b) u v e h = h ∙ e

@@ -1,23 +1,13 @@
 -- Attributes, by their operand.
-use Rattle.std.proofs.Common.{◌≡◌, List, not, ◌&&◌, codes, Option, Some, None}
-use Rattle.std.proofs.Common.{arith, rules}
-use Rattle.std.specs.Str.{bytes_eq}
-use Rattle.jt_ast.specs.Expressions.{Expr, Exprs, Pairs, attribute, Text}
-use Rattle.jt_chains.specs.Chain.{Namespace, a_library, Sources, Definition, given_to, MacroBody, macros, public_macro}
-use Rattle.jt_chains.specs.Chain.{in_library, library, of_library, Callee, no_callee, callee, named_in}
-use Rattle.jt_checks.specs.Findings.{Subject, a_called_field, a_called_expression, called}
-use Rattle.jt_checks.specs.internal.RuleTests as rules
+use Rattle.jt_ast.specs.Expressions.{Expr}
+use Rattle.jt_chains.specs.Chain.{Sources, Definition, library, MacroBody, macros, public_macro, a_library, callee}
+use Rattle.jt_chains.specs.Chain.{named_in, in_library, of_library}
+use Rattle.jt_checks.specs.Findings.{a_called_field, a_called_expression, called}
+use Rattle.jt_checks.specs.declared.calls.Callee as code
+use Rattle.jt_checks.specs.internal.CalleeView.{Means}
 use Rattle.jt_checks.specs.internal.ScopeView.{name_in}
-use Rattle.jt_rules.specs.CompileEnv.{CompileEnv}
-use Rattle.jt_rules.specs.declared.error.ScopeError.{ScopeError}
-use Rattle.jt_rules.specs.declared.error.ScopeError.TheVariants as error
-
-abbrev pub broken_of : Option Text → Text → Option ScopeError
-broken_of (Some of) k = rules.refused (bytes_eq of (codes "loop") && not (bytes_eq k (codes "cycle"))) error.LoopOutside
-broken_of None k = None
-
-pub attribute_broken : (a : Expr) (k : Text) → rules.callee_broken (attribute a k) ≡ broken_of (name_in a) k
-attribute_broken a0 k = search (arith, rules)
+use Rattle.jt_checks.proofs.Vocabulary.{◌≡◌, List, Option, Some, None, arith, rules, attribute, Text, given_to, Callee}
+use Rattle.jt_checks.proofs.Vocabulary.{no_callee, Subject, sym, subst}
 
 abbrev pub called_of : Option Text → Text → Subject
 called_of (Some of) k = a_called_field of k
@@ -34,10 +24,9 @@ pub attribute_callee : (sources : Sources) (gs : List (Text × Definition)) (a :
     → callee sources gs (attribute a k) ≡ callee_of sources gs (name_in a) k
 attribute_callee sources gs a2 k = search (arith, rules)
 
--- A call of a library's macro, by the definition of the library's name.
-pub called_library : (cenv : CompileEnv) (namespace : Namespace) (w : rules.Enclosing) (o : Option Definition)
-    (n x : Text) (ts : Exprs) (ps : Pairs) (m : Option MacroBody)
-    → o ≡ Some (library n) → m ≡ public_macro x (macros cenv.sources (a_library n))
-    → rules.call_broken cenv namespace (in_library cenv.sources o x) w ts ps
-    ≡ rules.call_broken cenv namespace (of_library cenv.sources n m) w ts ps
-called_library cenv namespace w a3 n x ts ps m e is = search (arith, rules)
+-- The macro of a library, by the definition of the library's name.
+pub means_in_library : (sources : Sources) (o : Option Definition) (n x : Text) (m : Option MacroBody) (k : code.Callee)
+    → o ≡ Some (library n) → m ≡ public_macro x (macros sources (a_library n)) → Means k (of_library sources n m)
+    → Means k (in_library sources o x)
+means_in_library sources o n x m k e is h =
+    subst (λ d. Means k (in_library sources d x)) (sym e) (subst (λ z. Means k (of_library sources n z)) is h)

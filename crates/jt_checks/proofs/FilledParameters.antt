@@ -1,16 +1,10 @@
 -- Parameters that are named or have a default.
-use Rattle.std.proofs.Common.{◌≡◌, ℕ, zero, suc, ◌<◌, Bool, true, false, ◌||◌, if◌then◌else◌, List, [], ◌∷◌, length}
-use Rattle.std.proofs.Common.{take, drop, get_or, refl, ap, ◌∙◌, arith, Option, Some, None, string_bytes, rules}
-use Rattle.std.specs.List.{list_all}
-use Rattle.std.specs.Option.{is_some}
-use Rattle.std.specs.Prelude.{option_map}
 use Rattle.std.proofs.lemmas.Bool.{or_right}
-use Rattle.jt_ast.specs.Texts.{among}
+use Rattle.jt_checks.proofs.Vocabulary.{◌≡◌, ℕ, zero, suc, ◌<◌, Bool, true, false, ◌||◌, if◌then◌else◌, List, [], ◌∷◌}
+use Rattle.jt_checks.proofs.Vocabulary.{length, take, drop, get_or, refl, ap, ◌∙◌, arith, Option, Some, None}
+use Rattle.jt_checks.proofs.Vocabulary.{string_bytes, rules, list_all, is_some, option_map, among, Text}
+use Rattle.jt_checks.proofs.Vocabulary.{parameters_view, Parameter, some_given}
 use Rattle.jt_ast.specs.Statements as trees
-use Rattle.jt_ast.specs.Expressions.{Text}
-use Rattle.jt_ast.specs.StatementView.{parameters_view}
-use Rattle.jt_ast.specs.declared.statement.Parameter.{Parameter}
-use Rattle.jt_eval.specs.Filters.{some_given}
 use Rattle.jt_checks.specs.internal.RuleTests as rules
 
 abbrev pub is_filled : List Text → Parameter → Bool

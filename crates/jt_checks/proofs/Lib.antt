@@ -1,3 +1,4 @@
+pub mod Vocabulary
 pub mod BindingCounts
 pub mod RowLengths
 pub mod FilledParameters
@@ -5,7 +6,6 @@ pub mod FilterArity
 pub mod ArgumentsFit
 pub mod AttributeForms
 pub mod RuleTestsCorrect
-pub mod UsesAreSites
 pub mod FindingsHold
 pub mod NestedCallNames
 pub mod ScopeLookup

@@ -1,30 +1,22 @@
 -- Steps of loops: the first finding in the remaining items of a list.
-use Rattle.std.proofs.Common.{◌≡◌, ℕ, suc, ◌+◌, ◌<◌, ◌≤◌, Bool, true, false, List, [], ◌∷◌, length, map, drop, get_or}
-use Rattle.std.proofs.Common.{nat_le, if◌then◌else◌, string_bytes, refl, sym, ap, ◌∙◌, arith, Option, Some}
-use Rattle.std.proofs.Common.{None, rules}
-use Rattle.std.specs.Option.{option_or}
-use Rattle.std.proofs.lemmas.List.{drop_more}
+use Rattle.std.proofs.Common.{nat_le}
 use Rattle.std.proofs.lemmas.Option.{unwrap_or-slice_get}
-use Rattle.jt_ast.specs.Texts.{ascending, texts}
-use denote.Ref.{Bor}
-use Rattle.jt_ast.specs.Expressions.{Text}
-use Rattle.jt_chains.specs.Chain.{Namespace, namespace_name, a_chain, a_library, Template, templates, libraries}
-use Rattle.jt_chains.specs.Along.{body_at, layers_along}
+use Rattle.jt_chains.specs.Chain.{namespace_name, a_chain, a_library, libraries}
+use Rattle.jt_chains.specs.Along.{body_at}
 use Rattle.jt_chains.specs.Indices.{namespace_at}
 use Rattle.jt_chains.specs.Parts.{name_at}
+use Rattle.jt_uses.specs.Uses.{Site, body_uses, outside}
 use Rattle.jt_chains.specs.Uses.{own_names}
 use Rattle.jt_chains.specs.TemplateFiles.{namespace_view}
-use Rattle.jt_chains.proofs.TemplatesByIndex.{name_of_namespace, namespace_layers}
-use Rattle.jt_chains.proofs.TemplatesByIndex.{namespace_indices, index_within}
-use Rattle.jt_rules.specs.Rules.{libraries_counted, names_counted}
-use Rattle.jt_chains.specs.declared.chain.Namespace as written
-use Rattle.std.proofs.lemmas.Bool.Decides.{nat_tests}
-use Rattle.jt_checks.specs.internal.UseRules as broken
-use Rattle.jt_chains.specs.View.{chain_view}
-use Rattle.jt_chains.specs.declared.chain.Chain.{Chain}
+use Rattle.jt_chains.proofs.TemplatesByIndex.{name_of_namespace, namespace_layers, namespace_indices, index_within}
 use Rattle.jt_checks.specs.internal.ScopeLookup.{cenv_in, namespace_in, names_of}
-use Rattle.jt_rules.specs.CompileEnv.{CompileEnv}
-use Rattle.jt_checks.specs.Findings.{Finding}
+use Rattle.jt_checks.proofs.Vocabulary.{Text, ◌≡◌, ℕ, ◌+◌, ◌<◌, ◌≤◌, Bool, true, false, List, [], ◌∷◌, length, drop}
+use Rattle.jt_checks.proofs.Vocabulary.{get_or, if◌then◌else◌, string_bytes, refl, sym, ap, ◌∙◌, arith, Option, Some}
+use Rattle.jt_checks.proofs.Vocabulary.{None, rules, option_or, drop_more, ascending, Namespace, Template, templates}
+use Rattle.jt_checks.proofs.Vocabulary.{layers_along, libraries_counted, names_counted, nat_tests, chain_view, Chain}
+use Rattle.jt_checks.proofs.Vocabulary.{CompileEnv, Finding}
+use Rattle.jt_chains.specs.declared.chain.Namespace as written
+use Rattle.jt_checks.specs.internal.UseRules as broken
 
 abbrev Found : Type 0
 Found = Option Finding
@@ -36,13 +28,21 @@ some_first a rest e h = sym (ap (λ z. option_or z rest) h)
 pub none_first : (a rest : Found) → a ≡ None → rest ≡ option_or a rest
 none_first a rest h = sym (ap (λ z. option_or z rest) h)
 
-abbrev pub template_at : List Template → ℕ → Template
-template_at ts i = record { name = name_at ts i; body = body_at ts i }
+-- What is found in a template, by its name and its uses.
+pub template_seen : (cenv : CompileEnv) (namespace : Namespace) (c d : Chain) (i : ℕ) (n : Text) (ss : List Site)
+    → d ≡ c → n ≡ name_at (chain_view c).templates i
+    → ss ≡ body_uses (body_at (chain_view d).templates i) outside
+    → broken.found_in cenv namespace n ss
+    ≡ broken.template_broken cenv namespace (broken.template_at (chain_view c).templates i)
+template_seen cenv namespace c d i n ss e f g =
+    ap (λ x. broken.found_in cenv namespace x ss) f
+    ∙ ap (broken.found_in cenv namespace (name_at (chain_view c).templates i))
+    (g ∙ ap (λ (z : Chain). body_uses (body_at (chain_view z).templates i) outside) e)
 
 pub templates_left : (cenv : CompileEnv) (namespace : Namespace) (ts : List Template) (is : List ℕ) (i : ℕ)
     → i < length is
     → broken.templates_broken cenv namespace (layers_along ts (drop i is))
-    ≡ option_or (broken.template_broken cenv namespace (template_at ts (get_or is i 0)))
+    ≡ option_or (broken.template_broken cenv namespace (broken.template_at ts (get_or is i 0)))
     (broken.templates_broken cenv namespace (layers_along ts (drop (i + 1) is)))
 templates_left cenv namespace ts is i lt =
     ap (λ js. broken.templates_broken cenv namespace (layers_along ts js)) (drop_more is i 0 lt)
@@ -91,15 +91,6 @@ names_left cenv order i lt =
     ap (names_counted cenv) (drop_more order i (a_chain []) lt)
     ∙ counted_first cenv (get_or order i (a_chain [])) (drop (i + 1) order)
     ∙ ap (λ h. names_of cenv h + names_counted cenv (drop (i + 1) order)) (there order i)
-
--- The view keeps the number of texts.
-pub texts_length : (ks : List (Bor Text)) → length (texts ks) ≡ length ks
-texts_length [] = refl
-texts_length (k ∷ ks) = ap suc (texts_length ks)
-
-pub namespaces_length : (hs : List written.Namespace) → length (map namespace_view hs) ≡ length hs
-namespaces_length [] = refl
-namespaces_length (h ∷ hs) = ap suc (namespaces_length hs)
 
 -- There are more names than are left.
 pub too_many_names : (left all rest count behind : ℕ) → left + all ≡ 65535 + rest → rest ≡ count + behind

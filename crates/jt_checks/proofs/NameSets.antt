@@ -1,18 +1,19 @@
 -- Sets and lists of names.
-use Rattle.std.proofs.Common.{◌≡◌, ℕ, ◌+◌, ◌<◌, Bool, true, false, cond, not, ◌||◌, List, [], ◌∷◌}
-use Rattle.std.proofs.Common.{length, drop, get_or, refl, sym, ap, ◌∙◌, arith, rules}
-use Rattle.std.specs.List.{list_any}
 use Rattle.std.specs.Ordering.{nat_cmp, is_eq}
 use Rattle.std.specs.Cmp.Lexicographic.{slice_cmp}
-use Rattle.std.specs.Str.{bytes_eq}
-use Rattle.std.specs.BTreeSet as set
-use Rattle.std.proofs.lemmas.List.{drop_more}
+use Rattle.std.specs.BTreeSet.{BTreeSet}
 use Rattle.std.proofs.lemmas.Map.Text.{is_eq-slice_cmp}
-use denote.Ref.{Bor}
-use Rattle.jt_ast.specs.Expressions.{Text}
-use Rattle.jt_ast.specs.Texts.{among, repeated, texts}
-use Rattle.jt_checks.specs.internal.ScopeLookup.{Names, is_among}
 use Rattle.jt_names.proofs.SortedNames.{symmetric, name_cmp}
+use Rattle.jt_checks.proofs.Vocabulary.{◌≡◌, ℕ, suc, ◌+◌, ◌<◌, Bool, true, false, cond, not, ◌||◌, List, [], ◌∷◌}
+use Rattle.jt_checks.proofs.Vocabulary.{length, drop, get_or, refl, sym, ap, ◌∙◌, arith, rules, list_any, list_all}
+use Rattle.jt_checks.proofs.Vocabulary.{is_some, bytes_eq, drop_more, Bor, Text, among, repeated, texts, first_of}
+use Rattle.std.specs.BTreeSet as set
+
+abbrev pub Names : Type 0
+Names = BTreeSet (Bor Text)
+
+abbrev pub is_among : Names → Text → Bool
+is_among s x = set.contains_by (λ k. slice_cmp nat_cmp x k.now) s
 
 -- One of these names is in the set or occurs twice.
 abbrev pub again : Names → List Text → Bool
@@ -72,36 +73,19 @@ again_here m ks i d lt old =
     ap (again m) (texts_left ks i d lt)
     ∙ ap (λ b. b || (among (get_or ks i d).now (texts (drop (i + 1) ks)) || again m (texts (drop (i + 1) ks)))) old
 
-moved : (a b c : Bool) → ((a || b) || c) ≡ (b || (a || c))
-moved a0 a1 c = search (arith, rules)
-
-pub among_step : (m n : Names) (ks : List (Bor Text)) (i : ℕ) (d : Bor Text) → i < length ks
-    → set.Updates name_cmp m n (get_or ks i d) true
-    → (x : Text) → (is_among n x || among x (texts (drop (i + 1) ks))) ≡ (is_among m x || among x (texts (drop i ks)))
-among_step m n ks i d lt u x =
-    let rest = among x (texts (drop (i + 1) ks)) in
-    ap (λ b. b || rest) (among_added m n (get_or ks i d) u x)
-    ∙ moved (bytes_eq (get_or ks i d).now x) (is_among m x) rest
-    ∙ ap (λ l. is_among m x || among x l) (sym (texts_left ks i d lt))
-
 pub from_not : (b c : Bool) → b ≡ not c → b ≡ true → c ≡ false
 from_not a0 a1 e f = search (arith, rules)
 
 pub from_not_false : (b c : Bool) → b ≡ not c → b ≡ false → c ≡ true
 from_not_false a0 a1 e f = search (arith, rules)
 
--- ---- names that are all in a set
+-- ---- names that are all in a list
 
-abbrev pub unknown : List Text → List Text → Bool
-unknown known xs = list_any (λ k. not (among k known)) xs
+pub among_first : (x : Text) (n : ℕ) (ks : List Text) → is_some (first_of x n ks) ≡ among x ks
+among_first x n [] = refl
+among_first x n (k ∷ ks) = search (arith, rules, among_first x (suc n) ks)
 
-pub unknown_here : (known : List Text) (ks : List (Bor Text)) (i : ℕ) (d : Bor Text) → i < length ks
-    → among (get_or ks i d).now known ≡ false → unknown known (texts (drop i ks)) ≡ true
-unknown_here known ks i d lt e =
-    ap (unknown known) (texts_left ks i d lt) ∙ ap (λ b. not b || unknown known (texts (drop (i + 1) ks))) e
-
-pub unknown_step : (known : List Text) (ks : List (Bor Text)) (i : ℕ) (d : Bor Text) → i < length ks
-    → among (get_or ks i d).now known ≡ true
-    → unknown known (texts (drop (i + 1) ks)) ≡ unknown known (texts (drop i ks))
-unknown_step known ks i d lt e =
-    sym (ap (unknown known) (texts_left ks i d lt) ∙ ap (λ b. not b || unknown known (texts (drop (i + 1) ks))) e)
+pub all_in : (known : List Text) (ks : List (Bor Text))
+    → list_all (λ (k : Bor Text). among k.now known) ks ≡ not (list_any (λ k. not (among k known)) (texts ks))
+all_in known [] = refl
+all_in known (k ∷ ks) = search (arith, rules, all_in known ks)

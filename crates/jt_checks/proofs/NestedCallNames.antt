@@ -1,15 +1,11 @@
 -- Names in the arguments of a filter, one argument at a time.
-use Rattle.std.proofs.Common.{◌≡◌, ℕ, suc, ◌+◌, ◌<◌, ◌-◌, ◌==◌, Bool, true, false, ◌&&◌, List, ◌∷◌, drop, length}
-use Rattle.std.proofs.Common.{length-drop, get_or, sym, ap, ◌∙◌, arith, Option, None, rules}
-use Rattle.std.proofs.lemmas.Bool.Decides.{nat_tests}
-use Rattle.std.proofs.lemmas.List.{drop_more}
-use Rattle.jt_ast.specs.Written.{literal_text}
-use Rattle.jt_ast.specs.ExpressionView.{expr_view, exprs_view}
-use Rattle.jt_ast.specs.declared.expression.Expr.{Expr}
-use Rattle.jt_ids.specs.FilterTable.{named_at, with_only}
-use Rattle.jt_ids.specs.declared.filter_id.FilterId.{FilterId}
+use Rattle.std.proofs.Common.{◌==◌}
+use Rattle.jt_ids.specs.FilterTable.{with_only}
 use Rattle.jt_ids.specs.declared.filter_id.ArgumentRole.{ArgumentRole}
-use Rattle.jt_eval.specs.Inside.{argument_well, row_well}
+use Rattle.jt_checks.proofs.Vocabulary.{◌≡◌, ℕ, suc, ◌+◌, ◌<◌, ◌-◌, Bool, true, false, ◌&&◌, List, ◌∷◌, drop, length}
+use Rattle.jt_checks.proofs.Vocabulary.{length-drop, get_or, sym, ap, ◌∙◌, arith, Option, None, rules, nat_tests}
+use Rattle.jt_checks.proofs.Vocabulary.{drop_more, literal_text, expr_view, exprs_view, Expr, named_at, FilterId}
+use Rattle.jt_checks.proofs.Vocabulary.{argument_well, row_well}
 use Rattle.jt_checks.proofs.RowLengths.{counted}
 
 -- Without the name of an only argument, a name means the filter of that name.

@@ -1,11 +1,7 @@
 -- The number of expressions and of pairs in a list.
-use Rattle.std.proofs.Common.{◌≡◌, suc, List, [], ◌∷◌, length, refl, ap, arith, nat_eq, rules}
-use Rattle.std.proofs.lemmas.Bool.Decides.{nat_tests}
-use Rattle.jt_ast.specs.ExpressionView.{exprs_view, pairs_view}
-use Rattle.jt_ast.specs.declared.expression.Expr.{Expr}
-use Rattle.jt_chains.specs.Uses.{count}
 use Rattle.jt_rules.specs.Arguments.{no_keywords}
-use Rattle.jt_ast.proofs.RemainingParts.{Entry}
+use Rattle.jt_checks.proofs.Vocabulary.{◌≡◌, suc, List, [], ◌∷◌, length, refl, ap, arith, nat_eq, rules, nat_tests}
+use Rattle.jt_checks.proofs.Vocabulary.{exprs_view, pairs_view, Expr, count, Entry}
 
 pub counted : (ts : List Expr) → count (exprs_view ts) ≡ length ts
 counted [] = refl

@@ -1,285 +1,132 @@
--- A test of the rules finds a broken rule exactly if one is broken at the use.
-use Rattle.std.proofs.Common.{◌≡◌, refl, sym, ap, ◌∙◌, arith, ℕ, ◌<◌, Bool, true, false, not, ◌&&◌}
-use Rattle.std.proofs.Common.{List, [], ◌∷◌, length, nat_lt, Option, Some, None, rules}
-use Rattle.std.specs.Prelude.{◌⊎◌, codes}
-use Rattle.std.specs.Option.{option_or, is_some}
-use Rattle.std.specs.Str.{bytes_eq}
-use Rattle.std.proofs.lemmas.Bool.Decides.{nat_tests}
+-- Each test decides its rule, and the first rule that a use breaks is broken there.
+use Rattle.std.specs.Prelude.{codes}
+use Rattle.std.specs.Bool.{Decides}
+use Rattle.std.proofs.lemmas.Bool.Decides.{Decides-and, Decides-or, Decides-not, Decides-ltb}
 use Rattle.std.proofs.lemmas.Slice.Eq.{bytes_eq-Decides}
-use Rattle.std.proofs.lemmas.Bool.{and_cases}
-use Rattle.jt_ast.specs.Expressions as trees
-use Rattle.jt_ast.specs.Expressions.{Expr, name, attribute, Exprs, Text}
-use Rattle.jt_ast.specs.Statements.{Parameter}
-use Rattle.jt_ast.specs.Texts.{repeated}
-use Rattle.jt_chains.specs.Uses.{count, keywords}
-use Rattle.jt_chains.specs.Chain.{Namespace, MacroBody, bodies, Definition, given, Callee, a_macro}
-use Rattle.jt_chains.specs.Chain.{a_range, a_super, a_block, a_cycle, no_callee, named_alone, of_library, in_library}
-use Rattle.jt_chains.specs.Chain.{callee}
-use Rattle.jt_ids.specs.declared.loop_field.LoopField.{LoopField}
-use Rattle.jt_ids.specs.LoopTable.{field_named}
-use Rattle.jt_eval.specs.Tests.{test_named}
-use Rattle.jt_rules.specs.Arguments.{callee_takes, test_takes, filter_takes, names_rightly}
-use Rattle.jt_rules.specs.Rules.{IsOnlyCalled, MisusesLoop, CannotBeCalled}
-use Rattle.jt_rules.specs.UseSites.{Enclosing, Use, reads, binds, reads_loop_field, calls, filters, tests, declares}
-use Rattle.jt_rules.specs.UseSites.{names_import, parameter_names}
-use Rattle.jt_uses.specs.Uses as uses
-use Rattle.jt_uses.specs.declared.site.Enclosing as around
-use Rattle.jt_rules.specs.CompileEnv.{CompileEnv}
-use Rattle.jt_rules.specs.declared.error.ScopeError.{ScopeError}
+use Rattle.jt_ast.specs.Expressions.{Expr}
+use Rattle.jt_ast.specs.Statements.{Body, Parameter}
+use Rattle.jt_chains.specs.Chain.{bodies, a_super, a_block, is_loop}
+use Rattle.jt_rules.specs.Rules.{IsOnlyCalled, MisusesLoop, CannotBeCalled, LoopOutside, MacroAsValue, NotCallable}
+use Rattle.jt_rules.specs.Rules.{BadArguments, TooManyParameters}
+use Rattle.jt_uses.specs.Uses.{Use, reads, calls, declares_macro}
+use Rattle.jt_uses.specs.declared.site.Enclosing.{Enclosing}
+use Rattle.jt_checks.proofs.Vocabulary.{◌≡◌, Bool, true, false, not, List, [], ◌∷◌, length, nat_lt, Option, Some, None}
+use Rattle.jt_checks.proofs.Vocabulary.{arith, rules, if◌then◌else◌, nat_tests, name, attribute, Text, Namespace}
+use Rattle.jt_checks.proofs.Vocabulary.{option_or, repeated, Callee, no_callee, CompileEnv, ScopeError, BreaksAt, refl}
+use Rattle.jt_checks.proofs.Vocabulary.{bytes_eq, ◌||◌}
 use Rattle.jt_rules.specs.declared.error.ScopeError.TheVariants as error
-use Rattle.jt_checks.specs.Findings.{BreaksAt, UseBreaks, rules_use, within_view}
-use Rattle.jt_checks.specs.internal.RuleTests.{read_alone, unless, test_broken, filter_broken, refused, is_macro, used}
-use Rattle.jt_checks.specs.internal.RuleTests.{call_broken, callee_broken, macro_broken}
-use Rattle.jt_checks.specs.internal.UseRules.{use_broken, field_broken}
+use Rattle.jt_checks.specs.internal.RuleTests as test
 
--- ---- The meaning of a result: its rule is broken, or no rule is broken
+-- What is found has the property, or if nothing is found, no rule is broken.
+abbrev pub Judged : {A : Type 0} → Option A → (A → Type 0) → (ScopeError → Type 0) → Type 0
+Judged None P N = (rule : ScopeError) → N rule → ⊥
+Judged (Some x) P N = P x
 
-abbrev pub Judged : Option ScopeError → (ScopeError → Type 0) → Type 0
-Judged None P = (rule : ScopeError) → P rule → ⊥
-Judged (Some rule) P = P rule
+is_true : (b : Bool) → Decides b (b ≡ true)
+is_true b = (λ e. e, λ e. e)
 
-differs : {A : Type 0} → true ≡ false → A
-differs e = absurd (cc)
+is_false : (b : Bool) → Decides (not b) (b ≡ false)
+is_false b = search (arith, rules)
 
-same : (x y : Text) → bytes_eq x y ≡ true → x ≡ y
-same x y = (bytes_eq-Decides x y).0
+none_there : {A : Type 0} (xs : List A) → Decides (nat_lt (length xs) 1) (xs ≡ [])
+none_there [] = search (arith, rules, nat_tests)
+none_there (x ∷ xs) = search (arith, rules, nat_tests)
 
-other : (x y : Text) → bytes_eq x y ≡ false → x ≡ y → ⊥
-other x y e is = differs (sym ((bytes_eq-Decides x y).1 is) ∙ e)
+only_called : (x : Text) → Decides (test.is_only_called x) (IsOnlyCalled x)
+only_called x = search (arith, rules, Decides-or, bytes_eq-Decides)
 
-judged_unless : (P : ScopeError → Type 0) (right : Bool) → (right ≡ false → P error.BadArguments)
-    → ((rule : ScopeError) → P rule → right ≡ false) → Judged (unless right) P
-judged_unless P true bad each = λ rule p. differs (each rule p)
-judged_unless P false bad each = bad refl
+loop_misused : (f : Expr) (w : Enclosing) → Decides (test.misuses_loop f w) (MisusesLoop f w)
+loop_misused (name x) w = bytes_eq-Decides x (codes "loop")
+loop_misused (attribute a k) w =
+    let other = Decides-not (bytes_eq k (codes "cycle")) (bytes_eq-Decides k (codes "cycle")) in
+    Decides-and (is_loop a) (not (bytes_eq k (codes "cycle")) || not w.in_loop) (is_true (is_loop a))
+    (Decides-or (not (bytes_eq k (codes "cycle"))) (not w.in_loop) other (is_false w.in_loop))
+loop_misused f w = search (arith, rules)
 
-not_both_true : (a b : Bool) → (a ≡ false) ⊎ (b ≡ false) → (a && b) ≡ false
-not_both_true a0 b a2 = search (arith, rules, differs)
+-- ---- The first rule whose test is true, where each test decides its rule
+
+module _ (P : ScopeError → Type 0) where
+  unbroken : Decides false (P error.LoopOutside) → Decides false (P error.NotCallable)
+      → Decides false (P error.MacroAsValue) → Decides false (P error.BadArguments)
+      → Decides false (P error.TooManySlots) → (P error.NoMemory → ⊥) → (rule : ScopeError) → P rule → ⊥
+  unbroken f g h j k none error.LoopOutside p = let e = f.1 p in absurd (cc)
+  unbroken f g h j k none error.NotCallable p = let e = g.1 p in absurd (cc)
+  unbroken f g h j k none error.MacroAsValue p = let e = h.1 p in absurd (cc)
+  unbroken f g h j k none error.BadArguments p = let e = j.1 p in absurd (cc)
+  unbroken f g h j k none error.TooManySlots p = let e = k.1 p in absurd (cc)
+  unbroken f g h j k none error.NoMemory p = none p
+
+  first_true : (a b c d e : Bool) → Decides a (P error.LoopOutside) → Decides b (P error.NotCallable)
+      → Decides c (P error.MacroAsValue) → Decides (not d) (P error.BadArguments) → Decides e (P error.TooManySlots)
+      → (P error.NoMemory → ⊥)
+      → Judged (if a then Some error.LoopOutside else if b then Some error.NotCallable
+      else if c then Some error.MacroAsValue
+      else if d then test.refused e error.TooManySlots else Some error.BadArguments) P P
+  first_true true b c d e f g h j k none = f.0 refl
+  first_true false true c d e f g h j k none = g.0 refl
+  first_true false false true d e f g h j k none = h.0 refl
+  first_true false false false false e f g h j k none = j.0 refl
+  first_true false false false true true f g h j k none = k.0 refl
+  first_true false false false true false f g h j k none = unbroken f g h j k none
 
 module _ (cenv : CompileEnv) (namespace : Namespace) where
-  -- ---- Names
+  never_called : (c : Callee) (w : Enclosing)
+      → Decides (test.cannot_be_called cenv namespace c w) (CannotBeCalled cenv namespace c w)
+  never_called no_callee w = search (arith, rules)
+  never_called a_super w = is_false w.in_block
+  never_called (a_block x) w = none_there (bodies cenv.sources cenv.escaping namespace x)
+  never_called c w = search (arith, rules)
 
-  -- Holds if a name breaks the rule by itself. The flag is true for a macro or a library.
-  abbrev pub OfName : Bool → Text → ScopeError → Type 0
-  OfName m x error.LoopOutside = x ≡ codes "loop"
-  OfName m x error.MacroAsValue = m ≡ true
-  OfName m x error.NotCallable = IsOnlyCalled x
-  OfName m x rule = ⊥
+  loop_decided : (u : Use) (w : Enclosing)
+      → Decides (test.loop_outside cenv namespace u w) (LoopOutside cenv namespace u w)
+  loop_decided (calls f ts ps) w = loop_misused f w
+  loop_decided u w = search (arith, rules, bytes_eq-Decides)
 
-  no_name : (x : Text) → bytes_eq x (codes "loop") ≡ false → bytes_eq x (codes "self") ≡ false
-      → bytes_eq x (codes "super") ≡ false → bytes_eq x (codes "range") ≡ false → (m : Bool) → m ≡ false
-      → (rule : ScopeError) → OfName m x rule → ⊥
-  no_name x e1 e2 e3 e4 m e5 a7 a8 = search (arith, rules, other, differs)
+  callable_decided : (u : Use) (w : Enclosing)
+      → Decides (test.not_callable cenv namespace u w) (NotCallable cenv namespace u w)
+  callable_decided (calls f ts ps) w = never_called (test.its_callee cenv namespace f) w
+  callable_decided u w = search (arith, rules, only_called)
 
-  name_judged : (x : Text) (m : Bool) → Judged (option_or (read_alone x) (refused m error.MacroAsValue)) (OfName m x)
-  name_judged x m = search (arith, rules, same, no_name)
+  macro_decided : (u : Use) (w : Enclosing)
+      → Decides (test.macro_as_value cenv namespace u) (MacroAsValue cenv namespace u w)
+  macro_decided (reads x) w = is_true (test.is_macro cenv namespace x)
+  macro_decided u w = search (arith, rules, is_true)
 
-  -- ---- Rules of calls
+  arguments_decided : (u : Use) (w : Enclosing)
+      → Decides (not (test.right_arguments cenv namespace u)) (BadArguments cenv namespace u w)
+  arguments_decided (calls f ts ps) w = search (arith, rules, is_false)
+  arguments_decided u w = search (arith, rules, is_false)
 
-  -- Holds if a call breaks the rule, by its callee; `misuse` is the misuse of `loop`.
-  abbrev pub OfCall : Type 0 → Callee → Enclosing → Exprs → trees.Pairs → ScopeError → Type 0
-  OfCall misuse c w ts ps error.LoopOutside = misuse
-  OfCall misuse c w ts ps error.NotCallable = CannotBeCalled cenv namespace c w
-  OfCall misuse c w ts ps error.BadArguments = callee_takes c ts ps ≡ false
-  OfCall misuse c w ts ps rule = ⊥
+  parameters_decided : (u : Use) (w : Enclosing)
+      → Decides (test.many_parameters cenv namespace u) (TooManyParameters cenv namespace u w)
+  parameters_decided (declares_macro x ps body) w = Decides-ltb 255 (length ps)
+  parameters_decided u w = search (arith, rules)
 
-  -- No rule is broken if the call breaks no rule in any of the three ways.
-  no_call : (misuse : Type 0) (c : Callee) (w : Enclosing) (ts : Exprs) (ps : trees.Pairs) → (misuse → ⊥)
-      → (CannotBeCalled cenv namespace c w → ⊥) → callee_takes c ts ps ≡ true → (rule : ScopeError)
-      → OfCall misuse c w ts ps rule → ⊥
-  no_call misuse c w ts ps n k t a8 h = search (arith, rules, differs)
+  -- The first rule that a use breaks is broken there, or no rule is.
+  pub use_judged : (u : Use) (w : Enclosing)
+      → Judged (test.use_broken cenv namespace u w) (λ rule. BreaksAt cenv namespace rule u w)
+      (λ rule. BreaksAt cenv namespace rule u w)
+  use_judged u w =
+      first_true (λ rule. BreaksAt cenv namespace rule u w) (test.loop_outside cenv namespace u w)
+      (test.not_callable cenv namespace u w) (test.macro_as_value cenv namespace u)
+      (test.right_arguments cenv namespace u) (test.many_parameters cenv namespace u) (loop_decided u w)
+      (callable_decided u w) (macro_decided u w) (arguments_decided u w) (parameters_decided u w) (λ h. h)
 
-  none_there : {A : Type 0} (xs : List A) → nat_lt (length xs) 1 ≡ true → xs ≡ []
-  none_there [] e = refl
-  none_there (x ∷ xs) e = absurd (grind (arith, nat_tests))
+-- ---- The rule that a macro breaks, by its name and its parameters
 
-  some_there : {A : Type 0} (xs : List A) → nat_lt (length xs) 1 ≡ false → xs ≡ [] → ⊥
-  some_there [] e is = absurd (grind (arith, nat_tests))
-  some_there (x ∷ xs) e is = absurd (cc)
+three : (a b c : Bool) (m : Option ScopeError)
+    → option_or (if a then Some error.LoopOutside else test.refused b error.NotCallable)
+    (option_or (test.unless (not c)) m)
+    ≡ (if a then Some error.LoopOutside else if b then Some error.NotCallable
+    else if not c then m else Some error.BadArguments)
+three true b c m = refl
+three false true c m = refl
+three false false true m = refl
+three false false false m = refl
 
-  -- The first rule that a call breaks, if it is no call of `loop.cycle`.
-  call_judged : (misuse : Type 0) → (misuse → ⊥) → (c : Callee) → (c ≡ a_cycle → ⊥)
-      → (w : Enclosing) (ts : Exprs) (ps : trees.Pairs)
-      → Judged (call_broken cenv namespace c w ts ps) (OfCall misuse c w ts ps)
-  call_judged misuse n (a_macro h m) d w ts ps = by (callee_takes (a_macro h m) ts ps) refl
-    where
-      by : (b : Bool) → callee_takes (a_macro h m) ts ps ≡ b → Judged (unless b) (OfCall misuse (a_macro h m) w ts ps)
-      by true e = no_call misuse (a_macro h m) w ts ps n (λ z. z) e
-      by false e = e
-  call_judged misuse n a_range d w ts ps = by (callee_takes a_range ts ps) refl
-    where
-      by : (b : Bool) → callee_takes a_range ts ps ≡ b → Judged (unless b) (OfCall misuse a_range w ts ps)
-      by true e = no_call misuse a_range w ts ps n (λ h. h) e
-      by false e = e
-  call_judged misuse n a_super d w ts ps = by w.in_block (callee_takes a_super ts ps) refl refl
-    where
-      by : (i b : Bool) → w.in_block ≡ i → callee_takes a_super ts ps ≡ b
-          → Judged (option_or (refused (not i) error.NotCallable) (unless b)) (OfCall misuse a_super w ts ps)
-      by false b ei e = ei
-      by true true ei e = no_call misuse a_super w ts ps n (λ h. differs (sym ei ∙ h)) e
-      by true false ei e = e
-  call_judged misuse n (a_block x) d w ts ps =
-      by (nat_lt (length (bodies cenv.sources cenv.escaping namespace x)) 1) (callee_takes (a_block x) ts ps) refl refl
-    where
-      by : (i b : Bool) → nat_lt (length (bodies cenv.sources cenv.escaping namespace x)) 1 ≡ i
-          → callee_takes (a_block x) ts ps ≡ b
-          → Judged (option_or (refused i error.NotCallable) (unless b)) (OfCall misuse (a_block x) w ts ps)
-      by true b ei e = none_there (bodies cenv.sources cenv.escaping namespace x) ei
-      by false true ei e =
-          no_call misuse (a_block x) w ts ps n (some_there (bodies cenv.sources cenv.escaping namespace x) ei) e
-      by false false ei e = e
-  call_judged misuse n a_cycle d w ts ps = absurd (d refl)
-  call_judged misuse n no_callee d w ts ps = tt
-
-  -- The first rule that a call of `loop.cycle` breaks: the call misuses `loop` outside a loop.
-  cycle_judged : (misuse : Type 0) (w : Enclosing) → (w.in_loop ≡ false → misuse) → (misuse → w.in_loop ≡ false)
-      → (ts : Exprs) (ps : trees.Pairs)
-      → Judged (call_broken cenv namespace a_cycle w ts ps) (OfCall misuse a_cycle w ts ps)
-  cycle_judged misuse w to back ts ps = search (arith, rules, no_call, differs)
-
-  abbrev pub Named : Expr → Enclosing → Exprs → trees.Pairs → Type 0
-  Named f w ts ps =
-      Judged (option_or (callee_broken f)
-      (call_broken cenv namespace (callee cenv.sources (given cenv.sources namespace) f) w ts ps))
-      (OfCall (MisusesLoop f w) (callee cenv.sources (given cenv.sources namespace) f) w ts ps)
-
-  no_cycle_alone : (o : Option Definition) (x : Text) → named_alone cenv.sources o x ≡ a_cycle → ⊥
-  no_cycle_alone a0 x e = search (arith, rules)
-
-  pub name_called : (x : Text) (w : Enclosing) (ts : Exprs) (ps : trees.Pairs) → Named (name x) w ts ps
-  name_called x w ts ps = search (arith, rules, same, call_judged, other, no_cycle_alone)
-
-  -- The text `self` is not the text `loop`.
-  not_both : {A : Type 0} (of : Text) → bytes_eq of (codes "self") ≡ true → bytes_eq of (codes "loop") ≡ true → A
-  not_both of e1 e2 = differs (sym e2 ∙ ap (λ z. bytes_eq z (codes "loop")) (same of (codes "self") e1))
-
-  no_cycle_of : (n : Text) (o : Option MacroBody) → of_library cenv.sources n o ≡ a_cycle → ⊥
-  no_cycle_of n None e = absurd (cc)
-  no_cycle_of n (Some m) e = absurd (cc)
-
-  no_cycle_in : (o : Option Definition) (x : Text) → in_library cenv.sources o x ≡ a_cycle → ⊥
-  no_cycle_in a0 x e = search (arith, rules, no_cycle_of)
-
-  pub field_called : (of k : Text) (w : Enclosing) (ts : Exprs) (ps : trees.Pairs) → Named (attribute (name of) k) w ts
-      ps
-  field_called of k w ts ps =
-      search (arith, rules, same, not_both, call_judged, differs, no_cycle_in, other, cycle_judged)
-
-  -- ---- Use sites
-
-  -- Holds if a read of a field of `loop` breaks the rule.
-  abbrev pub OfField : Text → Enclosing → ScopeError → Type 0
-  OfField k w error.LoopOutside = (w.in_loop ≡ false) ⊎ (field_named k ≡ None)
-  OfField k w rule = ⊥
-
-  abbrev pub OfArguments : Bool → ScopeError → Type 0
-  OfArguments takes error.BadArguments = takes ≡ false
-  OfArguments takes rule = ⊥
-
-  abbrev pub OfMacro : Text → List Parameter → ScopeError → Type 0
-  OfMacro x ps error.LoopOutside = x ≡ codes "loop"
-  OfMacro x ps error.NotCallable = IsOnlyCalled x
-  OfMacro x ps error.BadArguments = repeated (parameter_names ps) ≡ true
-  OfMacro x ps error.TooManySlots = 255 < length ps
-  OfMacro x ps rule = ⊥
-
-  only_arguments : (takes : Bool) (rule : ScopeError) → OfArguments takes rule → takes ≡ false
-  only_arguments takes a1 h = search (arith, rules)
-
-  pub field_judged : (k : Text) (w : Enclosing)
-      → Judged (refused (not (w.in_loop && is_some (field_named k))) error.LoopOutside) (OfField k w)
-  field_judged k w = by w.in_loop (field_named k) refl refl
-    where
-      right : w.in_loop ≡ true → (f : LoopField) → field_named k ≡ Some f → (rule : ScopeError) → OfField k w rule → ⊥
-      right e f g a3 a4 = search (arith, rules, differs)
-
-      by : (b : Bool) (o : Option LoopField) → w.in_loop ≡ b → field_named k ≡ o
-          → Judged (refused (not (b && is_some o)) error.LoopOutside) (OfField k w)
-      by a0 a1 e g = search (arith, rules, right)
-
-  pub macro_judged : (x : Text) (ps : List Parameter)
-      → Judged (option_or (read_alone x)
-      (option_or (unless (not (repeated (parameter_names ps)))) (refused (nat_lt 255 (length ps)) error.TooManySlots)))
-      (OfMacro x ps)
-  macro_judged x ps = search (arith, rules, nat_lt, other, differs, nat_tests, same)
-
-  -- True if the filter takes its arguments, and these name filters, tests and keys correctly.
-  abbrev pub filter_right : Option ℕ → Exprs → trees.Pairs → Bool
-  filter_right o ts ps = filter_takes cenv.filters o (count ts) (keywords ps) && names_rightly cenv.filters o ts ps
-
-  -- Holds if the rule is broken at the use site.
-  abbrev pub At : Use → Enclosing → ScopeError → Type 0
-  At (reads x) w rule = OfName (is_macro cenv namespace x) x rule
-  At (binds x) w rule = OfName (is_macro cenv namespace x) x rule
-  At (reads_loop_field k) w rule = OfField k w rule
-  At (calls f ts ps) w rule =
-      OfCall (MisusesLoop f w) (callee cenv.sources (given cenv.sources namespace) f) w ts ps rule
-  At (filters x ts ps) w rule = OfArguments (filter_right (cenv.filters.named x ts ps) ts ps) rule
-  At (tests x ts ps) w rule = OfArguments (test_takes (test_named x) ts ps) rule
-  At (declares x ps) w rule = OfMacro x ps rule
-  At (names_import x) w rule = OfName false x rule
-
-  breaks_there : (rule : ScopeError) (u : Use) (w : Enclosing) → At u w rule → BreaksAt cenv namespace rule u w
-  breaks_there error.LoopOutside u w h = search (arith, rules)
-  breaks_there error.MacroAsValue u w h = search (arith, rules, differs)
-  breaks_there error.NotCallable u w h = search (arith, rules)
-  breaks_there error.BadArguments u w h = search (arith, rules, and_cases)
-  breaks_there error.TooManySlots u w h = search (arith, rules)
-  breaks_there error.NoMemory u w h = search (arith, rules)
-
-  broken_there : (rule : ScopeError) (u : Use) (w : Enclosing) → BreaksAt cenv namespace rule u w → At u w rule
-  broken_there error.LoopOutside u w h = search (arith, rules)
-  broken_there error.MacroAsValue u w h = search (arith, rules)
-  broken_there error.NotCallable u w h = search (arith, rules)
-  broken_there error.BadArguments u w h = search (arith, rules, not_both_true)
-  broken_there error.TooManySlots u w h = search (arith, rules)
-  broken_there error.NoMemory u w h = absurd h
-
-  -- The result is a rule that is broken at the use, or no rule is broken there.
-  abbrev pub JudgedAt : Option ScopeError → Use → Enclosing → Type 0
-  JudgedAt o u w = Judged o (λ rule. BreaksAt cenv namespace rule u w)
-
-  as_defined : (o : Option ScopeError) (u : Use) (w : Enclosing) → Judged o (At u w) → JudgedAt o u w
-  as_defined None u w h = λ rule broken. h rule (broken_there rule u w broken)
-  as_defined (Some r) u w h = breaks_there r u w h
-
-  filter_judged : (x : Text) (ts : Exprs) (ps : trees.Pairs) (w : Enclosing)
-      → Judged (filter_broken cenv.filters (cenv.filters.named x ts ps) ts ps) (At (filters x ts ps) w)
-  filter_judged x ts ps w = search (arith, rules, differs, only_arguments, judged_unless)
-
-  test_judged : (x : Text) (ts : Exprs) (ps : trees.Pairs) (w : Enclosing)
-      → Judged (test_broken (test_named x) ts ps) (At (tests x ts ps) w)
-  test_judged x ts ps w = search (arith, rules, differs, only_arguments, judged_unless)
-
-  callee_judged : (f : Expr) (w : Enclosing) (ts : Exprs) (ps : trees.Pairs) → Named f w ts ps
-  callee_judged (name x) w ts ps = name_called x w ts ps
-  callee_judged (attribute (name of) k) w ts ps = field_called of k w ts ps
-  callee_judged f w ts ps = tt
-
-  import_judged : (x : Text) → Judged (read_alone x) (OfName false x)
-  import_judged x = search (arith, rules, name_judged)
-
-  read_judged : (x : Text) (w : Enclosing) → JudgedAt (used cenv namespace x) (reads x) w
-  read_judged x w = as_defined (used cenv namespace x) (reads x) w (name_judged x (is_macro cenv namespace x))
-
-  imported : (x : Text) (w : Enclosing) → JudgedAt (read_alone x) (names_import x) w
-  imported x w = as_defined (read_alone x) (names_import x) w (import_judged x)
-
-  -- The result for a use is a rule that the use breaks, or the use breaks no rule.
-  pub use_judged : (u : uses.Use) (w : around.Enclosing)
-      → Judged (use_broken cenv namespace u w) (λ rule. UseBreaks cenv namespace rule (rules_use u) (within_view w))
-  use_judged (uses.reads x) w = read_judged x (within_view w)
-  use_judged (uses.binds x) w =
-      as_defined (used cenv namespace x) (binds x) (within_view w) (name_judged x (is_macro cenv namespace x))
-  use_judged (uses.reads_loop_field k) w =
-      as_defined (field_broken k w) (reads_loop_field k) (within_view w) (field_judged k (within_view w))
-  use_judged (uses.calls f ts ps) w = search (arith, rules, as_defined, callee_judged)
-  use_judged (uses.filters x ts ps) w = search (arith, rules, as_defined, filter_judged)
-  use_judged (uses.tests x ts ps) w = search (arith, rules, as_defined, test_judged)
-  use_judged (uses.declares_macro x ps body) w =
-      as_defined (macro_broken x ps) (declares x ps) (within_view w) (macro_judged x ps)
-  use_judged (uses.binds_library n x) w = imported x (within_view w)
-  use_judged (uses.binds_macro n m x) w = imported x (within_view w)
-  use_judged (uses.declares_block x scoped required body) w = λ rule h. h
-  use_judged (uses.includes n ignore_missing with_context) w = λ rule h. h
-  use_judged (uses.imports n) w = λ rule h. h
-  use_judged (uses.extends n) w = λ rule h. h
+pub macro_first : (cenv : CompileEnv) (namespace : Namespace) (w : Enclosing) (x : Text) (ps : List Parameter)
+    (body : Body)
+    → test.macro_broken x ps ≡ test.use_broken cenv namespace (declares_macro x ps body) w
+macro_first cenv namespace w x ps body =
+    three (bytes_eq x (codes "loop")) (test.is_only_called x) (repeated (test.parameter_names ps))
+    (test.refused (nat_lt 255 (length ps)) error.TooManySlots)

@@ -1,16 +1,9 @@
 -- The names that a scope knows.
-use Rattle.std.proofs.Common.{◌≡◌, ℕ, suc, nat_lt, Bool, true, false, not, List, [], ◌∷◌, length, map, refl, Option}
-use Rattle.std.proofs.Common.{Some, None, arith, rules}
-use Rattle.std.specs.Str.{bytes_eq}
-use Rattle.std.proofs.lemmas.Bool.Decides.{nat_tests}
-use Rattle.jt_ast.specs.Expressions.{Text}
-use Rattle.jt_names.specs.Names.{first_of}
-use Rattle.std.specs.Option.{is_some}
-use Rattle.std.specs.Prelude.{option_map, filter}
 use Rattle.jt_chains.specs.Chain.{BlockBody}
-use Rattle.jt_chains.specs.declared.chain.Chain.{Chain}
-use Rattle.jt_eval.specs.TheFilters.{the_filters}
 use Rattle.jt_checks.specs.internal.ScopeLookup.{cenv_in}
+use Rattle.jt_checks.proofs.Vocabulary.{◌≡◌, ℕ, suc, nat_lt, Bool, true, false, not, List, [], ◌∷◌, length, map, refl}
+use Rattle.jt_checks.proofs.Vocabulary.{Option, Some, None, arith, rules, bytes_eq, nat_tests, Text, first_of, is_some}
+use Rattle.jt_checks.proofs.Vocabulary.{option_map, filter, Chain, the_filters}
 
 pub mapped : {A B : Type 0} → (f : A → B) (o : Option A) → is_some (option_map f o) ≡ is_some o
 mapped f (Some a) = refl

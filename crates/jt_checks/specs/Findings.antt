@@ -10,7 +10,6 @@ use Rattle.jt_uses.specs.declared.site.Enclosing.{Enclosing}
 use Rattle.jt_rules.specs.CompileEnv.{CompileEnv}
 use Rattle.jt_rules.specs.Rules.{ForSome, LoopOutside, MacroAsValue, NotCallable, BadArguments, TooManyParameters}
 use Rattle.jt_rules.specs.Rules.{BindsTooMany, max_bindings, max_names, names_counted}
-use Rattle.jt_rules.specs.UseSites as sites
 use Rattle.jt_rules.specs.declared.error.ScopeError.{ScopeError}
 use Rattle.jt_rules.specs.declared.error.ScopeError.TheVariants as error
 
@@ -63,27 +62,6 @@ subject_of (uses.binds_library n x) = Some (a_name x)
 subject_of (uses.binds_macro n m x) = Some (a_name x)
 subject_of (uses.extends n) = None
 
--- The use of the rules that a use is; None for a block and for the name of a template, which have no
--- rules.
-abbrev pub rules_use : uses.Use → Option sites.Use
-rules_use (uses.reads x) = Some (sites.reads x)
-rules_use (uses.binds x) = Some (sites.binds x)
-rules_use (uses.reads_loop_field k) = Some (sites.reads_loop_field k)
-rules_use (uses.calls f ts ps) = Some (sites.calls f ts ps)
-rules_use (uses.filters x ts ps) = Some (sites.filters x ts ps)
-rules_use (uses.tests x ts ps) = Some (sites.tests x ts ps)
-rules_use (uses.declares_macro x ps body) = Some (sites.declares x ps)
-rules_use (uses.declares_block x scoped required body) = None
-rules_use (uses.includes n ignore_missing with_context) = None
-rules_use (uses.imports n) = None
-rules_use (uses.binds_library n x) = Some (sites.names_import x)
-rules_use (uses.binds_macro n m x) = Some (sites.names_import x)
-rules_use (uses.extends n) = None
-
--- The context of a use, as the rules see it.
-abbrev pub within_view : Enclosing → sites.Enclosing
-within_view w = record { in_loop = w.in_loop; in_block = w.in_block }
-
 -- True if the use binds a name that counts as a binding of its template.
 abbrev pub is_binding : uses.Use → Bool
 is_binding (uses.binds x) = true
@@ -97,8 +75,8 @@ abbrev pub lines_bound : List Site → List ℕ
 lines_bound ss = map (λ s. s.place.line) (filter binds_name ss)
 
 module _ (cenv : CompileEnv) (namespace : Namespace) where
-  -- Holds if a use of the rules breaks the rule.
-  abbrev pub BreaksAt : ScopeError → sites.Use → sites.Enclosing → Type 0
+  -- Holds if a use of a template breaks the rule.
+  abbrev pub BreaksAt : ScopeError → uses.Use → Enclosing → Type 0
   BreaksAt error.LoopOutside u around = LoopOutside cenv namespace u around
   BreaksAt error.MacroAsValue u around = MacroAsValue cenv namespace u around
   BreaksAt error.NotCallable u around = NotCallable cenv namespace u around
@@ -106,15 +84,10 @@ module _ (cenv : CompileEnv) (namespace : Namespace) where
   BreaksAt error.TooManySlots u around = TooManyParameters cenv namespace u around
   BreaksAt error.NoMemory u around = ⊥
 
-  -- Holds if a use of a template breaks the rule.
-  abbrev pub UseBreaks : ScopeError → Option sites.Use → sites.Enclosing → Type 0
-  UseBreaks rule None around = ⊥
-  UseBreaks rule (Some u) around = BreaksAt rule u around
-
   -- The use stands at the line of the finding, breaks its rule, and its rules are about the subject.
   pub record IsFoundAt (f : Finding) (s : Site) : Type 0 where
     pub line : s.place.line ≡ f.line
-    pub broken : UseBreaks f.rule (rules_use s.made) (within_view s.place.around)
+    pub broken : BreaksAt f.rule s.made s.place.around
     pub subject : subject_of s.made ≡ Some f.subject
 
   -- The template binds too many names. The line is that of the first one beyond the limit.

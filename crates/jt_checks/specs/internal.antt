@@ -1,3 +1,4 @@
+pub mod CalleeView
 pub mod Fitting
 pub mod RuleTests
 pub mod ScopeLookup

@@ -4,21 +4,21 @@ ghost use Rattle.std.specs.Prelude.{◌≡◌, ◌<◌, ◌≤◌, ◌^◌, ◌&
 ghost use Rattle.std.specs.List.{list_any};
 ghost use Rattle.jt_ast.specs.ExpressionView.{exprs_view, pairs_view};
 ghost use Rattle.jt_ast.specs.Texts.{among, repeated, texts};
-ghost use Rattle.jt_ast.specs.Expressions.{Text};
 ghost use Rattle.jt_ast.specs.StatementView.{names_view, parameter_view, parameters_view};
+ghost use Rattle.jt_chains.specs.Chain.{a_range};
 ghost use Rattle.jt_chains.specs.Uses.{count, keywords};
 ghost use Rattle.jt_eval.specs.TheFilters.{the_filters, filter_parameters};
 ghost use Rattle.jt_eval.specs.Inside.{names_well};
 ghost use Rattle.jt_eval.specs.Tests.{test_named};
+ghost use Rattle.jt_rules.specs.Arguments.{callee_takes, test_takes};
 ghost use Rattle.jt_checks.specs.internal.RuleTests as rules;
 ghost use Rattle.jt_checks.specs.internal.Fitting.{filter_takes};
-ghost use Rattle.jt_checks.specs.internal.ScopeLookup.{is_among};
 
 use crate::nested_calls::are_names_well;
 use jt_ast::{Expr, Parameter};
 use jt_eval::{filter_of, filter_parameters, test_of};
 use jt_ids::FilterId;
-use jt_names::{keyword_names, parameter_names};
+use jt_names::{NameIndex, keyword_names, parameter_names};
 use jt_rules::ScopeError;
 use std::alloc::{AllocError, Global};
 use std::collections::BTreeSet;
@@ -54,29 +54,13 @@ pub(crate) fn any_repeated(alloc: Global, names: &[&str]) -> Result<bool, AllocE
     Ok(false)
 }
 
-/// Returns the names as a set.
-fn set_of<'a>(alloc: Global, names: &[&'a str]) -> Result<BTreeSet<&'a str>, AllocError>
-    ensures { IfOk result (λ s. (x : Text) → is_among s x ≡ among x (texts names.now)) }
-{
-    let mut set = BTreeSet::new(alloc);
-    for name in names {
-        set.insert(*name)?;
-    }
-    Ok(set)
-}
-
 /// Returns whether each name is in `known`.
 fn all_known(alloc: Global, names: &[&str], known: &[&str]) -> Result<bool, AllocError>
     ensures { IfOk result
         (λ b. b ≡ not (list_any (λ k. not (among k (texts known.now))) (texts names.now))) }
 {
-    let set = set_of(alloc, known)?;
-    for name in names {
-        if !set.contains(*name) {
-            return Ok(false);
-        }
-    }
-    Ok(true)
+    let index = NameIndex::of(alloc, known, 0)?;
+    Ok(names.iter().all(|name| index.index_of(name).is_some()))
 }
 
 /// Returns whether names occur once each, and name only parameters after the first `filled` ones.
@@ -118,7 +102,8 @@ pub(crate) fn fits(
 /// Returns the rule that the arguments of `range` break.
 #[tactic(auto, using(crate::proofs::RowLengths::counted, crate::proofs::RowLengths::keyless))]
 pub(crate) fn range_broken(row: &[Expr], pairs: &[(String, Expr)]) -> Option<ScopeError>
-    ensures { result ≡ rules.range_broken (exprs_view row.now) (pairs_view pairs.now) }
+    ensures { result
+        ≡ rules.unless (callee_takes a_range (exprs_view row.now) (pairs_view pairs.now)) }
 {
     let given = row.len();
     unless(0 < given && given < 4 && pairs.is_empty())
@@ -127,8 +112,8 @@ pub(crate) fn range_broken(row: &[Expr], pairs: &[(String, Expr)]) -> Option<Sco
 /// Returns the rule that the arguments of a test break.
 #[tactic(auto, using(crate::proofs::RowLengths::counted, crate::proofs::RowLengths::keyless))]
 pub(crate) fn test_broken(name: &str, row: &[Expr], pairs: &[(String, Expr)]) -> Option<ScopeError>
-    ensures { result
-        ≡ rules.test_broken (test_named name.now) (exprs_view row.now) (pairs_view pairs.now) }
+    ensures { result ≡ rules.unless
+        (test_takes (test_named name.now) (exprs_view row.now) (pairs_view pairs.now)) }
 {
     let test = test_of(name)?;
     unless(test.takes(row.len() + 1) && pairs.is_empty())
@@ -171,9 +156,9 @@ pub(crate) fn filter_broken(
     row: &[Expr],
     pairs: &[(String, Expr)],
 ) -> Result<Option<ScopeError>, AllocError>
-    ensures { IfOk result (λ o. o ≡ rules.filter_broken the_filters
+    ensures { IfOk result (λ o. o ≡ rules.unless (rules.filter_right the_filters
         (the_filters.named name.now (exprs_view row.now) (pairs_view pairs.now))
-        (exprs_view row.now) (pairs_view pairs.now)) }
+        (exprs_view row.now) (pairs_view pairs.now))) }
 {
     match filter_of(name, row, pairs) {
         Some(filter) => Ok(unless(filter_accepts(alloc, filter, row, pairs)?)),

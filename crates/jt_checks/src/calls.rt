@@ -1,170 +1,148 @@
-//! Checks the static rules of calls, by their callee.
+//! Finds what calls name, and checks the static rules of a call by its callee.
 
-ghost use Rattle.std.specs.Prelude.{◌≡◌, not, IfOk, option_map};
-ghost use Rattle.std.specs.Option.{option_or};
+ghost use Rattle.std.specs.Prelude.{◌≡◌, ◌==◌, ◌&&◌, IfOk, option_map, if◌then◌else◌};
+ghost use Rattle.std.specs.Prelude.{Some};
 ghost use Rattle.jt_ast.specs.ExpressionView.{expr_view, exprs_view, pairs_view};
-ghost use Rattle.jt_chains.specs.Chain.{callee, Namespace, named_form, named_alone, named_in};
-ghost use Rattle.jt_chains.specs.Chain.{in_library};
+ghost use Rattle.jt_chains.specs.Chain as chain;
+ghost use Rattle.jt_chains.specs.Chain.{callee, named_form, named_alone, named_in, in_library};
 ghost use Rattle.jt_checks.specs.internal.RuleTests as rules;
-ghost use Rattle.jt_rules.specs.CompileEnv.{CompileEnv};
-ghost use Rattle.jt_checks.specs.internal.ScopeLookup.{is_block};
+ghost use Rattle.jt_checks.specs.internal.CalleeView.{Means};
 ghost use Rattle.jt_checks.specs.internal.ScopeView.{its_sources, its_given, given_in, in_scope};
-ghost use Rattle.jt_checks.specs.internal.ScopeView.{FindsCall, HasFacts, is_bare, is_positional};
-ghost use Rattle.jt_checks.specs.internal.ScopeView.{name_in};
-ghost use Rattle.jt_checks.specs.internal.UseRules.{within_view};
+ghost use Rattle.jt_checks.specs.internal.ScopeView.{HasFacts, is_bare, name_in};
 ghost use Rattle.jt_rules.specs.declared.error.ScopeError.TheVariants as error;
 
-use crate::arguments::{fits, range_broken, refused, unless};
+use crate::arguments::{fits, range_broken, unless};
 use crate::scope::Scope;
-use jt_ast::Expr;
+use jt_ast::{Expr, Parameter};
 use jt_chains::Definition;
 use jt_rules::ScopeError;
 use jt_uses::Enclosing;
 use std::alloc::AllocError;
 
-/// Returns the rule that a call of `range` or `super` breaks by itself. No other bare name is
-/// callable unless it stands for a macro.
-fn form_call_broken(
-    within: Enclosing,
-    name: &str,
-    row: &[Expr],
-    pairs: &[(String, Expr)],
-) -> Option<ScopeError>
-    ensures { (cenv : CompileEnv) (namespace : Namespace) → result
-        ≡ rules.call_broken cenv namespace (named_form name.now) (within_view within)
-        (exprs_view row.now) (pairs_view pairs.now) }
+/// What the expression before the arguments of a call names.
+#[derive(Clone, Copy)]
+pub(crate) enum Callee<'a> {
+    /// A macro, by its parameters.
+    Macro(&'a [Parameter]),
+    /// The name `range`.
+    Range,
+    /// The name `super`.
+    Super,
+    /// A block of `self`, by its name.
+    Block(&'a str),
+    /// The field `cycle` of `loop`.
+    Cycle,
+    /// Nothing that can be called.
+    Nothing,
+}
+
+/// Returns what a bare name means that stands for no macro and no library.
+fn form_of(name: &str) -> Callee<'_>
+    ensures { Means result (named_form name.now) }
 {
     match name {
-        "range" => range_broken(row, pairs),
-        "super" => super_broken(within, row, pairs),
-        _ => Some(ScopeError::NotCallable),
+        "range" => Callee::Range,
+        "super" => Callee::Super,
+        _ => Callee::Nothing,
     }
 }
 
-/// Returns the rule that a call of a bare name breaks by itself.
-fn name_call_broken(
-    scope: &Scope<'_, '_>,
-    within: Enclosing,
-    name: &str,
-    row: &[Expr],
-    pairs: &[(String, Expr)],
-) -> Result<Option<ScopeError>, AllocError>
+/// Returns what a bare name means.
+fn callee_alone<'a>(scope: &Scope<'_, 'a>, name: &'a str) -> Callee<'a>
     requires { HasFacts scope.now }
-    ensures { IfOk result (FindsCall scope.now within (named_alone (its_sources scope.now)
-        (given_in scope.now name.now) name.now) row.now pairs.now) }
+    ensures { Means result (named_alone (its_sources scope.now) (given_in scope.now name.now)
+        name.now) }
 {
     match scope.given(name) {
         Some(Definition::Own(found) | Definition::Imported(_, found)) => {
-            Ok(unless(fits(scope.alloc, found.parameters, row, pairs)?))
+            Callee::Macro(found.parameters)
         }
-        Some(Definition::Library(_)) => Ok(Some(ScopeError::NotCallable)),
-        None => Ok(form_call_broken(within, name, row, pairs)),
+        Some(Definition::Library(_)) => Callee::Nothing,
+        None => form_of(name),
     }
 }
 
-/// Returns the rule that a call of `super` breaks.
-#[tactic(auto, using(crate::proofs::RowLengths::counted, crate::proofs::RowLengths::keyless))]
-fn super_broken(within: Enclosing, row: &[Expr], pairs: &[(String, Expr)]) -> Option<ScopeError>
-    ensures { result ≡ option_or (rules.refused (not within.in_block) error.NotCallable)
-        (rules.unless (is_bare (exprs_view row.now) (pairs_view pairs.now))) }
-{
-    let outside = refused(!within.in_block, ScopeError::NotCallable);
-    outside.or(unless(row.is_empty() && pairs.is_empty()))
-}
-
-/// Returns the rule that a call of `self.b` breaks.
-#[tactic(auto, using(crate::proofs::RowLengths::counted, crate::proofs::RowLengths::keyless, crate::proofs::ScopeLookup::not_not))]
-fn self_broken(
-    scope: &Scope<'_, '_>,
-    block: &str,
-    row: &[Expr],
-    pairs: &[(String, Expr)],
-) -> Option<ScopeError>
+/// Returns the macro `field` of the library that the name `of` stands for.
+fn callee_in_library<'a>(scope: &Scope<'_, 'a>, of: &str, field: &str) -> Callee<'a>
     requires { HasFacts scope.now }
-    ensures { result ≡ option_or (rules.refused (not (in_scope is_block scope.now block.now))
-        error.NotCallable) (rules.unless (is_bare (exprs_view row.now) (pairs_view pairs.now))) }
+    ensures { Means result (in_library (its_sources scope.now) (given_in scope.now of.now)
+        field.now) }
 {
-    let unknown = refused(!scope.is_block(block), ScopeError::NotCallable);
-    unknown.or(unless(row.is_empty() && pairs.is_empty()))
-}
-
-/// Returns the rule that a call of `loop.cycle` breaks.
-#[tactic(auto, using(crate::proofs::RowLengths::counted, crate::proofs::RowLengths::keyless))]
-fn cycle_broken(within: Enclosing, row: &[Expr], pairs: &[(String, Expr)]) -> Option<ScopeError>
-    ensures { result ≡ option_or (rules.refused (not within.in_loop) error.LoopOutside)
-        (rules.unless (is_positional (exprs_view row.now) (pairs_view pairs.now))) }
-{
-    let given = row.len();
-    let outside = refused(!within.in_loop, ScopeError::LoopOutside);
-    outside.or(unless(0 < given && pairs.is_empty()))
-}
-
-/// Returns the rule that a call of a library's macro breaks by itself. `path` holds the names of
-/// both.
-fn library_call_broken(
-    scope: &Scope<'_, '_>,
-    within: Enclosing,
-    path: (&str, &str),
-    row: &[Expr],
-    pairs: &[(String, Expr)],
-) -> Result<Option<ScopeError>, AllocError>
-    requires { HasFacts scope.now }
-    ensures { IfOk result (FindsCall scope.now within (in_library (its_sources scope.now)
-        (given_in scope.now path.entry.0.now) path.entry.1.now) row.now pairs.now) }
-{
-    let (of, field) = path;
     let Some(Definition::Library(library)) = scope.given(of) else {
-        return Ok(Some(ScopeError::NotCallable));
+        return Callee::Nothing;
     };
     match scope.chain.library_macro(library, field) {
-        Some(found) => Ok(unless(fits(scope.alloc, found.parameters, row, pairs)?)),
-        None => Ok(Some(ScopeError::NotCallable)),
+        Some(found) => Callee::Macro(found.parameters),
+        None => Callee::Nothing,
     }
 }
 
-/// Returns the rule that a call of an attribute breaks by itself: `self.b`, `loop.cycle`, or a
-/// macro of a library.
-#[tactic(auto, using(crate::proofs::ScopeLookup::not_not))]
-fn field_call_broken(
-    scope: &Scope<'_, '_>,
-    within: Enclosing,
-    path: (&str, &str),
-    row: &[Expr],
-    pairs: &[(String, Expr)],
-) -> Result<Option<ScopeError>, AllocError>
+/// Returns what the field of a name means: `self.b`, `loop.cycle`, or a macro of a library.
+fn callee_of_field<'a>(scope: &Scope<'_, 'a>, of: &str, field: &'a str) -> Callee<'a>
     requires { HasFacts scope.now }
-    ensures { IfOk result (FindsCall scope.now within (named_in (its_sources scope.now)
-        (given_in scope.now path.entry.0.now) path.entry.0.now path.entry.1.now)
-        row.now pairs.now) }
+    ensures { Means result (named_in (its_sources scope.now) (given_in scope.now of.now) of.now
+        field.now) }
 {
-    match path {
-        ("self", field) => Ok(self_broken(scope, field, row, pairs)),
-        ("loop", "cycle") => Ok(cycle_broken(within, row, pairs)),
-        ("loop", _) => Ok(Some(ScopeError::NotCallable)),
-        _ => library_call_broken(scope, within, path, row, pairs),
+    match (of, field) {
+        ("self", _) => Callee::Block(field),
+        ("loop", "cycle") => Callee::Cycle,
+        ("loop", _) => Callee::Nothing,
+        _ => callee_in_library(scope, of, field),
     }
 }
 
-/// Returns the rule that a call breaks by itself, by its callee.
+/// Returns what a callee names.
 #[tactic(auto, using(crate::proofs::AttributeForms::attribute_callee))]
-pub(crate) fn call_broken(
-    scope: &Scope<'_, '_>,
-    within: Enclosing,
-    called: &Expr,
-    row: &[Expr],
-    pairs: &[(String, Expr)],
-) -> Result<Option<ScopeError>, AllocError>
+pub(crate) fn callee_of<'a>(scope: &Scope<'_, 'a>, called: &'a Expr) -> Callee<'a>
     requires { HasFacts scope.now }
-    ensures { IfOk result (FindsCall scope.now within (callee (its_sources scope.now)
-        (its_given scope.now) (expr_view called.now)) row.now pairs.now) }
+    ensures { Means result (callee (its_sources scope.now) (its_given scope.now)
+        (expr_view called.now)) }
 {
     match called {
-        Expr::Name(name) => name_call_broken(scope, within, name, row, pairs),
+        Expr::Name(name) => callee_alone(scope, name),
         Expr::Attribute(value, field) => match name_of(value) {
-            Some(of) => field_call_broken(scope, within, (of, field), row, pairs),
-            None => Ok(Some(ScopeError::NotCallable)),
+            Some(of) => callee_of_field(scope, of, field),
+            None => Callee::Nothing,
         },
-        _ => Ok(Some(ScopeError::NotCallable)),
+        _ => Callee::Nothing,
+    }
+}
+
+/// Returns the rule that a call without arguments breaks, if `callable` says whether its callee can
+/// be called.
+#[tactic(auto, using(crate::proofs::RowLengths::counted, crate::proofs::RowLengths::keyless))]
+fn bare_call_broken(callable: bool, row: &[Expr], pairs: &[(String, Expr)]) -> Option<ScopeError>
+    ensures { result ≡ (if callable then rules.unless (is_bare (exprs_view row.now)
+        (pairs_view pairs.now)) else Some error.NotCallable) }
+{
+    if callable {
+        unless(row.is_empty() && pairs.is_empty())
+    } else {
+        Some(ScopeError::NotCallable)
+    }
+}
+
+/// Returns the rule that a call breaks by its callee.
+#[tactic(auto, using(crate::proofs::RowLengths::counted, crate::proofs::RowLengths::keyless))]
+pub(crate) fn call_broken(
+    scope: &Scope<'_, '_>,
+    around: Enclosing,
+    called: Callee<'_>,
+    row: &[Expr],
+    pairs: &[(String, Expr)],
+) -> Result<Option<ScopeError>, AllocError>
+    requires { HasFacts scope.now }
+    ensures { IfOk result (λ o. (c : chain.Callee) → Means called.entry c → o
+        ≡ in_scope rules.call_broken scope.now c around (exprs_view row.now)
+        (pairs_view pairs.now)) }
+{
+    match called {
+        Callee::Macro(parameters) => Ok(unless(fits(scope.alloc, parameters, row, pairs)?)),
+        Callee::Range => Ok(range_broken(row, pairs)),
+        Callee::Super => Ok(bare_call_broken(around.in_block, row, pairs)),
+        Callee::Block(name) => Ok(bare_call_broken(scope.is_block(name), row, pairs)),
+        Callee::Cycle => Ok(unless(0 < row.len() && pairs.is_empty())),
+        Callee::Nothing => Ok(Some(ScopeError::NotCallable)),
     }
 }
 

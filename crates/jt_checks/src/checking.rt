@@ -14,8 +14,8 @@ ghost use Rattle.jt_checks.specs.internal.ScopeView.{capped, its_namespace, name
 ghost use Rattle.jt_checks.specs.internal.ScopeView.{HasFacts, its_sources, in_scope};
 ghost use Rattle.jt_checks.specs.internal.ScopeLookup.{cenv_in, namespace_in};
 ghost use Rattle.jt_checks.specs.internal.UseRules as broken;
+ghost use Rattle.jt_checks.specs.internal.UseRules.{template_at};
 ghost use Rattle.jt_names.specs.FactsOfChains.{AllKnown};
-ghost use Rattle.jt_uses.specs.UseView.{sites_view};
 ghost use Rattle.jt_rules.specs.CompileEnv.{cenv_of};
 
 use crate::finding::{Finding, Subject};
@@ -24,7 +24,6 @@ use crate::uses::{binding_line, uses_broken};
 use jt_chains::Chain;
 use jt_names::{ChainFacts, in_order};
 use jt_rules::ScopeError;
-use jt_uses::UseSite;
 use std::alloc::{AllocError, Global};
 
 /// The greatest number of names that a template binds, each counted as often as it is written.
@@ -117,8 +116,7 @@ fn templates_broken<'a>(
 {
     let itself = &scope.chain.namespaces[scope.namespace];
     for template in &itself.templates {
-        let name = template_name(scope.chain, *template);
-        if let Some(finding) = template_broken(scope, name, facts.uses_at(*template))? {
+        if let Some(finding) = template_broken(scope, facts, *template)? {
             return Ok(Some(finding));
         }
     }
@@ -135,16 +133,21 @@ fn template_name(chain: &Chain, index: usize) -> &str
     }
 }
 
-/// Returns the first finding in a template with these uses.
+/// Returns the first finding in the template at `index`.
 fn template_broken<'a>(
-    scope: &Scope<'_, '_>,
-    name: &'a str,
-    uses: &[UseSite<'a>],
+    scope: &Scope<'_, 'a>,
+    facts: &ChainFacts<'a>,
+    index: usize,
 ) -> Result<Option<Finding<'a>>, AllocError>
-    requires { HasFacts scope.now }
-    ensures { IfOk result (λ o. option_map finding_view o
-        ≡ in_scope broken.found_in scope.now name.now (sites_view uses.now)) }
+    requires known { AllKnown facts.now }
+    requires same { facts.now.chain.now ≡ scope.now.chain.now }
+    requires scope { HasFacts scope.now }
+    requires within { index < length scope.now.chain.now.templates.items }
+    ensures { IfOk result (λ o. option_map finding_view o ≡ in_scope broken.template_broken
+        scope.now (template_at (chain_view scope.now.chain.now).templates index)) }
 {
+    let name = template_name(scope.chain, index);
+    let uses = facts.uses_at(index);
     if let Some(finding) = uses_broken(scope, name, uses)? {
         return Ok(Some(finding));
     }

@@ -10,12 +10,12 @@ ghost use Rattle.jt_checks.specs.internal.ScopeView.{HasFacts, in_scope};
 ghost use Rattle.jt_checks.specs.internal.UseRules as broken;
 
 use crate::arguments::{any_repeated, filter_broken, refused, test_broken, unless};
-use crate::calls::{call_broken, name_of};
+use crate::calls::{call_broken, callee_of};
 use crate::finding::{Finding, subject_of};
 use crate::scope::Scope;
 use jt_ast::{Expr, Parameter};
 use jt_ids::LoopField;
-use jt_names::parameter_names;
+use jt_names::{is_loop_name, parameter_names};
 use jt_rules::ScopeError;
 use jt_uses::{Enclosing, Use, UseSite};
 use std::alloc::{AllocError, Global};
@@ -44,27 +44,24 @@ fn used(scope: &Scope<'_, '_>, name: &str) -> Option<ScopeError>
 
 /// Returns the rule that a read of a field of `loop` breaks.
 fn field_broken(field: &str, around: Enclosing) -> Option<ScopeError>
-    ensures { result ≡ broken.field_broken field.now around }
+    ensures { result ≡ rules.field_broken field.now around }
 {
     let right = around.in_loop && LoopField::by_name(field).is_some();
     refused(!right, ScopeError::LoopOutside)
 }
 
-/// Returns `LoopOutside` if a callee is `loop` itself, or a field of it other than `cycle`.
-#[tactic(auto, using(crate::proofs::AttributeForms::attribute_broken))]
-fn callee_broken(callee: &Expr) -> Option<ScopeError>
-    ensures { result ≡ rules.callee_broken (expr_view callee.now) }
+/// Returns whether a callee is `loop` itself, a field of it other than `cycle`, or `cycle` outside
+/// a loop.
+fn misuses_loop(callee: &Expr, in_loop: bool) -> bool
+    ensures { (w : Enclosing) → w.in_loop ≡ in_loop
+        → result ≡ rules.misuses_loop (expr_view callee.now) w }
 {
     match callee {
-        Expr::Name(name) => refused(name.as_str() == "loop", ScopeError::LoopOutside),
+        Expr::Name(name) => name.as_str() == "loop",
         Expr::Attribute(value, field) => {
-            let of = name_of(value)?;
-            refused(
-                of == "loop" && field.as_str() != "cycle",
-                ScopeError::LoopOutside,
-            )
+            is_loop_name(value) && (field.as_str() != "cycle" || !in_loop)
         }
-        _ => None,
+        _ => false,
     }
 }
 
@@ -84,8 +81,11 @@ fn macro_broken(
 }
 
 /// Returns the rule that a use breaks.
-#[tactic(auto, using(crate::proofs::ScopeLookup::its_filters))]
-fn site_broken(scope: &Scope<'_, '_>, site: &UseSite<'_>) -> Result<Option<ScopeError>, AllocError>
+#[tactic(auto, using(crate::proofs::ScopeLookup::its_filters, crate::proofs::RuleTestsCorrect::macro_first))]
+fn site_broken<'a>(
+    scope: &Scope<'_, 'a>,
+    site: &UseSite<'a>,
+) -> Result<Option<ScopeError>, AllocError>
     requires { HasFacts scope.now }
     ensures { IfOk result (λ o. o ≡ in_scope broken.site_broken scope.now (site_view site.now)) }
 {
@@ -98,8 +98,11 @@ fn site_broken(scope: &Scope<'_, '_>, site: &UseSite<'_>) -> Result<Option<Scope
             arguments,
             keywords,
         } => {
-            let call = call_broken(scope, around, callee, arguments, keywords)?;
-            Ok(callee_broken(callee).or(call))
+            if misuses_loop(callee, around.in_loop) {
+                return Ok(Some(ScopeError::LoopOutside));
+            }
+            let called = callee_of(scope, callee);
+            call_broken(scope, around, called, arguments, keywords)
         }
         Use::Filters {
             name,
@@ -125,7 +128,7 @@ fn site_broken(scope: &Scope<'_, '_>, site: &UseSite<'_>) -> Result<Option<Scope
 
 /// Returns the finding at a use of a template, if the use breaks a rule.
 fn site_finding<'a>(
-    scope: &Scope<'_, '_>,
+    scope: &Scope<'_, 'a>,
     template: &'a str,
     site: &UseSite<'a>,
 ) -> Result<Option<Finding<'a>>, AllocError>
@@ -149,7 +152,7 @@ fn site_finding<'a>(
 
 /// Returns the first finding at the uses of a template.
 pub(crate) fn uses_broken<'a>(
-    scope: &Scope<'_, '_>,
+    scope: &Scope<'_, 'a>,
     template: &'a str,
     uses: &[UseSite<'a>],
 ) -> Result<Option<Finding<'a>>, AllocError>

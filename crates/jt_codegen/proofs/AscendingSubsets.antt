@@ -5,7 +5,7 @@ use Rattle.jt_semantics.specs.Ascends.{Ascends}
 use Rattle.jt_semantics.proofs.Among as meaning
 use Rattle.jt_semantics.proofs.NameCounts as few
 use Rattle.jt_semantics.proofs.NameCounts.{ascends_differs}
-use Rattle.jt_semantics.proofs.Scopes.{all_among}
+use Rattle.jt_semantics.proofs.Among.{all_among}
 use Rattle.jt_lower.proofs.SourceLocsCorrect.{Among}
 
 -- Both definitions of membership agree.

@@ -1,5 +1,5 @@
 -- What an explanation states is true of the entry.
-use Rattle.std.proofs.Common.{◌≡◌, ℕ, List, [], ◌∷◌, Option, Some, None, refl, sym, ap, ◌∙◌, subst, inl, inr}
+use Rattle.std.proofs.Common.{◌≡◌, ℕ, List, [], ◌∷◌, Some, None, refl, sym, ap, ◌∙◌, subst, inl, inr}
 use Rattle.std.specs.Prelude.{◌≢◌, ◌⊎◌, ◌≤◌, ◌+◌, ◌*◌, length, Result, Ok, Err, IfOk}
 use Rattle.std.specs.List.{AllByRecursion}
 use Rattle.jt_scan.specs.declared.options.Options.{Options}
@@ -10,7 +10,7 @@ use Rattle.jt_chains.specs.Indices.{namespace_at}
 use Rattle.jt_chains.specs.View.{Seen, sources_of}
 use Rattle.jt_chains.specs.Weights.{chains_weight}
 use Rattle.jt_checks.specs.Findings as findings
-use Rattle.jt_checks.specs.Findings.{IsFoundAt, IsFoundIn, UseBreaks}
+use Rattle.jt_checks.specs.Findings.{IsFoundAt, IsFoundIn, BreaksAt}
 use Rattle.jt_inherit.specs.Chains.{SourceTexts, IsChain}
 use Rattle.jt_inherit.specs.Refusals as inherit
 use Rattle.jt_inherit.specs.Small.{chains_len, source_len}
@@ -19,7 +19,6 @@ use Rattle.jt_inherit.specs.declared.error.ChainError.TheVariants as chain_error
 use Rattle.jt_rules.specs.CompileEnv.{CompileEnv, cenv_of}
 use Rattle.jt_rules.specs.Rules as rules
 use Rattle.jt_rules.specs.Rules.{ForSome, KeepsRules}
-use Rattle.jt_rules.specs.UseSites as sites
 use Rattle.jt_rules.specs.declared.error.ScopeError.{ScopeError}
 use Rattle.jt_rules.specs.declared.error.ScopeError.TheVariants as scope_error
 use Rattle.jt_uses.specs.Uses.{Site, body_uses, outside}
@@ -54,14 +53,9 @@ some_not P (x ∷ xs) none (inl p) = none x p
 some_not P (x ∷ xs) none (inr s) = some_not P xs none s
 
 -- Lack of memory is no broken rule.
-use_not : (cenv : CompileEnv) (h : Namespace) (rule : ScopeError) (o : Option sites.Use) (w : sites.Enclosing)
-    → rule ≡ scope_error.NoMemory → UseBreaks cenv h rule o w → ⊥
-use_not cenv h rule None w e b = b
-use_not cenv h rule (Some u) w e b = subst (λ r. UseBreaks cenv h r (Some u) w) e b
-
 site_not : (cenv : CompileEnv) (h : Namespace) (f : findings.Finding) → f.rule ≡ scope_error.NoMemory → (s : Site)
     → IsFoundAt cenv h f s → ⊥
-site_not cenv h f e s at = use_not cenv h f.rule _ _ e at.broken
+site_not cenv h f e s at = subst (λ r. BreaksAt cenv h r s.made s.place.around) e at.broken
 
 template_not : (cenv : CompileEnv) (h : Namespace) (f : findings.Finding) → f.rule ≡ scope_error.NoMemory
     → (t : Template) → IsFoundIn cenv h f t → ⊥

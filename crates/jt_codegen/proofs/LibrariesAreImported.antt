@@ -13,7 +13,7 @@ use Rattle.jt_chains.specs.Includes.{with_source, included, InOrder}
 use Rattle.jt_chains.specs.Rules.{Reaches}
 use Rattle.jt_inherit.specs.Chains.{SourceTexts}
 use Rattle.jt_inherit.specs.Small.{templates_len, libraries_len, chains_len}
-use Rattle.jt_inherit.proofs.NamespaceCount.{HasTag, needed, tagged}
+use Rattle.jt_inherit.proofs.TreeWeights.{HasTag, needed, tagged}
 use Rattle.jt_semantics.proofs.Among.{Among, all_ascending}
 use Rattle.jt_semantics.proofs.EnvLookup.{same_text, same_is, namespace_is, no_both, each_among}
 use Rattle.std.proofs.lemmas.Bool.{or_right}

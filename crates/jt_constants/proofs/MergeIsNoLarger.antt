@@ -17,7 +17,7 @@ bytes cs = length (flat_map constant_bytes cs)
 
 bytes_added : (acc : List Constant) (c : Constant) (b : Bool)
     → bytes (if b then acc else acc ++ c ∷ []) ≤ bytes acc + length (constant_bytes c)
-bytes_added acc c a2 = search (arith, rules, flat_map-append, length-append, flat_map-cons)
+bytes_added acc c b = search (arith, rules, flat_map-append, length-append, flat_map-cons)
 
 bytes_once : (acc cs : List Constant) → bytes (fold with_new acc cs) ≤ bytes acc + bytes cs
 bytes_once acc [] = omega arith

@@ -91,12 +91,12 @@ module _ (k : Code) where
 
   then_same : (n : ℕ) (q : Option Place) (a : Action) → ((m : MachineState) → exec (merged k) n m ≡ exec k n m)
       → on_action q a (exec (merged k) n) ≡ on_action q a (exec k n)
-  then_same n q a2 h = search (arith, rules)
+  then_same n q a h = search (arith, rules)
 
   at_same : (n : ℕ) (x : Option (Section × Instruction)) (m : MachineState)
       → ((d : MachineState) → exec (merged k) n d ≡ exec k n d)
       → exec_at (merged k) (option_map both x) m (exec (merged k) n) ≡ exec_at k x m (exec k n)
-  at_same n a1 m h = search (arith, rules, place_same, action_same, then_same)
+  at_same n x m h = search (arith, rules, place_same, action_same, then_same)
 
   exec_same : (n : ℕ) (m : MachineState) → exec (merged k) n m ≡ exec k n m
   exec_same zero m = refl

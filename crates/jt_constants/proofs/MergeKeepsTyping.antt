@@ -44,7 +44,7 @@ module _ (k : Code) (u : Section) where
   called_same p (Some w) s = λ j. pops_many w.parameters s (λ r. goes_same p (gives w.kind r) j)
 
   effect_same : (p : ℕ) (i : Instruction) (s : Shape) → effect (merged k) v p (with_indices ps i) s ≡ effect k u p i s
-  effect_same p a1 s =
+  effect_same p i s =
       search (arith, rules, inside, goes_same, reads, jumps_same, branches_same, makes_same, slice_get-map, called_same)
 
   of_same : (p : ℕ) (o : Option Instruction) (s : Shape)

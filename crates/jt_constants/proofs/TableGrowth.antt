@@ -21,10 +21,10 @@ use Rattle.jt_constants.proofs.UniqueConstants.{Has, no_fewer, same_is, same_sel
 -- ---- keys are equal if and only if their constants are the same
 
 bools : (a b : Bool) → is_eq (bool_cmp a b) ≡ beq a b
-bools a0 a1 = search (arith, rules)
+bools a b = search (arith, rules)
 
 pub same_key : (x y : Key) → is_eq (key_cmp x y) ≡ same (key_view x) (key_view y)
-same_key a0 a1 = search (arith, rules, bools, is_eq-slice_cmp)
+same_key x y = search (arith, rules, bools, is_eq-slice_cmp)
 
 -- ---- the indices of keys
 
@@ -79,7 +79,7 @@ index_in_all now (d ∷ ds) c h = by (list_any (same d) now) refl (λ more has. 
     by : (b : Bool) → list_any (same d) now ≡ b
         → ((more : List Constant) → Has more c → index_in (fold with_new more ds) c ≡ index_in more c)
         → index_in (fold with_new (with_new now d) ds) c ≡ index_in now c
-    by a0 e rest = search (arith, rules, added_there, list_any-append, added_absent, index_kept)
+    by b e rest = search (arith, rules, added_there, list_any-append, added_absent, index_kept)
 
 module _ (pool : List Value) (i : ℕ) (value : Value) (now more : List Constant) (indices : List ℕ) (index : ℕ)
     (inside : i < length pool) (is : value ≡ get_or pool i value) (holds : Holds pool i now indices)

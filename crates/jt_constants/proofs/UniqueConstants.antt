@@ -12,10 +12,10 @@ use Rattle.jt_image.specs.Code.{Constant}
 use Rattle.jt_constants.specs.Merged.{same, with_new, each_once, index_in, new_indices, moved}
 
 pub same_is : (c d : Constant) → same c d ≡ true → c ≡ d
-same_is a0 a1 e = search (arith, rules, bytes_eq-Decides)
+same_is c d e = search (arith, rules, bytes_eq-Decides)
 
 pub same_self : (c : Constant) → same c c ≡ true
-same_self a0 = search (arith, rules, bytes_eq-Decides)
+same_self c = search (arith, rules, bytes_eq-Decides)
 
 -- ---- constants that occur in a list
 

@@ -1,7 +1,7 @@
 -- The values of items and members are converted in order.
 use Rattle.std.proofs.Common.{◌≡◌, ◌∙◌, ◌++◌, ℕ, Bool, true, false, List, [], ◌∷◌, Option, Some, None, String}
 use Rattle.std.proofs.Common.{Global, Less, ap, ap₂, refl, sym, map, option_map, string_bytes, string_cmp}
-use Rattle.std.proofs.Common.{length, arith, rules}
+use Rattle.std.proofs.Common.{arith, rules}
 use Rattle.std.specs.Prelude.{OnOk, Result, Ok, Err}
 use Rattle.std.specs.Result.{is_err}
 use Rattle.std.specs.List.{AllByRecursion}
@@ -41,21 +41,6 @@ pub one_more : {A B : Type 0} (f : A → Option B) (xs : List A) (ys : List B) (
 one_more f xs ys x y e h =
     map-append f xs (x ∷ []) ∙ (ap₂ (λ a b. a ++ b ∷ []) e h ∙ sym (map-append Some ys (y ∷ [])))
 
-first_of : {A : Type 0} (x y : A) (xs ys : List A) → x ∷ xs ≡ y ∷ ys → x ≡ y
-first_of x y xs ys e = cc
-
-rest_of : {A : Type 0} (x y : A) (xs ys : List A) → x ∷ xs ≡ y ∷ ys → xs ≡ ys
-rest_of x y xs ys e = cc
-
-pub nil_of : {A : Type 0} (xs : List A) (n : ℕ) → length xs ≡ n → n ≡ 0 → xs ≡ []
-nil_of [] n e z = refl
-nil_of (x ∷ xs) n e z = absurd (omega (arith, e, z))
-
--- If a call did not fail, the promise of its success holds.
-pub unless_failed : {T E : Type 0} (r : Result T E) (P : Type 0) → false ≡ is_err r → OnOk r P → P
-unless_failed (Ok x) P e h = h
-unless_failed (Err x) P e h = absurd cc
-
 -- ---- all items and members
 
 pub items_from : (js : List Json) (vs : List Value) → map value_in js ≡ map Some (map view vs)
@@ -64,9 +49,7 @@ items_from [] [] e = refl
 items_from [] (v ∷ vs) e = absurd cc
 items_from (j ∷ js) [] e = absurd cc
 items_from (j ∷ js) (v ∷ vs) e =
-    let head : value_in j ≡ Some (view v) = first_of (value_in j) (Some (view v)) _ _ e in
-    let rest = items_from js vs (rest_of (value_in j) (Some (view v)) _ _ e) in
-    rw (head, rest) refl
+    let head : value_in j ≡ Some (view v) = cc in rw (head, items_from js vs (cc)) refl
 
 named : (k : List ℕ) (o : Option Tree) (p : List ℕ × Tree) → option_map (λ t. (k, t)) o ≡ Some p
     → (o ≡ Some p.1) × (k ≡ p.0)
@@ -78,9 +61,10 @@ pairs_from [] [] e = refl
 pairs_from [] (p ∷ ps) e = absurd cc
 pairs_from (m ∷ ms) [] e = absurd cc
 pairs_from (m ∷ ms) (p ∷ ps) e =
-    let head = named (string_bytes m.0) (value_in m.1) p (first_of (shown m) (Some p) _ _ e) in
-    let rest = pairs_from ms ps (rest_of (shown m) (Some p) _ _ e) in
-    rw (head.0, rest, head.1) refl
+    let first : shown m ≡ Some p = cc in
+    let others : map shown ms ≡ map Some ps = cc in
+    let head = named (string_bytes m.0) (value_in m.1) p first in
+    rw (head.0, pairs_from ms ps others, head.1) refl
 
 pub entries_from : (ms : List Member) (es : List (Text × Value)) → map shown ms ≡ map Some (pairs es)
     → entries_of (members_view ms) ≡ Some (entries_view es)
@@ -88,10 +72,10 @@ entries_from [] [] e = refl
 entries_from [] (x ∷ es) e = absurd cc
 entries_from (m ∷ ms) [] e = absurd cc
 entries_from (m ∷ ms) (x ∷ es) e =
-    let head = named (string_bytes m.0) (value_in m.1) (x.0, view x.1)
-    (first_of (shown m) (Some (x.0, view x.1)) _ _ e) in
-    let rest = entries_from ms es (rest_of (shown m) (Some (x.0, view x.1)) _ _ e) in
-    rw (head.0, rest, head.1) refl
+    let first : shown m ≡ Some (x.0, view x.1) = cc in
+    let others : map shown ms ≡ map Some (pairs es) = cc in
+    let head = named (string_bytes m.0) (value_in m.1) (x.0, view x.1) first in
+    rw (head.0, entries_from ms es others, head.1) refl
 
 -- ---- a key above all keys before it is put at the end
 
@@ -108,10 +92,12 @@ put_last [] m rest [] t s e = refl
 put_last [] m rest (p ∷ ps) t s e = absurd cc
 put_last (d ∷ done) m rest [] t s e = absurd cc
 put_last (d ∷ done) m rest (p ∷ ps) t s e =
-    let head = named (string_bytes d.0) (value_in d.1) p (first_of (shown d) (Some p) _ _ e) in
+    let first : shown d ≡ Some p = cc in
+    let others : map shown done ≡ map Some ps = cc in
+    let head = named (string_bytes d.0) (value_in d.1) p first in
     let last : bytes_eq p.0 (string_bytes m.0) ≡ false = ap (λ k. bytes_eq k (string_bytes m.0)) (sym head.1)
     ∙ apart (string_bytes d.0) (string_bytes m.0) (below_middle d done m rest s.0) in
-    rw last (ap (λ qs. p ∷ qs) (put_last done m rest ps t s.1 (rest_of (shown d) (Some p) _ _ e)))
+    rw last (ap (λ qs. p ∷ qs) (put_last done m rest ps t s.1 others))
 
 -- ---- a flaw of a part is a flaw of the whole
 
@@ -127,7 +113,7 @@ members_middle p (d ∷ done) m rest e = or_right _ _ (members_middle p done m r
 
 pub item_flaw : (done : List Json) (j : Json) (rest : List Json) (e : ContextError) → Flaw (json_view j) e
     → ItemsFlaw (json_items (done ++ j ∷ rest)) e
-item_flaw a0 a1 a2 a3 a4 = search (arith, rules, items_middle)
+item_flaw done j rest e a4 = search (arith, rules, items_middle)
 
 pub member_flaw : (done : List Member) (m : Member) (rest : List Member) (e : ContextError) → Flaw (json_view m.1) e
     → MembersFlaw (members_view (done ++ m ∷ rest)) e

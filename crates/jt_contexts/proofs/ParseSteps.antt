@@ -27,6 +27,7 @@ use Rattle.jt_value.specs.declared.text.Text.{Text}
 use Rattle.jt_value.specs.declared.value.Value.{Value}
 use Rattle.jt_contexts.specs.internal.KeyOrder.{text_cmp}
 use Rattle.jt_contexts.specs.Json.{number_of, value_of, items_of, entries_of, pairs_in}
+use Rattle.jt_contexts.proofs.KeyOrder.{below_middle}
 
 abbrev pub Entry : Type 0
 Entry = Text × Value
@@ -128,21 +129,13 @@ pub none_before : (r : Option (Items × List Token)) → r ≡ parse_map (before
 none_before None = refl
 none_before (Some p) = refl
 
-first_of : {A : Type 0} (x y : A) (xs ys : List A) → x ∷ xs ≡ y ∷ ys → x ≡ y
-first_of x y xs ys e = cc
-
-rest_of : {A : Type 0} (x y : A) (xs ys : List A) → x ∷ xs ≡ y ∷ ys → xs ≡ ys
-rest_of x y xs ys e = cc
-
 pub all_items : (ds : List Data) (vs : List Value) → map value_of ds ≡ map Some (map view vs)
     → items_of (before ds no_items) ≡ Some (items_view vs)
 all_items [] [] e = refl
 all_items [] (v ∷ vs) e = absurd cc
 all_items (d ∷ ds) [] e = absurd cc
 all_items (d ∷ ds) (v ∷ vs) e =
-    let head : value_of d ≡ Some (view v) = first_of (value_of d) (Some (view v)) _ _ e in
-    let rest = all_items ds vs (rest_of (value_of d) (Some (view v)) _ _ e) in
-    rw (head, rest) refl
+    let head : value_of d ≡ Some (view v) = cc in rw (head, all_items ds vs (cc)) refl
 
 -- ---- members in the order of their keys
 
@@ -155,7 +148,7 @@ record First (k : List ℕ) (o : Option Tree) (r : Option Pairs) (ps : Pairs) : 
 
 first : (k : List ℕ) (o : Option Tree) (r : Option Pairs) (ps : Pairs)
     → option_and_then (λ t. option_map (λ qs. (k, t) ∷ qs) r) o ≡ Some ps → First k o r ps
-first a0 a1 a2 a3 a4 = search (arith, rules)
+first k o r ps a4 = search (arith, rules)
 
 more : (k : List ℕ) (d : Data) (ms : Members) (t : Tree) (ps : Pairs) → value_of d ≡ Some t → pairs_in ms ≡ Some ps
     → pairs_in (member k d ms) ≡ Some ((k, t) ∷ ps)
@@ -173,9 +166,8 @@ pairs-put (member l c ms) [] k d v e h =
     absurd cc
 pairs-put (member l c ms) (x ∷ es) k d v e h =
     let f = first l (value_of c) (pairs_in ms) (pairs (x ∷ es)) e in
-    let head : (x.0, view x.1) ≡ (l, f.value) =
-    first_of (x.0, view x.1) (l, f.value) (pairs es) f.rest f.all in
-    let tail : pairs es ≡ f.rest = rest_of (x.0, view x.1) (l, f.value) (pairs es) f.rest f.all in
+    let head : (x.0, view x.1) ≡ (l, f.value) = cc in
+    let tail : pairs es ≡ f.rest = cc in
     let name : l ≡ x.0 = ap (λ (p : List ℕ × Tree). p.0) (sym head) in
     let old : value_of c ≡ Some (view x.1) = f.is ∙ ap (λ (p : List ℕ × Tree). Some p.1) (sym head) in
     let others : pairs_in ms ≡ Some (pairs es) = f.others ∙ ap Some (sym tail) in
@@ -218,11 +210,6 @@ pub entries_in : (ms : Members) (es : List Entry) → pairs_in ms ≡ Some (pair
 entries_in ms es e = entries_among ms (pairs es) e ∙ ap Some (sym (entries_seen es))
 
 -- ---- a key above all keys before it is put at the end
-
-below_middle : (d : Entry) (ms : List Entry) (m : Entry) (rest : List Entry)
-    → AllByRecursion (λ y. text_cmp d.0 y ≡ Less) (keys_of (ms ++ m ∷ rest)) → text_cmp d.0 m.0 ≡ Less
-below_middle d [] m rest h = h.0
-below_middle d (x ∷ ms) m rest h = below_middle d ms m rest h.1
 
 pub apart : (x y : List ℕ) → slice_cmp nat_cmp x y ≡ Less → bytes_eq x y ≡ false
 apart x y e = sym (is_eq-slice_cmp x y) ∙ ap is_eq e

@@ -20,7 +20,7 @@ faulty limits (Err other) fault e = let f : fault ≡ other = cc in ap (λ (x : 
 
 never_by : (a b : Bool) (t : Tree)
     → cond a (Err error.TooLarge) (cond b (Err error.TooDeep) (Ok t)) ≡ Err error.NoMemory → ⊥
-never_by a0 a1 a2 a3 = search (arith, rules)
+never_by a b t a3 = search (arith, rules)
 
 abbrev size_of : Result (ℕ × ℕ) Fault → ℕ
 size_of (Ok m) = m.0
@@ -32,7 +32,7 @@ nesting_of (Err f) = 0
 
 refused_by : (limits : Limits) (t : Tree) (x : OpError) → limited_by limits (Ok t) ≡ Err x
     → Answers (Err x) (limited_by limits (Ok t))
-refused_by a0 a1 a2 a3 = search (arith, rules, never_by)
+refused_by limits t x a3 = search (arith, rules, never_by)
 
 of_measure : (P : Tree → Type 0) (m : ℕ × ℕ) (t : Tree) → OfMeasure m.0 m.1 P → Ok m ≡ measured (Ok t) → P t
 of_measure P m t f e = f t (ap size_of e) (ap nesting_of e)

@@ -7,19 +7,19 @@ use Rattle.jt_value.specs.Payload.{text_of, joined_items}
 use Rattle.jt_value.specs.Tree.{Tree, Items, no_items, item, size, nesting, items_size, items_nesting}
 use Rattle.jt_value.specs.View.{view, items_view}
 use Rattle.jt_value.specs.declared.value.Value.{Value}
-use Rattle.jt_filters.proofs.ListAppend.{pushed}
+use Rattle.jt_filters.proofs.ListAppend.{pushed, joined_joined}
 use Rattle.jt_filters.specs.internal.Operands.{front}
 use Rattle.jt_filter_semantics.specs.Ordering.{alike, fold, has_alike, unseen}
 
 pub alike_texts : (t u : Tree) (r s : List ℕ) → Some r ≡ text_of t → Some s ≡ text_of u
     → alike t u ≡ bytes_eq (fold r) (fold s)
-alike_texts a0 a1 a2 a3 a4 a5 = search (arith, rules)
+alike_texts t u r s a4 a5 = search (arith, rules)
 
 pub first_no_text : (t u : Tree) → None ≡ text_of t → alike t u ≡ equal t u
-first_no_text a0 a1 a2 = search (arith, rules)
+first_no_text t u a2 = search (arith, rules)
 
 pub second_no_text : (t u : Tree) → None ≡ text_of u → alike t u ≡ equal t u
-second_no_text a0 a1 a2 = search (arith, rules)
+second_no_text t u a2 = search (arith, rules)
 
 pub front_none : (n : ℕ) → front n no_items ≡ no_items
 front_none zero = refl
@@ -28,10 +28,6 @@ front_none (suc n) = refl
 pub front_more : (n : ℕ) (u : Tree) (us : Items) → ¬ (n ≡ 0) → front n (item u us) ≡ item u (front (n - 1) us)
 front_more zero u us some = absurd (some refl)
 front_more (suc n) u us some = let e : n ≡ suc n - 1 = omega arith in ap (λ (k : ℕ). item u (front k us)) e
-
-joined_joined : (ts us vs : Items) → joined_items (joined_items ts us) vs ≡ joined_items ts (joined_items us vs)
-joined_joined no_items us vs = refl
-joined_joined (item t ts) us vs = ap (item t) (joined_joined ts us vs)
 
 same_first : (t u : Tree) (rest us : Items) → item t rest ≡ item u us → item u no_items ≡ item t no_items
 same_first t u rest us e = cc

@@ -1,18 +1,11 @@
 -- Escaping keeps a text without special characters.
-use Rattle.std.proofs.Common.{◌≡◌, ℕ, Bool, true, false, ◌||◌, List, [], ◌∷◌, ◌++◌, Option, Some, None, refl}
+use Rattle.std.proofs.Common.{◌≡◌, ℕ, false, ◌||◌, List, [], ◌∷◌, ◌++◌, Option, Some, None, refl}
 use Rattle.std.proofs.Common.{ap, ◌∙◌}
 use Rattle.std.specs.List.{list_any}
 use Rattle.std.specs.Option.{is_some}
 use Rattle.std.specs.Prelude.{unwrap_or}
 use Rattle.jt_escape.specs.Escaping.{escaped, entity}
-
-left_false : (a b : Bool) → (a || b) ≡ false → a ≡ false
-left_false true b e = e
-left_false false b e = refl
-
-right_false : (a b : Bool) → (a || b) ≡ false → b ≡ false
-right_false true b e = cc
-right_false false b e = e
+use Rattle.std.proofs.lemmas.Bool.{or_parts}
 
 own_byte : (o : Option (List ℕ)) (b : ℕ) → is_some o ≡ false → unwrap_or o (b ∷ []) ≡ b ∷ []
 own_byte None b e = refl
@@ -22,6 +15,6 @@ pub unescaped : (s : List ℕ) → list_any (λ b. is_some (entity b)) s ≡ fal
 unescaped [] e = refl
 unescaped (b ∷ bs) e =
     ap (λ (head : List ℕ). head ++ escaped bs)
-    (own_byte (entity b) b (left_false (is_some (entity b)) (list_any (λ b. is_some (entity b)) bs) e))
+    (own_byte (entity b) b (or_parts (is_some (entity b)) (list_any (λ b. is_some (entity b)) bs) e).0)
     ∙ ap (λ (rest : List ℕ). b ∷ rest)
-    (unescaped bs (right_false (is_some (entity b)) (list_any (λ b. is_some (entity b)) bs) e))
+    (unescaped bs (or_parts (is_some (entity b)) (list_any (λ b. is_some (entity b)) bs) e).1)

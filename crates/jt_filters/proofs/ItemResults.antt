@@ -7,13 +7,13 @@ use Rattle.jt_value.specs.declared.value.Value.{Value}
 use Rattle.jt_value.specs.Payload.{joined_items}
 use Rattle.jt_value.specs.Tree.{Tree, Items, no_items, item}
 use Rattle.jt_value.specs.View.{view, items_view}
-use Rattle.jt_value.proofs.Lists.{joined_size, joined_nesting}
+use Rattle.jt_value.proofs.Lists.{joined_size, joined_nesting, joined_none}
 use Rattle.jt_value.specs.Iteration.{items_of_tree}
 use Rattle.jt_filter_semantics.specs.Listing.{on_items, given}
 use Rattle.jt_filter_semantics.specs.Mapping.{in_front, gathered, gathered_by, as_list, alone}
 use Rattle.jt_filters.specs.internal.Operands.{measured}
 use Rattle.jt_filters.specs.internal.Rows.{row_measured, measured_behind}
-use Rattle.jt_filters.proofs.ListAppend.{pushed, joined_none}
+use Rattle.jt_filters.proofs.ListAppend.{pushed, joined_joined}
 
 pair_is : (a b c d : ℕ) → a ≡ b → c ≡ d → ◌≡◌ {A = Result (ℕ × ℕ) Fault} (Ok (a, c)) (Ok (b, d))
 pair_is a b c d e f = ap (λ (x : ℕ). Ok (x, c)) e ∙ ap (λ (x : ℕ). Ok (b, x)) f
@@ -21,10 +21,6 @@ pair_is a b c d e f = ap (λ (x : ℕ). Ok (x, c)) e ∙ ap (λ (x : ℕ). Ok (b
 pub alone_measured : (r : Result Tree Fault) → row_measured (alone r) ≡ measured r
 alone_measured (Ok t) = pair_is _ _ _ _ (omega arith) (omega arith)
 alone_measured (Err f) = refl
-
-joined_joined : (ts us vs : Items) → joined_items (joined_items ts us) vs ≡ joined_items ts (joined_items us vs)
-joined_joined no_items us vs = refl
-joined_joined (item t ts) us vs = ap (item t) (joined_joined ts us vs)
 
 -- The measure after no items is the measure alone.
 pub behind_none : (r : Result Items Fault) → measured_behind 0 0 r ≡ row_measured r
@@ -50,7 +46,8 @@ pub behind_more : (given rest : Result Items Fault) (size nesting more deepest :
     → Ok (more, deepest) ≡ row_measured given
     → measured_behind (min (size + more) (2 ^ 64 - 1)) (max nesting deepest) rest
     ≡ measured_behind size nesting (in_front given rest)
-behind_more a0 a1 a2 a3 a4 a5 a6 = search (arith, rules, size_is, nesting_is, pair_is, joined_size, joined_nesting)
+behind_more given rest size nesting more deepest e =
+    search (arith, rules, size_is, nesting_is, pair_is, joined_size, joined_nesting)
 
 pub behind_fault : (given rest : Result Items Fault) (size nesting : ℕ) (f : Fault) → Err f ≡ row_measured given
     → Err f ≡ measured_behind size nesting (in_front given rest)
@@ -86,7 +83,7 @@ behind_end give all size nesting is s n =
 
 pub list_measured : (r : Result Items Fault) (size nesting : ℕ) → Ok (size, nesting) ≡ row_measured r
     → Ok (min (size + 1) (2 ^ 64 - 1), min (nesting + 1) (2 ^ 32 - 1)) ≡ measured (as_list r)
-list_measured a0 a1 a2 a3 = search (arith, rules, size_is, nesting_is, pair_is)
+list_measured r size nesting a3 = search (arith, rules, size_is, nesting_is, pair_is)
 
 pub list_fault : (r : Result Items Fault) (f : Fault) → Err f ≡ row_measured r → Err f ≡ measured (as_list r)
 list_fault (Ok ts) f e = absurd (cc)
@@ -96,7 +93,7 @@ list_fault (Err g) f e = e
 pub front_more : (old new : List Value) (given rest : Result Items Fault)
     → in_front (Ok (items_view old)) given ≡ Ok (items_view new)
     → in_front (Ok (items_view new)) rest ≡ in_front (Ok (items_view old)) (in_front given rest)
-front_more a0 a1 a2 a3 a4 = search (arith, rules, joined_joined)
+front_more old new given rest a4 = search (arith, rules, joined_joined)
 
 pub front_fault : (ts : Items) (given rest : Result Items Fault) (f : Fault) → given ≡ Err f
     → in_front (Ok ts) (in_front given rest) ≡ Err f

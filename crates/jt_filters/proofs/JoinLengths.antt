@@ -1,8 +1,7 @@
 -- The lengths of joined texts.
 use Rattle.std.proofs.Common.{◌≡◌, ℕ, ◌+◌, ◌-◌, ◌^◌, min, Bool, true, false, cond, ◌||◌, ◌&&◌, not, List, [], ◌∷◌, ◌++◌}
-use Rattle.std.proofs.Common.{length, flat_map, Option, Some, None, refl, sym, ap, ◌∙◌, arith, length-append}
-use Rattle.std.proofs.Common.{append_assoc, rules}
-use Rattle.std.proofs.lemmas.List.{append-nil}
+use Rattle.std.proofs.Common.{length, Option, Some, None, refl, sym, ap, ◌∙◌, arith, length-append}
+use Rattle.std.proofs.Common.{rules}
 use Rattle.std.proofs.Math.Logic.{∥∥₁_elim}
 use Rattle.std.proofs.Props.{props}
 use Rattle.std.specs.Prelude.{Ok, Err, option_map}
@@ -19,18 +18,13 @@ use Rattle.jt_op_semantics.specs.Testing.{is_markup}
 use Rattle.jt_filter_semantics.specs.Listing.{joined_by}
 use Rattle.jt_filters.specs.internal.Operands.{measured, text_length, text_measure, led_length, on_length}
 use Rattle.jt_filters.specs.internal.Operands.{has_second}
-
--- The two crates' tests for markup are the same.
-pub same_markup : (d : Tree) (ts : Items) → joins.is_markup d || has_markup ts ≡ is_markup d || has_markup ts
-same_markup a0 a1 = search (arith, rules)
+use Rattle.jt_filters.specs.internal.JoinedTexts.{led_text}
+use Rattle.jt_filters.proofs.JoinedTexts.{same_markup, in_front, joined, led_is, joins_first}
 
 -- The piece of a value in a join.
 pub piece_is : (escaping : Bool) (t : Tree) (s : List ℕ) → printed t ≡ Some s
     → piece escaping t ≡ Some (cond (escaping && not (is_markup t)) (escaped s) s)
-piece_is a0 a1 a2 a3 = search (arith, rules)
-
-pub no_piece : (escaping : Bool) (t : Tree) → printed t ≡ None → piece escaping t ≡ None
-no_piece a0 a1 a2 = search (arith, rules)
+piece_is escaping t s a3 = search (arith, rules)
 
 -- A length that was counted is the length of the text.
 pub counted_length : (o : Option (List ℕ)) (n : ℕ) → ∥ Ok n ≡ text_length o ∥₁ → Ok n ≡ text_length o
@@ -41,7 +35,7 @@ counted_length (Some s) n counted =
 
 -- If a value has no piece, it has no escaped piece, and the other way round.
 no_text : (a b : Bool) (t : Tree) → piece a t ≡ None → piece b t ≡ None
-no_text a0 a1 a2 a3 = search (arith, rules)
+no_text a b t a3 = search (arith, rules)
 
 fault_by : (o p : Option (List ℕ)) (x : Fault) → (o ≡ None → p ≡ None) → Err x ≡ text_length o → Err x ≡ text_length p
 fault_by None p x none e = e ∙ ap text_length (sym (none refl))
@@ -57,47 +51,36 @@ other_length : (a b : Bool) (d : Tree) (m : ℕ) → Ok m ≡ text_length (piece
     → (k : ℕ) × (Ok k ≡ text_length (piece b d))
 other_length a b d m e = length_by (piece a d) (piece b d) m (no_text b a d) e
 
-grown : (head between p : List ℕ) (n : ℕ) → n ≡ min (length p) (2 ^ 64 - 1)
-    → min (min (min (length head) (2 ^ 64 - 1) + min (length between) (2 ^ 64 - 1)) (2 ^ 64 - 1) + n) (2 ^ 64 - 1)
-    ≡ min (length (head ++ (between ++ p))) (2 ^ 64 - 1)
-grown head between p n e = omega (arith, e, length-append head (between ++ p), length-append between p)
+-- The length of a text, at most 2^64 - 1.
+abbrev most_of : List ℕ → ℕ
+most_of s = min (length s) (2 ^ 64 - 1)
 
-one_behind : (head between p : List ℕ) (r : Option (List (List ℕ)))
-    → option_map (λ (ps : List (List ℕ)). (head ++ (between ++ p)) ++ flat_map (λ q. between ++ q) ps) r
-    ≡ option_map (λ (ps : List (List ℕ)). head ++ flat_map (λ q. between ++ q) ps)
-    (option_map (λ (rest : List (List ℕ)). p ∷ rest) r)
-one_behind head between p None = refl
-one_behind head between p (Some ps) = ap Some (append_assoc head (between ++ p) (flat_map (λ q. between ++ q) ps))
+-- The length of led items is that of their text.
+led_is_long : (escaping : Bool) (head between : List ℕ) (ts : Items)
+    → led_length escaping (most_of head) (most_of between) ts ≡ text_length (led_text escaping head between ts)
+led_is_long escaping head between no_items = refl
+led_is_long escaping head between (item t ts) = by (piece escaping t) (λ h. led_is_long escaping h between ts)
+  where
+    grown : (p : List ℕ)
+        → min (min (most_of head + most_of between) (2 ^ 64 - 1) + most_of p) (2 ^ 64 - 1)
+        ≡ most_of ((head ++ between) ++ p)
+    grown p = omega (arith, length-append (head ++ between) p, length-append head between)
 
-by_piece : (escaping : Bool) (head between : List ℕ) (ts : Items) (o : Option (List ℕ))
-    → ((h : List ℕ) → led_length escaping (min (length h) (2 ^ 64 - 1)) (min (length between) (2 ^ 64 - 1)) ts
-    ≡ text_length (option_map (λ (ps : List (List ℕ)). h ++ flat_map (λ p. between ++ p) ps) (pieces escaping ts)))
-    → on_length (λ n. led_length escaping
-    (min (min (min (length head) (2 ^ 64 - 1) + min (length between) (2 ^ 64 - 1)) (2 ^ 64 - 1) + n) (2 ^ 64 - 1))
-    (min (length between) (2 ^ 64 - 1)) ts)
-    (text_length o)
-    ≡ text_length (option_map (λ (ps : List (List ℕ)). head ++ flat_map (λ p. between ++ p) ps)
-    (option_and_then (λ (first : List ℕ). option_map (λ (rest : List (List ℕ)). first ∷ rest) (pieces escaping ts)) o))
-by_piece escaping head between ts None again = refl
-by_piece escaping head between ts (Some p) again =
-    ap (λ (k : ℕ). led_length escaping k (min (length between) (2 ^ 64 - 1)) ts) (grown head between p _ refl)
-    ∙ again (head ++ (between ++ p))
-    ∙ ap text_length (one_behind head between p (pieces escaping ts))
-
-led_is : (escaping : Bool) (head between : List ℕ) (ts : Items)
-    → led_length escaping (min (length head) (2 ^ 64 - 1)) (min (length between) (2 ^ 64 - 1)) ts
-    ≡ text_length (option_map (λ (ps : List (List ℕ)). head ++ flat_map (λ p. between ++ p) ps) (pieces escaping ts))
-led_is escaping head between no_items = ap (λ (s : List ℕ). Ok (min (length s) (2 ^ 64 - 1))) (sym (append-nil head))
-led_is escaping head between (item t ts) =
-    by_piece escaping head between ts (piece escaping t) (λ h. led_is escaping h between ts)
+    by : (o : Option (List ℕ))
+        → ((h : List ℕ)
+        → led_length escaping (most_of h) (most_of between) ts ≡ text_length (led_text escaping h between ts))
+        → on_length (λ n.
+        led_length escaping (min (min (most_of head + most_of between) (2 ^ 64 - 1) + n) (2 ^ 64 - 1)) (most_of between)
+        ts) (text_length o)
+        ≡ text_length (option_and_then (λ p. led_text escaping ((head ++ between) ++ p) between ts) o)
+    by None again = refl
+    by (Some p) again =
+        ap (λ k. led_length escaping k (most_of between) ts) (grown p) ∙ again ((head ++ between) ++ p)
 
 -- The joined length, by the pieces of the separator and of the first item.
 first_length : (escaping : Bool) (ts : Items) (d p : Option (List ℕ)) (n m : ℕ) → Ok m ≡ text_length d
     → Ok n ≡ text_length p
-    → led_length escaping n m ts ≡ text_length (option_and_then (λ (between : List ℕ). option_map
-    (join_by (λ (text : List ℕ). text) between)
-    (option_and_then (λ (first : List ℕ). option_map (λ (rest : List (List ℕ)). first ∷ rest) (pieces escaping ts)) p))
-    d)
+    → led_length escaping n m ts ≡ text_length (joined d (in_front p (pieces escaping ts)))
 first_length escaping ts None p n m e f = cc
 first_length escaping ts (Some d) None n m e f = cc
 first_length escaping ts (Some d) (Some p) n m e f =
@@ -105,14 +88,8 @@ first_length escaping ts (Some d) (Some p) n m e f =
     let y : m ≡ min (length d) (2 ^ 64 - 1) = cc in
     ap (λ (k : ℕ). led_length escaping k m ts) x
     ∙ ap (λ (k : ℕ). led_length escaping (min (length p) (2 ^ 64 - 1)) k ts) y
-    ∙ led_is escaping p d ts
-    ∙ ap text_length (joins_first p d (pieces escaping ts))
-  where
-    joins_first : (p d : List ℕ) (r : Option (List (List ℕ)))
-        → option_map (λ (ps : List (List ℕ)). p ++ flat_map (λ q. d ++ q) ps) r
-        ≡ option_map (join_by (λ (text : List ℕ). text) d) (option_map (λ (rest : List (List ℕ)). p ∷ rest) r)
-    joins_first p d None = refl
-    joins_first p d (Some ps) = refl
+    ∙ led_is_long escaping p d ts
+    ∙ ap text_length (led_is escaping p d ts ∙ joins_first p d (pieces escaping ts))
 
 -- The length of the separator is not used without a second item.
 pub joined_length : (escaping : Bool) (t d : Tree) (ts : Items) (n m : ℕ)
@@ -127,11 +104,8 @@ joined_length true t d (item u us) n m e f = first_length true (item u us) (piec
 -- If the first item has no printed text, the join has none.
 unprintable_by : (escaping : Bool) (ts : Items) (d p : Option (List ℕ)) (m : ℕ) (x : Fault) → Ok m ≡ text_length d
     → Err x ≡ text_length p
-    → text_length (option_and_then (λ (between : List ℕ). option_map (join_by (λ (text : List ℕ). text) between)
-    (option_and_then (λ (first : List ℕ). option_map (λ (rest : List (List ℕ)). first ∷ rest) (pieces escaping ts)) p))
-    d)
-    ≡ Err x
-unprintable_by a0 a1 a2 a3 a4 a5 a6 a7 = search (arith, rules)
+    → text_length (joined d (in_front p (pieces escaping ts))) ≡ Err x
+unprintable_by escaping ts d p m x a6 a7 = search (arith, rules)
 
 pub unprintable_first : (escaping second : Bool) (t d : Tree) (ts : Items) (m : ℕ) (x : Fault)
     → Ok m ≡ text_length (piece (escaping && second) d) → Err x ≡ text_length (piece escaping t)
@@ -140,10 +114,7 @@ unprintable_first escaping second t d ts m x e f =
     let k = other_length (escaping && second) escaping d m e in
     unprintable_by escaping ts (piece escaping d) (piece escaping t) k.0 x k.1 f
 
-none_by : (d : Option (List ℕ)) (m : ℕ) → Ok m ≡ text_length d
-    → text_length
-    (option_and_then (λ (between : List ℕ). option_map (join_by (λ (text : List ℕ). text) between) (Some [])) d)
-    ≡ Ok 0
+none_by : (d : Option (List ℕ)) (m : ℕ) → Ok m ≡ text_length d → text_length (joined d (Some [])) ≡ Ok 0
 none_by None m e = cc
 none_by (Some d) m e = refl
 
@@ -154,8 +125,7 @@ none_joined escaping second d m e =
     none_by (piece escaping d) k.0 k.1
 
 separator_by : (o : Option (List (List ℕ))) (d : Option (List ℕ)) (x : Fault) → Err x ≡ text_length d
-    → text_length (option_and_then (λ (between : List ℕ). option_map (join_by (λ (text : List ℕ). text) between) o) d)
-    ≡ Err x
+    → text_length (joined d o) ≡ Err x
 separator_by o None x e = sym e
 separator_by o (Some d) x e = cc
 

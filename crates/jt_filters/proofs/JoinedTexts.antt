@@ -1,6 +1,6 @@
 -- The texts of joins, piece by piece.
 use Rattle.std.proofs.Common.{◌≡◌, ℕ, Bool, true, false, cond, ◌||◌, ◌&&◌, List, [], ◌∷◌, ◌++◌, flat_map, Option, Some}
-use Rattle.std.proofs.Common.{None, refl, sym, ap, ◌∙◌, subst, append_assoc}
+use Rattle.std.proofs.Common.{None, refl, sym, ap, ◌∙◌, subst, append_assoc, arith, rules}
 use Rattle.std.proofs.lemmas.List.{append-nil}
 use Rattle.std.specs.Prelude.{Ok, Err, Result, option_map, option_and_then, String}
 use Rattle.std.specs.declared.alloc.Global.{Global}
@@ -13,10 +13,17 @@ use Rattle.jt_value.specs.Tree as tree
 use Rattle.jt_value.specs.Tree.{Tree, Items, no_items, item, printed}
 use Rattle.jt_escape.specs.Joining.{piece, pieces, joined_text, joined_plain, joined_as_markup}
 use Rattle.jt_escape.specs.Joining.{has_markup, or_unprintable}
+use Rattle.jt_escape.specs.Joining as joins
 use Rattle.jt_op_semantics.specs.Testing.{is_markup}
 use Rattle.jt_filter_semantics.specs.Listing.{joined_by}
 use Rattle.jt_filters.specs.internal.JoinedTexts.{led_text, Leaves, MakesText}
-use Rattle.jt_filters.proofs.JoinLengths.{same_markup, no_piece}
+
+-- The two crates' tests for markup are the same.
+pub same_markup : (d : Tree) (ts : Items) → joins.is_markup d || has_markup ts ≡ is_markup d || has_markup ts
+same_markup d ts = search (arith, rules)
+
+pub no_piece : (escaping : Bool) (t : Tree) → printed t ≡ None → piece escaping t ≡ None
+no_piece escaping t a2 = search (arith, rules)
 
 -- One more item, after the separator.
 next_by : (escaping : Bool) (ts : Items) (p : Option (List ℕ)) (into d one two : List ℕ) → one ≡ into ++ d
@@ -50,36 +57,39 @@ led_end escaping all into d is = ap (led_text escaping into d) is
 
 pub ruleset led_texts = (led_next, led_no_item, led_end)
 
--- The pieces behind a text, if the separator has a piece.
-behind_more : (head between s : List ℕ) (r : Option (List (List ℕ)))
-    → option_map (λ (ps : List (List ℕ)). ((head ++ between) ++ s) ++ flat_map (λ q. between ++ q) ps) r
-    ≡ option_map (λ (ps : List (List ℕ)). head ++ flat_map (λ q. between ++ q) ps)
-    (option_map (λ (rest : List (List ℕ)). s ∷ rest) r)
-behind_more head between s None = refl
-behind_more head between s (Some ps) =
-    ap Some (ap (λ (h : List ℕ). h ++ flat_map (λ q. between ++ q) ps) (append_assoc head between s)
-    ∙ append_assoc head (between ++ s) (flat_map (λ q. between ++ q) ps))
+-- The text that begins with a head and goes on with pieces, each after the separator's piece.
+abbrev pub followed : List ℕ → List ℕ → Option (List (List ℕ)) → Option (List ℕ)
+followed head between ps = option_map (λ qs. head ++ flat_map (λ q. between ++ q) qs) ps
 
-led_by : (escaping : Bool) (head between : List ℕ) (ts : Items) (p : Option (List ℕ))
-    → ((h : List ℕ) → led_text escaping h between ts
-    ≡ option_map (λ (ps : List (List ℕ)). h ++ flat_map (λ q. between ++ q) ps) (pieces escaping ts))
-    → option_and_then (λ s. led_text escaping ((head ++ between) ++ s) between ts) p
-    ≡ option_map (λ (ps : List (List ℕ)). head ++ flat_map (λ q. between ++ q) ps)
-    (option_and_then (λ (first : List ℕ). option_map (λ (rest : List (List ℕ)). first ∷ rest) (pieces escaping ts)) p)
-led_by escaping head between ts None again = refl
-led_by escaping head between ts (Some s) again =
-    again ((head ++ between) ++ s) ∙ behind_more head between s (pieces escaping ts)
+-- The pieces of items with the piece of one more item before them.
+abbrev pub in_front : Option (List ℕ) → Option (List (List ℕ)) → Option (List (List ℕ))
+in_front p ps = option_and_then (λ first. option_map (λ rest. first ∷ rest) ps) p
 
-led_is : (escaping : Bool) (head between : List ℕ) (ts : Items)
-    → led_text escaping head between ts
-    ≡ option_map (λ (ps : List (List ℕ)). head ++ flat_map (λ q. between ++ q) ps) (pieces escaping ts)
+-- The pieces with the separator's piece between each two.
+abbrev pub joined : Option (List ℕ) → Option (List (List ℕ)) → Option (List ℕ)
+joined d ps = option_and_then (λ between. option_map (join_by (λ text. text) between) ps) d
+
+-- The text of led items is the head with their pieces.
+pub led_is : (escaping : Bool) (head between : List ℕ) (ts : Items)
+    → led_text escaping head between ts ≡ followed head between (pieces escaping ts)
 led_is escaping head between no_items = ap Some (sym (append-nil head))
-led_is escaping head between (item t ts) =
-    led_by escaping head between ts (piece escaping t) (λ h. led_is escaping h between ts)
+led_is escaping head between (item t ts) = by (piece escaping t) (λ h. led_is escaping h between ts)
+  where
+    more : (s : List ℕ) (r : Option (List (List ℕ)))
+        → followed ((head ++ between) ++ s) between r ≡ followed head between (option_map (λ rest. s ∷ rest) r)
+    more s None = refl
+    more s (Some ps) =
+        let rest = flat_map (λ q. between ++ q) ps in
+        ap Some (ap (λ h. h ++ rest) (append_assoc head between s) ∙ append_assoc head (between ++ s) rest)
 
-joins_first : (p d : List ℕ) (r : Option (List (List ℕ)))
-    → option_map (λ (ps : List (List ℕ)). p ++ flat_map (λ q. d ++ q) ps) r
-    ≡ option_map (join_by (λ (text : List ℕ). text) d) (option_map (λ (rest : List (List ℕ)). p ∷ rest) r)
+    by : (p : Option (List ℕ))
+        → ((h : List ℕ) → led_text escaping h between ts ≡ followed h between (pieces escaping ts))
+        → option_and_then (λ s. led_text escaping ((head ++ between) ++ s) between ts) p
+        ≡ followed head between (in_front p (pieces escaping ts))
+    by None again = refl
+    by (Some s) again = again ((head ++ between) ++ s) ∙ more s (pieces escaping ts)
+
+pub joins_first : (p d : List ℕ) (r : Option (List (List ℕ))) → followed p d r ≡ joined (Some d) (in_front (Some p) r)
 joins_first p d None = refl
 joins_first p d (Some ps) = refl
 
@@ -91,20 +101,12 @@ none_by : (p : Option (List ℕ)) (start : List ℕ) → option_map (λ (s : Lis
 none_by None start e = refl
 none_by (Some s) start e = cc
 
-whole_by : (escaping : Bool) (d : Tree) (ts : Items) (o p : Option (List ℕ)) (between one : List ℕ) → o ≡ Some between
-    → p ≡ Some one
-    → option_map (λ (ps : List (List ℕ)). one ++ flat_map (λ q. between ++ q) ps) (pieces escaping ts)
-    ≡ option_and_then (λ (b : List ℕ). option_map (join_by (λ (text : List ℕ). text) b)
-    (option_and_then (λ (first : List ℕ). option_map (λ (rest : List (List ℕ)). first ∷ rest) (pieces escaping ts)) p))
-    o
-whole_by escaping d ts o p between one is first =
+whole_by : (escaping : Bool) (ts : Items) (o p : Option (List ℕ)) (between one : List ℕ) → o ≡ Some between
+    → p ≡ Some one → followed one between (pieces escaping ts) ≡ joined o (in_front p (pieces escaping ts))
+whole_by escaping ts o p between one is first =
     joins_first one between (pieces escaping ts)
-    ∙ ap (λ (x : Option (List ℕ)). option_map (join_by (λ (text : List ℕ). text) between)
-    (option_and_then (λ (f : List ℕ). option_map (λ (rest : List (List ℕ)). f ∷ rest) (pieces escaping ts)) x))
-    (sym first)
-    ∙ ap (λ (x : Option (List ℕ)). option_and_then (λ (b : List ℕ). option_map (join_by (λ (text : List ℕ). text) b)
-    (option_and_then (λ (f : List ℕ). option_map (λ (rest : List (List ℕ)). f ∷ rest) (pieces escaping ts)) p)) x)
-    (sym is)
+    ∙ ap (λ x. joined (Some between) (in_front x (pieces escaping ts))) (sym first)
+    ∙ ap (λ x. joined x (in_front p (pieces escaping ts))) (sym is)
 
 -- The text of all items, once the first one is appended.
 pub joined_all : (escaping : Bool) (d t : Tree) (all ts : Items) (between start one : List ℕ) → all ≡ item t ts
@@ -113,7 +115,7 @@ pub joined_all : (escaping : Bool) (d t : Tree) (all ts : Items) (between start 
     → joined_text escaping all d ≡ led_text escaping one between ts
 joined_all escaping d t all ts between start one is e empty f =
     sym (led_is escaping one between ts
-    ∙ whole_by escaping d ts (piece escaping d) (piece escaping t) between one e
+    ∙ whole_by escaping ts (piece escaping d) (piece escaping t) between one e
     (first_by (piece escaping t) one
     (ap (λ (h : List ℕ). option_map (λ (p : List ℕ). h ++ p) (piece escaping t)) (sym empty) ∙ f))
     ∙ ap (λ (us : Items). joined_text escaping us d) (sym is))
@@ -137,9 +139,7 @@ fails_as r e wanted led after is same leaves =
     by error.NoMemory h = tt
 
 no_first_by : (escaping : Bool) (ts : Items) (o p : Option (List ℕ)) → p ≡ None
-    → option_and_then (λ (b : List ℕ). option_map (join_by (λ (text : List ℕ). text) b)
-    (option_and_then (λ (f : List ℕ). option_map (λ (rest : List (List ℕ)). f ∷ rest) (pieces escaping ts)) p)) o
-    ≡ None
+    → joined o (in_front p (pieces escaping ts)) ≡ None
 no_first_by escaping ts None p e = refl
 no_first_by escaping ts (Some b) None e = refl
 no_first_by escaping ts (Some b) (Some s) e = cc
@@ -154,15 +154,13 @@ pub joined_none : (escaping : Bool) (d : Tree) (all : Items) (between start : Li
     → piece escaping d ≡ Some between → start ≡ [] → joined_text escaping all d ≡ Some start
 joined_none escaping d all between start is e empty =
     ap (λ (us : Items). joined_text escaping us d) is
-    ∙ ap (λ (o : Option (List ℕ)). option_and_then (λ (b : List ℕ). Some []) o) e
+    ∙ ap (λ o. joined o (Some [])) e
     ∙ ap Some (sym empty)
 
 pub joined_no_separator : (escaping : Bool) (d : Tree) (all : Items) → printed d ≡ None
     → joined_text escaping all d ≡ None
 joined_no_separator escaping d all e =
-    ap (λ (o : Option (List ℕ)). option_and_then (λ (b : List ℕ). option_map (join_by (λ (text : List ℕ). text) b)
-    (pieces escaping all)) o)
-    (no_piece escaping d e)
+    ap (λ o. joined o (pieces escaping all)) (no_piece escaping d e)
 
 pub ruleset joined_texts = (joined_led, joined_no_first, joined_none, joined_no_separator)
 

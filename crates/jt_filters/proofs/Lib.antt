@@ -8,8 +8,8 @@ pub mod EndItems
 pub mod EscapedTexts
 pub mod Folds
 pub mod SortedInsertion
-pub mod JoinLengths
 pub mod JoinedTexts
+pub mod JoinLengths
 pub mod FoldedCodes
 pub mod SeenCodes
 pub mod SeenEntries

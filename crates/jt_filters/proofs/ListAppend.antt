@@ -6,7 +6,7 @@ use Rattle.jt_value.specs.Tree.{Tree, Items, no_items, item}
 use Rattle.jt_value.specs.View.{view, items_view}
 use Rattle.jt_value.specs.declared.value.Value.{Value}
 use Rattle.jt_value.specs.Payload.{more_items}
-use Rattle.jt_value.proofs.Lists.{items_view-push}
+use Rattle.jt_value.proofs.Lists.{items_view-push, joined_none}
 use Rattle.jt_value.specs.Payload.{joined_items}
 
 -- Items with one more at the end and then the rest are the items and then that one with the rest.
@@ -18,9 +18,9 @@ pub pushed : (before after : List Value) (v : Value) (u : Tree) (us : Items) →
     → joined_items (items_view after) us ≡ joined_items (items_view before) (item u us)
 pushed before after v u us is same = search (arith, rules, items_view-push, joined_pushed)
 
-pub joined_none : (ts : Items) → joined_items ts no_items ≡ ts
-joined_none no_items = refl
-joined_none (item t ts) = ap (item t) (joined_none ts)
+pub joined_joined : (ts us vs : Items) → joined_items (joined_items ts us) vs ≡ joined_items ts (joined_items us vs)
+joined_joined no_items us vs = refl
+joined_joined (item t ts) us vs = ap (item t) (joined_joined ts us vs)
 
 -- A step of a loop that makes one item of each element of a list.
 pub made_more : {X : Type 0} (F : List X → Items) (before after : List Value) (v : Value) (xs : List X) (i : ℕ) (x : X)

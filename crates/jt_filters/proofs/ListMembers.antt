@@ -23,8 +23,9 @@ use Rattle.jt_filters.specs.internal.Codes.{code}
 use Rattle.jt_filters.specs.internal.IndicesOf.{at_code, HasIndex, Covers}
 use Rattle.jt_filters.specs.internal.Seen.{number_like}
 use Rattle.jt_filters.proofs.SameCodes.{same_code}
-use Rattle.jt_filters.proofs.SeenCodes.{either, or_left, or_right}
+use Rattle.jt_filters.proofs.SeenCodes.{either}
 use Rattle.jt_filters.proofs.SortedInsertion.{cmp, lookup-inserted}
+use Rattle.std.proofs.lemmas.Bool.{or_left, or_right}
 
 -- The item at an index is an item of the list.
 pub at_index : (vs : List Value) (i : ℕ) (v : Value) (t : Tree) → i < length vs → v ≡ get_or vs i v

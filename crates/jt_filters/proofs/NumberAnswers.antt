@@ -1,5 +1,5 @@
 -- Numbers that are looked up in a list: answers that are right, and a place between two neighbours.
-use Rattle.std.proofs.Common.{◌≡◌, ℕ, zero, suc, ℤ, ◌+◌, ◌<◌, ◌≤◌, ◌-◌, Bool, true, false, ◌||◌, List, [], ◌∷◌, ◌++◌}
+use Rattle.std.proofs.Common.{◌≡◌, ℕ, ℤ, ◌+◌, ◌<◌, ◌≤◌, ◌-◌, Bool, true, false, ◌||◌, List, [], ◌∷◌, ◌++◌}
 use Rattle.std.proofs.Math.ListN.{replicate, set}
 use Rattle.std.proofs.Common.{length, drop, get_or, Some, None, refl, sym, ap, ◌∙◌, ◌⊎◌, inl, inr, subst}
 use Rattle.std.proofs.Common.{true≢false, arith}
@@ -26,7 +26,7 @@ use Rattle.jt_op_semantics.specs.Membership.{has_item}
 use Rattle.jt_filters.specs.declared.answers.Answer.{Answer}
 use Rattle.jt_filters.specs.internal.Answers.{AreNumbers, IsRight, AreRight}
 use Rattle.jt_filters.specs.internal.Seen.{number_like}
-use Rattle.jt_filters.proofs.SeenEntries.{any_false}
+use Rattle.jt_filters.proofs.SeenEntries.{any_false, turned}
 
 -- A value that equals a number equals what the number does.
 equal_number : (t u : Tree) (z : ℤ) → Some z ≡ number_like t → equal t u ≡ equal (tree.number z) u
@@ -75,12 +75,6 @@ no_number z (tree.text s) e = refl
 no_number z (tree.markup s) e = refl
 no_number z (tree.list ts) e = refl
 no_number z (tree.map es) e = refl
-
-turned : (a b : Bool) → (a || (b || false)) ≡ (b || a)
-turned true true = refl
-turned true false = refl
-turned false true = refl
-turned false false = refl
 
 -- The numbers after that of an item is appended.
 pub number_pushed : (old new : List ℤ) (t : Tree) (n : ℤ) → Some n ≡ number_like t → new ≡ old ++ n ∷ []

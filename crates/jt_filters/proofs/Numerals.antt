@@ -35,7 +35,7 @@ digits_are (b ∷ ds) h = rw (small_all (b ∷ ds) h.1) refl
 
 digits_none : (all : Bool) (ds : List ℕ) → list_all is_ascii_digit ds ≡ all → ¬ IsNumeral 10 ds
     → number_of_digits ds ≡ None
-digits_none a0 a1 a2 a3 = search (arith, rules, all_small)
+digits_none all ds a2 a3 = search (arith, rules, all_small)
 
 numeral_by : (all : Bool) (ds : List ℕ) → list_all is_ascii_digit ds ≡ all → 0 < length ds
     → IsNumeral 10 ds ⊎ (¬ IsNumeral 10 ds)
@@ -52,7 +52,7 @@ record Writes (s : List ℕ) : Type 0 where
   none : ¬ IsNumeral 10 (without_leading_sign s) → number_with_sign s ≡ None
 
 writes_by : (minus plus : Bool) (b : ℕ) (s : List ℕ) → (b == 45) ≡ minus → (b == 43) ≡ plus → Writes (b ∷ s)
-writes_by a0 a1 a2 a3 a4 a5 = search (arith, rules, digits_are, digits_none)
+writes_by minus plus b s a4 a5 = search (arith, rules, digits_are, digits_none)
 
 writes : (s : List ℕ) → Writes s
 writes [] = record { some = λ h. absurd (omega (arith, h.0)); none = λ h. refl }

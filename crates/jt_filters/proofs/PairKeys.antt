@@ -9,7 +9,7 @@ use Rattle.jt_filters.specs.internal.Ranks.{pair_key}
 use Rattle.jt_filters.proofs.Payloads.{list_is}
 
 pub no_key_of_none : (t : Tree) → None ≡ items_of_list t → [] ≡ pair_key t
-no_key_of_none a0 a1 = search (arith, rules)
+no_key_of_none t a1 = search (arith, rules)
 
 pub no_key_of_empty : (t : Tree) (ts : Items) → Some ts ≡ items_of_list t → ts ≡ no_items → [] ≡ pair_key t
 no_key_of_empty t ts e none = sym (ap pair_key (list_is t ts e) ∙ ap (λ us. pair_key (list us)) none)

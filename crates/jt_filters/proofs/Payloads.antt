@@ -15,13 +15,13 @@ use Rattle.jt_filters.specs.declared.operand.Operand.{Operand}
 use Rattle.jt_filters.specs.internal.Operands.{operand_items}
 
 pub list_is : (t : Tree) (ts : Items) → Some ts ≡ items_of_list t → t ≡ tree.list ts
-list_is a0 a1 a2 = search (arith, rules)
+list_is t ts a2 = search (arith, rules)
 
 pub list_listed : (t : Tree) (ts : Items) → Some ts ≡ items_of_list t → Ok t ≡ on_items listed t
-list_listed a0 a1 a2 = search (arith, rules)
+list_listed t ts a2 = search (arith, rules)
 
 pub map_is : (t : Tree) (es : Entries) → Some es ≡ entries_of_map t → t ≡ tree.map es
-map_is a0 a1 a2 = search (arith, rules)
+map_is t es a2 = search (arith, rules)
 
 pub length_of_a_list : (t : Tree) (ts : Items) → Some ts ≡ items_of_list t → length_of t ≡ counted (items_count ts)
 length_of_a_list t ts e = ap length_of (list_is t ts e)

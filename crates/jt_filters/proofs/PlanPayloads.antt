@@ -26,7 +26,7 @@ printed_payload make p (Some s) = p s
 printed_payload make p None = tt
 
 kept_payload : (t : Tree) (s : List ℕ) → has_payload (of_same_kind t s) ≡ true
-kept_payload a0 a1 = search (arith, rules)
+kept_payload t s = search (arith, rules)
 
 of_change_payload : (c : TextChange) (t : Tree) (s : List ℕ) → has_payload (of_change c t s) ≡ true
 of_change_payload change.Unchanged t s = kept_payload t s
@@ -62,7 +62,7 @@ plan_payload (plan.Joined is s autoescape) other = join_payload autoescape (tree
 
 built : (wanted : Result Tree Fault) (r : Result Value ValueError) → HasPayload wanted → IsAnswer wanted r
     → Builds wanted r
-built a0 a1 a2 a3 = search (arith, rules)
+built wanted r a2 a3 = search (arith, rules)
 
 pub plan_built : (p : Plan) (r : Result Value ValueError) → ((o : Operand) → ¬ (p ≡ plan.Operand o))
     → IsAnswer (made p) r → Builds (made p) r

@@ -21,12 +21,13 @@ use Rattle.jt_filters.specs.internal.Codes.{number_code, text_code, Rows, rows_c
 use Rattle.jt_filter_semantics.specs.Ordering.{fold, alike}
 use Rattle.jt_filters.proofs.SortedInsertion.{cmp, lookup-inserted, sorted-inserted, same_rows}
 use Rattle.jt_value.proofs.Equalities.{holds_of}
+use Rattle.std.proofs.lemmas.Bool.{and_parts}
 
 pub folded_text : (t : Tree) (s : List ℕ) → Some s ≡ text_of t → item_code t ≡ text_code (fold s)
-folded_text a0 a1 a2 = search (arith, rules)
+folded_text t s a2 = search (arith, rules)
 
 pub no_text : (t : Tree) → None ≡ text_of t → item_code t ≡ code t
-no_text a0 a1 = search (arith, rules)
+no_text t a1 = search (arith, rules)
 
 -- The rows of a map have ascending keys, and at each key the code of its first value.
 sorted_rows : (es : Entries) → IsStrictlySortedBy cmp (keys_of (rows es))
@@ -63,14 +64,6 @@ no_key k (entry l t es) e = by (bytes_eq l k) e (no_key k es)
     by true p rest = absurd (true≢false p)
     by false p rest = rest p
 
-left : (a b : Bool) → (a && b) ≡ true → a ≡ true
-left true b e = refl
-left false b e = e
-
-right : (a b : Bool) → (a && b) ≡ true → b ≡ true
-right true b e = e
-right false b e = absurd (true≢false (sym e))
-
 -- Equal maps have the same rows, if equal values at a key have the same code.
 same_maps : (es fs : Entries)
     → ((k : List ℕ) (o : Option Tree) → equal_at es k o ≡ true → option_map code (entry_of k es) ≡ option_map code o)
@@ -80,10 +73,10 @@ same_maps es fs at e =
     (λ q. row_of q es ∙ by q (has_key q es) refl ∙ sym (row_of q fs))
   where
     firsts : all_keys (λ k. equal_at es k (entry_of k fs)) es ≡ true
-    firsts = left (all_keys (λ k. equal_at es k (entry_of k fs)) es) (all_keys (λ k. has_key k es) fs) e
+    firsts = (and_parts (all_keys (λ k. equal_at es k (entry_of k fs)) es) (all_keys (λ k. has_key k es) fs) e).0
 
     covered : all_keys (λ k. has_key k es) fs ≡ true
-    covered = right (all_keys (λ k. equal_at es k (entry_of k fs)) es) (all_keys (λ k. has_key k es) fs) e
+    covered = (and_parts (all_keys (λ k. equal_at es k (entry_of k fs)) es) (all_keys (λ k. has_key k es) fs) e).1
 
     other : (q : List ℕ) (b : Bool) → has_key q fs ≡ b → has_key q es ≡ false → entry_of q fs ≡ None
     other q true p new = absurd (true≢false (sym (holds_of (λ k. has_key k es) fs q covered p) ∙ new))
@@ -99,7 +92,7 @@ at_first : (b : Bool) (t : Tree) (rest : Option Tree) (more : Bool) (o : Option 
     → cond b (option_map_or (equal t) o false) more ≡ true
     → ((u : Tree) → equal t u ≡ true → code t ≡ code u) → (more ≡ true → option_map code rest ≡ option_map code o)
     → option_map code (cond b (Some t) rest) ≡ option_map code o
-at_first a0 a1 a2 a3 a4 a5 a6 a7 = search (arith, rules)
+at_first b t rest more o a5 a6 a7 = search (arith, rules)
 
 mutual
   -- Equal values have the same code.
@@ -122,8 +115,8 @@ mutual
   same_items : (ts us : Items) → equal_items ts us ≡ true → items_code ts ≡ items_code us
   same_items no_items no_items e = refl
   same_items (item t ts) (item u us) e =
-      ap (λ (s : List ℕ). s ++ items_code ts) (same_code t u (left (equal t u) (equal_items ts us) e))
-      ∙ ap (λ (s : List ℕ). code u ++ s) (same_items ts us (right (equal t u) (equal_items ts us) e))
+      ap (λ (s : List ℕ). s ++ items_code ts) (same_code t u (and_parts (equal t u) (equal_items ts us) e).0)
+      ∙ ap (λ (s : List ℕ). code u ++ s) (same_items ts us (and_parts (equal t u) (equal_items ts us) e).1)
   same_items ts us e = absurd (true≢false (sym e))
 
   -- The first value of a key and a value that equals it have the same code.

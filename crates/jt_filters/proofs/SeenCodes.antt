@@ -19,6 +19,8 @@ use Rattle.jt_filters.specs.declared.operand.Operand.{Operand}
 use Rattle.jt_filters.proofs.DistinctItems.{front_next, unseen_kept, values_left}
 use Rattle.jt_filters.proofs.SameCodes.{alike_code}
 use Rattle.jt_filters.proofs.SortedInsertion.{cmp, lookup-inserted}
+use Rattle.std.proofs.lemmas.Bool.{or_left, or_right}
+use Rattle.std.proofs.Math.Bool.{or-false, or_assoc}
 
 abbrev Seen : Type 0
 Seen = BTreeMap (Vec ℕ Global) Operand
@@ -27,27 +29,11 @@ pub either : (a b : Bool) {P : Type 0} → (a || b) ≡ true → (a ≡ true →
 either true b e f g = f refl
 either false b e f g = g e
 
-pub or_left : (a b : Bool) → a ≡ true → (a || b) ≡ true
-or_left true b e = refl
-or_left false b e = absurd (true≢false (sym e))
-
-pub or_right : (a b : Bool) → b ≡ true → (a || b) ≡ true
-or_right true b e = refl
-or_right false b e = e
-
-pub or_none : (a : Bool) → (a || false) ≡ a
-or_none true = refl
-or_none false = refl
-
-or_assoc : (a b c : Bool) → (a || (b || c)) ≡ ((a || b) || c)
-or_assoc true b c = refl
-or_assoc false b c = refl
-
 pub alike_more : (u t : Tree) (ts : Items)
     → has_alike u (joined_items ts (item t no_items)) ≡ (has_alike u ts || alike u t)
-alike_more u t no_items = or_none (alike u t)
+alike_more u t no_items = or-false (alike u t)
 alike_more u t (item x xs) =
-    ap (λ (b : Bool). alike u x || b) (alike_more u t xs) ∙ or_assoc (alike u x) (has_alike u xs) (alike u t)
+    ap (λ (b : Bool). alike u x || b) (alike_more u t xs) ∙ sym (or_assoc (alike u x) (has_alike u xs) (alike u t))
 
 pub still_alike : (u t : Tree) (ts : Items) → has_alike u ts ≡ true
     → has_alike u (joined_items ts (item t no_items)) ≡ true

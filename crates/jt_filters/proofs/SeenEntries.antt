@@ -1,12 +1,12 @@
 -- The entries of numbers: which were seen, and that no two have the same number.
 use Rattle.std.proofs.Common.{◌≡◌, ℕ, zero, suc, ℤ, ◌+◌, ◌<◌, ◌≤◌, Bool, true, false, ◌||◌, ◌&&◌, List, [], ◌∷◌, ◌++◌}
 use Rattle.std.proofs.Common.{length, get_or, refl, sym, ap, ◌∙◌, ◌⊎◌, inl, inr, subst, true≢false, arith}
-use Rattle.std.proofs.Common.{length-append}
+use Rattle.std.proofs.Common.{length-append, rules}
 use Rattle.std.proofs.Math.ListN.{set}
-use Rattle.std.proofs.lemmas.Bool.{cases_lt}
+use Rattle.std.proofs.lemmas.Bool.{cases_lt, and_parts, or_parts, and_from, and_right}
 use Rattle.std.proofs.lemmas.Bool.Decides.{Decides-int_eq}
 use Rattle.std.proofs.lemmas.Int.{by_lt_z}
-use Rattle.std.proofs.lemmas.List.{get_or_append_left, get_or_push}
+use Rattle.std.proofs.lemmas.List.{get_or_append_left, get_or_push, get_or_default}
 use Rattle.std.proofs.lemmas.List.Folds.{list_any_at, list_any-append}
 use Rattle.std.specs.Cmp.{int_chain}
 use Rattle.std.specs.Int.Signed.{◌<ℤ◌, ◌≤ℤ◌, ≤ℤ_refl, clash_ℤ, <ℤ_irrefl, <ℤ-≤ℤ_trans}
@@ -14,6 +14,7 @@ use Rattle.std.specs.List.{list_any}
 use Rattle.std.specs.Ordering.{int_eq}
 use Rattle.jt_filters.specs.declared.seen_numbers.Entry.{Entry}
 use Rattle.jt_filters.specs.internal.NumberEntries.{was_seen, occurs, AreDistinct, IsAt, AreRising}
+use Rattle.std.proofs.Math.Bool.{and-true}
 
 absorb : (a b c : Bool) → (b ≡ true → a ≡ true) → (a || c) ≡ (a || (b || c))
 absorb true b c h = refl
@@ -25,22 +26,6 @@ between true true c = refl
 between true false c = refl
 between false true c = refl
 between false false c = refl
-
-and_true : (a : Bool) → (a && true) ≡ a
-and_true true = refl
-and_true false = refl
-
-and_false : (a b : Bool) → b ≡ false → (a && b) ≡ false
-and_false true b e = e
-and_false false b e = refl
-
-both : (a b : Bool) → a ≡ true → b ≡ true → (a && b) ≡ true
-both true b e f = f
-both false b e f = e
-
-first_of_both : (a b : Bool) → (a && b) ≡ true → a ≡ true
-first_of_both true b e = refl
-first_of_both false b e = e
 
 -- An element is replaced by one that passes the test if it did.
 any_set : {X : Type 0} (p : X → Bool) (xs : List X) (i : ℕ) (y d : X) → i < length xs
@@ -61,16 +46,8 @@ any_fewer : {X : Type 0} (p q : X → Bool) (xs : List X) → ((x : X) → p x �
     → list_any p xs ≡ false → list_any q xs ≡ false
 any_fewer p q [] h e = refl
 any_fewer p q (x ∷ xs) h e =
-    ap (λ (b : Bool). b || list_any q xs) (h x (left_false (p x) (list_any p xs) e))
-    ∙ any_fewer p q xs h (right_false (p x) (list_any p xs) e)
-  where
-    left_false : (a b : Bool) → (a || b) ≡ false → a ≡ false
-    left_false true b e = e
-    left_false false b e = refl
-
-    right_false : (a b : Bool) → (a || b) ≡ false → b ≡ false
-    right_false true b e = absurd (true≢false e)
-    right_false false b e = e
+    ap (λ (b : Bool). b || list_any q xs) (h x (or_parts (p x) (list_any p xs) e).0)
+    ∙ any_fewer p q xs h (or_parts (p x) (list_any p xs) e).1
 
 -- The entry of a number at an index is the only one.
 not_seen : (es : List Entry) (i : ℕ) (z : ℤ) → AreDistinct es → IsAt z i es
@@ -81,7 +58,7 @@ not_seen es i z distinct here off = any_false (λ e. int_eq e.number z && e.is_s
         → (int_eq (get_or es k d).number z && (get_or es k d).is_seen) ≡ false
     by k d lt false e = ap (λ (b : Bool). b && (get_or es k d).is_seen) e
     by k d lt true e =
-        and_false (int_eq (get_or es k d).number z) (get_or es k d).is_seen
+        and_right (int_eq (get_or es k d).number z) (get_or es k d).is_seen
         (ap (λ (n : ℕ). (get_or es n d).is_seen)
         (distinct k i d lt here.0 ((Decides-int_eq (get_or es k d).number z).0 e ∙ sym (here.1 d)))
         ∙ off d)
@@ -92,17 +69,17 @@ had_number es i z false distinct here is = sym (not_seen es i z distinct here is
 had_number es i z true distinct here is =
     let d : Entry = record { number = z; is_seen = true } in
     sym (list_any_at (λ e. int_eq e.number z && e.is_seen) es i d here.0
-    (both (int_eq (get_or es i d).number z) (get_or es i d).is_seen
+    (and_from (int_eq (get_or es i d).number z) (get_or es i d).is_seen
     ((Decides-int_eq (get_or es i d).number z).1 (here.1 d)) (is d)))
 
 pub has_seen : (es : List Entry) (i : ℕ) (z : ℤ) (e : Entry) → IsAt z i es → e.number ≡ z → e.is_seen ≡ true → (y : ℤ)
     → was_seen (set es i e) y ≡ (int_eq z y || was_seen es y)
 has_seen es i z e here n seen y =
     any_set (λ x. int_eq x.number y && x.is_seen) es i e e here.0
-    (λ t. both (int_eq e.number y) e.is_seen
-    (ap (λ (k : ℤ). int_eq k y) (n ∙ sym (here.1 e)) ∙ first_of_both _ _ t) seen)
+    (λ t. and_from (int_eq e.number y) e.is_seen
+    (ap (λ (k : ℤ). int_eq k y) (n ∙ sym (here.1 e)) ∙ (and_parts _ _ t).0) seen)
     ∙ ap (λ (b : Bool). (int_eq e.number y && b) || was_seen es y) seen
-    ∙ ap (λ (b : Bool). b || was_seen es y) (and_true (int_eq e.number y))
+    ∙ ap (λ (b : Bool). b || was_seen es y) (and-true (int_eq e.number y))
     ∙ ap (λ (k : ℤ). int_eq k y || was_seen es y) n
 
 pub not_had : (es : List Entry) (z : ℤ) → occurs z es ≡ false → was_seen es z ≡ false
@@ -110,11 +87,9 @@ not_had es z none =
     any_fewer (λ e. int_eq e.number z) (λ e. int_eq e.number z && e.is_seen) es
     (λ e h. ap (λ (b : Bool). b && e.is_seen) h) none
 
-or_comm : (a b : Bool) → (a || (b || false)) ≡ (b || a)
-or_comm true true = refl
-or_comm true false = refl
-or_comm false true = refl
-or_comm false false = refl
+-- A disjunction in the other order.
+pub turned : (a b : Bool) → (a || (b || false)) ≡ (b || a)
+turned a b = search (arith, rules)
 
 -- No entry has the number of one that is missing.
 other_number : (es : List Entry) (z : ℤ) (k : ℕ) (d : Entry) → occurs z es ≡ false → k < length es
@@ -184,8 +159,8 @@ rising_more es last e up lt off = record {
   distinct = distinct_added es e up.distinct (missing es last e.number up lt);
   unseen =
       λ z. list_any-append (λ x. int_eq x.number z && x.is_seen) es (e ∷ [])
-      ∙ or_comm (was_seen es z) (int_eq e.number z && e.is_seen)
-      ∙ ap (λ (b : Bool). b || was_seen es z) (and_false (int_eq e.number z) e.is_seen off)
+      ∙ turned (was_seen es z) (int_eq e.number z && e.is_seen)
+      ∙ ap (λ (b : Bool). b || was_seen es z) (and_right (int_eq e.number z) e.is_seen off)
       ∙ up.unseen z;
   below = λ k d inside. here k d inside (cases_lt k (length es));
 }
@@ -200,17 +175,11 @@ rising_more es last e up lt off = record {
         (sym (get_or_push es e d k (omega (arith, new, inside, length-append es (e ∷ [])))))
         (≤ℤ_refl e.number)
 
--- What is read at an index does not depend on the default.
-any_default : {X : Type 0} (xs : List X) (i : ℕ) (d e : X) → i < length xs → get_or xs i d ≡ get_or xs i e
-any_default [] i d e lt = absurd (omega (arith, lt))
-any_default (x ∷ xs) zero d e lt = refl
-any_default (x ∷ xs) (suc i) d e lt = any_default xs i d e (omega (arith, lt))
-
 pub had_at : (es : List Entry) (i : ℕ) (z : ℤ) (d : Entry) → AreDistinct es → IsAt z i es
     → (get_or es i d).is_seen ≡ was_seen es z
 had_at es i z d distinct here =
     had_number es i z (get_or es i d).is_seen distinct here
-    (λ e. ap (λ (x : Entry). x.is_seen) (any_default es i e d here.0))
+    (λ e. ap (λ (x : Entry). x.is_seen) (get_or_default es i e d here.0))
 
 pub rising_first : (es new : List Entry) (n : ℤ) (e : Entry) → es ≡ [] → e.number ≡ n → e.is_seen ≡ false
     → new ≡ es ++ e ∷ [] → AreRising new n

@@ -14,17 +14,12 @@ use Rattle.jt_filters.specs.internal.Seen.{found, has_number, number_like, Knows
 use Rattle.jt_filters.specs.declared.operand.Operand.{Operand}
 use Rattle.jt_filters.specs.declared.seen_numbers.SeenNumbers.{SeenNumbers}
 use Rattle.jt_filters.proofs.DistinctItems.{front_next}
-use Rattle.jt_filters.proofs.SeenCodes.{or_none, alike_more, still_alike, kept_still}
-
-or_comm : (a b : Bool) → (a || b) ≡ (b || a)
-or_comm true true = refl
-or_comm true false = refl
-or_comm false true = refl
-or_comm false false = refl
+use Rattle.jt_filters.proofs.SeenCodes.{alike_more, still_alike, kept_still}
+use Rattle.std.proofs.Math.Bool.{or-false, or_comm}
 
 -- A value that equals a number is like what the number is like.
 like_its_number : (t u : Tree) (z : ℤ) → Some z ≡ number_like t → alike t u ≡ alike (number z) u
-like_its_number a0 a1 a2 a3 = search (arith, rules)
+like_its_number t u z a3 = search (arith, rules)
 
 has_like_its_number : (t : Tree) (z : ℤ) (us : Items) → Some z ≡ number_like t
     → has_alike t us ≡ has_alike (number z) us
@@ -35,17 +30,17 @@ has_like_its_number t z (item u us) is =
 
 -- A number is like a value that equals a number if the two numbers are equal.
 number_to : (y z : ℤ) (t : Tree) → Some z ≡ number_like t → alike (number y) t ≡ int_eq y z
-number_to a0 a1 a2 a3 = search (arith, rules)
+number_to y z t a3 = search (arith, rules)
 
 number_from : (y z : ℤ) (t : Tree) → Some z ≡ number_like t → alike (number y) t ≡ int_eq z y
 number_from y z t is = number_to y z t is ∙ int_eq_equiv.symm y z
 
 -- A number is like no value that equals no number.
 no_number : (y : ℤ) (t : Tree) → number_like t ≡ None → alike (number y) t ≡ false
-no_number a0 a1 a2 = search (arith, rules)
+no_number y t a2 = search (arith, rules)
 
 no_plain : (u t : Tree) (z : ℤ) → number_like u ≡ None → Some z ≡ number_like t → alike u t ≡ false
-no_plain a0 a1 a2 a3 a4 = search (arith, rules)
+no_plain u t z a3 a4 = search (arith, rules)
 
 numbers_number : (s n : SeenNumbers) (ts : Items) (t : Tree) (z : ℤ) → KnowsNumbers s ts → Some z ≡ number_like t
     → ((y : ℤ) → has_number n y ≡ (int_eq z y || has_number s y)) → KnowsNumbers n (joined_items ts (item t no_items))
@@ -60,7 +55,7 @@ codes_number : (m : BTreeMap (Vec ℕ Global) Operand) (ts : Items) (t : Tree) (
     → Some z ≡ number_like t → KnowsCodes m (joined_items ts (item t no_items))
 codes_number m ts t z known is = record {
   coded =
-      λ u plain e. known.coded u plain (sym (or_none (has_alike u ts))
+      λ u plain e. known.coded u plain (sym (or-false (has_alike u ts))
       ∙ ap (λ (b : Bool). has_alike u ts || b) (sym (no_plain u t z plain is)) ∙ sym (alike_more u t ts) ∙ e);
   seen =
       λ c u. kept_still (found m c) (λ o. alike u (tree_of o) ≡ true → has_alike u ts ≡ true)
@@ -87,7 +82,7 @@ know_plain : (s : SeenNumbers) (all : Items) (count : ℕ) (t : Tree) (rest : It
     → joined_items (front count all) (item t rest) ≡ all → KnowsNumbers s (front (count + 1) all)
 know_plain s all count t rest numbers plain whole =
     subst (λ (ts : Items). KnowsNumbers s ts) (sym (front_next all count t rest whole))
-    (λ y. numbers y ∙ sym (or_none (has_alike (number y) (front count all)))
+    (λ y. numbers y ∙ sym (or-false (has_alike (number y) (front count all)))
     ∙ ap (λ (b : Bool). has_alike (number y) (front count all) || b) (sym (no_number y t plain))
     ∙ sym (alike_more (number y) t (front count all)))
 

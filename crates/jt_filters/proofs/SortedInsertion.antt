@@ -18,7 +18,7 @@ abbrev pub cmp : List ℕ → List ℕ → Ordering
 cmp = slice_cmp nat_cmp
 
 found_equal : (r : Ordering) → is_eq r ≡ true → r ≡ Equal
-found_equal a0 a1 = search (arith, rules)
+found_equal r a1 = search (arith, rules)
 
 below_all : (k l : List ℕ) (ks : List (List ℕ)) → cmp k l ≡ Less → AllByRecursion (λ y. cmp l y ≡ Less) ks
     → AllByRecursion (λ y. cmp k y ≡ Less) ks

@@ -14,7 +14,7 @@ use Rattle.jt_filters.specs.internal.TextChanges.{changed, of_change, texted}
 use Rattle.jt_filters.proofs.TextTransforms.{capitalized_length, length-map, backwards_length}
 
 kept_size : (t : Tree) (s : List ℕ) → measured (Ok (of_same_kind t s)) ≡ Ok (min (1 + length s) (2 ^ 64 - 1), 0)
-kept_size a0 a1 = search (arith, rules)
+kept_size t s = search (arith, rules)
 
 text_size : (c : TextChange) (t : Tree) (s : List ℕ)
     → measured (Ok (of_change c t s)) ≡ Ok (min (1 + length s) (2 ^ 64 - 1), 0)
@@ -40,16 +40,16 @@ pub upper_length : (s : List ℕ) → length (changed change.Upper s) ≡ length
 upper_length s = length-map to_ascii_uppercase s
 
 pub escape_markup : (t : Tree) → is_markup t ≡ true → escaped_once t ≡ texted change.Safe t
-escape_markup a0 a1 = search (arith, rules)
+escape_markup t a1 = search (arith, rules)
 
 pub escape_others : (t : Tree) → is_markup t ≡ false → escaped_once t ≡ texted change.Escaped t
-escape_others a0 a1 = search (arith, rules)
+escape_others t a1 = search (arith, rules)
 
 pub markup_kept : (t : Tree) (s : List ℕ) → is_markup t ≡ true → of_same_kind t s ≡ tree.markup s
-markup_kept a0 a1 a2 = search (arith, rules)
+markup_kept t s a2 = search (arith, rules)
 
 pub others_kept : (t : Tree) (s : List ℕ) → is_markup t ≡ false → of_same_kind t s ≡ tree.text s
-others_kept a0 a1 a2 = search (arith, rules)
+others_kept t s a2 = search (arith, rules)
 
 pub ruleset escaped_kinds = (escape_markup, escape_others)
 

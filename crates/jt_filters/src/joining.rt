@@ -152,7 +152,7 @@ fn led_len(first: u64, between: u64, behind: ItemList<'_>, escaping: bool) -> Re
 }
 
 /// Returns the number of bytes that an operand adds to a join, at most 2^64 - 1.
-#[tactic(auto, using(crate::proofs::JoinLengths::no_piece))]
+#[tactic(auto, using(crate::proofs::JoinedTexts::no_piece))]
 fn piece_len(operand: Operand<'_>, escaping: bool) -> Result<u64, Fault>
     ensures { result ≡ text_length (piece escaping (tree_of operand.entry)) }
 {
@@ -262,7 +262,7 @@ fn append_led(
 }
 
 /// Appends the piece of an operand: its printed text, escaped unless it is markup.
-#[tactic(auto, using(crate::proofs::JoinLengths::no_piece))]
+#[tactic(auto, using(crate::proofs::JoinedTexts::no_piece))]
 fn append_piece(operand: Operand<'_>, escaping: bool, into: &mut String) -> Result<(), ValueError>
     ensures { Leaves
         (option_map (λ p. string_bytes into.old ++ p) (piece escaping (tree_of operand.entry)))

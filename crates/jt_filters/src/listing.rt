@@ -54,7 +54,7 @@ pub(crate) fn list(
 }
 
 /// Returns the values of the items.
-#[tactic(auto, using(crate::proofs::ListAppend::pushed, crate::proofs::ListAppend::joined_none))]
+#[tactic(auto, using(crate::proofs::ListAppend::pushed, jt_value::proofs::Lists::joined_none))]
 pub(crate) fn values(maker: Maker<'_>, items: ItemList<'_>) -> Result<Vec<Value>, NoMemory>
     ensures { IfOk result (λ v. items_view v.items ≡ items_in items.entry) }
 {

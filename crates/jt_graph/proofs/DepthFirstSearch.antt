@@ -1,17 +1,16 @@
 -- Depth-first search: the effect of a changed state, and the facts at the finish of a node.
 use Rattle.std.proofs.Common.{◌≡◌, ℕ, zero, suc, ◌+◌, ◌<◌, ◌≤◌, ◌==◌, Bool, true, false, not, cond, ◌||◌, List, [], ◌∷◌}
-use Rattle.std.proofs.Common.{◌++◌, Result, Ok, Err, length, take, reverse, get_or, set, refl, sym, ap, subst, ◌∙◌}
+use Rattle.std.proofs.Common.{◌++◌, ◌⊎◌, inl, inr, length, take, reverse, get_or, set, refl, sym, ap, subst, ◌∙◌}
 use Rattle.std.proofs.Common.{arith, rules}
 use Rattle.std.proofs.Math.ListN.{replicate}
-use Rattle.std.specs.Result.{IsErrAnd}
 use Rattle.std.specs.List.{AllByRecursion, count_by}
 use Rattle.std.proofs.lemmas.List.{get_or_default, reverse-append, get_or-set_same, get_or-set_other, length-replicate}
 use Rattle.std.proofs.lemmas.List.{length-set}
 use Rattle.std.proofs.lemmas.List.Sums.{sum_by-set}
 use Rattle.std.proofs.lemmas.Option.{unwrap_or-slice_get}
 use Rattle.std.proofs.lemmas.Bool.Decides.{nat_tests}
-use Rattle.jt_graph.specs.Graph.{Graph, among, next_of, Reaches, step, further, AreOrdered, IsOrder}
-use Rattle.jt_graph.specs.internal.Walks.{is_new, is_open, is_done, visit_of, done_of, IsWalk, LeadTo, GoesOn}
+use Rattle.jt_graph.specs.Graph.{Graph, among, next_of, Reaches, step, further, Leads, AreOrdered, IsOrder}
+use Rattle.jt_graph.specs.internal.Walks.{is_new, is_open, is_done, visit_of, done_of, IsWalk, IsPath, GoesOn}
 use Rattle.jt_graph.specs.declared.walk.VisitState.{VisitState}
 use Rattle.jt_graph.specs.declared.walk.VisitState.TheVariants.{New, Open, Done}
 use Rattle.jt_graph.specs.declared.walk.Walk.{Walk}
@@ -133,11 +132,17 @@ among_at [] k lt = absurd (omega arith)
 among_at (x ∷ xs) zero lt = ap (λ b. b || among x xs) (itself x)
 among_at (x ∷ xs) (suc k) lt = or_right (x == get_or xs k 0) (among (get_or xs k 0) xs) (among_at xs k (omega arith))
 
--- ---- paths
+-- ---- paths and rings
 
-pub one_more : {g : Graph} {i j k : ℕ} → Reaches g i j → among k (next_of g j) ≡ true → Reaches g i k
-one_more (step a) h = further a (step h)
-one_more (further a r) h = further a (one_more r h)
+-- A node before a path.
+pub led : (g : Graph) (i j : ℕ) (ks : List ℕ) (t : ℕ) → among i (next_of g j) ≡ true → IsPath g i ks t
+    → Leads g j ks t
+led g i j [] t e p = subst (λ z. among z (next_of g j) ≡ true) p e
+led g i j (k ∷ ks) t e p = (subst (λ z. among z (next_of g j) ≡ true) (sym p.0) e, p.1)
+
+pub ring_reaches : (g : Graph) (i : ℕ) (ks : List ℕ) (t : ℕ) → Leads g i ks t → Reaches g i t
+ring_reaches g i [] t l = step l
+ring_reaches g i (k ∷ ks) t l = further l.0 (ring_reaches g k ks t l.1)
 
 -- ---- the start of a search
 
@@ -175,16 +180,14 @@ opened_walk g v w i lt new e d walk =
         ∙ sym (ap (λ k. is_done (visit_of v.visits.items k)) (sym (equal i j q)) ∙ ap is_done new))
         (λ q. ap (λ b. cond b false (is_done (visit_of v.visits.items j))) q)
 
--- Each node that reaches an open node reaches its successor, as the open node itself does.
-pub lead_next : (g : Graph) (v u w : Walk) (i k : ℕ) → i < length v.visits.items
-    → u.visits.items ≡ set v.visits.items i Open
-    → ((j : ℕ) → is_open (visit_of w.visits.items j) ≡ is_open (visit_of u.visits.items j)) → LeadTo g v i
-    → among k (next_of g i) ≡ true → LeadTo g w k
-lead_next g v u w i k lt e same lead edge j h = either (i == j)
-    (λ q. subst (λ n. Reaches g n k) (equal i j q) (step edge))
-    (λ q. one_more (lead j (sym (ap (λ b. cond b true (is_open (visit_of v.visits.items j))) q)
-    ∙ sym (told_set is_open v.visits.items i j Open lt) ∙ sym (ap (λ ms. is_open (visit_of ms j)) e) ∙ sym (same j)
-    ∙ h)) edge)
+-- A node that is open after a node opens is that node, or was open before.
+pub opened_one : (v u w : Walk) (i : ℕ) → i < length v.visits.items → u.visits.items ≡ set v.visits.items i Open
+    → GoesOn u w → (j : ℕ) → is_open (visit_of w.visits.items j) ≡ true
+    → (i ≡ j) ⊎ (is_open (visit_of v.visits.items j) ≡ true)
+opened_one v u w i lt e goes j h = either (i == j) (λ q. inl (equal i j q))
+    (λ q. inr (sym (ap (λ b. cond b true (is_open (visit_of v.visits.items j))) q)
+    ∙ sym (told_set is_open v.visits.items i j Open lt) ∙ sym (ap (λ ms. is_open (visit_of ms j)) e)
+    ∙ sym (goes.opens j) ∙ h))
 
 -- ---- a node finishes
 
@@ -271,15 +274,7 @@ goes_none w = record { opens = λ j. refl; dones = λ j h. h; fewer = omega arit
 pub goes_both : (u v w : Walk) → GoesOn u v → GoesOn v w → GoesOn u w
 goes_both u v w p q = search (arith, rules)
 
--- The error of a call is passed on.
-pub passed_on : {A E : Type 0} (r : Result A E) (e f : E) → IsErrAnd r (λ y. y ≡ e) → r ≡ Err f → e ≡ f
-passed_on (Ok x) e f h is = absurd h
-passed_on (Err y) e f h is = let same : y ≡ f = cc in sym h ∙ same
-
 -- ---- a search visits all nodes
-
-pub none_lead : (g : Graph) (w : Walk) (i : ℕ) → ((j : ℕ) → is_open (visit_of w.visits.items j) ≡ false) → LeadTo g w i
-none_lead g w i closed j h = search (arith, rules)
 
 pub before_next : (P : ℕ → Type 0) (n m : ℕ) → m ≡ n + 1 → ((j : ℕ) → j < n → P j) → P n → (j : ℕ) → j < m → P j
 before_next P n m is old new j lt = either (n == j) (λ e. subst P (equal n j e) new) (λ e. old j (below (differ n j e)))

@@ -31,6 +31,15 @@ module _ (g : Graph) where
   abbrev pub HasCycle : Type 0
   HasCycle = (i : ℕ) × Reaches i i
 
+  -- Each number leads to the next one, and the last one to the target.
+  abbrev pub Leads : ℕ → List ℕ → ℕ → Type 0
+  Leads i [] target = IsTrue (among target (next_of i))
+  Leads i (k ∷ ks) target = IsTrue (among k (next_of i)) × Leads k ks target
+
+  -- A number and further ones are a ring: the last one leads to the first.
+  abbrev pub IsRing : ℕ → List ℕ → Type 0
+  IsRing first others = Leads first others first
+
   -- Each node occurs once, and before its successors.
   abbrev pub AreOrdered : List ℕ → Type 0
   AreOrdered [] = Unit {0}

@@ -2,12 +2,20 @@
 
 use std::alloc::{AllocError, AllocFailed};
 
+/// A ring of nodes: each one leads to the next one, and the last one to the first.
+#[derive(Debug, Drop, PartialEq, Eq)]
+pub struct Ring {
+    pub first: usize,
+    /// The nodes after the first, in order.
+    pub others: Vec<usize>,
+}
+
 /// The reason why a graph has no order. It has no text, since only the caller knows what the nodes
 /// are.
 #[derive(Debug, Drop, PartialEq, Eq)]
 pub enum OrderError {
-    /// A node that reaches itself.
-    Cycle,
+    /// A ring of nodes.
+    Cycle(Ring),
     /// A refused growth.
     NoMemory,
 }

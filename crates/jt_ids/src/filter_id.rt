@@ -107,13 +107,20 @@ impl FilterId {
 
     /// Returns the filter with this name, or `None` if no filter has it. `MapAttribute` has no name
     /// of its own.
-    #[tactic(auto, using(crate::proofs::LookupByName::filter_named))]
+    #[tactic(auto, using(crate::proofs::LookupByName::filter_named, crate::proofs::LookupByName::named_filter))]
     pub fn by_name(name: &str) -> Option<FilterId>
         ensures found { IfSome result (λ filter. Contains (filter_names filter) name.now) }
         ensures only { (filter : FilterId)
             → Contains (filter_names filter) name.now
             → result ≡ Some filter }
         ensures value { result ≡ filter_of_name name.now }
+    {
+        FilterId::find(name)
+    }
+
+    /// Returns the first filter of the table with this name.
+    fn find(name: &str) -> Option<FilterId>
+        ensures { result ≡ filter_of_name name.now }
     {
         match name {
             "abs" => Some(FilterId::Abs),

@@ -66,11 +66,18 @@ impl TestId {
     }
 
     /// Returns the test with this name, or `None` if no test has it.
-    #[tactic(auto, using(crate::proofs::LookupByName::test_named))]
+    #[tactic(auto, using(crate::proofs::LookupByName::test_named, crate::proofs::LookupByName::named_test))]
     pub fn by_name(name: &str) -> Option<TestId>
         ensures found { IfSome result (λ test. Contains (test_names test) name.now) }
         ensures only { (test : TestId) → Contains (test_names test) name.now → result ≡ Some test }
         ensures value { result ≡ test_of_name name.now }
+    {
+        TestId::find(name)
+    }
+
+    /// Returns the first test of the table with this name.
+    fn find(name: &str) -> Option<TestId>
+        ensures { result ≡ test_of_name name.now }
     {
         match name {
             "boolean" => Some(TestId::Boolean),

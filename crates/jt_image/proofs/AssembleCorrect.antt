@@ -14,15 +14,16 @@ use Rattle.jt_image.specs.declared.version.Version.TheVariants as version
 use Rattle.jt_image.specs.Code.{Constant, Name, Section, SourceLoc, Code}
 use Rattle.jt_image.specs.Spelling.{magic, version_number, name_bytes, constant_bytes, header_bytes, wire_of}
 use Rattle.jt_image.specs.Spelling.{instruction_bytes, template_bytes, loc_bytes, place_bytes, spelling}
-use Rattle.jt_image.specs.IsCode.{IsName, IsTemplate, IsConstant, IsSection, total_len, HasEntry, IsCode, max_count}
-use Rattle.jt_image.specs.IsCode.{max_locals, max_instructions, max_bytes}
+use Rattle.jt_image.specs.IsCode.{IsName, IsTemplate, IsConstant, IsSection, IsPlaced, total_len, HasEntry, IsCode}
+use Rattle.jt_image.specs.IsCode.{max_count, max_locals, max_instructions, max_bytes}
 use Rattle.jt_image.specs.Parts.{is_next, AreInOrder, IsUnitInOrder, HasTables, KeepsLimits, IsRefusal, IsWritable}
 use Rattle.jt_image.specs.Parts.{IsHeld, Starts, IsShort, AreTemplates, IsShortText}
-use Rattle.jt_image.proofs.DecodeSoundLemmas.{AllGood, wide16, wide32, wide64}
+use Rattle.jt_image.proofs.DecodeSoundLemmas.{AllGood, and_true, not_true, wide16, wide32, wide64}
 use Rattle.jt_image.proofs.DecodeSound.{IsNamed, code_bytes}
 use Rattle.jt_image.proofs.WholeImageSound.{are_names, ascend, distinct, HasFirst}
 use Rattle.jt_image.proofs.DecodeComplete.{named, all_clear, first_starts}
-use Rattle.jt_image.proofs.TrailerRoundTrip.{IsNextText, are_templates as found_templates, ascend_texts, good_templates}
+use Rattle.jt_image.specs.internal.Layout.{FitTables}
+use Rattle.jt_image.proofs.TrailerRoundTrip.{Follows, some_texts, ascend_texts, follow_texts}
 use Rattle.jt_image.proofs.ReadPrefix.{all_weaker, all_both}
 
 -- ---- the length of a spelling
@@ -39,18 +40,18 @@ number_len n tag = omega (arith, wide64.len n)
 header_len : (u : Section) → length (header_bytes u) ≡ 8
 header_len u = search (arith, rules, length-append, wide16, wide32)
 
-headers_len : (us : List Section) → length (flat_map header_bytes us) ≡ 8 * length us
+pub headers_len : (us : List Section) → length (flat_map header_bytes us) ≡ 8 * length us
 headers_len [] = omega arith
 headers_len (u ∷ us) = search (arith, rules, flat_map-cons, length-append, header_len, headers_len us)
 
 instruction_len : (i : Instruction) → length (instruction_bytes i) ≡ 8
 instruction_len i = search (arith, rules, length-append, wide16, wide32)
 
-instructions_len : (is : List Instruction) → length (flat_map instruction_bytes is) ≡ 8 * length is
+pub instructions_len : (is : List Instruction) → length (flat_map instruction_bytes is) ≡ 8 * length is
 instructions_len [] = omega arith
 instructions_len (i ∷ is) = search (arith, rules, flat_map-cons, length-append, instruction_len, instructions_len is)
 
-codes_len : (us : List Section) → length (flat_map code_bytes us) ≡ 8 * total_len us
+pub codes_len : (us : List Section) → length (flat_map code_bytes us) ≡ 8 * total_len us
 codes_len [] = omega arith
 codes_len (u ∷ us) = search (arith, rules, flat_map-cons, code_bytes, length-append, instructions_len, codes_len us)
 
@@ -105,14 +106,6 @@ pub all_named : (globals : ℕ) (ns : List Name) → AllByRecursion IsShort ns �
     → AllGood (IsNamed globals) [] ns
 all_named globals ns short h = search (arith, rules, are_named, named, all_clear, first_starts)
 
-and_true : (a b : Bool) → (a && b) ≡ true → (a ≡ true) × (b ≡ true)
-and_true true b e = (refl, e)
-and_true false b e = absurd cc
-
-not_true : (b : Bool) → not b ≡ true → b ≡ false
-not_true true e = absurd cc
-not_true false e = refl
-
 pub next_named : (globals : ℕ) (before : List Name) (n : Name) → IsShort n → is_next globals before n ≡ true
     → IsNamed globals before n
 next_named globals before n short e = search (arith, rules, and_true, ltb-true, not_true)
@@ -135,29 +128,32 @@ are_templates : (ts : List (List ℕ)) → AllByRecursion IsShortText ts → All
     → AllByRecursion IsTemplate ts
 are_templates ts short some = search (arith, rules, all_both)
 
--- If each text may follow those before it, the texts are a table of templates.
-pub in_order_texts : (ts : List (List ℕ)) → AllGood IsNextText [] ts → AreTemplates ts
-in_order_texts ts h = search (arith, rules, all_weaker, found_templates, ascend, ascend_texts)
+-- Each text may follow those before it if and only if the texts are a table of templates.
+pub in_order_texts : (ts : List (List ℕ)) → AllGood Follows [] ts → AreTemplates ts
+in_order_texts ts h = record { some = some_texts [] ts h; ascend = ascend_texts ts h }
 
-pub all_next_texts : (ts : List (List ℕ)) → AllByRecursion IsShortText ts → AreTemplates ts → AllGood IsNextText [] ts
-all_next_texts ts short h = good_templates ts (are_templates ts short h.some) h.ascend
+pub all_next_texts : (ts : List (List ℕ)) → AreTemplates ts → AllGood Follows [] ts
+all_next_texts ts h = follow_texts ts h.some h.ascend
 
 -- ---- the whole code
 
--- The limits are kept if and only if the spelling is short enough; its length is counted by parts.
-pub limits_from : (k : Code) (names constants places both tables : ℕ)
-    → names ≡ min (length (flat_map name_bytes k.names)) (2 ^ 64 - 1)
-    → constants ≡ min (length (flat_map constant_bytes k.constants)) (2 ^ 64 - 1)
-    → places ≡ min (length (place_bytes k.version k.templates k.places)) (2 ^ 64 - 1)
-    → both ≡ min (names + constants) (2 ^ 64 - 1) → tables ≡ min (both + places) (2 ^ 64 - 1)
-    → length k.names ≤ max_count → length k.constants ≤ max_count → length k.units ≤ max_count
-    → length k.templates ≤ max_count → total_len k.units ≤ max_instructions
-    → AllByRecursion (λ n. length n.text ≤ max_count) k.names → AllByRecursion (λ t. length t ≤ max_count) k.templates
-    → AllByRecursion (λ u. u.locals ≤ max_locals) k.units
-    → (14 + tables + 8 * (length k.units + total_len k.units) ≤ max_bytes) ↔ KeepsLimits k
-limits_from k names constants places both tables a b p u t count_names count_constants count_units count_templates
-    instructions texts templates locals =
-    search (arith, rules, spelled_len)
+-- A code keeps the limits if its tables, its instructions and its bytes do.
+pub limits_from : (k : Code) → FitTables k → total_len k.units ≤ max_instructions → length (spelling k) ≤ max_bytes
+    → KeepsLimits k
+limits_from k fits instructions bytes = record {
+  names = fits.0.0;
+  texts = fits.1.0;
+  constants = fits.0.1;
+  units = fits.0.2;
+  locals = fits.1.2;
+  instructions = instructions;
+  templates = fits.0.3;
+  template_texts = fits.1.1;
+  bytes = bytes;
+}
+
+pub limits_fit : (k : Code) → KeepsLimits k → FitTables k
+limits_fit k h = ((h.names, h.constants, h.units, h.templates), (h.texts, h.template_texts, h.locals))
 
 -- A constant of an image within the limit fits its field.
 constant_fits : (c : Constant) → length (constant_bytes c) ≤ max_bytes → IsHeld c → IsConstant c
@@ -195,10 +191,11 @@ pub record AreHeld (k : Code) : Type 0 where
   pub names : AllByRecursion (λ n. IsUtf8 n.text) k.names
   pub constants : AllByRecursion IsHeld k.constants
   pub units : AllByRecursion IsWritable k.units
-  pub templates : AllByRecursion IsUtf8 k.templates
+  pub templates : IsPlaced k.version (total_len k.units) k.templates k.places → AllByRecursion IsUtf8 k.templates
 
 pub is_code : (k : Code) → AreHeld k → HasTables k → KeepsLimits k → IsCode k
 is_code k held tables limits =
+    let utf8 = held.templates tables.placed in
     search (
       arith,
       rules,

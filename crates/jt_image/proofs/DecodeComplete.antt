@@ -5,6 +5,7 @@ use Rattle.std.proofs.Common.{arith, append_assoc, rules}
 use Rattle.std.specs.Prelude.{ℤ, ◌==◌, ◌&&◌, ◌||◌, ◌≢◌, not, nat_lt, nat_le, IsUtf8, MatchResult, MatchOption}
 use Rattle.std.specs.Int.{w16, w32, w64, to_le_bytes, cast_signed, cast_unsigned}
 use Rattle.std.specs.List.{flat_map, AllByRecursion}
+use Rattle.std.specs.Option.{IsSome}
 use Rattle.std.specs.Str.{bytes_eq}
 use Rattle.std.proofs.Math.Facts.{Fits-of_z, Fits-lt-pow}
 use Rattle.std.proofs.lemmas.Int.{to_z-of_z}
@@ -32,18 +33,13 @@ use Rattle.jt_image.specs.Reading.{instruction_at, instructions_at, section_of, 
 use Rattle.jt_image.specs.Reading.{version_at, start_at, Trailer, trailer_at, units_at, all_names_at, all_constants_at}
 use Rattle.jt_image.specs.Reading.{code_of}
 use Rattle.jt_image.proofs.ReaderParts.{header_total-push, is_first-push, is_used-push}
-use Rattle.jt_image.proofs.DecodeSoundLemmas.{wide16, wide32, wide64, AllGood}
-use Rattle.jt_image.proofs.DecodeSound.{wire_from, good_instruction, IsFree, IsNamed, long_bytes, IsPlain, IsHeader}
-use Rattle.jt_image.proofs.DecodeSound.{head_bytes, code_bytes, head_of, HasCode}
+use Rattle.jt_image.proofs.DecodeSoundLemmas.{wide16, wide32, wide64, AllGood, each_good}
+use Rattle.jt_image.proofs.DecodeSound.{wire_from, wire_at, good_instruction, IsFree, IsNamed, long_bytes, IsPlain}
+use Rattle.jt_image.proofs.DecodeSound.{IsHeader, head_bytes, code_bytes, head_of, HasCode}
 use Rattle.jt_image.proofs.WholeImageSound.{last_name-push, AreNames, good_constant, AreConstants, good_header}
 use Rattle.jt_image.proofs.WholeImageSound.{HasFirst, AreUnits, head_spelled, length-map_of}
 use Rattle.jt_image.proofs.TrailerRoundTrip.{version_again, next_again, trailer_bytes, back_again}
-use Rattle.jt_image.proofs.RoundTripLemmas.{number_again, text_again, bind_again, many_again, each_again}
-
--- A test that holds has no effect.
-check_again : {A : Type 0} (b : Bool) (d : ImageError) (r : Result A ImageError) → b ≡ true → check b d r ≡ r
-check_again true d r e = refl
-check_again false d r e = absurd cc
+use Rattle.jt_image.proofs.RoundTripLemmas.{number_again, text_again, bind_again, check_again, many_again, each_again}
 
 -- ---- names
 
@@ -121,7 +117,7 @@ long_text_again : (t rest : List ℕ) → (length t < 2 ^ 32) × IsUtf8 t
 unfolding long_text_at
 long_text_again t rest h = search (arith, rules, append_assoc, bind_again, number_again, wide32, text_again)
 
-constant_again : (before : List Constant) (x : Constant) (rest : List ℕ) → IsConstant x
+pub constant_again : (before : List Constant) (x : Constant) (rest : List ℕ) → IsConstant x
     → constant_at (constant_bytes x ++ rest) ≡ Ok (x, rest)
 unfolding constant_at constant_of
 constant_again before undefined rest h = refl
@@ -137,10 +133,6 @@ constant_again before (number z) rest h =
 constant_again before (text t) rest h = search (arith, rules, bind_again, long_bytes, long_text_again)
 constant_again before (markup t) rest h = search (arith, rules, bind_again, long_bytes, long_text_again)
 
-good_constants : (before cs : List Constant) → AllByRecursion IsConstant cs → AllGood good_constant before cs
-good_constants before [] h = tt
-good_constants before (x ∷ cs) h = (h.0, good_constants (before ++ x ∷ []) cs h.1)
-
 constants_again : (cs : List Constant) (rest : List ℕ) → AreConstants cs
     → all_constants_at (to_le_bytes w16 (length cs) ++ (flat_map constant_bytes cs ++ rest)) ≡ Ok (cs, rest)
 unfolding all_constants_at
@@ -148,7 +140,8 @@ constants_again cs rest h =
     bind_again (number_at w16 (to_le_bytes w16 (length cs) ++ (flat_map constant_bytes cs ++ rest)))
     (λ n. constants_at n.0 n.1) (length cs) (flat_map constant_bytes cs ++ rest) (Ok (cs, rest))
     (number_again w16 (2 ^ 16) wide16 (length cs) (flat_map constant_bytes cs ++ rest) h.0)
-    (many_again (λ _. constant_at) constant_bytes good_constant constant_again [] cs rest (good_constants [] cs h.1))
+    (many_again (λ _. constant_at) constant_bytes good_constant constant_again [] cs rest
+    (each_good IsConstant [] cs h.1))
 
 -- ---- headers
 
@@ -220,161 +213,23 @@ decode_fields i j0 j1 j2 opcode a b c rest small_b small_c e0 e1 e2 e3 =
 
 -- An instruction is read from its fields, and each prefix of them is accepted.
 pub record IsWired (w : Instr) (i : Instruction) : Type 0 where
-  pub by_op : (j : Instruction) × (known_of w.op 0 0 0 ≡ Ok j)
-  pub by_a : (j : Instruction) × (known_of w.op w.a 0 0 ≡ Ok j)
-  pub by_b : (j : Instruction) × (known_of w.op w.a w.b 0 ≡ Ok j)
-  pub whole : known_of w.op w.a w.b w.c ≡ Ok i
+  pub by_op : IsSome (instruction_of (wire_at w.op 0 0 0))
+  pub by_a : IsSome (instruction_of (wire_at w.op w.a 0 0))
+  pub by_b : IsSome (instruction_of (wire_at w.op w.a w.b 0))
+  pub whole : instruction_of w ≡ Some i
 
 pub wired : (i : Instruction) → IsWired (wire_of i) i
-unfolding known_of instruction_of
-wired (op.Const c) = record {
-  by_op = (op.Const 0, refl);
-  by_a = (op.Const 0, refl);
-  by_b = (op.Const 0, refl);
-  whole = refl;
-}
-wired (op.Load c) = record {
-  by_op = (op.Load 0, refl);
-  by_a = (op.Load 0, refl);
-  by_b = (op.Load 0, refl);
-  whole = refl;
-}
-wired (op.Store c) = record {
-  by_op = (op.Store 0, refl);
-  by_a = (op.Store 0, refl);
-  by_b = (op.Store 0, refl);
-  whole = refl;
-}
-wired (op.GLoad c) = record {
-  by_op = (op.GLoad 0, refl);
-  by_a = (op.GLoad 0, refl);
-  by_b = (op.GLoad 0, refl);
-  whole = refl;
-}
-wired (op.GStore c) = record {
-  by_op = (op.GStore 0, refl);
-  by_a = (op.GStore 0, refl);
-  by_b = (op.GStore 0, refl);
-  whole = refl;
-}
-wired op.Drop = record { by_op = (op.Drop, refl); by_a = (op.Drop, refl); by_b = (op.Drop, refl); whole = refl }
-wired op.Dup = record { by_op = (op.Dup, refl); by_a = (op.Dup, refl); by_b = (op.Dup, refl); whole = refl }
-wired (op.Emit a) = record {
-  by_op = (op.Emit 0, refl);
-  by_a = (op.Emit a, refl);
-  by_b = (op.Emit a, refl);
-  whole = refl;
-}
-wired (op.Data c) = record {
-  by_op = (op.Data 0, refl);
-  by_a = (op.Data 0, refl);
-  by_b = (op.Data 0, refl);
-  whole = refl;
-}
-wired (op.Jump c) = record {
-  by_op = (op.Jump 0, refl);
-  by_a = (op.Jump 0, refl);
-  by_b = (op.Jump 0, refl);
-  whole = refl;
-}
-wired (op.JumpIfFalse c) = record {
-  by_op = (op.JumpIfFalse 0, refl);
-  by_a = (op.JumpIfFalse 0, refl);
-  by_b = (op.JumpIfFalse 0, refl);
-  whole = refl;
-}
-wired (op.JumpIfTrue c) = record {
-  by_op = (op.JumpIfTrue 0, refl);
-  by_a = (op.JumpIfTrue 0, refl);
-  by_b = (op.JumpIfTrue 0, refl);
-  whole = refl;
-}
-wired (op.Op a) = record { by_op = (op.Op 0, refl); by_a = (op.Op a, refl); by_b = (op.Op a, refl); whole = refl }
-wired (op.Filter a b c) = record {
-  by_op = (op.Filter 0 0 0, refl);
-  by_a = (op.Filter a 0 0, refl);
-  by_b = (op.Filter a b 0, refl);
-  whole = refl;
-}
-wired (op.Test a b) = record {
-  by_op = (op.Test 0 0, refl);
-  by_a = (op.Test a 0, refl);
-  by_b = (op.Test a b, refl);
-  whole = refl;
-}
-wired (op.MakeList c) = record {
-  by_op = (op.MakeList 0, refl);
-  by_a = (op.MakeList 0, refl);
-  by_b = (op.MakeList 0, refl);
-  whole = refl;
-}
-wired (op.MakeMap c) = record {
-  by_op = (op.MakeMap 0, refl);
-  by_a = (op.MakeMap 0, refl);
-  by_b = (op.MakeMap 0, refl);
-  whole = refl;
-}
-wired op.LoopStart = record {
-  by_op = (op.LoopStart, refl);
-  by_a = (op.LoopStart, refl);
-  by_b = (op.LoopStart, refl);
-  whole = refl;
-}
-wired (op.LoopNext c) = record {
-  by_op = (op.LoopNext 0, refl);
-  by_a = (op.LoopNext 0, refl);
-  by_b = (op.LoopNext 0, refl);
-  whole = refl;
-}
-wired (op.LoopGet a c) = record {
-  by_op = (op.LoopGet 0 0, refl);
-  by_a = (op.LoopGet a 0, refl);
-  by_b = (op.LoopGet a 0, refl);
-  whole = refl;
-}
-wired (op.LoopKeep c) = record {
-  by_op = (op.LoopKeep 0, refl);
-  by_a = (op.LoopKeep 0, refl);
-  by_b = (op.LoopKeep 0, refl);
-  whole = refl;
-}
-wired op.LoopRewind = record {
-  by_op = (op.LoopRewind, refl);
-  by_a = (op.LoopRewind, refl);
-  by_b = (op.LoopRewind, refl);
-  whole = refl;
-}
-wired op.LoopEnd = record {
-  by_op = (op.LoopEnd, refl);
-  by_a = (op.LoopEnd, refl);
-  by_b = (op.LoopEnd, refl);
-  whole = refl;
-}
-wired op.CaptureBegin = record {
-  by_op = (op.CaptureBegin, refl);
-  by_a = (op.CaptureBegin, refl);
-  by_b = (op.CaptureBegin, refl);
-  whole = refl;
-}
-wired (op.CaptureEnd a) = record {
-  by_op = (op.CaptureEnd 0, refl);
-  by_a = (op.CaptureEnd a, refl);
-  by_b = (op.CaptureEnd a, refl);
-  whole = refl;
-}
-wired (op.Unpack c) = record {
-  by_op = (op.Unpack 0, refl);
-  by_a = (op.Unpack 0, refl);
-  by_b = (op.Unpack 0, refl);
-  whole = refl;
-}
-wired (op.Call c) = record {
-  by_op = (op.Call 0, refl);
-  by_a = (op.Call 0, refl);
-  by_b = (op.Call 0, refl);
-  whole = refl;
-}
-wired op.Return = record { by_op = (op.Return, refl); by_a = (op.Return, refl); by_b = (op.Return, refl); whole = refl }
+unfolding instruction_of
+wired a0 = search (arith, rules)
+
+known_some : (opcode a b c : ℕ) → IsSome (instruction_of (wire_at opcode a b c))
+    → (j : Instruction) × (known_of opcode a b c ≡ Ok j)
+unfolding known_of
+known_some opcode a b c h = by (instruction_of (wire_at opcode a b c)) h
+  where
+    by : (o : Option Instruction) → IsSome o → (j : Instruction) × (known o ≡ Ok j)
+    by (Some j) h = (j, refl)
+    by None h = absurd cc
 
 -- The fields of an instruction fit their encoding.
 abbrev pub HasSmallWire : Instruction → Type 0
@@ -386,45 +241,42 @@ small_wire a0 h = search (arith, rules)
 -- The encoded fields of an instruction are read as this instruction.
 pub by_wire : (w : Instr) (i : Instruction) (rest : List ℕ) → wire_of i ≡ w → w.b < 2 ^ 16 → w.c < 2 ^ 32
     → instruction_at (wire_bytes w ++ rest) ≡ Ok (i, rest)
+unfolding known_of
 by_wire w i rest e small_b small_c =
     let h : IsWired w i = subst (λ (v : Instr). IsWired v i) e (wired i) in
-    decode_fields i h.by_op.0 h.by_a.0 h.by_b.0 w.op w.a w.b w.c rest small_b small_c h.by_op.1 h.by_a.1 h.by_b.1
-    h.whole
+    let o = known_some w.op 0 0 0 h.by_op in
+    let a = known_some w.op w.a 0 0 h.by_a in
+    let b = known_some w.op w.a w.b 0 h.by_b in
+    decode_fields i o.0 a.0 b.0 w.op w.a w.b w.c rest small_b small_c o.1 a.1 b.1 (ap known h.whole)
 
 instruction_again : (before : List Instruction) (i : Instruction) (rest : List ℕ) → IsInstruction i
     → instruction_at (instruction_bytes i ++ rest) ≡ Ok (i, rest)
 instruction_again before i rest h = let small = small_wire i h in by_wire (wire_of i) i rest refl small.0 small.1
 
--- Fields without an instruction are not those of an instruction.
-no_instruction : (w : Instr) (i : Instruction) → instruction_of w ≡ None → IsWired w i → ⊥
-unfolding known_of
-no_instruction w i e h = fault (sym (ap known e) ∙ h.whole)
-  where
-    fault : (let r : Result Instruction ImageError = Err BadOpcode in r ≡ Ok i) → ⊥
-    fault f = cc
-
 -- The table of opcodes has the one instruction with these fields, or none if none exists.
 pub instruction_exact : (w : Instr) (o : Option Instruction) → o ≡ instruction_of w
     → MatchOption o ((i : Instruction) → wire_of i ≢ w) (λ i. wire_of i ≡ w)
 instruction_exact w (Some i) e = wire_from w i (sym e)
-instruction_exact w None e = λ i f. no_instruction w i (sym e) (subst (λ (v : Instr). IsWired v i) f (wired i))
+instruction_exact w None e = λ i f.
+    let whole = (subst (λ (v : Instr). IsWired v i) f (wired i)).whole in
+    absurd cc
 
 -- ---- units
 
-good_instructions : (before code : List Instruction) → AllByRecursion IsInstruction code
-    → AllGood good_instruction before code
-good_instructions before [] h = tt
-good_instructions before (i ∷ is) h = (h.0, good_instructions (before ++ i ∷ []) is h.1)
+pub instructions_again : (is : List Instruction) (rest : List ℕ) → AllByRecursion IsInstruction is
+    → instructions_at (length is) (flat_map instruction_bytes is ++ rest) ≡ Ok (is, rest)
+instructions_again is rest h =
+    many_again (λ _. instruction_at) instruction_bytes good_instruction instruction_again [] is rest
+    (each_good IsInstruction [] is h)
 
 section_again : (u : Section) (rest : List ℕ) → HasCode u → section_at (head_of u) (code_bytes u ++ rest) ≡ Ok (u, rest)
 unfolding section_at
 section_again u rest h =
     bind_again (instructions_at (length u.code) (code_bytes u ++ rest))
-    (λ code. Ok (section_of (head_of u) code.0, code.1)) u.code rest (Ok (u, rest))
-    (many_again (λ _. instruction_at) instruction_bytes good_instruction instruction_again [] u.code rest
-    (good_instructions [] u.code h)) refl
+    (λ code. Ok (section_of (head_of u) code.0, code.1)) u.code rest (Ok (u, rest)) (instructions_again u.code rest h)
+    refl
 
-codes_of : (us : List Section) → AllByRecursion IsSection us → AllByRecursion HasCode us
+pub codes_of : (us : List Section) → AllByRecursion IsSection us → AllByRecursion HasCode us
 codes_of [] h = tt
 codes_of (u ∷ us) h = (h.0.code, codes_of us h.1)
 

@@ -24,15 +24,7 @@ use Rattle.jt_image.specs.Reading.{section_at, sections_at, header_total, many_a
 use Rattle.jt_image.proofs.DecodeSoundLemmas.{Read, AllOk, all_at, all_map, bind_from, check_all, cond_all, IsBytes}
 use Rattle.jt_image.proofs.DecodeSoundLemmas.{Takes, Takes-then, Takes-as, Found, wide16, wide32, wide64, number_found}
 use Rattle.jt_image.proofs.DecodeSoundLemmas.{single, byte_found, IsText, text_found, AllGood, Many, many_found, Each}
-use Rattle.jt_image.proofs.DecodeSoundLemmas.{each_found}
-
-and_true : (a b : Bool) → (a && b) ≡ true → (a ≡ true) × (b ≡ true)
-and_true true b e = (refl, e)
-and_true false b e = absurd cc
-
-not_true : (b : Bool) → not b ≡ true → b ≡ false
-not_true true e = absurd cc
-not_true false e = refl
+use Rattle.jt_image.proofs.DecodeSoundLemmas.{each_found, and_true, not_true, good_each}
 
 -- ---- names
 
@@ -396,11 +388,6 @@ HasCode u = AllByRecursion IsInstruction u.code
 abbrev pub good_instruction : List Instruction → Instruction → Type 0
 good_instruction before i = IsInstruction i
 
-pub all_instructions : (before code : List Instruction) → AllGood good_instruction before code
-    → AllByRecursion IsInstruction code
-all_instructions before [] h = tt
-all_instructions before (i ∷ is) h = (h.0, all_instructions (before ++ i ∷ []) is h.1)
-
 section_found : (h : Header) (bytes : List ℕ) → IsBytes bytes
     → Found code_bytes (λ u. (head_of u ≡ h) × HasCode u) bytes (section_at h bytes)
 unfolding section_at
@@ -417,7 +404,7 @@ section_found h bytes fits =
             let r : Header = record { parameters = h.parameters; kind = h.kind; locals = h.locals; len = n } in r)
             (ap length m.is ∙ m.count),
         subst (λ (is : List Instruction). AllByRecursion IsInstruction is) (sym m.is)
-            (all_instructions [] m.more m.all),
+            (good_each IsInstruction [] m.more m.all),
       ),
     ))
 

@@ -5,7 +5,7 @@ use Rattle.std.proofs.Common.{append_assoc, rules}
 use Rattle.std.specs.Int.{Width, w16, w32, w64, byte_len, from_le_bytes, to_le_bytes}
 use Rattle.std.specs.List.{flat_map, AllByRecursion}
 use Rattle.std.specs.Str.{is_utf8}
-use Rattle.std.specs.Prelude.{IsUtf8}
+use Rattle.std.specs.Prelude.{◌&&◌, not, IsUtf8}
 use Rattle.std.proofs.lemmas.Str.{IsUtf8-from_is_utf8}
 use Rattle.std.proofs.lemmas.Bool.{ltb-false, cases_lt}
 use Rattle.std.proofs.lemmas.List.{append-nil, take-append-drop, length-take, get_or-drop, get_or-take, get_or_past}
@@ -50,6 +50,14 @@ pub cond_all : {A : Type 0} (b : Bool) (x y : Result A ImageError) (P : A → Ty
     → (b ≡ false → AllOk y P) → AllOk (cond b x y) P
 cond_all true x y P h k = h refl
 cond_all false x y P h k = k refl
+
+pub and_true : (a b : Bool) → (a && b) ≡ true → (a ≡ true) × (b ≡ true)
+and_true true b e = (refl, e)
+and_true false b e = absurd cc
+
+pub not_true : (b : Bool) → not b ≡ true → b ≡ false
+not_true true e = absurd cc
+not_true false e = refl
 
 -- ---- bytes
 
@@ -156,6 +164,14 @@ abbrev pub AllGood : {A : Type 0} → (List A → A → Type 0) → List A → L
 AllGood good before [] = Unit {0}
 AllGood good before (x ∷ xs) = good before x × AllGood good (before ++ x ∷ []) xs
 
+pub each_good : {A : Type 0} (P : A → Type 0) (before xs : List A) → AllByRecursion P xs → AllGood (λ _. P) before xs
+each_good P before [] h = tt
+each_good P before (x ∷ xs) h = (h.0, each_good P (before ++ x ∷ []) xs h.1)
+
+pub good_each : {A : Type 0} (P : A → Type 0) (before xs : List A) → AllGood (λ _. P) before xs → AllByRecursion P xs
+good_each P before [] h = tt
+good_each P before (x ∷ xs) h = (h.0, good_each P (before ++ x ∷ []) xs h.1)
+
 -- The elements that were read after those before them.
 pub record Many {A : Type 0} (spell : A → List ℕ) (good : List A → A → Type 0) (n : ℕ) (before : List A)
     (bytes : List ℕ) (x : List A × List ℕ) : Type 0 where
@@ -233,3 +249,28 @@ module _ {H A : Type 0} (step : H → List ℕ → Read A) (spell : A → List �
             (Takes-then bytes (spell x.0) x.1 (flat_map spell m.more) y.1 t.0 m.takes);
         all = (t.1.1, m.all);
       }))
+
+-- A table: the number of its elements in two bytes, then its elements.
+module _ {A : Type 0} (step : List A → List ℕ → Read A) (spell : A → List ℕ) (good : List A → A → Type 0)
+    (found : (before : List A) (bytes : List ℕ) → IsBytes bytes
+    → Found spell (good before) bytes (step before bytes))
+    (P : List A → Type 0) (whole : (xs : List A) → length xs < 2 ^ 16 → AllGood good [] xs → P xs) where
+  pub table_found : (bytes : List ℕ) → IsBytes bytes
+      → Found (λ xs. to_le_bytes w16 (length xs) ++ flat_map spell xs) P bytes
+      (number_at w16 bytes >>= λ n. many_at step n.0 [] n.1)
+  table_found bytes fits =
+      let Q : List A × List ℕ → Type 0 =
+      λ x. Takes bytes (to_le_bytes w16 (length x.0) ++ flat_map spell x.0) x.1 × P x.0 in
+      bind_from (number_at w16 bytes) (λ n. many_at step n.0 [] n.1)
+      (λ n. Takes bytes (to_le_bytes w16 n.0) n.1 × (n.0 < 2 ^ 16)) Q (number_found w16 (2 ^ 16) wide16 bytes fits)
+      (λ n t.
+      all_map (many_at step n.0 [] n.1) (Many spell good n.0 [] n.1) Q
+      (many_found step spell good found n.0 [] n.1 t.0.fits) (λ x m.
+      let len : length x.0 ≡ n.0 = ap length m.is ∙ m.count in (
+        Takes-as bytes (to_le_bytes w16 n.0 ++ flat_map spell m.more)
+            (to_le_bytes w16 (length x.0) ++ flat_map spell x.0) x.1
+            (ap (λ (k : ℕ). to_le_bytes w16 k ++ flat_map spell m.more) (sym len)
+            ∙ ap (λ (ys : List A). to_le_bytes w16 (length x.0) ++ flat_map spell ys) (sym m.is))
+            (Takes-then bytes (to_le_bytes w16 n.0) n.1 (flat_map spell m.more) x.1 t.0 m.takes),
+        whole x.0 (omega (arith, len, t.1)) (subst (λ (ys : List A). AllGood good [] ys) (sym m.is) m.all),
+      )))

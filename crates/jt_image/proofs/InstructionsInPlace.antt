@@ -15,10 +15,10 @@ use Rattle.jt_image.specs.IsCode.{IsInstruction, IsLine, IsSourceLoc}
 use Rattle.jt_image.specs.Reading.{◌>>=◌, Header, known, known_of, instruction_of, instruction_at, instructions_at}
 use Rattle.jt_image.specs.Reading.{section_of, section_at, loc_at, locs_at}
 use Rattle.jt_image.specs.InPlace.{read_or, instructions_in, fields_in, loc_in}
-use Rattle.jt_image.proofs.DecodeSoundLemmas.{IsBytes, AllOk, all_at, Many, many_found, wide16, wide32}
-use Rattle.jt_image.proofs.DecodeSound.{wire_at, instruction_found, good_instruction, all_instructions, many_count}
+use Rattle.jt_image.proofs.DecodeSoundLemmas.{good_each, IsBytes, AllOk, all_at, Many, many_found, wide16, wide32}
+use Rattle.jt_image.proofs.DecodeSound.{wire_at, instruction_found, good_instruction, many_count}
 use Rattle.jt_image.proofs.DecodeComplete.{small_wire, wired}
-use Rattle.jt_image.proofs.TrailerRoundTrip.{good_loc, all_locs, loc_found}
+use Rattle.jt_image.proofs.TrailerRoundTrip.{good_loc, small_line, loc_found}
 
 abbrev Read : Type 0
 Read = Result (List Instruction × List ℕ) ImageError
@@ -46,29 +46,11 @@ is_there [] i lt = absurd (omega (arith, lt))
 is_there (x ∷ xs) zero lt = refl
 is_there (x ∷ xs) (suc i) lt = is_there xs i (omega (arith, lt))
 
-pub all_push : {A : Type 0} (P : A → Type 0) (xs : List A) (x : A) → AllByRecursion P xs → P x
-    → AllByRecursion P (xs ++ x ∷ [])
-all_push P [] x h p = (p, tt)
-all_push P (y ∷ ys) x h p = (h.0, all_push P ys x h.1 p)
-
 -- ---- the instruction at a point
 
 -- The fields of the encoded bytes are those that were written.
 head_fields : (w : Instr) (t : List ℕ) → w.b < 2 ^ 16 → w.c < 2 ^ 32 → fields_in (wire_bytes w ++ t) ≡ w
 head_fields w t b c = search (arith, rules, wire_at, wide16, wide32)
-
-known_one : Result Instruction ImageError → Option Instruction
-known_one (Ok i) = Some i
-known_one (Err e) = None
-
-known_back : (o : Option Instruction) → known_one (known o) ≡ o
-unfolding known_one
-known_back None = refl
-known_back (Some i) = refl
-
-table_again : (i : Instruction) → instruction_of (wire_of i) ≡ Some i
-unfolding known_of known_one
-table_again i = sym (known_back (instruction_of (wire_of i))) ∙ ap known_one (wired i).whole
 
 -- Eight bytes exist at the point, and their fields are those of this instruction.
 abbrev pub IsAt : List ℕ → ℕ → Option Instruction → Type 0
@@ -78,7 +60,7 @@ at_front : (i : Instruction) (t : List ℕ) → IsInstruction i → IsAt (instru
 at_front i t h =
     let small = small_wire i h in
     let len : length (instruction_bytes i ++ t) ≡ suc (suc (suc (suc (suc (suc (suc (suc (length t)))))))) = refl in
-    (omega (arith, len), ap instruction_of (head_fields (wire_of i) t small.0 small.1) ∙ table_again i)
+    (omega (arith, len), ap instruction_of (head_fields (wire_of i) t small.0 small.1) ∙ (wired i).whole)
 
 one_on : (w : Instr) (t : List ℕ) (p : ℕ) (o : Option Instruction) → IsAt t p o → IsAt (wire_bytes w ++ t) (suc p) o
 one_on w t p o h =
@@ -111,7 +93,7 @@ placed n p bytes fits len lt =
         → IsAt bytes p (slice_get (read_or [] r) p)
     by_answer (Err e) h len = absurd (omega (arith, len, lt))
     by_answer (Ok x) m len =
-        let here = at_point m.more x.1 p (all_instructions [] m.more m.all) (omega (arith, m.count, lt)) in
+        let here = at_point m.more x.1 p (good_each IsInstruction [] m.more m.all) (omega (arith, m.count, lt)) in
         subst (λ (b : List ℕ). IsAt b p (slice_get x.0 p)) (sym m.takes.parts)
         (subst (λ (is : List Instruction). IsAt (flat_map instruction_bytes m.more ++ x.1) p (slice_get is p))
         (sym m.is) here)
@@ -120,10 +102,6 @@ placed n p bytes fits len lt =
 
 loc_fields : (s : SourceLoc) (t : List ℕ) → s.template < 2 ^ 16 → s.line < 2 ^ 32 → loc_in (loc_bytes s ++ t) ≡ s
 loc_fields s t a b = search (arith, rules, wide16, wide32)
-
-small_line : (template line : ℕ) → IsLine template line → line < 2 ^ 32
-small_line zero line h = omega (arith, h)
-small_line (suc template) line h = omega (arith, h.1)
 
 -- Six bytes exist at the index, and they encode this place.
 abbrev pub IsSourceLocAt : List ℕ → ℕ → Option SourceLoc → Type 0
@@ -168,7 +146,8 @@ loc_placed templates n i bytes small fits len lt =
     by_answer (Err e) h len = absurd (omega (arith, len, lt))
     by_answer (Ok x) m len =
         let here =
-        loc_at_number templates m.more x.1 i small (all_locs templates [] m.more m.all) (omega (arith, m.count, lt)) in
+        loc_at_number templates m.more x.1 i small (good_each (IsSourceLoc templates) [] m.more m.all)
+        (omega (arith, m.count, lt)) in
         subst (λ (b : List ℕ). IsSourceLocAt b i (slice_get x.0 i)) (sym m.takes.parts)
         (subst (λ (ss : List SourceLoc). IsSourceLocAt (flat_map loc_bytes m.more ++ x.1) i (slice_get ss i)) (sym m.is)
         here)

@@ -1,9 +1,10 @@
 -- The properties of parts that `assemble` needs.
-use Rattle.std.proofs.Common.{◌≡◌, ℕ, zero, suc, ◌<◌, ◌^◌, List, [], ◌∷◌, length, map, get_or, Option, Some, None, refl}
-use Rattle.std.proofs.Common.{arith, rules}
+use Rattle.std.proofs.Common.{◌≡◌, ℕ, zero, suc, ◌<◌, ◌^◌, List, [], ◌∷◌, ◌++◌, length, map, get_or, Option, Some, None}
+use Rattle.std.proofs.Common.{refl, sym, ap, subst, ◌∙◌, arith, rules}
 use Rattle.std.specs.Prelude.{option_map}
 use Rattle.std.specs.Option.{IsSome}
-use Rattle.std.specs.List.{AllByRecursion}
+use Rattle.std.specs.List.{flat_map, AllByRecursion}
+use Rattle.std.proofs.lemmas.List.Concat.{flat_map-cons}
 use Rattle.jt_image.specs.declared.instruction.Instruction.{Instruction}
 use Rattle.jt_image.specs.declared.parts.Unit as given
 use Rattle.jt_image.specs.declared.wire.Instr.{Instr}
@@ -15,12 +16,12 @@ use Rattle.jt_image.specs.Spelling.{wire_bytes, instruction_bytes}
 use Rattle.jt_image.specs.View.{instruction_view, units_view}
 use Rattle.jt_image.proofs.DecodeSound.{wire_from}
 
--- A property of all views holds of the view at an index.
-pub each_fits : {A B : Type 0} (view : A → B) (P : B → Type 0) (xs : List A) (i : ℕ) (d : A)
-    → AllByRecursion P (map view xs) → i < length xs → P (view (get_or xs i d))
-each_fits view P [] i d h lt = absurd (omega arith)
-each_fits view P (x ∷ xs) zero d h lt = h.0
-each_fits view P (x ∷ xs) (suc i) d h lt = each_fits view P xs i d h.1 (omega arith)
+-- A property of all views holds of the view of an element.
+pub each_fits : {A B : Type 0} (view : A → B) (P : B → Type 0) (xs : List A) (i : ℕ) (x : A)
+    → AllByRecursion P (map view xs) → i < length xs → x ≡ get_or xs i x → P (view x)
+each_fits view P [] i x h lt e = absurd (omega arith)
+each_fits view P (y ∷ xs) zero x h lt e = subst (λ (z : _). P (view z)) (sym e) h.0
+each_fits view P (y ∷ xs) (suc i) x h lt e = each_fits view P xs i x h.1 (omega arith) e
 
 pub short_codes : (us : List Section) → total_len us < 2 ^ 32 → AllByRecursion (λ u. length u.code < 2 ^ 32) us
 short_codes [] lt = tt
@@ -34,8 +35,17 @@ each_holds P (x ∷ xs) (suc i) d h lt = each_holds P xs i d h.1 (omega arith)
 
 -- ---- units of parts
 
-pub known_bytes : (w : Instr) → IsSome (instruction_of w) → instruction_bytes (instruction_view w) ≡ wire_bytes w
+known_bytes : (w : Instr) → IsSome (instruction_of w) → instruction_bytes (instruction_view w) ≡ wire_bytes w
 known_bytes w h = search (arith, rules, wire_from)
+
+pub known_wires : (ws : List Instr) → AllByRecursion (λ w. IsSome (instruction_of w)) ws
+    → flat_map wire_bytes (map (λ w. w) ws) ≡ flat_map instruction_bytes (map instruction_view ws)
+known_wires [] h = refl
+known_wires (w ∷ ws) h =
+    flat_map-cons wire_bytes w (map (λ v. v) ws)
+    ∙ ap (λ (b : List ℕ). b ++ flat_map wire_bytes (map (λ v. v) ws)) (sym (known_bytes w h.0))
+    ∙ ap (λ (b : List ℕ). instruction_bytes (instruction_view w) ++ b) (known_wires ws h.1)
+    ∙ sym (flat_map-cons instruction_bytes (instruction_view w) (map instruction_view ws))
 
 known_code : (ws : List Instr) → AllByRecursion (λ w. IsSome (instruction_of w)) ws
     → each_of instruction_of ws ≡ Some (map instruction_view ws)

@@ -1,16 +1,14 @@
 -- Lemmas on the prefix of a list that a loop has passed.
-use Rattle.std.proofs.Common.{◌≡◌, ℕ, zero, suc, ◌+◌, ◌<◌, ◌≤◌, List, [], ◌∷◌, ◌++◌, length, map, take, drop, get_or}
-use Rattle.std.proofs.Common.{refl, sym, ap, subst, ◌∙◌, arith, append_assoc}
+use Rattle.std.proofs.Common.{◌≡◌, ℕ, zero, suc, ◌+◌, ◌<◌, ◌≤◌, List, [], ◌∷◌, ◌++◌, length, map, take, get_or, sym}
+use Rattle.std.proofs.Common.{ap, subst, ◌∙◌, arith, append_assoc}
 use Rattle.std.specs.List.{AllByRecursion}
-use Rattle.std.proofs.lemmas.List.{take_more, take_all, map_push, append-nil, take-append-drop}
-use Rattle.jt_image.specs.Code.{Section}
-use Rattle.jt_image.specs.IsCode.{total_len}
+use Rattle.std.proofs.lemmas.List.{take_more, map_push, append-nil}
 use Rattle.jt_image.proofs.DecodeSoundLemmas.{AllGood}
 
-pub all_push : {A : Type 0} (P : A → Type 0) (xs : List A) (x : A) → P x → AllByRecursion P xs
+pub all_push : {A : Type 0} (P : A → Type 0) (xs : List A) (x : A) → AllByRecursion P xs → P x
     → AllByRecursion P (xs ++ x ∷ [])
-all_push P [] x p h = (p, tt)
-all_push P (y ∷ xs) x p h = (h.0, all_push P xs x p h.1)
+all_push P [] x h p = (p, tt)
+all_push P (y ∷ ys) x h p = (h.0, all_push P ys x h.1 p)
 
 pub all_weaker : {A : Type 0} (P Q : A → Type 0) (xs : List A) → ((x : A) → P x → Q x) → AllByRecursion P xs
     → AllByRecursion Q xs
@@ -24,48 +22,15 @@ all_both P Q R (x ∷ xs) f h g = (f x h.0 g.0, all_both P Q R xs f h.1 g.1)
 
 -- ---- views of items
 
-pub total_len-append : (us vs : List Section) → total_len (us ++ vs) ≡ total_len us + total_len vs
-total_len-append [] vs = omega arith
-total_len-append (u ∷ us) vs = omega (arith, total_len-append us vs)
+module _ {A B : Type 0} (view : A → B) (xs : List A) (i : ℕ) (x : A) (lt : i < length xs) (is : x ≡ get_or xs i x) where
+  pub seen_more : map view (take (i + 1) xs) ≡ map view (take i xs) ++ view x ∷ []
+  seen_more =
+      ap (map view) (take_more xs i x lt) ∙ map_push view (take i xs) (get_or xs i x)
+      ∙ ap (λ (y : A). map view (take i xs) ++ view y ∷ []) (sym is)
 
-map-append_lem : {A B : Type 0} (f : A → B) (xs ys : List A) → map f (xs ++ ys) ≡ map f xs ++ map f ys
-map-append_lem f [] ys = refl
-map-append_lem f (x ∷ xs) ys = ap (λ (zs : List _). f x ∷ zs) (map-append_lem f xs ys)
-
-pub length-seen : {A B : Type 0} (view : A → B) (xs : List A) → length (map view xs) ≡ length xs
-length-seen view [] = refl
-length-seen view (x ∷ xs) = ap suc (length-seen view xs)
-
-module _ {A B : Type 0} (view : A → B) (xs : List A) (i : ℕ) where
-  pub seen_more : (d : A) → i < length xs
-      → map view (take (i + 1) xs) ≡ map view (take i xs) ++ view (get_or xs i d) ∷ []
-  seen_more d lt = ap (map view) (take_more xs i d lt) ∙ map_push view (take i xs) (get_or xs i d)
-
-  pub all_more : (P : B → Type 0) (d : A) → i < length xs → P (view (get_or xs i d))
-      → AllByRecursion P (map view (take i xs)) → AllByRecursion P (map view (take (i + 1) xs))
-  all_more P d lt p h =
-      subst (λ (ys : List B). AllByRecursion P ys) (sym (seen_more d lt))
-      (all_push P (map view (take i xs)) (view (get_or xs i d)) p h)
-
-  pub all_done : (P : B → Type 0) → length xs ≤ i → AllByRecursion P (map view (take i xs))
-      → AllByRecursion P (map view xs)
-  all_done P le h = subst (λ (ys : List A). AllByRecursion P (map view ys)) (take_all i xs le) h
-
-module _ {A : Type 0} (view : A → Section) (xs : List A) (i : ℕ) (d : A) (lt : i < length xs) where
-  pub total_more : total_len (map view (take (i + 1) xs))
-      ≡ total_len (map view (take i xs)) + length (view (get_or xs i d)).code
-  total_more =
-      let push = total_len-append (map view (take i xs)) (view (get_or xs i d) ∷ []) in
-      omega (arith, ap total_len (seen_more view xs i d lt), push)
-
-  pub total_within : total_len (map view (take i xs)) + length (view (get_or xs i d)).code ≤ total_len (map view xs)
-  total_within =
-      let whole : total_len (map view xs)
-      ≡ total_len (map view (take (i + 1) xs)) + total_len (map view (drop (i + 1) xs)) =
-      ap (λ (ys : List A). total_len (map view ys)) (sym (take-append-drop (i + 1) xs))
-      ∙ ap total_len (map-append_lem view (take (i + 1) xs) (drop (i + 1) xs))
-      ∙ total_len-append (map view (take (i + 1) xs)) (map view (drop (i + 1) xs)) in
-      omega (arith, whole, total_more)
+  pub all_more : (P : B → Type 0) → AllByRecursion P (map view (take i xs)) → P (view x)
+      → AllByRecursion P (map view (take (i + 1) xs))
+  all_more P h p = rw seen_more (all_push P (map view (take i xs)) (view x) h p)
 
 -- ---- elements that are good after those before them
 

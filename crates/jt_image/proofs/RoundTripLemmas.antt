@@ -1,6 +1,6 @@
 -- Lemmas for the proof that a spelling is read again.
-use Rattle.std.proofs.Common.{◌≡◌, ℕ, ◌<◌, true, false, ltb, List, [], ◌∷◌, ◌++◌, length, map, Result, Ok, refl, sym}
-use Rattle.std.proofs.Common.{ap, ◌∙◌, arith, append_assoc, rules}
+use Rattle.std.proofs.Common.{◌≡◌, ℕ, ◌<◌, Bool, true, false, ltb, List, [], ◌∷◌, ◌++◌, length, map, Result, Ok, refl}
+use Rattle.std.proofs.Common.{sym, ap, ◌∙◌, arith, append_assoc, rules}
 use Rattle.std.specs.Int.{Width, to_le_bytes}
 use Rattle.std.specs.List.{flat_map, AllByRecursion}
 use Rattle.std.specs.Str.{is_utf8}
@@ -10,7 +10,7 @@ use Rattle.std.proofs.lemmas.Bool.{le-ltb}
 use Rattle.std.proofs.lemmas.List.{append-nil, take_at, drop_at, length-append}
 use Rattle.std.proofs.lemmas.List.Concat.{flat_map-cons}
 use Rattle.jt_image.specs.declared.error.ImageError.{ImageError}
-use Rattle.jt_image.specs.Reading.{◌>>=◌, number_at, text_at, many_at, each_at}
+use Rattle.jt_image.specs.Reading.{◌>>=◌, check, number_at, text_at, many_at, each_at}
 use Rattle.jt_image.proofs.DecodeSoundLemmas.{Read, IsWide, AllGood}
 
 pub number_again : (w : Width) (limit : ℕ) → IsWide w limit → (n : ℕ) (rest : List ℕ) → n < limit
@@ -26,6 +26,11 @@ pub bind_again : {A B : Type 0} (r : Read A) (f : A × List ℕ → Result B Ima
     (y : Result B ImageError)
     → r ≡ Ok (x, rest) → f (x, rest) ≡ y → (r >>= f) ≡ y
 bind_again {A} {B} r f x rest y e g = ap (λ (q : Read A). q >>= f) e ∙ g
+
+-- A test that holds has no effect.
+pub check_again : {A : Type 0} (b : Bool) (d : ImageError) (r : Result A ImageError) → b ≡ true → check b d r ≡ r
+check_again true d r e = refl
+check_again false d r e = absurd cc
 
 module _ {A : Type 0} (step : List A → List ℕ → Read A) (spell : A → List ℕ) (good : List A → A → Type 0)
     (again : (before : List A) (x : A) (rest : List ℕ) → good before x

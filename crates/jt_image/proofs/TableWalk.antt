@@ -5,7 +5,7 @@ use Rattle.jt_image.specs.Reading.{many_at}
 use Rattle.jt_image.specs.InPlace.{AreRead}
 use Rattle.jt_image.proofs.DecodeSoundLemmas.{Read}
 use Rattle.jt_image.proofs.TableLoops.{goes_on}
-use Rattle.jt_image.proofs.InstructionsInPlace.{all_push}
+use Rattle.jt_image.proofs.ReadPrefix.{all_push}
 use Rattle.jt_image.proofs.TablesInPlace.{Step}
 
 module _ {A : Type 0} (part : List ℕ → ℕ → A) (has : List ℕ → ℕ → Type 0) (step : List A → List ℕ → Read A)

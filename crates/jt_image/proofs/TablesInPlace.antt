@@ -82,7 +82,7 @@ pub record Step {A : Type 0} (part : List ℕ → ℕ → A) (has : List ℕ →
 
 -- ---- names
 
-bare_again : (n : Name) (rest : List ℕ) → n.slot < 2 ^ 16 → length n.text < 2 ^ 16 → IsUtf8 n.text
+pub bare_again : (n : Name) (rest : List ℕ) → n.slot < 2 ^ 16 → length n.text < 2 ^ 16 → IsUtf8 n.text
     → bare_name_at (name_bytes n ++ rest) ≡ Ok (n, rest)
 unfolding bare_name_at
 bare_again n rest slot len utf8 =
@@ -119,7 +119,7 @@ name_step globals before bytes rest n after small fits h e =
 
 -- ---- templates
 
-bare_text_again : (t rest : List ℕ) → length t < 2 ^ 16 → IsUtf8 t
+pub bare_text_again : (t rest : List ℕ) → length t < 2 ^ 16 → IsUtf8 t
     → bare_text_at (template_bytes t ++ rest) ≡ Ok (t, rest)
 unfolding bare_text_at
 bare_text_again t rest len utf8 = search (arith, rules, append_assoc, bind_again, number_again, wide16, text_again)

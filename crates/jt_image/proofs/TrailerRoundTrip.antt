@@ -18,18 +18,11 @@ use Rattle.jt_image.specs.Reading.{template_at, templates_at, all_templates_at, 
 use Rattle.jt_image.specs.Reading.{loc_at, locs_at, Trailer, trailer_at}
 use Rattle.jt_image.proofs.DecodeSoundLemmas.{AllOk, all_map, bind_from, check_all, cond_all, IsBytes, Takes}
 use Rattle.jt_image.proofs.DecodeSoundLemmas.{Takes-then, Takes-as, Found, wide16, wide32, number_found, AllGood, Many}
-use Rattle.jt_image.proofs.DecodeSoundLemmas.{many_found}
+use Rattle.jt_image.proofs.DecodeSoundLemmas.{many_found, and_true, each_good, good_each, table_found}
 use Rattle.jt_image.proofs.DecodeSound.{IsNext, next_found}
 use Rattle.jt_image.proofs.WholeImageSound.{last_push, follows_some}
-use Rattle.jt_image.proofs.RoundTripLemmas.{number_again, text_again, bind_again, many_again}
-
-and_true : (a b : Bool) → (a && b) ≡ true → (a ≡ true) × (b ≡ true)
-and_true true b e = (refl, e)
-and_true false b e = absurd cc
-
-check_again : {A : Type 0} (b : Bool) (d : _) (r : _) → b ≡ true → check {A = A} b d r ≡ r
-check_again true d r e = refl
-check_again false d r e = absurd cc
+use Rattle.jt_image.proofs.ReadPrefix.{all_weaker}
+use Rattle.jt_image.proofs.RoundTripLemmas.{number_again, text_again, bind_again, check_again, many_again}
 
 -- ---- the version
 
@@ -76,49 +69,49 @@ template_again before t rest h = next_again (last_text before) t rest h
 follows-push : (before : List (List ℕ)) (s t : List ℕ) → follows (last_text (before ++ s ∷ [])) t ≡ follows (Some s) t
 follows-push before s t = ap (λ (o : Option (List ℕ)). follows o t) (last_push None before s)
 
-pub are_templates : (before ts : List (List ℕ)) → AllGood IsNextText before ts → AllByRecursion IsTemplate ts
+are_templates : (before ts : List (List ℕ)) → AllGood IsNextText before ts → AllByRecursion IsTemplate ts
 are_templates before [] h = tt
 are_templates before (t ∷ ts) h = (
   record { some = follows_some (last_text before) t h.0.follows; fits = h.0.fits; utf8 = h.0.utf8 },
   are_templates (before ++ t ∷ []) ts h.1,
 )
 
-ascend_from : (t : List ℕ) (before ts : List (List ℕ)) → AllGood IsNextText (before ++ t ∷ []) ts → AscendTexts (t ∷ ts)
-ascend_from t before [] h = tt
-ascend_from t before (s ∷ ts) h = (sym (follows-push before t s) ∙ h.0.follows, ascend_from s (before ++ t ∷ []) ts h.1)
+-- A text that is greater than these, or the first text and not empty.
+abbrev pub Follows : List (List ℕ) → List ℕ → Type 0
+Follows before t = follows (last_text before) t ≡ true
 
-pub ascend_texts : (ts : List (List ℕ)) → AllGood IsNextText [] ts → AscendTexts ts
+all_follow : (before ts : List (List ℕ)) → AllGood IsNextText before ts → AllGood Follows before ts
+all_follow before [] h = tt
+all_follow before (t ∷ ts) h = (h.0.follows, all_follow (before ++ t ∷ []) ts h.1)
+
+pub some_texts : (before ts : List (List ℕ)) → AllGood Follows before ts → AllByRecursion (λ t. 0 < length t) ts
+some_texts before [] h = tt
+some_texts before (t ∷ ts) h = (follows_some (last_text before) t h.0, some_texts (before ++ t ∷ []) ts h.1)
+
+ascend_from : (t : List ℕ) (before ts : List (List ℕ)) → AllGood Follows (before ++ t ∷ []) ts → AscendTexts (t ∷ ts)
+ascend_from t before [] h = tt
+ascend_from t before (s ∷ ts) h = (sym (follows-push before t s) ∙ h.0, ascend_from s (before ++ t ∷ []) ts h.1)
+
+pub ascend_texts : (ts : List (List ℕ)) → AllGood Follows [] ts → AscendTexts ts
 ascend_texts [] h = tt
 ascend_texts (t ∷ ts) h = ascend_from t [] ts h.1
 
--- The first of these texts may follow those before it.
-abbrev pub StartsTexts : List (List ℕ) → List (List ℕ) → Type 0
-StartsTexts before [] = Unit {0}
-StartsTexts before (t ∷ ts) = follows (last_text before) t ≡ true
+follow_from : (t : List ℕ) (before ts : List (List ℕ)) → AscendTexts (t ∷ ts) → AllGood Follows (before ++ t ∷ []) ts
+follow_from t before [] up = tt
+follow_from t before (s ∷ ts) up = (follows-push before t s ∙ up.0, follow_from s (before ++ t ∷ []) ts up.1)
 
-next_starts : (before : List (List ℕ)) (t : List ℕ) (ts : List (List ℕ)) → AscendTexts (t ∷ ts)
-    → StartsTexts (before ++ t ∷ []) ts
-next_starts before t [] h = tt
-next_starts before t (s ∷ ts) h = follows-push before t s ∙ h.0
+pub follow_texts : (ts : List (List ℕ)) → AllByRecursion (λ t. 0 < length t) ts → AscendTexts ts → AllGood Follows [] ts
+follow_texts [] some up = tt
+follow_texts (t ∷ ts) some up = (lt-ltb _ _ some.0, follow_from t [] ts up)
 
-rest_ascends : (t : List ℕ) (ts : List (List ℕ)) → AscendTexts (t ∷ ts) → AscendTexts ts
-rest_ascends t [] h = tt
-rest_ascends t (s ∷ ts) h = h.1
-
-all_next : (before ts : List (List ℕ)) → AllByRecursion IsTemplate ts → AscendTexts ts → StartsTexts before ts
+all_next : (before ts : List (List ℕ)) → AllByRecursion IsTemplate ts → AllGood Follows before ts
     → AllGood IsNextText before ts
-all_next before [] all up starts = tt
-all_next before (t ∷ ts) all up starts = (
-  record { fits = all.0.fits; utf8 = all.0.utf8; follows = starts },
-  all_next (before ++ t ∷ []) ts all.1 (rest_ascends t ts up) (next_starts before t ts up),
-)
+all_next before [] all h = tt
+all_next before (t ∷ ts) all h =
+    (record { fits = all.0.fits; utf8 = all.0.utf8; follows = h.0 }, all_next (before ++ t ∷ []) ts all.1 h.1)
 
-first_starts : (ts : List (List ℕ)) → AllByRecursion IsTemplate ts → StartsTexts [] ts
-first_starts [] all = tt
-first_starts (t ∷ ts) all = lt-ltb _ _ all.0.some
-
-pub good_templates : (ts : List (List ℕ)) → AllByRecursion IsTemplate ts → AscendTexts ts → AllGood IsNextText [] ts
-good_templates ts all up = all_next [] ts all up (first_starts ts all)
+good_templates : (ts : List (List ℕ)) → AllByRecursion IsTemplate ts → AscendTexts ts → AllGood IsNextText [] ts
+good_templates ts all up = all_next [] ts all (follow_texts ts (all_weaker _ _ ts (λ t g. g.some) all) up)
 
 -- A table of templates in order.
 pub record AreTexts (ts : List (List ℕ)) : Type 0 where
@@ -132,20 +125,8 @@ templates_bytes ts = to_le_bytes w16 (length ts) ++ flat_map template_bytes ts
 pub templates_found : (bytes : List ℕ) → IsBytes bytes → Found templates_bytes AreTexts bytes (all_templates_at bytes)
 unfolding all_templates_at
 templates_found bytes fits =
-    let P : List (List ℕ) × List ℕ → Type 0 = λ x. Takes bytes (templates_bytes x.0) x.1 × AreTexts x.0 in
-    bind_from (number_at w16 bytes) (λ n. templates_at n.0 n.1)
-    (λ n. Takes bytes (to_le_bytes w16 n.0) n.1 × (n.0 < 2 ^ 16)) P (number_found w16 (2 ^ 16) wide16 bytes fits)
-    (λ n t.
-    all_map (templates_at n.0 n.1) (Many template_bytes IsNextText n.0 [] n.1) P
-    (many_found template_at template_bytes IsNextText template_found n.0 [] n.1 t.0.fits) (λ x m.
-    let len : length x.0 ≡ n.0 = ap length m.is ∙ m.count in
-    let all : AllGood IsNextText [] x.0 = subst (λ (ts : List (List ℕ)). AllGood IsNextText [] ts) (sym m.is) m.all in (
-      Takes-as bytes (to_le_bytes w16 n.0 ++ flat_map template_bytes m.more) (templates_bytes x.0) x.1
-          (ap (λ (k : ℕ). to_le_bytes w16 k ++ flat_map template_bytes m.more) (sym len)
-          ∙ ap (λ (ts : List (List ℕ)). to_le_bytes w16 (length x.0) ++ flat_map template_bytes ts) (sym m.is))
-          (Takes-then bytes (to_le_bytes w16 n.0) n.1 (flat_map template_bytes m.more) x.1 t.0 m.takes),
-      record { count = omega (arith, len, t.1); all = are_templates [] x.0 all; ascend = ascend_texts x.0 all },
-    )))
+    table_found template_at template_bytes IsNextText template_found AreTexts (λ ts count all.
+    record { count = count; all = are_templates [] ts all; ascend = ascend_texts ts (all_follow [] ts all) }) bytes fits
 
 templates_again : (ts : List (List ℕ)) (rest : List ℕ) → AreTexts ts
     → all_templates_at (to_le_bytes w16 (length ts) ++ (flat_map template_bytes ts ++ rest)) ≡ Ok (ts, rest)
@@ -201,7 +182,7 @@ loc_found templates bytes fits =
       record { template = tt'.1; line = tl.1 },
     )))
 
-small_line : (template line : ℕ) → IsLine template line → line < 2 ^ 32
+pub small_line : (template line : ℕ) → IsLine template line → line < 2 ^ 32
 small_line zero line h = omega (arith, h)
 small_line (suc template) line h = omega (arith, h.1)
 
@@ -228,15 +209,12 @@ loc_again templates small before s rest h =
 abbrev pub good_loc : ℕ → List SourceLoc → SourceLoc → Type 0
 good_loc templates before s = IsSourceLoc templates s
 
-pub all_locs : (templates : ℕ) (before ss : List SourceLoc) → AllGood (good_loc templates) before ss
+pub locs_again : (templates : ℕ) → templates < 2 ^ 16 → (ss : List SourceLoc) (rest : List ℕ)
     → AllByRecursion (IsSourceLoc templates) ss
-all_locs templates before [] h = tt
-all_locs templates before (s ∷ ss) h = (h.0, all_locs templates (before ++ s ∷ []) ss h.1)
-
-good_locs : (templates : ℕ) (before ss : List SourceLoc) → AllByRecursion (IsSourceLoc templates) ss
-    → AllGood (good_loc templates) before ss
-good_locs templates before [] h = tt
-good_locs templates before (s ∷ ss) h = (h.0, good_locs templates (before ++ s ∷ []) ss h.1)
+    → locs_at templates (length ss) (flat_map loc_bytes ss ++ rest) ≡ Ok (ss, rest)
+locs_again templates small ss rest h =
+    many_again (λ _. loc_at templates) loc_bytes (good_loc templates) (loc_again templates small) [] ss rest
+    (each_good (IsSourceLoc templates) [] ss h)
 
 -- ---- templates and places
 
@@ -275,7 +253,7 @@ back_found version.Two n bytes fits =
       record {
         texts = t.1;
         places = subst (λ (xs : List SourceLoc). AllByRecursion (IsSourceLoc (length ts.0)) xs) (sym m.is)
-            (all_locs (length ts.0) [] m.more m.all);
+            (good_each (IsSourceLoc (length ts.0)) [] m.more m.all);
         placed = ap length m.is ∙ m.count;
       },
     )))
@@ -294,9 +272,7 @@ back_again version.Two b n rest h =
     let r1 = flat_map loc_bytes b.places ++ rest in
     let places : locs_at (length ts) n r1 ≡ Ok (b.places, rest) = ap (λ (k : ℕ). locs_at (length ts) k r1)
     (sym h.placed)
-    ∙ many_again (λ _. loc_at (length ts)) loc_bytes (good_loc (length ts))
-    (λ before s rest g. loc_again (length ts) h.texts.count before s rest g) [] b.places rest
-    (good_locs (length ts) [] b.places h.places) in
+    ∙ locs_again (length ts) h.texts.count b.places rest h.places in
     ap (trailer_at version.Two n) (append_assoc (to_le_bytes w16 (length ts))
     (flat_map template_bytes ts ++ flat_map loc_bytes b.places) rest
     ∙ ap (λ (t : List ℕ). to_le_bytes w16 (length ts) ++ t)

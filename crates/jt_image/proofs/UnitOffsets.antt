@@ -82,11 +82,11 @@ some_there [] i lt = absurd (omega arith)
 some_there (x ∷ xs) zero lt = (x, refl)
 some_there (x ∷ xs) (suc i) lt = some_there xs i (omega arith)
 
-has_unit : (bytes : List ℕ) (ps : List UnitOffset) (u : ℕ) (q : UnitOffset) → AllByRecursion (HasUnit bytes) ps
-    → slice_get ps u ≡ Some q → HasUnit bytes q
-has_unit bytes [] u q all e = absurd cc
-has_unit bytes (p ∷ ps) zero q all e = let same : p ≡ q = cc in subst (HasUnit bytes) same all.0
-has_unit bytes (p ∷ ps) (suc u) q all e = has_unit bytes ps u q all.1 e
+all_get : {A : Type 0} (P : A → Type 0) (xs : List A) (i : ℕ) (x : A) → AllByRecursion P xs → slice_get xs i ≡ Some x
+    → P x
+all_get P [] i x all e = absurd cc
+all_get P (y ∷ ys) zero x all e = let same : y ≡ x = cc in subst P same all.0
+all_get P (y ∷ ys) (suc i) x all e = all_get P ys i x all.1 e
 
 module _ (bytes : List ℕ) (p : Offsets) (h : AreThere bytes p) (u point : ℕ) where
   pub place_is : (q : UnitOffset) → slice_get p.units.items u ≡ Some q → point < q.len
@@ -96,7 +96,7 @@ module _ (bytes : List ℕ) (p : Offsets) (h : AreThere bytes p) (u point : ℕ)
       let k : Code = code_in bytes p in
       let unit : slice_get k.units u ≡ Some (section_in bytes q) =
       units_of bytes p.units.items u ∙ ap (option_map (section_in bytes)) e in
-      let here = has_unit bytes p.units.items u q h.units e in
+      let here = all_get (HasUnit bytes) p.units.items u q h.units e in
       let i = some_there (section_in bytes q).code point (omega (arith, here.1, lt)) in
       let known : instruction_at k u point ≡ Some i.0 =
       ap (option_and_then (λ (s : Section). slice_get s.code point)) unit ∙ i.1 in
@@ -110,7 +110,7 @@ module _ (bytes : List ℕ) (p : Offsets) (h : AreThere bytes p) (u point : ℕ)
       let k : Code = code_in bytes p in
       let unit : slice_get k.units u ≡ Some (section_in bytes q) =
       units_of bytes p.units.items u ∙ ap (option_map (section_in bytes)) e in
-      let here = has_unit bytes p.units.items u q h.units e in
+      let here = all_get (HasUnit bytes) p.units.items u q h.units e in
       let none : instruction_at k u point ≡ None = ap (option_and_then (λ (s : Section). slice_get s.code point)) unit
       ∙ slice_get_past (section_in bytes q).code point (omega (arith, here.1, le)) in
       ap (option_and_then (λ _. place_at k u point)) none
@@ -125,12 +125,6 @@ module _ (bytes : List ℕ) (p : Offsets) (h : AreThere bytes p) (u point : ℕ)
   place_known q e = search (arith, rules, place_is, ltb-true, place_behind, ltb-false)
 
 -- ---- the offsets of constants and units
-
-has_constant : (bytes : List ℕ) (ats : List ℕ) (i at : ℕ) → AllByRecursion (HasConstant bytes) ats
-    → slice_get ats i ≡ Some at → HasConstant bytes at
-has_constant bytes [] i at all e = absurd cc
-has_constant bytes (a ∷ ats) zero at all e = let same : a ≡ at = cc in subst (HasConstant bytes) same all.0
-has_constant bytes (a ∷ ats) (suc i) at all e = has_constant bytes ats i at all.1 e
 
 constant_taken : (r : Read Constant) (bytes : List ℕ) → IsRead r → Found constant_bytes IsConstant bytes r
     → (rest : List ℕ) × (bytes ≡ constant_bytes (read_or undefined r) ++ rest)
@@ -149,7 +143,7 @@ module _ (bytes : List ℕ) (p : Offsets) (fits : IsBytes bytes) (h : Spells byt
   constant_stands i None e =
       slice_get-map (constant_in bytes) p.constants.items i ∙ ap (option_map (constant_in bytes)) (sym e)
   constant_stands i (Some at) e =
-      let here = has_constant bytes p.constants.items i at h.there.constants (sym e) in
+      let here = all_get (HasConstant bytes) p.constants.items i at h.there.constants (sym e) in
       let taken = constant_taken (constant_at (drop at bytes)) (drop at bytes) here
       (constant_found (drop at bytes) (IsBytes-drop at bytes fits)) in
       record {
@@ -162,7 +156,7 @@ module _ (bytes : List ℕ) (p : Offsets) (fits : IsBytes bytes) (h : Spells byt
   unit_stands : (u : ℕ) (q : UnitOffset) → slice_get p.units.items u ≡ Some q → IsUnitAt (code_in bytes p) u q.start
   unit_stands u q e =
       let code = drop q.start bytes in
-      let here = has_unit bytes p.units.items u q h.there.units e in
+      let here = all_get (HasUnit bytes) p.units.items u q h.there.units e in
       let taken = instructions_taken q.len (instructions_at q.len code) code here.1
       (many_found (λ _. reading.instruction_at) instruction_bytes good_instruction
       (λ before bytes fits. instruction_found bytes fits) q.len [] code (IsBytes-drop q.start bytes fits)) in

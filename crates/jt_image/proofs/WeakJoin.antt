@@ -1,6 +1,6 @@
 -- It is not enough to compare lengths where paths join: some code that is typed by lengths alone
 -- has a run that is wrong.
-use Rattle.std.proofs.Common.{◌≡◌, ℕ, zero, suc, ◌≤◌, false, List, [], ◌∷◌, length, Some, refl, subst, arith}
+use Rattle.std.proofs.Common.{◌≡◌, ℕ, zero, suc, ◌≤◌, false, List, [], ◌∷◌, length, Some, Ok, refl, subst, arith}
 use Rattle.std.specs.Prelude.{slice_get}
 use Rattle.std.specs.List.{AllByRecursion}
 use Rattle.std.specs.Str.{IsAscii}
@@ -11,8 +11,8 @@ use Rattle.jt_image.specs.declared.version.Version.TheVariants as version
 use Rattle.jt_image.specs.Code as code
 use Rattle.jt_image.specs.Code.{Section, Code}
 use Rattle.jt_image.specs.IsCode.{IsCode}
-use Rattle.jt_image.specs.Effect.{Shape}
-use Rattle.jt_image.specs.Typed.{Shapes, SameLength, max_entries, IsFineBy, IsTypedUnit, IsTypedWith}
+use Rattle.jt_image.specs.Effect.{Shape, effect_at}
+use Rattle.jt_image.specs.Typed.{Shapes, SameLength, HasSame, max_entries, IsFineBy, IsTypedUnit, IsTypedWith}
 use Rattle.jt_image.specs.Laws.{NeedsKinds}
 
 -- A loop and a capture join at point 6, which ends the loop.
@@ -50,58 +50,30 @@ IsFine p s = IsFineBy SameLength y_code y_unit y_shapes p s
 same_shape : (r s : Shape) → Some r ≡ Some s → r ≡ s
 same_shape r s e = cc
 
--- If the listed shape is in order at its point, the shape at the point is in order.
-listed : (p : ℕ) (r s : Shape) → Some r ≡ Some s → IsFine p r → IsFine p s
-listed p r s e h = subst (IsFine p) (same_shape r s e) h
+abbrev a_value : Shape
+a_value = kind.Value ∷ []
+
+abbrev a_frame : Shape
+a_frame = kind.Frame ∷ []
+
+-- The listed shape of a point is in order, and so is the shape at this point.
+at : (p : ℕ) (r s to : Shape) (points : List ℕ) → Some r ≡ Some s
+    → effect_at y_code y_unit p r ≡ Ok (record { shape = to; points = points })
+    → AllByRecursion (HasSame SameLength y_shapes to) points → IsFine p s
+at p r s to points is effect agree =
+    subst (IsFine p) (same_shape r s is)
+    (record { leads = record { shape = to; points = points }; effect = effect; agree = agree })
 
 fine : (p : ℕ) (s : Shape) → y_shapes p ≡ Some s → IsFine p s
-fine zero s e =
-    listed 0 [] s e (record {
-      leads = record { shape = kind.Value ∷ []; points = 1 ∷ [] };
-      effect = refl;
-      agree = ((kind.Value ∷ [], refl, refl), tt);
-    })
-fine (suc zero) s e =
-    listed 1 (kind.Value ∷ []) s e (record {
-      leads = record { shape = []; points = 2 ∷ 5 ∷ [] };
-      effect = refl;
-      agree = (([], refl, refl), (([], refl, refl), tt));
-    })
-fine (suc (suc zero)) s e =
-    listed 2 [] s e (record {
-      leads = record { shape = kind.Value ∷ []; points = 3 ∷ [] };
-      effect = refl;
-      agree = ((kind.Value ∷ [], refl, refl), tt);
-    })
-fine (suc (suc (suc zero))) s e =
-    listed 3 (kind.Value ∷ []) s e (record {
-      leads = record { shape = kind.Frame ∷ []; points = 4 ∷ [] };
-      effect = refl;
-      agree = ((kind.Frame ∷ [], refl, refl), tt);
-    })
-fine (suc (suc (suc (suc zero)))) s e =
-    listed 4 (kind.Frame ∷ []) s e (record {
-      leads = record { shape = kind.Frame ∷ []; points = 6 ∷ [] };
-      effect = refl;
-      agree = ((kind.Frame ∷ [], refl, refl), tt);
-    })
-fine (suc (suc (suc (suc (suc zero))))) s e =
-    listed 5 [] s e (record {
-      leads = record { shape = kind.Capture ∷ []; points = 6 ∷ [] };
-      effect = refl;
-      agree = ((kind.Frame ∷ [], refl, refl), tt);
-    })
-fine (suc (suc (suc (suc (suc (suc zero)))))) s e =
-    listed 6 (kind.Frame ∷ []) s e (record {
-      leads = record { shape = kind.Value ∷ []; points = 7 ∷ [] };
-      effect = refl;
-      agree = ((kind.Value ∷ [], refl, refl), tt);
-    })
-fine (suc (suc (suc (suc (suc (suc (suc zero))))))) s e =
-    listed 7 (kind.Value ∷ []) s e
-    (record { leads = record { shape = []; points = 8 ∷ [] }; effect = refl; agree = (([], refl, refl), tt) })
-fine (suc (suc (suc (suc (suc (suc (suc (suc zero)))))))) s e =
-    listed 8 [] s e (record { leads = record { shape = []; points = [] }; effect = refl; agree = tt })
+fine zero s e = at 0 [] s a_value (1 ∷ []) e refl ((a_value, refl, refl), tt)
+fine (suc zero) s e = at 1 a_value s [] (2 ∷ 5 ∷ []) e refl (([], refl, refl), (([], refl, refl), tt))
+fine (suc (suc zero)) s e = at 2 [] s a_value (3 ∷ []) e refl ((a_value, refl, refl), tt)
+fine (suc (suc (suc zero))) s e = at 3 a_value s a_frame (4 ∷ []) e refl ((a_frame, refl, refl), tt)
+fine (suc (suc (suc (suc zero)))) s e = at 4 a_frame s a_frame (6 ∷ []) e refl ((a_frame, refl, refl), tt)
+fine (suc (suc (suc (suc (suc zero))))) s e = at 5 [] s (kind.Capture ∷ []) (6 ∷ []) e refl ((a_frame, refl, refl), tt)
+fine (suc (suc (suc (suc (suc (suc zero)))))) s e = at 6 a_frame s a_value (7 ∷ []) e refl ((a_value, refl, refl), tt)
+fine (suc (suc (suc (suc (suc (suc (suc zero))))))) s e = at 7 a_value s [] (8 ∷ []) e refl (([], refl, refl), tt)
+fine (suc (suc (suc (suc (suc (suc (suc (suc zero)))))))) s e = at 8 [] s [] [] e refl tt
 fine (suc (suc (suc (suc (suc (suc (suc (suc (suc p))))))))) s e = absurd cc
 
 -- Each listed shape is within the limit, since all are.

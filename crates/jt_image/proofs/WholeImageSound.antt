@@ -19,7 +19,8 @@ use Rattle.jt_image.specs.Reading.{constants_at, Header, header_total, is_first,
 use Rattle.jt_image.specs.Reading.{units_at, all_names_at, all_constants_at}
 use Rattle.jt_image.proofs.ReaderParts.{header_total-push}
 use Rattle.jt_image.proofs.DecodeSoundLemmas.{all_map, bind_from, check_all, IsBytes, Takes, Takes-then, Takes-as}
-use Rattle.jt_image.proofs.DecodeSoundLemmas.{Found, wide16, number_found, AllGood, Many, many_found, Each}
+use Rattle.jt_image.proofs.DecodeSoundLemmas.{Found, wide16, number_found, AllGood, Many, many_found, Each, good_each}
+use Rattle.jt_image.proofs.DecodeSoundLemmas.{table_found}
 use Rattle.jt_image.proofs.DecodeSound.{IsNamed, name_found, constant_found, IsHeader, head_bytes, header_found}
 use Rattle.jt_image.proofs.DecodeSound.{code_bytes, head_of, HasCode, sections_found}
 
@@ -103,35 +104,19 @@ pub names_found : (globals : ℕ) (bytes : List ℕ) → IsBytes bytes
     → Found names_bytes (AreNames globals) bytes (all_names_at globals bytes)
 unfolding all_names_at
 names_found globals bytes fits =
-    let P : List Name × List ℕ → Type 0 = λ x. Takes bytes (names_bytes x.0) x.1 × AreNames globals x.0 in
-    bind_from (number_at w16 bytes) (λ n. names_at globals n.0 n.1)
-    (λ n. Takes bytes (to_le_bytes w16 n.0) n.1 × (n.0 < 2 ^ 16)) P (number_found w16 (2 ^ 16) wide16 bytes fits)
-    (λ n t.
-    all_map (names_at globals n.0 n.1) (Many name_bytes (IsNamed globals) n.0 [] n.1) P
-    (many_found (name_at globals) name_bytes (IsNamed globals) (name_found globals) n.0 [] n.1 t.0.fits) (λ x m.
-    let len : length x.0 ≡ n.0 = ap length m.is ∙ m.count in
-    let all : AllGood (IsNamed globals) [] x.0 =
-    subst (λ (ns : List Name). AllGood (IsNamed globals) [] ns) (sym m.is) m.all in (
-      Takes-as bytes (to_le_bytes w16 n.0 ++ flat_map name_bytes m.more) (names_bytes x.0) x.1
-          (ap (λ (k : ℕ). to_le_bytes w16 k ++ flat_map name_bytes m.more) (sym len)
-          ∙ ap (λ (ns : List Name). to_le_bytes w16 (length x.0) ++ flat_map name_bytes ns) (sym m.is))
-          (Takes-then bytes (to_le_bytes w16 n.0) n.1 (flat_map name_bytes m.more) x.1 t.0 m.takes),
-      record {
-        count = omega (arith, len, t.1);
-        all = are_names globals [] x.0 all;
-        ascend = ascend globals x.0 all;
-        distinct = distinct globals [] x.0 all;
-      },
-    )))
+    table_found (name_at globals) name_bytes (IsNamed globals) (name_found globals) (AreNames globals)
+    (λ ns count all.
+    record {
+      count = count;
+      all = are_names globals [] ns all;
+      ascend = ascend globals ns all;
+      distinct = distinct globals [] ns all;
+    }) bytes fits
 
 -- ---- tables of constants
 
 abbrev pub good_constant : List Constant → Constant → Type 0
 good_constant before x = IsConstant x
-
-all_constants : (before cs : List Constant) → AllGood good_constant before cs → AllByRecursion IsConstant cs
-all_constants before [] h = tt
-all_constants before (x ∷ cs) h = (h.0, all_constants (before ++ x ∷ []) cs h.1)
 
 abbrev pub AreConstants : List Constant → Type 0
 AreConstants cs = (length cs < 2 ^ 16) × AllByRecursion IsConstant cs
@@ -143,22 +128,8 @@ pub constants_found : (bytes : List ℕ) → IsBytes bytes
     → Found constants_bytes AreConstants bytes (all_constants_at bytes)
 unfolding all_constants_at
 constants_found bytes fits =
-    let P : List Constant × List ℕ → Type 0 = λ x. Takes bytes (constants_bytes x.0) x.1 × AreConstants x.0 in
-    bind_from (number_at w16 bytes) (λ n. constants_at n.0 n.1)
-    (λ n. Takes bytes (to_le_bytes w16 n.0) n.1 × (n.0 < 2 ^ 16)) P (number_found w16 (2 ^ 16) wide16 bytes fits)
-    (λ n t.
-    all_map (constants_at n.0 n.1) (Many constant_bytes good_constant n.0 [] n.1) P
-    (many_found (λ _. constant_at) constant_bytes good_constant (λ before bytes fits. constant_found bytes fits) n.0 []
-    n.1 t.0.fits) (λ x m.
-    let len : length x.0 ≡ n.0 = ap length m.is ∙ m.count in
-    let all : AllGood good_constant [] x.0 =
-    subst (λ (cs : List Constant). AllGood good_constant [] cs) (sym m.is) m.all in (
-      Takes-as bytes (to_le_bytes w16 n.0 ++ flat_map constant_bytes m.more) (constants_bytes x.0) x.1
-          (ap (λ (k : ℕ). to_le_bytes w16 k ++ flat_map constant_bytes m.more) (sym len)
-          ∙ ap (λ (cs : List Constant). to_le_bytes w16 (length x.0) ++ flat_map constant_bytes cs) (sym m.is))
-          (Takes-then bytes (to_le_bytes w16 n.0) n.1 (flat_map constant_bytes m.more) x.1 t.0 m.takes),
-      (omega (arith, len, t.1), all_constants [] x.0 all),
-    )))
+    table_found (λ _. constant_at) constant_bytes good_constant (λ before bytes fits. constant_found bytes fits)
+    AreConstants (λ cs count all. (count, good_each IsConstant [] cs all)) bytes fits
 
 -- ---- units
 

@@ -1,2 +1,3 @@
 pub mod HeaderView
 pub mod TrailerView
+pub mod Layout

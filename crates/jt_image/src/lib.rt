@@ -2,9 +2,10 @@
 //!
 //! An image (`image`) or a view of bytes (`in_place`) has a code (`code`). Bytes are read once,
 //! from left to right (`reading`, `decoding`, `viewing`), and written (`spelling`, `encoding`,
-//! `wire`). Parts are assembled into an image (`parts`, `assembling`), and version 1 is upgraded to
-//! version 2 (`upgrading`). Read first: specs/Effect.antt and specs/Step.antt, with one case for
-//! each instruction, and specs/Run.antt, which defines a run. specs/Spelling.antt is the format.
+//! `wire`). Parts are assembled into an image (`parts`, `layout`, `assembling`), and version 1 is
+//! upgraded to version 2 (`upgrading`). Read first: specs/Effect.antt and specs/Step.antt, with one
+//! case for each instruction, and specs/Run.antt, which defines a run. specs/Spelling.antt is the
+//! format.
 #![tactic(auto)]
 
 mod assembling;
@@ -18,6 +19,7 @@ mod in_place;
 mod instruction;
 mod kind;
 mod laws;
+mod layout;
 mod limits;
 mod offsets;
 mod parts;

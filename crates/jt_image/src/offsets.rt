@@ -25,7 +25,7 @@ use crate::version::Version;
 use std::marker::Model;
 
 /// The number of bytes of an encoded place.
-const LOC_BYTES: usize = 6;
+pub(crate) const LOC_BYTES: usize = 6;
 
 /// A unit: its numbers, the offset of its instructions, and the number of instructions before it.
 #[derive(Clone, Copy, Drop)]

@@ -1,22 +1,25 @@
 -- The rules on bodies of blocks, as they are checked one body at a time.
-use Rattle.std.proofs.Common.{◌≡◌, ℕ, zero, suc, ◌+◌, ◌<◌, ◌≤◌, Bool, true, false, not, cond, ◌&&◌, ◌||◌, List, [], ◌∷◌}
-use Rattle.std.proofs.Common.{◌++◌, length, map, take, drop, get_or, refl, sym, ap, subst, ◌∙◌, arith, rules}
-use Rattle.std.proofs.Common.{Some}
+use Rattle.std.proofs.Common.{◌≡◌, ℕ, zero, suc, ◌+◌, ◌<◌, Bool, true, false, not, cond, ◌&&◌, ◌||◌, List, [], ◌∷◌}
+use Rattle.std.proofs.Common.{◌++◌, length, map, take, drop, get_or, refl, sym, ap, subst, ◌∙◌, arith, rules, Some}
+use Rattle.std.proofs.Math.Bool.{or-false, or_assoc, or_comm}
 use Rattle.std.specs.BTreeSet as set
 use Rattle.std.specs.BTreeSet.{BTreeSet}
 use Rattle.std.specs.Cmp.Lexicographic.{slice_cmp}
 use Rattle.std.specs.Ordering.{nat_cmp, is_eq}
 use Rattle.std.proofs.lemmas.Map.Text.{is_eq-slice_cmp}
-use Rattle.jt_chains.specs.Along.{body_at}
+use Rattle.jt_chains.specs.Along.{body_at, macros_along, blocks_along}
 use Rattle.jt_chains.specs.Chain.{BlockBody, from_given}
-use Rattle.jt_inherit.specs.internal.Checks.{named}
-use Rattle.jt_chains.specs.Parts.{name_at}
+use Rattle.jt_inherit.specs.internal.RuleTests.{named}
+use Rattle.jt_chains.specs.Parts.{name_at, macros_view}
 use Rattle.jt_chains.specs.Rules.{is_required, lacks_super, is_empty}
 use Rattle.jt_inherit.proofs.Vocabulary.{slice_get, unwrap_or, option_map, drop_more, map-append, slice_get-get_or}
 use Rattle.jt_inherit.proofs.Vocabulary.{list_any, bytes_eq, Bor, among, repeated, texts, Text, end, option_to_list}
 use Rattle.jt_inherit.proofs.Vocabulary.{templates_at, any_double, Template, blocks_in, lacks_body, lacks_next}
 use Rattle.jt_inherit.proofs.Vocabulary.{block_names, block_view, blocks_view, Block, calls_super, of_texts, reflexive}
-use Rattle.jt_inherit.proofs.Vocabulary.{same, symmetric, among_next, both_false, once_more, or_false, or_true}
+use Rattle.jt_inherit.proofs.Vocabulary.{same, symmetric, among_next, once_more, along, Sources, MacroBody, macros_in}
+use Rattle.jt_inherit.proofs.Vocabulary.{their_blocks, their_macros, their_names, imported_names, along_templates}
+use Rattle.jt_inherit.proofs.Vocabulary.{or_from, or_parts, or_right, take_more}
+use Rattle.jt_chains.specs.declared.parts.Macro.{Macro}
 
 -- ---- a set of texts
 
@@ -43,7 +46,7 @@ name_more m n k u x =
 
 pub again : (x : Text) (xs ys : List Text) → among x xs ≡ true → repeated (xs ++ x ∷ ys) ≡ true
 again x [] ys h = absurd (cc)
-again x (y ∷ xs) ys h = search (arith, rules, again x xs ys, same, among_next of_texts, or_true)
+again x (y ∷ xs) ys h = search (arith, rules, again x xs ys, same, among_next of_texts, or_right)
 
 -- ---- the nearest body
 
@@ -57,7 +60,7 @@ AreGiven bs = (x : Text) → is_required (named x bs) ≡ false
 -- A body after others is the nearest one if its name is new.
 named_new : (x : Text) (bs cs : List BlockBody) → among x (names_of bs) ≡ false → named x (bs ++ cs) ≡ named x cs
 named_new x [] cs h = refl
-named_new x (b ∷ bs) cs h = search (arith, rules, or_false, bytes_eq, among, named_new x bs cs)
+named_new x (b ∷ bs) cs h = search (arith, rules, or_parts, bytes_eq, among, named_new x bs cs)
 
 -- A body after others is not the nearest one if its name is not new.
 named_old : (x : Text) (bs cs : List BlockBody) → among x (names_of bs) ≡ true
@@ -72,12 +75,12 @@ given_more bs b g h x = search (arith, rules, same, named_old, named_new)
 
 any_none : {X : Type 0} (p : X → Bool) → ((x : X) → p x ≡ false) → (xs : List X) → list_any p xs ≡ false
 any_none p h [] = refl
-any_none p h (x ∷ xs) = both_false (p x) (list_any p xs) (h x) (any_none p h xs)
+any_none p h (x ∷ xs) = or_from (p x) (list_any p xs) (h x) (any_none p h xs)
 
 any_here : {X : Type 0} (p : X → Bool) (xs : List X) (x : X) (ys : List X) → p x ≡ true
     → list_any p (xs ++ x ∷ ys) ≡ true
 any_here p [] x ys h = ap (λ b. b || list_any p ys) h
-any_here p (y ∷ xs) x ys h = or_true (p y) (list_any p (xs ++ x ∷ ys)) (any_here p xs x ys h)
+any_here p (y ∷ xs) x ys h = or_right (p y) (list_any p (xs ++ x ∷ ys)) (any_here p xs x ys h)
 
 pub all_given : (bs : List BlockBody) → AreGiven bs → lacks_body bs ≡ false
 all_given bs g = any_none (λ b. is_required (named b.name bs)) (λ b. g b.name) bs
@@ -103,7 +106,7 @@ HaveNext bs = (x : Text) → lacks_super (named x bs) ≡ false
 
 pub next_more : (b : BlockBody) (bs : List BlockBody) → HaveNext bs
     → (not (has_given b.name bs) && calls_super b.body) ≡ false → HaveNext (b ∷ bs)
-next_more b bs n h x = search (arith, rules, same, none_behind, both_false)
+next_more b bs n h x = search (arith, rules, same, none_behind, or_from)
 
 pub all_next : (bs : List BlockBody) → HaveNext bs → lacks_next bs ≡ false
 all_next bs n = any_none (λ b. lacks_super (named b.name bs)) (λ b. n b.name) bs
@@ -111,7 +114,7 @@ all_next bs n = any_none (λ b. lacks_super (named b.name bs)) (λ b. n b.name) 
 lacks_front : (x : Text) (bs cs : List BlockBody) → lacks_super (named x cs) ≡ true
     → lacks_super (named x (bs ++ cs)) ≡ true
 lacks_front x [] cs h = h
-lacks_front x (b ∷ bs) cs h = search (arith, rules, lacks_front x bs cs h, or_true)
+lacks_front x (b ∷ bs) cs h = search (arith, rules, lacks_front x bs cs h, or_right)
 
 pub none_next : (bs : List BlockBody) (b : BlockBody) (cs : List BlockBody) → has_given b.name cs ≡ false
     → calls_super b.body ≡ true → lacks_next (bs ++ b ∷ cs) ≡ true
@@ -125,43 +128,21 @@ parted [] i x lt is = absurd (omega arith)
 parted (y ∷ ys) zero x lt is = (ys, ap (λ z. z ∷ ys) (sym is))
 parted (y ∷ ys) (suc i) x lt is = search (arith, rules, parted ys i x)
 
-take_suc : {X : Type 0} (xs : List X) (i : ℕ) (x : X) → i < length xs → x ≡ get_or xs i x
-    → take (suc i) xs ≡ take i xs ++ x ∷ []
-take_suc [] i x lt is = absurd (omega arith)
-take_suc (y ∷ ys) zero x lt is = ap (λ z. z ∷ []) (sym is)
-take_suc (y ∷ ys) (suc i) x lt is = ap (λ l. y ∷ l) (take_suc ys i x (omega arith) is)
-
 pub take_next : {X : Type 0} (xs : List X) (i : ℕ) (x : X) → i < length xs → x ≡ get_or xs i x
     → take (i + 1) xs ≡ take i xs ++ x ∷ []
-take_next xs i x lt is = (let e : i + 1 ≡ suc i = omega arith in ap (λ n. take n xs) e) ∙ take_suc xs i x lt is
-
-pub take_all : {X : Type 0} (xs : List X) (i : ℕ) → length xs ≤ i → take i xs ≡ xs
-take_all [] zero le = refl
-take_all [] (suc i) le = refl
-take_all (x ∷ xs) zero le = absurd (omega arith)
-take_all (x ∷ xs) (suc i) le = ap (λ l. x ∷ l) (take_all xs i (omega arith))
-
-or_nil : (c : Bool) → (c || false) ≡ c
-or_nil true = refl
-or_nil false = refl
-
-or_three : (c d e : Bool) → (c || (d || e)) ≡ ((c || d) || e)
-or_three true d e = refl
-or_three false d e = refl
-
-or_swapped : (c d : Bool) → (c || d) ≡ (d || c)
-or_swapped a0 a1 = search (arith, rules)
+take_next xs i x lt is = take_more xs i x lt ∙ ap (λ y. take i xs ++ y ∷ []) (sym is)
 
 pub among_snoc : (l : List Text) (n y : Text) → among y (l ++ n ∷ []) ≡ (among y l || bytes_eq n y)
-among_snoc [] n y = or_nil (bytes_eq n y)
+among_snoc [] n y = or-false (bytes_eq n y)
 among_snoc (z ∷ l) n y =
-    ap (λ c. bytes_eq z y || c) (among_snoc l n y) ∙ or_three (bytes_eq z y) (among y l) (bytes_eq n y)
+    ap (λ c. bytes_eq z y || c) (among_snoc l n y)
+    ∙ sym (or_assoc (bytes_eq z y) (among y l) (bytes_eq n y))
 
 -- A set after the insertion of a name.
 pub among_set : (ks ms pre : List Text) (n : Text) → ((y : Text) → among y ks ≡ among y pre)
     → ((y : Text) → among y ms ≡ (bytes_eq n y || among y ks)) → (y : Text) → among y ms ≡ among y (pre ++ n ∷ [])
 among_set ks ms pre n h m y =
-    m y ∙ ap (λ c. bytes_eq n y || c) (h y) ∙ or_swapped (bytes_eq n y) (among y pre) ∙ sym (among_snoc pre n y)
+    m y ∙ ap (λ c. bytes_eq n y || c) (h y) ∙ or_comm (bytes_eq n y) (among y pre) ∙ sym (among_snoc pre n y)
 
 module _ {X : Type 0} (f : X → Text) (xs : List X) (i : ℕ) (x : X) (lt : i < length xs) (is : x ≡ get_or xs i x) where
   pub repeat_found : (ks : List Text) → ((y : Text) → among y ks ≡ among y (map f (take i xs))) → among (f x) ks ≡ true
@@ -247,6 +228,27 @@ pub next_lacking : (ts : List Template) (qs : List Block) (b : Block) (rest : Li
     → lacks_next (blocks_view ts (qs ++ b ∷ rest)) ≡ true
 next_lacking ts qs b rest h = search (arith, rules, map-append, none_next)
 
-pub no_items : {X : Type 0} (xs : List X) → length xs ≡ 0 → xs ≡ []
-no_items [] e = refl
-no_items (x ∷ xs) e = absurd (omega arith)
+macros_seen : (ts : List Template) (ms : List Macro)
+    → map (λ (m : MacroBody). m.name) (macros_view ts ms) ≡ map (λ m. m.name.now) ms
+macros_seen ts [] = refl
+macros_seen ts (m ∷ ms) = ap (λ l. m.name.now ∷ l) (macros_seen ts ms)
+
+-- The names of macros, followed by the names that imports bind.
+pub names_found : (s : Sources) (ts us : List Template) (is : List ℕ) → map (slice_get ts) is ≡ map Some us
+    → (ms : List Macro) → macros_view ts ms ≡ macros_along ts is
+    → map (λ m. m.name.now) ms ++ along ts (λ n b. imported_names s b) is ≡ their_names s us
+names_found s ts us is all ms v =
+    ap (λ l. l ++ along ts (λ n b. imported_names s b) is)
+    (sym (macros_seen ts ms)
+    ∙ ap (λ (l : List MacroBody). map (λ m. m.name) l) (v ∙ along_templates macros_in ts is us all))
+    ∙ ap (λ l. map (λ (m : MacroBody). m.name) (their_macros us) ++ l)
+    (along_templates (λ n b. imported_names s b) ts is us all)
+
+module _ (e : Bool) (ts us : List Template) (is : List ℕ) (all : map (slice_get ts) is ≡ map Some us) where
+  pub bodies_told : (bs : List Block) (b : Bool) → blocks_view ts bs ≡ blocks_along ts e is
+      → b ≡ lacks_body (blocks_view ts bs) → lacks_body (their_blocks e us) ≡ b
+  bodies_told bs b v h = ap lacks_body (sym (along_templates (λ n x. blocks_in n x e) ts is us all) ∙ sym v) ∙ sym h
+
+  pub next_told : (bs : List Block) (b : Bool) → blocks_view ts bs ≡ blocks_along ts e is
+      → b ≡ lacks_next (blocks_view ts bs) → lacks_next (their_blocks e us) ≡ b
+  next_told bs b v h = ap lacks_next (sym (along_templates (λ n x. blocks_in n x e) ts is us all) ∙ sym v) ∙ sym h

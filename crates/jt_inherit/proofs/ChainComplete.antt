@@ -1,8 +1,8 @@
 -- The chains and libraries that an entry reaches: all of them are followed and checked, and each
 -- comes before those that it leads to.
-use Rattle.std.proofs.Common.{◌≡◌, ◌≢◌, ◌↔◌, ℕ, zero, suc, ◌+◌, ◌*◌, ◌<◌, ◌≤◌, ◌==◌, Bool, true, false, not, ◌&&◌}
-use Rattle.std.proofs.Common.{nat_lt, List, [], ◌∷◌, ◌++◌, length, map, refl, sym, ap, subst, ◌∙◌, arith, inl, inr, ◌⊎◌}
-use Rattle.std.proofs.Common.{⊎_elim, Some, None, Vec, Global, get_or, rules}
+use Rattle.std.proofs.Common.{◌≡◌, ◌≢◌, ◌↔◌, ℕ, zero, suc, ◌+◌, ◌*◌, ◌<◌, ◌≤◌, ◌==◌, true, false, not, ◌&&◌, nat_lt}
+use Rattle.std.proofs.Common.{List, [], ◌∷◌, length, map, refl, sym, ap, subst, ◌∙◌, arith, inl, inr, ◌⊎◌, ⊎_elim, Some}
+use Rattle.std.proofs.Common.{None, Vec, Global, get_or, rules}
 use Rattle.jt_graph.specs.Graph as graph
 use Rattle.jt_graph.specs.Graph.{IsClosed, IsOrder}
 use Rattle.jt_chains.specs.Chain.{all_bodies}
@@ -10,37 +10,34 @@ use Rattle.jt_chains.specs.Chain.{given as given_in}
 use Rattle.jt_inherit.specs.internal.Found.{AllKeep, IsDone}
 use Rattle.jt_chains.specs.Includes.{begins_with_chain}
 use Rattle.jt_chains.specs.TemplateFiles.{namespace_view, AreWhole}
-use Rattle.jt_inherit.specs.internal.FindsAt.{FindsAt}
-use Rattle.jt_inherit.proofs.Vocabulary.{length-map, append-nil, map-map, slice_get, unwrap_or, AllByRecursion}
-use Rattle.jt_inherit.proofs.Vocabulary.{list_any, is_some, is_none, bytes_eq, cases_lt, nat_tests, Graph, next_of}
-use Rattle.jt_inherit.proofs.Vocabulary.{HasCycle, graph_of, Options, among, repeated, Text, AreIndices, templates_at}
-use Rattle.jt_inherit.proofs.Vocabulary.{needs_along, Namespace, a_chain, listed, is_a_library, Template, templates}
-use Rattle.jt_inherit.proofs.Vocabulary.{sources_in, SourceTexts, IsChain, lacks_body, lacks_next, chains_of, AreFound}
-use Rattle.jt_inherit.proofs.Vocabulary.{IsFound, found_templates, found_namespaces, root_of, IsFollowed, AreFollowed}
-use Rattle.jt_inherit.proofs.Vocabulary.{IsMet, chosen, found_paths, listed_at, listed_view, included, InOrder, KeepAll}
-use Rattle.jt_inherit.proofs.Vocabulary.{BreakOne, their_blocks, their_names, any_double, any_lacks_macros, IsName}
-use Rattle.jt_inherit.proofs.Vocabulary.{Need, needed, namespace_at, IsFinding, Breaks, ChainFinding, Asks, Reaches}
-use Rattle.jt_inherit.proofs.Vocabulary.{here, asked, extends_path, is_whole, KeepsRules, templates_weight}
+use Rattle.jt_inherit.specs.internal.Breaking.{FindsAt}
+use Rattle.jt_inherit.proofs.Vocabulary.{slice_get_within, length-map, append-nil, map-map, slice_get, unwrap_or}
+use Rattle.jt_inherit.proofs.Vocabulary.{AllByRecursion, list_any, is_some, is_none, bytes_eq, cases_lt, nat_tests}
+use Rattle.jt_inherit.proofs.Vocabulary.{Graph, next_of, graph_of, Options, among, repeated, Text, AreIndices}
+use Rattle.jt_inherit.proofs.Vocabulary.{templates_at, needs_along, Namespace, a_chain, listed, is_a_library, Template}
+use Rattle.jt_inherit.proofs.Vocabulary.{templates, sources_in, SourceTexts, IsChain, lacks_body, lacks_next, chains_of}
+use Rattle.jt_inherit.proofs.Vocabulary.{AreFound, IsFound, found_templates, found_namespaces, root_of, IsFollowed}
+use Rattle.jt_inherit.proofs.Vocabulary.{AreFollowed, IsMet, found_paths, listed_at, listed_view, included, InOrder}
+use Rattle.jt_inherit.proofs.Vocabulary.{KeepAll, BreakOne, their_blocks, their_names, any_double, any_lacks_macros}
+use Rattle.jt_inherit.proofs.Vocabulary.{IsName, Need, needed, namespace_at, IsFinding, Breaks, ChainFinding, Asks}
+use Rattle.jt_inherit.proofs.Vocabulary.{Reaches, asked, extends_path, is_whole, KeepsRules, templates_weight}
 use Rattle.jt_inherit.proofs.Vocabulary.{chains_weight, templates_len, chains_len, Seen, AreKnown, IsExtendsPath}
-use Rattle.jt_inherit.proofs.Vocabulary.{names_view, Discovery, ChainError, map_at, of_texts, same}
-use Rattle.jt_inherit.proofs.Vocabulary.{chain_among, of_namespaces, among_cases, both_false, no_more, or_false}
-use Rattle.jt_inherit.proofs.Vocabulary.{or_true, indexed_among}
+use Rattle.jt_inherit.proofs.Vocabulary.{names_view, Discovery, ChainError, map_at, of_texts, same, chain_among}
+use Rattle.jt_inherit.proofs.Vocabulary.{of_namespaces, among_cases, no_more, indexed_among, and_from, and_right}
+use Rattle.jt_inherit.proofs.Vocabulary.{both_ways, list_any-append, not-true, or_from, or_right}
 use Rattle.jt_inherit.proofs.FindingsHold.{rule_bare, rule_said}
-use Rattle.jt_chains.specs.Rules as rules
 use Rattle.jt_inherit.specs.declared.error.ChainError.TheVariants as error
 use Rattle.jt_chains.specs.declared.chain.Namespace as linked
 use Rattle.jt_inherit.proofs.RulesCarryOver.{given_names}
-use Rattle.jt_inherit.proofs.NamespaceCount.{few_chains}
+use Rattle.jt_inherit.proofs.TreeWeights.{few_chains, all_weigh}
 use Rattle.jt_inherit.proofs.DiscoveryInvariant.{none_read, few_way, way_names, asked_way, indexed_templates}
-use Rattle.jt_inherit.proofs.DiscoveryInvariant.{followed_number}
 use Rattle.jt_inherit.proofs.DiscoveryInvariant.{included_is, whole_path, some_source}
 use Rattle.jt_inherit.proofs.ImportCollection.{all_imported, none_given, none_lacking}
 use Rattle.jt_inherit.proofs.PathsGrow.{shows, names, few_templates, all_at_indices}
-use Rattle.jt_inherit.proofs.PathTemplates.{never, and_false, and_true, too_few, few_names, all_named, have_sources}
-use Rattle.jt_inherit.proofs.PathTemplates.{all_among, repeated_up, weigh, names_indexed}
+use Rattle.jt_inherit.proofs.PathTemplates.{too_few, few_names, all_named, have_sources, all_among, repeated_up, weigh}
+use Rattle.jt_inherit.proofs.PathTemplates.{names_indexed}
 use Rattle.jt_inherit.proofs.TopologicalOrder.{namespace_among, number_of, names_in_order, reached_in_order, no_cycle}
 use Rattle.jt_inherit.proofs.TopologicalOrder.{first_in_order, named_among}
-use Rattle.jt_inherit.proofs.TreeWeights.{all_weigh}
 use Rattle.jt_chains.proofs.TemplatesByIndex.{given_templates}
 
 -- ---- chains by their numbers
@@ -55,59 +52,37 @@ pub way_at : (vs us : List (Vec ℕ Global)) (i : ℕ) (v : Vec ℕ Global) (is 
     → v ≡ get_or us i v → is ≡ v.items → (i < length (graph_of vs)) × (next_of (graph_of vs) i ≡ is)
 way_at vs us i v is e lt at items = search (arith, rules, length-map, map_at)
 
-pub next_len : (given : SourceTexts) (ts : List Template) (hs gs : List Namespace) (ws ns : Graph)
-    → AreFollowed given ts hs gs ws ns → length ns ≡ length ws
-next_len given ts hs gs [] [] a = refl
-next_len given ts hs gs [] (n ∷ ns) a = absurd a
-next_len given ts hs gs (w ∷ ws) [] a = absurd a
-next_len given ts hs [] (w ∷ ws) (n ∷ ns) a = absurd a
-next_len given ts hs (g ∷ gs) (w ∷ ws) (n ∷ ns) a = ap suc (next_len given ts hs gs ws ns a.1)
+all_rows : (P : List ℕ → Type 0) (ws : Graph) → ((i : ℕ) → i < length ws → P (next_of ws i)) → AllByRecursion P ws
+all_rows P [] f = tt
+all_rows P (w ∷ ws) f = (f 0 (omega arith), all_rows P ws (λ i lt. f (suc i) (omega arith)))
 
-pub ways_indexed : (given : SourceTexts) (ts : List Template) (hs gs : List Namespace) (ws ns : Graph)
-    → AreFollowed given ts hs gs ws ns → AllByRecursion (AreIndices ts) ws
-ways_indexed given ts hs gs [] ns a = tt
-ways_indexed given ts hs gs (w ∷ ws) [] a = absurd a
-ways_indexed given ts hs [] (w ∷ ws) (n ∷ ns) a = absurd a
-ways_indexed given ts hs (g ∷ gs) (w ∷ ws) (n ∷ ns) a = (a.0.led.indices, ways_indexed given ts hs gs ws ns a.1)
-
-some_within : (hs : List Namespace) (j : ℕ) (n : Namespace) → slice_get hs j ≡ Some n → j < length hs
-some_within [] j n e = absurd (cc)
-some_within (h ∷ hs) zero n e = omega arith
-some_within (h ∷ hs) (suc j) n e = search (arith, rules, some_within hs j n e)
+pub ways_indexed : (given : SourceTexts) (ts : List Template) (hs : List Namespace) (ws ns : Graph)
+    → AreFollowed given ts hs ws ns → AllByRecursion (AreIndices ts) ws
+ways_indexed given ts hs ws ns f = all_rows (AreIndices ts) ws (λ i lt. (f.each i lt).led.indices)
 
 numbers_within : (hs : List Namespace) (js : List ℕ) (ns : List Namespace) → map (slice_get hs) js ≡ map Some ns
     → AllByRecursion (λ j. j < length hs) js
 numbers_within hs [] ns e = tt
 numbers_within hs (j ∷ js) [] e = absurd (cc)
-numbers_within hs (j ∷ js) (n ∷ ns) e = search (arith, rules, some_within, numbers_within hs js ns)
+numbers_within hs (j ∷ js) (n ∷ ns) e = search (arith, rules, slice_get_within, numbers_within hs js ns)
 
-next_within : (given : SourceTexts) (ts : List Template) (hs gs : List Namespace) (ws ns : Graph)
-    → AreFollowed given ts hs gs ws ns → AllByRecursion (λ js. AllByRecursion (λ j. j < length hs) js) ns
-next_within given ts hs gs [] [] a = tt
-next_within given ts hs gs [] (n ∷ ns) a = absurd a
-next_within given ts hs gs (w ∷ ws) [] a = absurd a
-next_within given ts hs [] (w ∷ ws) (n ∷ ns) a = absurd a
-next_within given ts hs (g ∷ gs) (w ∷ ws) (n ∷ ns) a =
-    (numbers_within hs n (chosen (names ts) (needs_along ts w)) a.0.numbered, next_within given ts hs gs ws ns a.1)
+next_within : (given : SourceTexts) (ts : List Template) (hs : List Namespace) (ws ns : Graph)
+    → AreFollowed given ts hs ws ns → AllByRecursion (λ js. AllByRecursion (λ j. j < length hs) js) ns
+next_within given ts hs ws ns f =
+    all_rows (λ js. AllByRecursion (λ j. j < length hs) js) ns
+    (λ i lt. numbers_within hs (next_of ns i) _ (f.each i (omega (arith, f.lens))).numbered)
 
 numbered_among : (hs : List Namespace) (j : ℕ) (js : List ℕ) (ns : List Namespace) → map (slice_get hs) js ≡ map Some ns
     → graph.among j js ≡ true → listed (namespace_at hs j) ns ≡ true
 numbered_among hs j [] ns e a = absurd (cc)
 numbered_among hs j (k ∷ js) [] e a = absurd (cc)
 numbered_among hs j (k ∷ js) (n ∷ ns) e a =
-    search (arith, rules, numbered_among hs j js ns, nat_tests, indexed_among of_namespaces, or_true)
+    search (arith, rules, numbered_among hs j js ns, nat_tests, indexed_among of_namespaces, or_right)
 
 pub none_next : (ns : Graph) (i j : ℕ) → length ns ≤ i → graph.among j (next_of ns i) ≡ true → ⊥
 none_next [] i j le a = cc
 none_next (n ∷ ns) zero j le a = omega arith
 none_next (n ∷ ns) (suc i) j le a = none_next ns i j (omega arith) a
-
--- ---- tests over names
-
-any_both : (p : Text → Bool) (xs ys : List Text) → list_any p xs ≡ false → list_any p ys ≡ false
-    → list_any p (xs ++ ys) ≡ false
-any_both p [] ys a b = b
-any_both p (x ∷ xs) ys a b = search (arith, rules, or_false, list_any, both_false, any_both p xs ys)
 
 -- ---- templates that are met
 
@@ -118,7 +93,7 @@ module _ (given : SourceTexts) (ts : List Template) where
   needs_sources : (ns : List Need) → AllByRecursion (IsMet given (names ts)) ns
       → list_any (λ n. is_none (sources_in ts n)) (needed false ns) ≡ false
   needs_sources [] a = refl
-  needs_sources (n ∷ ns) a = search (arith, rules, needs_sources ns a.1, names, both_false, has_source, never)
+  needs_sources (n ∷ ns) a = search (arith, rules, needs_sources ns a.1, names, or_from, has_source, both_ways)
 
   needs_met : (P : Text → Type 0) → ((n : Need) → IsMet given (names ts) n → P n.name) → (ns : List Need)
       → AllByRecursion (IsMet given (names ts)) ns → (x : Text) → among x (needed true ns) ≡ true → P x
@@ -138,9 +113,9 @@ module _ (given : SourceTexts) (options : Options) (ts : List Template) {ks : Li
       let s = sources_in ts in
       subst (λ xs. (not (repeated xs) && (nat_lt (length xs) 65 && not (list_any (λ n. is_none (s n)) xs))) ≡ true)
       (sym (way_names ts options.autoescape h is w))
-      (and_true (not (repeated (names us)))
+      (and_from (not (repeated (names us)))
       (nat_lt (length (names us)) 65 && not (list_any (λ n. is_none (s n)) (names us))) (ap not w.once)
-      (and_true (nat_lt (length (names us)) 65) (not (list_any (λ n. is_none (s n)) (names us)))
+      (and_from (nat_lt (length (names us)) 65) (not (list_any (λ n. is_none (s n)) (names us)))
       (few_names (length (names us))
       (omega (arith, few_way ts options.autoescape h is w, length-map us (λ (t : Template). t.name))))
       (ap not (have_sources s us held))))
@@ -162,7 +137,7 @@ module _ (given : SourceTexts) (options : Options) (ts : List Template) {ks : Li
       shows known (
         h,
         r,
-        and_true (is_whole (sources_in ts) options.autoescape h)
+        and_from (is_whole (sources_in ts) options.autoescape h)
             (lacks_body (all_bodies (sources_in ts) options.autoescape h)) is_one
             (subst (λ us. lacks_body (their_blocks options.autoescape us) ≡ true) (sym (whole_path ts h is w)) b),
       )
@@ -170,31 +145,26 @@ module _ (given : SourceTexts) (options : Options) (ts : List Template) {ks : Li
       shows known (
         h,
         r,
-        and_true (is_whole (sources_in ts) options.autoescape h)
+        and_from (is_whole (sources_in ts) options.autoescape h)
             (lacks_next (all_bodies (sources_in ts) options.autoescape h)) is_one
             (subst (λ us. lacks_next (their_blocks options.autoescape us) ≡ true) (sym (whole_path ts h is w)) b),
       )
   one_breaks root r error.MacroTwice b =
-      search (arith, rules, shows, and_true, is_whole, sources_in, repeated, is_one, names_told)
+      search (arith, rules, shows, and_from, is_whole, sources_in, repeated, is_one, names_told)
   one_breaks root r error.NoMacro b =
       search (arith, rules, chain_alone, shows, any_lacks_macros, sources_in, whole_path)
   one_breaks root r error.NoMemory b = tt
-  one_breaks root r error.Missing b = absurd b
-  one_breaks root r error.BadName b = absurd b
-  one_breaks root r error.ExtendsCycle b = absurd b
-  one_breaks root r error.ChainTooLong b = absurd b
-  one_breaks root r error.IncludeCycle b = absurd b
-  one_breaks root r error.NotALibrary b = absurd b
-  one_breaks root r (error.Scan n e) b = absurd b
-  one_breaks root r (error.Parse n e) b = absurd b
+  one_breaks root r e b = absurd b
 
   module _ (met : AllByRecursion (IsMet given (names ts)) (needs_along ts is)) where
     pub none_missing : list_any (λ n. is_none (sources_in ts n)) (asked (sources_in ts) options.autoescape false h)
         ≡ false
     none_missing =
         ap (list_any (λ n. is_none (sources_in ts n))) (asked_way ts options.autoescape h is w false)
-        ∙ any_both (λ n. is_none (sources_in ts n)) (names (templates_at ts is)) (needed false (needs_along ts is))
-        (have_sources (sources_in ts) (templates_at ts is) held) (needs_sources given ts (needs_along ts is) met)
+        ∙ list_any-append (λ n. is_none (sources_in ts n)) (names (templates_at ts is))
+        (needed false (needs_along ts is))
+        ∙ or_from _ _ (have_sources (sources_in ts) (templates_at ts is) held)
+        (needs_sources given ts (needs_along ts is) met)
 
     pub all_asked : (P : Text → Type 0) → AllByRecursion (λ t. P t.name) (templates_at ts is)
         → ((n : Need) → IsMet given (names ts) n → P n.name) → (x : Text)
@@ -211,10 +181,10 @@ module _ {given : SourceTexts} {options : Options} {entry : Text} {ts : List Tem
     {hs : List Namespace} {ws ns : Graph} (f : AreFound given options entry ts ks hs ws ns)
     (all : length ws ≡ length hs) where
   pub number : (i : ℕ) → i < length hs → IsFollowed given ts hs (namespace_at hs i) (next_of ws i) (next_of ns i)
-  number i lt = followed_number given ts hs hs ws ns i (omega (arith, all)) f.followed
+  number i lt = f.followed.each i (omega (arith, all))
 
   pub lens : length ns ≡ length hs
-  lens = next_len given ts hs hs ws ns f.followed ∙ all
+  lens = f.followed.lens ∙ all
 
   pub closed : IsClosed ns
   closed = search (arith, rules, lens, next_within)
@@ -223,7 +193,7 @@ module _ {given : SourceTexts} {options : Options} {entry : Text} {ts : List Tem
   reached = f.reached
 
   some : 0 < length hs
-  some = some_within hs 0 (a_chain entry) f.first
+  some = slice_get_within hs 0 (a_chain entry) f.first
 
   first_namespace : namespace_at hs 0 ≡ a_chain entry
   first_namespace = ap (λ o. unwrap_or o (a_chain [])) f.first
@@ -248,26 +218,11 @@ module _ {given : SourceTexts} {options : Options} {entry : Text} {ts : List Tem
             b.found.said;
       }
 
-  -- ---- a cycle of numbers is a cycle of chains
+  -- ---- an edge of numbers is one of chains
 
   pub edge : (i j : ℕ) → graph.among j (next_of ns i) ≡ true
       → (i < length hs) × (listed (namespace_at hs j) (included (sources_in ts) (namespace_at hs i)) ≡ true)
   edge i j a = search (arith, rules, numbered_among, includes_next, none_next, lens, cases_lt)
-
-  along : {i j : ℕ} → graph.Reaches ns i j → (m : Namespace)
-      × (listed m (included (sources_in ts) (namespace_at hs i)) ≡ true)
-      × Reaches (sources_in ts) options.autoescape m (namespace_at hs j)
-  along (graph.step {i} {j} a) = (namespace_at hs j, (edge i j a).1, here)
-  along (graph.further {i} {j} a r) =
-      let k = along r in
-      (namespace_at hs j, (edge i j a).1, rules.through k.1 k.2)
-
-  begins_at : {i j : ℕ} → graph.Reaches ns i j → i < length hs
-  begins_at (graph.step {i} {j} a) = (edge i j a).0
-  begins_at (graph.further {i} {j} a r) = (edge i j a).0
-
-  pub cycle_breaks : HasCycle ns → Breaks error.IncludeCycle given entry options
-  cycle_breaks c = search (arith, rules, reached, namespace_among, begins_at, along)
 
   -- ---- the order of namespaces
 
@@ -321,7 +276,7 @@ module _ {given : SourceTexts} {options : Options} {entry : Text} {ts : List Tem
     keeps = record {
       missing = λ x.
           let k = way_reached x.1 in
-          never (list_any (λ n. is_none (sources_in ts n)) (asked (sources_in ts) options.autoescape false x.0))
+          both_ways (list_any (λ n. is_none (sources_in ts n)) (asked (sources_in ts) options.autoescape false x.0))
           (none_missing given options ts f.known x.0 k.0 k.1 k.3) x.2;
       bad_name = λ x.
           let k = way_reached x.1 in
@@ -330,7 +285,7 @@ module _ {given : SourceTexts} {options : Options} {entry : Text} {ts : List Tem
           x.2.1);
       extends_cycle = λ x.
           let k = way_reached x.1 in
-          never (repeated (names (templates_at ts k.0))) k.1.once
+          both_ways (repeated (names (templates_at ts k.0))) k.1.once
           (repeated_up (sources_in ts) x.2.2 (Some x.2.0) (templates_at ts k.0)
           (subst (λ h. IsExtendsPath ts h k.0 None) x.2.1 k.1).leads x.2.3);
       too_long = λ x. ⊎_elim
@@ -338,13 +293,13 @@ module _ {given : SourceTexts} {options : Options} {entry : Text} {ts : List Tem
           let k = way_reached y.1 in
           let us = templates_at ts k.0 in
           let le : length us ≤ 64 = omega (arith, few_templates ts k.0, k.1.few) in
-          never ((length (extends_path (sources_in ts) options.autoescape y.0) == 65)
+          both_ways ((length (extends_path (sources_in ts) options.autoescape y.0) == 65)
           && not (repeated (extends_path (sources_in ts) options.autoescape y.0)))
           (ap (λ xs. (length xs == 65) && not (repeated xs)) (way_names ts options.autoescape y.0 k.0 k.1)
           ∙ too_few (length (names us)) (not (repeated (names us)))
           (omega (arith, le, length-map us (λ (t : Template). t.name)))) y.2)
           (λ y.
-          let le = no_more of_texts y.0 (chains_of hs) (not_true (repeated y.0) y.2)
+          let le = no_more of_texts y.0 (chains_of hs) (not-true (repeated y.0) y.2)
           (λ n a. sym (chain_among n hs) ∙ in_namespaces (a_chain n) (ordered (y.3 n a))) in
           let gt : 1024 < length y.0 = y.1 in
           let most = f.few in
@@ -352,20 +307,20 @@ module _ {given : SourceTexts} {options : Options} {entry : Text} {ts : List Tem
           x;
       double_block = λ x.
           let k = way_reached x.1 in
-          never (any_double options.autoescape (templates (sources_in ts) x.0))
+          both_ways (any_double options.autoescape (templates (sources_in ts) x.0))
           (ap (any_double options.autoescape) (whole_path ts x.0 k.0 k.1) ∙ k.2.doubles) x.2;
       required_not_given = λ x.
           let k = way_reached x.1 in
-          never (is_whole (sources_in ts) options.autoescape x.0
+          both_ways (is_whole (sources_in ts) options.autoescape x.0
           && lacks_body (all_bodies (sources_in ts) options.autoescape x.0))
-          (and_false (is_whole (sources_in ts) options.autoescape x.0)
+          (and_right (is_whole (sources_in ts) options.autoescape x.0)
           (lacks_body (all_bodies (sources_in ts) options.autoescape x.0))
           (ap (λ us. lacks_body (their_blocks options.autoescape us)) (whole_path ts x.0 k.0 k.1) ∙ k.2.bodies)) x.2;
       no_super = λ x.
           let k = way_reached x.1 in
-          never (is_whole (sources_in ts) options.autoescape x.0
+          both_ways (is_whole (sources_in ts) options.autoescape x.0
           && lacks_next (all_bodies (sources_in ts) options.autoescape x.0))
-          (and_false (is_whole (sources_in ts) options.autoescape x.0)
+          (and_right (is_whole (sources_in ts) options.autoescape x.0)
           (lacks_next (all_bodies (sources_in ts) options.autoescape x.0))
           (ap (λ us. lacks_next (their_blocks options.autoescape us)) (whole_path ts x.0 k.0 k.1) ∙ k.2.next)) x.2;
       include_cycle =
@@ -373,26 +328,22 @@ module _ {given : SourceTexts} {options : Options} {entry : Text} {ts : List Tem
           x.2.1 x.2.2;
       macro_twice = λ x.
           let k = way_reached x.1 in
-          never
+          both_ways
           (is_whole (sources_in ts) options.autoescape x.0 && repeated (map (λ g. g.0) (given_in (sources_in ts) x.0)))
-          (and_false (is_whole (sources_in ts) options.autoescape x.0)
+          (and_right (is_whole (sources_in ts) options.autoescape x.0)
           (repeated (map (λ g. g.0) (given_in (sources_in ts) x.0)))
           (ap repeated (names_told given options ts f.known x.0 k.0 k.1) ∙ k.2.names)) x.2;
       no_macro = λ x.
           let k = way_reached x.1 in
-          never (any_lacks_macros (sources_in ts) (templates (sources_in ts) x.0))
+          both_ways (any_lacks_macros (sources_in ts) (templates (sources_in ts) x.0))
           (ap (any_lacks_macros (sources_in ts)) (whole_path ts x.0 k.0 k.1) ∙ k.2.macros_there) x.2.2;
       not_a_library = λ x.
           let k = way_reached x.1 in
           let l = (subst (λ h. IsExtendsPath ts h k.0 None) x.2.1 k.1).leads in
-          never (is_some (sources_in ts x.2.0) && not (is_a_library (sources_in ts x.2.0)))
-          (and_false (is_some (sources_in ts x.2.0)) (not (is_a_library (sources_in ts x.2.0)))
+          both_ways (is_some (sources_in ts x.2.0) && not (is_a_library (sources_in ts x.2.0)))
+          (and_right (is_some (sources_in ts x.2.0)) (not (is_a_library (sources_in ts x.2.0)))
           (ap not (ap is_a_library l.source ∙ l.holds))) x.2.2;
     }
-      where
-        not_true : (b : Bool) → not b ≡ true → b ≡ false
-        not_true true e = absurd (cc)
-        not_true false e = refl
 
     abbrev pub chain : Seen
     chain = record { templates = ts; order = map (namespace_at hs) is; escaping = options.autoescape }
@@ -412,7 +363,7 @@ module _ {given : SourceTexts} {options : Options} {entry : Text} {ts : List Tem
         each_known [] g = tt
         each_known (u ∷ us) g = (
           inl (g u.name (indexed_among of_texts (names (u ∷ us)) 0 u.name refl)),
-          each_known us (λ x p. g x (or_true (bytes_eq u.name x) (among x (names us)) p)),
+          each_known us (λ x p. g x (or_right (bytes_eq u.name x) (among x (names us)) p)),
         )
 
     -- The templates are the requested ones that the library has.
@@ -498,7 +449,7 @@ search_done {given} {options} {entry} f root is all =
       found = found;
       named = (is.known.named, ap repeated is.known.named ∙ is.known.read.once);
       indices =
-          ways_indexed given (found_templates f) (found_namespaces f) (found_namespaces f) (found_paths f)
+          ways_indexed given (found_templates f) (found_namespaces f) (found_paths f)
           (graph_of f.next.items) is.followed;
       paths = sym (length-map f.extends_paths.items (λ (v : Vec ℕ Global). v.items)) ∙ all;
       next = sym (length-map f.next.items (λ (v : Vec ℕ Global). v.items)) ∙ lens found all;

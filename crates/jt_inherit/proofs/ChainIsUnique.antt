@@ -6,7 +6,7 @@ use Rattle.jt_inherit.specs.declared.error.ChainError.TheVariants as error
 use Rattle.jt_inherit.proofs.Vocabulary.{AllByRecursion, list_any, is_some, is_none, Options, among, Text, Body}
 use Rattle.jt_inherit.proofs.Vocabulary.{Sources, a_chain, Template, sources_in, SourceTexts, IsTree, IsRead, IsOnly}
 use Rattle.jt_inherit.proofs.Vocabulary.{IsChain, Breaks, Shows, HasFault, IsUncut, IsUnspelled, Asks, here, asked}
-use Rattle.jt_inherit.proofs.Vocabulary.{KeepsRules, Seen, ChainError, same, or_true}
+use Rattle.jt_inherit.proofs.Vocabulary.{KeepsRules, Seen, ChainError, same, or_right}
 use Rattle.jt_inherit.proofs.RulesCarryOver as carried
 use Rattle.jt_inherit.proofs.DiscoveryInvariant.{some_source}
 use Rattle.jt_inherit.proofs.SourcesGrow.{asks_more, asked_more, reaches_more}
@@ -14,7 +14,7 @@ use Rattle.jt_inherit.proofs.PathsGrow.{names}
 
 pub any_at : (p : Text → Bool) (x : Text) (xs : List Text) → among x xs ≡ true → p x ≡ true → list_any p xs ≡ true
 any_at p x [] a t = absurd (cc)
-any_at p x (y ∷ xs) a t = search (arith, rules, any_at p x xs, same, or_true)
+any_at p x (y ∷ xs) a t = search (arith, rules, any_at p x xs, same, or_right)
 
 -- The template of a source.
 pub source_read : (P : Template → Type 0) (ts : List Template) (n : Text) (b : Body) → AllByRecursion P ts

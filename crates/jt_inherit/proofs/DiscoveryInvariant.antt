@@ -1,19 +1,19 @@
 -- The facts about followed chains and libraries stay true when more is found.
-use Rattle.std.proofs.Common.{◌≡◌, ℕ, zero, suc, ◌<◌, ◌≤◌, Bool, true, false, cond, List, [], ◌∷◌, ◌++◌, length, map}
-use Rattle.std.proofs.Common.{refl, sym, ap, subst, ◌∙◌, arith, ◌⊎◌, ⊎_elim, inl, inr, Option, Some, None, Vec, Global}
+use Rattle.std.proofs.Common.{◌≡◌, ℕ, zero, suc, ◌<◌, ◌≤◌, Bool, true, false, List, [], ◌∷◌, ◌++◌, length, map, refl}
+use Rattle.std.proofs.Common.{sym, ap, subst, ◌∙◌, arith, ◌⊎◌, ⊎_elim, inl, inr, Option, Some, None, Vec, Global}
 use Rattle.std.proofs.Common.{length-append, rules}
 use Rattle.jt_inherit.specs.internal.Found.{IsLedTo}
-use Rattle.jt_inherit.proofs.Vocabulary.{slice_get, flat_map, filter, unwrap_or, AllByRecursion, is_some}
-use Rattle.jt_inherit.proofs.Vocabulary.{option_to_list, append-nil, append_assoc, length-map, map-append, Options}
-use Rattle.jt_inherit.proofs.Vocabulary.{among, Text, AreIndices, templates_at, imports_along, needs_along, Namespace}
-use Rattle.jt_inherit.proofs.Vocabulary.{a_chain, a_library, namespace_name, listed, Template, templates, libraries}
-use Rattle.jt_inherit.proofs.Vocabulary.{libraries_in, sources_in, SourceTexts, IsRead, AreNext, IsMet, IsFollowed}
-use Rattle.jt_inherit.proofs.Vocabulary.{AreFollowed, AreFound, chosen, included, includes_in, Need}
+use Rattle.jt_inherit.proofs.Vocabulary.{cases_lt, slice_get_within, slice_get, flat_map, unwrap_or, AllByRecursion}
+use Rattle.jt_inherit.proofs.Vocabulary.{is_some, option_to_list, append-nil, append_assoc, length-map, map-append}
+use Rattle.jt_inherit.proofs.Vocabulary.{Options, among, Text, AreIndices, templates_at, imports_along, needs_along}
+use Rattle.jt_inherit.proofs.Vocabulary.{Namespace, a_chain, a_library, namespace_name, listed, Template, templates}
+use Rattle.jt_inherit.proofs.Vocabulary.{libraries, libraries_in, sources_in, SourceTexts, IsRead, AreNext, IsMet}
+use Rattle.jt_inherit.proofs.Vocabulary.{IsFollowed, AreFollowed, AreFound, chosen, included, includes_in, Need}
 use Rattle.jt_inherit.proofs.Vocabulary.{include_need, library_need, needed, namespace_at, Asks, Reaches, here, asked}
 use Rattle.jt_inherit.proofs.Vocabulary.{extends_path, AreKnown, IsExtendsPath, by_templates, needed-append}
-use Rattle.jt_inherit.proofs.Vocabulary.{along_templates, Graph, next_of, graph_of, file_view, files_view, TemplateFile}
-use Rattle.jt_inherit.proofs.Vocabulary.{of_texts, same, of_namespaces, among_behind, among_front, both_false}
-use Rattle.jt_inherit.proofs.Vocabulary.{only_among, indexed_among}
+use Rattle.jt_inherit.proofs.Vocabulary.{along_templates, next_of, graph_of, file_view, files_view, TemplateFile}
+use Rattle.jt_inherit.proofs.Vocabulary.{of_texts, same, of_namespaces, among_behind, among_front, only_among}
+use Rattle.jt_inherit.proofs.Vocabulary.{indexed_among, filter_agree, or_from}
 use Rattle.jt_inherit.proofs.ImportCollection.{all_imports, imports_needed, imports_chosen, all_includes}
 use Rattle.jt_inherit.proofs.ImportCollection.{includes_chosen, none_imported}
 use Rattle.jt_inherit.proofs.FollowStep.{at_front, met_grows, numbers_grow, chosen-append}
@@ -57,11 +57,6 @@ pub some_source : (ts : List Template) (m : Text) → is_some (sources_in ts m) 
 some_source [] m = refl
 some_source (t ∷ ts) m = search (arith, rules, some_source ts m, names)
 
-filter_same : (p q : Text → Bool) → ((m : Text) → p m ≡ q m) → (xs : List Text) → filter p xs ≡ filter q xs
-filter_same p q e [] = refl
-filter_same p q e (x ∷ xs) =
-    ap (λ b. cond b (x ∷ filter p xs) (filter p xs)) (e x) ∙ ap (λ l. cond (q x) (x ∷ l) l) (filter_same p q e xs)
-
 pub whole_path : (ts : List Template) (h : Namespace) (is : List ℕ) → IsExtendsPath ts h is None
     → templates (sources_in ts) h ≡ templates_at ts is
 whole_path ts a1 is w = search (arith, rules, templates_to_root, few_templates)
@@ -81,7 +76,7 @@ included_is ts h is w =
       names,
       whole_path,
       by_templates,
-      filter_same,
+      filter_agree,
       some_source,
       libraries_way,
       includes_told,
@@ -136,7 +131,7 @@ pub none_read : (given : SourceTexts) (options : Options) (ts : List Template) (
     → AllByRecursion (IsRead given options) ts → given n ≡ None → among n (names ts) ≡ false
 none_read given options [] n a e = refl
 none_read given options (t ∷ ts) n a e =
-    search (arith, rules, none_read given options ts n a.1 e, names, same, both_false)
+    search (arith, rules, none_read given options ts n a.1 e, names, same, or_from)
 
 -- A template that may be missing, and is, stays missing.
 chosen_same : (given : SourceTexts) (ks ms : List Text) → ((n : Text) → given n ≡ None → among n (ks ++ ms) ≡ false)
@@ -180,46 +175,45 @@ module _ (given : SourceTexts) (options : Options) (ts us : List Template) (hs m
             (numbers_grow hs ms n (chosen (names ts) (needs_along ts w)) f.numbered);
       }
 
-  all_grow : (gs : List Namespace) (ws ns : List (List ℕ)) → AreFollowed given ts hs gs ws ns
-      → AreFollowed given (ts ++ us) (hs ++ ms) gs ws ns
-  all_grow gs [] [] a = tt
-  all_grow gs [] (n ∷ ns) a = absurd a
-  all_grow gs (w ∷ ws) [] a = absurd a
-  all_grow [] (w ∷ ws) (n ∷ ns) a = absurd a
-  all_grow (g ∷ gs) (w ∷ ws) (n ∷ ns) a = (followed_grows g w n a.0, all_grow gs ws ns a.1)
-
-followed_longer : (given : SourceTexts) (ts : List Template) (hs gs fs : List Namespace) (ws ns : List (List ℕ))
-    → AreFollowed given ts hs gs ws ns → AreFollowed given ts hs (gs ++ fs) ws ns
-followed_longer given ts hs gs fs [] [] a = tt
-followed_longer given ts hs gs fs [] (n ∷ ns) a = absurd a
-followed_longer given ts hs gs fs (w ∷ ws) [] a = absurd a
-followed_longer given ts hs [] fs (w ∷ ws) (n ∷ ns) a = absurd a
-followed_longer given ts hs (g ∷ gs) fs (w ∷ ws) (n ∷ ns) a = (a.0, followed_longer given ts hs gs fs ws ns a.1)
-
-followed_next : (given : SourceTexts) (ts : List Template) (hs gs : List Namespace) (ws ns : List (List ℕ))
-    (h : Namespace) (w n : List ℕ)
-    → AreFollowed given ts hs gs ws ns → slice_get gs (length ws) ≡ Some h → IsFollowed given ts hs h w n
-    → AreFollowed given ts hs gs (ws ++ w ∷ []) (ns ++ n ∷ [])
-followed_next given ts hs (g ∷ gs) [] [] h w n a at f = search (arith, rules)
-followed_next given ts hs (g ∷ gs) (v ∷ ws) (m ∷ ns) h w n a at f =
-    (a.0, followed_next given ts hs gs ws ns h w n a.1 at f)
-followed_next given ts hs a3 a4 a5 h w n a at f = search (arith, rules)
-
--- The followed namespace of a number.
-pub followed_number : (given : SourceTexts) (ts : List Template) (hs gs : List Namespace) (ws ns : Graph) (i : ℕ)
-    → i < length ws → AreFollowed given ts hs gs ws ns
-    → IsFollowed given ts hs (namespace_at gs i) (next_of ws i) (next_of ns i)
-followed_number given ts hs gs [] ns i lt a = absurd (omega arith)
-followed_number given ts hs gs (w ∷ ws) [] i lt a = absurd a
-followed_number given ts hs [] (w ∷ ws) (n ∷ ns) i lt a = absurd a
-followed_number given ts hs (g ∷ gs) (w ∷ ws) (n ∷ ns) zero lt a = a.0
-followed_number given ts hs (g ∷ gs) (w ∷ ws) (n ∷ ns) (suc i) lt a =
-    followed_number given ts hs gs ws ns i (omega arith) a.1
-
 next_front : (ws : List (List ℕ)) (w : List ℕ) (i : ℕ) → i < length ws → next_of (ws ++ w ∷ []) i ≡ next_of ws i
 next_front [] w i lt = absurd (omega arith)
 next_front (v ∷ ws) w zero lt = refl
 next_front (v ∷ ws) w (suc i) lt = next_front ws w i (omega arith)
+
+next_last : (ws : List (List ℕ)) (w : List ℕ) (i : ℕ) → i ≡ length ws → next_of (ws ++ w ∷ []) i ≡ w
+next_last ws w i e = ap (next_of (ws ++ w ∷ [])) e ∙ ap (λ o. unwrap_or o []) (last_at ws w)
+
+namespace_front : (hs ms : List Namespace) (i : ℕ) → i < length hs → namespace_at (hs ++ ms) i ≡ namespace_at hs i
+namespace_front [] ms i lt = absurd (omega arith)
+namespace_front (h ∷ hs) ms zero lt = refl
+namespace_front (h ∷ hs) ms (suc i) lt = namespace_front hs ms i (omega arith)
+
+pub none_followed : (given : SourceTexts) (ts : List Template) (hs : List Namespace) → AreFollowed given ts hs [] []
+none_followed given ts hs = record { few = omega arith; lens = refl; each = λ i lt. absurd (omega arith) }
+
+followed_more : (given : SourceTexts) (options : Options) (ts us : List Template) (hs ms : List Namespace)
+    → AllByRecursion (IsRead given options) (ts ++ us) → {ws ns : List (List ℕ)} → AreFollowed given ts hs ws ns
+    → {h : Namespace} → slice_get hs (length ws) ≡ Some h → (w n : List ℕ)
+    → IsFollowed given (ts ++ us) (hs ++ ms) h w n
+    → AreFollowed given (ts ++ us) (hs ++ ms) (ws ++ w ∷ []) (ns ++ n ∷ [])
+followed_more given options ts us hs ms read {ws} {ns} f {h} at w n g = record {
+  few = omega (arith, slice_get_within hs (length ws) h at, length-append ws (w ∷ []), length-append hs ms);
+  lens = omega (arith, f.lens, length-append ws (w ∷ []), length-append ns (n ∷ []));
+  each = λ i lt. ⊎_elim
+      (λ (l : i < length ws).
+      rw (
+        namespace_front hs ms i (omega (arith, f.few)),
+        next_front ws w i l,
+        next_front ns n i (omega (arith, f.lens)),
+      )
+      (followed_grows given options ts us hs ms read (namespace_at hs i) (next_of ws i) (next_of ns i) (f.each i l)))
+      (λ (l : length ws ≤ i).
+      let e : i ≡ length ws = omega (arith, lt, length-append ws (w ∷ [])) in
+      let there : namespace_at (hs ++ ms) i ≡ h = ap (namespace_at (hs ++ ms)) e
+      ∙ ap (λ o. unwrap_or o (a_chain [])) (at_front hs ms (length ws) h at) in
+      rw (there, next_last ws w i e, next_last ns n i (omega (arith, e, f.lens))) g)
+      (cases_lt i (length ws));
+}
 
 -- One more namespace is followed.
 module _ {given : SourceTexts} {options : Options} {root : Text} {ts0 : List Template} {ks0 : List Text}
@@ -280,7 +274,7 @@ module _ {given : SourceTexts} {options : Options} {root : Text} {ts0 : List Tem
             let i = l.0 in
             let lt : i < length ws = l.1 in
             let theirs = same_chosen given options ts0 (more.0 ++ m2) hs [] read
-            (followed_number given ts0 hs hs ws ns i lt f.followed) in (
+            (f.followed.each i lt) in (
               i,
               omega (arith, lt, length-append ws (is ∷ [])),
               subst (λ v. listed x (chosen (names ts2) (needs_along ts2 v)) ≡ true) (sym (next_front ws is i lt))
@@ -305,8 +299,6 @@ module _ {given : SourceTexts} {options : Options} {root : Text} {ts0 : List Tem
         → AreFound given options root ts2 ks2 hs2 (ws ++ is ∷ []) (ns ++ next ∷ [])
     found_more ks1 on_path needs met {hs2} {next} n =
         let read = subst (AllByRecursion (IsRead given options)) all_more known.read.each in
-        let old : AreFollowed given (ts0 ++ (more.0 ++ m2)) (hs ++ n.more) hs ws ns =
-        all_grow given options ts0 (more.0 ++ m2) hs n.more read hs ws ns f.followed in
         let here_followed : IsFollowed given ts2 hs2 h is next = (record {
           led = way_there;
           met =
@@ -325,12 +317,10 @@ module _ {given : SourceTexts} {options : Options} {root : Text} {ts0 : List Tem
           few = n.few;
           reached = λ x a. reached_from x (n.from x a);
           led = led_more n;
-          followed = followed_next given ts2 hs2 hs2 ws ns h is next
-              (subst (λ vs. AreFollowed given vs hs2 hs2 ws ns) (sym all_more)
-              (subst (λ l. AreFollowed given (ts0 ++ (more.0 ++ m2)) l l ws ns) (sym n.grown)
-              (followed_longer given (ts0 ++ (more.0 ++ m2)) (hs ++ n.more) hs n.more ws ns old)))
-              (subst (λ l. slice_get l (length ws) ≡ Some h) (sym n.grown) (at_front hs n.more (length ws) h at))
-              here_followed;
+          followed =
+              rw (all_more, n.grown)
+              (followed_more given options ts0 (more.0 ++ m2) hs n.more read f.followed at is next
+              (rw (all_more, n.grown) at here_followed));
         }
 
     pub first_same : {hs2 : List Namespace} {next : List ℕ} → AreNext hs hs2 (chosen ks2 (needs_along ts2 is)) next
@@ -343,25 +333,12 @@ pub found_first : (given : SourceTexts) (options : Options) (entry root : Text) 
     → hs ≡ a_chain entry ∷ [] → root ≡ entry → ts ≡ [] → ks ≡ [] → ws ≡ [] → ns ≡ []
     → AreFound given options root ts ks hs ws ns
 found_first given options entry root ts ks hs ws ns eh er et ek ew en =
-    search (arith, rules, a_chain, asked, sources_in, only_among, of_namespaces, here)
-
--- There are no more paths than namespaces.
-pub followed_len : (given : SourceTexts) (ts : List Template) (hs gs : List Namespace) (ws ns : List (List ℕ))
-    → AreFollowed given ts hs gs ws ns → length ws ≤ length gs
-followed_len given ts hs gs [] [] a = omega arith
-followed_len given ts hs gs [] (n ∷ ns) a = absurd a
-followed_len given ts hs gs (w ∷ ws) [] a = absurd a
-followed_len given ts hs [] (w ∷ ws) (n ∷ ns) a = absurd a
-followed_len given ts hs (g ∷ gs) (w ∷ ws) (n ∷ ns) a = omega (arith, followed_len given ts hs gs ws ns a.1)
+    search (arith, rules, a_chain, asked, sources_in, only_among, of_namespaces, here, none_followed)
 
 -- The next namespace to follow.
 pub namespace_number : (hs : List Namespace) (ws : List (Vec ℕ Global)) (o : Option Namespace) (i : ℕ) → i ≡ length ws
     → slice_get hs i ≡ o → slice_get hs (length (graph_of ws)) ≡ o
 namespace_number hs ws o i at e = ap (slice_get hs) (length-map ws (λ (v : Vec ℕ Global). v.items) ∙ sym at) ∙ e
-
-pub known_names : (given : SourceTexts) (options : Options) (ts : List Template) (ks : List Text)
-    → AreKnown given options ts ks → AreKnown given options ts (names ts)
-known_names given options ts ks k = record { read = k.read; only = k.only; within = k.within; named = refl }
 
 -- Templates with more appended, all of them known.
 module _ {given : SourceTexts} {options : Options} {ks : List Text} (ps qs : List TemplateFile)

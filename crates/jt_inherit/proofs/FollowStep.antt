@@ -1,17 +1,16 @@
 -- One step of the search: the numbers of the namespaces that a followed one leads to.
-use Rattle.std.proofs.Common.{◌≡◌, ℕ, zero, suc, ◌+◌, ◌<◌, ◌≤◌, Bool, true, false, not, cond, ◌||◌, List}
-use Rattle.std.proofs.Common.{[], ◌∷◌, ◌++◌, length, map, take, drop, get_or, refl, sym, ap, subst, ◌∙◌, arith, inl}
-use Rattle.std.proofs.Common.{inr, ◌⊎◌, ⊎_elim, Some, length-append, rules}
-use Rattle.std.proofs.lemmas.List.{take_more}
-use Rattle.jt_inherit.specs.internal.Found.{AddsNext}
-use Rattle.jt_inherit.specs.internal.Found.{known_of}
+use Rattle.std.proofs.Common.{◌≡◌, ℕ, zero, suc, ◌+◌, ◌<◌, ◌≤◌, Bool, true, false, not, cond, ◌||◌, List, [], ◌∷◌, ◌++◌}
+use Rattle.std.proofs.Common.{length, map, take, drop, get_or, refl, sym, ap, subst, ◌∙◌, arith, inl, inr, ◌⊎◌, ⊎_elim}
+use Rattle.std.proofs.Common.{Some, length-append, rules}
+use Rattle.jt_inherit.specs.internal.Found.{AddsNext, known_of}
 use Rattle.jt_inherit.specs.declared.error.ChainError.TheVariants as error
 use Rattle.jt_inherit.proofs.Vocabulary.{slice_get, AllByRecursion, bytes_eq, append-nil, append_assoc, drop_more}
 use Rattle.jt_inherit.proofs.Vocabulary.{map-append, among, repeated, Text, SourceTexts, Namespace, a_chain, a_library}
 use Rattle.jt_inherit.proofs.Vocabulary.{listed, AreNext, TooMany, IsNextFault, IsMet, chosen, chains_of, twice, Need}
 use Rattle.jt_inherit.proofs.Vocabulary.{needed, need_namespace, need_view, needs_view, ChainError, NeededTemplate}
 use Rattle.jt_inherit.proofs.Vocabulary.{of_texts, reflexive, chain_among, of_namespaces, among_behind, among_cases}
-use Rattle.jt_inherit.proofs.Vocabulary.{among_front, among_next, both_false, once_more, only_among, or_false}
+use Rattle.jt_inherit.proofs.Vocabulary.{among_front, among_next, once_more, only_among, or_from, or_parts}
+use Rattle.jt_inherit.proofs.Vocabulary.{take-append-drop, take_more}
 use Rattle.jt_inherit.proofs.PathsGrow.{last_at}
 
 -- ---- known includes and imports
@@ -89,10 +88,10 @@ too_many old n once len new = record {
     chains_once : (hs : List Namespace) → twice hs ≡ false → repeated (chains_of hs) ≡ false
     chains_once [] o = refl
     chains_once (a_chain m ∷ hs) o =
-        let k = or_false (listed (a_chain m) hs) (twice hs) o in
-        both_false (among m (chains_of hs)) (repeated (chains_of hs)) (sym (chain_among m hs) ∙ k.0)
+        let k = or_parts (listed (a_chain m) hs) (twice hs) o in
+        or_from (among m (chains_of hs)) (repeated (chains_of hs)) (sym (chain_among m hs) ∙ k.0)
         (chains_once hs k.1)
-    chains_once (a_library m ∷ hs) o = chains_once hs (or_false (listed (a_library m) hs) (twice hs) o).1
+    chains_once (a_library m ∷ hs) o = chains_once hs (or_parts (listed (a_library m) hs) (twice hs) o).1
 
 pub put_fault : (old : List Namespace) (x : Namespace) (n : Text) (e : ChainError) → twice old ≡ false
     → listed x old ≡ false
@@ -117,18 +116,12 @@ chosen_turn ks ns k d lt =
     ∙ ap (chosen ks) (views-append (take k ns) (get_or ns k d ∷ []))
     ∙ chosen-append ks (needs_view (take k ns)) (need_view (get_or ns k d) ∷ [])
 
-split : {X : Type 0} (xs : List X) (k : ℕ) → take k xs ++ drop k xs ≡ xs
-split [] zero = refl
-split [] (suc k) = refl
-split (x ∷ xs) zero = refl
-split (x ∷ xs) (suc k) = ap (λ l. x ∷ l) (split xs k)
-
 pub chosen_all : (ks : List Text) (ns : List NeededTemplate) (k : ℕ) (d : NeededTemplate) → k < length ns
     → chosen ks (needs_view ns) ≡ chosen ks (needs_view (take k ns))
     ++ (chosen ks (need_view (get_or ns k d) ∷ []) ++ chosen ks (needs_view (drop (k + 1) ns)))
 chosen_all ks ns k d lt =
     let n = get_or ns k d in
-    ap (λ (l : List NeededTemplate). chosen ks (needs_view l)) (sym (split ns k))
+    ap (λ (l : List NeededTemplate). chosen ks (needs_view l)) (sym (take-append-drop k ns))
     ∙ ap (chosen ks) (views-append (take k ns) (drop k ns))
     ∙ chosen-append ks (needs_view (take k ns)) (needs_view (drop k ns))
     ∙ ap (λ l. chosen ks (needs_view (take k ns)) ++ l)

@@ -1,13 +1,12 @@
 -- The imports of templates; libraries import nothing.
-use Rattle.std.proofs.Common.{◌≡◌, Bool, true, false, ◌&&◌, List, [], ◌∷◌, ◌++◌, map, refl, ap, arith, rules}
+use Rattle.std.proofs.Common.{◌≡◌, Bool, true, false, List, [], ◌∷◌, ◌++◌, map, refl, ap, arith, rules}
 use Rattle.jt_ast.specs.Statements as trees
-use Rattle.jt_chains.specs.Chain.{of_a_library}
-use Rattle.jt_chains.specs.Chain.{imports_in, all_given_from}
+use Rattle.jt_chains.specs.Chain.{of_a_library, imports_in, all_given_from}
 use Rattle.jt_chains.specs.Includes.{includes_by, includes_under}
 use Rattle.jt_inherit.proofs.Vocabulary.{flat_map, filter, AllByRecursion, map-append, Text, Body, Branches, among}
 use Rattle.jt_inherit.proofs.Vocabulary.{Sources, Namespace, a_chain, a_library, Template, holds_macros, libraries_in}
-use Rattle.jt_inherit.proofs.Vocabulary.{macros, MacroBody, own, lacks_macros, chosen, names_from}
-use Rattle.jt_inherit.proofs.Vocabulary.{imported_names, includes_in, Need, include_need, library_need, needed}
+use Rattle.jt_inherit.proofs.Vocabulary.{macros, MacroBody, own, lacks_macros, chosen, names_from, imported_names}
+use Rattle.jt_inherit.proofs.Vocabulary.{includes_in, Need, include_need, library_need, needed, and_parts}
 
 -- ---- the imports of a template
 
@@ -70,25 +69,21 @@ includes_chosen ks (n ∷ ns) a = search (arith, rules, includes_chosen ks ns a.
 
 -- ---- libraries import nothing
 
-and_right : (a b : Bool) → (a && b) ≡ true → b ≡ true
-and_right true b e = e
-and_right false b e = absurd (cc)
-
 pub none_imported : (b : Body) → holds_macros b ≡ true → libraries_in b ≡ []
 none_imported (trees.stmt (trees.data_of t) rest) h =
-    none_imported rest (and_right (of_a_library (trees.data_of t)) (holds_macros rest) h)
+    none_imported rest (and_parts (of_a_library (trees.data_of t)) (holds_macros rest) h).1
 none_imported (trees.stmt (trees.macro line x ps body) rest) h = none_imported rest h
 none_imported a0 h = search (arith, rules)
 
 pub none_given : (s : Sources) (b : Body) → holds_macros b ≡ true → imported_names s b ≡ []
 none_given s (trees.stmt (trees.data_of t) rest) h =
-    none_given s rest (and_right (of_a_library (trees.data_of t)) (holds_macros rest) h)
+    none_given s rest (and_parts (of_a_library (trees.data_of t)) (holds_macros rest) h).1
 none_given s (trees.stmt (trees.macro line x ps body) rest) h = none_given s rest h
 none_given s a1 h = search (arith, rules)
 
 pub none_lacking : (s : Sources) (b : Body) → holds_macros b ≡ true → lacks_macros s b ≡ false
 none_lacking s (trees.stmt (trees.data_of t) rest) h =
-    none_lacking s rest (and_right (of_a_library (trees.data_of t)) (holds_macros rest) h)
+    none_lacking s rest (and_parts (of_a_library (trees.data_of t)) (holds_macros rest) h).1
 none_lacking s (trees.stmt (trees.macro line x ps body) rest) h = none_lacking s rest h
 none_lacking s a1 h = search (arith, rules)
 

@@ -2,17 +2,7 @@
 use Rattle.std.proofs.Common.{◌≡◌, ℕ, zero, suc, ◌≤◌, Bool, true, false, cond, ◌||◌, List, [], ◌∷◌, ◌++◌, length, refl}
 use Rattle.std.proofs.Common.{sym, ap, ◌∙◌, arith, ◌⊎◌, inr, Some, rules}
 use Rattle.std.specs.Prelude.{slice_get}
-
-pub or_false : (a b : Bool) → (a || b) ≡ false → (a ≡ false) × (b ≡ false)
-or_false true b e = absurd (cc)
-or_false false b e = (refl, e)
-
-pub or_true : (a b : Bool) → b ≡ true → (a || b) ≡ true
-or_true true b h = refl
-or_true false b h = h
-
-pub both_false : (a b : Bool) → a ≡ false → b ≡ false → (a || b) ≡ false
-both_false a b p q = ap (λ c. c || b) p ∙ q
+use Rattle.std.proofs.lemmas.Bool.{or_from, or_parts, or_right}
 
 -- The test, membership and repetition, with their laws.
 pub record Members (A : Type 0) : Type 0 where
@@ -31,12 +21,12 @@ module _ {A : Type 0} (m : Members A) where
   -- A member of a part is a member of the concatenation.
   pub among_front : (x : A) (xs ys : List A) → m.among x xs ≡ true → m.among x (xs ++ ys) ≡ true
   among_front x [] ys h = let e = m.among_none x in absurd (cc)
-  among_front x (y ∷ xs) ys h = search (arith, rules, m.among_more, among_front x xs ys, or_true)
+  among_front x (y ∷ xs) ys h = search (arith, rules, m.among_more, among_front x xs ys, or_right)
 
   pub among_behind : (x : A) (xs ys : List A) → m.among x ys ≡ true → m.among x (xs ++ ys) ≡ true
   among_behind x [] ys h = h
   among_behind x (y ∷ xs) ys h =
-      m.among_more x y (xs ++ ys) ∙ or_true (m.same y x) (m.among x (xs ++ ys)) (among_behind x xs ys h)
+      m.among_more x y (xs ++ ys) ∙ or_right (m.same y x) (m.among x (xs ++ ys)) (among_behind x xs ys h)
 
   pub among_next : (x : A) (xs ys : List A) → m.among x (xs ++ x ∷ ys) ≡ true
   among_next x xs ys = among_behind x xs (x ∷ ys) (m.among_more x x ys ∙ ap (λ b. b || m.among x ys) (m.reflexive x))
@@ -44,7 +34,7 @@ module _ {A : Type 0} (m : Members A) where
   pub among_cases : (x : A) (xs ys : List A) → m.among x (xs ++ ys) ≡ true
       → (m.among x xs ≡ true) ⊎ (m.among x ys ≡ true)
   among_cases x [] ys h = inr h
-  among_cases x (y ∷ xs) ys h = search (arith, rules, m.among_more, among_cases x xs ys, or_true)
+  among_cases x (y ∷ xs) ys h = search (arith, rules, m.among_more, among_cases x xs ys, or_right)
 
   pub only_among : (x y : A) → m.among y (x ∷ []) ≡ true → x ≡ y
   only_among x y a = search (arith, rules, m.among_more, m.among_none, m.equal)
@@ -53,26 +43,26 @@ module _ {A : Type 0} (m : Members A) where
   pub indexed_among : (xs : List A) (i : ℕ) (x : A) → slice_get xs i ≡ Some x → m.among x xs ≡ true
   indexed_among [] i x e = absurd (cc)
   indexed_among (y ∷ xs) zero x e = search (arith, rules, m.among_more, m.reflexive)
-  indexed_among (y ∷ xs) (suc i) x e = m.among_more x y xs ∙ or_true (m.same y x) (m.among x xs)
+  indexed_among (y ∷ xs) (suc i) x e = m.among_more x y xs ∙ or_right (m.same y x) (m.among x xs)
       (indexed_among xs i x e)
 
   not_next : (x y : A) (xs : List A) → m.among x xs ≡ false → m.same y x ≡ false → m.among x (xs ++ y ∷ []) ≡ false
-  not_next x y [] h e = search (arith, rules, m.among_more, m.among_none, both_false)
-  not_next x y (z ∷ xs) h e = search (arith, rules, m.among_more, not_next x y xs, or_false, both_false)
+  not_next x y [] h e = search (arith, rules, m.among_more, m.among_none, or_from)
+  not_next x y (z ∷ xs) h e = search (arith, rules, m.among_more, not_next x y xs, or_parts, or_from)
 
   -- An appended item repeats one exactly if it was a member.
   pub once_more : (x : A) (xs : List A) → m.again xs ≡ false → m.among x xs ≡ false → m.again (xs ++ x ∷ []) ≡ false
   once_more x [] o h = search (arith, rules, m.again_more, m.again_none, m.among_none)
   once_more x (y ∷ xs) o h =
-      let k = or_false (m.among y xs) (m.again xs) (sym (m.again_more y xs) ∙ o) in
-      let n = or_false (m.same y x) (m.among x xs) (sym (m.among_more x y xs) ∙ h) in
-      m.again_more y (xs ++ x ∷ []) ∙ both_false (m.among y (xs ++ x ∷ [])) (m.again (xs ++ x ∷ []))
+      let k = or_parts (m.among y xs) (m.again xs) (sym (m.again_more y xs) ∙ o) in
+      let n = or_parts (m.same y x) (m.among x xs) (sym (m.among_more x y xs) ∙ h) in
+      m.again_more y (xs ++ x ∷ []) ∙ or_from (m.among y (xs ++ x ∷ [])) (m.again (xs ++ x ∷ []))
       (not_next y x xs k.0 (m.symmetric x y ∙ n.0)) (once_more x xs k.1 n.1)
 
   pub comes_again : (x : A) (xs : List A) → m.among x xs ≡ true → m.again (xs ++ x ∷ []) ≡ true
   comes_again x [] h = let e = m.among_none x in absurd (cc)
   comes_again x (y ∷ xs) h =
-      search (arith, rules, m.again_more, m.among_more, comes_again x xs, m.equal, among_next, or_true)
+      search (arith, rules, m.again_more, m.among_more, comes_again x xs, m.equal, among_next, or_right)
 
   -- ---- different members of a list are no more than its items
 
@@ -86,16 +76,16 @@ module _ {A : Type 0} (m : Members A) where
 
   pub still_among : (x z : A) (ys : List A) → m.same x z ≡ false → m.among z ys ≡ true → m.among z (without x ys) ≡ true
   still_among x z [] n a = let e = m.among_none z in absurd (cc)
-  still_among x z (y ∷ ys) n a = search (arith, rules, m.among_more, still_among x z ys n, m.equal, or_true)
+  still_among x z (y ∷ ys) n a = search (arith, rules, m.among_more, still_among x z ys n, m.equal, or_right)
 
   pub no_more : (xs ys : List A) → m.again xs ≡ false → ((x : A) → m.among x xs ≡ true → m.among x ys ≡ true)
       → length xs ≤ length ys
   no_more [] ys once f = omega arith
   no_more (x ∷ xs) ys once f =
-      let k = or_false (m.among x xs) (m.again xs) (sym (m.again_more x xs) ∙ once) in
+      let k = or_parts (m.among x xs) (m.again xs) (sym (m.again_more x xs) ∙ once) in
       let len = one_less x ys (f x (m.among_more x x xs ∙ ap (λ b. b || m.among x xs) (m.reflexive x))) in
       let rest = no_more xs (without x ys) k.1 (λ z a. still_among x z ys (apart z (m.same x z) refl k.0 a)
-      (f z (m.among_more z x xs ∙ or_true (m.same x z) (m.among z xs) a))) in
+      (f z (m.among_more z x xs ∙ or_right (m.same x z) (m.among z xs) a))) in
       omega (arith, len, rest)
     where
       apart : (z : A) (b : Bool) → m.same x z ≡ b → m.among x xs ≡ false → m.among z xs ≡ true → m.same x z ≡ false

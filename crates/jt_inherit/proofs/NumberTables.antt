@@ -1,10 +1,17 @@
--- Tables of numbers: lookup, and the effect of appending an item.
+-- Tables of numbers, and the sets of names and of namespaces over them: lookup, and the effect of an insertion.
 use Rattle.std.proofs.Common.{◌≡◌, ℕ, suc, ◌+◌, Bool, true, false, cond, if◌then◌else◌, List, [], ◌∷◌, ◌++◌, length}
-use Rattle.std.proofs.Common.{refl, sym, ap, ◌∙◌, arith, Some, None, rules}
+use Rattle.std.proofs.Common.{refl, sym, ap, ◌∙◌, arith, Some, None, rules, Option, String, Global, string_bytes}
+use Rattle.std.proofs.Common.{MatchOption, not, length-append}
 use Rattle.std.specs.Result.{is_ok, IsOk}
 use Rattle.std.specs.declared.result.Result.{Result}
 use Rattle.jt_inherit.proofs.Vocabulary.{slice_get, get_by_text, list_any, position_from, bytes_eq, Text, Table}
-use Rattle.jt_inherit.proofs.Vocabulary.{AreNumbers, same}
+use Rattle.jt_inherit.proofs.Vocabulary.{AreNumbers, same, slice_get-map, among, is_text, strings, symmetric}
+use Rattle.jt_inherit.proofs.Vocabulary.{append-nil, Namespace, a_chain, a_library, same_namespace, listed, chains_of}
+use Rattle.jt_inherit.proofs.Vocabulary.{key_view, keys_view, NamespaceKey}
+use Rattle.jt_inherit.specs.internal.Numbers.{is_kind}
+use Rattle.jt_inherit.specs.internal.SetView.{keyed}
+use Rattle.jt_inherit.proofs.NamespaceMembership as namespaces
+use Rattle.jt_inherit.proofs.NamespaceMembership.{chains_both}
 
 -- A push that succeeds appends the item.
 pub pushed : {A T E : Type 0} (r : Result T E) (now xs new : List A) (x : A)
@@ -57,3 +64,77 @@ module _ {A : Type 0} (is : Text → A → Bool) (xs : List A) where
   pub numbers_same : (m : Table) (y : A) → AreNumbers is xs m → ((z : Text) → is z y ≡ false)
       → AreNumbers is (xs ++ y ∷ []) m
   numbers_same m y k none z = k z ∙ sym (first_same (is z) 0 xs y (none z))
+
+any_string : (x : Text) (ks : List (String Global)) → list_any (is_text x) ks ≡ among x (strings ks)
+any_string x [] = refl
+any_string x (k ∷ ks) = search (arith, rules, list_any, is_text, symmetric, string_bytes, bytes_eq, any_string x ks)
+
+pub name_found : (x : Text) (ks : List (String Global)) (m : Table) (r : Option ℕ) → AreNumbers is_text ks m
+    → r ≡ get_by_text m x
+    → MatchOption r (among x (strings ks) ≡ false) (λ i. slice_get (strings ks) i ≡ Some x)
+name_found x ks m a3 k e = search (arith, rules, any_string, first_none, first_found, slice_get-map, string_bytes, same)
+
+pub name_put : (ks : List (String Global)) (k : String Global) (m n : Table) → AreNumbers is_text ks m
+    → among (string_bytes k) (strings ks) ≡ false
+    → ((x : Text) → get_by_text n x ≡ cond (bytes_eq (string_bytes k) x) (Some (length ks)) (get_by_text m x))
+    → AreNumbers is_text (ks ++ k ∷ []) n
+name_put ks k m n told new more =
+    numbers_more is_text ks m n (string_bytes k) k told (λ z. symmetric z (string_bytes k))
+    (any_string (string_bytes k) ks ∙ new) more
+
+pub any_namespace : (h : Namespace) (ks : List NamespaceKey)
+    → list_any (λ k. same_namespace h (key_view k)) ks ≡ listed h (keys_view ks)
+any_namespace h [] = refl
+any_namespace h (k ∷ ks) =
+    search (arith, rules, list_any, same_namespace, key_view, namespaces.symmetric, any_namespace h ks)
+
+pub namespace_found : (h : Namespace) (ks : List NamespaceKey) (r : Option ℕ)
+    → r ≡ position_from (λ k. same_namespace h (key_view k)) 0 ks
+    → MatchOption r (listed h (keys_view ks) ≡ false) (λ i. slice_get (keys_view ks) i ≡ Some h)
+namespace_found h ks a2 e =
+    search (arith, rules, any_namespace, first_none, first_found, slice_get-map, namespaces.same)
+
+-- ---- chains and libraries
+
+pub is_chain : (k : NamespaceKey) → k.is_library ≡ false → key_view k ≡ a_chain (string_bytes k.name)
+is_chain k e = ap (λ (b : Bool). if b then a_library (string_bytes k.name) else a_chain (string_bytes k.name)) e
+
+pub is_library : (k : NamespaceKey) → k.is_library ≡ true → key_view k ≡ a_library (string_bytes k.name)
+is_library k e = ap (λ (b : Bool). if b then a_library (string_bytes k.name) else a_chain (string_bytes k.name)) e
+
+-- ---- the numbers after an insertion
+
+kind_same : (b : Bool) (x y : Text) → same_namespace (keyed b x) (keyed b y) ≡ bytes_eq y x
+kind_same true x y = namespaces.symmetric (a_library x) (a_library y)
+kind_same false x y = namespaces.symmetric (a_chain x) (a_chain y)
+
+kind_apart : (b : Bool) (x y : Text) → same_namespace (keyed b x) (keyed (not b) y) ≡ false
+kind_apart true x y = refl
+kind_apart false x y = refl
+
+pub namespace_put : (b : Bool) (ks : List NamespaceKey) (k : NamespaceKey) (m n : Table) → AreNumbers (is_kind b) ks m
+    → k.is_library ≡ b → listed (key_view k) (keys_view ks) ≡ false
+    → ((x : Text) → get_by_text n x ≡ cond (bytes_eq (string_bytes k.name) x) (Some (length ks)) (get_by_text m x))
+    → AreNumbers (is_kind b) (ks ++ k ∷ []) n
+namespace_put b ks k m n told is new more =
+    let same_key : keyed b (string_bytes k.name) ≡ key_view k = ap (λ d. keyed d (string_bytes k.name)) (sym is) in
+    numbers_more (is_kind b) ks m n (string_bytes k.name) k told
+    (λ z. ap (same_namespace (keyed b z)) (sym same_key) ∙ kind_same b z (string_bytes k.name))
+    (any_namespace (keyed b (string_bytes k.name)) ks ∙ ap (λ h. listed h (keys_view ks)) same_key ∙ new) more
+
+pub namespace_kept : (b : Bool) (ks : List NamespaceKey) (k : NamespaceKey) (m : Table) → AreNumbers (is_kind b) ks m
+    → k.is_library ≡ not b → AreNumbers (is_kind b) (ks ++ k ∷ []) m
+namespace_kept b ks k m told is =
+    numbers_same (is_kind b) ks m k told (λ z.
+    ap (λ d. same_namespace (keyed b z) (keyed d (string_bytes k.name))) is ∙ kind_apart b z (string_bytes k.name))
+
+-- The number of chains after the insertion of a library or a chain.
+pub library_more : (old new : List Namespace) (k : NamespaceKey) → new ≡ old ++ key_view k ∷ [] → k.is_library ≡ true
+    → length (chains_of new) ≡ length (chains_of old)
+library_more old new k e is =
+    search (arith, rules, chains_of, is_library, chains_both, a_library, string_bytes, append-nil)
+
+pub chain_more : (old new : List Namespace) (k : NamespaceKey) → new ≡ old ++ key_view k ∷ [] → k.is_library ≡ false
+    → length (chains_of new) ≡ length (chains_of old) + 1
+chain_more old new k e is =
+    search (arith, rules, chains_of, is_chain, chains_both, a_chain, string_bytes, length-append)

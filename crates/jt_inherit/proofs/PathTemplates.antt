@@ -7,7 +7,7 @@ use Rattle.jt_inherit.specs.Small.{source_len}
 use Rattle.jt_inherit.proofs.Vocabulary.{slice_get, AllByRecursion, list_any, is_none, nat_tests, Options, among}
 use Rattle.jt_inherit.proofs.Vocabulary.{repeated, Text, Sources, Template, extends_of, parent_of, names_up}
 use Rattle.jt_inherit.proofs.Vocabulary.{SourceTexts, IsRead, IsName, templates_weight, templates_len, Leads, IsWithin}
-use Rattle.jt_inherit.proofs.Vocabulary.{same, both_false, or_true}
+use Rattle.jt_inherit.proofs.Vocabulary.{same, or_from, or_right}
 use Rattle.jt_inherit.proofs.PathsGrow.{names}
 
 -- ---- names on the path
@@ -23,7 +23,7 @@ among_up s zero o ts x l h = absurd (cc)
 among_up s (suc k) None ts x l h = absurd (cc)
 among_up s (suc k) (Some n) [] x l h = absurd (cc)
 among_up s (suc k) (Some n) (t ∷ ts) x l h =
-    search (arith, rules, front_up, among_up s k (extends_of t.body) ts x l.2, names, or_true)
+    search (arith, rules, front_up, among_up s k (extends_of t.body) ts x l.2, names, or_right)
 
 pub repeated_up : (s : Sources) (k : ℕ) (o : Option Text) (ts : List Template) → Leads s o ts None
     → repeated (names_up s k o) ≡ true → repeated (names ts) ≡ true
@@ -31,7 +31,7 @@ repeated_up s zero o ts l h = absurd (cc)
 repeated_up s (suc k) None ts l h = absurd (cc)
 repeated_up s (suc k) (Some n) [] l h = absurd (cc)
 repeated_up s (suc k) (Some n) (t ∷ ts) l h =
-    search (arith, rules, front_up, repeated_up s k (extends_of t.body) ts l.2, names, among_up, or_true)
+    search (arith, rules, front_up, repeated_up s k (extends_of t.body) ts l.2, names, among_up, or_right)
 
 pub all_among : (P : Text → Type 0) (ts : List Template) (n : Text) → AllByRecursion (λ t. P t.name) ts
     → among n (names ts) ≡ true → P n
@@ -42,23 +42,12 @@ pub have_sources : (s : Sources) (ts : List Template) → AllByRecursion (λ t. 
     → list_any (λ n. is_none (s n)) (names ts) ≡ false
 have_sources s [] a = refl
 have_sources s (t ∷ ts) a =
-    both_false (is_none (s t.name)) (list_any (λ n. is_none (s n)) (names ts)) (ap is_none a.0) (have_sources s ts a.1)
+    or_from (is_none (s t.name)) (list_any (λ n. is_none (s n)) (names ts)) (ap is_none a.0) (have_sources s ts a.1)
 
 pub all_named : (given : SourceTexts) (options : Options) (ts : List Template)
     → AllByRecursion (IsRead given options) ts → AllByRecursion (λ t. IsName t.name) ts
 all_named given options [] a = tt
 all_named given options (t ∷ ts) a = (a.0.named, all_named given options ts a.1)
-
-pub never : (b : Bool) → b ≡ false → b ≡ true → ⊥
-never true p q = cc
-never false p q = cc
-
-pub and_false : (a b : Bool) → b ≡ false → (a && b) ≡ false
-and_false true b e = e
-and_false false b e = refl
-
-pub and_true : (a b : Bool) → a ≡ true → b ≡ true → (a && b) ≡ true
-and_true a b p q = ap (λ c. c && b) p ∙ q
 
 pub too_few : (n : ℕ) (b : Bool) → n ≤ 64 → ((n == 65) && b) ≡ false
 too_few n b le = search (arith, rules, nat_tests)

@@ -1,7 +1,7 @@
 -- Paths that are extended, and the facts about them that stay true.
 use Rattle.std.proofs.Common.{◌≡◌, ℕ, zero, suc, ◌+◌, ◌-◌, ◌<◌, ◌≤◌, ◌==◌, Bool, true, false, not, ◌&&◌, List, [], ◌∷◌}
-use Rattle.std.proofs.Common.{◌++◌, length, map, drop, get_or, refl, sym, ap, subst, ◌∙◌, arith, inl, inr, ◌⊎◌}
-use Rattle.std.proofs.Common.{⊎_elim, Option, Some, None, length-append, string_bytes, rules}
+use Rattle.std.proofs.Common.{◌++◌, length, map, drop, get_or, refl, sym, ap, subst, ◌∙◌, arith, inl, inr, ◌⊎◌, ⊎_elim}
+use Rattle.std.proofs.Common.{Option, Some, None, length-append, string_bytes, rules}
 use Rattle.jt_inherit.specs.internal.Faults.{HasFaulty}
 use Rattle.jt_inherit.specs.internal.ExtendsPaths.{LeadsFrom, AddsName}
 use Rattle.jt_inherit.specs.declared.error.ChainError.TheVariants as error
@@ -13,7 +13,7 @@ use Rattle.jt_inherit.proofs.Vocabulary.{templates, libraries, extends_of, paren
 use Rattle.jt_inherit.proofs.Vocabulary.{IsRead, IsOnly, IsFaultOf, needs_in, file_view, files_view, TemplateFile}
 use Rattle.jt_inherit.proofs.Vocabulary.{Breaks, HasFault, Shows, names_view, Names, Reaches, asked, extends_path}
 use Rattle.jt_inherit.proofs.Vocabulary.{Leads, AreKnown, IsExtendsPath, IsWithin, Grow, ChainError, only_one, map_at}
-use Rattle.jt_inherit.proofs.Vocabulary.{IsNamedOn, map_more, of_texts, same, among_front, among_next, once_more}
+use Rattle.jt_inherit.proofs.Vocabulary.{IsNamedOn, of_texts, same, among_front, among_next, once_more, map_push}
 use Rattle.jt_inherit.proofs.NameMembership.{all_more}
 use Rattle.jt_inherit.proofs.Membership.{comes_again}
 
@@ -165,15 +165,11 @@ pub known_more : (given : SourceTexts) (options : Options) (ts : List Template) 
     → AreKnown given options ts ks → among t.name ks ≡ false → IsRead given options t → IsOnly given options t
     → IsWithin given t
     → AreKnown given options (ts ++ t ∷ []) (ks ++ t.name ∷ [])
-known_more given options ts ks t k new r only i = search (arith, rules, all_more, map_more, once_more of_texts)
+known_more given options ts ks t k new r only i = search (arith, rules, all_more, map_push, once_more of_texts)
 
 pub last_at : {X : Type 0} (xs : List X) (x : X) → slice_get (xs ++ x ∷ []) (length xs) ≡ Some x
 last_at [] x = refl
 last_at (y ∷ xs) x = last_at xs x
-
-pub length_names : (ts : List Template) → length (names ts) ≡ length ts
-length_names [] = refl
-length_names (t ∷ ts) = ap suc (length_names ts)
 
 -- ---- paths
 
@@ -199,7 +195,7 @@ way_next ts h is i t n w at is_named new once lt =
       slice_get_within,
       leads_more,
       only_one,
-      map_more,
+      map_push,
       once_more of_texts,
       length-append,
     )
@@ -275,13 +271,13 @@ module _ {given : SourceTexts} {options : Options} {root : Text} {ts : List Temp
 
 pub files_more : (ps qs : List TemplateFile) (p : TemplateFile) → qs ≡ ps ++ p ∷ []
     → files_view qs ≡ files_view ps ++ file_view p ∷ []
-files_more ps qs p e = ap files_view e ∙ map_more file_view ps p
+files_more ps qs p e = ap files_view e ∙ map_push file_view ps p
 
 -- The name of the last template file is at its index.
 pub file_last : (ps qs : List TemplateFile) (p : TemplateFile) (n : Text) (k : ℕ) → qs ≡ ps ++ p ∷ []
     → string_bytes p.name ≡ n → k ≡ length ps → slice_get (names (files_view qs)) k ≡ Some n
 file_last ps qs p n k e is at =
-    search (arith, rules, length_names, length-map, files_more, map_more, string_bytes, last_at)
+    search (arith, rules, length-map, files_more, map_push, string_bytes, last_at)
 
 -- ---- one step of a path
 
@@ -302,7 +298,7 @@ module _ (ps qs : List TemplateFile) (more : Grow ps qs) (is : List ℕ) {js : L
   us = files_view qs
 
   held : slice_get us i ≡ Some (file_view p)
-  held = search (arith, rules, map_at, file_view, slice_get_within, length_names, length-map)
+  held = search (arith, rules, map_at, file_view, slice_get_within, length-map)
 
   named : string_bytes p.name ≡ m
   named = search (arith, rules, string_bytes, name_of_slice, file_view, held)
@@ -321,6 +317,9 @@ module _ (ps qs : List TemplateFile) (more : Grow ps qs) (is : List ℕ) {js : L
       subst (λ z. IsExtendsPath us (a_chain h) z o) (sym longer)
       (subst (IsExtendsPath us (a_chain h) (is ++ i ∷ [])) (sym ext) next)
 
+  pub path_turn : templates_at us js ≡ templates_at us is ++ file_view p ∷ []
+  path_turn = ap (λ l. templates_at us l) longer ∙ templates_more us is i (file_view p) held
+
   -- Each new name was on the path before or is that of the appended template.
   way_from : AreIndices ts is → (k0 k1 k2 : List Text)
       → ((x : Text) → among x k1 ≡ true → (among x k0 ≡ true) ⊎ (among x (names (templates_at ts is)) ≡ true))
@@ -328,8 +327,8 @@ module _ (ps qs : List TemplateFile) (more : Grow ps qs) (is : List ℕ) {js : L
       → (x : Text) → among x k2 ≡ true → (among x k0 ≡ true) ⊎ (among x (names (templates_at us js)) ≡ true)
   way_from indices k0 k1 k2 before last x a =
       let theirs : names (templates_at us js) ≡ names (templates_at ts is) ++ string_bytes p.name ∷ [] =
-      ap (λ l. names (templates_at us l)) longer ∙ ap names (templates_more us is i (file_view p) held)
-      ∙ map_more (λ (u : Template). u.name) (templates_at us is) (file_view p)
+      ap names path_turn
+      ∙ map_push (λ (u : Template). u.name) (templates_at us is) (file_view p)
       ∙ ap (λ l. names l ++ string_bytes p.name ∷ [])
       (ap (λ l. templates_at l is) more.1 ∙ templates_grow ts more.0 is indices) in
       ⊎_elim

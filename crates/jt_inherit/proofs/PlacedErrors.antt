@@ -1,40 +1,32 @@
 -- What the place of an error at the name of a template shows in each chain that reaches the tag.
-use Rattle.std.proofs.Common.{rules}
-use Rattle.std.proofs.Common.{◌≡◌, ℕ, suc, ◌+◌, ◌-◌, ◌<◌, ◌≤◌, Bool, true, false, List, [], ◌∷◌, ◌++◌}
-use Rattle.std.proofs.Common.{length}
-use Rattle.std.proofs.Common.{String, Global, drop, get_or, map, zero, refl, sym, ap, subst, ◌∙◌, arith, inl}
-use Rattle.std.proofs.Common.{◌⊎◌, ⊎_elim, Option, Some, None, string_bytes}
-use Rattle.jt_chains.proofs.TemplatesByIndex.{number_at}
-use Rattle.jt_inherit.specs.Findings.{IsBrokenAt}
-use Rattle.jt_inherit.specs.Findings.{last_of}
+use Rattle.std.proofs.Common.{rules, ◌≡◌, ℕ, suc, ◌+◌, ◌-◌, ◌<◌, ◌≤◌, Bool, true, false, List, [], ◌∷◌, ◌++◌, length}
+use Rattle.std.proofs.Common.{String, Global, drop, get_or, map, zero, refl, sym, ap, subst, ◌∙◌, arith, inl, ◌⊎◌}
+use Rattle.std.proofs.Common.{Option, Some, None, string_bytes}
+use Rattle.jt_inherit.specs.Findings.{IsBrokenAt, last_of}
 use Rattle.jt_inherit.specs.internal.ExtendsPaths.{SaysAll}
-use Rattle.jt_inherit.specs.internal.Placing.{IsNameless, IsOfName, IsOfNeed}
-use Rattle.jt_inherit.specs.internal.Placing.{IsOneMore, IsRound, NamedAt}
-use Rattle.jt_inherit.specs.internal.Along.{needs_of}
-use Rattle.jt_inherit.specs.internal.Found.{IsFaultAt}
+use Rattle.jt_inherit.specs.internal.Placing.{IsAsked, IsFirst, IsNameless, IsOfName, IsOfNeed, IsParentAt, IsOneMore}
+use Rattle.jt_inherit.specs.internal.Placing.{IsRingOf, NamedAt}
+use Rattle.jt_inherit.specs.internal.Found.{needs_of, IsFaultAt}
 use Rattle.jt_inherit.specs.declared.error.ChainError.TheVariants as error
 use Rattle.jt_inherit.specs.declared.finding.ChainSubject.TheVariants as v
 use Rattle.jt_inherit.proofs.Vocabulary.{flat_map, slice_get, option_map, is_some, option_to_list, append_assoc}
-use Rattle.jt_inherit.proofs.Vocabulary.{append-nil, length-map, map-append, slice_get-get_or, Options, among, repeated}
-use Rattle.jt_inherit.proofs.Vocabulary.{Text, end, Use, Site, body_uses, outside, AreIndices, templates_at, Sources}
-use Rattle.jt_inherit.proofs.Vocabulary.{Namespace, namespace_name, a_chain, a_library, listed, Template, template}
-use Rattle.jt_inherit.proofs.Vocabulary.{templates, extends_of, names_up, sources_in, included}
-use Rattle.jt_inherit.proofs.Vocabulary.{IsName, Reaches, here, through, extends_path, files_view}
-use Rattle.jt_inherit.proofs.Vocabulary.{TemplateFile, SourceTexts, ForSome, IsAt, HasTag, all_uses, uses_in, asks}
-use Rattle.jt_inherit.proofs.Vocabulary.{is_extends, Says, may_be_bare, AreKnown, BreaksAll, Grow, IsExtendsPath, Leads}
-use Rattle.jt_inherit.proofs.Vocabulary.{IsFaultOf, IsCycle, IsLong, IsNamedOn, need_test, parent_at, uses_at, uses_of}
-use Rattle.jt_inherit.proofs.Vocabulary.{need_view, needs_view, NeededTemplate, IsUnmet, tags, place_in}
-use Rattle.jt_inherit.proofs.Vocabulary.{place_view, ChainError, ChainSubject, TagPlace, among_next, once_more}
-use Rattle.jt_inherit.proofs.Vocabulary.{of_texts, key_view, ChainFinding, NamespaceKey}
+use Rattle.jt_inherit.proofs.Vocabulary.{append-nil, length-map, map-append, Options, among, repeated, Text, Use, Site}
+use Rattle.jt_inherit.proofs.Vocabulary.{templates_at, Sources, Namespace, namespace_name, a_chain, a_library, listed}
+use Rattle.jt_inherit.proofs.Vocabulary.{Template, template, templates, extends_of, names_up, sources_in, included}
+use Rattle.jt_inherit.proofs.Vocabulary.{IsName, Reaches, here, through, extends_path, files_view, TemplateFile}
+use Rattle.jt_inherit.proofs.Vocabulary.{SourceTexts, ForSome, IsAt, HasTag, all_uses, asks, is_extends, Says}
+use Rattle.jt_inherit.proofs.Vocabulary.{may_be_bare, AreKnown, BreaksAll, Grow, IsExtendsPath, Leads, IsFaultOf}
+use Rattle.jt_inherit.proofs.Vocabulary.{IsNamedOn, need_test, need_view, needs_view, NeededTemplate, IsUnmet, tags}
+use Rattle.jt_inherit.proofs.Vocabulary.{place_in, place_view, ChainError, ChainSubject, TagPlace, among_next}
+use Rattle.jt_inherit.proofs.Vocabulary.{once_more, of_texts, key_view, ChainFinding, NamespaceKey, both_ways}
+use Rattle.jt_inherit.proofs.Vocabulary.{flat_map-append}
 use Rattle.jt_inherit.proofs.DiscoveryInvariant.{some_source, none_read}
-use Rattle.jt_inherit.proofs.PathTemplates.{all_among, all_named, never}
+use Rattle.jt_inherit.proofs.PathTemplates.{all_among, all_named}
 use Rattle.jt_inherit.proofs.PathsGrow.{shows, names, names_lead, templates_lead, few_templates, all_templates, last_at}
 use Rattle.jt_inherit.proofs.FollowStep.{asked_at}
-use Rattle.jt_inherit.proofs.NamespaceSets.{is_chain}
-use Rattle.jt_inherit.proofs.SourcesGrow.{among_passes, chains_listed, chain_breaks, libraries_listed, flat-append}
-use Rattle.jt_inherit.proofs.SourcesGrow.{reach_more}
+use Rattle.jt_inherit.proofs.NumberTables.{is_chain}
+use Rattle.jt_inherit.proofs.SourcesGrow.{among_passes, chains_listed, chain_breaks, libraries_listed, reach_more}
 use Rattle.jt_inherit.proofs.TagPlaces.{HasUse, placed, tag_front, tag_last, tag_weaker, extends_asks}
-use Rattle.jt_inherit.proofs.UsesFound.{extends_used}
 
 -- ---- a chain or library that is reached has a template, or is the entry's
 
@@ -58,68 +50,9 @@ chain_front s n us o le l =
     let k = 64 - length us in (
       flat_map (λ m. template m (s m)) (names_up s k o),
       ap (flat_map (λ m. template m (s m))) (names_lead s 64 k (Some n) us o (omega arith) l)
-          ∙ flat-append (λ m. template m (s m)) (names us) (names_up s k o)
+          ∙ flat_map-append (λ m. template m (s m)) (names us) (names_up s k o)
           ∙ ap (λ z. z ++ flat_map (λ m. template m (s m)) (names_up s k o)) (templates_lead s (Some n) us o l),
     )
-
--- The last index of a path is that of a template.
-pub index_at_end : (ts : List Template) (is : List ℕ) (i : ℕ) → AreIndices ts is → Some i ≡ slice_get is (length is - 1)
-    → i < length ts
-index_at_end ts [] i a e = absurd (cc)
-index_at_end ts (j ∷ is) i a e =
-    let lt : length (j ∷ is) - 1 < length (j ∷ is) = omega arith in
-    let h = slice_get-get_or (j ∷ is) (length (j ∷ is) - 1) 0 lt in
-    let last : i ≡ get_or (j ∷ is) (length (j ∷ is) - 1) 0 = cc in
-    omega (arith, last, number_at (λ k. k < length ts) (j ∷ is) (length (j ∷ is) - 1) lt a)
-
-last_none : (is : List ℕ) → slice_get is (length is - 1) ≡ None → is ≡ []
-last_none [] e = refl
-last_none (j ∷ is) e =
-    let lt : length (j ∷ is) - 1 < length (j ∷ is) = omega arith in
-    let h = slice_get-get_or (j ∷ is) (length (j ∷ is) - 1) 0 lt in
-    absurd (cc)
-
-last_template : (ts : List Template) (is : List ℕ) (i : ℕ) (t : Template) → slice_get is (length is - 1) ≡ Some i
-    → slice_get ts i ≡ Some t → (us : List Template) × (templates_at ts is ≡ us ++ t ∷ [])
-last_template ts [] i t e at = absurd (cc)
-last_template ts (j ∷ []) i t e at = search (arith, rules)
-last_template ts (j ∷ (k ∷ is)) i t e at =
-    let a : length (j ∷ (k ∷ is)) - 1 ≡ suc (length is) = omega arith in
-    let b : length is ≡ length (k ∷ is) - 1 = omega arith in
-    let d : slice_get (k ∷ is) (length is) ≡ Some i = subst (λ m. slice_get (j ∷ (k ∷ is)) m ≡ Some i) a e in
-    let more = last_template ts (k ∷ is) i t (subst (λ m. slice_get (k ∷ is) m ≡ Some i) b d) at in (
-      option_to_list (slice_get ts j) ++ more.0,
-      ap (λ l. option_to_list (slice_get ts j) ++ l) more.1
-          ∙ sym (append_assoc (option_to_list (slice_get ts j)) more.0 (t ∷ [])),
-    )
-
--- A fact about the uses of the last template of a path, or about none if the path is empty.
-at_the_end : (Q : List (Text × Site) → Type 0) (ts : List Template) (is : List ℕ) → AreIndices ts is
-    → (is ≡ [] → Q [])
-    → ((us : List Template) (t : Template) → templates_at ts is ≡ us ++ t ∷ [] → Q (uses_in t))
-    → Q (uses_at ts (slice_get is (length is - 1)))
-at_the_end Q ts is a f g = by (slice_get is (length is - 1)) refl
-  where
-    by : (o : Option ℕ) → slice_get is (length is - 1) ≡ o → Q (uses_at ts o)
-    by None e = f (last_none is e)
-    by (Some i) e = there (slice_get ts i) refl
-      where
-        there : (o : Option Template) → slice_get ts i ≡ o → Q (uses_of o)
-        there None h =
-            let some = slice_get-get_or ts i (let t : Template = record { name = []; body = end } in t)
-            (index_at_end ts is i a (sym e)) in
-            absurd (cc)
-        there (Some t) h =
-            let last = last_template ts is i t e h in
-            g last.0 t last.1
-
--- The last template of a path extends the name after the path.
-last_extends : (s : Sources) (o : Option Text) (us : List Template) (t : Template) (p : Option Text)
-    → Leads s o (us ++ t ∷ []) p → extends_of t.body ≡ p
-last_extends s None [] t p l = absurd l
-last_extends s (Some n) [] t p l = l.2
-last_extends s None (u ∷ us) t p l = absurd l
-last_extends s (Some n) (u ∷ us) t p l = last_extends s (extends_of u.body) us t p l.2
 
 -- ---- a path that comes back to one of its names
 
@@ -178,12 +111,6 @@ there_on ts is k n on =
     ∙ ap (among n) (map-append (λ (t : Template). t.name) cut.0 (cut.1 ∷ vs))
     ∙ ap (λ z. among n (names cut.0 ++ z ∷ names vs)) cut.2 ∙ among_next of_texts n (names cut.0) (names vs)
 
--- A tag of a template has its name.
-tag_name : (test : Use → Bool) (p : TagPlace) (n : Text) (ss : List Site)
-    → ForSome (IsAt test p) (map (λ s. (n, s)) ss) → string_bytes p.template ≡ n
-tag_name test p n [] h = absurd h
-tag_name test p n (s ∷ ss) h = ⊎_elim (λ q. q.0) (λ q. tag_name test p n ss q) h
-
 extends_need : (n : Text) (e : ChainError) (u : Use) → is_extends n u ≡ true → need_test n e u ≡ true
 extends_need n error.Missing u h = extends_asks false n u h
 extends_need n e u h = extends_asks true n u h
@@ -199,7 +126,7 @@ module _ {given : SourceTexts} {options : Options} {root : Text} {ts : List Temp
   shown e p x b = shows known (h, r, b)
 
   unread_root : (n : Text) → namespace_name h ≡ n → is_some (sources_in ts n) ≡ false → n ≡ root
-  unread_root n e none = search (arith, rules, never, reached_source)
+  unread_root n e none = search (arith, rules, both_ways, reached_source)
 
   missing_unread : (n : Text) → given n ≡ None → is_some (sources_in ts n) ≡ false
   missing_unread n f = some_source ts n ∙ none_read given options ts n known.read.each f
@@ -230,20 +157,6 @@ module _ {given : SourceTexts} {options : Options} {root : Text} {ts : List Temp
       let k = placed test xs h p is in
       subst (λ z. Says given root options z (Some x) e) (sym k.1) (f k.0 k.2)
 
-  -- A name without a place is the entry's own.
-  pub head_said : (n : Text) → namespace_name h ≡ n → (e : ChainError) → IsFaultOf e given n options
-      → (p : Option TagPlace) (x : Option ChainSubject) → NamedAt None n e x p → Says given root options p x e
-  head_said n is e f None None q = fault_bare n e f q
-  head_said n is error.Missing f None (Some (v.Template m)) q =
-      let root_is = unread_root n is (missing_unread n f) in
-      (q.1 ∙ root_is, ap given (sym root_is) ∙ f)
-  head_said n is error.BadName f None (Some (v.Template m)) q =
-      let root_is = unread_root n is (bad_unread n f) in
-      (q.1 ∙ root_is, λ k. f (subst IsName (sym root_is) k))
-  head_said n is e f None (Some (v.Template m)) q = absurd q.2
-  head_said n is e f (Some p) (Some (v.Template m)) q = search (arith, rules)
-  head_said n is e f p x q = absurd q
-
   asked_said : (n : Text) (e : ChainError) → IsFaultOf e given n options → (p : TagPlace) (m : String Global)
       → string_bytes m ≡ n → HasTag (need_test n e) (templates (sources_in ts) h) p → IsOfName e
       → Says given root options (Some p) (Some (v.Template m)) e
@@ -255,30 +168,35 @@ module _ {given : SourceTexts} {options : Options} {root : Text} {ts : List Temp
       (subst (λ z. HasTag (asks true z) (templates (sources_in ts) h) p × (IsName z → ⊥)) (sym is) (t, f))
   asked_said n e f p m is t o = absurd o
 
-  -- A tag of the chain or library asks for the name.
-  name_said : (test : Use → Bool) (xs : List (Text × Site)) → HasUse test xs → (n : Text) (e : ChainError)
-      → IsFaultOf e given n options
-      → ((q : TagPlace) → ForSome (IsAt test q) xs → HasTag (need_test n e) (templates (sources_in ts) h) q)
-      → (p : Option TagPlace) (x : Option ChainSubject) → NamedAt (place_in 0 (tags test xs)) n e x p
-      → Says given root options p x e
-  name_said test xs used n e f g None None q = fault_bare n e f q
-  name_said test xs used n e f g p (Some (v.Template m)) q =
-      said_at e (v.Template m) test xs used p q.0 (λ z t. asked_said n e f z m q.1 (g z t) q.2)
-  name_said test xs used n e f g p x q = absurd q
+  -- A tag of the chain or library asks for the name at the place. A name without a place is the entry's
+  -- own.
+  abbrev AskedFor : Text → ChainError → Option TagPlace → Type 0
+  AskedFor n e None = namespace_name h ≡ n
+  AskedFor n e (Some p) = HasTag (need_test n e) (templates (sources_in ts) h) p
+
+  pub named_said : (n : Text) (e : ChainError) → IsFaultOf e given n options → (o : Option TagPlace) → AskedFor n e o
+      → (p : Option TagPlace) (x : Option ChainSubject) → NamedAt o n e x p → Says given root options p x e
+  named_said n e f o a None None q = fault_bare n e f q
+  named_said n error.Missing f None a None (Some (v.Template m)) q =
+      let root_is = unread_root n a (missing_unread n f) in
+      (q.1 ∙ root_is, ap given (sym root_is) ∙ f)
+  named_said n error.BadName f None a None (Some (v.Template m)) q =
+      let root_is = unread_root n a (bad_unread n f) in
+      (q.1 ∙ root_is, λ k. f (subst IsName (sym root_is) k))
+  named_said n e f None a None (Some (v.Template m)) q = absurd q.2
+  named_said n e f None a (Some p) (Some (v.Template m)) q = search (arith, rules)
+  named_said n e f (Some z) a p (Some (v.Template m)) q =
+      subst (λ y. Says given root options y (Some (v.Template m)) e) (sym q.0) (asked_said n e f z m q.1 a q.2)
+  named_said n e f o a p x q = absurd q
 
   pub need_said : {us : List Template} → templates (sources_in ts) h ≡ us → (n : Text) (e : ChainError)
       → IsFaultOf e given n options
-      → HasUse (need_test n e) (all_uses us) → (p : Option TagPlace) (x : Option ChainSubject)
-      → NamedAt (place_in 0 (tags (need_test n e) (all_uses us))) n e x p → Says given root options p x e
-  need_said {us} whole n e f used p x q = search (arith, rules, name_said, need_test, all_uses)
-
-  -- The last template on the path extends the name.
-  parent_tag : (us rest : List Template) (t : Template) → templates (sources_in ts) h ≡ (us ++ t ∷ []) ++ rest
-      → (n : Text) (p : TagPlace) → ForSome (IsAt (is_extends n) p) (uses_in t)
-      → HasTag (is_extends n) (templates (sources_in ts) h) p
-  parent_tag us rest t front n p q =
-      subst (λ l. HasTag (is_extends n) l p) (sym front)
-      (tag_front (is_extends n) p (us ++ t ∷ []) rest (tag_last (is_extends n) p us t q))
+      → HasUse (need_test n e) (all_uses us) → (o : Option TagPlace) → IsFirst (need_test n e) us o
+      → (p : Option TagPlace) (x : Option ChainSubject) → NamedAt o n e x p → Says given root options p x e
+  need_said {us} whole n e f used o first p x q =
+      let k = placed (need_test n e) (all_uses us) used o first in
+      named_said n e f o (subst (AskedFor n e) (sym k.1) (subst (λ l. HasTag (need_test n e) l k.0) (sym whole) k.2))
+      p x q
 
 -- ---- an error at the end of a path
 
@@ -286,57 +204,50 @@ module _ {given : SourceTexts} {options : Options} {root : Text} {ts : List Temp
     (known : AreKnown given options ts ks) {h : Text}
     (r : Reaches (sources_in ts) options.autoescape (a_chain root) (a_chain h)) {is : List ℕ} {n : Text}
     (w : IsExtendsPath ts (a_chain h) is (Some n)) where
-  few : length (templates_at ts is) ≤ 64
-  few = omega (arith, few_templates ts is, w.few)
-
-  front : (us : List Template) (t : Template) → templates_at ts is ≡ us ++ t ∷ []
-      → (rest : List Template) × (templates (sources_in ts) (a_chain h) ≡ (us ++ t ∷ []) ++ rest)
-  front us t e = search (arith, rules, chain_front, sources_in, templates_at, few)
+  -- A tag on the path is one of the chain.
+  tagged : (q : TagPlace) → HasTag (is_extends n) (templates_at ts is) q
+      → HasTag (is_extends n) (templates (sources_in ts) (a_chain h)) q
+  tagged q t =
+      let on = chain_front (sources_in ts) h (templates_at ts is) (Some n)
+      (omega (arith, few_templates ts is, w.few)) w.leads in
+      subst (λ l. HasTag (is_extends n) l q) (sym on.1) (tag_front (is_extends n) q (templates_at ts is) on.0 t)
 
   -- The name of a chain whose path is empty.
-  own_name : is ≡ [] → h ≡ n
-  own_name e = search (arith, rules, sources_in, templates_at)
+  own_name : templates_at ts is ≡ [] → h ≡ n
+  own_name e =
+      let l = subst (λ us. Leads (sources_in ts) (Some h) us (Some n)) e w.leads in
+      cc
+
+  pub fault_placed : (e : ChainError) → IsFaultOf e given n options → (o : Option TagPlace)
+      → IsAsked (templates_at ts is) n o → (p : Option TagPlace) (x : Option ChainSubject) → NamedAt o n e x p
+      → Says given root options p x e
+  fault_placed e f None a p x q = named_said known r n e f None (own_name a) p x q
+  fault_placed e f (Some z) a p x q =
+      named_said known r n e f (Some z)
+      (tag_weaker (is_extends n) (need_test n e) (extends_need n e) z (templates (sources_in ts) (a_chain h))
+      (tagged z a.4)) p x q
 
   -- What the tag of the last template shows, if the path is not empty.
-  parent_said : (e : ChainError) (x : ChainSubject) → (is ≡ [] → ⊥)
+  parent_said : (e : ChainError) (x : ChainSubject) → (templates_at ts is ≡ [] → ⊥)
       → ((us : List Template) (t : Template) → templates_at ts is ≡ us ++ t ∷ [] → (q : TagPlace)
       → HasTag (is_extends n) (templates (sources_in ts) (a_chain h)) q → string_bytes q.template ≡ t.name
       → Says given root options (Some q) (Some x) e)
-      → (p : Option TagPlace) → option_map place_view p ≡ parent_at ts is n → Says given root options p (Some x) e
-  parent_said e x some f p =
-      at_the_end
-      (λ l. option_map place_view p ≡ place_in 0 (tags (is_extends n) l) → Says given root options p (Some x) e)
-      ts is w.indices (λ none q. absurd (some none))
-      (λ us t last q.
-      let on = front us t last in
-      let used = extends_used n t (last_extends (sources_in ts) (Some h) us t (Some n)
-      (subst (λ vs. Leads (sources_in ts) (Some h) vs (Some n)) last w.leads)) in
-      said_at known r e x (is_extends n) (uses_in t) used p q
-      (λ z tag. f us t last z (parent_tag known r us on.0 t on.1 n z tag)
-      (tag_name (is_extends n) z t.name (body_uses t.body outside) tag)))
+      → (o : Option TagPlace) → IsAsked (templates_at ts is) n o → (p : Option TagPlace) → p ≡ o
+      → Says given root options p (Some x) e
+  parent_said e x some f None a p is_o = absurd (some a)
+  parent_said e x some f (Some z) a p is_o =
+      subst (λ y. Says given root options y (Some x) e) (sym is_o) (f a.0 a.1 a.2 z (tagged z a.4) a.3)
 
-  pub fault_placed : (e : ChainError) → IsFaultOf e given n options → (p : Option TagPlace) (x : Option ChainSubject)
-      → NamedAt (parent_at ts is n) n e x p → Says given root options p x e
-  fault_placed e f p x =
-      at_the_end (λ l. NamedAt (place_in 0 (tags (is_extends n) l)) n e x p → Says given root options p x e)
-      ts is w.indices (λ none q. head_said known r n (own_name none) e f p x q)
-      (λ us t last q.
-      let on = front us t last in
-      let used = extends_used n t (last_extends (sources_in ts) (Some h) us t (Some n)
-      (subst (λ vs. Leads (sources_in ts) (Some h) vs (Some n)) last w.leads)) in
-      name_said known r (is_extends n) (uses_in t) used n e f
-      (λ z tag. tag_weaker (is_extends n) (need_test n e) (extends_need n e) z (templates (sources_in ts) (a_chain h))
-      (parent_tag known r us on.0 t on.1 n z tag)) p x q)
-
-  pub cycle_placed : {k : ℕ} → IsNamedOn ts is n k → (f : ChainFinding) → IsCycle ts is k n f
+  pub cycle_placed : {k : ℕ} → IsNamedOn ts is n k → (o : Option TagPlace) → IsAsked (templates_at ts is) n o
+      → (f : ChainFinding) → f.place ≡ o → IsRingOf n (names (templates_at ts (drop (k + 1) is))) f.subject
       → Says given root options f.place f.subject error.ExtendsCycle
-  cycle_placed {k} on f told = by f.subject told.subject
+  cycle_placed {k} on o a f at told = by f.subject told
     where
       s : Sources
       s = sources_in ts
 
-      some : is ≡ [] → ⊥
-      some e = let lt : k < length is = on.0 in absurd (omega (arith, ap length e))
+      some : templates_at ts is ≡ [] → ⊥
+      some e = let no = sym (ap (λ us. among n (names us)) e) ∙ there_on ts is k n on in cc
 
       -- The names of the ring are those of the path from the name on.
       ring : (names_up s (length (templates_at ts (drop (k + 1) is)) + 1) (Some n)
@@ -356,7 +267,8 @@ module _ {given : SourceTexts} {options : Options} {root : Text} {ts : List Temp
                 ∙ last_after n cut.0 cut.1 vs ∙ ap (λ z. last_of z (names vs)) cut.2,
           )
 
-      by : (x : Option ChainSubject) → IsRound ts is k n x → Says given root options f.place x error.ExtendsCycle
+      by : (x : Option ChainSubject) → IsRingOf n (names (templates_at ts (drop (k + 1) is))) x
+          → Says given root options f.place x error.ExtendsCycle
       by (Some (v.Ring m rest)) q =
           let vs = templates_at ts (drop (k + 1) is) in
           let len : length rest.items ≡ length vs =
@@ -371,13 +283,13 @@ module _ {given : SourceTexts} {options : Options} {root : Text} {ts : List Temp
             tag,
             ap (λ j. names_up s (j + 1) (Some n)) len ∙ ring.0 ∙ ap (λ l. n ∷ l) (sym q.1),
             named ∙ ring.1 us t last ∙ ap (last_of n) (sym q.1),
-          ))) f.place told.place
+          ))) o a f.place at
       by x q = absurd q
 
-  pub long_placed : length is ≡ 64 → among n (names (templates_at ts is)) ≡ false → (f : ChainFinding)
-      → IsLong ts is n f
+  pub long_placed : length is ≡ 64 → among n (names (templates_at ts is)) ≡ false → (o : Option TagPlace)
+      → IsAsked (templates_at ts is) n o → (f : ChainFinding) → f.place ≡ o → IsOneMore n f.subject
       → Says given root options f.place f.subject error.ChainTooLong
-  long_placed full new f told = by f.subject told.subject
+  long_placed full new o a f at told = by f.subject told
     where
       by : (x : Option ChainSubject) → IsOneMore n x → Says given root options f.place x error.ChainTooLong
       by (Some (v.Templates m)) q =
@@ -387,7 +299,7 @@ module _ {given : SourceTexts} {options : Options} {root : Text} {ts : List Temp
           let up : extends_path s options.autoescape (a_chain h) ≡ names us ++ n ∷ [] =
           names_lead s 65 1 (Some h) us (Some n) (omega (arith, len)) w.leads in
           let count : length (names us) ≡ 64 = length-map us (λ (u : Template). u.name) ∙ len in
-          parent_said error.ChainTooLong (v.Templates m) (λ e. absurd (omega (arith, full, ap length e)))
+          parent_said error.ChainTooLong (v.Templates m) (λ e. absurd (omega (arith, len, ap length e)))
           (λ front_templates t last z tag named.
           shown known r error.ChainTooLong z (v.Templates m)
           (subst (λ x. HasTag (is_extends x) (templates s (a_chain h)) z
@@ -397,7 +309,7 @@ module _ {given : SourceTexts} {options : Options} {root : Text} {ts : List Temp
             ap (λ l. slice_get l 64) up
                 ∙ subst (λ j. slice_get (names us ++ n ∷ []) j ≡ Some n) count (last_at (names us) n),
             ap repeated up ∙ once_more of_texts n (names us) w.once new,
-          ))) f.place told.place
+          ))) o a f.place at
       by x q = absurd q
 
 -- The finding of an error of a chain, for each chain that reaches it, before more was read.
@@ -409,6 +321,17 @@ pub refused_all : (given : SourceTexts) (options : Options) (ps qs : List Templa
     → Says given root options f.place f.subject e)
     → BreaksAll given options ps (key_view k) f.error × SaysAll given options ps (key_view k) f
 refused_all given options ps qs more k is e f told b s = search (arith, rules, chain_breaks, reach_more, is_chain)
+
+pub extends_told : (t : Template) (n : Text) (o : Option TagPlace) → IsParentAt t n o → extends_of t.body ≡ Some n
+extends_told t n None a = absurd a
+extends_told t n (Some p) a = a.0
+
+-- A path with one template more, which extends the next name.
+pub asked_turn : (vs ws : List Template) (t : Template) (n : Text) (o : Option TagPlace) → vs ≡ ws ++ t ∷ []
+    → IsParentAt t n o → IsAsked vs n o
+asked_turn vs ws t n None e a = absurd a
+asked_turn vs ws t n (Some p) e a =
+    (ws, t, e, a.1, subst (λ l. HasTag (is_extends n) l p) (sym e) (tag_last (is_extends n) p ws t a.2))
 
 -- A fact about the templates of a path and a name, by equal templates, path and name.
 pub same_path : (P : List TemplateFile → List ℕ → Text → Type 0) {ps qs : List TemplateFile} {is js : List ℕ}

@@ -4,8 +4,8 @@ use Rattle.jt_chains.specs.Rules as rules
 use Rattle.jt_inherit.specs.Refusals.{IsMissing}
 use Rattle.jt_inherit.specs.Laws.{IsReading, IsLasting, RefusalLaws}
 use Rattle.jt_inherit.proofs.Vocabulary.{AllByRecursion, is_none, Options, Text, Body, repeated, Sources, Namespace}
-use Rattle.jt_inherit.proofs.Vocabulary.{a_chain, Template, names_up, sources_in, here, asked}
-use Rattle.jt_inherit.proofs.Vocabulary.{SourceTexts, IsRead, IsOnly}
+use Rattle.jt_inherit.proofs.Vocabulary.{a_chain, Template, names_up, sources_in, here, asked, SourceTexts, IsRead}
+use Rattle.jt_inherit.proofs.Vocabulary.{IsOnly}
 use Rattle.jt_inherit.proofs.RulesCarryOver as carried
 use Rattle.jt_inherit.proofs.RulesCarryOver.{repeated_front}
 use Rattle.jt_inherit.proofs.SourcesGrow.{asked_more, names_more, reaches_more}

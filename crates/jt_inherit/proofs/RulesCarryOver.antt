@@ -5,45 +5,34 @@ use Rattle.std.proofs.Common.{Some, None, length-append, rules}
 use Rattle.jt_ast.specs.Statements as trees
 use Rattle.jt_chains.specs.Chain.{given, imports}
 use Rattle.jt_chains.specs.Rules as rules
-use Rattle.jt_chains.specs.Rules.{InSomeChain, BadName, ExtendsCycle}
-use Rattle.jt_chains.specs.Rules.{ChainTooLong, DoubleBlock, RequiredNotGiven, NoSuper, IncludeCycle, MacroTwice}
-use Rattle.jt_chains.specs.Rules.{NoMacro, NotALibrary}
+use Rattle.jt_chains.specs.Rules.{InSomeChain, BadName, ExtendsCycle, ChainTooLong, DoubleBlock, RequiredNotGiven}
+use Rattle.jt_chains.specs.Rules.{NoSuper, IncludeCycle, MacroTwice, NoMacro, NotALibrary}
 use Rattle.jt_inherit.proofs.Vocabulary.{flat_map, list_any, is_none, bytes_eq, append-nil, map-append, cases_lt}
 use Rattle.jt_inherit.proofs.Vocabulary.{nat_tests, among, repeated, Text, Body, Sources, Namespace, a_chain, a_library}
 use Rattle.jt_inherit.proofs.Vocabulary.{Template, template, templates, library_template, is_a_library, extends_of}
-use Rattle.jt_inherit.proofs.Vocabulary.{parent_of, names_up, blocks_in, MacroBody, macros, own}
-use Rattle.jt_inherit.proofs.Vocabulary.{libraries_in, lacks_body, lacks_next, their_blocks, their_macros, any_double}
+use Rattle.jt_inherit.proofs.Vocabulary.{parent_of, names_up, blocks_in, MacroBody, macros, own, libraries_in}
+use Rattle.jt_inherit.proofs.Vocabulary.{lacks_body, lacks_next, their_blocks, their_macros, any_double}
 use Rattle.jt_inherit.proofs.Vocabulary.{any_lacks_macros, names_from, imported_names, Asks, Reaches, here, is_whole}
-use Rattle.jt_inherit.proofs.Vocabulary.{extends_path, of_texts, reflexive, among_behind, among_front, both_false}
-use Rattle.jt_inherit.proofs.Vocabulary.{or_false, or_true}
-use Rattle.jt_inherit.proofs.SourcesGrow.{Carries, carries_up, front_carried, up_more, up_some, flat-append, on_path}
-use Rattle.jt_inherit.proofs.SourcesGrow.{on_first, on_libraries, way_more, namespace_more, included_more, reaches_more}
+use Rattle.jt_inherit.proofs.Vocabulary.{extends_path, of_texts, reflexive, among_behind, among_front, and_from}
+use Rattle.jt_inherit.proofs.Vocabulary.{and_parts, flat_map-append, list_any-append, not-true, or_from, or_left}
+use Rattle.jt_inherit.proofs.Vocabulary.{or_parts, or_right}
+use Rattle.jt_inherit.proofs.SourcesGrow.{Carries, carries_up, front_carried, up_more, up_some, on_path, on_first}
+use Rattle.jt_inherit.proofs.SourcesGrow.{on_libraries, way_more, namespace_more, included_more, reaches_more}
 use Rattle.jt_inherit.proofs.SourcesGrow.{reaches_next, asked_more}
 use Rattle.jt_inherit.proofs.ImportCollection.{all_imported, own_named}
 use Rattle.jt_inherit.proofs.StoreLookup.{none_from, nothing_lacks, lacks_same}
-use Rattle.jt_inherit.proofs.PathTemplates.{and_true}
 
 -- ---- tests of the first elements
 
 any_front : {A : Type 0} (p : A → Bool) (xs ys : List A) → list_any p xs ≡ true → list_any p (xs ++ ys) ≡ true
-any_front p [] ys h = absurd (cc)
-any_front p (x ∷ xs) ys h = search (arith, rules, any_front p xs ys, or_true)
+any_front p xs ys h = list_any-append p xs ys ∙ or_left (list_any p xs) (list_any p ys) h
 
 none_front : {A : Type 0} (p : A → Bool) (xs ys : List A) → list_any p (xs ++ ys) ≡ false → list_any p xs ≡ false
-none_front p [] ys h = refl
-none_front p (x ∷ xs) ys h = search (arith, rules, or_false, list_any, both_false, none_front p xs ys)
+none_front p xs ys h = (or_parts (list_any p xs) (list_any p ys) (sym (list_any-append p xs ys) ∙ h)).0
 
 pub repeated_front : (xs ys : List Text) → repeated xs ≡ true → repeated (xs ++ ys) ≡ true
 repeated_front [] ys h = absurd (cc)
-repeated_front (x ∷ xs) ys h = search (arith, rules, repeated_front xs ys, among_front of_texts, or_true)
-
-pub both_true : (a b : Bool) → (a && b) ≡ true → (a ≡ true) × (b ≡ true)
-both_true true b h = (refl, h)
-both_true false b h = absurd (cc)
-
-not_true : (b : Bool) → not b ≡ true → b ≡ false
-not_true true e = absurd (cc)
-not_true false e = refl
+repeated_front (x ∷ xs) ys h = search (arith, rules, repeated_front xs ys, among_front of_texts, or_right)
 
 sixty_five : (n : ℕ) → (n == 65) ≡ true → n ≡ 65
 sixty_five n q = grind (arith, nat_tests)
@@ -95,10 +84,10 @@ still_none s r (x ∷ xs) g h =
     search (
       arith,
       rules,
-      or_false,
-      both_false,
-      still_none s r xs (λ n a. g n (or_true (bytes_eq x n) (among n xs) a)),
-      or_true,
+      or_parts,
+      or_from,
+      still_none s r xs (λ n a. g n (or_right (bytes_eq x n) (among n xs) a)),
+      or_right,
       reflexive,
     )
 
@@ -124,13 +113,13 @@ within_any (y ∷ ys) = skip (within_any ys)
 
 among_within : {xs ys : List Text} → Within xs ys → (z : Text) → among z xs ≡ true → among z ys ≡ true
 among_within none z a = a
-among_within (keep {x} {xs} {ys} r) z a = search (arith, rules, among_within r z, or_true)
-among_within (skip {y} {xs} {ys} r) z a = or_true (bytes_eq y z) (among z ys) (among_within r z a)
+among_within (keep {x} {xs} {ys} r) z a = search (arith, rules, among_within r z, or_right)
+among_within (skip {y} {xs} {ys} r) z a = or_right (bytes_eq y z) (among z ys) (among_within r z a)
 
 repeated_within : {xs ys : List Text} → Within xs ys → repeated xs ≡ true → repeated ys ≡ true
 repeated_within none h = h
-repeated_within (keep {x} {xs} {ys} r) h = search (arith, rules, repeated_within r, among_within, or_true)
-repeated_within (skip {y} {xs} {ys} r) h = or_true (among y ys) (repeated ys) (repeated_within r h)
+repeated_within (keep {x} {xs} {ys} r) h = search (arith, rules, repeated_within r, among_within, or_right)
+repeated_within (skip {y} {xs} {ys} r) h = or_right (among y ys) (repeated ys) (repeated_within r h)
 
 -- ---- the macros of libraries, if the imported ones keep their source
 
@@ -152,17 +141,17 @@ module _ (s r : Sources) where
   in_imports : (b : Body) → Carries s r (libraries_in b) → Within (imported_names s b) (imported_names r b)
   in_imports trees.end g = none
   in_imports (trees.stmt (trees.import_as line n x) rest) g =
-      keep (in_imports rest (λ m a. g m (or_true (bytes_eq n m) (among m (libraries_in rest)) a)))
+      keep (in_imports rest (λ m a. g m (or_right (bytes_eq n m) (among m (libraries_in rest)) a)))
   in_imports (trees.stmt (trees.import_from line n xs) rest) g =
       within_both (in_from n xs (g n (ap (λ c. c || among n (libraries_in rest)) (reflexive n))))
-      (in_imports rest (λ m a. g m (or_true (bytes_eq n m) (among m (libraries_in rest)) a)))
+      (in_imports rest (λ m a. g m (or_right (bytes_eq n m) (among m (libraries_in rest)) a)))
   in_imports (trees.stmt t rest) g = in_imports rest g
 
   lacking : (b : Body) → Carries s r (libraries_in b) → rules.lacks_macros s b ≡ true → rules.lacks_macros r b ≡ true
   lacking trees.end g h = h
   lacking (trees.stmt (trees.import_from line n xs) rest) g h =
       by (rules.lacks_one s n xs) refl
-      (lacking rest (λ m a. g m (or_true (bytes_eq n m) (among m (libraries_in rest)) a)))
+      (lacking rest (λ m a. g m (or_right (bytes_eq n m) (among m (libraries_in rest)) a)))
     where
       by : (c : Bool) → rules.lacks_one s n xs ≡ c
           → (rules.lacks_macros s rest ≡ true → rules.lacks_macros r rest ≡ true)
@@ -171,10 +160,10 @@ module _ (s r : Sources) where
           ap (λ c. c || rules.lacks_macros r rest)
           (lacking_from n xs (g n (ap (λ c. c || among n (libraries_in rest)) (reflexive n))) e)
       by false e f =
-          or_true (rules.lacks_one r n xs) (rules.lacks_macros r rest)
+          or_right (rules.lacks_one r n xs) (rules.lacks_macros r rest)
           (f (sym (ap (λ c. c || rules.lacks_macros s rest) e) ∙ h))
   lacking (trees.stmt (trees.import_as line n x) rest) g h =
-      lacking rest (λ m a. g m (or_true (bytes_eq n m) (among m (libraries_in rest)) a)) h
+      lacking rest (λ m a. g m (or_right (bytes_eq n m) (among m (libraries_in rest)) a)) h
   lacking (trees.stmt t rest) g h = lacking rest g h
 
   all_imports : (ts : List Template) → Carries s r (flat_map (λ t. libraries_in t.body) ts)
@@ -199,7 +188,7 @@ module _ (s r : Sources) where
           ap (λ c. c || any_lacks_macros r ts) (lacking t.body
           (λ m a. g m (among_front of_texts m (libraries_in t.body) (flat_map (λ u. libraries_in u.body) ts) a)) e)
       by false e f =
-          or_true (rules.lacks_macros r t.body) (any_lacks_macros r ts)
+          or_right (rules.lacks_macros r t.body) (any_lacks_macros r ts)
           (f (sym (ap (λ c. c || any_lacks_macros s ts) e) ∙ h))
 
 -- The names that stand for macros and libraries.
@@ -237,7 +226,7 @@ module _ (s r : Sources) (e : Bool) (entry : Namespace)
   long : (h : Namespace) → Reaches r e entry h
       → ((length (extends_path s e h) == 65) && not (repeated (extends_path s e h))) ≡ true
       → ((length (extends_path r e h) == 65) && not (repeated (extends_path r e h))) ≡ true
-  long h p t = search (arith, rules, both_true, extends_path, repeated, full, sixty_five)
+  long h p t = search (arith, rules, and_parts, extends_path, repeated, full, sixty_five)
 
   -- A name that occurs twice on the path does so among the first 65 names, or these differ.
   cycle : (h : Text) (k : ℕ) → Reaches r e entry (a_chain h) → repeated (names_up s k (Some h)) ≡ true
@@ -263,7 +252,7 @@ module _ (s r : Sources) (e : Bool) (entry : Namespace)
           inr (inl (
             a_chain h,
             p,
-            long (a_chain h) p (and_true (length (extends_path s e (a_chain h)) == 65)
+            long (a_chain h) p (and_from (length (extends_path s e (a_chain h)) == 65)
                 (not (repeated (extends_path s e (a_chain h)))) f (ap not q)),
           ))
       by false q false f = search (arith, rules, first, below, extends_path, a_chain, up_len)
@@ -291,20 +280,20 @@ module _ (s r : Sources) (e : Bool) (entry : Namespace)
   whole_same : (h : Namespace) → Reaches r e entry h → is_whole s e h ≡ true
       → (templates r h ≡ templates s h) × (is_whole r e h ≡ true)
   whole_same h p w =
-      let w1 = both_true (not (repeated (extends_path s e h)))
+      let w1 = and_parts (not (repeated (extends_path s e h)))
       (nat_lt (length (extends_path s e h)) 65 && not (list_any (λ n. is_none (s n)) (extends_path s e h))) w in
-      let w2 = both_true (nat_lt (length (extends_path s e h)) 65)
+      let w2 = and_parts (nat_lt (length (extends_path s e h)) 65)
       (not (list_any (λ n. is_none (s n)) (extends_path s e h))) w1.1 in
       let sources : list_any (λ n. is_none (s n)) (extends_path s e h) ≡ false =
-      not_true (list_any (λ n. is_none (s n)) (extends_path s e h)) w2.1 in
+      not-true (list_any (λ n. is_none (s n)) (extends_path s e h)) w2.1 in
       let one = same_namespace_way h p sources in
       let still =
       still_none s r (extends_path s e h) (λ n a. on_path s r e entry g h p n (ap (among n) one.0 ∙ a)) sources in (
         one.1,
         ap (λ l. not (repeated l) && (nat_lt (length l) 65 && not (list_any (λ n. is_none (r n)) l))) one.0
-            ∙ and_true (not (repeated (extends_path s e h)))
+            ∙ and_from (not (repeated (extends_path s e h)))
             (nat_lt (length (extends_path s e h)) 65 && not (list_any (λ n. is_none (r n)) (extends_path s e h))) w1.0
-            (and_true (nat_lt (length (extends_path s e h)) 65)
+            (and_from (nat_lt (length (extends_path s e h)) 65)
             (not (list_any (λ n. is_none (r n)) (extends_path s e h))) w2.0 (ap not still)),
       )
     where
@@ -328,7 +317,7 @@ module _ (s r : Sources) (e : Bool) (entry : Namespace)
 
   in_chain : (f : List Template → Bool) → InSomeChain s e entry (λ h. f (templates s h))
       → InSomeChain r e entry (λ h. f (templates r h))
-  in_chain f x = search (arith, rules, there, both_true, whole_same, and_true)
+  in_chain f x = search (arith, rules, there, and_parts, whole_same, and_from)
 
   pub required_not_given : RequiredNotGiven s e entry → RequiredNotGiven r e entry
   required_not_given = in_chain (λ us. lacks_body (their_blocks e us))
@@ -362,11 +351,11 @@ module _ (s r : Sources) (e : Bool) (entry : Namespace)
   pub macro_twice : MacroTwice s e entry → MacroTwice r e entry
   macro_twice x =
       let p = there x.1 in
-      let k = both_true (is_whole s e x.0) (repeated (map (λ y. y.0) (given s x.0))) x.2 in
+      let k = and_parts (is_whole s e x.0) (repeated (map (λ y. y.0) (given s x.0))) x.2 in
       let w = whole_same x.0 p k.0 in (
         x.0,
         p,
-        and_true (is_whole r e x.0) (repeated (map (λ y. y.0) (given r x.0))) w.1
+        and_from (is_whole r e x.0) (repeated (map (λ y. y.0) (given r x.0))) w.1
             (repeated_within (names_kept x.0 p w.0) k.1),
       )
 
@@ -385,7 +374,7 @@ module _ (s r : Sources) (e : Bool) (entry : Namespace)
           ap (any_lacks_macros r) more.1
           ∙ any_front (λ u. rules.lacks_macros r u.body) (templates s h) more.0
           (all_lacking s r (templates s h) (λ k a. on_libraries s r e entry g h p k
-          (ap (λ vs. among k (flat_map f vs)) more.1 ∙ ap (among k) (flat-append f (templates s h) more.0)
+          (ap (λ vs. among k (flat_map f vs)) more.1 ∙ ap (among k) (flat_map-append f (templates s h) more.0)
           ∙ among_front of_texts k (flat_map f (templates s h)) (flat_map f more.0) a)) t)
 
   pub not_a_library : NotALibrary s e entry → NotALibrary r e entry

@@ -1,6 +1,6 @@
 -- Errors of a source: its segments with their options, and the trees that they spell.
-use Rattle.std.proofs.Common.{◌≡◌, ◌<◌, ◌≤◌, List, [], ◌∷◌, length, map, refl, sym, ap, subst, ◌∙◌, chars, Some}
-use Rattle.std.proofs.Common.{None, arith, rules}
+use Rattle.std.proofs.Common.{◌≡◌, ◌<◌, ◌≤◌, List, [], ◌∷◌, length, map, refl, sym, ap, subst, ◌∙◌, chars, Some, None}
+use Rattle.std.proofs.Common.{arith, rules}
 use Rattle.jt_scan.specs.Cut as cut
 use Rattle.jt_scan.specs.Cut.{Text, IsCut}
 use Rattle.jt_scan.specs.View.{segment_view, HaveOptions}

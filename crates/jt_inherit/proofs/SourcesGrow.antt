@@ -1,27 +1,27 @@
 -- Reachability and requests of names stay true when more is read.
 use Rattle.std.proofs.Common.{◌≡◌, ℕ, zero, suc, ◌≤◌, arith, map, Bool, true, false, ◌||◌, List, [], ◌∷◌, ◌++◌, refl}
 use Rattle.std.proofs.Common.{sym, ap, subst, ◌∙◌, Option, Some, None, string_bytes, rules}
-use Rattle.jt_inherit.proofs.Vocabulary.{flat_map, filter, is_some, bytes_eq, append-nil, append_assoc, among, Text}
-use Rattle.jt_inherit.proofs.Vocabulary.{Body, Sources, Namespace, a_chain, a_library, listed, Template, template}
-use Rattle.jt_inherit.proofs.Vocabulary.{templates, library_template, libraries, libraries_in, extends_of, parent_of}
-use Rattle.jt_inherit.proofs.Vocabulary.{names_up, sources_in, included, needs_in, with_source, Asks, Reaches, here}
-use Rattle.jt_inherit.proofs.Vocabulary.{through, asked, extends_path, files_view, TemplateFile, Options, SourceTexts}
-use Rattle.jt_inherit.proofs.Vocabulary.{BreaksAll, Grow, key_view, ChainError, NamespaceKey, of_texts, reflexive, same}
-use Rattle.jt_inherit.proofs.Vocabulary.{among_behind, among_cases, among_front, or_true}
+use Rattle.jt_inherit.proofs.Vocabulary.{flat_map, filter, is_some, bytes_eq, append-nil, among, Text, Body, Sources}
+use Rattle.jt_inherit.proofs.Vocabulary.{Namespace, a_chain, a_library, listed, Template, template, templates}
+use Rattle.jt_inherit.proofs.Vocabulary.{library_template, libraries, libraries_in, extends_of, parent_of, names_up}
+use Rattle.jt_inherit.proofs.Vocabulary.{sources_in, included, needs_in, with_source, Asks, Reaches, here, through}
+use Rattle.jt_inherit.proofs.Vocabulary.{asked, extends_path, files_view, TemplateFile, Options, SourceTexts, BreaksAll}
+use Rattle.jt_inherit.proofs.Vocabulary.{Grow, key_view, ChainError, NamespaceKey, of_texts, reflexive, same}
+use Rattle.jt_inherit.proofs.Vocabulary.{among_behind, among_cases, among_front, flat_map-append, or_right}
 use Rattle.jt_inherit.proofs.PathsGrow.{more_sources, none_up}
-use Rattle.jt_inherit.proofs.NamespaceSets.{is_chain}
+use Rattle.jt_inherit.proofs.NumberTables.{is_chain}
 
 -- ---- the members that pass a test
 
 pub among_passes : (p : Text → Bool) (x : Text) (xs : List Text) → among x (filter p xs) ≡ true
     → (among x xs ≡ true) × (p x ≡ true)
 among_passes p x [] h = absurd (cc)
-among_passes p x (y ∷ xs) h = search (arith, rules, among_passes p x xs, same, or_true)
+among_passes p x (y ∷ xs) h = search (arith, rules, among_passes p x xs, same, or_right)
 
 pub passes_among : (p : Text → Bool) (x : Text) (xs : List Text) → among x xs ≡ true → p x ≡ true
     → among x (filter p xs) ≡ true
 passes_among p x [] h t = absurd (cc)
-passes_among p x (y ∷ xs) h t = search (arith, rules, passes_among p x xs, or_true, same)
+passes_among p x (y ∷ xs) h t = search (arith, rules, passes_among p x xs, or_right, same)
 
 -- ---- the templates of a chain when sources grow
 
@@ -40,7 +40,7 @@ Carries s r xs = (n : Text) → among n xs ≡ true → (b : Body) → s n ≡ S
 
 pub carries_up : (s r : Sources) (k : ℕ) (n : Text) (b : Body) → r n ≡ Some b
     → Carries s r (names_up r (suc k) (Some n)) → Carries s r (names_up r k (extends_of b))
-carries_up s r k n b e g m a = search (arith, rules, or_true, bytes_eq, among, names_up, parent_of)
+carries_up s r k n b e g m a = search (arith, rules, or_right, bytes_eq, among, names_up, parent_of)
 
 pub front_carried : (s r : Sources) (k : ℕ) (n : Text) → Carries s r (names_up r (suc k) (Some n)) → (b : Body)
     → s n ≡ Some b → r n ≡ Some b
@@ -93,12 +93,6 @@ up_more s (suc m) (suc k) None le = ([], refl)
 up_more s (suc m) (suc k) (Some n) le =
     let more = up_more s m k (parent_of (s n)) (omega (arith, le)) in
     (more.0, ap (λ l. n ∷ l) more.1)
-
-pub flat-append : {X Y : Type 0} (f : X → List Y) (xs ys : List X)
-    → flat_map f (xs ++ ys) ≡ flat_map f xs ++ flat_map f ys
-flat-append f [] ys = refl
-flat-append f (x ∷ xs) ys =
-    ap (λ l. f x ++ l) (flat-append f xs ys) ∙ sym (append_assoc (f x) (flat_map f xs) (flat_map f ys))
 
 -- ---- namespaces of some names
 
@@ -189,13 +183,13 @@ module _ (s r : Sources) (e : Bool) (entry : Namespace)
   libraries_more (a_chain n) p =
       let f : Template → List Text = λ t. libraries_in t.body in
       let more = namespace_more (a_chain n) p in
-      (flat_map f more.0, ap (flat_map f) more.1 ∙ flat-append f (templates s (a_chain n)) more.0)
+      (flat_map f more.0, ap (flat_map f) more.1 ∙ flat_map-append f (templates s (a_chain n)) more.0)
   libraries_more (a_library n) p = ([], refl)
 
   pub needs_more : (all : Bool) (h : Namespace) → Reaches r e entry h → (n : Text)
       → among n (flat_map (λ t. needs_in all t.body) (templates s h)) ≡ true
       → among n (flat_map (λ t. needs_in all t.body) (templates r h)) ≡ true
-  needs_more all h p n a = search (arith, rules, namespace_more, flat-append, among_front of_texts)
+  needs_more all h p n a = search (arith, rules, namespace_more, flat_map-append, among_front of_texts)
 
   pub imports_more : (h : Namespace) → Reaches r e entry h → (n : Text) → among n (libraries s h) ≡ true
       → among n (libraries r h) ≡ true

@@ -1,15 +1,16 @@
--- The library of a name in a store: its macros, and the names that are imported from it.
-use Rattle.std.proofs.Common.{◌≡◌, ℕ, ◌<◌, length, get_or, arith, string_bytes, Bool, true, false, ◌&&◌, ◌||◌}
-use Rattle.std.proofs.Common.{List, [], ◌∷◌, refl, sym, ap, ◌∙◌, Option, Some, None, rules}
+-- The library of a name in a store: its macros, its path, and the names that are imported from it.
+use Rattle.std.proofs.Common.{◌≡◌, ℕ, ◌<◌, length, get_or, arith, string_bytes, Bool, false, ◌&&◌, ◌||◌, List, [], ◌∷◌}
+use Rattle.std.proofs.Common.{refl, sym, ap, ◌∙◌, Option, Some, None, rules, zero, suc, true, not}
 use Rattle.jt_chains.specs.Tables.{library_macros}
 use Rattle.jt_chains.specs.Rules.{lacks_one}
 use Rattle.jt_inherit.proofs.Vocabulary.{slice_get, flat_map, is_some, is_none, length-map, append-nil}
 use Rattle.jt_inherit.proofs.Vocabulary.{slice_get_within, Text, Body, body_of, among, repeated, Sources, a_library}
 use Rattle.jt_inherit.proofs.Vocabulary.{Template, library_template, holds_macros, is_a_library, MacroBody, macros}
 use Rattle.jt_inherit.proofs.Vocabulary.{macros_in, public_macro, sources_in, file_view, files_view, TemplateFile}
-use Rattle.jt_inherit.proofs.Vocabulary.{map_at, only_one, macros_held, has_not, names_from, AreNamed}
+use Rattle.jt_inherit.proofs.Vocabulary.{map_at, only_one, macros_held, names_from, AreNamed, Options, SourceTexts}
+use Rattle.jt_inherit.proofs.Vocabulary.{AreKnown, HasRead, is_no_library, names_view, Names, not-false}
 use Rattle.jt_inherit.proofs.DiscoveryInvariant.{some_source}
-use Rattle.jt_inherit.proofs.PathsGrow.{names, length_names, name_of_slice}
+use Rattle.jt_inherit.proofs.PathsGrow.{names, name_of_slice}
 
 pub unread : (ts : List Template) (n : Text) → among n (names ts) ≡ false → is_a_library (sources_in ts n) ≡ false
 unread ts n h = by (sources_in ts n) (some_source ts n ∙ h)
@@ -31,7 +32,7 @@ module _ (ps : List TemplateFile) (ks : List Text) (k : AreNamed (files_view ps)
   named_at = ap (λ l. slice_get l i) (sym k.0) ∙ at
 
   pub index_read : i < length ps
-  index_read = search (arith, rules, slice_get_within, names, named_at, length_names, length-map)
+  index_read = search (arith, rules, slice_get_within, names, named_at, length-map)
 
   module _ (p : TemplateFile) (is : p ≡ get_or ps i p) where
     there : slice_get (files_view ps) i ≡ Some (file_view p)
@@ -78,7 +79,28 @@ pub lacks_same : (s r : Sources) (n : Text) (xs : List (Text × Text)) → s n �
 lacks_same s r n [] e = refl
 lacks_same s r n (x ∷ xs) e = search (arith, rules, lacks_same s r n xs e)
 
-pub library_lacks : (s : Sources) (n : Text) (xs : List (Text × Text)) → is_a_library (s n) ≡ true
-    → lacks_one s n xs ≡ has_not (macros s (a_library n)) xs
-library_lacks s n [] e = refl
-library_lacks s n (x ∷ xs) e = search (arith, rules, is_none, public_macro, macros, a_library, library_lacks s n xs e)
+-- The template at the index of a name.
+of_name : (ts : List Template) (i : ℕ) (n : Text) → slice_get (names ts) i ≡ Some n
+    → (t : Template) × (slice_get ts i ≡ Some t) × (t.name ≡ n)
+of_name [] i n e = absurd (cc)
+of_name (t ∷ ts) zero n e = (t, refl, (let is : t.name ≡ n = cc in is))
+of_name (t ∷ ts) (suc i) n e = of_name ts i n e
+
+-- A library has a source.
+pub library_known : (ts : List Template) (n : Text) → is_no_library ts (a_library n) ≡ false
+    → among n (names ts) ≡ true
+library_known ts n e = sym (some_source ts n) ∙ by (sources_in ts n) refl
+  where
+    by : (o : Option Body) → sources_in ts n ≡ o → is_some o ≡ true
+    by None h =
+        let no = sym (ap (λ o. not (is_a_library o)) h) ∙ e in
+        absurd (cc)
+    by (Some b) h = refl
+
+pub library_read : {given : SourceTexts} {options : Options} (ps : List TemplateFile) (ks : Names)
+    → AreKnown given options (files_view ps) (names_view ks) → (n : Text)
+    → is_no_library (files_view ps) (a_library n) ≡ false
+    → {is : List ℕ} (i : ℕ) → is ≡ i ∷ [] → slice_get (names_view ks) i ≡ Some n
+    → HasRead given options ps ps ks ks (a_library n) is
+library_read {given} {options} ps ks known n library {is} i e at =
+    search (arith, rules, of_name, only_one, append-nil, slice_get_within, not-false, names)

@@ -1,6 +1,5 @@
 -- The places of tags: what the first ones show.
-use Rattle.std.proofs.Common.{rules}
-use Rattle.std.proofs.Common.{◌≡◌, ℕ, zero, suc, ◌+◌, ◌<◌, Bool, true, false, cond, List, [], ◌∷◌, ◌++◌, length}
+use Rattle.std.proofs.Common.{rules, ◌≡◌, ℕ, zero, suc, ◌+◌, ◌<◌, Bool, true, false, cond, List, [], ◌∷◌, ◌++◌, length}
 use Rattle.std.proofs.Common.{drop, get_or, refl, sym, ap, subst, ◌∙◌, arith, inl, inr, ⊎_elim, Option, Some}
 use Rattle.std.specs.Prelude.{None}
 use Rattle.std.proofs.lemmas.List.Elements.{filter-append}
@@ -11,10 +10,9 @@ use Rattle.jt_inherit.specs.declared.finding.ChainSubject.TheVariants as v
 use Rattle.jt_inherit.specs.internal.Tags.{place_of}
 use Rattle.jt_inherit.proofs.Vocabulary.{option_map, slice_get, option_to_list, append_assoc, Text, Use, Site}
 use Rattle.jt_inherit.proofs.Vocabulary.{templates_at, Sources, Template, file_view, files_view, TemplateFile, map_at}
-use Rattle.jt_inherit.proofs.Vocabulary.{ForSome, InTurn, IsAt, HasTag, all_uses, uses_in, asks}
-use Rattle.jt_inherit.proofs.Vocabulary.{binds_macro, is_extends, IsOfRule, IsTwiceIn, RuleAt, ChainFinding}
-use Rattle.jt_inherit.proofs.Vocabulary.{ChainSubject, tags, place_in, place_view, tag_view, tags_view, FoundTag}
-use Rattle.jt_inherit.proofs.Vocabulary.{TagPlace}
+use Rattle.jt_inherit.proofs.Vocabulary.{ForSome, InTurn, IsAt, HasTag, all_uses, uses_in, asks, binds_macro}
+use Rattle.jt_inherit.proofs.Vocabulary.{is_extends, IsOfRule, IsTwiceIn, RuleAt, ChainFinding, ChainSubject, tags}
+use Rattle.jt_inherit.proofs.Vocabulary.{place_in, place_view, tag_view, tags_view, FoundTag, TagPlace}
 use Rattle.jt_inherit.proofs.PathsGrow.{templates_turn}
 
 -- ---- tags of several templates
@@ -169,5 +167,6 @@ twice_rule s ps is k p f lt within at told = (told.0, by f.place f.subject told.
   where
     by : (q : Option TagPlace) (x : Option ChainSubject) → TwiceAt (file_view p) q x
         → RuleAt s (templates_at (files_view ps) is) q x error.DoubleBlock
+    by None None h = tt
     by (Some q) (Some (v.BlockTwice x first)) h = search (arith, rules, some_template)
     by q x h = absurd h

@@ -5,7 +5,8 @@ use Rattle.jt_graph.specs.Graph as graph
 use Rattle.jt_graph.specs.Graph.{AreOrdered}
 use Rattle.jt_inherit.proofs.Vocabulary.{slice_get, unwrap_or, AllByRecursion, nat_tests, Graph, next_of, Sources}
 use Rattle.jt_inherit.proofs.Vocabulary.{Namespace, a_chain, same_namespace, listed, included, AllIn, InOrder}
-use Rattle.jt_inherit.proofs.Vocabulary.{namespace_at, Reaches, here, through, twice, both_false, or_false, or_true}
+use Rattle.jt_inherit.proofs.Vocabulary.{namespace_at, Reaches, here, through, twice, both_ways, not-true, or_from}
+use Rattle.jt_inherit.proofs.Vocabulary.{or_parts, or_right}
 use Rattle.jt_inherit.proofs.NamespaceMembership.{reflexive, same}
 
 equal : (i j : ℕ) → (i == j) ≡ true → i ≡ j
@@ -20,7 +21,7 @@ pub namespace_among : (hs : List Namespace) (i : ℕ) → i < length hs → list
 namespace_among [] i lt = absurd (omega arith)
 namespace_among (h ∷ hs) zero lt = ap (λ b. b || listed h hs) (reflexive h)
 namespace_among (h ∷ hs) (suc i) lt =
-    or_true (same_namespace h (namespace_at hs i)) (listed (namespace_at hs i) hs) (namespace_among hs i (omega arith))
+    or_right (same_namespace h (namespace_at hs i)) (listed (namespace_at hs i) hs) (namespace_among hs i (omega arith))
 
 pub number_of : (hs : List Namespace) (x : Namespace) → listed x hs ≡ true
     → (i : ℕ) × (i < length hs) × (namespace_at hs i ≡ x)
@@ -41,22 +42,22 @@ one_number : (hs : List Namespace) (i j : ℕ) → twice hs ≡ false → i < le
     → namespace_at hs i ≡ namespace_at hs j → i ≡ j
 one_number [] i j once p q e = absurd (omega arith)
 one_number (h ∷ hs) zero zero once p q e = refl
-one_number (h ∷ hs) zero (suc j) once p q e = search (arith, rules, namespace_among, or_false)
-one_number (h ∷ hs) (suc i) zero once p q e = search (arith, rules, namespace_among, or_false)
+one_number (h ∷ hs) zero (suc j) once p q e = search (arith, rules, namespace_among, or_parts)
+one_number (h ∷ hs) (suc i) zero once p q e = search (arith, rules, namespace_among, or_parts)
 one_number (h ∷ hs) (suc i) (suc j) once p q e =
-    ap suc (one_number hs i j (or_false (listed h hs) (twice hs) once).1 (omega arith) (omega arith) e)
+    ap suc (one_number hs i j (or_parts (listed h hs) (twice hs) once).1 (omega arith) (omega arith) e)
 
 pub named_among : (hs : List Namespace) (j : ℕ) (is : List ℕ) → graph.among j is ≡ true
     → listed (namespace_at hs j) (map (namespace_at hs) is) ≡ true
 named_among hs j [] a = absurd (cc)
-named_among hs j (i ∷ is) a = search (arith, rules, named_among hs j is, equal, reflexive, or_true)
+named_among hs j (i ∷ is) a = search (arith, rules, named_among hs j is, equal, reflexive, or_right)
 
 named_apart : (hs : List Namespace) (j : ℕ) (is : List ℕ) → twice hs ≡ false → j < length hs
     → AllByRecursion (λ i. i < length hs) is → graph.among j is ≡ false
     → listed (namespace_at hs j) (map (namespace_at hs) is) ≡ false
 named_apart hs j [] once lt w a = refl
 named_apart hs j (i ∷ is) once lt w a =
-    search (arith, rules, or_false, both_false, named_apart hs j is once lt w.1, one_number, same, itself)
+    search (arith, rules, or_parts, or_from, named_apart hs j is once lt w.1, one_number, same, itself)
 
 -- ---- an order of numbers is one of chains
 
@@ -71,7 +72,7 @@ all_in hs is (j ∷ js) (n ∷ ns) e f =
     let name : namespace_at hs j ≡ n = ap (λ o. unwrap_or o (a_chain [])) h in
     let there : graph.among j is ≡ true = f j (ap (λ b. b || graph.among j js) (itself j)) in (
       ap (λ x. listed x (map (namespace_at hs) is)) (sym name) ∙ named_among hs j is there,
-      all_in hs is js ns r (λ k a. f k (or_true (j == k) (graph.among k js) a)),
+      all_in hs is js ns r (λ k a. f k (or_right (j == k) (graph.among k js) a)),
     )
 
 pub names_in_order : (s : Sources) (hs : List Namespace) (g : Graph) (is : List ℕ) → twice hs ≡ false
@@ -80,16 +81,12 @@ pub names_in_order : (s : Sources) (hs : List Namespace) (g : Graph) (is : List 
     → AreOrdered g is → InOrder s (map (namespace_at hs) is)
 names_in_order s hs g [] once w n o = tt
 names_in_order s hs g (i ∷ is) once w n o = (
-  ap not (named_apart hs i is once w.0 w.1 (not_true (graph.among i is) o.0)),
+  ap not (named_apart hs i is once w.0 w.1 (not-true (graph.among i is) o.0)),
   (
     all_in hs is (next_of g i) (included s (namespace_at hs i)) (n i w.0) o.1.0,
     names_in_order s hs g is once w.1 n o.1.1,
   ),
 )
-  where
-    not_true : (b : Bool) → not b ≡ true → b ≡ false
-    not_true true e = absurd (cc)
-    not_true false e = refl
 
 -- ---- the members of an order
 
@@ -97,16 +94,16 @@ all_in_among : (ms os : List Namespace) (m : Namespace) → AllIn ms os → list
 all_in_among [] os m a h = absurd (cc)
 all_in_among (x ∷ ms) os m a h = search (arith, rules, all_in_among ms os m a.1, same)
 
-next_in_order : (s : Sources) (os : List Namespace) (k m : Namespace) → InOrder s os → listed k os ≡ true
+pub next_in_order : (s : Sources) (os : List Namespace) (k m : Namespace) → InOrder s os → listed k os ≡ true
     → listed m (included s k) ≡ true → listed m os ≡ true
 next_in_order s [] k m o a i = absurd (cc)
 next_in_order s (x ∷ os) k m o a i = by (same_namespace x k) refl (λ h. next_in_order s os k m o.1.1 h i)
   where
     by : (b : Bool) → same_namespace x k ≡ b → (listed k os ≡ true → listed m os ≡ true) → listed m (x ∷ os) ≡ true
     by true e r =
-        or_true (same_namespace x m) (listed m os)
+        or_right (same_namespace x m) (listed m os)
         (all_in_among (included s x) os m o.1.0 (ap (λ y. listed m (included s y)) (same x k e) ∙ i))
-    by false e r = or_true (same_namespace x m) (listed m os) (r (sym (ap (λ b. b || listed k os) e) ∙ a))
+    by false e r = or_right (same_namespace x m) (listed m os) (r (sym (ap (λ b. b || listed k os) e) ∙ a))
 
 -- A namespace that a member reaches is a member.
 pub reached_in_order : (s : Sources) (e : Bool) (os : List Namespace) → InOrder s os → {k m : Namespace}
@@ -115,18 +112,14 @@ reached_in_order s e os o here a = a
 reached_in_order s e os o (through {namespace = h} {next = m} i r) a =
     reached_in_order s e os o r (next_in_order s os h m o a i)
 
-not_among : (b : Bool) → not b ≡ true → b ≡ true → ⊥
-not_among true p q = cc
-not_among false p q = cc
-
 -- No member leads to itself.
 pub no_cycle : (s : Sources) (e : Bool) (os : List Namespace) → InOrder s os → (h m : Namespace) → listed h os ≡ true
     → listed m (included s h) ≡ true → Reaches s e m h → ⊥
 no_cycle s e [] o h m a i r = absurd (cc)
 no_cycle s e (x ∷ os) o h m a i r =
-    search (arith, rules, no_cycle s e os o.1.1 h m, all_in_among, same, reached_in_order, not_among)
+    search (arith, rules, no_cycle s e os o.1.1 h m, all_in_among, same, reached_in_order, not-true, both_ways)
 
 -- The namespace that reaches all members comes first.
 pub first_in_order : (s : Sources) (e : Bool) (x : Namespace) (os : List Namespace) (entry : Namespace)
     → InOrder s (x ∷ os) → listed entry (x ∷ os) ≡ true → Reaches s e entry x → x ≡ entry
-first_in_order s e x os entry o a r = search (arith, rules, same, not_among, reached_in_order)
+first_in_order s e x os entry o a r = search (arith, rules, same, not-true, both_ways, reached_in_order)

@@ -1,20 +1,22 @@
 -- What the statements of templates name has a use with the name.
-use Rattle.std.proofs.Common.{◌≡◌, Bool, true, false, not, ◌||◌, ◌&&◌, List, [], ◌∷◌, ◌++◌, map, sym, ap, subst}
-use Rattle.std.proofs.Common.{◌∙◌, inl, inr, ⊎_elim, Some, ℕ, if◌then◌else◌}
+use Rattle.std.proofs.Common.{◌≡◌, Bool, true, false, not, ◌||◌, ◌&&◌, List, [], ◌∷◌, ◌++◌, map, sym, ap, subst, ◌∙◌}
+use Rattle.std.proofs.Common.{inl, inr, ⊎_elim, Some, None, ℕ, refl, if◌then◌else◌, string_bytes}
+use Rattle.jt_inherit.specs.internal.Placing.{IsParentAt, extends_at}
+use Rattle.jt_inherit.proofs.Vocabulary.{IsAt, TagPlace, option_map, flat_map, is_some, bytes_eq, Text, Stmt, Body}
+use Rattle.jt_inherit.proofs.Vocabulary.{Branches, among, Use, Site, body_uses, outside, AreIndices, templates_at}
+use Rattle.jt_inherit.proofs.Vocabulary.{Sources, Namespace, a_chain, a_library, listed, Template, templates}
+use Rattle.jt_inherit.proofs.Vocabulary.{extends_of, libraries, libraries_in, included, includes_in, needs_by, needs_in}
+use Rattle.jt_inherit.proofs.Vocabulary.{needs_under, with_source, include_need, library_need, needed, by_templates}
+use Rattle.jt_inherit.proofs.Vocabulary.{needed-append, ForSome, all_uses, uses_in, asks, is_extends, is_import}
+use Rattle.jt_inherit.proofs.Vocabulary.{is_include, leads_to, needs_along, among_cases, only_among, of_texts}
+use Rattle.jt_inherit.proofs.Vocabulary.{reflexive}
 use Rattle.jt_ast.specs.Statements as trees
 use Rattle.jt_uses.specs.Uses as uses
-use Rattle.jt_uses.specs.Uses.{branch_uses, stmt_uses, expr_uses, pair_uses, keys_bound, bound}
-use Rattle.jt_uses.specs.Uses.{filter_call_uses, parameters_bound, macros_bound, condition_uses, place_at}
-use Rattle.jt_uses.specs.Uses.{inside_scope, inside_loop, inside_block, inside_macro}
+use Rattle.jt_uses.specs.Uses.{branch_uses, stmt_uses, expr_uses, pair_uses, keys_bound, bound, filter_call_uses}
+use Rattle.jt_uses.specs.Uses.{parameters_bound, macros_bound, condition_uses, place_at, inside_scope, inside_loop}
+use Rattle.jt_uses.specs.Uses.{inside_block, inside_macro}
 use Rattle.jt_uses.specs.declared.site.Enclosing.{Enclosing}
 use Rattle.jt_chains.specs.Includes.{need}
-use Rattle.jt_inherit.proofs.Vocabulary.{flat_map, is_some, bytes_eq, Text, Stmt, Body, Branches, among, Use, Site}
-use Rattle.jt_inherit.proofs.Vocabulary.{body_uses, outside, AreIndices, templates_at, Sources, Namespace, a_chain}
-use Rattle.jt_inherit.proofs.Vocabulary.{a_library, listed, Template, templates, extends_of, libraries, libraries_in}
-use Rattle.jt_inherit.proofs.Vocabulary.{included, includes_in, needs_by, needs_in, needs_under, with_source}
-use Rattle.jt_inherit.proofs.Vocabulary.{include_need, library_need, needed, by_templates, needed-append, ForSome}
-use Rattle.jt_inherit.proofs.Vocabulary.{all_uses, uses_in, asks, is_extends, is_import, is_include, leads_to}
-use Rattle.jt_inherit.proofs.Vocabulary.{needs_along, among_cases, only_among, of_texts, reflexive}
 use Rattle.jt_inherit.proofs.DiscoveryInvariant.{includes_told}
 use Rattle.jt_inherit.proofs.ImportCollection.{imports_needed}
 use Rattle.jt_inherit.proofs.SourcesGrow.{among_passes, chains_listed, libraries_listed}
@@ -99,14 +101,20 @@ module _ (n : Text) (test : Use → Bool) (passes : test (uses.imports n) ≡ tr
   libraries_by (trees.stmt s rest) w a =
       some_behind (Passes test) (stmt_uses s w) (body_uses rest w) (libraries_by rest w a)
 
-extends_by : (n : Text) (b : Body) (w : Enclosing) → extends_of b ≡ Some n
-    → ForSome (Passes (is_extends n)) (body_uses b w)
-extends_by n trees.end w e = absurd (cc)
-extends_by n (trees.stmt (trees.extends line m) rest) w e =
-    let is : m ≡ n = cc in
-    inl (subst (λ z. bytes_eq z n ≡ true) (sym is) (reflexive n))
-extends_by n (trees.stmt s rest) w e =
-    some_behind (Passes (is_extends n)) (stmt_uses s w) (body_uses rest w) (extends_by n rest w e)
+extends_is : (b : Body) → option_map (λ q. q.0) (extends_at b) ≡ extends_of b
+extends_is trees.end = refl
+extends_is (trees.stmt (trees.extends line m) rest) = refl
+extends_is (trees.stmt s rest) = extends_is rest
+
+extends_by : (n : Text) (line : ℕ) (b : Body) (w : Enclosing) → extends_at b ≡ Some (n, line)
+    → ForSome (λ (s : Site). (line ≡ s.place.line) × Passes (is_extends n) s) (body_uses b w)
+extends_by n line trees.end w e = absurd (cc)
+extends_by n line (trees.stmt (trees.extends at m) rest) w e =
+    let same : ◌≡◌ {A = Text × ℕ} (m, at) (n, line) = cc in
+    inl (sym (ap (λ (q : Text × ℕ). q.1) same), ap (λ (q : Text × ℕ). bytes_eq q.0 n) same ∙ reflexive n)
+extends_by n line (trees.stmt s rest) w e =
+    some_behind (λ (z : Site). (line ≡ z.place.line) × Passes (is_extends n) z) (stmt_uses s w) (body_uses rest w)
+    (extends_by n line rest w e)
 
 -- ---- the uses of templates
 
@@ -115,8 +123,22 @@ with_name : (test : Use → Bool) (n : Text) (ss : List Site) → ForSome (Passe
 with_name test n [] h = absurd h
 with_name test n (s ∷ ss) h = ⊎_elim (λ p. inl p) (λ q. inr (with_name test n ss q)) h
 
-pub extends_used : (n : Text) (t : Template) → extends_of t.body ≡ Some n → HasUse (is_extends n) (uses_in t)
-extends_used n t e = with_name (is_extends n) t.name (body_uses t.body outside) (extends_by n t.body outside e)
+-- The tag by which a template extends a name.
+pub extends_tag : (t : Template) (n : Text) (p : TagPlace) → extends_at t.body ≡ Some (n, p.line)
+    → string_bytes p.template ≡ t.name → IsParentAt t n (Some p)
+extends_tag t n p e named = (
+  sym (extends_is t.body) ∙ ap (option_map (λ (q : Text × ℕ). q.0)) e,
+  named,
+  at_tag (body_uses t.body outside) (extends_by n p.line t.body outside e),
+)
+  where
+    at_tag : (ss : List Site) → ForSome (λ (s : Site). (p.line ≡ s.place.line) × Passes (is_extends n) s) ss
+        → ForSome (IsAt (is_extends n) p) (map (λ s. (t.name, s)) ss)
+    at_tag [] h = absurd h
+    at_tag (s ∷ ss) h = ⊎_elim (λ q. inl (named, q.0, q.1)) (λ q. inr (at_tag ss q)) h
+
+pub extends_none : (b : Body) → extends_at b ≡ None → extends_of b ≡ None
+extends_none b e = sym (extends_is b) ∙ ap (option_map (λ (q : Text × ℕ). q.0)) e
 
 in_templates : (test : Use → Bool) (n : Text) (g : Body → List Text)
     → ((b : Body) → among n (g b) ≡ true → ForSome (Passes test) (body_uses b outside)) → (ts : List Template)

@@ -1,9 +1,14 @@
 -- The words that several proofs of this crate take from definitions and from other crates.
-pub use Rattle.std.proofs.lemmas.Bool.{cases_lt}
+pub use Rattle.std.proofs.lemmas.Bool.{and_from, and_parts, and_right, both_ways, cases_lt, not-false, not-true}
+pub use Rattle.std.proofs.lemmas.Bool.{or_from, or_left, or_parts, or_right}
 pub use Rattle.std.proofs.lemmas.Bool.Decides.{nat_tests}
 pub use Rattle.std.proofs.lemmas.Iterator.{YieldsList-from_slice}
 pub use Rattle.std.proofs.lemmas.Iterator.Search.{any_from_yields_List}
-pub use Rattle.std.proofs.lemmas.List.{append-nil, append_assoc, drop_more, length-map, map-append}
+pub use Rattle.std.proofs.lemmas.Grind.{flat_map-append}
+pub use Rattle.std.proofs.lemmas.List.{append-nil, append_assoc, drop_more, length-map, map-append, map_push}
+pub use Rattle.std.proofs.lemmas.List.{nil_from_length, take-append-drop, take_all, take_more}
+pub use Rattle.std.proofs.lemmas.List.Elements.{filter_agree}
+pub use Rattle.std.proofs.lemmas.List.Folds.{list_any-append}
 pub use Rattle.std.proofs.lemmas.Map.Text.{btree_map_updates_text}
 pub use Rattle.std.proofs.lemmas.Option.{slice_get-get_or, slice_get-map, slice_get_within}
 pub use Rattle.std.proofs.lemmas.Result.{err_from_is_err_and}
@@ -44,7 +49,7 @@ pub use Rattle.jt_chains.specs.Weights.{chains_weight, templates_weight}
 pub use Rattle.jt_chains.specs.declared.files.TemplateFile.{TemplateFile}
 pub use Rattle.jt_chains.specs.declared.include_tags.NeededTemplate.{NeededTemplate}
 pub use Rattle.jt_chains.specs.declared.parts.Block.{Block}
-pub use Rattle.jt_graph.specs.Graph.{Graph, HasCycle, next_of}
+pub use Rattle.jt_graph.specs.Graph.{Graph, next_of}
 pub use Rattle.jt_graph.specs.View.{graph_of}
 pub use Rattle.jt_parse.specs.Bytes.{bytes_of}
 pub use Rattle.jt_parse.specs.Grammar.{Spelled}
@@ -59,9 +64,9 @@ pub use Rattle.jt_scan.specs.declared.options.Options.{Options}
 pub use Rattle.jt_scan.specs.declared.segment.Mark.{Mark}
 pub use Rattle.jt_scan.specs.declared.segment.TagKind.{TagKind}
 pub use Rattle.jt_uses.specs.Uses.{Site, Use, body_uses, outside}
-pub use Rattle.jt_inherit.proofs.Membership.{among_behind, among_cases, among_front, among_next, both_false}
-pub use Rattle.jt_inherit.proofs.Membership.{indexed_among, no_more, once_more, only_among, or_false, or_true}
-pub use Rattle.jt_inherit.proofs.NameMembership.{among_last, map_more, of_texts, reflexive, same, symmetric}
+pub use Rattle.jt_inherit.proofs.Membership.{among_behind, among_cases, among_front, among_next}
+pub use Rattle.jt_inherit.proofs.Membership.{indexed_among, no_more, once_more, only_among}
+pub use Rattle.jt_inherit.proofs.NameMembership.{among_last, of_texts, reflexive, same, symmetric}
 pub use Rattle.jt_inherit.proofs.NamespaceMembership.{chain_among, of_namespaces}
 pub use Rattle.jt_inherit.specs.Chains.{IsChain, IsOnly, IsRead, IsTree, SourceTexts}
 pub use Rattle.jt_inherit.specs.Findings.{ForSome, HasNoSuper, HasTag, HasTwoTags, InTurn, IsAt, IsFinding, IsNoMemory}
@@ -79,26 +84,25 @@ pub use Rattle.jt_inherit.specs.declared.finding.TagPlace.{TagPlace}
 pub use Rattle.jt_inherit.specs.declared.sets.Names.{Names}
 pub use Rattle.jt_inherit.specs.declared.sets.NamespaceKey.{NamespaceKey}
 pub use Rattle.jt_inherit.specs.declared.tags.FoundTag.{FoundTag}
-pub use Rattle.jt_inherit.specs.internal.Along.{imports_along, needs_along}
+pub use Rattle.jt_inherit.specs.internal.Found.{imports_along, needs_along}
 pub use Rattle.jt_inherit.specs.internal.Breaking.{IsOfRule, IsTwiceIn, RuleAt}
-pub use Rattle.jt_inherit.specs.internal.Checks.{block_names, lacks_body, lacks_next}
+pub use Rattle.jt_inherit.specs.internal.RuleTests.{block_names, lacks_body, lacks_next}
 pub use Rattle.jt_inherit.specs.internal.ExtendsPaths.{AreKnown, AreNamed, BreaksAll, Grow, HasRead, IsExtendsPath}
 pub use Rattle.jt_inherit.specs.internal.ExtendsPaths.{IsWithin, Leads}
 pub use Rattle.jt_inherit.specs.internal.Faults.{IsFaultOf}
-pub use Rattle.jt_inherit.specs.internal.FindsAt.{IsBroken}
+pub use Rattle.jt_inherit.specs.internal.Breaking.{IsBroken}
 pub use Rattle.jt_inherit.specs.internal.Found.{AreFollowed, AreFound, AreNext, IsFollowed, IsFound, IsMet, IsNextFault}
 pub use Rattle.jt_inherit.specs.internal.Found.{IsNextFinding, TooMany, chains_of, chosen, found_namespaces}
 pub use Rattle.jt_inherit.specs.internal.Found.{found_paths, found_templates, listed_at, listed_view, root_of, twice}
 pub use Rattle.jt_inherit.specs.internal.Given.{its_sources, its_templates, macros_held}
 pub use Rattle.jt_inherit.specs.internal.Imported.{is_no_library, leading_at}
 pub use Rattle.jt_inherit.specs.internal.Numbers.{AreNumbers, is_text}
-pub use Rattle.jt_inherit.specs.internal.Placing.{IsCycle, IsIncludedMore, IsLong, IsNamedOn, need_test, parent_at}
-pub use Rattle.jt_inherit.specs.internal.Placing.{uses_at, uses_of}
-pub use Rattle.jt_inherit.specs.internal.Rings.{last_number, leads_round, name_at}
-pub use Rattle.jt_inherit.specs.internal.RuleTests.{BreakOne, KeepAll, any_double, any_lacks_macros, has_not}
+pub use Rattle.jt_inherit.specs.internal.Placing.{IsCycle, IsIncludedMore, IsLong, IsNamedOn, need_test}
+pub use Rattle.jt_inherit.specs.internal.Rings.{last_number, name_at}
+pub use Rattle.jt_inherit.specs.internal.RuleTests.{BreakOne, KeepAll, any_double, any_lacks_macros}
 pub use Rattle.jt_inherit.specs.internal.RuleTests.{imported_names, names_from, their_blocks, their_macros, their_names}
 pub use Rattle.jt_inherit.specs.internal.SetView.{key_view, keys_view, strings}
 pub use Rattle.jt_inherit.specs.internal.Sets.{names_view, namespaces_view}
 pub use Rattle.jt_inherit.specs.internal.SuperLines.{first_in, first_under}
 pub use Rattle.jt_inherit.specs.internal.Tags.{IsLastCall, place_in, place_view, tag_view, tags, tags_view, test_of}
-pub use Rattle.jt_inherit.specs.internal.Unmet.{IsUnmet}
+pub use Rattle.jt_inherit.specs.internal.Found.{IsUnmet}

@@ -6,5 +6,5 @@ use Rattle.jt_inherit.specs.declared.error.ChainError.{ChainError}
 use Rattle.jt_inherit.specs.declared.error.ChainError.TheVariants as error
 
 abbrev pub gives : OrderError → ChainError → Type 0
-gives order.Cycle e = e ≡ error.IncludeCycle
+gives (order.Cycle ring) e = e ≡ error.IncludeCycle
 gives order.NoMemory e = e ≡ error.NoMemory

@@ -1,9 +1,6 @@
-pub mod Along
 pub mod Breaking
-pub mod Checks
 pub mod ExtendsPaths
 pub mod Faults
-pub mod FindsAt
 pub mod Found
 pub mod Given
 pub mod Imported
@@ -15,4 +12,3 @@ pub mod SetView
 pub mod Sets
 pub mod SuperLines
 pub mod Tags
-pub mod Unmet

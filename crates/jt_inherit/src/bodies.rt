@@ -12,39 +12,18 @@ use crate::finding::{ChainFinding, ChainSubject};
 use crate::store::TemplateStore;
 use crate::tags::{FoundTag, Wanted, tags_at};
 use std::alloc::{AllocError, Global};
-use std::collections::BTreeSet;
-
-/// Returns the name of the first required block that has no block of its name before it.
-fn first_required<'a>(
-    alloc: Global,
-    blocks: &[FoundTag<'a>],
-) -> Result<Option<&'a str>, AllocError> {
-    let mut known = BTreeSet::new(alloc);
-    for block in blocks {
-        let Some(name) = block.block_name() else {
-            continue;
-        };
-        if known.insert(name)? && block.is_required() {
-            return Ok(Some(name));
-        }
-    }
-    Ok(None)
-}
 
 /// Returns the finding of a block whose nearest body is a required one.
 pub(crate) fn not_given(
     alloc: Global,
     store: TemplateStore<'_>,
     indices: &[usize],
+    name: &str,
 ) -> Result<ChainFinding, AllocError>
     requires { AreIndices (files_view store.files.now) indices.now }
     ensures { IfOk result (IsOfRule (its_sources store.entry)
         (its_templates store.entry indices.now) ChainError.RequiredNotGiven) }
 {
-    let blocks = tags_at(alloc, store.files, indices, Wanted::Blocks)?;
-    let Some(name) = first_required(alloc, &blocks)? else {
-        return Ok(ChainFinding::without_place(ChainError::RequiredNotGiven));
-    };
     let named = tags_at(alloc, store.files, indices, Wanted::Block(name))?;
     let Some(nearest) = named.first() else {
         return Ok(ChainFinding::without_place(ChainError::RequiredNotGiven));
@@ -59,24 +38,6 @@ pub(crate) fn not_given(
         place: Some(place),
         subject: Some(ChainSubject::Block(name)),
     })
-}
-
-/// Returns the name of the last block that calls `super()` without a body after it that is not
-/// required.
-fn last_super<'a>(alloc: Global, blocks: &[FoundTag<'a>]) -> Result<Option<&'a str>, AllocError> {
-    let mut given = BTreeSet::new(alloc);
-    for block in blocks.iter().rev() {
-        let Some(name) = block.block_name() else {
-            continue;
-        };
-        if block.super_line().is_some() && !given.contains(name) {
-            return Ok(Some(name));
-        }
-        if !block.is_required() {
-            given.insert(name)?;
-        }
-    }
-    Ok(None)
 }
 
 /// A block whose body calls `super()`, and the line of the tag that calls it.
@@ -107,15 +68,12 @@ pub(crate) fn no_super(
     alloc: Global,
     store: TemplateStore<'_>,
     indices: &[usize],
+    name: &str,
 ) -> Result<ChainFinding, AllocError>
     requires { AreIndices (files_view store.files.now) indices.now }
     ensures { IfOk result (IsOfRule (its_sources store.entry)
         (its_templates store.entry indices.now) ChainError.NoSuper) }
 {
-    let blocks = tags_at(alloc, store.files, indices, Wanted::Blocks)?;
-    let Some(name) = last_super(alloc, &blocks)? else {
-        return Ok(ChainFinding::without_place(ChainError::NoSuper));
-    };
     let named = tags_at(alloc, store.files, indices, Wanted::Block(name))?;
     let Some(call) = last_call(named) else {
         return Ok(ChainFinding::without_place(ChainError::NoSuper));

@@ -130,7 +130,7 @@ impl From<OrderError> for ChainError {
 
     fn from(refusal: OrderError) -> ChainError {
         match refusal {
-            OrderError::Cycle => ChainError::IncludeCycle,
+            OrderError::Cycle(_ring) => ChainError::IncludeCycle,
             OrderError::NoMemory => ChainError::NoMemory,
         }
     }

@@ -1,22 +1,19 @@
 //! Reads the path from a chain's entry to its root, and the template of a library.
 
-ghost use Rattle.std.specs.Prelude.{◌≡◌, false, true, map, IfOk, MatchOption, option_map};
-ghost use Rattle.std.specs.Prelude.{string_bytes};
+ghost use Rattle.std.specs.Prelude.{◌≡◌, false, true, map, IfOk, MatchOption};
 ghost use Rattle.jt_ast.specs.Texts.{among};
-ghost use Rattle.jt_ast.specs.StatementView.{body_of};
 ghost use Rattle.jt_chains.specs.Along.{AreIndices, templates_at};
-ghost use Rattle.jt_chains.specs.Chain.{extends_of};
-ghost use Rattle.jt_chains.specs.TemplateFiles.{files_view};
+ghost use Rattle.jt_chains.specs.TemplateFiles.{file_view, files_view};
 ghost use Rattle.jt_inherit.specs.internal.ExtendsPaths.{IsAt, KnowTemplateFiles, Reads};
 ghost use Rattle.jt_inherit.specs.internal.Imported.{is_no_library};
-ghost use Rattle.jt_inherit.specs.internal.Placing.{IsNamedOn};
+ghost use Rattle.jt_inherit.specs.internal.Placing.{IsNamedOn, IsParent};
 ghost use Rattle.jt_inherit.specs.internal.SetView.{key_view};
 ghost use Rattle.jt_inherit.specs.internal.Sets.{names_view};
 
 use crate::error::ChainError;
-use crate::finding::ChainFinding;
+use crate::finding::{ChainFinding, TagPlace};
 use crate::library::{Library, Loader};
-use crate::placing::{cycle_finding, long_finding, parent_finding};
+use crate::placing::{AskedName, cycle_finding, long_finding, name_finding};
 use crate::sets::{Names, NamespaceKey};
 use crate::statements::parent_of;
 use crate::store::read_index;
@@ -43,15 +40,22 @@ fn number_on(files: &[TemplateFile], extends_path: &[usize], name: &str) -> Opti
     None
 }
 
-/// Returns the name of the template that a template extends.
-fn parent_name(alloc: Global, file: &TemplateFile) -> Result<Option<String>, AllocError>
-    ensures { IfOk result
-        (λ o. option_map string_bytes o ≡ extends_of (body_of file.now.template)) }
+/// Returns the name that a template extends, with the place of the tag.
+fn parent_name(alloc: Global, file: &TemplateFile) -> Result<Option<AskedName>, AllocError>
+    ensures { IfOk result (IsParent (file_view file.now)) }
 {
-    match parent_of(file.template.body()) {
-        Some(name) => Ok(Some(String::from_str(alloc, name)?)),
-        None => Ok(None),
-    }
+    let Some(tag) = parent_of(file.template.body()) else {
+        return Ok(None);
+    };
+    let name = String::from_str(alloc, tag.0)?;
+    let template = String::from_str(alloc, &file.name)?;
+    Ok(Some(AskedName {
+        name,
+        place: Some(TagPlace {
+            template,
+            line: tag.1,
+        }),
+    }))
 }
 
 /// Returns the index of the template of a library, which was read, as the only one of the path.
@@ -87,23 +91,25 @@ pub(crate) fn read_namespace<L: Library>(
         return Ok(library_path(alloc, names, &namespace.name)?);
     }
     let mut extends_path = Vec::new(alloc);
-    let mut name = String::from_str(alloc, &namespace.name)?;
-    for _turn in 0..MAX_TEMPLATES {
-        if let Some(start) = number_on(files, &extends_path, &name) {
-            return Err(cycle_finding(alloc, files, &extends_path, start, &name)?);
+    let mut asked = AskedName {
+        name: String::from_str(alloc, &namespace.name)?,
+        place: None,
+    };
+    'path: loop {
+        if let Some(start) = number_on(files, &extends_path, &asked.name) {
+            return Err(cycle_finding(alloc, files, &extends_path, start, asked)?);
         }
-        let index = match read_index(alloc, names, files, &name, loader) {
+        if extends_path.len() == MAX_TEMPLATES {
+            return Err(long_finding(asked));
+        }
+        let index = match read_index(alloc, names, files, &asked.name, loader) {
             Ok(index) => index,
-            Err(error) => return Err(parent_finding(alloc, files, &extends_path, &name, error)?),
+            Err(error) => return Err(name_finding(asked, error)),
         };
         extends_path.push(index)?;
         match parent_name(alloc, &files[index])? {
-            Some(parent) => name = parent,
+            Some(parent) => asked = parent,
             None => return Ok(extends_path),
         }
     }
-    if let Some(start) = number_on(files, &extends_path, &name) {
-        return Err(cycle_finding(alloc, files, &extends_path, start, &name)?);
-    }
-    Err(long_finding(alloc, files, &extends_path, &name)?)
 }

@@ -8,6 +8,7 @@ ghost use Rattle.jt_chains.specs.TemplateFiles.{files_view};
 ghost use Rattle.jt_chains.specs.Rules as rules;
 ghost use Rattle.jt_inherit.specs.internal.RuleTests as spec;
 ghost use Rattle.jt_inherit.specs.internal.RuleTests.{names_from, imported_names, their_names};
+ghost use Rattle.jt_inherit.specs.internal.Breaking.{Misses, lacks};
 ghost use Rattle.jt_inherit.specs.internal.Given.{IsGiven, macros_held, its_sources, its_templates};
 ghost use Rattle.jt_ast.specs.Texts.{texts};
 ghost use Rattle.jt_inherit.specs.internal.SetView.{AddsTexts};
@@ -25,28 +26,47 @@ pub(crate) fn library_file<'a>(store: TemplateStore<'a>, library: &str) -> Optio
     Some(&store.files[index])
 }
 
-/// Returns whether a template does not offer all macros of `names` to importers.
-fn has_not(file: &TemplateFile, names: &[(String, String)]) -> bool
-    ensures { result ≡ spec.has_not (macros_held file.now) (given_view names.now) }
-{
-    names.iter().any(|(name, _)| !file.gives(name))
+/// A macro that a library does not offer.
+#[derive(Clone, Copy)]
+pub(crate) struct MissingMacro<'a> {
+    pub(crate) library: &'a str,
+    pub(crate) name: &'a str,
 }
 
-/// Returns whether a `from` tag names a macro that the library does not offer. A template that was
-/// not read, or is no library, lacks no macro.
-fn lacks_one(store: TemplateStore<'_>, library: &str, names: &[(String, String)]) -> bool
-    ensures { result
-        ≡ rules.lacks_one (its_sources store.entry) library.now (given_view names.now) }
+/// Returns whether the library was read and does not offer the macro to importers.
+fn lacks_macro(store: TemplateStore<'_>, library: &str, name: &str) -> bool
+    ensures { result ≡ lacks (its_sources store.entry) library.now name.now }
 {
     match library_file(store, library) {
-        Some(file) => file.is_library() && has_not(file, names),
+        Some(file) => file.is_library() && !file.gives(name),
         None => false,
     }
 }
 
-/// Returns whether a template imports a macro that its library does not offer.
-fn lacks_macros(store: TemplateStore<'_>, body: &[Stmt]) -> bool
-    ensures { result ≡ rules.lacks_macros (its_sources store.entry) (body_view body.now) }
+/// Returns the first of the macros that the library does not offer.
+fn missing_from<'a>(
+    store: TemplateStore<'_>,
+    library: &'a str,
+    macros: &'a [(String, String)],
+) -> Option<MissingMacro<'a>>
+    ensures { Misses (its_sources store.entry)
+        (rules.lacks_one (its_sources store.entry) library.now (given_view macros.now)) result }
+{
+    for (name, _) in macros {
+        if lacks_macro(store, library, name) {
+            return Some(MissingMacro {
+                library,
+                name: name.as_str(),
+            });
+        }
+    }
+    None
+}
+
+/// Returns the first macro that a template imports and the library does not offer.
+fn missing_in<'a>(store: TemplateStore<'_>, body: &'a [Stmt]) -> Option<MissingMacro<'a>>
+    ensures { Misses (its_sources store.entry)
+        (rules.lacks_macros (its_sources store.entry) (body_view body.now)) result }
 {
     for statement in body {
         if let Stmt::From {
@@ -55,21 +75,29 @@ fn lacks_macros(store: TemplateStore<'_>, body: &[Stmt]) -> bool
             ..
         } = statement
         {
-            if lacks_one(store, library, macros) {
-                return true;
+            if let Some(found) = missing_from(store, library, macros) {
+                return Some(found);
             }
         }
     }
-    false
+    None
 }
 
-/// Returns whether a template at `indices` imports a macro that its library does not offer.
-pub(crate) fn any_lacks_macros(store: TemplateStore<'_>, indices: &[usize]) -> bool
+/// Returns the first macro that the templates at `indices` import and the library does not offer.
+pub(crate) fn missing_at<'a>(
+    store: TemplateStore<'a>,
+    indices: &[usize],
+) -> Option<MissingMacro<'a>>
     requires { AreIndices (files_view store.files.now) indices.now }
-    ensures { result ≡ spec.any_lacks_macros (its_sources store.entry)
-        (its_templates store.entry indices.now) }
+    ensures { Misses (its_sources store.entry) (spec.any_lacks_macros (its_sources store.entry)
+        (its_templates store.entry indices.now)) result }
 {
-    indices.iter().any(|index| lacks_macros(store, store.files[*index].template.body()))
+    for index in indices {
+        if let Some(found) = missing_in(store, store.files[*index].template.body()) {
+            return Some(found);
+        }
+    }
+    None
 }
 
 /// Adds the names that a `from` tag binds to macros that the library offers.

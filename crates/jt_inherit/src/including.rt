@@ -5,21 +5,17 @@ ghost use Rattle.std.specs.Prelude.{◌≡◌, ◌≤◌, ◌++◌, ◌∷◌, [
 ghost use Rattle.std.specs.Prelude.{IfErr, string_bytes};
 ghost use Rattle.std.specs.List.{AllByRecursion};
 ghost use Rattle.jt_chains.specs.Along.{AreIndices, templates_at};
-ghost use Rattle.jt_inherit.specs.internal.Along.{imports_along, needs_of};
+ghost use Rattle.jt_inherit.specs.internal.Found.{imports_along, needs_of, IsMet, IsFaultAt};
+ghost use Rattle.jt_inherit.specs.internal.Found.{IsPutFault, AreNamespaces, AreNext, AddsNext};
+ghost use Rattle.jt_inherit.specs.internal.Found.{IsNextFault, IsNextFinding, chains_of, lead_to};
+ghost use Rattle.jt_inherit.specs.internal.Found.{leads_to, IsUnmet};
 ghost use Rattle.jt_chains.specs.Chain.{listed};
-ghost use Rattle.jt_inherit.specs.internal.Found.{IsMet, IsFaultAt, IsPutFault};
-ghost use Rattle.jt_inherit.specs.internal.Found.{AreNamespaces, AreNext, AddsNext, IsNextFault};
-ghost use Rattle.jt_inherit.specs.internal.Found.{IsNextFinding};
-ghost use Rattle.jt_inherit.specs.internal.Found.{chains_of};
-ghost use Rattle.jt_inherit.specs.internal.Found.{lead_to, leads_to};
-ghost use Rattle.jt_inherit.specs.internal.Unmet.{IsUnmet};
 ghost use Rattle.jt_chains.specs.Needs.{AddsNeeds, need_namespace, need_view, needed, needs_view};
 ghost use Rattle.jt_chains.specs.TemplateFiles.{files_view};
 ghost use Rattle.jt_inherit.specs.internal.SetView.{key_view};
 ghost use Rattle.jt_inherit.specs.internal.Sets.{namespaces_view, names_view};
 ghost use Rattle.jt_inherit.specs.internal.ExtendsPaths.{AreKnown, AddsName, HaveGrown};
-ghost use Rattle.jt_inherit.specs.internal.ExtendsPaths.{KnowTemplateFiles};
-ghost use Rattle.jt_inherit.specs.internal.ExtendsPaths.{AddsNames, StayKnown};
+ghost use Rattle.jt_inherit.specs.internal.ExtendsPaths.{KnowTemplateFiles, AddsNames, StayKnown};
 
 use crate::error::ChainError;
 use crate::finding::ChainFinding;

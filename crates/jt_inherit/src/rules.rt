@@ -1,26 +1,29 @@
 //! Checks the rules on the blocks, macros and imports of a whole chain or library.
 
-ghost use Rattle.std.specs.Prelude.{◌≡◌, ◌&&◌, ◌||◌, ◌++◌, ◌∷◌, [], List, not, IfOk, IfErr, OnOk};
-ghost use Rattle.std.specs.Prelude.{if◌then◌else◌};
+ghost use Rattle.std.specs.Prelude.{◌≡◌, ◌&&◌, ◌||◌, ◌++◌, List, false, not, IfOk, IfErr, OnOk};
+ghost use Rattle.std.specs.Prelude.{MatchOption};
+ghost use Rattle.std.specs.Option.{is_some};
 ghost use Rattle.std.specs.Str.{bytes_eq};
-ghost use Rattle.jt_ast.specs.Texts.{among, repeated, texts};
+ghost use Rattle.jt_ast.specs.Texts.{among, texts};
 ghost use Rattle.jt_ast.specs.Expressions.{Text};
-ghost use Rattle.jt_chains.specs.Along.{AreIndices, templates_at};
+ghost use Rattle.jt_ast.specs.Texts.{repeated as texts_repeat};
+ghost use Rattle.jt_inherit.specs.internal.RuleTests.{block_names as spec_names};
+ghost use Rattle.jt_chains.specs.Along.{AreIndices};
 ghost use Rattle.jt_chains.specs.Chain.{Template};
-ghost use Rattle.jt_inherit.specs.internal.Checks.{lacks_body, lacks_next, block_names};
+ghost use Rattle.jt_inherit.specs.internal.RuleTests.{lacks_body, lacks_next};
 ghost use Rattle.jt_inherit.specs.internal.RuleTests as spec;
 ghost use Rattle.jt_chains.specs.TemplateFiles.{files_view};
 ghost use Rattle.jt_chains.specs.Parts.{blocks_view};
-ghost use Rattle.jt_inherit.specs.internal.FindsAt.{IsBroken};
+ghost use Rattle.jt_inherit.specs.internal.Breaking.{IsBroken};
 ghost use Rattle.jt_inherit.specs.internal.Given.{its_sources, its_templates};
 
 use crate::bodies::{no_super, not_given};
 use crate::breaking::{block_twice, missing_finding, name_twice};
 use crate::finding::ChainFinding;
-use crate::importing::{any_lacks_macros, names_at};
+use crate::importing::{missing_at, names_at};
 use crate::store::TemplateStore;
 use crate::supers::calls_super;
-use jt_chains::{Block, TemplateFile, blocks_at, blocks_of_file};
+use jt_chains::{Block, blocks_at, blocks_of_file};
 use std::alloc::{AllocError, Global};
 use std::collections::BTreeSet;
 
@@ -34,30 +37,24 @@ fn note<'a>(names: &mut BTreeSet<&'a str>, name: &'a str) -> Result<bool, AllocE
     Ok(!added)
 }
 
-/// Returns whether two of the bodies have the same name.
-pub(crate) fn blocks_repeat(alloc: Global, blocks: &[Block<'_>]) -> Result<bool, AllocError>
-    ensures { IfOk result (λ found. found ≡ repeated (block_names blocks.now)) }
+/// Returns the names of bodies, in their order.
+fn block_names<'a>(alloc: Global, blocks: &[Block<'a>]) -> Result<Vec<&'a str>, AllocError>
+    ensures { IfOk result (λ names. texts names.items ≡ spec_names blocks.now) }
 {
-    let mut names = BTreeSet::new(alloc);
-    for block in blocks {
-        if note(&mut names, block.name)? {
-            return Ok(true);
-        }
-    }
-    Ok(false)
+    blocks.iter().map(|block| block.name).collect(alloc)
 }
 
-/// Returns whether two of the names are equal.
-fn names_repeat(alloc: Global, given: &[&str]) -> Result<bool, AllocError>
-    ensures { IfOk result (λ found. found ≡ repeated (texts given.now)) }
+/// Returns the first name that occurs before, if any.
+fn repeated<'a>(alloc: Global, names: &[&'a str]) -> Result<Option<&'a str>, AllocError>
+    ensures { IfOk result (λ found. is_some found ≡ texts_repeat (texts names.now)) }
 {
-    let mut names = BTreeSet::new(alloc);
-    for name in given {
-        if note(&mut names, *name)? {
-            return Ok(true);
+    let mut known = BTreeSet::new(alloc);
+    for name in names {
+        if note(&mut known, *name)? {
+            return Ok(Some(*name));
         }
     }
-    Ok(false)
+    Ok(None)
 }
 
 /// Returns whether a body is required but does not exist.
@@ -80,55 +77,67 @@ fn note_given<'a>(given: &mut BTreeSet<&'a str>, block: &Block<'a>) -> Result<()
     Ok(())
 }
 
-/// Returns whether the nearest body of a block is a required one.
-pub(crate) fn any_lacks_body(alloc: Global, blocks: &[Block<'_>]) -> Result<bool, AllocError>
+/// Returns the name that two bodies of blocks have, if any.
+fn repeated_block<'a>(alloc: Global, blocks: &[Block<'a>]) -> Result<Option<&'a str>, AllocError>
+    ensures { IfOk result (λ found. is_some found ≡ texts_repeat (spec_names blocks.now)) }
+{
+    let names = block_names(alloc, blocks)?;
+    repeated(alloc, &names)
+}
+
+/// Returns the name of the first block whose nearest body is a required one, if any.
+fn lacking_body<'a>(alloc: Global, blocks: &[Block<'a>]) -> Result<Option<&'a str>, AllocError>
     ensures { IfOk result
-        (λ found. (ts : List Template) → found ≡ lacks_body (blocks_view ts blocks.now)) }
+        (λ found. (ts : List Template) → is_some found ≡ lacks_body (blocks_view ts blocks.now)) }
 {
     let mut names = BTreeSet::new(alloc);
     for block in blocks {
         let known = note(&mut names, block.name)?;
         if is_lacking(known, block.required) {
-            return Ok(true);
+            return Ok(Some(block.name));
         }
     }
-    Ok(false)
+    Ok(None)
 }
 
-/// Returns whether a body calls `super()` and each body of its block after it, if any, is required.
+/// Returns the name of a block with a body that calls `super()`, if each body after it is required.
 /// Visits the bodies from the last to the first.
-pub(crate) fn any_lacks_next(alloc: Global, mut bodies: Vec<Block<'_>>) -> Result<bool, AllocError>
-    ensures { IfOk result
-        (λ found. (ts : List Template) → found ≡ lacks_next (blocks_view ts bodies.entry.items)) }
+fn lacking_next<'a>(
+    alloc: Global,
+    mut bodies: Vec<Block<'a>>,
+) -> Result<Option<&'a str>, AllocError>
+    ensures { IfOk result (λ found. (ts : List Template)
+        → is_some found ≡ lacks_next (blocks_view ts bodies.entry.items)) }
 {
     let mut given: BTreeSet<&str> = BTreeSet::new(alloc);
     while let Some(block) = bodies.pop() {
         if is_lacking(given.contains(block.name), calls_super(block.body)) {
-            return Ok(true);
+            return Ok(Some(block.name));
         }
         note_given(&mut given, &block)?;
     }
-    Ok(false)
+    Ok(None)
 }
 
-/// Returns whether a template at `indices` has two blocks of one name.
-fn any_double(
+/// Returns the finding of a template at `indices` with two blocks of one name, if any.
+fn double_block(
     alloc: Global,
-    files: &[TemplateFile],
+    store: TemplateStore<'_>,
     indices: &[usize],
     escaping: bool,
-) -> Result<bool, AllocError>
-    requires { AreIndices (files_view files.now) indices.now }
-    ensures { IfOk result (λ found.
-        found ≡ spec.any_double escaping (templates_at (files_view files.now) indices.now)) }
+) -> Result<Option<ChainFinding>, AllocError>
+    requires { AreIndices (files_view store.files.now) indices.now }
+    ensures { IfOk result (λ found. MatchOption found
+        (spec.any_double escaping (its_templates store.entry indices.now) ≡ false)
+        (IsBroken (its_sources store.entry) escaping (its_templates store.entry indices.now))) }
 {
     for index in indices {
-        let blocks = blocks_of_file(alloc, files, *index, escaping)?;
-        if blocks_repeat(alloc, &blocks)? {
-            return Ok(true);
+        let blocks = blocks_of_file(alloc, store.files, *index, escaping)?;
+        if let Some(name) = repeated_block(alloc, &blocks)? {
+            return Ok(Some(block_twice(alloc, &store.files[*index], name)?));
         }
     }
-    Ok(false)
+    Ok(None)
 }
 
 /// Refuses a chain or library whose blocks, macros or imports break a rule, with the tag that
@@ -146,21 +155,22 @@ pub(crate) fn check_rules(
     ensures broken { IfErr result (IsBroken (its_sources store.entry) escaping
         (its_templates store.entry indices.now)) }
 {
-    if any_double(alloc, store.files, indices, escaping)? {
-        return Err(block_twice(alloc, store, indices)?);
+    if let Some(finding) = double_block(alloc, store, indices, escaping)? {
+        return Err(finding);
     }
-    if any_lacks_macros(store, indices) {
-        return Err(missing_finding(alloc, store, indices)?);
+    if let Some(missing) = missing_at(store, indices) {
+        return Err(missing_finding(alloc, store, indices, missing)?);
     }
-    if names_repeat(alloc, &names_at(alloc, store, indices)?)? {
-        return Err(name_twice(alloc, store, indices)?);
+    let names = names_at(alloc, store, indices)?;
+    if let Some(name) = repeated(alloc, &names)? {
+        return Err(name_twice(alloc, store, indices, name)?);
     }
     let blocks = blocks_at(alloc, store.files, indices, escaping)?;
-    if any_lacks_body(alloc, &blocks)? {
-        return Err(not_given(alloc, store, indices)?);
+    if let Some(name) = lacking_body(alloc, &blocks)? {
+        return Err(not_given(alloc, store, indices, name)?);
     }
-    if any_lacks_next(alloc, blocks)? {
-        return Err(no_super(alloc, store, indices)?);
+    if let Some(name) = lacking_next(alloc, blocks)? {
+        return Err(no_super(alloc, store, indices, name)?);
     }
     Ok(())
 }

@@ -2,12 +2,11 @@
 //! untrusted templates, so the sets use ordered maps. No choice of names makes an ordered map slow,
 //! as it could a hash table.
 
-ghost use Rattle.std.specs.Prelude.{◌≡◌, ◌^◌, ◌<◌, ◌++◌, ◌∷◌, [], false, length, slice_get, Some};
-ghost use Rattle.std.specs.Prelude.{OnOk, string_bytes};
+ghost use Rattle.std.specs.Prelude.{◌≡◌, ◌^◌, ◌<◌, ◌++◌, ◌∷◌, [], false, true, length, slice_get};
+ghost use Rattle.std.specs.Prelude.{Some, OnOk};
 ghost use Rattle.jt_ast.specs.Texts.{among};
 ghost use Rattle.jt_chains.specs.Chain.{listed};
-ghost use Rattle.jt_inherit.specs.internal.Numbers.{AreNumbers, AreNumbers-prop, is_text, is_chain};
-ghost use Rattle.jt_inherit.specs.internal.Numbers.{is_library};
+ghost use Rattle.jt_inherit.specs.internal.Numbers.{AreNumbers, AreNumbers-prop, is_text, is_kind};
 ghost use Rattle.jt_inherit.specs.internal.SetView.{FindsIn, strings, key_view, keys_view};
 
 use std::alloc::{AllocError, Global};
@@ -75,10 +74,10 @@ pub(crate) struct Namespaces {
     chains: BTreeMap<String, usize>,
     /// The number of each library, by its name.
     libraries: BTreeMap<String, usize>,
-    ghost chains_numbered: { AreNumbers is_chain items.items
-        chains } by { AreNumbers-prop is_chain items.items chains },
-    ghost libraries_numbered: { AreNumbers is_library items.items
-        libraries } by { AreNumbers-prop is_library items.items libraries },
+    ghost chains_numbered: { AreNumbers (is_kind false) items.items
+        chains } by { AreNumbers-prop (is_kind false) items.items chains },
+    ghost libraries_numbered: { AreNumbers (is_kind true) items.items
+        libraries } by { AreNumbers-prop (is_kind true) items.items libraries },
 }
 
 impl Namespaces {
@@ -112,14 +111,23 @@ impl Namespaces {
         &self.items[number]
     }
 
+    /// Returns the numbers of the libraries, or those of the chains, by their names.
+    fn numbers(&self, is_library: bool) -> &BTreeMap<String, usize>
+        ensures { AreNumbers (is_kind is_library) self.now.items.items result.now }
+    {
+        if is_library {
+            return &self.libraries;
+        }
+        &self.chains
+    }
+
     /// Returns the number of a chain or library.
     pub(crate) fn find(&self, namespace: &NamespaceKey) -> Option<usize>
         ensures { FindsIn listed (keys_view self.now.items.items) (key_view namespace.now) result }
     {
-        if namespace.is_library {
-            return self.libraries.get(namespace.name.as_str()).copied();
-        }
-        self.chains.get(namespace.name.as_str()).copied()
+        self.numbers(namespace.is_library)
+            .get(namespace.name.as_str())
+            .copied()
     }
 
     /// Appends a chain or library that the set does not have.

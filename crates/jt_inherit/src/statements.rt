@@ -2,20 +2,21 @@
 
 ghost use Rattle.std.specs.Prelude.{◌≡◌, map, option_map, IfOk};
 ghost use Rattle.jt_ast.specs.StatementView.{body_view};
-ghost use Rattle.jt_chains.specs.Chain.{extends_of, libraries_in};
+ghost use Rattle.jt_chains.specs.Chain.{libraries_in};
+ghost use Rattle.jt_inherit.specs.internal.Placing.{extends_at};
 ghost use Rattle.jt_chains.specs.Needs.{library_need, need_view, AddsNeeds};
 
 use jt_ast::Stmt;
 use jt_chains::NeededTemplate;
 use std::alloc::AllocError;
 
-/// Returns the name of the template that the statements extend.
-pub(crate) fn parent_of(body: &[Stmt]) -> Option<&str>
-    ensures { option_map (λ s. s.now) result ≡ extends_of (body_view body.now) }
+/// Returns the name of the template that the statements extend, and the line of the tag.
+pub(crate) fn parent_of(body: &[Stmt]) -> Option<(&str, u32)>
+    ensures { option_map (λ p. (p.0.now, p.1)) result ≡ extends_at (body_view body.now) }
 {
     for statement in body {
-        if let Stmt::Extends(_, name) = statement {
-            return Some(name.as_str());
+        if let Stmt::Extends(line, name) = statement {
+            return Some((name.as_str(), *line));
         }
     }
     None

@@ -1,13 +1,12 @@
 //! Stores the templates that were read: each one once, indexed by name.
 
 ghost use Rattle.std.specs.Prelude.{◌≡◌, ◌++◌, ◌∷◌, [], false, map, slice_get, Some, OnOk, IfOk};
-ghost use Rattle.std.specs.Prelude.{IfErr, OnErr, string_bytes};
+ghost use Rattle.std.specs.Prelude.{IfErr, string_bytes};
 ghost use Rattle.jt_ast.specs.Texts.{among};
 ghost use Rattle.jt_inherit.specs.internal.Faults.{IsFaultOf};
 ghost use Rattle.jt_chains.specs.TemplateFiles.{files_view};
 ghost use Rattle.jt_inherit.specs.internal.ExtendsPaths.{AddsName, Grow, KnowTemplateFiles};
-ghost use Rattle.jt_inherit.specs.internal.ExtendsPaths.{AreNamed};
-ghost use Rattle.jt_inherit.specs.internal.ExtendsPaths.{AreNamed-prop};
+ghost use Rattle.jt_inherit.specs.internal.ExtendsPaths.{AreNamed, AreNamed-prop};
 ghost use Rattle.jt_inherit.specs.internal.Sets.{names_view};
 
 use crate::error::ChainError;
@@ -35,7 +34,6 @@ pub(crate) fn add_file(
 ) -> Result<(), AllocError>
     requires { among (string_bytes file.name) (names_view names.old) ≡ false }
     ensures files { OnOk result (files.new.items ≡ files.old.items ++ file ∷ []) }
-    ensures kept { OnErr result (files.new.items ≡ files.old.items) }
     ensures names { OnOk result
         (names_view names.new ≡ names_view names.old ++ string_bytes file.name ∷ []) }
 {
@@ -63,7 +61,6 @@ pub(crate) fn read_index<L: Library>(
         (λ i. slice_get (map (λ t. t.name) (files_view files.new.items)) i ≡ Some name.now) }
     ensures refused { IfErr result (λ e.
         IsFaultOf e (L.sources loader.now.library.now) name.now loader.now.options) }
-    ensures kept { OnErr result (files.new.items ≡ files.old.items) }
 {
     if let Some(index) = names.find(name) {
         return Ok(index);

@@ -3,7 +3,7 @@
 ghost use Rattle.std.specs.Prelude.{◌≡◌, option_map};
 ghost use Rattle.jt_ast.specs.ExpressionView.{expr_view, exprs_view, pairs_view};
 ghost use Rattle.jt_chains.specs.Supers as spec;
-ghost use Rattle.jt_ast.specs.StatementView.{stmt_view, body_view, branches_view, filter_call_view};
+ghost use Rattle.jt_ast.specs.StatementView.{stmt_view, body_view, branches_view};
 ghost use Rattle.jt_ast.specs.StatementView.{filter_calls_view};
 ghost use Rattle.jt_inherit.specs.internal.SuperLines.{line_if, first_of, first_in, first_under};
 
@@ -101,7 +101,12 @@ fn condition_super(condition: &Option<Expr>) -> bool
 fn filters_super(filters: &[FilterCall]) -> bool
     ensures { result ≡ spec.filter_call_super (filter_calls_view filters.now) }
 {
-    filters.iter().any(|filter| any_super(&filter.arguments) || any_super_pair(&filter.keywords))
+    for filter in filters {
+        if any_super(&filter.arguments) || any_super_pair(&filter.keywords) {
+            return true;
+        }
+    }
+    false
 }
 
 /// Returns whether statements call `super()`, nested blocks excluded.

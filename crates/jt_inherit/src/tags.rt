@@ -1,13 +1,12 @@
 //! Finds the tags that a finding names.
 
-ghost use Rattle.std.specs.Prelude.{◌≡◌, ◌++◌, true, option_map, slice_get, IfOk, IfSome};
+ghost use Rattle.std.specs.Prelude.{◌≡◌, ◌++◌, true, option_map, IfOk, IfSome};
 ghost use Rattle.jt_chains.specs.Along.{AreIndices, templates_at};
 ghost use Rattle.jt_chains.specs.TemplateFiles.{file_view, files_view};
 ghost use Rattle.jt_inherit.specs.Findings as findings;
 ghost use Rattle.jt_inherit.specs.Findings.{all_uses, uses_in};
 ghost use Rattle.jt_inherit.specs.internal.Tags.{test_of, tags, tags_view, tag_view, place_view};
-ghost use Rattle.jt_inherit.specs.internal.Tags.{place_in};
-ghost use Rattle.jt_inherit.specs.internal.Tags.{with_name, place_of};
+ghost use Rattle.jt_inherit.specs.internal.Tags.{AreFirst, place_in, with_name, place_of};
 ghost use Rattle.jt_uses.specs.UseView.{use_view, sites_view};
 
 use crate::finding::TagPlace;
@@ -33,8 +32,6 @@ pub(crate) enum Wanted<'a> {
     BindsMacro { library: &'a str, name: &'a str },
     /// It is a block of the name.
     Block(&'a str),
-    /// It is a block.
-    Blocks,
     /// It defines the name as a macro or by an import.
     Defines(&'a str),
 }
@@ -85,14 +82,6 @@ impl<'a> FoundTag<'a> {
             _ => None,
         }
     }
-
-    /// Returns the name of a block.
-    pub(crate) fn block_name(self) -> Option<&'a str> {
-        match self.site.made {
-            Use::DeclaresBlock { name, .. } => Some(name),
-            _ => None,
-        }
-    }
 }
 
 /// Returns whether a use is a wanted one.
@@ -121,7 +110,6 @@ fn is_wanted(wanted: Wanted<'_>, made: Use<'_>) -> bool
                 ..
             },
         ) => library == one && called == name,
-        (Wanted::Blocks, Use::DeclaresBlock { .. }) => true,
         _ => false,
     }
 }
@@ -181,20 +169,6 @@ pub(crate) fn tags_at<'a>(
     Ok(found)
 }
 
-/// Returns the place of the first of some tags.
-pub(crate) fn first_place(
-    alloc: Global,
-    found: &[FoundTag<'_>],
-) -> Result<Option<TagPlace>, AllocError>
-    ensures { IfOk result (λ p. option_map place_view p
-        ≡ option_map place_of (slice_get (tags_view found.now) 0)) }
-{
-    match found.first() {
-        Some(tag) => Ok(Some(tag.place(alloc)?)),
-        None => Ok(None),
-    }
-}
-
 /// Returns the place of the first wanted use of the templates at `indices`.
 pub(crate) fn first_at(
     alloc: Global,
@@ -206,20 +180,24 @@ pub(crate) fn first_at(
     ensures { IfOk result (λ p. option_map place_view p ≡ place_in 0 (tags (test_of wanted.entry)
         (all_uses (templates_at (files_view files.now) indices.now)))) }
 {
-    let found = tags_at(alloc, files, indices, wanted)?;
-    first_place(alloc, &found)
-}
-
-/// Returns the place of the second of some tags.
-pub(crate) fn second_place(
-    alloc: Global,
-    found: &[FoundTag<'_>],
-) -> Result<Option<TagPlace>, AllocError>
-    ensures { IfOk result (λ p. option_map place_view p
-        ≡ option_map place_of (slice_get (tags_view found.now) 1)) }
-{
-    match found.get(1) {
+    match tags_at(alloc, files, indices, wanted)?.first() {
         Some(tag) => Ok(Some(tag.place(alloc)?)),
         None => Ok(None),
     }
+}
+
+/// Returns the places of the first two of some tags.
+pub(crate) fn two_places(
+    alloc: Global,
+    found: &[FoundTag<'_>],
+) -> Result<Option<(TagPlace, TagPlace)>, AllocError>
+    ensures { IfOk result (λ o. IfSome o (AreFirst found.now)) }
+{
+    let Some(first) = found.first() else {
+        return Ok(None);
+    };
+    let Some(second) = found.get(1) else {
+        return Ok(None);
+    };
+    Ok(Some((first.place(alloc)?, second.place(alloc)?)))
 }

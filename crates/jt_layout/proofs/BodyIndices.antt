@@ -1,16 +1,10 @@
 -- Bodies of blocks by their indices.
-use Rattle.std.proofs.Common.{◌≡◌, ℕ, zero, suc, ◌+◌, ◌<◌, true, false, List, [], ◌∷◌, length, map, drop, get_or, refl}
-use Rattle.std.proofs.Common.{sym, ap, ◌∙◌, Option, Some, if◌then◌else◌, add-one, set, arith, rules}
-use Rattle.std.specs.Prelude.{slice_get, filter}
-use Rattle.std.proofs.lemmas.List.{drop_more, drop-set}
-use Rattle.std.specs.Str.{bytes_eq}
-use Rattle.jt_ast.specs.Expressions.{Text}
-use Rattle.jt_chains.specs.Chain.{Template, BlockBody}
-use Rattle.jt_chains.specs.Parts.{block_view}
-use Rattle.jt_chains.specs.declared.parts.Block.{Block}
-use Rattle.jt_semantics.specs.Layout.{counted_from}
-use Rattle.jt_semantics.specs.Resolve.{next_given}
-use Rattle.jt_layout.specs.internal.Indices.{nexts}
+use Rattle.std.proofs.Common.{set}
+use Rattle.std.proofs.lemmas.List.{drop-set}
+use Rattle.jt_layout.proofs.Vocabulary.{◌≡◌, ℕ, zero, suc, ◌+◌, ◌<◌, true, false, List, [], ◌∷◌, length, map, drop}
+use Rattle.jt_layout.proofs.Vocabulary.{get_or, refl, ap, Option, Some, if◌then◌else◌, add-one, arith, rules, slice_get}
+use Rattle.jt_layout.proofs.Vocabulary.{filter, drop_more, bytes_eq, Text, Template, BlockBody, block_view, Block}
+use Rattle.jt_layout.proofs.Vocabulary.{counted_from, next_given, nexts}
 
 pub length-counted : {A : Type 0} (n : ℕ) (xs : List A) → length (counted_from n xs) ≡ length xs
 length-counted n [] = refl
@@ -53,6 +47,4 @@ module _ (ts : List Template) (bs : List Block) (i m : ℕ) (b : Block) (lt : i 
   pub nexts_turn : (p : Option ℕ) (old : List (Option ℕ)) → i < length old → p ≡ given b.name.now behind
       → drop m old ≡ nexts behind
       → drop i (set old i p) ≡ nexts (counted_from i (map (block_view ts) (drop i bs)))
-  nexts_turn p old le s t =
-      drop-set old i p le ∙ ap (λ k. p ∷ drop k old) (sym e) ∙ ap (λ l. p ∷ l) t ∙ ap (λ o. o ∷ nexts behind) s
-      ∙ ap nexts (sym numbered_left)
+  nexts_turn p old le s t = search (arith, rules, drop-set, numbered_left)

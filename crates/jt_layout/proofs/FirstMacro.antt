@@ -1,16 +1,10 @@
 -- The first macro of a name.
-use Rattle.std.proofs.Common.{◌≡◌, ℕ, suc, ◌+◌, Bool, true, false, ◌&&◌, List, [], ◌∷◌, ◌++◌, length, map, refl, sym}
-use Rattle.std.proofs.Common.{ap, ◌∙◌, Option, Some, None, if◌then◌else◌, arith, rules}
-use Rattle.std.specs.Prelude.{slice_get}
-use Rattle.std.specs.Str.{bytes_eq}
-use Rattle.jt_ast.specs.Expressions.{Text}
 use Rattle.jt_ast.specs.StatementView.{parameters_view}
-use Rattle.jt_chains.specs.Chain.{Namespace, Template, macro_of}
-use Rattle.jt_chains.specs.Parts.{macro_view}
 use Rattle.jt_chains.specs.declared.parts.Macro.{Macro}
-use Rattle.jt_semantics.specs.Layout.{Key, of_macro, index_of, first_default}
-use Rattle.jt_layout.specs.internal.Indices.{defaults_from}
-use Rattle.jt_names.specs.Names.{first_of}
+use Rattle.jt_layout.proofs.Vocabulary.{◌≡◌, ℕ, suc, ◌+◌, Bool, true, false, List, [], ◌∷◌, ◌++◌, length, map, refl}
+use Rattle.jt_layout.proofs.Vocabulary.{sym, ap, ◌∙◌, Option, Some, None, if◌then◌else◌, arith, rules, slice_get}
+use Rattle.jt_layout.proofs.Vocabulary.{bytes_eq, Text, Namespace, Template, macro_of, macro_view, Key, of_macro}
+use Rattle.jt_layout.proofs.Vocabulary.{index_of, first_default, defaults_from, first_of}
 use Rattle.jt_layout.proofs.NamespacesByName.{itself}
 
 module _ (ts : List Template) (x : Text) where
@@ -50,38 +44,23 @@ module _ (ts : List Template) (x : Text) where
               code = m;
               found = refl;
               named = q;
-              meant = ap (λ c. if c then Some (macro_view ts m) else macro_of x (map (macro_view ts) ms)) q;
-              default =
-                  λ d. (let z : d ≡ d + 0 = omega arith in ap Some z)
-                  ∙ ap (λ c. Some (d + (if c then 0 else size + front))) (sym q);
-              unit =
-                  λ h ks. ap (λ a. if a && bytes_eq m.name.now x then 0
-                  else suc (index_of (of_macro h x) (map (λ k. of_macro h k.name) (map (macro_view ts) ms) ++ ks)))
-                  (itself h)
-                  ∙ ap (λ a. if a then 0
-                  else suc (index_of (of_macro h x) (map (λ k. of_macro h k.name) (map (macro_view ts) ms) ++ ks))) q;
+              meant = search (arith, rules);
+              default = λ d. search (arith, rules);
+              unit = λ h ks. search (arith, rules, itself);
             },
           )
       by false q g =
-          let r = g (sym (ap (λ c. if c then Some n else rest) q) ∙ e) in (
+          let r = g (sym (ap (λ c. if c then Some n else rest) q) ∙ e) in
+          let a = r.2 in (
             suc r.0,
             omega (arith, r.1),
             record {
-              code = r.2.code;
-              found = r.2.found;
-              named = r.2.named;
-              meant = ap (λ c. if c then Some (macro_view ts m) else macro_of x (map (macro_view ts) ms)) q ∙ r.2.meant;
-              default =
-                  λ d. r.2.default (d + size)
-                  ∙ (let z : (d + size) + front ≡ d + (size + front) = omega arith in ap Some z)
-                  ∙ ap (λ c. Some (d + (if c then 0 else size + front))) (sym q);
-              unit =
-                  λ h ks. ap (λ a. if a && bytes_eq m.name.now x then 0
-                  else suc (index_of (of_macro h x) (map (λ k. of_macro h k.name) (map (macro_view ts) ms) ++ ks)))
-                  (itself h)
-                  ∙ ap (λ a. if a then 0
-                  else suc (index_of (of_macro h x) (map (λ k. of_macro h k.name) (map (macro_view ts) ms) ++ ks))) q
-                  ∙ ap suc (r.2.unit h ks);
+              code = a.code;
+              found = a.found;
+              named = a.named;
+              meant = search (arith, rules, a.meant);
+              default = λ d. search (arith, rules, a.default (d + size));
+              unit = λ h ks. search (arith, rules, itself, a.unit h ks);
             },
           )
 

@@ -1,18 +1,11 @@
 -- The first occurrences of names in lists.
-use Rattle.std.proofs.Common.{◌≡◌, ℕ, zero, suc, ◌+◌, ◌<◌, Bool, true, false, ◌||◌, List, [], ◌∷◌, length, map, drop}
-use Rattle.std.proofs.Common.{get_or, refl, ap, ◌∙◌, Option, Some, None, if◌then◌else◌, arith, rules}
-use Rattle.std.specs.Prelude.{option_map, filter}
-use Rattle.std.proofs.lemmas.List.{drop_more}
-use Rattle.std.specs.Str.{bytes_eq}
-use Rattle.jt_ast.specs.Expressions.{Text}
-use Rattle.jt_chains.specs.Chain.{Namespace, a_chain, same_namespace, listed, BlockBody}
-use Rattle.jt_chains.specs.Indices.{namespace_at}
-use Rattle.jt_ir.specs.Slots.{global}
-use Rattle.jt_semantics.specs.Layout.{slot_in, globals_from, counted_from}
 use Rattle.jt_semantics.specs.Resolve.{first_body}
 use Rattle.jt_layout.specs.NamespaceLayout.{IsNamespaceAt}
-use Rattle.jt_layout.specs.internal.Indices.{first_namespace}
-use Rattle.jt_names.specs.Names.{first_of}
+use Rattle.jt_layout.proofs.Vocabulary.{◌≡◌, ℕ, zero, suc, ◌+◌, ◌<◌, Bool, true, false, ◌||◌, List, [], ◌∷◌, length}
+use Rattle.jt_layout.proofs.Vocabulary.{map, drop, get_or, refl, ap, ◌∙◌, Option, Some, None, if◌then◌else◌, arith}
+use Rattle.jt_layout.proofs.Vocabulary.{rules, option_map, filter, drop_more, bytes_eq, Text, Namespace, a_chain}
+use Rattle.jt_layout.proofs.Vocabulary.{same_namespace, listed, BlockBody, namespace_at, global, slot_in, globals_from}
+use Rattle.jt_layout.proofs.Vocabulary.{counted_from, first_namespace, first_of}
 use Rattle.jt_layout.proofs.NamespacesByName.{same_is}
 
 -- Names in slots.

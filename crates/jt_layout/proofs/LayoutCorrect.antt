@@ -1,40 +1,26 @@
 -- The layout of a chain or a library is correct.
-use Rattle.std.proofs.Common.{◌≡◌, ℕ, zero, suc, ◌+◌, ◌<◌, Bool, true, false, not, ◌||◌, List, [], ◌∷◌, ◌++◌, length}
-use Rattle.std.proofs.Common.{map, drop, refl, sym, ap, subst, ◌∙◌, Option, Some, None, if◌then◌else◌, arith}
-use Rattle.std.proofs.Common.{add-one, rules}
-use Rattle.std.proofs.lemmas.List.{length-map}
-use Rattle.std.specs.Prelude.{slice_get, option_map}
-use Rattle.std.specs.Option.{is_some}
-use Rattle.std.proofs.lemmas.Bool.{or_right}
-use Rattle.jt_ast.specs.Expressions.{Text}
-use Rattle.jt_chains.specs.Chain.{Namespace, a_chain, same_namespace, listed, Sources, Template, MacroBody}
-use Rattle.jt_chains.specs.Chain.{macros, macro_of, all_bodies}
 use Rattle.jt_chains.specs.Includes.{InOrder}
-use Rattle.jt_chains.specs.TemplateFiles.{namespace_view}
-use Rattle.jt_chains.specs.Parts.{macro_view, block_view}
-use Rattle.jt_chains.specs.Indices.{namespace_at}
-use Rattle.jt_chains.specs.Uses as uses
-use Rattle.jt_chains.specs.View.{chain_view, namespace_in, sources_of}
+use Rattle.jt_chains.specs.View.{sources_of}
 use Rattle.jt_chains.specs.declared.chain.Chain.{Chain}
-use Rattle.jt_chains.specs.declared.parts.Block.{Block}
-use Rattle.jt_rules.specs.CompileEnv.{CompileEnv}
-use Rattle.jt_ir.specs.Slots.{global}
-use Rattle.jt_semantics.specs.Layout.{in_globals, slot_in, globals_from, counted_from, of_macro, of_body, entry_keys}
-use Rattle.jt_semantics.specs.Layout.{index_of, first_default, default_index, names, block_parameters}
-use Rattle.jt_semantics.specs.Layout.{is_scoped, unit, defaults_of}
-use Rattle.jt_layout.specs.internal.Front.{Stands}
-use Rattle.jt_layout.specs.internal.Namespaces.{its_cenv, its_order}
-use Rattle.jt_layout.specs.NamespaceLayout.{is_library, IsCalled}
-use Rattle.jt_layout.specs.internal.Indices.{namespace_named, defaults_from, nexts}
-use Rattle.jt_names.specs.Names.{first_of}
-use Rattle.jt_layout.specs.declared.front.FirstFree.{FirstFree}
-use Rattle.jt_layout.specs.declared.namespace_layout.NamespaceLayout.{NamespaceLayout}
+use Rattle.jt_semantics.specs.Layout.{block_parameters, is_scoped}
+use Rattle.jt_layout.specs.NamespaceLayout.{IsCalled}
+use Rattle.jt_layout.proofs.Vocabulary.{◌≡◌, ℕ, zero, suc, ◌+◌, ◌<◌, Bool, true, false, not, ◌||◌, List, [], ◌∷◌, ◌++◌}
+use Rattle.jt_layout.proofs.Vocabulary.{length, map, drop, refl, sym, ap, subst, ◌∙◌, Option, Some, None, if◌then◌else◌}
+use Rattle.jt_layout.proofs.Vocabulary.{arith, add-one, rules, length-map, slice_get, option_map, is_some, or_right}
+use Rattle.jt_layout.proofs.Vocabulary.{Text, Namespace, a_chain, same_namespace, listed, Sources, Template, MacroBody}
+use Rattle.jt_layout.proofs.Vocabulary.{macros, macro_of, all_bodies, namespace_view, macro_view, block_view}
+use Rattle.jt_layout.proofs.Vocabulary.{namespace_at, chain_view, namespace_in, Block, CompileEnv, global, in_globals}
+use Rattle.jt_layout.proofs.Vocabulary.{slot_in, globals_from, counted_from, of_macro, of_body, entry_keys, index_of}
+use Rattle.jt_layout.proofs.Vocabulary.{first_default, default_index, names, unit, defaults_of, Stands, its_cenv}
+use Rattle.jt_layout.proofs.Vocabulary.{its_order, is_library, namespace_named, defaults_from, nexts, first_of}
+use Rattle.jt_layout.proofs.Vocabulary.{FirstFree, NamespaceLayout}
 use Rattle.jt_layout.proofs.BodyIndices.{length-counted, length-nexts}
 use Rattle.jt_layout.proofs.FirstMacro.{first_macro, no_macro}
 use Rattle.jt_layout.proofs.FirstOccurrences.{in_slots, namespaces_left}
 use Rattle.jt_layout.proofs.NamespacesByName.{same, itself}
 use Rattle.jt_layout.proofs.NamesInOrder.{no_names}
 use Rattle.jt_layout.proofs.OffsetSteps.{apart, macro_unit, body_unit, default_here, front_turn, count_keys}
+use Rattle.jt_chains.specs.Uses as uses
 
 -- Each namespace is in the list, and not among those after it.
 listed_at : (hs : List Namespace) (i : ℕ) → i < length hs → listed (namespace_at hs i) hs ≡ true
@@ -123,9 +109,7 @@ module _ (c : Chain) (i : ℕ) (lt : i < length c.namespaces.items) (f : FirstFr
 
       pub count_next : (ns : List (Option ℕ)) → ns ≡ nexts (counted_from 0 (all_bodies W.sources W.escaping h))
           → length ns ≡ length bs
-      count_next ns e =
-          ap length e ∙ length-nexts (counted_from 0 (all_bodies W.sources W.escaping h))
-          ∙ length-counted 0 (all_bodies W.sources W.escaping h) ∙ sym count_blocks
+      count_next ns e = search (arith, rules, length-nexts, length-counted, count_blocks)
 
     pub scoped_laid : (x : Text) (p : Option ℕ) (ns : List Text) → is_some p ≡ is_scoped W h x
         → ns ≡ uses.scope_names W.sources h → block_parameters W O h x ≡ (if is_some p then ns else [])
@@ -148,9 +132,7 @@ module _ (c : Chain) (i : ℕ) (lt : i < length c.namespaces.items) where
   inside = omega (arith, lt, length-map c.namespaces.items namespace_view)
 
   pub listed_left : listed (namespace_in c i) (drop i (its_order c)) ≡ true
-  listed_left =
-      ap (listed (namespace_in c i)) (namespaces_left (its_order c) i inside)
-      ∙ ap (λ b. b || listed (namespace_in c i) (drop (i + 1) (its_order c))) (itself (namespace_in c i))
+  listed_left = search (arith, rules, namespaces_left, inside, itself)
 
   -- Each namespace after this one differs from it.
   pub left_turn : (x : Namespace) → listed x (drop (i + 1) (its_order c)) ≡ true

@@ -1,3 +1,4 @@
+pub mod Vocabulary
 pub mod BodyIndices
 pub mod FirstMacro
 pub mod FirstOccurrences

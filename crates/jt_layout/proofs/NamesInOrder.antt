@@ -1,26 +1,17 @@
 -- Names that are inserted in order, and the names of chains.
-use Rattle.std.proofs.Common.{◌≡◌, ℕ, ◌+◌, ◌<◌, Bool, true, false, cond, length, drop, get_or, Vec, Global}
-use Rattle.std.proofs.Common.{if◌then◌else◌, List, [], ◌∷◌, ◌++◌, map, refl, sym, ap, ◌∙◌, Option, Some, append_assoc}
-use Rattle.std.proofs.Common.{arith, rules}
-use Rattle.std.specs.Prelude.{flat_map}
-use Rattle.std.specs.Option.{is_some, is_none}
-use Rattle.std.specs.Str.{bytes_eq}
-use Rattle.std.proofs.lemmas.List.{drop_more, append-nil}
-use denote.Ref.{Bor}
-use Rattle.jt_ast.specs.Expressions.{Text}
-use Rattle.jt_ast.specs.Texts.{all_inserted, ascending, texts}
-use Rattle.jt_chains.specs.Chain.{Namespace, a_chain, a_library, same_namespace, Sources, templates}
-use Rattle.jt_chains.specs.Includes.{included, needs_in, with_source}
-use Rattle.jt_chains.specs.Needs.{needed, needs_view}
-use Rattle.jt_chains.specs.Indices.{namespace_at}
-use Rattle.jt_chains.specs.Uses.{own_names}
-use Rattle.jt_chains.specs.declared.include_tags.NeededTemplate.{NeededTemplate}
-use Rattle.jt_rules.specs.CompileEnv.{CompileEnv}
-use Rattle.jt_semantics.specs.Layout.{in_globals, names_in}
-use Rattle.jt_layout.specs.internal.Indices.{all_names, texts_of}
+use Rattle.std.specs.Option.{is_none}
+use Rattle.std.proofs.lemmas.List.{append-nil}
+use Rattle.jt_chains.specs.Includes.{included, needs_in}
+use Rattle.jt_layout.specs.internal.Indices.{all_names}
+use Rattle.jt_names.proofs.SortedNames.{inserted_both}
+use Rattle.jt_layout.proofs.Vocabulary.{◌≡◌, ℕ, ◌+◌, ◌<◌, Bool, true, false, length, drop, get_or, Vec, Global}
+use Rattle.jt_layout.proofs.Vocabulary.{if◌then◌else◌, List, [], ◌∷◌, ◌++◌, map, refl, sym, ap, ◌∙◌, Option, Some}
+use Rattle.jt_layout.proofs.Vocabulary.{append_assoc, arith, rules, flat_map, is_some, bytes_eq, drop_more, Bor, Text}
+use Rattle.jt_layout.proofs.Vocabulary.{all_inserted, ascending, texts, Namespace, a_chain, a_library, same_namespace}
+use Rattle.jt_layout.proofs.Vocabulary.{templates, with_source, namespace_at, own_names, NeededTemplate, CompileEnv}
+use Rattle.jt_layout.proofs.Vocabulary.{in_globals, names_in, names_of, texts_of}
 use Rattle.jt_layout.proofs.FirstOccurrences.{namespaces_left}
 use Rattle.jt_layout.proofs.NamespacesByName.{same}
-use Rattle.jt_names.proofs.SortedNames.{inserted_both}
 
 -- ---- the names of a map
 
@@ -37,27 +28,20 @@ there a0 e = search (arith, rules)
 not_there : {A : Type 0} (o : Option A) → is_none o ≡ true → is_some o ≡ false
 not_there a0 e = search (arith, rules)
 
-module _ (N : Text → List Text) (sources : Sources) (ks : List NeededTemplate) (i : ℕ) (d : NeededTemplate)
+module _ (cenv : CompileEnv) (hs : List Namespace) (ks : List NeededTemplate) (i : ℕ) (d : NeededTemplate)
     (lt : i < length ks) where
   abbrev k : Text
   k = (get_or ks i d).name.now
 
-  abbrev pub those : List NeededTemplate → List Text
-  those l = flat_map N (with_source sources (needed true (needs_view l)))
-
-  here : those (drop i ks) ≡ flat_map N (cond (is_some (sources k))
-      (k ∷ with_source sources (needed true (needs_view (drop (i + 1) ks))))
-      (with_source sources (needed true (needs_view (drop (i + 1) ks)))))
-  here = ap those (drop_more ks i d lt)
-
   -- A chain that has a source, and one that does not.
-  pub chain_turn : (old new : List Text) → is_none (sources k) ≡ false → new ≡ all_inserted (N k) old
-      → all_inserted (those (drop (i + 1) ks)) new ≡ all_inserted (those (drop i ks)) old
-  chain_turn old new s e = search (arith, rules, there, inserted_both, here)
+  pub chain_turn : (old new : List Text) → is_none (cenv.sources k) ≡ false
+      → new ≡ all_inserted (names_in cenv hs (a_chain k)) old
+      → all_inserted (names_of cenv hs (drop (i + 1) ks)) new ≡ all_inserted (names_of cenv hs (drop i ks)) old
+  chain_turn old new s e = search (arith, rules, there, inserted_both, drop_more)
 
-  pub none_turn : (old : List Text) → is_none (sources k) ≡ true
-      → all_inserted (those (drop (i + 1) ks)) old ≡ all_inserted (those (drop i ks)) old
-  none_turn old s = search (arith, rules, not_there, here)
+  pub none_turn : (old : List Text) → is_none (cenv.sources k) ≡ true
+      → all_inserted (names_of cenv hs (drop (i + 1) ks)) old ≡ all_inserted (names_of cenv hs (drop i ks)) old
+  none_turn old s = search (arith, rules, not_there, drop_more)
 
 -- ---- the names of a chain and of the chains that it leads to
 

@@ -1,11 +1,8 @@
 -- Chains and libraries by their names.
-use Rattle.std.proofs.Common.{◌≡◌, Bool, true, false, refl, arith, rules}
-use Rattle.std.specs.Str.{bytes_eq}
 use Rattle.std.proofs.lemmas.Cmp.{nat_list_eq_equiv}
 use Rattle.std.proofs.lemmas.Slice.Eq.{bytes_eq-Decides}
-use Rattle.jt_ast.specs.Expressions.{Text}
-use Rattle.jt_chains.specs.Chain.{Namespace, a_chain, a_library, same_namespace}
-use Rattle.jt_layout.specs.internal.Indices.{namespace_named}
+use Rattle.jt_layout.proofs.Vocabulary.{◌≡◌, Bool, true, false, refl, arith, rules, bytes_eq, Text, Namespace, a_chain}
+use Rattle.jt_layout.proofs.Vocabulary.{a_library, same_namespace, namespace_named}
 
 pub same : (x y : Text) → bytes_eq x y ≡ true → x ≡ y
 same x y = (bytes_eq-Decides x y).0

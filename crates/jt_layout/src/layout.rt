@@ -30,24 +30,6 @@ struct ChainLayout<'f, 'a> {
     behind: FirstFree,
 }
 
-/// The number of units that a chain has before its macros, and of its names, macros and bodies.
-#[derive(Clone, Copy)]
-struct Counts {
-    entries: usize,
-    names: usize,
-    macros: usize,
-    bodies: usize,
-}
-
-/// The units of a chain's first macro and of its first body, and the first free numbers after the
-/// chain.
-#[derive(Clone, Copy)]
-struct UnitLayout {
-    macro_unit: usize,
-    body_unit: usize,
-    behind: FirstFree,
-}
-
 /// Returns the number of units before the macros: 1 for a chain, and 0 for a library, which is
 /// never rendered.
 fn entries_of(namespace: &Namespace) -> usize
@@ -55,30 +37,6 @@ fn entries_of(namespace: &Namespace) -> usize
         result ≡ length (layout.entry_keys w (namespace_view namespace.now)) }
 {
     if namespace.is_library { 0 } else { 1 }
-}
-
-/// Returns the unit layout of a chain from its counts. `end` is the first pool index after its
-/// defaults.
-fn unit_layout(front: FirstFree, counts: Counts, end: usize) -> Result<UnitLayout, NoMemory>
-    ensures macro_unit { IfOk result (λ p. p.macro_unit ≡ front.unit + counts.entries) }
-    ensures body_unit { IfOk result (λ p. p.body_unit ≡ p.macro_unit + counts.macros) }
-    ensures slot { IfOk result (λ p. p.behind.slot ≡ front.slot + counts.names) }
-    ensures unit { IfOk result (λ p. p.behind.unit ≡ p.body_unit + counts.bodies) }
-    ensures default { IfOk result (λ p. p.behind.default ≡ end) }
-{
-    let macro_unit = checked_sum(front.unit, counts.entries)?;
-    let body_unit = checked_sum(macro_unit, counts.macros)?;
-    let slot = checked_sum(front.slot, counts.names)?;
-    let unit = checked_sum(body_unit, counts.bodies)?;
-    Ok(UnitLayout {
-        macro_unit,
-        body_unit,
-        behind: FirstFree {
-            slot,
-            unit,
-            default: end,
-        },
-    })
 }
 
 /// Lays out one chain or library.
@@ -106,13 +64,10 @@ fn lay_chain<'f, 'a>(
     let defaults = default_indices(alloc, &known.macros, front.default)?;
     let next_bodies = next_bodies(alloc, &known.blocks)?;
     let scoped = scoped_blocks(alloc, &known.blocks)?;
-    let counts = Counts {
-        entries: entries_of(itself),
-        names: names.len(),
-        macros: known.macros.len(),
-        bodies: known.blocks.len(),
-    };
-    let indices = unit_layout(front, counts, defaults.end)?;
+    let macro_unit = checked_sum(front.unit, entries_of(itself))?;
+    let body_unit = checked_sum(macro_unit, known.macros.len())?;
+    let behind_slot = checked_sum(front.slot, names.len())?;
+    let behind_unit = checked_sum(body_unit, known.blocks.len())?;
     let namespace_layout = NamespaceLayout {
         is_library: itself.is_library,
         known,
@@ -120,8 +75,8 @@ fn lay_chain<'f, 'a>(
         slots,
         first_slot: front.slot,
         unit: front.unit,
-        macro_unit: indices.macro_unit,
-        body_unit: indices.body_unit,
+        macro_unit,
+        body_unit,
         called,
         defaults: defaults.indices,
         next_bodies,
@@ -129,7 +84,11 @@ fn lay_chain<'f, 'a>(
     };
     Ok(ChainLayout {
         namespace_layout,
-        behind: indices.behind,
+        behind: FirstFree {
+            slot: behind_slot,
+            unit: behind_unit,
+            default: defaults.end,
+        },
     })
 }
 

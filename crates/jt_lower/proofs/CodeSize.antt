@@ -24,7 +24,7 @@ flat_size (both a b) n = search (arith, rules, length-append, flat_size a n, fla
 flat_size (choose a b) n = search (arith, rules, flat_size a (n + 1), flat_size b, length-append)
 flat_size (when a) n = omega (arith, flat_size a (n + 1))
 flat_size (each a) n = search (arith, rules, flat_size a (n + 1), length-append)
-flat_size a0 n = refl
+flat_size a n = refl
 
 mutual
   expr_sized : (e : SlotExpr ℕ) (o : Option Place) (h : ℕ) → asm_size (expr_asm o e h) ≡ expr_size e
@@ -33,7 +33,7 @@ mutual
   expr_sized (slots.disjunction a b) o h = omega (arith, expr_sized a o h, expr_sized b o h)
   expr_sized (slots.choice c a b) o h = omega (arith, expr_sized c o h, expr_sized a o h, expr_sized b o h)
   expr_sized (slots.invoke u escaping r) o h = omega (arith, row_sized r o (suc h))
-  expr_sized a0 o h = refl
+  expr_sized e o h = refl
 
   row_sized : (r : SRow ℕ) (o : Option Place) (h : ℕ) → asm_size (row_asm o r h) ≡ row_size r
   row_sized slots.none o h = refl
@@ -45,13 +45,11 @@ stores_sized [] o = refl
 stores_sized (s ∷ ss) o = omega (arith, stores_sized ss o)
 
 take_sized : (xs : Targets) (o : Option Place) → asm_size (take_asm o xs) ≡ targets_size xs
-take_sized (slots.one s) o = refl
-take_sized (slots.several ss) o = omega (arith, stores_sized ss o)
+take_sized xs o = search (arith, rules, stores_sized)
 
 kept_sized : (c : Option (SlotExpr ℕ)) (xs : Targets) (o : Option Place)
     → asm_size (kept_asm o xs c) ≡ condition_size xs c
-kept_sized None xs o = refl
-kept_sized (Some c) xs o = omega (arith, take_sized xs o, expr_sized c o 0)
+kept_sized c xs o = search (arith, rules, take_sized, expr_sized)
 
 mutual
   stmt_sized : (s : SlotStmt ℕ) (h : ℕ) → asm_size (stmt_asm s h) ≡ stmt_size s

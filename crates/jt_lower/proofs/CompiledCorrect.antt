@@ -3,8 +3,8 @@ use Rattle.std.proofs.Common.{◌≡◌, ◌≢◌, false, ℕ, zero, suc, ◌+�
 use Rattle.std.proofs.Common.{None, refl, sym, ap, ◌∙◌, subst, arith, append_assoc, append-nil, length-append, rules}
 use Rattle.std.specs.Prelude.{slice_get, slice_set, unwrap_or, replicate}
 use Rattle.std.specs.Option.{option_map, option_and_then}
-use Rattle.std.proofs.Math.Seq.{get_or-append_seam, set-append_seam}
-use Rattle.std.proofs.lemmas.Option.{slice_get-get_or, slice_get-map}
+use Rattle.std.proofs.Math.Seq.{set-append_seam}
+use Rattle.std.proofs.lemmas.Option.{slice_get-map}
 use Rattle.jt_value.specs.Tree as tree
 use Rattle.jt_value.specs.Tree.{Tree}
 use Rattle.jt_value.specs.Pairs.{Pairs, look}
@@ -34,11 +34,12 @@ use Rattle.jt_lower.specs.Fits.{IsPooled, ProgramFits}
 use Rattle.jt_lower.proofs.TablePlacedRuns.{Table, placed_exec, place_in, table_of}
 use Rattle.jt_lower.proofs.Simulation.{Does}
 use Rattle.jt_lower.proofs.LoweringCorrect.{at_memory, HasPool, Keeps, CallsKeep, SizedIn, body_does}
-use Rattle.jt_lower.proofs.FlatCodeRuns.{HasAt, has_front, has_back, machine, Comes, Reaches, PlacesAt, places_front}
+use Rattle.jt_lower.proofs.FlatCodeRuns.{machine, Comes, Reaches, PlacesAt, places_front}
 use Rattle.jt_lower.proofs.FlatCodeRuns.{fetched, step, CallsRun, flat_runs}
 use Rattle.jt_lower.proofs.UniqueEnd.{longer, one_free_end, told_same}
 use Rattle.jt_lower.proofs.SourceLocsCorrect.{tells}
 use Rattle.jt_lower.proofs.FaultsHavePlaces.{HasPlace, CallsPlaced, bind_has, body_has}
+use Rattle.jt_lower.proofs.ListsInPlace.{StandsAt, stands_front, stands_back, stands_whole}
 
 -- ---- the pool
 
@@ -50,32 +51,16 @@ text_same t h = search (arith, rules)
 
 value_of_slot : (o : Option Tree) → ((t : Tree) → o ≡ Some t → IsPooled t)
     → constant_value (option_map constant_of o) ≡ unwrap_or o tree.undefined
-value_of_slot None h = refl
-value_of_slot (Some t) h = constant_same t (h t refl)
+value_of_slot o h = search (arith, rules, constant_same)
 
 text_of_slot : (o : Option Tree) → ((t : Tree) → o ≡ Some t → IsPooled t)
     → text_of (option_map constant_of o) ≡ bytes_of (unwrap_or o tree.undefined)
-text_of_slot None h = refl
-text_of_slot (Some t) h = text_same t (h t refl)
+text_of_slot o h = search (arith, rules, text_same)
 
 pub has_pool : (p : Program) → ProgramFits p → HasPool (lowered p) p.pool
 has_pool p fit = search (arith, rules, slice_get-map, value_of_slot, text_of_slot)
 
 -- ---- the start
-
-has_all : (is pre : List Instruction) → HasAt (pre ++ is) (length pre) is
-has_all [] pre = tt
-has_all (i ∷ is) pre =
-    search (
-      arith,
-      rules,
-      length-append pre (i ∷ is),
-      slice_get-get_or (pre ++ i ∷ is) (length pre) i,
-      get_or-append_seam pre i is i,
-      length-append pre (i ∷ []),
-      has_all is (pre ++ i ∷ []),
-      append_assoc pre (i ∷ []) is,
-    )
 
 none_given : (n : ℕ) → replicate n tree.undefined ≡ with_locals n []
 none_given zero = refl
@@ -221,14 +206,14 @@ module _ (p : Program) (fit : ProgramFits p) where
     abbrev instructions : List Instruction
     instructions = flat (body_asm r.body 0) 0
 
-    all : HasAt (unit_of r).code 0 (instructions ++ op.Return ∷ [])
-    all = has_all (instructions ++ op.Return ∷ []) []
+    all : StandsAt (unit_of r).code 0 (instructions ++ op.Return ∷ [])
+    all = stands_whole (instructions ++ op.Return ∷ []) []
 
-    front : HasAt (unit_of r).code 0 instructions
-    front = has_front (unit_of r).code 0 instructions (op.Return ∷ []) all
+    front : StandsAt (unit_of r).code 0 instructions
+    front = stands_front (unit_of r).code 0 instructions (op.Return ∷ []) all
 
-    back : HasAt (unit_of r).code (0 + length instructions) (op.Return ∷ [])
-    back = has_back (unit_of r).code 0 instructions (op.Return ∷ []) all
+    back : StandsAt (unit_of r).code (0 + length instructions) (op.Return ∷ [])
+    back = stands_back (unit_of r).code 0 instructions (op.Return ∷ []) all
 
     places_at : (u : ℕ) → slice_get p.routines u ≡ Some r → PlacesAt k table u 0 (places (body_asm r.body 0))
     places_at u is =
@@ -342,7 +327,7 @@ module _ (p : Program) (fit : ProgramFits p) where
       (unit_at 0 r fit.is_entry) (front r) (places_at r 0 fit.is_entry)))))
     where
       less : (n : ℕ) (c : MachineState) (g : Eval Text) → Follows k table c (suc n) g → Follows k table c n g
-      less n c a2 h = search (arith, rules)
+      less n c g h = search (arith, rules)
 
   -- The result of a run that ends after `n` instructions is its meaning with calls at most `n`
   -- deep.

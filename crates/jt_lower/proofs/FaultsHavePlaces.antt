@@ -1,5 +1,5 @@
 -- Each fault of a program has the place of a tag.
-use Rattle.std.proofs.Common.{ℕ, suc, Bool, true, false, if◌then◌else◌, List, [], ◌∷◌, Option, Some, None, arith, rules}
+use Rattle.std.proofs.Common.{ℕ, suc, Bool, true, if◌then◌else◌, List, [], ◌∷◌, Option, Some, None, arith, rules}
 use Rattle.jt_value.specs.Tree.{Tree}
 use Rattle.jt_value.specs.Place.{Place}
 use Rattle.jt_eval.specs.Eval.{Eval, gives, fails, deeper, bind, at}
@@ -27,15 +27,14 @@ pub bind_has : {A B : Type 0} (g : Eval A) (f : A → Eval B) → HasPlace g →
 bind_has g f h k = search (arith, rules)
 
 if_has : {A : Type 0} (b : Bool) (g h : Eval A) → HasPlace g → HasPlace h → HasPlace (if b then g else h)
-if_has true g h w v = w
-if_has false g h w v = v
+if_has b g h w v = search (arith, rules)
 
 module _ (filters : Filters) (constant : ℕ → Tree) (call : SCalls) (calls : CallsPlaced call) (p : Program)
     (count : ℕ) where
   row_has : (r : SRow ℕ) (l : Option Loop) (m : Memory) → IsBare r → HasPlace (svalues filters constant call r l m)
   row_has (slots.item (slots.pooled i) r) l m b = search (arith, rules, bind_has, row_has r l m b)
   row_has (slots.item (slots.variable s) r) l m b = search (arith, rules, bind_has, row_has r l m b)
-  row_has a0 l m b = search (arith, rules)
+  row_has r l m b = search (arith, rules)
 
   turns_has : (means : Option Loop → Memory → Eval Memory) → ((l : Option Loop) (m : Memory) → HasPlace (means l m))
       → (xs : Targets) (tag : Place) (all : List Tree) (i : ℕ) (vs : List Tree) (m : Memory)
@@ -47,8 +46,7 @@ module _ (filters : Filters) (constant : ℕ → Tree) (call : SCalls) (calls : 
   over_has : (means : Option Loop → Memory → Eval Memory) (other : Memory → Eval Memory)
       → ((l : Option Loop) (m : Memory) → HasPlace (means l m)) → ((m : Memory) → HasPlace (other m))
       → (xs : Targets) (tag : Place) (vs : List Tree) (m : Memory) → HasPlace (seval_loop means other xs tag vs m)
-  over_has means other h g xs tag [] m = g m
-  over_has means other h g xs tag (v ∷ vs) m = turns_has means h xs tag (v ∷ vs) 0 (v ∷ vs) m
+  over_has means other h g xs tag vs m = search (arith, rules, turns_has)
 
   mutual
     stmt_has : (s : SlotStmt ℕ) (inside : Bool) (l : Option Loop) (m : Memory) → StmtFits p count inside s

@@ -2,7 +2,7 @@
 use Rattle.std.proofs.Common.{◌≡◌, ℕ, zero, suc, ◌+◌, ◌<◌, ◌≤◌, List, [], ◌∷◌, ◌++◌, length, Option, Some, None, Bool}
 use Rattle.std.proofs.Common.{true, false, if◌then◌else◌, refl, ap, ◌∙◌, subst, arith, length-append, rules}
 use Rattle.std.specs.Prelude.{slice_get, nat_lt, ◌==◌}
-use Rattle.std.proofs.lemmas.Bool.Decides.{nat_tests}
+use Rattle.std.proofs.lemmas.Bool.Decides.{Decides-eqb}
 use Rattle.jt_value.specs.Tree.{Tree, truth}
 use Rattle.jt_image.specs.declared.instruction.Instruction.{Instruction}
 use Rattle.jt_image.specs.declared.instruction.Instruction.TheVariants as op
@@ -20,20 +20,7 @@ use Rattle.jt_lower.proofs.TablePlacedRuns.{Table, placed_at, placed_exec}
 use Rattle.jt_lower.specs.Asm.{Asm, nil, one, both, choose, when, each, invoke, flat, places, AsmEval, does, stops}
 use Rattle.jt_lower.specs.Asm.{too_deep, bad, and_then, of_plain, turns, turns_left, of_written, into_buffers, called}
 use Rattle.jt_lower.specs.Asm.{run}
-
--- These instructions are in the code from this point on.
-abbrev pub HasAt : List Instruction → ℕ → List Instruction → Type 0
-HasAt code p [] = Unit {0}
-HasAt code p (i ∷ is) = (slice_get code p ≡ Some i) × HasAt code (p + 1) is
-
-pub has_front : (code : List Instruction) (p : ℕ) (a b : List Instruction) → HasAt code p (a ++ b) → HasAt code p a
-has_front code p [] b h = tt
-has_front code p (i ∷ a) b h = (h.0, has_front code (p + 1) a b h.1)
-
-pub has_back : (code : List Instruction) (p : ℕ) (a b : List Instruction) → HasAt code p (a ++ b)
-    → HasAt code (p + length a) b
-has_back code p [] b h = let e : p ≡ p + 0 = omega arith in subst (λ n. HasAt code n b) e h
-has_back code p (i ∷ a) b h = search (arith, rules, has_back code (p + 1) a b h.1)
+use Rattle.jt_lower.proofs.ListsInPlace.{StandsAt, stands_front, stands_back}
 
 abbrev pub machine : ℕ → ℕ → List Caller → State → MachineState
 machine u p ks m = record { unit = u; point = p; state = m; callers = ks }
@@ -44,10 +31,7 @@ placed (both a b) n = search (arith, rules, length-append, placed a n, placed b)
 placed (choose a b) n = search (arith, rules, placed a (n + 1), placed b, length-append)
 placed (when a) n = omega (arith, placed a (n + 1))
 placed (each a) n = search (arith, rules, placed a (n + 1), length-append)
-placed a0 n = refl
-
-eq_told : (a b : ℕ) → (a == b) ≡ true → a ≡ b
-eq_told a b h = grind (arith, nat_tests)
+placed a n = refl
 
 module _ (k : Code) (table : Table) where
   abbrev pub exec : ℕ → MachineState → Free
@@ -292,7 +276,7 @@ module _ (k : Code) (table : Table) where
         let a : Caller = record { unit = u; point = p + 1; locals = ls; entries = es } in
         deeper_by n _ _ (of_written q (call v ts gs) es ls out bufs) (machine u (p + 1) ks)
         (record { by = λ j. (suc j, omega arith, st j) })
-        (calls v t ts gs q out bufs a ks is (eq_told (length gs) k.globals e))
+        (calls v t ts gs q out bufs a ks is ((Decides-eqb (length gs) k.globals).0 e))
 
     -- The arguments are popped.
     args_run : (v : ℕ) (t : Section) (u p : ℕ) (ks : List Caller) (q : Option Place) (m : State) (i : ℕ)
@@ -318,11 +302,10 @@ module _ (k : Code) (table : Table) where
         ((j : ℕ) → exec (suc j) (machine u p ks m) ≡ on_action (table u p) (calls_unit v s (machine u p ks m)) (exec j))
         →
         Reaches (suc n) (machine u p ks m) (called q k call v s m) (machine u (p + 1) ks)
-    invoke_run v None u p ks q m is st = tt
-    invoke_run v (Some t) u p ks q m is st = args_run v t u p ks q m t.parameters [] m.entries is st
+    invoke_run v s u p ks q m is st = search (arith, rules, args_run)
 
     pub flat_runs : (a : Asm) (t : Section) (u p : ℕ) (ks : List Caller) (m : State) → slice_get k.units u ≡ Some t
-        → HasAt t.code p (flat a p) → PlacesAt u p (places a)
+        → StandsAt t.code p (flat a p) → PlacesAt u p (places a)
         → Reaches (suc n) (machine u p ks m) (run k call a m) (machine u (p + length (flat a p)) ks)
     flat_runs nil t u p ks m is h w =
         record { by = λ j. let e : p ≡ p + 0 = omega arith in (j, omega arith, ap (λ x. exec j (machine u x ks m)) e) }
@@ -333,19 +316,19 @@ module _ (k : Code) (table : Table) where
         ends_at (suc n) _ (and_then (run k call a m) (run k call b)) u _ _ ks len
         (both_run (suc n) _ (run k call a m) (run k call b) (machine u (p + length ca) ks)
         (machine u (p + length ca + length cb) ks)
-        (flat_runs a t u p ks m is (has_front _ p ca cb h) (places_front u p (places a) (places b) w))
-        (λ x. flat_runs b t u (p + length ca) ks x is (has_back _ p ca cb h)
+        (flat_runs a t u p ks m is (stands_front _ p ca cb h) (places_front u p (places a) (places b) w))
+        (λ x. flat_runs b t u (p + length ca) ks x is (stands_back _ p ca cb h)
         (places_back u p (p + length ca) (places a) (places b) (omega (arith, placed a p)) w)))
     flat_runs (choose a b) t u p ks m is h w =
         let ca = flat a (p + 1) in let q = p + 1 + length ca + 1 in let cb = flat b q in
-        let end = has_back _ (p + 1) ca (op.Jump (q + length cb) ∷ cb) h.1 in
+        let end = stands_back _ (p + 1) ca (op.Jump (q + length cb) ∷ cb) h.1 in
         let len : q + length cb ≡ p + length (op.JumpIfFalse q ∷ (ca ++ op.Jump (q + length cb) ∷ cb)) =
         omega (arith, length-append ca (op.Jump (q + length cb) ∷ cb)) in
         ends_at (suc n) _ (run k call (choose a b) m) u _ _ ks len
         (choose_run (suc n) t u p ks m ca cb (run k call a) (run k call b) m.entries
         (step t u p ks m (op.JumpIfFalse q) (fetched t u p (op.JumpIfFalse q) is h.0))
         (fetched t u (p + 1 + length ca) (op.Jump (q + length cb)) is end.0)
-        (λ x. flat_runs a t u (p + 1) ks x is (has_front _ (p + 1) ca _ h.1)
+        (λ x. flat_runs a t u (p + 1) ks x is (stands_front _ (p + 1) ca _ h.1)
         (places_front u (p + 1) (places a) (None ∷ places b) w.1))
         (λ x. flat_runs b t u q ks x is end.1 (places_back u (p + 1) (p + 1 + length ca) (places a) (None ∷ places b)
         (omega (arith, placed a (p + 1))) w.1).1))
@@ -362,8 +345,8 @@ module _ (k : Code) (table : Table) where
         omega (arith, length-append ca (op.Jump p ∷ [])) in
         ends_at (suc n) _ (run k call (each a) m) u _ _ ks len
         (loop_run (suc n) t u p ks ca (run k call a) (fetched t u p (op.LoopNext q) is h.0)
-        (fetched t u (p + 1 + length ca) (op.Jump p) is (has_back _ (p + 1) ca (op.Jump p ∷ []) h.1).0)
-        (λ x. flat_runs a t u (p + 1) ks x is (has_front _ (p + 1) ca _ h.1)
+        (fetched t u (p + 1 + length ca) (op.Jump p) is (stands_back _ (p + 1) ca (op.Jump p ∷ []) h.1).0)
+        (λ x. flat_runs a t u (p + 1) ks x is (stands_front _ (p + 1) ca _ h.1)
         (places_front u (p + 1) (places a) (None ∷ []) w.1))
         (turns_left m.entries) m)
     flat_runs (invoke q v) t u p ks m is h w = search (arith, rules, invoke_run, step, fetched)

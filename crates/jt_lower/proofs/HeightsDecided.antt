@@ -5,8 +5,8 @@ use Rattle.std.specs.Prelude.{nat_le}
 use Rattle.std.specs.Option.{is_some}
 use Rattle.std.proofs.lemmas.Bool.Decides.{nat_tests}
 use Rattle.jt_ir.specs.Slots as slots
-use Rattle.jt_ir.specs.Slots.{SlotExpr, none}
-use Rattle.jt_ir.specs.Size.{expr_height, row_height}
+use Rattle.jt_ir.specs.Slots.{SlotExpr, SRow, none}
+use Rattle.jt_ir.specs.Size.{expr_height, row_count, row_height}
 use Rattle.jt_ir.specs.View.{expr_view, row_view}
 use Rattle.jt_ir.proofs.ExpressionViews.{Entry, row_left}
 
@@ -17,7 +17,13 @@ both_low a b c = grind (arith, nat_tests)
 -- An expression needs at least one entry, for its value.
 pub height_some : (e : SlotExpr ℕ) → 1 ≤ expr_height e
 height_some (slots.choice c a b) = omega (arith, height_some c)
-height_some a0 = omega arith
+height_some e = omega arith
+
+-- Each value of a sequence is an entry.
+pub row_room : (r : SRow ℕ) → row_count r ≤ row_height r
+row_room none = omega arith
+row_room (slots.item e r) = omega (arith, row_room r)
+row_room (slots.aside i e r) = omega (arith, row_room r)
 
 -- If an expression is within the limit, it and the sequence after it are within exactly if the
 -- sequence is within one entry less.

@@ -135,8 +135,7 @@ tags_parted q1 q2 q3 q4 q5 qa qb e2 e3 e4 e5 = search (arith, rules, append_asso
 -- The code has its space by the limit and the length of the code.
 place_at : (c : Emitter) (m n : ℕ) (a : Asm) → c.limit ≡ m → length c.code.items ≡ n → HasPlace m n a
     → HasPlace c.limit (length c.code.items) a
-place_at c m n a el en h =
-    subst (λ k. HasPlace k (length c.code.items) a) (sym el) (subst (λ k. HasPlace m k a) (sym en) h)
+place_at c m n a el en h = search (arith, rules)
 
 module _ (templates : List Text) where
   abbrev tags : Emitter → List (Option Place)

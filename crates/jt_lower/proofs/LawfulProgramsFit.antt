@@ -1,10 +1,9 @@
 -- The program of lawful routines fits.
 use Rattle.std.proofs.Common.{◌≡◌, ℕ, zero, suc, ◌+◌, ◌<◌, ◌≤◌, Bool, true, false, List, [], ◌∷◌, ◌++◌, length, Option}
-use Rattle.std.proofs.Common.{Some, None, refl, sym, ap, subst, arith, append_assoc, length-append, rules}
+use Rattle.std.proofs.Common.{Some, None, refl, sym, ap, subst, arith, length-append, rules}
 use Rattle.std.specs.Prelude.{slice_get}
 use Rattle.std.specs.List.{AllByRecursion}
-use Rattle.std.proofs.Math.Seq.{get_or-append_seam}
-use Rattle.std.proofs.lemmas.Option.{slice_get-get_or, slice_get_within}
+use Rattle.std.proofs.lemmas.Option.{slice_get_within}
 use Rattle.jt_value.specs.Tree as tree
 use Rattle.jt_value.specs.Tree.{Tree}
 use Rattle.jt_ast.specs.Expressions.{Text}
@@ -24,35 +23,7 @@ use Rattle.jt_eval.specs.TheFilters.{the_filters}
 use Rattle.jt_ir.specs.Takes.{NaryOpTakes, HasParameters, ExprTakes, RowTakes, ConditionTakes, StmtTakes, BodyTakes}
 use Rattle.jt_lower.specs.Lawful.{ConstantLawful, TextLawful, SlotLawful, ExprLawful, RowLawful, ConditionLawful}
 use Rattle.jt_lower.specs.Lawful.{StmtLawful, BodyLawful, RoutineLawful, program_with, AreLawful, AreLow}
-
--- ---- values in a pool
-
-abbrev pub PoolAt : List Tree → ℕ → List Tree → Type 0
-PoolAt pool n [] = Unit {0}
-PoolAt pool n (t ∷ ts) = (slice_get pool n ≡ Some t) × PoolAt pool (n + 1) ts
-
-pub pool_front : (pool : List Tree) (n : ℕ) (xs ys : List Tree) → PoolAt pool n (xs ++ ys) → PoolAt pool n xs
-pool_front pool n [] ys h = tt
-pool_front pool n (x ∷ xs) ys h = (h.0, pool_front pool (n + 1) xs ys h.1)
-
-pub pool_back : (pool : List Tree) (n : ℕ) (xs ys : List Tree) → PoolAt pool n (xs ++ ys)
-    → PoolAt pool (n + length xs) ys
-pool_back pool n [] ys h = let e : n ≡ n + 0 = omega arith in subst (λ m. PoolAt pool m ys) e h
-pool_back pool n (x ∷ xs) ys h = search (arith, rules, pool_back pool (n + 1) xs ys h.1)
-
-pub pool_whole : (ts before : List Tree) → PoolAt (before ++ ts) (length before) ts
-pool_whole [] before = tt
-pool_whole (t ∷ ts) before =
-    search (
-      arith,
-      rules,
-      length-append before (t ∷ ts),
-      slice_get-get_or (before ++ t ∷ ts) (length before) t,
-      get_or-append_seam before t ts t,
-      length-append before (t ∷ []),
-      pool_whole ts (before ++ t ∷ []),
-      append_assoc before (t ∷ []) ts,
-    )
+use Rattle.jt_lower.proofs.ListsInPlace.{StandsAt, stands_front, stands_back, stands_whole}
 
 -- ---- lists
 
@@ -71,14 +42,14 @@ all_get P (y ∷ xs) (suc i) x h e = all_get P xs i x h.1 e
 
 -- A routine with indices comes from one without indices, and its values are in the pool.
 placed_was : (rs : List (Routine Constant)) (n u : ℕ) (q : Routine ℕ) (pool : List Tree)
-    → slice_get (placed_routines rs n) u ≡ Some q → PoolAt pool n (routines_values rs)
+    → slice_get (placed_routines rs n) u ≡ Some q → StandsAt pool n (routines_values rs)
     → (r : Routine Constant) × (m : ℕ) × (slice_get rs u ≡ Some r) × (placed_routine r m ≡ q)
-    × PoolAt pool m (body_values r.body)
+    × StandsAt pool m (body_values r.body)
 placed_was [] n u q pool e h = absurd cc
-placed_was (r ∷ rs) n zero q pool e h = search (arith, rules, pool_front)
+placed_was (r ∷ rs) n zero q pool e h = search (arith, rules, stands_front)
 placed_was (r ∷ rs) n (suc u) q pool e h =
     placed_was rs (n + length (body_values r.body)) u q pool e
-    (pool_back pool n (body_values r.body) (routines_values rs) h)
+    (stands_back pool n (body_values r.body) (routines_values rs) h)
 
 -- A routine without indices becomes one with indices.
 placed_is : (rs : List (Routine Constant)) (n u : ℕ) (r : Routine Constant) → slice_get rs u ≡ Some r
@@ -90,86 +61,66 @@ placed_is (s ∷ rs) n (suc u) r e = placed_is rs (n + length (body_values s.bod
 bare_placed : (es : SRow Constant) (n : ℕ) → IsBare es → IsBare (placed_row es n)
 bare_placed (slots.item (slots.pooled k) es) n b = bare_placed es (n + length (constant_values k)) b
 bare_placed (slots.item (slots.variable s) es) n b = bare_placed es (n + 0) b
-bare_placed a0 n b = search (arith, rules)
+bare_placed es n b = search (arith, rules)
 
 -- ---- heights and sizes
 
 mutual
-  expr_low : (e : SlotExpr Constant) (n : ℕ) → expr_height (placed_expr e n) ≡ expr_height e
-  expr_low (slots.made k es) n = omega (arith, row_low es n)
-  expr_low (slots.conjunction a b) n = omega (arith, expr_low a n, expr_low b (n + length (expr_values a)))
-  expr_low (slots.disjunction a b) n = omega (arith, expr_low a n, expr_low b (n + length (expr_values a)))
-  expr_low (slots.choice c a b) n = search (arith, rules, expr_low c n, expr_low a, expr_low b)
-  expr_low (slots.invoke u escaping es) n = omega (arith, row_low es n)
-  expr_low a0 n = refl
+  expr_placed : (e : SlotExpr Constant) (n : ℕ)
+      → (expr_size (placed_expr e n) ≡ expr_size e) × (expr_height (placed_expr e n) ≡ expr_height e)
+  expr_placed (slots.made m es) n = let a = row_placed es n in (omega (arith, a.0), omega (arith, a.1))
+  expr_placed (slots.conjunction x y) n = search (arith, rules, expr_placed x n, expr_placed y)
+  expr_placed (slots.disjunction x y) n = search (arith, rules, expr_placed x n, expr_placed y)
+  expr_placed (slots.choice c x y) n = search (arith, rules, expr_placed c n, expr_placed x, expr_placed y)
+  expr_placed (slots.invoke u on es) n = let a = row_placed es n in (omega (arith, a.0), omega (arith, a.1))
+  expr_placed e n = (refl, refl)
 
-  row_low : (es : SRow Constant) (n : ℕ) → row_height (placed_row es n) ≡ row_height es
-  row_low slots.none n = refl
-  row_low (slots.item e es) n = omega (arith, expr_low e n, row_low es (n + length (expr_values e)))
-  row_low (slots.aside i e es) n = omega (arith, expr_low e n, row_low es (n + length (expr_values e)))
+  row_placed : (es : SRow Constant) (n : ℕ)
+      → (row_size (placed_row es n) ≡ row_size es) × (row_height (placed_row es n) ≡ row_height es)
+  row_placed slots.none n = (refl, refl)
+  row_placed (slots.item e es) n = search (arith, rules, expr_placed e n, row_placed es)
+  row_placed (slots.aside i e es) n = search (arith, rules, expr_placed e n, row_placed es)
 
-condition_low : (c : Option (SlotExpr Constant)) (n : ℕ) → condition_height (placed_condition c n) ≡ condition_height c
-condition_low None n = refl
-condition_low (Some c) n = expr_low c n
-
-mutual
-  stmt_low : (s : SlotStmt Constant) (n : ℕ) → stmt_height (placed_stmt s n) ≡ stmt_height s
-  stmt_low (slots.put_pooled k) n = refl
-  stmt_low (slots.print q escaping e) n = expr_low e n
-  stmt_low (slots.assign q xs e) n = omega (arith, expr_low e n)
-  stmt_low (slots.if_else q c a b) n = search (arith, rules, expr_low, body_low a, body_low b)
-  stmt_low (slots.for_each q xs e c body other) n =
-      search (arith, rules, expr_low, condition_low, body_low body, body_low other)
-  stmt_low (slots.capture escaping s body) n = omega (arith, body_low body n)
-  stmt_low (slots.run u es) n = row_low es n
-
-  body_low : (b : SBody Constant) (n : ℕ) → body_height (placed_body b n) ≡ body_height b
-  body_low slots.end n = refl
-  body_low (slots.stmt s rest) n = omega (arith, stmt_low s n, body_low rest (n + length (stmt_values s)))
+condition_placed : (xs : Targets) (c : Option (SlotExpr Constant)) (n : ℕ)
+    → (condition_size xs (placed_condition c n) ≡ condition_size xs c)
+    × (condition_height (placed_condition c n) ≡ condition_height c)
+condition_placed xs None n = (refl, refl)
+condition_placed xs (Some c) n = let a = expr_placed c n in (omega (arith, a.0), a.1)
 
 mutual
-  expr_sized : (e : SlotExpr Constant) (n : ℕ) → expr_size (placed_expr e n) ≡ expr_size e
-  expr_sized (slots.made k es) n = omega (arith, row_sized es n)
-  expr_sized (slots.conjunction a b) n = omega (arith, expr_sized a n, expr_sized b (n + length (expr_values a)))
-  expr_sized (slots.disjunction a b) n = omega (arith, expr_sized a n, expr_sized b (n + length (expr_values a)))
-  expr_sized (slots.choice c a b) n = search (arith, rules, expr_sized c n, expr_sized a, expr_sized b)
-  expr_sized (slots.invoke u escaping es) n = omega (arith, row_sized es n)
-  expr_sized a0 n = refl
+  stmt_placed : (s : SlotStmt Constant) (n : ℕ)
+      → (stmt_size (placed_stmt s n) ≡ stmt_size s) × (stmt_height (placed_stmt s n) ≡ stmt_height s)
+  stmt_placed (slots.put_pooled c) n = (refl, refl)
+  stmt_placed (slots.print p on e) n = let a = expr_placed e n in (omega (arith, a.0), a.1)
+  stmt_placed (slots.assign p xs e) n = let a = expr_placed e n in (omega (arith, a.0), omega (arith, a.1))
+  stmt_placed (slots.if_else p c x y) n = search (arith, rules, expr_placed, body_placed x, body_placed y)
+  stmt_placed (slots.for_each p xs e c body other) n =
+      search (
+        arith,
+        rules,
+        expr_placed e n,
+        condition_placed xs c (n + length (expr_values e)),
+        body_placed body (n + length (expr_values e) + length (condition_values c)),
+        body_placed other (n + length (expr_values e) + length (condition_values c) + length (body_values body)),
+      )
+  stmt_placed (slots.capture on s body) n = let a = body_placed body n in (omega (arith, a.0), omega (arith, a.1))
+  stmt_placed (slots.run u es) n = let a = row_placed es n in (omega (arith, a.0), a.1)
 
-  row_sized : (es : SRow Constant) (n : ℕ) → row_size (placed_row es n) ≡ row_size es
-  row_sized slots.none n = refl
-  row_sized (slots.item e es) n = omega (arith, expr_sized e n, row_sized es (n + length (expr_values e)))
-  row_sized (slots.aside i e es) n = omega (arith, expr_sized e n, row_sized es (n + length (expr_values e)))
-
-kept_sized : (xs : Targets) (c : Option (SlotExpr Constant)) (n : ℕ)
-    → condition_size xs (placed_condition c n) ≡ condition_size xs c
-kept_sized xs None n = refl
-kept_sized xs (Some c) n = omega (arith, expr_sized c n)
-
-mutual
-  stmt_sized : (s : SlotStmt Constant) (n : ℕ) → stmt_size (placed_stmt s n) ≡ stmt_size s
-  stmt_sized (slots.put_pooled k) n = refl
-  stmt_sized (slots.print q escaping e) n = omega (arith, expr_sized e n)
-  stmt_sized (slots.assign q xs e) n = omega (arith, expr_sized e n)
-  stmt_sized (slots.if_else q c a b) n = search (arith, rules, expr_sized, body_sized a, body_sized b)
-  stmt_sized (slots.for_each q xs e c body other) n =
-      search (arith, rules, expr_sized, kept_sized, body_sized body, body_sized other)
-  stmt_sized (slots.capture escaping s body) n = omega (arith, body_sized body n)
-  stmt_sized (slots.run u es) n = omega (arith, row_sized es n)
-
-  body_sized : (b : SBody Constant) (n : ℕ) → body_size (placed_body b n) ≡ body_size b
-  body_sized slots.end n = refl
-  body_sized (slots.stmt s rest) n = omega (arith, stmt_sized s n, body_sized rest (n + length (stmt_values s)))
+  body_placed : (b : SBody Constant) (n : ℕ)
+      → (body_size (placed_body b n) ≡ body_size b) × (body_height (placed_body b n) ≡ body_height b)
+  body_placed slots.end n = (refl, refl)
+  body_placed (slots.stmt s rest) n = search (arith, rules, stmt_placed s n, body_placed rest)
 
 -- Routines with indices need the same number of entries as before.
 pub placed_low : (rs : List (Routine Constant)) (n : ℕ)
     → AllByRecursion (λ r. body_height r.body ≤ max_entries) (placed_routines rs n) → AreLow rs
 placed_low [] n h = tt
-placed_low (r ∷ rs) n h = (omega (arith, h.0, body_low r.body n), placed_low rs (n + length (body_values r.body)) h.1)
+placed_low (r ∷ rs) n h =
+    (omega (arith, h.0, (body_placed r.body n).1), placed_low rs (n + length (body_values r.body)) h.1)
 
 pub same_size : (rs : List (Routine Constant)) (n : ℕ) → routines_size (placed_routines rs n) ≡ routines_size rs
 same_size [] n = refl
-same_size (r ∷ rs) n = omega (arith, body_sized r.body n, same_size rs (n + length (body_values r.body)))
+same_size (r ∷ rs) n = omega (arith, (body_placed r.body n).0, same_size rs (n + length (body_values r.body)))
 
 module _ (names : List Text) (globals : ℕ) (front : List Tree) (rs : List (Routine Constant)) where
   abbrev p : Program
@@ -184,8 +135,7 @@ module _ (names : List Text) (globals : ℕ) (front : List Tree) (rs : List (Rou
   Pooled ts = AllByRecursion IsPooled ts
 
   constant_pooled : (k : Constant) → ConstantLawful before globals k → Pooled (constant_values k)
-  constant_pooled (own v) h = (h, tt)
-  constant_pooled (known i) h = tt
+  constant_pooled k h = search (arith, rules)
 
   text_pooled : (k : Constant) → TextLawful before globals k → Pooled (constant_values k)
   text_pooled k h = search (arith, rules)
@@ -214,8 +164,7 @@ module _ (names : List Text) (globals : ℕ) (front : List Tree) (rs : List (Rou
         all_append IsPooled (expr_values e) (row_values es) (expr_pooled e h.0) (row_pooled es h.1)
 
   condition_pooled : (c : Option (SlotExpr Constant)) → ConditionLawful before globals c → Pooled (condition_values c)
-  condition_pooled None h = tt
-  condition_pooled (Some c) h = expr_pooled c h
+  condition_pooled c h = search (arith, rules, expr_pooled)
 
   mutual
     stmt_pooled : (s : SlotStmt Constant) → StmtLawful before globals s → Pooled (stmt_values s)
@@ -246,15 +195,13 @@ module _ (names : List Text) (globals : ℕ) (front : List Tree) (rs : List (Rou
 
   module _ (count : ℕ) where
     slot_fits : (s : Slot) → SlotLawful before globals s → slot_locals s ≤ count → SlotFits p count s
-    slot_fits (local i) h le = omega (arith, le)
-    slot_fits (global i) h le = h
+    slot_fits s h le = search (arith, rules)
 
-    constant_fits : (k : Constant) (n : ℕ) → ConstantLawful before globals k → PoolAt p.pool n (constant_values k)
+    constant_fits : (k : Constant) (n : ℕ) → ConstantLawful before globals k → StandsAt p.pool n (constant_values k)
         → placed k n < length p.pool
-    constant_fits (own v) n h at = slice_get_within p.pool n v at.0
-    constant_fits (known i) n h at = omega (arith, h, length-append front (routines_values rs))
+    constant_fits k n h at = search (arith, rules, slice_get_within, length-append)
 
-    text_fits : (k : Constant) (n : ℕ) → TextLawful before globals k → PoolAt p.pool n (constant_values k)
+    text_fits : (k : Constant) (n : ℕ) → TextLawful before globals k → StandsAt p.pool n (constant_values k)
         → TextFits p count (placed k n)
     text_fits (own (tree.text t)) n h at = (t, at.0)
     text_fits (own v) n h at = absurd h
@@ -262,8 +209,7 @@ module _ (names : List Text) (globals : ℕ) (front : List Tree) (rs : List (Rou
 
     called : (o : Option (Routine ℕ)) (u i : ℕ) → slice_get p.routines u ≡ o → HasParameters o i
         → TakesRow p.routines u i
-    called None u i e t = absurd t
-    called (Some r) u i e t = record { routine = r; is = e; parameters = t }
+    called o u i e t = search (arith, rules)
 
     call_fits : (u : ℕ) (es : SRow Constant) (n : ℕ)
         → HasParameters (slice_get p.routines u) (row_count (placed_row es n))
@@ -277,7 +223,7 @@ module _ (names : List Text) (globals : ℕ) (front : List Tree) (rs : List (Rou
     mutual
       expr_fits : (e : SlotExpr Constant) (inside : Bool) (n : ℕ)
           → ExprTakes the_filters p.routines inside (placed_expr e n) → ExprLawful before globals e
-          → PoolAt p.pool n (expr_values e) → expr_locals e ≤ count → ExprFits p count inside (placed_expr e n)
+          → StandsAt p.pool n (expr_values e) → expr_locals e ≤ count → ExprFits p count inside (placed_expr e n)
       expr_fits (slots.pooled k) inside n t h at le = constant_fits k n h at
       expr_fits (slots.variable s) inside n t h at le = slot_fits s h le
       expr_fits (slots.field f) inside n t h at le = t
@@ -285,38 +231,45 @@ module _ (names : List Text) (globals : ℕ) (front : List Tree) (rs : List (Rou
       expr_fits (slots.made k es) inside n t h at le =
           (nary_op_fits k (row_count (placed_row es n)) t.0, row_fits es inside n t.1 h at le)
       expr_fits (slots.conjunction a b) inside n t h at le = (
-        expr_fits a inside n t.0 h.0 (pool_front p.pool n (expr_values a) (expr_values b) at) (omega (arith, le)),
+        expr_fits a inside n t.0 h.0 (stands_front p.pool n (expr_values a) (expr_values b) at) (omega (arith, le)),
         expr_fits b inside (n + length (expr_values a)) t.1 h.1
-            (pool_back p.pool n (expr_values a) (expr_values b) at) (omega (arith, le)),
+            (stands_back p.pool n (expr_values a) (expr_values b) at) (omega (arith, le)),
       )
       expr_fits (slots.disjunction a b) inside n t h at le = (
-        expr_fits a inside n t.0 h.0 (pool_front p.pool n (expr_values a) (expr_values b) at) (omega (arith, le)),
+        expr_fits a inside n t.0 h.0 (stands_front p.pool n (expr_values a) (expr_values b) at) (omega (arith, le)),
         expr_fits b inside (n + length (expr_values a)) t.1 h.1
-            (pool_back p.pool n (expr_values a) (expr_values b) at) (omega (arith, le)),
+            (stands_back p.pool n (expr_values a) (expr_values b) at) (omega (arith, le)),
       )
       expr_fits (slots.choice c a b) inside n t h at le =
-          search
-          (arith, rules, pool_back, expr_fits c inside n t.0 h.0, pool_front, expr_fits a inside, expr_fits b inside)
+          search (
+            arith,
+            rules,
+            stands_back,
+            expr_fits c inside n t.0 h.0,
+            stands_front,
+            expr_fits a inside,
+            expr_fits b inside,
+          )
       expr_fits (slots.invoke u escaping es) inside n t h at le =
           (call_fits u es n t.0, row_fits es inside n t.1 h at le)
 
       row_fits : (es : SRow Constant) (inside : Bool) (n : ℕ) → RowTakes the_filters p.routines inside (placed_row es n)
-          → RowLawful before globals es → PoolAt p.pool n (row_values es) → row_locals es ≤ count
+          → RowLawful before globals es → StandsAt p.pool n (row_values es) → row_locals es ≤ count
           → RowFits p count inside (placed_row es n)
       row_fits slots.none inside n t h at le = tt
       row_fits (slots.item e es) inside n t h at le = (
-        expr_fits e inside n t.0 h.0 (pool_front p.pool n (expr_values e) (row_values es) at) (omega (arith, le)),
+        expr_fits e inside n t.0 h.0 (stands_front p.pool n (expr_values e) (row_values es) at) (omega (arith, le)),
         row_fits es inside (n + length (expr_values e)) t.1 h.1
-            (pool_back p.pool n (expr_values e) (row_values es) at) (omega (arith, le)),
+            (stands_back p.pool n (expr_values e) (row_values es) at) (omega (arith, le)),
       )
       row_fits (slots.aside i e es) inside n t h at le =
           search (
             arith,
             rules,
             expr_fits e inside n t.0 h.0,
-            pool_front,
+            stands_front,
             row_fits es inside (n + length (expr_values e)) t.1 h.1,
-            pool_back,
+            stands_back,
           )
 
     each_fits : (ss : List (Option Slot)) → OfSlots (SlotLawful before globals) ss → slots_locals ss ≤ count
@@ -327,52 +280,48 @@ module _ (names : List Text) (globals : ℕ) (front : List Tree) (rs : List (Rou
 
     targets_fit : (xs : Targets) → OfTargets (SlotLawful before globals) xs → targets_locals xs ≤ count
         → OfTargets (SlotFits p count) xs
-    targets_fit (slots.one s) h le = slot_fits s h le
-    targets_fit (slots.several ss) h le = each_fits ss h le
+    targets_fit xs h le = search (arith, rules, slot_fits, each_fits)
 
     condition_fits : (c : Option (SlotExpr Constant)) (n : ℕ)
         → ConditionTakes the_filters p.routines (placed_condition c n) → ConditionLawful before globals c
-        → PoolAt p.pool n (condition_values c) → condition_locals c ≤ count
+        → StandsAt p.pool n (condition_values c) → condition_locals c ≤ count
         → ConditionFits p count (placed_condition c n)
-    condition_fits None n t h at le = tt
-    condition_fits (Some c) n t h at le = expr_fits c false n t h at le
+    condition_fits c n t h at le = search (arith, rules, expr_fits)
 
     mutual
       stmt_fits : (s : SlotStmt Constant) (inside : Bool) (n : ℕ)
           → StmtTakes the_filters p.routines inside (placed_stmt s n) → StmtLawful before globals s
-          → PoolAt p.pool n (stmt_values s) → stmt_locals s ≤ count → StmtFits p count inside (placed_stmt s n)
+          → StandsAt p.pool n (stmt_values s) → stmt_locals s ≤ count → StmtFits p count inside (placed_stmt s n)
       stmt_fits (slots.put_pooled k) inside n t h at le = text_fits k n h at
       stmt_fits (slots.print q escaping e) inside n t h at le = expr_fits e inside n t h at le
-      stmt_fits (slots.assign q xs e) inside n t h at le =
-          (targets_fit xs h.0 (omega (arith, le)), expr_fits e inside n t h.1 at (omega (arith, le)))
+      stmt_fits (slots.assign q xs e) inside n t h at le = search (arith, rules, targets_fit, expr_fits)
       stmt_fits (slots.if_else q c a b) inside n t h at le =
-          search (arith, rules, pool_back, expr_fits, pool_front, body_fits a inside, body_fits b inside)
+          search (arith, rules, stands_back, expr_fits, stands_front, body_fits a inside, body_fits b inside)
       stmt_fits (slots.for_each q xs e c body other) inside n t h at le =
           search (
             arith,
             rules,
-            pool_back,
+            stands_back,
             targets_fit,
             expr_fits,
-            pool_front,
+            stands_front,
             condition_fits,
             body_fits body true,
             body_fits other inside,
           )
       stmt_fits (slots.capture escaping s body) inside n t h at le =
           (slot_fits s h.0 (omega (arith, le)), body_fits body inside n t h.1 at (omega (arith, le)))
-      stmt_fits (slots.run u es) inside n t h at le =
-          (call_fits u es n t.0, row_fits es inside n t.1 h.0 at le, bare_placed es n h.1)
+      stmt_fits (slots.run u es) inside n t h at le = search (arith, rules, call_fits, row_fits, bare_placed)
 
       body_fits : (b : SBody Constant) (inside : Bool) (n : ℕ)
           → BodyTakes the_filters p.routines inside (placed_body b n) → BodyLawful before globals b
-          → PoolAt p.pool n (body_values b) → body_locals b ≤ count → BodyFits p count inside (placed_body b n)
+          → StandsAt p.pool n (body_values b) → body_locals b ≤ count → BodyFits p count inside (placed_body b n)
       body_fits slots.end inside n t h at le = tt
       body_fits (slots.stmt s rest) inside n t h at le = (
-        stmt_fits s inside n t.0 h.0 (pool_front p.pool n (stmt_values s) (body_values rest) at)
+        stmt_fits s inside n t.0 h.0 (stands_front p.pool n (stmt_values s) (body_values rest) at)
             (omega (arith, le)),
         body_fits rest inside (n + length (stmt_values s)) t.1 h.1
-            (pool_back p.pool n (stmt_values s) (body_values rest) at) (omega (arith, le)),
+            (stands_back p.pool n (stmt_values s) (body_values rest) at) (omega (arith, le)),
       )
 
   -- ---- the whole program
@@ -380,13 +329,13 @@ module _ (names : List Text) (globals : ℕ) (front : List Tree) (rs : List (Rou
   routine_fits : AreLawful names globals front rs → AreLow rs → (u : ℕ) (q : Routine ℕ)
       → slice_get p.routines u ≡ Some q → RoutineFits p q
   routine_fits lawful low u q e =
-      let x = placed_was rs before u q p.pool e (pool_whole (routines_values rs) front) in
+      let x = placed_was rs before u q p.pool e (stands_whole (routines_values rs) front) in
       let r = x.0 in
       let law = all_get (RoutineLawful before globals) rs u r lawful.routines x.2 in
       let takes = subst (λ (z : Routine ℕ). BodyTakes the_filters p.routines false z.body) (sym x.3)
       (all_get (λ (z : Routine ℕ). BodyTakes the_filters p.routines false z.body) p.routines u q lawful.takes e) in
       let below = all_get (λ (z : Routine Constant). body_height z.body ≤ max_entries) rs u r low x.2 in
-      let same : body_height (placed_body r.body x.1) ≡ body_height r.body = body_low r.body x.1 in
+      let same : body_height (placed_body r.body x.1) ≡ body_height r.body = (body_placed r.body x.1).1 in
       record {
         body = subst (λ (z : Routine ℕ). BodyFits p z.locals false z.body) x.3
             (body_fits r.locals r.body false x.1 takes law.body x.4 law.locals);

@@ -1,3 +1,4 @@
+pub mod ListsInPlace
 pub mod TablePlacedRuns
 pub mod LoopFieldsAgree
 pub mod Simulation

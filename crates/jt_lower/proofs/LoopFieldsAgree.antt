@@ -1,7 +1,7 @@
 -- The fields of loops agree in images and in meanings.
-use Rattle.std.proofs.Common.{◌≡◌, ℕ, zero, suc, ◌+◌, ◌-◌, ◌≤◌, Bool, false, if◌then◌else◌, List, ◌∷◌, length, Option}
+use Rattle.std.proofs.Common.{◌≡◌, ℕ, suc, ◌-◌, ◌≤◌, Bool, false, if◌then◌else◌, List, ◌∷◌, length, Option}
 use Rattle.std.proofs.Common.{Some, Ok, Err, refl, ap, arith, rules}
-use Rattle.std.specs.Prelude.{pos, negsuc, ◌-ℤ◌, not, nat_lt, ◌==◌}
+use Rattle.std.specs.Prelude.{pos, ◌-ℤ◌, not, nat_lt, ◌==◌}
 use Rattle.std.proofs.lemmas.Bool.Decides.{nat_tests}
 use Rattle.jt_value.specs.Tree as tree
 use Rattle.jt_value.specs.Tree.{Tree, Items, no_items, item}
@@ -37,12 +37,11 @@ counted_if n b c e = search (arith, rules)
 counted_same : (n : ℕ) → image.counted (pos n) ≡ loops.counted n
 counted_same n = counted_if n (nat_lt n 9223372036854775808) (nat_lt 9223372036854775807 n) (either_test n)
 
-no_less : (a b : ℕ) → b ≤ a → nat_lt a b ≡ false
-no_less a b h = grind (arith, nat_tests)
+pub lt_false : (a b : ℕ) → b ≤ a → nat_lt a b ≡ false
+lt_false a b h = grind (arith, nat_tests)
 
 less : (a b : ℕ) → b ≤ a → pos a -ℤ pos b ≡ pos (a - b)
-less a zero h = let e : a + 0 ≡ a - 0 = omega arith in ap pos e
-less a (suc b) h = ap (λ t. if t then negsuc (suc b - suc a) else pos (a - suc b)) (no_less a (suc b) h)
+less a b h = search (arith, rules, lt_false)
 
 first_same : (b : ℕ) → (suc b == 1) ≡ (b == 0)
 first_same b = grind (arith, nat_tests)

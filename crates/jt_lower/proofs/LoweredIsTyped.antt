@@ -1,12 +1,11 @@
 -- Structured code is typed, and the code of a program is typed.
 use Rattle.std.proofs.Common.{◌≡◌, ℕ, zero, suc, ◌+◌, ◌<◌, ◌≤◌, List, [], ◌∷◌, ◌++◌, length, Option, Some, None, Result}
-use Rattle.std.proofs.Common.{Ok, Bool, true, false, refl, sym, ap, ◌∙◌, subst, arith, append_assoc, length-append}
+use Rattle.std.proofs.Common.{Ok, Bool, true, false, refl, sym, ap, ◌∙◌, subst, arith, length-append}
 use Rattle.std.proofs.Common.{rules}
 use Rattle.std.specs.Prelude.{slice_get, nat_lt, IsTrue, ◌&&◌}
 use Rattle.std.specs.List.{AllByRecursion}
 use Rattle.std.specs.Option.{option_map}
-use Rattle.std.proofs.Math.Seq.{get_or-append_seam}
-use Rattle.std.proofs.lemmas.Option.{slice_get-get_or, slice_get-map, slice_get_within}
+use Rattle.std.proofs.lemmas.Option.{slice_get-map, slice_get_within}
 use Rattle.std.proofs.lemmas.List.{length-map}
 use Rattle.jt_image.specs.declared.instruction.Instruction.{Instruction}
 use Rattle.jt_image.specs.declared.instruction.Instruction.TheVariants as op
@@ -33,10 +32,11 @@ use Rattle.jt_lower.specs.Fits.{OfSlots, OfSome, OfTargets, NaryOpFits, TakesRow
 use Rattle.jt_lower.specs.Fits.{ConditionFits, TextFits, StmtFits, BodyFits, RoutineFits, ProgramFits}
 use Rattle.jt_lower.proofs.LoopFieldsAgree.{has_field}
 use Rattle.jt_lower.proofs.LoweringCorrect.{lt_true, eq_true, has_operator, has_test, halved}
+use Rattle.jt_lower.proofs.HeightsDecided.{height_some, row_room}
+use Rattle.jt_lower.proofs.ListsInPlace.{StandsAt, stands_front, stands_back, stands_whole}
 
 required : (b : Bool) (f : Flaw) (r : Result Successors Flaw) → b ≡ true → require b f r ≡ r
-required true f r e = refl
-required false f r e = absurd cc
+required b f r e = search (arith, rules)
 
 -- A list has an element at each index below its length.
 there : {A : Type 0} (xs : List A) (n : ℕ) → n < length xs → (x : A) × (slice_get xs n ≡ Some x)
@@ -65,33 +65,9 @@ module _ (k : Code) (count : ℕ) where
   Types (each a) S T = (R : Shape) × (S ≡ kind.Frame ∷ R) × Low S × (S ≡ T) × Types a S S
   Types (invoke q v) S T = Low S × Straight (op.Call v) S T
 
-  -- These shapes are at the points from `p` on.
-  abbrev HasShapes : List Shape → ℕ → List Shape → Type 0
-  HasShapes sh p [] = Unit {0}
-  HasShapes sh p (S ∷ Ss) = (slice_get sh p ≡ Some S) × HasShapes sh (p + 1) Ss
-
-  shapes_front : (sh : List Shape) (p : ℕ) (a b : List Shape) → HasShapes sh p (a ++ b) → HasShapes sh p a
-  shapes_front sh p [] b h = tt
-  shapes_front sh p (i ∷ a) b h = (h.0, shapes_front sh (p + 1) a b h.1)
-
-  shapes_back : (sh : List Shape) (p q : ℕ) (a b : List Shape) → q ≡ p + length a → HasShapes sh p (a ++ b)
-      → HasShapes sh q b
-  shapes_back sh p q [] b e h = let e' : p ≡ q = omega arith in subst (λ n. HasShapes sh n b) e' h
-  shapes_back sh p q (i ∷ a) b e h = shapes_back sh (p + 1) q a b (omega arith) h.1
-
-  has_shapes : (is pre : List Shape) → HasShapes (pre ++ is) (length pre) is
-  has_shapes [] pre = tt
-  has_shapes (i ∷ is) pre =
-      search (
-        arith,
-        rules,
-        length-append pre (i ∷ is),
-        slice_get-get_or (pre ++ i ∷ is) (length pre) i,
-        get_or-append_seam pre i is i,
-        length-append pre (i ∷ []),
-        has_shapes is (pre ++ i ∷ []),
-        append_assoc pre (i ∷ []) is,
-      )
+  shapes_back : (sh : List Shape) (p q : ℕ) (a b : List Shape) → q ≡ p + length a → StandsAt sh p (a ++ b)
+      → StandsAt sh q b
+  shapes_back sh p q a b e h = subst (λ n. StandsAt sh n b) (sym e) (stands_back sh p a b h)
 
   module _ (u : Section) (locals : u.locals ≡ count) where
     -- An instruction is in order at a point.
@@ -115,7 +91,7 @@ module _ (k : Code) (count : ℕ) where
     pub record Fragment (p : ℕ) (S : Shape) (is : List Instruction) (T : Shape) : Type 0 where
       pub shapes : List Shape
       pub long : length shapes ≡ length is
-      pub fine : (sh : List Shape) → p + length is < length u.code → HasShapes sh p shapes
+      pub fine : (sh : List Shape) → p + length is < length u.code → StandsAt sh p shapes
           → slice_get sh (p + length is) ≡ Some T → (slice_get sh p ≡ Some S) × AllFine sh p is
 
     at : (sh : List Shape) (p q : ℕ) (S : Shape) → p ≡ q → slice_get sh p ≡ Some S → slice_get sh q ≡ Some S
@@ -135,11 +111,7 @@ module _ (k : Code) (count : ℕ) where
     }
 
     flat_types : (a : Asm) (p : ℕ) (S T : Shape) → Types a S T → Fragment p S (flat a p) T
-    flat_types nil p S T h = record {
-      shapes = [];
-      long = refl;
-      fine = λ sh room has to. (at sh (p + 0) p S (omega arith) (to ∙ ap Some (sym h)), tt);
-    }
+    flat_types nil p S T h = search (arith, rules)
     flat_types (one q i) p S T h = one_fine p S T i h.0 h.1
     flat_types (invoke q v) p S T h = one_fine p S T (op.Call v) h.0 h.1
     flat_types (both a b) p S T h =
@@ -154,7 +126,7 @@ module _ (k : Code) (count : ℕ) where
               (shapes_back sh p q fa.shapes fb.shapes (omega (arith, fa.long)) has)
               (at sh _ (q + length cb) T (omega (arith, length-append ca cb)) to) in
               let ra =
-              fa.fine sh (omega (arith, length-append ca cb)) (shapes_front sh p fa.shapes fb.shapes has) rb.0 in
+              fa.fine sh (omega (arith, length-append ca cb)) (stands_front sh p fa.shapes fb.shapes has) rb.0 in
               (ra.0, fine_append sh p q ca cb refl ra.1 rb.1);
         }
     flat_types (choose a b) p S T h =
@@ -170,7 +142,7 @@ module _ (k : Code) (count : ℕ) where
               let back = shapes_back sh (p + 1) e fa.shapes (T ∷ fb.shapes) (omega (arith, fa.long)) has.1 in
               let rb = fb.fine sh (omega (arith, length-append ca (jump ∷ cb))) back.1 end in
               let ra = fa.fine sh (omega (arith, length-append ca (jump ∷ cb)))
-              (shapes_front sh (p + 1) fa.shapes (T ∷ fb.shapes) has.1) back.0 in
+              (stands_front sh (p + 1) fa.shapes (T ∷ fb.shapes) has.1) back.0 in
               let in_q : nat_lt q (length u.code) ≡ true =
               lt_true q (length u.code) (omega (arith, length-append ca (jump ∷ cb))) in
               let in_p : nat_lt (p + 1) (length u.code) ≡ true =
@@ -247,7 +219,7 @@ module _ (k : Code) (count : ℕ) where
               let end = at sh _ q T (omega (arith, length-append ca (op.Jump p ∷ []))) to in
               let back = shapes_back sh (p + 1) e fa.shapes (S ∷ []) (omega (arith, fa.long)) has.1 in
               let ra = fa.fine sh (omega (arith, length-append ca (op.Jump p ∷ [])))
-              (shapes_front sh (p + 1) fa.shapes (S ∷ []) has.1) back.0 in
+              (stands_front sh (p + 1) fa.shapes (S ∷ []) has.1) back.0 in
               let in_q : nat_lt q (length u.code) ≡ true =
               lt_true q (length u.code) (omega (arith, length-append ca (op.Jump p ∷ []))) in
               let in_p : nat_lt (p + 1) (length u.code) ≡ true =
@@ -315,25 +287,10 @@ FrameIn false h S = Unit {0}
 FrameIn true h S = slice_get S h ≡ Some kind.Frame
 
 raise : (inside : Bool) (h : ℕ) (e : Kind) (S : Shape) → FrameIn inside h S → FrameIn inside (suc h) (e ∷ S)
-raise false h e S f = tt
-raise true h e S f = f
-
--- An expression needs at least one entry, and a sequence one for each of its values.
-mutual
-  some_height : (e : SlotExpr ℕ) → 1 ≤ expr_height e
-  some_height (slots.conjunction a b) = omega (arith, some_height a)
-  some_height (slots.disjunction a b) = omega (arith, some_height a)
-  some_height (slots.choice c a b) = omega (arith, some_height c)
-  some_height a0 = omega arith
-
-  row_room : (r : SRow ℕ) → row_count r ≤ row_height r
-  row_room slots.none = omega arith
-  row_room (slots.item e r) = omega (arith, row_room r)
-  row_room (slots.aside i e r) = omega (arith, row_room r)
+raise inside h e S f = search (arith, rules)
 
 some_targets : (xs : Targets) → 1 ≤ targets_height xs
-some_targets (slots.one s) = omega arith
-some_targets (slots.several ss) = omega arith
+some_targets xs = search (arith, rules)
 
 module _ (p : Program) (count : ℕ) where
   abbrev k : Code
@@ -352,23 +309,17 @@ module _ (p : Program) (count : ℕ) where
   text_in_pool i f = ap is_text (slice_get-map constant_of p.pool i) ∙ ap (λ o. is_text (option_map constant_of o)) f.1
 
   loads : (s : Slot) (S : Shape) → SlotFits p count s → Plainly (load_of s) S (kind.Value ∷ S)
-  loads (local i) S f u q l room =
-      required _ flaw.BadIndex _ (lt_true i u.locals (omega (arith, f, l))) ∙ goes u q (kind.Value ∷ S) room
-  loads (global i) S f u q l room = required _ flaw.BadIndex _ (lt_true i p.globals f) ∙ goes u q (kind.Value ∷ S) room
+  loads s S f u q l room = search (arith, rules, required, lt_true, goes)
 
   stores : (s : Slot) (S : Shape) → SlotFits p count s → Plainly (store_of s) (kind.Value ∷ S) S
-  stores (local i) S f u q l room =
-      required _ flaw.BadIndex _ (lt_true i u.locals (omega (arith, f, l))) ∙ goes u q S room
-  stores (global i) S f u q l room = required _ flaw.BadIndex _ (lt_true i p.globals f) ∙ goes u q S room
+  stores s S f u q l room = search (arith, rules, required, lt_true, goes)
 
   stores_if : (s : Option Slot) (S : Shape) → OfSome (SlotFits p count) s → Plainly (store_if_of s) (kind.Value ∷ S) S
-  stores_if None S f u q l room = goes u q S room
-  stores_if (Some s) S f u q l room = stores s S f u q l room
+  stores_if s S f u q l room = search (arith, rules, goes, stores)
 
   is_filter : (f n : ℕ) (escaping : Bool) → IsTrue (accepts (filter_of f) n)
       → (accepts (filter_of f) n && nat_lt (flag escaping) 2) ≡ true
-  is_filter f n true h = rw h refl
-  is_filter f n false h = rw h refl
+  is_filter f n escaping h = search (arith, rules)
 
   -- An operation replaces the values of its sequence by one value.
   nary_op_types : (h : NaryOp) (n : ℕ) (S : Shape) → NaryOpFits h n
@@ -385,12 +336,10 @@ module _ (p : Program) (count : ℕ) where
   call_types v n S x u q l room = search (arith, rules, slice_get-map, unstacked, goes)
 
   closes : (escaping : Bool) (S : Shape) → Plainly (op.CaptureEnd (flag escaping)) (kind.Capture ∷ S) (kind.Value ∷ S)
-  closes true S u q l room = goes u q (kind.Value ∷ S) room
-  closes false S u q l room = goes u q (kind.Value ∷ S) room
+  closes escaping S u q l room = search (arith, rules, goes)
 
   emits : (escaping : Bool) (S : Shape) → Plainly (op.Emit (flag escaping)) (kind.Value ∷ S) S
-  emits true S u q l room = goes u q S room
-  emits false S u q l room = goes u q S room
+  emits escaping S u q l room = search (arith, rules, goes)
 
   stores_types : (ss : List (Option Slot)) (o : Option Place) (S : Shape) → OfSlots (SlotFits p count) ss
       → length S + length ss ≤ max_entries → Leading (stores_asm o ss) (pushes (length ss) S) S
@@ -409,8 +358,7 @@ module _ (p : Program) (count : ℕ) where
   mutual
     expr_types : (e : SlotExpr ℕ) (o : Option Place) (inside : Bool) (h : ℕ) (S : Shape) → ExprFits p count inside e
         → FrameIn inside h S → length S + expr_height e ≤ max_entries → Leading (expr_asm o e h) S (kind.Value ∷ S)
-    expr_types (slots.pooled i) o inside h S f fr le =
-        (omega arith, λ u q l room. required _ flaw.BadIndex _ (in_pool i f) ∙ goes u q (kind.Value ∷ S) room)
+    expr_types (slots.pooled i) o inside h S f fr le = search (arith, rules, required, in_pool, goes)
     expr_types (slots.variable s) o inside h S f fr le = (omega arith, loads s S f)
     expr_types (slots.field x) o false h S f fr le = absurd cc
     expr_types (slots.field x) o true h S f fr le = (omega arith, gets x h S fr)
@@ -418,7 +366,7 @@ module _ (p : Program) (count : ℕ) where
     expr_types (slots.made x r) o inside h S f fr le =
         search (arith, rules, stack_long, row_room, nary_op_types, row_types r o inside h)
     expr_types (slots.conjunction a b) o inside h S f fr le =
-        let one_more : length (kind.Value ∷ S) ≤ max_entries = omega (arith, some_height a) in
+        let one_more : length (kind.Value ∷ S) ≤ max_entries = omega (arith, height_some a) in
         let two_more : length (kind.Value ∷ kind.Value ∷ S) ≤ max_entries = omega arith in (
           kind.Value ∷ S,
           expr_types a o inside h S f.0 fr (omega arith),
@@ -436,7 +384,7 @@ module _ (p : Program) (count : ℕ) where
           ),
         )
     expr_types (slots.disjunction a b) o inside h S f fr le =
-        let one_more : length (kind.Value ∷ S) ≤ max_entries = omega (arith, some_height a) in
+        let one_more : length (kind.Value ∷ S) ≤ max_entries = omega (arith, height_some a) in
         let two_more : length (kind.Value ∷ kind.Value ∷ S) ≤ max_entries = omega arith in (
           kind.Value ∷ S,
           expr_types a o inside h S f.0 fr (omega arith),
@@ -454,7 +402,7 @@ module _ (p : Program) (count : ℕ) where
           ),
         )
     expr_types (slots.choice c a b) o inside h S f fr le =
-        search (arith, rules, some_height, expr_types c o inside h, expr_types a o inside h, expr_types b o inside h)
+        search (arith, rules, height_some, expr_types c o inside h, expr_types a o inside h, expr_types b o inside h)
     expr_types (slots.invoke v escaping r) o inside h S f fr le =
         let n = row_count r in
         let C = kind.Capture ∷ S in (
@@ -478,7 +426,7 @@ module _ (p : Program) (count : ℕ) where
           (row_types r o inside (suc h) (kind.Value ∷ S) f.1 (raise inside h kind.Value S fr) (omega arith)),
     )
     row_types (slots.aside i e r) o inside h S f fr le =
-        search (arith, rules, some_height, stores, expr_types e o inside h, row_types r o inside h)
+        search (arith, rules, height_some, stores, expr_types e o inside h, row_types r o inside h)
 
   -- A turn above the frame of the loop is typed.
   turn_types : (xs : Targets) (o : Option Place) (body : Asm) (S : Shape) → OfTargets (SlotFits p count) xs
@@ -520,7 +468,7 @@ module _ (p : Program) (count : ℕ) where
           turn_types xs o (both (expr_asm o c 0) (one o (op.LoopKeep 0))) S f le (
             kind.Value ∷ F,
             expr_types c o false 0 F g tt (omega (arith, lc)),
-            (omega (arith, lc, some_height c), λ u q l room. goes u q F room),
+            (omega (arith, lc, height_some c), λ u q l room. goes u q F room),
           ),
         ),
         (low, λ u q l room. goes u q F room),
@@ -529,12 +477,11 @@ module _ (p : Program) (count : ℕ) where
   mutual
     stmt_types : (s : SlotStmt ℕ) (inside : Bool) (h : ℕ) (S : Shape) → StmtFits p count inside s → FrameIn inside h S
         → length S + stmt_height s ≤ max_entries → Leading (stmt_asm s h) S S
-    stmt_types (slots.put_pooled i) inside h S f fr le =
-        (omega arith, λ u q l room. required _ flaw.BadIndex _ (text_in_pool i f) ∙ goes u q S room)
+    stmt_types (slots.put_pooled i) inside h S f fr le = search (arith, rules, required, text_in_pool, goes)
     stmt_types (slots.print tag escaping e) inside h S f fr le = (
       kind.Value ∷ S,
       expr_types e (Some tag) inside h S f fr (omega arith),
-      (omega (arith, some_height e), emits escaping S),
+      (omega (arith, height_some e), emits escaping S),
     )
     stmt_types (slots.assign tag xs e) inside h S f fr le = (
       kind.Value ∷ S,
@@ -547,7 +494,7 @@ module _ (p : Program) (count : ℕ) where
       (
         S,
         refl,
-        omega (arith, some_height c),
+        omega (arith, height_some c),
         omega arith,
         body_types a inside h S f.1 fr (omega arith),
         body_types b inside h S f.2 fr (omega arith),
@@ -562,7 +509,7 @@ module _ (p : Program) (count : ℕ) where
             expr_types e o inside h S f.1 fr (omega arith),
             (
               F,
-              (omega (arith, some_height e), λ u q l room. goes u q F room),
+              (omega (arith, height_some e), λ u q l room. goes u q F room),
               kept_types c xs o S f.0 f.2 (omega arith) (omega arith),
             ),
           ),
@@ -588,8 +535,7 @@ module _ (p : Program) (count : ℕ) where
     body_types : (b : SBody ℕ) (inside : Bool) (h : ℕ) (S : Shape) → BodyFits p count inside b → FrameIn inside h S
         → length S + body_height b ≤ max_entries → Leading (body_asm b h) S S
     body_types slots.end inside h S f fr le = refl
-    body_types (slots.stmt s rest) inside h S f fr le =
-        (S, stmt_types s inside h S f.0 fr (omega arith), body_types rest inside h S f.1 fr (omega arith))
+    body_types (slots.stmt s rest) inside h S f fr le = grind (arith, stmt_types s inside h, body_types rest inside h)
 
 -- The unit of a routine is typed.
 unit_typed : (p : Program) (r : Routine ℕ) → RoutineFits p r → IsTypedUnit Equal (lowered p) (unit_of r)
@@ -601,12 +547,12 @@ unit_typed p r f =
     let is = flat a 0 in
     let fr = flat_types k n u refl a 0 [] [] (body_types p n r.body false 0 [] f.body tt (omega (arith, f.low))) in
     let sh = fr.shapes ++ [] ∷ [] in
-    let has = has_shapes k n sh [] in
+    let has = stands_whole sh [] in
     let long : length sh ≡ length u.code =
     length-append fr.shapes ([] ∷ []) ∙ omega (arith, fr.long, length-append is (op.Return ∷ [])) in
     let back = shapes_back k n sh 0 (0 + length is) fr.shapes ([] ∷ []) (omega (arith, fr.long)) has in
     let fine = fr.fine sh (omega (arith, length-append is (op.Return ∷ [])))
-    (shapes_front k n sh 0 fr.shapes ([] ∷ []) has) back.0 in
+    (stands_front sh 0 fr.shapes ([] ∷ []) has) back.0 in
     let all : AllFine k n u refl sh 0 u.code = fine_append k n u refl sh 0 (0 + length is) is (op.Return ∷ []) refl
     fine.1 (([], back.0, omega arith, (record { shape = []; points = [] }, refl, tt)), tt) in
     let each : (q : ℕ) (s : Shape) → slice_get sh q ≡ Some s

@@ -4,7 +4,7 @@ use Rattle.std.proofs.Common.{append_assoc, true, false, if◌then◌else◌, eq
 use Rattle.std.proofs.Common.{None, refl, sym, ap, ◌∙◌, subst, length-append, rules}
 use Rattle.std.specs.Prelude.{slice_get, slice_set, ◌==◌, nat_lt, unwrap_or}
 use Rattle.std.specs.Option.{option_map}
-use Rattle.std.proofs.lemmas.Bool.Decides.{nat_tests}
+use Rattle.std.proofs.lemmas.Bool.Decides.{Decides-eqb, nat_tests}
 use Rattle.std.proofs.lemmas.List.{length-set}
 use Rattle.std.proofs.lemmas.Option.{slice_get-map}
 use Rattle.jt_value.specs.Tree as tree
@@ -48,7 +48,7 @@ use Rattle.jt_lower.specs.Lower.{half, nary_op, flag, load_of, store_of, expr_as
 use Rattle.jt_lower.specs.Lower.{take_asm, turn_asm, over_asm, kept_asm, stmt_asm, body_asm, unit_of, lowered}
 use Rattle.jt_lower.specs.Fits.{OfSlots, OfSome, OfTargets, NaryOpFits, TakesRow, SlotFits, ExprFits, RowFits}
 use Rattle.jt_lower.specs.Fits.{ConditionFits, StmtFits, BodyFits}
-use Rattle.jt_lower.proofs.LoopFieldsAgree.{listed_same, has_field, IsTurn, told_same}
+use Rattle.jt_lower.proofs.LoopFieldsAgree.{lt_false, listed_same, has_field, IsTurn, told_same}
 use Rattle.jt_lower.proofs.Simulation.{Does, same_run, same_meaning, then_does, then_gives, finished, carried}
 use Rattle.jt_lower.proofs.Simulation.{mapped_does, placed, either, and_then_assoc}
 
@@ -63,17 +63,8 @@ at_memory es pre bufs m = at_bufs es ((pre ++ m.out) ∷ bufs) m
 pub lt_true : (a b : ℕ) → a < b → nat_lt a b ≡ true
 lt_true a b h = grind (arith, nat_tests)
 
-pub lt_false : (a b : ℕ) → b ≤ a → nat_lt a b ≡ false
-lt_false a b h = grind (arith, nat_tests)
-
 pub eq_true : (a b : ℕ) → a ≡ b → (a == b) ≡ true
 eq_true a b h = grind (arith, nat_tests)
-
-pub eq_false : (a b : ℕ) → a ≢ b → (a == b) ≡ false
-eq_false a b h = grind (arith, nat_tests)
-
-eq_told : (a b : ℕ) → (a == b) ≡ true → a ≡ b
-eq_told a b h = grind (arith, nat_tests)
 
 eq_untold : (a b : ℕ) → (a == b) ≡ false → a ≢ b
 eq_untold a b h = grind (arith, nat_tests)
@@ -144,8 +135,7 @@ FrameAt true h es l = (f : Frame) × (slice_get es h ≡ Some (frame f)) × IsTu
 
 pub raise : (inside : Bool) (h : ℕ) (e : StackEntry) (es : List StackEntry) (l : Option Loop) → FrameAt inside h es l
     → FrameAt inside (suc h) (e ∷ es) l
-raise false h e es l f = tt
-raise true h e es l f = f
+raise inside h e es l f = search (arith, rules)
 
 -- The memory of a routine: `count` locals, and the globals of the program.
 pub record SizedIn (p : Program) (count : ℕ) (m : Memory) : Type 0 where
@@ -160,9 +150,8 @@ pub record KeptIn (p : Program) (count : ℕ) (out : Text) (m : Memory) : Type 0
 
 wrong_count : (ss : List (Option Slot)) (vs : List Tree) (m : Memory) → length vs ≢ length ss
     → store_each ss vs m ≡ fails faults.Unpack None
-wrong_count (s ∷ ss) (v ∷ vs) m h =
-    ap (λ g. bind g (λ n. gives (store_if s v n))) (wrong_count ss vs m (λ e. h (ap suc e)))
-wrong_count a0 a1 m h = search (arith, rules)
+wrong_count (s ∷ ss) (v ∷ vs) m h = search (arith, rules, wrong_count ss vs m)
+wrong_count ss vs m h = search (arith, rules)
 
 module _ (p : Program) (call : SCalls) (has : HasPool (lowered p) p.pool) (keep : CallsKeep p.globals call)
     (count : ℕ) where
@@ -191,7 +180,7 @@ module _ (p : Program) (call : SCalls) (has : HasPool (lowered p) p.pool) (keep 
       → SlotFits p count s → Kept out m
       → (code (one q (store_of s)) (at_bufs (value v ∷ es) bs m) ≡ does (at_bufs es bs (store s v m)))
       × Kept out (store s v m)
-  store_does a0 v q es bs out m fit w = search (arith, rules, put_same, put_len)
+  store_does s v q es bs out m fit w = search (arith, rules, put_same, put_len)
 
   store_if_does : (s : Option Slot) (v : Tree) (q : Option Place) (es : List StackEntry) (bs : List (List ℕ))
       (out : Text) (m : Memory)
@@ -226,7 +215,7 @@ module _ (p : Program) (call : SCalls) (has : HasPool (lowered p) p.pool) (keep 
       (ap (λ t. and_then (of_plain q (if t
       then goes (with_entries (at_bufs fs bs m) (piled vs es)) (step.pushing_all vs) else step.faults_by faults.Unpack))
       (code (stores_asm q ss))) e)
-      (stores_do ss vs q es bs out m (eq_told (length vs) (length ss) e) fit w)
+      (stores_do ss vs q es bs out m ((Decides-eqb (length vs) (length ss)).0 e) fit w)
   spread_does false ss vs q es bs out m fs e fit w = search (arith, rules, same_meaning, wrong_count, eq_untold)
 
   unpack_does : (r : Result Items Fault) (ss : List (Option Slot)) (q : Option Place) (es : List StackEntry)
@@ -258,8 +247,7 @@ module _ (p : Program) (call : SCalls) (has : HasPool (lowered p) p.pool) (keep 
       → Kept out m
       → Does q (KeptValue out) (ValueOn es bs) (of_plain q (push_given r es (at_bufs fs bs m)))
       (bind (checked r) (valued m))
-  checked_does (Ok t) q es bs out m fs w = (refl, w)
-  checked_does (Err e) q es bs out m fs w = refl
+  checked_does r q es bs out m fs w = search (arith, rules)
 
   made_by : (n : ℕ) (operate : List Tree → Result Tree Fault) (vs : List Tree) (q : Option Place) (es : List StackEntry)
       (bs : List (List ℕ)) (out : Text) (m : Memory)
@@ -303,7 +291,7 @@ module _ (p : Program) (call : SCalls) (has : HasPool (lowered p) p.pool) (keep 
       → Does q (KeptValue out) (ValueOn es bs)
       (and_then (of_written q g (capture ∷ es) m.locals [] bs) (code (one q (op.CaptureEnd (flag escaping)))))
       (bind g (λ w. valued (record m { globals = w.globals }) (as_value escaping w.text)))
-  captured a0 a1 q es a4 out m fit h opened = search (arith, rules)
+  captured g escaping q es bs out m fit h opened = search (arith, rules)
 
   -- ---- expressions
 
@@ -339,16 +327,14 @@ module _ (p : Program) (call : SCalls) (has : HasPool (lowered p) p.pool) (keep 
 
   load_does : (s : Slot) (q : Option Place) (es : List StackEntry) (bs : List (List ℕ)) (m : Memory)
       → code (one q (load_of s)) (at_bufs es bs m) ≡ does (at_bufs (value (load s m) ∷ es) bs m)
-  load_does (local i) q es bs m = refl
-  load_does (global i) q es bs m = refl
+  load_does s q es bs m = search (arith, rules)
 
   mutual
     pub expr_does : (e : SlotExpr ℕ) (q : Option Place) (inside : Bool) (h : ℕ) (l : Option Loop) (es : List StackEntry)
         (bs : List (List ℕ)) (out : Text) (m : Memory)
         → ExprFits p count inside e → FrameAt inside h es l → Kept out m → IsOpen bs
         → Does q (KeptValue out) (ValueOn es bs) (code (expr_asm q e h) (at_bufs es bs m)) (Means e l m)
-    expr_does (slots.pooled i) q inside h l es bs out m fit fr w opened =
-        (ap (λ v. does (at_bufs (value v ∷ es) bs m)) (has.values i), w)
+    expr_does (slots.pooled i) q inside h l es bs out m fit fr w opened = search (arith, rules)
     expr_does (slots.variable s) q inside h l es bs out m fit fr w opened = (load_does s q es bs m, w)
     expr_does (slots.field x) q inside h l es bs out m fit fr w opened = field_does x q inside h l es bs out m fit fr w
     expr_does slots.absent q inside h l es bs out m fit fr w opened = absurd fit
@@ -439,8 +425,7 @@ module _ (p : Program) (call : SCalls) (has : HasPool (lowered p) p.pool) (keep 
 
   current_is : (all done rest : List Tree) (v : Tree) (b : ℕ) → all ≡ done ++ v ∷ rest → b ≡ length done
       → slice_get all b ≡ Some v
-  current_is all done rest v b e n =
-      ap (λ ts. slice_get ts b) e ∙ ap (slice_get (done ++ v ∷ rest)) n ∙ slice_seam done rest v
+  current_is all done rest v b e n = search (arith, rules, slice_seam)
 
   -- A loop with an item left executes another turn.
   goes_round : (body : State → AsmEval) (all done rest : List Tree) (v : Tree) (b : ℕ) (kept : List Tree)
@@ -477,9 +462,7 @@ module _ (p : Program) (call : SCalls) (has : HasPool (lowered p) p.pool) (keep 
       → does (with_entries (at_bufs es bs m)
       (if c then framed all (suc b) (kept ++ item_at (suc b) all ∷ []) es else framed all (suc b) kept es))
       ≡ does (at_bufs (framed all (suc b) (if c then kept ++ v ∷ [] else kept) es) bs m)
-  kept_if true all v b kept q es bs m e =
-      ap (λ x. does (at_bufs (framed all (suc b) (kept ++ unwrap_or x tree.undefined ∷ []) es) bs m)) e
-  kept_if false all v b kept q es bs m e = refl
+  kept_if c all v b kept q es bs m e = search (arith, rules)
 
   item_kept : (all : List Tree) (v : Tree) (b : ℕ) (kept : List Tree) (t : Tree) (q : Option Place)
       (es : List StackEntry) (bs : List (List ℕ)) (m : Memory)
@@ -504,14 +487,11 @@ module _ (p : Program) (call : SCalls) (has : HasPool (lowered p) p.pool) (keep 
   one_more : (c : Bool) (all kept : List Tree) (v : Tree) (es : List StackEntry) (bs : List (List ℕ)) (x : Listed)
       → SiftedOn all (if c then kept ++ v ∷ [] else kept) es bs x
       ≡ SiftedOn all kept es bs (if c then in_front v x else x)
-  one_more true all kept v es bs x =
-      ap (λ ts. at_bufs (framed all (length all) ts es) bs x.memory) (append_assoc kept (v ∷ []) x.values)
-  one_more false all kept v es bs x = refl
+  one_more c all kept v es bs x = search (arith, rules, append_assoc)
 
   one_more_kept : (c : Bool) (v : Tree) (out : Text) (x : Listed) → KeptItems out x
       → KeptItems out (if c then in_front v x else x)
-  one_more_kept true v out x w = w
-  one_more_kept false v out x w = w
+  one_more_kept c v out x w = search (arith, rules)
 
   -- The pass of the condition keeps the items for which it holds.
   sift_does : (c : SlotExpr ℕ) (xs : Targets) (q : Option Place) (es : List StackEntry) (bs : List (List ℕ))
@@ -579,8 +559,7 @@ module _ (p : Program) (call : SCalls) (has : HasPool (lowered p) p.pool) (keep 
       (f : List Tree → Eval Listed)
       → ((vs : List Tree) → Does q inv to (g (at_bufs (frame (loop_over vs) ∷ es) bs m)) (f vs))
       → Does q inv to (and_then (of_plain q (begins r es (at_bufs fs bs m))) g) (bind (checked (result_listed r)) f)
-  begin_does (Ok ts) q es bs m fs inv to g f h = search (arith, rules, listed_same)
-  begin_does (Err e) q es bs m fs inv to g f h = refl
+  begin_does r q es bs m fs inv to g f h = search (arith, rules, listed_same)
 
   -- ---- statements
 
@@ -643,8 +622,7 @@ module _ (p : Program) (call : SCalls) (has : HasPool (lowered p) p.pool) (keep 
       → Does None Sized (at_memory (framed all (length all) [] es) pre bufs)
       (turns (code (turn_asm (Some tag) xs body)) (length vs) (at_memory (framed all b [] es) pre bufs m))
       (sturns means xs tag all b vs m)
-  rounds_do xs tag body means es pre bufs all fx hb [] done b m e n w =
-      (is_over (code (turn_asm (Some tag) xs body)) all done b [] es ((pre ++ m.out) ∷ bufs) m e n, w)
+  rounds_do xs tag body means es pre bufs all fx hb [] done b m e n w = search (arith, rules, is_over)
   rounds_do xs tag body means es pre bufs all fx hb (v ∷ vs) done b m e n w =
       let q = Some tag in
       let turn = code (turn_asm q xs body) in
@@ -693,7 +671,7 @@ module _ (p : Program) (call : SCalls) (has : HasPool (lowered p) p.pool) (keep 
       let all = v ∷ vs in
       let turn = code (turn_asm q xs body) in
       let left : length all - 0 ≡ length all = omega arith in
-      let none : (length all == 0) ≡ false = eq_false (length all) 0 (omega arith) in
+      let none : (length all == 0) ≡ false = grind (arith, nat_tests) in
       finished None Sized (at_memory (framed all (length all) [] es) pre bufs) (at_memory es pre bufs)
       (code (each (turn_asm q xs body)) (at_memory (frame (loop_over all) ∷ es) pre bufs m))
       (sturns means xs tag all 0 all m) (code (both (one q op.LoopEnd) (when other)))
@@ -725,7 +703,7 @@ module _ (p : Program) (call : SCalls) (has : HasPool (lowered p) p.pool) (keep 
       → Keeps p.globals g → Kept out m
       → Does None Sized (at_memory es pre bufs) (of_written None g es m.locals (pre ++ out) bufs)
       (bind g (λ w. gives (record m { globals = w.globals; out = m.out ++ w.text })))
-  printed_by a0 es pre bufs out m fit h = search (arith, rules, append_assoc)
+  printed_by g es pre bufs out m fit h = search (arith, rules, append_assoc)
 
   mutual
     pub stmt_does : (s : SlotStmt ℕ) (inside : Bool) (h : ℕ) (l : Option Loop) (es : List StackEntry) (pre : Text)

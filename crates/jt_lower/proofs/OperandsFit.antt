@@ -2,7 +2,7 @@
 use Rattle.std.proofs.Common.{◌≡◌, ℕ, zero, suc, ◌+◌, ◌<◌, ◌≤◌, ◌^◌, Bool, true, false, List, [], ◌∷◌, length, map}
 use Rattle.std.proofs.Common.{Option, Some, None, refl, arith, rules}
 use Rattle.std.proofs.lemmas.List.{length-map}
-use Rattle.std.specs.Prelude.{slice_get, ◌==◌, IsTrue}
+use Rattle.std.specs.Prelude.{slice_get, IsTrue}
 use Rattle.std.specs.List.{find, AllByRecursion}
 use Rattle.std.proofs.lemmas.Option.{slice_get_within}
 use Rattle.std.proofs.lemmas.Bool.Decides.{nat_tests}
@@ -11,7 +11,6 @@ use Rattle.jt_ids.specs.declared.test_id.TestId.{TestId}
 use Rattle.jt_ids.specs.OpTable.{op_id}
 use Rattle.jt_ids.specs.TestTable.{test_id}
 use Rattle.jt_ids.specs.declared.filter_id.FilterId.{FilterId}
-use Rattle.jt_ids.specs.FilterTable as table
 use Rattle.jt_ids.specs.FilterTable.{filter_id}
 use Rattle.jt_filter_semantics.specs.FilterIds.{filter_of, accepts}
 use Rattle.jt_image.specs.declared.instruction.Instruction.TheVariants as op
@@ -35,6 +34,7 @@ use Rattle.jt_lower.specs.Fits.{OfSlots, OfSome, OfTargets, NaryOpFits, TakesRow
 use Rattle.jt_lower.specs.Fits.{ConditionFits, StmtFits, BodyFits, RoutineFits, ProgramFits}
 use Rattle.jt_lower.proofs.CodeSize.{asm_size, flat_size}
 use Rattle.jt_lower.proofs.LawfulProgramsFit.{all_append}
+use Rattle.jt_lower.proofs.HeightsDecided.{row_room}
 
 -- ---- all instructions fit if the points and the instructions that are no jumps do
 
@@ -50,17 +50,15 @@ Plain (invoke o u) = u < 2 ^ 32
 flat_fits : (a : Asm) (p : ℕ) → Plain a → p + asm_size a < 2 ^ 32 → AllByRecursion IsInstruction (flat a p)
 flat_fits (both a b) p h room =
     search (arith, rules, all_append, flat_fits a p h.0 (omega (arith, room)), flat_fits b, flat_size)
-flat_fits (choose a b) p h room =
-    search (arith, rules, flat_size, all_append, flat_fits a (p + 1) h.0 (omega (arith, room)), flat_fits b)
+flat_fits (choose a b) p h room = search (arith, rules, flat_size, all_append, flat_fits a, flat_fits b)
 flat_fits (when a) p h room = (omega (arith, room, flat_size a (p + 1)), flat_fits a (p + 1) h (omega (arith, room)))
 flat_fits (each a) p h room = search (arith, rules, flat_size, all_append, flat_fits a (p + 1) h (omega (arith, room)))
-flat_fits a0 p h room = search (arith, rules)
+flat_fits a p h room = search (arith, rules)
 
 -- ---- ids
 
 flag_fits : (b : Bool) → flag b < 2 ^ 8
-flag_fits true = omega arith
-flag_fits false = omega arith
+flag_fits b = search (arith, rules)
 
 field_fits : (f : LoopField) → field_id f < 2 ^ 8
 field_fits f = search (arith, rules)
@@ -81,13 +79,7 @@ found_passes p (y ∷ ys) x e = search (arith, rules, found_passes p ys x)
 -- The id of a filter fits one byte.
 accepted_fits : (f n : ℕ) → IsTrue (accepts (filter_of f) n) → f < 2 ^ 8
 unfolding filter_of
-accepted_fits f n h = by (find (λ g. filter_id g == f) table.filters) refl h
-  where
-    by : (o : Option FilterId) → find (λ g. filter_id g == f) table.filters ≡ o → IsTrue (accepts o n) → f < 2 ^ 8
-    by None e k = absurd (let no : false ≡ true = k in cc)
-    by (Some g) e k =
-        let same : filter_id g == f ≡ true = found_passes (λ g. filter_id g == f) table.filters g e in
-        let room = filter_fits g in grind (arith, nat_tests)
+accepted_fits f n h = search (arith, rules, found_passes, filter_fits, nat_tests)
 
 half_le : (n : ℕ) → half n ≤ n
 half_le zero = omega arith
@@ -99,21 +91,13 @@ nary_op_fits k n takes room = search (arith, rules, op_fits, test_fits, accepted
 
 -- ---- instructions that are no jumps
 
--- Each value of a sequence is an entry.
-counted_low : (es : SRow ℕ) → row_count es ≤ row_height es
-counted_low slots.none = omega arith
-counted_low (slots.item e es) = omega (arith, counted_low es)
-counted_low (slots.aside i e es) = omega (arith, counted_low es)
-
 module _ (p : Program) (locals : ℕ) (pool : length p.pool ≤ 2 ^ 32) (globals : p.globals ≤ 2 ^ 32)
     (stored : locals ≤ 2 ^ 32) (units : length p.routines ≤ 2 ^ 32) where
   load_plain : (s : Slot) → SlotFits p locals s → IsInstruction (load_of s)
-  load_plain (local i) h = omega (arith, h, stored)
-  load_plain (global i) h = omega (arith, h, globals)
+  load_plain s h = search (arith, rules)
 
   store_plain : (s : Slot) → SlotFits p locals s → IsInstruction (store_of s)
-  store_plain (local i) h = omega (arith, h, stored)
-  store_plain (global i) h = omega (arith, h, globals)
+  store_plain s h = search (arith, rules)
 
   called_plain : (u n : ℕ) → TakesRow p.routines u n → u < 2 ^ 32
   called_plain u n h = omega (arith, units, slice_get_within p.routines u h.routine h.is)
@@ -127,7 +111,7 @@ module _ (p : Program) (locals : ℕ) (pool : length p.pool ≤ 2 ^ 32) (globals
     expr_plain inside slots.absent o h f low = tt
     expr_plain inside (slots.made k es) o h f low = (
       row_plain inside es o h f.1 (omega (arith, low)),
-      nary_op_fits k (row_count es) f.0 (omega (arith, low, counted_low es)),
+      nary_op_fits k (row_count es) f.0 (omega (arith, low, row_room es)),
     )
     expr_plain inside (slots.conjunction a b) o h f low = (
       expr_plain inside a o h f.0 (omega (arith, low)),
@@ -160,8 +144,7 @@ module _ (p : Program) (locals : ℕ) (pool : length p.pool ≤ 2 ^ 32) (globals
     )
 
   some_plain : (s : Option Slot) → OfSome (SlotFits p locals) s → IsInstruction (store_if_of s)
-  some_plain None f = tt
-  some_plain (Some s) f = store_plain s f
+  some_plain s f = search (arith, rules, store_plain)
 
   stores_plain : (ss : List (Option Slot)) (o : Option Place) → OfSlots (SlotFits p locals) ss → Plain (stores_asm o ss)
   stores_plain [] o f = tt
@@ -169,8 +152,7 @@ module _ (p : Program) (locals : ℕ) (pool : length p.pool ≤ 2 ^ 32) (globals
 
   take_plain : (xs : Targets) (o : Option Place) → OfTargets (SlotFits p locals) xs → targets_height xs ≤ max_entries
       → Plain (take_asm o xs)
-  take_plain (slots.one s) o f low = store_plain s f
-  take_plain (slots.several ss) o f low = (omega (arith, low), stores_plain ss o f)
+  take_plain xs o f low = search (arith, rules, store_plain, stores_plain)
 
   item_plain : (o : Option Place) → Plain (one o (op.LoopGet 0 0))
   item_plain o = (omega arith, omega arith)
@@ -178,17 +160,14 @@ module _ (p : Program) (locals : ℕ) (pool : length p.pool ≤ 2 ^ 32) (globals
   kept_plain : (c : Option (SlotExpr ℕ)) (xs : Targets) (o : Option Place) → OfTargets (SlotFits p locals) xs
       → targets_height xs ≤ max_entries → ConditionFits p locals c → condition_height c ≤ max_entries
       → Plain (kept_asm o xs c)
-  kept_plain None xs o f low g under = tt
-  kept_plain (Some c) xs o f low g under =
-      (((item_plain o, take_plain xs o f low), (expr_plain false c o 0 g (omega (arith, under)), omega arith)), tt)
+  kept_plain c xs o f low g under = search (arith, rules, item_plain, take_plain, expr_plain)
 
   mutual
     stmt_plain : (inside : Bool) (s : SlotStmt ℕ) (h : ℕ) → StmtFits p locals inside s → h + stmt_height s ≤ max_entries
         → Plain (stmt_asm s h)
     stmt_plain inside (slots.put_pooled i) h f low = omega (arith, pool, slice_get_within p.pool i _ f.1)
     stmt_plain inside (slots.print q escaping e) h f low = (expr_plain inside e (Some q) h f low, flag_fits escaping)
-    stmt_plain inside (slots.assign q xs e) h f low =
-        (expr_plain inside e (Some q) h f.1 (omega (arith, low)), take_plain xs (Some q) f.0 (omega (arith, low)))
+    stmt_plain inside (slots.assign q xs e) h f low = search (arith, rules, expr_plain, take_plain)
     stmt_plain inside (slots.if_else q c a b) h f low = (
       expr_plain inside c (Some q) h f.0 (omega (arith, low)),
       (body_plain inside a h f.1 (omega (arith, low)), body_plain inside b h f.2 (omega (arith, low))),

@@ -1,6 +1,6 @@
 -- Simulation: if each run does what its meaning states, a sequence of such runs does what the
 -- sequence of the meanings states.
-use Rattle.std.proofs.Common.{◌≡◌, Bool, true, false, if◌then◌else◌, Option, Some, None, sym, subst, arith, rules}
+use Rattle.std.proofs.Common.{◌≡◌, Bool, if◌then◌else◌, Option, Some, None, sym, subst, arith, rules}
 use Rattle.jt_image.specs.Config.{State}
 use Rattle.jt_value.specs.Place.{Place}
 use Rattle.jt_eval.specs.Eval.{Eval, gives, fails, deeper, bind, at}
@@ -68,8 +68,7 @@ placed p inv to r m h = search (arith, rules)
 pub either : {A : Type 0} (b : Bool) (o : Option Place) (inv : A → Type 0) (to : A → State) (r r' : AsmEval)
     (m m' : Eval A)
     → Does o inv to r m → Does o inv to r' m' → Does o inv to (if b then r else r') (if b then m else m')
-either true o inv to r r' m m' h h' = h
-either false o inv to r r' m m' h h' = h'
+either b o inv to r r' m m' h h' = search (arith, rules)
 
 pub and_then_assoc : (r : AsmEval) (f g : State → AsmEval)
     → and_then (and_then r f) g ≡ and_then r (λ s. and_then (f s) g)
@@ -77,4 +76,4 @@ and_then_assoc r f g = search (arith, rules)
 
 pub bind_assoc : {A B C : Type 0} (m : Eval A) (f : A → Eval B) (g : B → Eval C)
     → bind (bind m f) g ≡ bind m (λ x. bind (f x) g)
-bind_assoc a0 f g = search (arith, rules)
+bind_assoc m f g = search (arith, rules)

@@ -1,6 +1,6 @@
 -- The place that a program's code has at a point is that of the table.
 use Rattle.std.proofs.Common.{◌≡◌, true, false, ℕ, zero, suc, ◌+◌, ◌<◌, List, [], ◌∷◌, ◌++◌, length, take, map, Option}
-use Rattle.std.proofs.Common.{Some, None, refl, ap, ◌∙◌, arith, length-append, ◌⊎◌, inl, inr, rules}
+use Rattle.std.proofs.Common.{Some, None, refl, ap, arith, length-append, ◌⊎◌, inl, inr, rules}
 use Rattle.std.proofs.lemmas.Bool.Decides.{nat_tests}
 use Rattle.std.specs.Prelude.{slice_get}
 use Rattle.std.specs.Option.{option_map, option_and_then}
@@ -60,7 +60,7 @@ in_there : (qs : List (Option Place)) (i : ℕ) (q : Place) → slice_get qs i �
     → Among q.template (templates_in qs)
 in_there (None ∷ qs) (suc i) q e = in_there qs i q e
 in_there (Some r ∷ qs) (suc i) q e = inr (in_there qs i q e)
-in_there a0 a1 q e = search (arith, rules)
+in_there qs i q e = search (arith, rules)
 
 -- ---- encoded places
 
@@ -83,8 +83,7 @@ as_many r = search (arith, rules, placed, length-append)
 -- The number of places is the number of instructions.
 pub places_len : (rs : List (Routine ℕ)) → length (flat_map routine_places rs) ≡ total_len (map unit_of rs)
 places_len [] = refl
-places_len (r ∷ rs) =
-    length-append (routine_places r) (flat_map routine_places rs) ∙ omega (arith, as_many r, places_len rs)
+places_len (r ∷ rs) = search (arith, rules, length-append, as_many, places_len rs)
 
 -- The place of a point comes after those of the units before it.
 at_number : (rs : List (Routine ℕ)) (u n : ℕ) (r : Routine ℕ) → slice_get rs u ≡ Some r → n < length (unit_of r).code
@@ -109,7 +108,7 @@ module _ (p : Program) where
       (option_map unit_of o)
       ≡ Some x
       → place_at (lowered p) u n ≡ place_in (option_map routine_places o) n
-  at_unit u n x a3 is e = search (arith, rules, at_number, slice_get_within, slice_get-map, told)
+  at_unit u n x o is e = search (arith, rules, at_number, slice_get_within, slice_get-map, told)
 
 pub tells : (p : Program) (u n : ℕ) (x : Section × Instruction) → fetch (lowered p) u n ≡ Some x
     → place_at (lowered p) u n ≡ table_of p u n

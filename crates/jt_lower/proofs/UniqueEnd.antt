@@ -13,7 +13,7 @@ use Rattle.jt_lower.proofs.TablePlacedRuns.{Table, placed_at, placed_exec}
 longer_at : (k : Code) (table : Table) (q : Option (Section × Instruction)) (m : MachineState)
     (go go' : MachineState → Free) (o : Free)
     → ((m : MachineState) → go m ≡ o → go' m ≡ o) → placed_at k table q m go ≡ o → placed_at k table q m go' ≡ o
-longer_at k table a2 m go go' o h e = search (arith, rules)
+longer_at k table q m go go' o h e = search (arith, rules)
 
 -- A run that has ended has the same result with more instructions.
 pub longer : (k : Code) (table : Table) (a b : ℕ) (m : MachineState) (o : Free) → o ≢ Going → a ≤ b
@@ -40,7 +40,7 @@ told_at : (k : Code) (table : Table) (q : Option (Section × Instruction)) (m : 
     (go go' : MachineState → Free)
     → ((x : Section × Instruction) → q ≡ Some x → place_at k m.unit m.point ≡ table m.unit m.point)
     → ((m : MachineState) → go m ≡ go' m) → placed_at k table q m go ≡ exec_at k q m go'
-told_at k table a2 m go go' t h = search (arith, rules)
+told_at k table q m go go' t h = search (arith, rules)
 
 -- The run with the table is the code's own run.
 pub told_same : (k : Code) (table : Table) → Tells k table → (n : ℕ) (m : MachineState)

@@ -1,7 +1,6 @@
 -- The length of an escaped text, byte by byte.
+use Rattle.jt_machine.proofs.Vocabulary.{escaped_more, escaped, escaped_byte}
 use Rattle.std.proofs.Common.{◌≡◌, ◌∙◌, ℕ, ◌+◌, ◌<◌, List, length, get_or, take, sym, ap, length-append}
-use Rattle.jt_escape.specs.Escaping.{escaped, escaped_byte}
-use Rattle.jt_escape.proofs.EscapedPrefix.{escaped_more}
 
 -- The escaped length with one more byte is the sum of both lengths.
 pub taken_more : (text items : List ℕ) (i n : ℕ) → items ≡ text → i < length items

@@ -22,3 +22,4 @@ mod CacheCorrect
 mod LoadedMember
 mod MemberCorrect
 mod MemberFound
+pub mod Vocabulary

@@ -1,11 +1,9 @@
 -- A sink that takes pieces in sequence takes their bytes in order.
+use Rattle.jt_machine.proofs.Vocabulary.{TookTo, Appends-nil, Appends-trans, append-nil, take-append-drop, Appends}
 use Rattle.std.proofs.Common.{◌≡◌, ℕ, List, [], ◌∷◌, ◌++◌, ◌-◌, length, take, drop, length-drop, Option, refl, sym, ap}
 use Rattle.std.proofs.Common.{◌∙◌, append_assoc, arith, rules}
-use Rattle.std.proofs.lemmas.List.{append-nil, take-append-drop}
 use Rattle.std.proofs.Math.Seq.{take-length}
-use Rattle.std.proofs.KnownBytes.{Appends-nil, Appends-trans}
-use Rattle.std.specs.Io.KnownBytes.{Appends}
-use Rattle.jt_machine.specs.Sinks.{TookTo, TookFront}
+use Rattle.jt_machine.specs.Sinks.{TookFront}
 
 pub none_taken : (all : List ℕ) (old : Option (List ℕ)) → TookTo all all old old
 none_taken all old = record { front = []; parts = refl; taken = Appends-nil old }

@@ -1,5 +1,5 @@
 pub mod FastPath
-pub mod FilterCalls
+pub mod Operations
 pub mod Iterating
 pub mod Making
 pub mod Numbers

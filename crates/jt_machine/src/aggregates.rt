@@ -1,10 +1,11 @@
 //! Executes instructions that make one value from several: operators, filters, tests, lists and
 //! maps.
 ghost use Rattle.std.specs.Prelude.{◌≡◌, ◌≤◌, ◌+◌, ◌<◌, ◌^◌, ◌∷◌, [], true, length, map, take};
-ghost use Rattle.std.specs.Prelude.{List, Result, None, IfOk, OnOk};
+ghost use Rattle.std.specs.Prelude.{List, Result, None, Ok, IfOk, OnOk};
+ghost use Rattle.std.specs.List.{list_all};
 ghost use Rattle.jt_value.specs.Tree as tree;
 ghost use Rattle.jt_value.specs.Tree.{Tree};
-ghost use Rattle.jt_value.specs.View.{view};
+ghost use Rattle.jt_value.specs.View.{view, items_of};
 ghost use Rattle.jt_value.specs.declared.fault.Fault.{Fault};
 ghost use Rattle.jt_ops.specs.Limited.{limited, limited_by, Answers};
 ghost use Rattle.jt_op_semantics.specs.Operation.{operation};
@@ -13,19 +14,17 @@ ghost use Rattle.jt_op_semantics.specs.Testing.{tested as tested_of};
 ghost use Rattle.jt_ops.specs.Limited.{as_answer};
 ghost use Rattle.jt_ids.specs.TestTable.{test_values};
 ghost use Rattle.jt_image.specs.Ids.{operator_of, filter_of, test_of};
-ghost use Rattle.jt_image.specs.Step.{listed, mapped};
+ghost use Rattle.jt_filter_semantics.specs.Filtering.{filtered as filtered_of};
+ghost use Rattle.jt_op_semantics.specs.Testing.{is_text};
+ghost use Rattle.jt_image.specs.Step.{keys_of, listed, mapped};
 ghost use Rattle.jt_image.specs.Run.{limit_of};
 ghost use Rattle.jt_machine.specs.Activations.{with_running};
-ghost use Rattle.jt_machine.specs.internal.FilterCalls.{IsCallable, called};
-ghost use Rattle.jt_machine.specs.InstructionSteps.{make, made, operate as operate_next};
-ghost use Rattle.jt_machine.specs.InstructionSteps.{apply_filter as filter_next};
-ghost use Rattle.jt_machine.specs.InstructionSteps.{apply_test as test_next, answering};
-ghost use Rattle.jt_machine.specs.InstructionSteps.{push as pushes, step_on as steps_on, values_at};
-ghost use Rattle.jt_machine.specs.InstructionSteps.{below};
+ghost use Rattle.jt_machine.specs.internal.Operations as operations;
+ghost use Rattle.jt_machine.specs.InstructionSteps as part;
 ghost use Rattle.jt_machine.specs.View.{budget_view, config_view, IsNext, continues};
 ghost use Rattle.jt_machine.specs.View.{HasValues, IsReady, IsBounded};
 
-use crate::charging::{charge_fuel, push, push_checked};
+use crate::charging::{charge_fuel, push_checked};
 use crate::limits::list_limit;
 use crate::maps::{map_of, map_refusal};
 use crate::measure::sizes;
@@ -36,6 +35,7 @@ use jt_budget::{Budget, Spent};
 use jt_filters::{
     FilterId, Limits, OpError, OpId, TestId, apply, binary_owned, range, test, unary,
 };
+use jt_ops::within;
 use jt_value::{NoMemory, Value};
 use std::alloc::Global;
 use std::array::from_fn;
@@ -48,9 +48,9 @@ pub(crate) fn take_values(
 ) -> Result<Vec<Value>, NoMemory>
     requires { HasValues count stack.old.running }
     ensures values { IfOk result
-        (λ vs. values_at count stack.old.running ≡ map view vs.items) }
+        (λ vs. part.values_at count stack.old.running ≡ map view vs.items) }
     ensures taken { OnOk result
-        (stack.new ≡ with_running (below count stack.old.running) stack.old) }
+        (stack.new ≡ with_running (part.below count stack.old.running) stack.old) }
 {
     let mut values = Vec::new(alloc);
     'values: for _ in 0..count {
@@ -66,7 +66,8 @@ fn charge_for_values(state: &mut State, count: usize) -> Option<Outcome>
     requires has { HasValues count state.old.stack.running }
     requires bounded { IsBounded state.old }
     ensures rest { (f : List Tree → Result Tree Fault)
-        → make count f (config_view state.old) ≡ continues result state.new (made count f) }
+        → part.make count f (config_view state.old)
+        ≡ continues result state.new (part.made count f) }
     ensures same { state.new ≡ record state.old { left = state.new.left } }
     ensures has { HasValues count state.new.stack.running }
 {
@@ -86,7 +87,8 @@ pub(crate) fn push_answer(
     requires fits { IfOk answer (λ v. limit_of (budget_view state.old.left) (view v) ≡ None) }
     ensures { (r : Result Tree Fault)
         → Answers answer (limited state.old.left.size state.old.left.nesting r)
-        → IsNext result state.new (answering r (λ t. pushes t (config_view state.old) steps_on)) }
+        → IsNext result state.new
+        (part.answering r (λ t. part.push t (config_view state.old) part.step_on)) }
 {
     match answer {
         Ok(value) => push_checked(state, value),
@@ -98,19 +100,21 @@ pub(crate) fn push_answer(
 }
 
 // Pops the top value.
+#[tactic(auto, using(crate::proofs::PoppedValues::more_is, crate::proofs::PoppedValues::one_taken))]
 fn pop_one(stack: &mut Stack) -> Value
     requires { HasValues 1 stack.old.running }
-    ensures values { values_at 1 stack.old.running ≡ view result ∷ [] }
-    ensures taken { stack.new ≡ with_running (below 1 stack.old.running) stack.old }
+    ensures values { part.values_at 1 stack.old.running ≡ view result ∷ [] }
+    ensures taken { stack.new ≡ with_running (part.below 1 stack.old.running) stack.old }
 {
     stack.pop()
 }
 
 // Pops two values and returns them, the deeper one first.
+#[tactic(auto, using(crate::proofs::PoppedValues::more_is, crate::proofs::PoppedValues::one_taken))]
 fn pop_two(stack: &mut Stack) -> (Value, Value)
     requires { HasValues 2 stack.old.running }
-    ensures values { values_at 2 stack.old.running ≡ view result.0 ∷ view result.1 ∷ [] }
-    ensures taken { stack.new ≡ with_running (below 2 stack.old.running) stack.old }
+    ensures values { part.values_at 2 stack.old.running ≡ view result.0 ∷ view result.1 ∷ [] }
+    ensures taken { stack.new ≡ with_running (part.below 2 stack.old.running) stack.old }
 {
     let last = stack.pop();
     let first = stack.pop();
@@ -118,11 +122,12 @@ fn pop_two(stack: &mut Stack) -> (Value, Value)
 }
 
 // Pops three values and returns them, the deepest first.
+#[tactic(auto, using(crate::proofs::PoppedValues::more_is, crate::proofs::PoppedValues::one_taken))]
 fn pop_three(stack: &mut Stack) -> (Value, Value, Value)
     requires { HasValues 3 stack.old.running }
-    ensures values { values_at 3 stack.old.running
+    ensures values { part.values_at 3 stack.old.running
         ≡ view result.0 ∷ view result.1 ∷ view result.2 ∷ [] }
-    ensures taken { stack.new ≡ with_running (below 3 stack.old.running) stack.old }
+    ensures taken { stack.new ≡ with_running (part.below 3 stack.old.running) stack.old }
 {
     let last = stack.pop();
     let second = stack.pop();
@@ -139,9 +144,9 @@ fn operated(
 ) -> Result<Value, OpError>
     requires { HasValues (op_operands operator) stack.old.running }
     ensures answers { Answers result (limited_by limits
-        (operation operator (values_at (op_operands operator) stack.old.running))) }
+        (operation operator (part.values_at (op_operands operator) stack.old.running))) }
     ensures taken { stack.new
-        ≡ with_running (below (op_operands operator) stack.old.running) stack.old }
+        ≡ with_running (part.below (op_operands operator) stack.old.running) stack.old }
 {
     let count = operator.operands();
     if count == 1 {
@@ -166,28 +171,6 @@ pub(crate) fn limits_of(budget: &Budget) -> Limits
     }
 }
 
-/// Pops the operands of an operator and pushes its result.
-pub(crate) fn operate(
-    alloc: Global,
-    state: &mut State,
-    operator: u8,
-) -> Result<Option<Outcome>, NoMemory>
-    requires ready { IsReady (operate_next operator (config_view state.old)) state.old }
-    requires bounded { IsBounded state.old }
-    // Allocates only if the result is within the limits.
-    ensures { IsNext result state.new (operate_next operator (config_view state.old)) }
-{
-    let Some(operator) = operator_by(operator) else {
-        unreachable!()
-    };
-    if let Some(outcome) = charge_for_values(state, operator.operands()) {
-        return Ok(Some(outcome));
-    }
-    let limits = limits_of(&state.left);
-    let answer = operated(alloc, operator, &mut state.stack, limits);
-    push_answer(state, answer)
-}
-
 // A call of a filter: the filter, its number of values, and whether it escapes.
 #[derive(Clone, Copy)]
 struct FilterCall {
@@ -203,9 +186,11 @@ fn filtered(
     stack: &mut Stack,
     limits: Limits,
 ) -> Result<Value, OpError>
-    requires { IsCallable call stack.old.running }
-    ensures answers { Answers result (limited_by limits (called call stack.old.running)) }
-    ensures taken { stack.new ≡ with_running (below call.count stack.old.running) stack.old }
+    requires has { HasValues call.count stack.old.running }
+    requires takes { operations.TakesCount call }
+    ensures answers { Answers result (limited_by limits
+        (filtered_of call.filter call.escaping (part.values_at call.count stack.old.running))) }
+    ensures taken { stack.new ≡ with_running (part.below call.count stack.old.running) stack.old }
 {
     let FilterCall {
         filter,
@@ -236,9 +221,11 @@ fn filtered_many(
     stack: &mut Stack,
     limits: Limits,
 ) -> Result<Value, OpError>
-    requires { IsCallable call stack.old.running }
-    ensures answers { Answers result (limited_by limits (called call stack.old.running)) }
-    ensures taken { stack.new ≡ with_running (below call.count stack.old.running) stack.old }
+    requires has { HasValues call.count stack.old.running }
+    requires takes { operations.TakesCount call }
+    ensures answers { Answers result (limited_by limits
+        (filtered_of call.filter call.escaping (part.values_at call.count stack.old.running))) }
+    ensures taken { stack.new ≡ with_running (part.below call.count stack.old.running) stack.old }
 {
     let mut row: [Value; 255] = from_fn(|_| Value::Undefined);
     fill_row(stack, &mut row, call.count);
@@ -255,13 +242,109 @@ fn filtered_many(
 fn fill_row(stack: &mut Stack, row: &mut [Value], count: usize)
     requires has { HasValues count stack.old.running }
     requires room { count ≤ length row.old }
-    ensures values { map view (take count row.new) ≡ values_at count stack.old.running }
-    ensures taken { stack.new ≡ with_running (below count stack.old.running) stack.old }
+    ensures values { map view (take count row.new) ≡ part.values_at count stack.old.running }
+    ensures taken { stack.new ≡ with_running (part.below count stack.old.running) stack.old }
     ensures len { length row.new ≡ length row.old }
 {
     'values: for taken in 0..count {
         row[count - 1 - taken] = stack.pop();
     }
+}
+
+// Pops the values of a test and returns whether it holds.
+fn tested(id: TestId, stack: &mut Stack, count: usize) -> Result<bool, OpError>
+    requires has { HasValues count stack.old.running }
+    requires many { count ≡ test_values id }
+    ensures answer { result ≡ as_answer (tested_of id (part.values_at count stack.old.running)) }
+    ensures taken { stack.new ≡ with_running (part.below count stack.old.running) stack.old }
+{
+    if count == 1 {
+        let value = pop_one(stack);
+        return test(id, &[value]);
+    }
+    let (value, argument) = pop_two(stack);
+    test(id, &[value, argument])
+}
+
+// An operation on the values at the top: an operator, a call of a filter, or a test with its number
+// of values.
+#[derive(Clone, Copy)]
+enum Operation {
+    Operator(OpId),
+    Filter(FilterCall),
+    Test(TestId, usize),
+}
+
+// Returns the number of values that an operation takes.
+#[inline(always)]
+fn count_of(operation: Operation) -> usize
+    ensures { result ≡ operations.count_of operation }
+{
+    match operation {
+        Operation::Operator(operator) => operator.operands(),
+        Operation::Filter(call) => call.count,
+        Operation::Test(_, count) => count,
+    }
+}
+
+// Pops the values of an operation and returns its result.
+#[inline(always)]
+fn result_of(
+    alloc: Global,
+    operation: Operation,
+    stack: &mut Stack,
+    limits: Limits,
+) -> Result<Value, OpError>
+    requires has { HasValues (operations.count_of operation) stack.old.running }
+    requires callable { operations.IsCallable operation }
+    ensures answers { Answers result (limited_by limits
+        (operations.result_of operation
+        (part.values_at (operations.count_of operation) stack.old.running))) }
+    ensures taken { stack.new
+        ≡ with_running (part.below (operations.count_of operation) stack.old.running) stack.old }
+{
+    match operation {
+        Operation::Operator(operator) => operated(alloc, operator, stack, limits),
+        Operation::Filter(call) => filtered(alloc, call, stack, limits),
+        Operation::Test(id, count) => within(Value::Bool(tested(id, stack, count)?), limits),
+    }
+}
+
+// Replaces the values of an operation by its result.
+#[inline(always)]
+fn perform(
+    alloc: Global,
+    state: &mut State,
+    operation: Operation,
+) -> Result<Option<Outcome>, NoMemory>
+    requires ready { IsReady
+        (part.make (operations.count_of operation) (operations.result_of operation)
+        (config_view state.old)) state.old }
+    requires callable { operations.IsCallable operation }
+    requires bounded { IsBounded state.old }
+    // Allocates only if the result is within the limits.
+    ensures { IsNext result state.new
+        (part.make (operations.count_of operation) (operations.result_of operation)
+        (config_view state.old)) }
+{
+    if let Some(outcome) = charge_for_values(state, count_of(operation)) {
+        return Ok(Some(outcome));
+    }
+    let limits = limits_of(&state.left);
+    let answer = result_of(alloc, operation, &mut state.stack, limits);
+    push_answer(state, answer)
+}
+
+/// Pops the operands of an operator and pushes its result.
+pub(crate) fn operate(alloc: Global, state: &mut State, id: u8) -> Result<Option<Outcome>, NoMemory>
+    requires ready { IsReady (part.operate id (config_view state.old)) state.old }
+    requires bounded { IsBounded state.old }
+    ensures { IsNext result state.new (part.operate id (config_view state.old)) }
+{
+    let Some(operator) = operator_by(id) else {
+        unreachable!()
+    };
+    perform(alloc, state, Operation::Operator(operator))
 }
 
 /// Pops `count` values, the input deepest, and pushes the result of a filter. The filter escapes if
@@ -273,62 +356,48 @@ pub(crate) fn apply_filter(
     count: usize,
     flag: u32,
 ) -> Result<Option<Outcome>, NoMemory>
-    requires ready { IsReady (filter_next id count flag (config_view state.old)) state.old }
+    requires ready { IsReady (part.apply_filter id count flag (config_view state.old)) state.old }
     requires bounded { IsBounded state.old }
-    // Allocates only if the result is within the limits.
-    ensures { IsNext result state.new (filter_next id count flag (config_view state.old)) }
+    ensures { IsNext result state.new (part.apply_filter id count flag (config_view state.old)) }
 {
     let Some(filter) = filter_by(id) else {
         unreachable!()
     };
-    if let Some(outcome) = charge_for_values(state, count) {
-        return Ok(Some(outcome));
-    }
     let call = FilterCall {
         filter,
         count,
         escaping: flag == 1,
     };
-    let limits = limits_of(&state.left);
-    let answer = filtered(alloc, call, &mut state.stack, limits);
-    push_answer(state, answer)
-}
-
-// Pops the values of a test and returns whether it holds.
-fn tested(id: TestId, stack: &mut Stack, count: usize) -> Result<bool, OpError>
-    requires has { HasValues count stack.old.running }
-    requires many { count ≡ test_values id }
-    ensures answer { result ≡ as_answer (tested_of id (values_at count stack.old.running)) }
-    ensures taken { stack.new ≡ with_running (below count stack.old.running) stack.old }
-{
-    if count == 1 {
-        let value = pop_one(stack);
-        return test(id, &[value]);
-    }
-    let (value, argument) = pop_two(stack);
-    test(id, &[value, argument])
+    perform(alloc, state, Operation::Filter(call))
 }
 
 /// Pops `count` values, the tested one deepest, and pushes whether the test holds.
 pub(crate) fn apply_test(
+    alloc: Global,
     state: &mut State,
     id: u8,
     count: usize,
 ) -> Result<Option<Outcome>, NoMemory>
-    requires ready { IsReady (test_next id count (config_view state.old)) state.old }
+    requires ready { IsReady (part.apply_test id count (config_view state.old)) state.old }
     requires bounded { IsBounded state.old }
-    ensures { IsNext result state.new (test_next id count (config_view state.old)) }
+    ensures { IsNext result state.new (part.apply_test id count (config_view state.old)) }
 {
-    let Some(id) = test_by(id) else {
+    let Some(test) = test_by(id) else {
         unreachable!()
     };
-    if let Some(outcome) = charge_for_values(state, count) {
-        return Ok(Some(outcome));
-    }
-    match tested(id, &mut state.stack, count) {
-        Ok(truth) => push(state, Value::Bool(truth)),
-        Err(error) => push_answer(state, Err(error)),
-    }
+    perform(alloc, state, Operation::Test(test, count))
+}
+
+// Pops `count` values and returns their list.
+fn list_of(alloc: Global, stack: &mut Stack, count: usize) -> Result<Value, NoMemory>
+    requires { HasValues count stack.old.running }
+    ensures list { IfOk result
+        (λ v. view v ≡ tree.list (items_of (part.values_at count stack.old.running))) }
+    ensures taken { OnOk result
+        (stack.new ≡ with_running (part.below count stack.old.running) stack.old) }
+{
+    let values = take_values(alloc, stack, count)?;
+    Ok(Value::list(alloc, values)?)
 }
 
 /// Pops `count` values and pushes their list.
@@ -337,10 +406,10 @@ pub(crate) fn make_list(
     state: &mut State,
     count: usize,
 ) -> Result<Option<Outcome>, NoMemory>
-    requires ready { IsReady (make count listed (config_view state.old)) state.old }
+    requires ready { IsReady (part.make count listed (config_view state.old)) state.old }
     requires bounded { IsBounded state.old }
     // Allocates only if the list is within the limits.
-    ensures { IsNext result state.new (make count listed (config_view state.old)) }
+    ensures { IsNext result state.new (part.make count listed (config_view state.old)) }
 {
     if let Some(outcome) = charge_for_values(state, count) {
         return Ok(Some(outcome));
@@ -348,9 +417,20 @@ pub(crate) fn make_list(
     if let Some(spent) = list_limit(state.stack.top_entries(count), &state.left) {
         return Ok(Some(Outcome::Spent(spent)));
     }
-    let values = take_values(alloc, &mut state.stack, count)?;
-    let list = Value::list(alloc, values)?;
+    let list = list_of(alloc, &mut state.stack, count)?;
     push_checked(state, list)
+}
+
+// Pops `count` values, alternately a key and its value, and returns their map.
+fn map_on_top(alloc: Global, stack: &mut Stack, count: usize) -> Result<Value, NoMemory>
+    requires has { HasValues count stack.old.running }
+    requires texts { list_all is_text (keys_of (part.values_at count stack.old.running)) ≡ true }
+    ensures map { IfOk result (λ v. mapped (part.values_at count stack.old.running) ≡ Ok (view v)) }
+    ensures taken { OnOk result
+        (stack.new ≡ with_running (part.below count stack.old.running) stack.old) }
+{
+    let values = take_values(alloc, stack, count)?;
+    Ok(map_of(alloc, values)?)
 }
 
 /// Pops `count` values, alternately a key and its value, and pushes their map.
@@ -359,10 +439,10 @@ pub(crate) fn make_map(
     state: &mut State,
     count: usize,
 ) -> Result<Option<Outcome>, NoMemory>
-    requires ready { IsReady (make count mapped (config_view state.old)) state.old }
+    requires ready { IsReady (part.make count mapped (config_view state.old)) state.old }
     requires bounded { IsBounded state.old }
     // Allocates only if the map is within the limits.
-    ensures { IsNext result state.new (make count mapped (config_view state.old)) }
+    ensures { IsNext result state.new (part.make count mapped (config_view state.old)) }
 {
     if let Some(outcome) = charge_for_values(state, count) {
         return Ok(Some(outcome));
@@ -370,8 +450,7 @@ pub(crate) fn make_map(
     if let Some(outcome) = map_refusal(state.stack.top_entries(count), &state.left) {
         return Ok(Some(outcome));
     }
-    let values = take_values(alloc, &mut state.stack, count)?;
-    let map = map_of(alloc, values)?;
+    let map = map_on_top(alloc, &mut state.stack, count)?;
     push_checked(state, map)
 }
 

@@ -5,13 +5,11 @@ ghost use Rattle.jt_image.specs.IsCode.{IsCode};
 ghost use Rattle.jt_image.specs.Step.{locals_of};
 ghost use Rattle.jt_image.specs.Run.{Wrong};
 ghost use Rattle.jt_machine.specs.Entries.{values_view};
-ghost use Rattle.jt_machine.specs.InstructionSteps.{call as call_next, return_from, went_back};
-ghost use Rattle.jt_machine.specs.InstructionSteps.{back_with};
+ghost use Rattle.jt_machine.specs.InstructionSteps as part;
 ghost use Rattle.jt_machine.specs.internal.StackView.{caller_view};
 ghost use Rattle.jt_machine.specs.View.{config_view, IsNext, given_view, IsReady};
 
 use crate::aggregates::take_values;
-use crate::charging::charge_fuel;
 use crate::entries::StackEntry;
 use crate::limits::exceeded_limit;
 use crate::outcome::Outcome;
@@ -44,9 +42,9 @@ pub(crate) fn call<C: Code>(
     unit: u32,
 ) -> Result<Option<Outcome>, NoMemory>
     requires whole { IsCode (C.code code.now) }
-    requires ready { IsReady (call_next (C.code code.now) unit (config_view state.old)) state.old }
+    requires ready { IsReady (part.call (C.code code.now) unit (config_view state.old)) state.old }
     // Allocates only if the call begins.
-    ensures { IsNext result state.new (call_next (C.code code.now) unit (config_view state.old)) }
+    ensures { IsNext result state.new (part.call (C.code code.now) unit (config_view state.old)) }
 {
     let Some(header) = code.unit(unit as usize) else {
         unreachable!()
@@ -67,7 +65,7 @@ pub(crate) fn call<C: Code>(
 fn go_on(state: &mut State, caller: Caller)
     requires { state.old.left.depth + 1 < 2 ^ 32 }
     ensures { config_view state.new
-        ≡ went_back (caller_view caller state.old.stack.running) state.old.stack.callers
+        ≡ part.went_back (caller_view caller state.old.stack.running) state.old.stack.callers
         state.old.stack.running (config_view state.old) }
 {
     let Caller {
@@ -93,7 +91,7 @@ fn resume(
     requires { state.old.left.depth + 1 < 2 ^ 32 }
     // Allocates only if the result is within the limits.
     ensures { IsNext result state.new
-        (back_with (caller_view caller state.old.stack.running) state.old.stack.callers
+        (part.back_with (caller_view caller state.old.stack.running) state.old.stack.callers
         (given_view given) (config_view state.old)) }
 {
     let Some(value) = given else {
@@ -112,8 +110,8 @@ fn resume(
 pub(crate) fn finish(alloc: Global, state: &mut State) -> Result<Option<Outcome>, NoMemory>
     requires depth { state.old.left.depth + length state.old.stack.callers < 2 ^ 32 }
     ensures { (u : Option Section)
-        → return_from u (config_view state.old) ≢ Wrong
-        → IsNext result state.new (return_from u (config_view state.old)) }
+        → part.return_from u (config_view state.old) ≢ Wrong
+        → IsNext result state.new (part.return_from u (config_view state.old)) }
 {
     let given = state.stack.take_given();
     let Some(caller) = state.stack.leave() else {

@@ -3,11 +3,10 @@ ghost use Rattle.std.specs.Prelude.{◌≡◌, ◌≢◌, ◌∷◌, [], ◌+◌
 ghost use Rattle.std.specs.Prelude.{string_bytes};
 ghost use Rattle.jt_value.specs.Tree as tree;
 ghost use Rattle.jt_value.specs.View.{view};
-ghost use Rattle.jt_machine.specs.InstructionSteps.{open_capture as open_next};
-ghost use Rattle.jt_machine.specs.InstructionSteps.{close_capture as close_next};
+ghost use Rattle.jt_machine.specs.InstructionSteps as part;
 ghost use Rattle.jt_machine.specs.View.{config_view, IsNext, outer_view, IsReady};
 
-use crate::charging::{charge_fuel, push_checked, step_on};
+use crate::charging::{push_checked, step_on};
 use crate::entries::StackEntry;
 use crate::limits::flat_limit;
 use crate::outcome::Outcome;
@@ -28,7 +27,7 @@ fn push_outer(outer: &mut Vec<String>, buffer: String) -> Result<(), NoMemory>
 /// Opens a capture with an empty buffer.
 pub(crate) fn open_capture(alloc: Global, state: &mut State) -> Result<Option<Outcome>, NoMemory>
     requires { state.old.point + 1 < 2 ^ 64 }
-    ensures { IsNext result state.new (open_next (config_view state.old)) }
+    ensures { IsNext result state.new (part.open_capture (config_view state.old)) }
 {
     state.stack.push(StackEntry::Capture)?;
     let around = mem::replace(&mut state.buffer, String::new(alloc));
@@ -61,9 +60,9 @@ fn captured(text: String, marked: bool) -> Result<Value, NoMemory>
 
 /// Closes the innermost capture and pushes its text, as markup if `marked` is true.
 pub(crate) fn close_capture(state: &mut State, marked: bool) -> Result<Option<Outcome>, NoMemory>
-    requires { IsReady (close_next marked (config_view state.old)) state.old }
+    requires { IsReady (part.close_capture marked (config_view state.old)) state.old }
     // Allocates only if the text is within the limits.
-    ensures { IsNext result state.new (close_next marked (config_view state.old)) }
+    ensures { IsNext result state.new (part.close_capture marked (config_view state.old)) }
 {
     state.stack.pop_capture();
     let around = pop_outer(&mut state.outer);

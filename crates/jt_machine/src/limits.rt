@@ -17,13 +17,7 @@ use jt_value::Value;
 pub(crate) fn exceeded_limit(value: &Value, budget: &Budget) -> Option<Spent>
     ensures { option_map limit_view result ≡ limit_of (budget_view budget.now) (view value.now) }
 {
-    // The prover needs these reads, which show that the limits have fewer bits than the counts.
-    let _size = budget.size;
-    let _nesting = budget.nesting;
-    match budget.fits(value.size(), value.nesting()) {
-        Ok(()) => None,
-        Err(spent) => Some(spent),
-    }
+    limit_by(value.size(), value.nesting(), budget)
 }
 
 /// Returns a copy of a value, if it is within the limits and can be copied.
@@ -45,14 +39,13 @@ pub(crate) fn flat_limit(size: u64, budget: &Budget) -> Option<Spent>
         → tree.nesting t ≡ 0
         → option_map limit_view result ≡ limit_of (budget_view budget.now) t }
 {
-    match budget.fits(size, 0) {
-        Ok(()) => None,
-        Err(spent) => Some(spent),
-    }
+    limit_by(size, 0, budget)
 }
 
 // Returns the limit that a value of this size and nesting exceeds. The greatest `u64` and `u32`
 // represent all greater numbers.
+#[inline(always)]
+#[tactic(auto, using(crate::proofs::StepLemmas::within))]
 fn limit_by(size: u64, nesting: u32, budget: &Budget) -> Option<Spent>
     ensures { (t : Tree)
         → size ≡ min (tree.size t) (2 ^ 64 - 1)

@@ -13,7 +13,7 @@ ghost use Rattle.jt_machine.specs.internal.Making.{key_fault as key_fault_of};
 ghost use Rattle.jt_machine.specs.internal.Making.{keys_fault as keys_fault_of};
 ghost use Rattle.jt_machine.specs.internal.Making.{first_fault as first_fault_of, upward};
 ghost use Rattle.jt_machine.specs.internal.Making.{HasTextKeys, IsWithin};
-ghost use Rattle.jt_machine.specs.InstructionSteps.{answering, push as pushes, step_on as steps_on};
+ghost use Rattle.jt_machine.specs.InstructionSteps as part;
 ghost use Rattle.jt_machine.specs.View.{budget_view, outcome_view};
 
 use crate::entries::StackEntry;
@@ -39,7 +39,7 @@ pub(crate) fn map_of(alloc: Global, values: Vec<Value>) -> Result<Value, NoMemor
 pub(crate) fn map_refusal(pairs: &[StackEntry], budget: &Budget) -> Option<Outcome>
     ensures ends { IfSome result (λ o. (c : Config)
         → c.left ≡ budget_view budget.now
-        → answering (mapped (all_held pairs.now)) (λ t. pushes t c steps_on)
+        → part.answering (mapped (all_held pairs.now)) (λ t. part.push t c part.step_on)
         ≡ Ends (outcome_view o)) }
     ensures fits { IfNone result (IsWithin (budget_view budget.now) (mapped (all_held pairs.now))) }
 {
@@ -80,8 +80,7 @@ fn held_fault(key: &StackEntry) -> Option<Fault>
 {
     match key {
         StackEntry::Value(key) => key_fault(key),
-        StackEntry::Frame(_) => Some(Fault::Undefined),
-        StackEntry::Capture => Some(Fault::Undefined),
+        _ => Some(Fault::Undefined),
     }
 }
 

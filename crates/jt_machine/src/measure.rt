@@ -16,8 +16,7 @@ fn held_size(entry: &StackEntry) -> u64
 {
     match entry {
         StackEntry::Value(value) => value.size(),
-        StackEntry::Frame(_) => 1,
-        StackEntry::Capture => 1,
+        _ => 1,
     }
 }
 
@@ -27,8 +26,7 @@ fn held_nesting(entry: &StackEntry) -> u32
 {
     match entry {
         StackEntry::Value(value) => value.nesting(),
-        StackEntry::Frame(_) => 0,
-        StackEntry::Capture => 0,
+        _ => 0,
     }
 }
 
@@ -72,8 +70,7 @@ fn key_of(entry: &StackEntry) -> &str
 {
     match entry {
         StackEntry::Value(value) => text_of(value),
-        StackEntry::Frame(_) => "",
-        StackEntry::Capture => "",
+        _ => "",
     }
 }
 

@@ -2,7 +2,7 @@
 ghost use Rattle.std.specs.Prelude.{◌≡◌, ◌<◌, length, slice_set};
 ghost use Rattle.jt_value.specs.View.{view};
 ghost use Rattle.jt_machine.specs.Entries.{values_view};
-ghost use Rattle.jt_machine.specs.InstructionSteps.{with_value};
+ghost use Rattle.jt_machine.specs.InstructionSteps as part;
 ghost use Rattle.jt_machine.specs.View.{config_view, held_in};
 
 use crate::stack::Stack;
@@ -47,7 +47,7 @@ impl State {
     pub(crate) fn set(&mut self, table: Table, index: usize, value: Value)
         requires { index < length (held_in table self.old) }
         ensures { config_view self.new
-            ≡ with_value table index (view value) (config_view self.old) }
+            ≡ part.with_value table index (view value) (config_view self.old) }
     {
         match table {
             Table::Globals => set_value(&mut self.globals, index, value),

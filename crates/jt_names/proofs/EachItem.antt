@@ -1,5 +1,5 @@
 -- A property of each item of a list, by its index.
-use Rattle.std.proofs.Common.{◌≡◌, ◌<◌, ℕ, suc, List, [], ◌∷◌, ◌++◌, length, get_or, arith, rules}
+use Rattle.jt_names.proofs.Vocabulary.{◌≡◌, ◌<◌, ℕ, suc, List, [], ◌∷◌, ◌++◌, length, get_or, arith, rules}
 
 -- A property of each item stays true when one more item is appended.
 pub each_more : {A : Type 0} (P : ℕ → A → Type 0) (xs : List A) (y : A)

@@ -1,26 +1,16 @@
 -- The facts of the template at an index, and the names of the templates of a chain.
-use Rattle.std.proofs.Common.{◌≡◌, ◌<◌, ◌≤◌, ◌+◌, ℕ, zero, suc, List, [], ◌∷◌, length, drop, get_or, refl}
-use Rattle.std.proofs.Common.{sym, ap, ◌∙◌, arith}
-use Rattle.std.proofs.lemmas.List.{drop_more, length-map}
-use Rattle.jt_ast.specs.Expressions.{Text}
-use Rattle.jt_ast.specs.Statements.{Body, end}
-use Rattle.jt_ast.specs.Texts.{all_inserted}
-use Rattle.jt_chains.specs.Along.{along, body_at}
-use Rattle.jt_chains.specs.Chain.{Template}
-use Rattle.jt_names.specs.FactsOfTemplates.{known_of, facts_in, AreKnown}
 use Rattle.jt_names.specs.declared.templates.TemplateFacts.{TemplateFacts}
+use Rattle.jt_names.proofs.Vocabulary.{◌≡◌, ◌<◌, ◌≤◌, ◌+◌, ℕ, zero, suc, List, [], ◌∷◌, length, drop, get_or, refl, sym}
+use Rattle.jt_names.proofs.Vocabulary.{ap, ◌∙◌, arith, drop_more, length-map, Text, Body, end, all_inserted, along}
+use Rattle.jt_names.proofs.Vocabulary.{body_at, Template, known_of, facts_in, AreKnown}
 use Rattle.jt_names.proofs.SortedNames.{inserted_both}
 
 pub facts_at : (ts : List Template) (fs : List TemplateFacts) (i : ℕ) (f : TemplateFacts) → i < length fs
     → f ≡ get_or fs i f → AreKnown ts fs → known_of f ≡ facts_in (body_at ts i)
 facts_at ts [] i f lt is e = absurd (omega arith)
 facts_at [] (g ∷ gs) i f lt is e = absurd (cc)
-facts_at (t ∷ ts) (g ∷ gs) zero f lt is e =
-    let h : known_of g ≡ facts_in t.body = cc in
-    ap known_of is ∙ h
-facts_at (t ∷ ts) (g ∷ gs) (suc i) f lt is e =
-    let r : AreKnown ts gs = cc in
-    facts_at ts gs i f (omega arith) is r
+facts_at (t ∷ ts) (g ∷ gs) zero f lt is e = cc
+facts_at (t ∷ ts) (g ∷ gs) (suc i) f lt is e = grind (arith, facts_at ts gs i f)
 
 -- Beyond the templates there are no statements.
 pub nothing_at : (ts : List Template) (fs : List TemplateFacts) (i : ℕ) → length fs ≤ i → AreKnown ts fs
@@ -29,9 +19,7 @@ nothing_at [] [] i le e = refl
 nothing_at [] (g ∷ gs) i le e = absurd (cc)
 nothing_at (t ∷ ts) [] i le e = absurd (cc)
 nothing_at (t ∷ ts) (g ∷ gs) zero le e = absurd (omega arith)
-nothing_at (t ∷ ts) (g ∷ gs) (suc i) le e =
-    let r : AreKnown ts gs = cc in
-    nothing_at ts gs i (omega arith) r
+nothing_at (t ∷ ts) (g ∷ gs) (suc i) le e = grind (arith, nothing_at ts gs i)
 
 -- The texts of one more template are inserted.
 pub turn : (g : Body → List Text) (ts : List Template) (is : List ℕ) (k : ℕ) (old new : List Text) → k < length is

@@ -1,14 +1,10 @@
 -- The first definition of a name.
-use Rattle.std.proofs.Common.{◌≡◌, ℕ, ◌+◌, ◌<◌, List, length, drop, get_or, Option, Some, if◌then◌else◌, add-one}
-use Rattle.std.proofs.Common.{arith, rules}
-use Rattle.std.specs.Prelude.{option_map}
-use Rattle.std.specs.Str.{bytes_eq}
-use Rattle.std.proofs.lemmas.List.{drop_more}
-use Rattle.jt_ast.specs.Expressions.{Text}
-use Rattle.jt_chains.specs.Chain.{Namespace, Template, given_to}
-use Rattle.jt_chains.specs.Named.{given_view, names_view}
+use Rattle.std.proofs.Common.{add-one}
 use Rattle.jt_chains.specs.declared.definitions.Definition.{Definition}
 use Rattle.jt_chains.specs.declared.definitions.DefinedName.{DefinedName}
+use Rattle.jt_names.proofs.Vocabulary.{◌≡◌, ℕ, ◌+◌, ◌<◌, List, length, drop, get_or, Option, Some, if◌then◌else◌, arith}
+use Rattle.jt_names.proofs.Vocabulary.{rules, option_map, bytes_eq, drop_more, Text, Namespace, Template, given_to}
+use Rattle.jt_names.proofs.Vocabulary.{given_view, names_view}
 
 -- One definition more, before the remaining ones.
 pub defined_turn : (ts : List Template) (h : Namespace) (x : Text) (gs : List DefinedName) (i m : ℕ) (g : DefinedName)

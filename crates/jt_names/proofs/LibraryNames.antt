@@ -1,17 +1,13 @@
 -- The names of a library, by the index of its template.
-use Rattle.std.proofs.Common.{◌≡◌, ◌≤◌, ℕ, zero, suc, true, false, List, [], ◌∷◌, length, refl, sym, ap, ◌∙◌, Option}
-use Rattle.std.proofs.Common.{arith, rules}
 use Rattle.std.specs.Option.{is_none}
-use Rattle.std.specs.Prelude.{flat_map, nat_le}
-use Rattle.std.proofs.lemmas.List.{append-nil}
-use Rattle.jt_ast.specs.Expressions.{Text}
-use Rattle.jt_ast.specs.Statements.{Body, end}
-use Rattle.jt_ast.specs.Texts.{ascending}
-use Rattle.jt_chains.specs.Along.{body_at, first_body}
-use Rattle.jt_chains.specs.Chain.{Template, a_library, holds_macros, library_template, sources_in}
-use Rattle.jt_chains.specs.Indices.{index_of}
-use Rattle.jt_chains.specs.Uses.{body_names, own_names}
+use Rattle.std.specs.Prelude.{nat_le}
+use Rattle.jt_chains.specs.Along.{first_body}
+use Rattle.jt_chains.specs.Chain.{a_library, holds_macros, library_template, sources_in}
+use Rattle.jt_chains.specs.Uses.{own_names}
 use Rattle.jt_chains.proofs.LibraryMacros.{body_held, no_body_held}
+use Rattle.jt_names.proofs.Vocabulary.{◌≡◌, ◌≤◌, ℕ, zero, suc, true, false, List, [], ◌∷◌, length, refl, sym, ap, ◌∙◌}
+use Rattle.jt_names.proofs.Vocabulary.{Option, arith, rules, flat_map, append-nil, Text, Body, end, ascending, body_at}
+use Rattle.jt_names.proofs.Vocabulary.{Template, index_of, body_names}
 
 -- The index of a template that was not read is no index.
 pub missing : (ts : List Template) (n : Text) → nat_le (length ts) (index_of ts n) ≡ is_none (sources_in ts n)

@@ -1,18 +1,17 @@
 -- Names that are inserted in order, one at a time.
-use Rattle.std.proofs.Common.{◌≡◌, true, if◌then◌else◌, List, [], ◌∷◌, ◌++◌}
-use Rattle.std.proofs.Common.{refl, sym, ap, subst, ◌∙◌, arith, rules}
 use Rattle.std.specs.declared.cmp.Ordering.{Ordering}
 use Rattle.std.specs.declared.cmp.Ordering.TheVariants.{Less, Equal, Greater}
 use Rattle.std.specs.Ordering.{nat_cmp, is_lt, is_eq, match_ordering, ordering_reverse}
 use Rattle.std.specs.Cmp.Lexicographic.{slice_cmp}
-use Rattle.std.specs.Str.{bytes_eq}
 use Rattle.std.specs.BTreeSet.{insert_key}
+use Rattle.std.proofs.lemmas.Bool.{or_right}
 use Rattle.std.proofs.lemmas.Cmp.{nat_list_eq_equiv, nat_list_cmp_total}
 use Rattle.std.proofs.lemmas.Map.Text.{is_eq-slice_cmp}
 use Rattle.std.proofs.lemmas.Slice.Eq.{bytes_eq-Decides}
-use denote.Ref.{Bor}
-use Rattle.jt_ast.specs.Expressions.{Text}
-use Rattle.jt_ast.specs.Texts.{inserted, all_inserted, ascending, texts}
+use Rattle.jt_ast.specs.Texts.{inserted}
+use Rattle.jt_names.proofs.Vocabulary.{◌≡◌, Bool, true, false, ◌||◌, if◌then◌else◌, List, [], ◌∷◌, ◌++◌, refl, sym, ap}
+use Rattle.jt_names.proofs.Vocabulary.{subst, ◌∙◌, arith, rules, bytes_eq, Bor, Text, among, all_inserted, ascending}
+use Rattle.jt_names.proofs.Vocabulary.{texts}
 
 pub symmetric : (x y : Text) → bytes_eq x y ≡ bytes_eq y x
 symmetric x y = nat_list_eq_equiv.symm x y
@@ -22,10 +21,6 @@ symmetric x y = nat_list_eq_equiv.symm x y
 pub inserted_both : (xs ys ns : List Text) → all_inserted (xs ++ ys) ns ≡ all_inserted ys (all_inserted xs ns)
 inserted_both [] ys ns = refl
 inserted_both (x ∷ xs) ys ns = inserted_both xs ys (inserted x ns)
-
-pub both_inserted : (xs ys ns ms ns' : List Text) → ms ≡ all_inserted xs ns → ns' ≡ all_inserted ys ms
-    → ns' ≡ all_inserted (xs ++ ys) ns
-both_inserted xs ys ns ms ns' e f = f ∙ ap (all_inserted ys) e ∙ sym (inserted_both xs ys ns)
 
 abbrev pub name_cmp : Bor Text → Bor Text → Ordering
 name_cmp x y = slice_cmp nat_cmp x.now y.now
@@ -45,7 +40,7 @@ key_inserted (y ∷ ys) x =
         else y.now ∷ inserted x.now (texts ys))
     through a0 h = search (arith, rules)
 
--- ---- The order of insertions does not matter
+-- ---- The order of insertions does not matter, and a text that is inserted again changes nothing
 
 abbrev cmp : Text → Text → Ordering
 cmp x y = slice_cmp nat_cmp x y
@@ -64,8 +59,7 @@ at_head x y ys o e =
     by : (r : Ordering)
         → (if is_eq r then y ∷ ys else if is_lt r then x ∷ y ∷ ys else y ∷ inserted x ys) ≡ placed r x y ys
     by Less = refl
-    by Equal = refl
-    by Greater = refl
+    by r = refl
 
 turned : (x y : Text) (o : Ordering) → cmp x y ≡ o → cmp y x ≡ ordering_reverse o
 turned x y o e = nat_list_cmp_total.antisymm y x ∙ ap ordering_reverse e
@@ -75,7 +69,7 @@ same x y e = (bytes_eq-Decides x y).0 (sym (is_eq-slice_cmp x y) ∙ ap is_eq e)
 
 -- Two insertions, of which the first is the smaller one, may be swapped.
 ordered : (x y : Text) (ns : List Text) → cmp x y ≡ Less → inserted y (inserted x ns) ≡ inserted x (inserted y ns)
-ordered x y [] l = at_head y x [] Greater (turned x y Less l) ∙ sym (at_head x y [] Less l)
+ordered x y [] l = search (arith, rules, turned, at_head)
 ordered x y (z ∷ zs) l = by (ordered x y zs l) (cmp x z) (cmp y z) refl refl
   where
     after : cmp y x ≡ Greater
@@ -83,28 +77,10 @@ ordered x y (z ∷ zs) l = by (ordered x y zs l) (cmp x z) (cmp y z) refl refl
 
     by : inserted y (inserted x zs) ≡ inserted x (inserted y zs) → (o r : Ordering) → cmp x z ≡ o → cmp y z ≡ r
         → inserted y (inserted x (z ∷ zs)) ≡ inserted x (inserted y (z ∷ zs))
-    by later Less Less e f =
-        ap (inserted y) (at_head x z zs Less e) ∙ at_head y x (z ∷ zs) Greater after
-        ∙ ap (λ us. x ∷ us) (at_head y z zs Less f)
-        ∙ sym (ap (inserted x) (at_head y z zs Less f) ∙ at_head x y (z ∷ zs) Less l)
-    by later Less Equal e f =
-        ap (inserted y) (at_head x z zs Less e) ∙ at_head y x (z ∷ zs) Greater after
-        ∙ ap (λ us. x ∷ us) (at_head y z zs Equal f)
-        ∙ sym (ap (inserted x) (at_head y z zs Equal f) ∙ at_head x z zs Less e)
-    by later Less Greater e f =
-        ap (inserted y) (at_head x z zs Less e) ∙ at_head y x (z ∷ zs) Greater after
-        ∙ ap (λ us. x ∷ us) (at_head y z zs Greater f)
-        ∙ sym (ap (inserted x) (at_head y z zs Greater f) ∙ at_head x z (inserted y zs) Less e)
+    by later Less r e f = search (arith, rules, at_head, after)
     by later Equal r e f =
-        let g : cmp y z ≡ Greater = ap (cmp y) (sym (same x z e)) ∙ after in
-        ap (inserted y) (at_head x z zs Equal e) ∙ at_head y z zs Greater g
-        ∙ sym (ap (inserted x) (at_head y z zs Greater g) ∙ at_head x z (inserted y zs) Equal e)
-    by later Greater r e f =
-        let g : cmp y z ≡ Greater =
-        turned z y Less (nat_list_cmp_total.trans z x y (turned x z Greater e) l) in
-        ap (inserted y) (at_head x z zs Greater e) ∙ at_head y z (inserted x zs) Greater g
-        ∙ ap (λ us. z ∷ us) later
-        ∙ sym (ap (inserted x) (at_head y z zs Greater g) ∙ at_head x z (inserted y zs) Greater e)
+        let g : cmp y z ≡ Greater = ap (cmp y) (sym (same x z e)) ∙ after in search (arith, rules, at_head)
+    by later Greater r e f = search (arith, rules, turned, nat_list_cmp_total, at_head)
 
 swapped : (x y : Text) (ns : List Text) → inserted y (inserted x ns) ≡ inserted x (inserted y ns)
 swapped x y ns = by (cmp x y) refl
@@ -118,23 +94,12 @@ past : (y : Text) (xs ns : List Text) → inserted y (all_inserted xs ns) ≡ al
 past y [] ns = refl
 past y (x ∷ xs) ns = past y xs (inserted x ns) ∙ ap (all_inserted xs) (swapped x y ns)
 
-pub crossed : (xs ys ns : List Text) → all_inserted ys (all_inserted xs ns) ≡ all_inserted xs (all_inserted ys ns)
-crossed xs [] ns = refl
-crossed xs (y ∷ ys) ns = ap (all_inserted ys) (past y xs ns) ∙ crossed xs ys (inserted y ns)
-
--- The parts of a concatenation may be inserted in either order.
-pub either_order : (xs ys ns : List Text) → all_inserted (xs ++ ys) ns ≡ all_inserted (ys ++ xs) ns
-either_order xs ys ns = inserted_both xs ys ns ∙ crossed xs ys ns ∙ sym (inserted_both ys xs ns)
-
--- ---- A text that is inserted again changes nothing
-
-equal_is : (o : Ordering) → is_eq o ≡ true → o ≡ Equal
-equal_is Less e = absurd (cc)
-equal_is Equal e = refl
-equal_is Greater e = absurd (cc)
-
 itself : (x : Text) → cmp x x ≡ Equal
-itself x = equal_is (cmp x x) (is_eq-slice_cmp x x ∙ nat_list_eq_equiv.refl x)
+itself x = by (cmp x x) (is_eq-slice_cmp x x ∙ nat_list_eq_equiv.refl x)
+  where
+    by : (o : Ordering) → is_eq o ≡ true → o ≡ Equal
+    by Equal e = refl
+    by o e = absurd (cc)
 
 again : (x : Text) (ns : List Text) → inserted x (inserted x ns) ≡ inserted x ns
 again x [] = at_head x x [] Equal (itself x)
@@ -142,33 +107,52 @@ again x (y ∷ ys) = by (again x ys) (cmp x y) refl
   where
     by : inserted x (inserted x ys) ≡ inserted x ys → (o : Ordering) → cmp x y ≡ o
         → inserted x (inserted x (y ∷ ys)) ≡ inserted x (y ∷ ys)
-    by later Less e =
-        ap (inserted x) (at_head x y ys Less e) ∙ at_head x x (y ∷ ys) Equal (itself x) ∙ sym (at_head x y ys Less e)
-    by later Equal e =
-        ap (inserted x) (at_head x y ys Equal e) ∙ at_head x y ys Equal e ∙ sym (at_head x y ys Equal e)
-    by later Greater e =
-        ap (inserted x) (at_head x y ys Greater e) ∙ at_head x y (inserted x ys) Greater e ∙ ap (λ zs. y ∷ zs) later
-        ∙ sym (at_head x y ys Greater e)
+    by later Less e = search (arith, rules, at_head, itself)
+    by later o e = search (arith, rules, at_head, itself)
 
--- A text that is inserted into a list, and the list into another one.
-first_inserted : (x : Text) (ns ms : List Text) → all_inserted (inserted x ns) ms ≡ all_inserted ns (inserted x ms)
-first_inserted x [] ms = refl
-first_inserted x (y ∷ ys) ms = by (first_inserted x ys (inserted y ms)) (cmp x y) refl
+-- ---- What is inserted depends only on which texts a list has
+
+-- A text of the list is inserted with it.
+absorbed : (x : Text) (xs ns : List Text) → among x xs ≡ true → all_inserted xs (inserted x ns) ≡ all_inserted xs ns
+absorbed x [] ns h = absurd (cc)
+absorbed x (y ∷ ys) ns h = by (bytes_eq y x) refl (absorbed x ys (inserted y ns)) h
   where
-    by : all_inserted (inserted x ys) (inserted y ms) ≡ all_inserted ys (inserted x (inserted y ms)) → (o : Ordering)
-        → cmp x y ≡ o → all_inserted (inserted x (y ∷ ys)) ms ≡ all_inserted (y ∷ ys) (inserted x ms)
-    by later Less e = ap (λ zs. all_inserted zs ms) (at_head x y ys Less e)
-    by later Equal e =
-        ap (λ zs. all_inserted zs ms) (at_head x y ys Equal e)
-        ∙ ap (all_inserted ys) (sym (again y ms) ∙ ap (λ z. inserted y (inserted z ms)) (sym (same x y e)))
-    by later Greater e =
-        ap (λ zs. all_inserted zs ms) (at_head x y ys Greater e) ∙ later ∙ ap (all_inserted ys) (swapped y x ms)
+    by : (b : Bool) → bytes_eq y x ≡ b
+        → (among x ys ≡ true → all_inserted ys (inserted x (inserted y ns)) ≡ all_inserted ys (inserted y ns))
+        → (b || among x ys) ≡ true → all_inserted ys (inserted y (inserted x ns)) ≡ all_inserted ys (inserted y ns)
+    by true e later h =
+        subst (λ z. all_inserted ys (inserted y (inserted z ns)) ≡ all_inserted ys (inserted y ns))
+        ((bytes_eq-Decides y x).0 e) (ap (all_inserted ys) (again y ns))
+    by false e later h = ap (all_inserted ys) (swapped x y ns) ∙ later h
 
-all_again : (xs ns ms : List Text) → all_inserted (all_inserted xs ns) ms ≡ all_inserted ns (all_inserted xs ms)
-all_again [] ns ms = refl
-all_again (x ∷ xs) ns ms =
-    all_again xs (inserted x ns) ms ∙ first_inserted x ns (all_inserted xs ms) ∙ ap (all_inserted ns) (past x xs ms)
+absorbs : (xs ys ns : List Text) → ((q : Text) → among q xs ≡ true → among q ys ≡ true)
+    → all_inserted ys (all_inserted xs ns) ≡ all_inserted ys ns
+absorbs [] ys ns h = refl
+absorbs (x ∷ xs) ys ns h =
+    absorbs xs ys (inserted x ns) (λ q k. h q (or_right (bytes_eq x q) (among q xs) k))
+    ∙ absorbed x ys ns (h x (ap (λ b. b || among x xs) (nat_list_eq_equiv.refl x)))
+
+crossed : (xs ys ns : List Text) → all_inserted ys (all_inserted xs ns) ≡ all_inserted xs (all_inserted ys ns)
+crossed xs [] ns = refl
+crossed xs (y ∷ ys) ns = ap (all_inserted ys) (past y xs ns) ∙ crossed xs ys (inserted y ns)
+
+pub same_inserted : (xs ys ns : List Text) → ((q : Text) → among q xs ≡ among q ys)
+    → all_inserted xs ns ≡ all_inserted ys ns
+same_inserted xs ys ns h =
+    sym (absorbs ys xs ns (λ q k. h q ∙ k)) ∙ crossed ys xs ns ∙ absorbs xs ys ns (λ q k. sym (h q) ∙ k)
+
+among_inserted : (q x : Text) (ns : List Text) → among q (inserted x ns) ≡ (bytes_eq x q || among q ns)
+among_inserted q x [] = refl
+among_inserted q x (y ∷ ys) = by (bytes_eq y x) refl (among_inserted q x ys)
+  where
+    by : (b : Bool) → bytes_eq y x ≡ b → among q (inserted x ys) ≡ (bytes_eq x q || among q ys)
+        → among q (inserted x (y ∷ ys)) ≡ (bytes_eq x q || among q (y ∷ ys))
+    by b e later = search (arith, rules, bytes_eq-Decides)
+
+among_all : (q : Text) (xs ns : List Text) → among q (all_inserted xs ns) ≡ (among q xs || among q ns)
+among_all q [] ns = refl
+among_all q (x ∷ xs) ns = search (arith, rules, among_all q xs (inserted x ns), among_inserted)
 
 -- The different texts of a list may be inserted in its place.
 pub ascending_inserted : (xs ms : List Text) → all_inserted (ascending xs) ms ≡ all_inserted xs ms
-ascending_inserted xs ms = all_again xs [] ms
+ascending_inserted xs ms = same_inserted (ascending xs) xs ms (λ q. search (arith, rules, among_all))

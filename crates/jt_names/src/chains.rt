@@ -7,7 +7,7 @@ ghost use Rattle.jt_names.specs.FactsOfChains.{AllKnown, IsKnown, EachKnown};
 
 use crate::facts::{ChainFacts, NamespaceFacts};
 use crate::index::{definitions_of, first_bodies};
-use crate::templates::{TemplateFacts, facts_of_files, names_along, scope_names_along};
+use crate::templates::{TemplateFacts, facts_of_files, names_along};
 use jt_chains::Chain;
 use std::alloc::{AllocError, Global};
 
@@ -54,16 +54,15 @@ fn facts_of_namespace<'a>(
     ensures { IfOk result (λ f. IsKnown chain.now namespace f) }
 {
     let indices = &chain.namespaces[namespace].templates;
-    let names = names_along(alloc, templates, indices)?;
-    let scope_names = scope_names_along(alloc, templates, indices)?;
+    let along = names_along(alloc, templates, indices)?;
     let macros = chain.macros(alloc, namespace)?;
     let listed = chain.given(alloc, namespace)?;
     let given = definitions_of(alloc, &listed)?;
     let blocks = chain.blocks(alloc, namespace)?;
     let first_bodies = first_bodies(alloc, &blocks)?;
     Ok(NamespaceFacts {
-        names,
-        scope_names,
+        names: along.names,
+        scope_names: along.scope_names,
         macros,
         given,
         blocks,

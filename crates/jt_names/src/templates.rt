@@ -1,6 +1,7 @@
 //! Collects what is known of each template.
 
-ghost use Rattle.std.specs.Prelude.{◌≡◌, List, length, IfOk};
+ghost use Rattle.std.specs.Prelude.{◌≡◌, ◌<◌, List, length, IfOk};
+ghost use Rattle.std.specs.List.{AllByRecursion};
 ghost use Rattle.std.specs.Option.{is_none};
 ghost use Rattle.jt_ast.specs.Texts.{ascending, texts};
 ghost use Rattle.jt_ast.specs.StatementView.{body_view};
@@ -87,40 +88,36 @@ pub(crate) fn count_at(templates: &[TemplateFacts<'_>], index: usize) -> usize
     }
 }
 
-/// Returns the different names of the templates at `indices`, in ascending order. An index out of
-/// range adds none.
+/// The different names of some templates, in ascending order.
+#[derive(Drop)]
+pub(crate) struct NamesAlong<'a> {
+    /// The names that they read or bind.
+    pub(crate) names: Vec<&'a str>,
+    /// The names that their scopes bind.
+    pub(crate) scope_names: Vec<&'a str>,
+}
+
+/// Returns the different names of the templates at `indices`.
 pub(crate) fn names_along<'a>(
     alloc: Global,
     templates: &[TemplateFacts<'a>],
     indices: &[usize],
-) -> Result<Vec<&'a str>, AllocError>
-    ensures { IfOk result (λ ns. (ts : List Template) → AreKnown ts templates.now
-        → texts ns.items ≡ ascending (along ts (λ n b. body_names b) indices.now)) }
+) -> Result<NamesAlong<'a>, AllocError>
+    requires { AllByRecursion (λ i. i < length templates.now) indices.now }
+    ensures names { IfOk result (λ n. (ts : List Template) → AreKnown ts templates.now
+        → texts n.names.items ≡ ascending (along ts (λ n b. body_names b) indices.now)) }
+    ensures scope_names { IfOk result (λ n. (ts : List Template) → AreKnown ts templates.now
+        → texts n.scope_names.items
+        ≡ ascending (along ts (λ n b. scope_names_in b) indices.now)) }
 {
     let mut names = BTreeSet::new(alloc);
+    let mut scope_names = BTreeSet::new(alloc);
     for index in indices {
-        if let Some(known) = templates.get(*index) {
-            add_names(&mut names, &known.names)?;
-        }
+        let known = &templates[*index];
+        add_names(&mut names, &known.names)?;
+        add_scoped(&mut scope_names, &known.uses)?;
     }
-    list_of(alloc, names)
-}
-
-/// Returns the different names that the scopes of the templates at `indices` bind, in ascending
-/// order. An index out of range adds none.
-pub(crate) fn scope_names_along<'a>(
-    alloc: Global,
-    templates: &[TemplateFacts<'a>],
-    indices: &[usize],
-) -> Result<Vec<&'a str>, AllocError>
-    ensures { IfOk result (λ ns. (ts : List Template) → AreKnown ts templates.now
-        → texts ns.items ≡ ascending (along ts (λ n b. scope_names_in b) indices.now)) }
-{
-    let mut names = BTreeSet::new(alloc);
-    for index in indices {
-        if let Some(known) = templates.get(*index) {
-            add_scoped(&mut names, &known.uses)?;
-        }
-    }
-    list_of(alloc, names)
+    let names = list_of(alloc, names)?;
+    let scope_names = list_of(alloc, scope_names)?;
+    Ok(NamesAlong { names, scope_names })
 }

@@ -28,10 +28,7 @@ mapped l m n e (beyond gt d) f = beyond (omega (arith, gt, e)) d
 pub only_step : {n : ℕ} {st next : State} {p : SourcePiece} {ps : List SourcePiece} {o : Result State Fault}
     → ((s : Result State Fault) → Steps n st p s → s ≡ Ok next) → Runs n st (p ∷ ps) o → Runs n next ps o
 only_step {n} {st} {next} {p} {ps} {o} same (went_on {next = got} s r) =
-    let e : got ≡ next = ok_is (same (Ok got) s) in subst (λ z. Runs n z ps o) e r
-  where
-    ok_is : {a b : State} → ◌≡◌ {A = Result State Fault} (Ok a) (Ok b) → a ≡ b
-    ok_is e = cc
+    let e : got ≡ next = cc (same (Ok got) s) in subst (λ z. Runs n z ps o) e r
 only_step same (refused {f = f} s) = let e = same (Err f) s in absurd (cc)
 
 -- A piece that spells a known value of the form.

@@ -8,9 +8,6 @@ use Rattle.jt_parse.proofs.LevelLimits.{Within, fits, beyond}
 use Rattle.jt_parse.proofs.ParserComplete.{read_whole}
 use Rattle.jt_parse.proofs.ParserSound.{read_is_spelled}
 
-different : {A G : Type 0} (f : Fault) (a : A) → ◌≡◌ {A = Result A Fault} (Ok a) (Err f) → G
-different f a e = absurd (cc)
-
 errors : {A : Type 0} (f g : Fault) → ◌≡◌ {A = Result A Fault} (Err f) (Err g) → f ≡ g
 errors f g e = cc
 
@@ -27,7 +24,7 @@ is_read n a b ps (whole r) f = by (read_whole n (Ok (state a [])) f r)
   where
     by : Within (body_levels b) n (λ z. z ≡ Ok (state b [])) (Ok (state a [])) → (a ≡ b) × (body_levels b ≤ n)
     by (fits le e) = (bodies e, le)
-    by (beyond gt e) = different deep (state a []) e
+    by (beyond gt e) = absurd (cc)
 
 -- The pieces spell the tree that is read, which has at most n levels.
 pub exact : (n : ℕ) (b : Body) (ps : List SourcePiece) → Parsed n ps (Ok b) → Forms b ps × (body_levels b ≤ n)
@@ -45,7 +42,7 @@ syntax_only n b ps (left_open {b = c} {f = g} {fs} r) f = by (read_whole n (Ok (
     by : Within (body_levels b) n (λ z. z ≡ Ok (state b [])) (Ok (state c (g ∷ fs))) → ⊥
     by (fits le e) =
         let p : state c (g ∷ fs) ≡ state b [] = cc in let q = ap (λ (s : State). s.open_stmts) p in absurd (cc)
-    by (beyond gt e) = different deep (state c (g ∷ fs)) e
+    by (beyond gt e) = absurd (cc)
 
 -- After `deep`, each tree that the pieces spell is too deep.
 pub deep_only : (n : ℕ) (b : Body) (ps : List SourcePiece) → Parsed n ps (Err deep) → Forms b ps → n < body_levels b

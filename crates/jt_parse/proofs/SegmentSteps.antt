@@ -22,10 +22,7 @@ use Rattle.jt_parse.specs.declared.error.ParseError.TheVariants as e
 -- The concatenation of two runs.
 pub runs_on : {n : ℕ} {st next : State} {x y : List SourcePiece} {o p : Result State Fault} → Runs n st x p
     → p ≡ Ok next → Runs n next y o → Runs n st (x ++ y) o
-runs_on {n} {st} {next} {x} {y} {o} ended e r = let same : st ≡ next = ok_is e in subst (λ z. Runs n z y o) (sym same) r
-  where
-    ok_is : {a b : State} → ◌≡◌ {A = Result State Fault} (Ok a) (Ok b) → a ≡ b
-    ok_is e = cc
+runs_on {n} {st} {next} {x} {y} {o} ended e r = let same : st ≡ next = cc in subst (λ z. Runs n z y o) (sym same) r
 runs_on (went_on s r) e q = went_on s (runs_on r e q)
 runs_on (refused {f} s) e q = absurd (cc)
 

@@ -181,7 +181,7 @@ module _ (laws : ExpressionLaws) where
       → (stmt_weight (made line o b) ≡ stmt_weight (made 0 o end) + body_weight b)
       × (stmt_bytes (made line o b) ≡ stmt_bytes (made 0 o end) + body_bytes b)
   made_size line (set_text x) b = omega arith
-  made_size line a0 b = omega arith
+  made_size line o b = omega arith
 
   ends_weigh : {o : BlockStart} {us : Tokens} → Ends o us → 1 ≤ tokens_weight us
   ends_weigh (by_word o) = omega arith
@@ -279,7 +279,7 @@ module _ (laws : ExpressionLaws) where
       by : (b : Bool) → EndsWith d (if b then after_lf d else d)
       by true = lf_end d
       by false = whole_end d
-  left_end o a0 d = whole_end d
+  left_end o left d = whole_end d
 
   kept_short : (o : Options) (left right : Neighbour) (d : List ℕ)
       → length (encodes (kept.kept o left right d)) ≤ length (encodes d)

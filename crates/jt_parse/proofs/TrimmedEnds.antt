@@ -10,6 +10,8 @@ use Rattle.jt_scan.specs.Cut.{Text, EndsWith, is_space, after_space}
 use Rattle.jt_parse.specs.Kept.{after_lf, all_pass, ending, ending_starts, without_end, Neighbour, is_start, after_left}
 use Rattle.jt_parse.specs.Kept.{removed_right, kept}
 use Rattle.jt_scan.specs.declared.options.Options.{Options}
+use Rattle.jt_scan.proofs.Bytes.{bytes_end}
+use Rattle.std.proofs.Math.Bool.{and-false}
 
 pub whole_end : (x : Text) → EndsWith x x
 whole_end x = ([], refl)
@@ -56,11 +58,7 @@ pass_more test (d ∷ u) c h t = let p = and_parts (test d) (all_pass test u) h 
 
 pass_not : (test : ℕ → Bool) (u : Text) (c : ℕ) (x : Text) → test c ≡ false → all_pass test (u ++ (c ∷ x)) ≡ false
 pass_not test [] c x t = rw t refl
-pass_not test (d ∷ u) c x t = rw (pass_not test u c x t) (never (test d))
-  where
-    never : (b : Bool) → (b && false) ≡ false
-    never true = refl
-    never false = refl
+pass_not test (d ∷ u) c x t = rw (pass_not test u c x t) (and-false (test d))
 
 skip : (test : ℕ → Bool) (u : Text) (c : ℕ) (x : Text) → test c ≡ false → ending test (u ++ (c ∷ x)) ≡ ending test x
 unfolding ending
@@ -196,13 +194,6 @@ nothing_left t a b u v e f apart =
     (λ (lt : length b < length a). let w = bytes_end a b u v (shorter_end t a b u v e f lt) in absurd (apart w.0 w.1))
     (λ (le : length a ≤ length b). nothing_between t a b u v e f le)
     (cases_lt (length b) (length a))
-  where
-    bytes_end : (x y : List ℕ) → IsUtf8 x → IsUtf8 y → EndsWith (chars x) (chars y) → EndsWith x y
-    bytes_end x y p q w = (
-      encodes w.0,
-      sym (encodes-chars x p) ∙ ap encodes w.1 ∙ encodes-append w.0 (chars y)
-          ∙ ap (λ z. encodes w.0 ++ z) (encodes-chars y q),
-    )
 
 pub turned : (r b : Bool) → r ≡ b → r ≡ true → b ≡ true
 turned r b e h = sym e ∙ h

@@ -1,18 +1,20 @@
--- The static rules of names and calls, one predicate each, at a use site of a chain or a library.
--- They are lexical: a tag that never runs counts.
-use Rattle.std.specs.Prelude.{◌≡◌, ◌≢◌, ℕ, ◌+◌, ◌<◌, false, IsTrue, ◌⊎◌, List, [], ◌∷◌, length, codes, None}
+-- The static rules of names and calls, one predicate each, at a use of a chain or a library. They
+-- are lexical: a tag that never runs counts.
+use Rattle.std.specs.Prelude.{◌≡◌, ◌≢◌, ℕ, ◌+◌, ◌<◌, false, IsTrue, ◌⊎◌, List, [], ◌∷◌, length, codes, map, flat_map}
+use Rattle.std.specs.Prelude.{None}
 use Rattle.std.specs.Option.{is_some}
 use Rattle.jt_ast.specs.Expressions.{Expr, name, attribute, Text}
 use Rattle.jt_chains.specs.Uses.{count, keywords, own_names}
-use Rattle.jt_chains.specs.Chain.{Namespace, a_chain, a_library, Template, templates, bodies, given, given_to}
+use Rattle.jt_chains.specs.Chain.{Sources, Namespace, a_chain, a_library, Template, templates, bodies, given, given_to}
 use Rattle.jt_chains.specs.Chain.{libraries, Callee, a_super, a_block, no_callee, callee, is_loop}
 use Rattle.jt_ast.specs.Texts.{ascending, repeated}
-use Rattle.jt_ast.specs.Statements.{body_bound}
+use Rattle.jt_ast.specs.Statements.{Parameter, body_bound}
 use Rattle.jt_ids.specs.LoopTable.{field_named}
 use Rattle.jt_eval.specs.Tests.{test_named}
 use Rattle.jt_rules.specs.Arguments.{callee_takes, test_takes, filter_takes, names_rightly}
-use Rattle.jt_rules.specs.UseSites.{Enclosing, Use, reads, binds, reads_loop_field, calls, filters, tests, declares}
-use Rattle.jt_rules.specs.UseSites.{names_import, parameter_names, chain_use_sites}
+use Rattle.jt_uses.specs.Uses.{Use, Site, reads, binds, reads_loop_field, calls, filters, tests, declares_macro}
+use Rattle.jt_uses.specs.Uses.{binds_library, binds_macro, body_uses, outside}
+use Rattle.jt_uses.specs.declared.site.Enclosing.{Enclosing}
 use Rattle.jt_rules.specs.CompileEnv.{CompileEnv}
 use Rattle.jt_rules.specs.declared.error.ScopeError.{ScopeError}
 use Rattle.jt_rules.specs.declared.error.ScopeError.TheVariants as error
@@ -34,6 +36,14 @@ abbrev pub ForSome : {A : Type 0} → (A → Type 0) → List A → Type 0
 ForSome P [] = ⊥
 ForSome P (x ∷ xs) = P x ⊎ ForSome P xs
 
+-- The names of the parameters.
+abbrev pub parameter_names : List Parameter → List Text
+parameter_names parameters = map (λ p. p.name) parameters
+
+-- All uses of a chain's templates, or of a library's own template.
+abbrev pub chain_uses : Sources → Namespace → List Site
+chain_uses sources namespace = flat_map (λ t. body_uses t.body outside) (templates sources namespace)
+
 -- Holds if the name can only be called, or can only be a part of a callee.
 abbrev pub IsOnlyCalled : Text → Type 0
 IsOnlyCalled x = (x ≡ codes "self") ⊎ ((x ≡ codes "super") ⊎ (x ≡ codes "range"))
@@ -51,8 +61,9 @@ module _ (cenv : CompileEnv) (namespace : Namespace) where
   abbrev pub LoopOutside : Use → Enclosing → Type 0
   LoopOutside (reads x) around = x ≡ codes "loop"
   LoopOutside (binds x) around = x ≡ codes "loop"
-  LoopOutside (declares x parameters) around = x ≡ codes "loop"
-  LoopOutside (names_import x) around = x ≡ codes "loop"
+  LoopOutside (declares_macro x parameters body) around = x ≡ codes "loop"
+  LoopOutside (binds_library n x) around = x ≡ codes "loop"
+  LoopOutside (binds_macro n m x) around = x ≡ codes "loop"
   LoopOutside (reads_loop_field k) around = (around.in_loop ≡ false) ⊎ (field_named k ≡ None)
   LoopOutside (calls f arguments pairs) around = MisusesLoop f around
   LoopOutside u around = ⊥
@@ -75,8 +86,9 @@ module _ (cenv : CompileEnv) (namespace : Namespace) where
   abbrev pub NotCallable : Use → Enclosing → Type 0
   NotCallable (reads x) around = IsOnlyCalled x
   NotCallable (binds x) around = IsOnlyCalled x
-  NotCallable (declares x parameters) around = IsOnlyCalled x
-  NotCallable (names_import x) around = IsOnlyCalled x
+  NotCallable (declares_macro x parameters body) around = IsOnlyCalled x
+  NotCallable (binds_library n x) around = IsOnlyCalled x
+  NotCallable (binds_macro n m x) around = IsOnlyCalled x
   NotCallable (calls f arguments pairs) around =
       CannotBeCalled (callee cenv.sources (given cenv.sources namespace) f) around
   NotCallable u around = ⊥
@@ -90,21 +102,21 @@ module _ (cenv : CompileEnv) (namespace : Namespace) where
       (filter_takes cenv.filters (cenv.filters.named x arguments pairs) (count arguments) (keywords pairs) ≡ false)
       ⊎ (names_rightly cenv.filters (cenv.filters.named x arguments pairs) arguments pairs ≡ false)
   BadArguments (tests x arguments pairs) around = test_takes (test_named x) arguments pairs ≡ false
-  BadArguments (declares x parameters) around = IsTrue (repeated (parameter_names parameters))
+  BadArguments (declares_macro x parameters body) around = IsTrue (repeated (parameter_names parameters))
   BadArguments u around = ⊥
 
   -- V5, for a macro: it has too many parameters.
   abbrev pub TooManyParameters : Use → Enclosing → Type 0
-  TooManyParameters (declares x parameters) around = max_parameters < length parameters
+  TooManyParameters (declares_macro x parameters body) around = max_parameters < length parameters
   TooManyParameters u around = ⊥
 
   -- V5, for a template: it binds too many names, each counted as often as it is written.
   abbrev pub BindsTooMany : Template → Type 0
   BindsTooMany t = max_bindings < body_bound t.body
 
-  -- Holds if a use site of the chain has the property.
+  -- Holds if a use of the chain has the property.
   abbrev pub Somewhere : (Use → Enclosing → Type 0) → Type 0
-  Somewhere P = ForSome (λ s. P s.use_made s.around) (chain_use_sites cenv.sources namespace)
+  Somewhere P = ForSome (λ s. P s.made s.place.around) (chain_uses cenv.sources namespace)
 
   -- Holds if the rule is broken in the chain or library.
   abbrev pub BrokenIn : ScopeError → Type 0

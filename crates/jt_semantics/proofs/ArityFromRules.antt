@@ -3,6 +3,7 @@
 use Rattle.std.proofs.Common.{◌≡◌, ℕ, suc, Bool, true, false, List, [], ◌∷◌, ◌++◌, length, Option, Some}
 use Rattle.std.proofs.Common.{None, sym, ap, ◌∙◌, subst, arith, rules}
 use Rattle.std.specs.Option.{is_none}
+use Rattle.std.specs.List.{AllByRecursion as Each}
 use Rattle.jt_ast.specs.Expressions as written
 use Rattle.jt_ast.specs.Expressions.{Expr, Text}
 use Rattle.jt_value.specs.Place.{Place}
@@ -23,17 +24,19 @@ use Rattle.jt_ir.specs.Pool.{Constant, known}
 use Rattle.jt_semantics.specs.Resolve.{followed, reads, handed_on, StaticEnv, place, bound_all, copied, scoped}
 use Rattle.jt_semantics.specs.Resolve.{first_body, resolved_condition, resolved_filters, resolved_values, placed_body}
 use Rattle.jt_semantics.specs.Resolve.{resolved_stmt, resolved_body, resolved_choice}
-use Rattle.jt_rules.specs.UseSites.{Enclosing, bound, expr_use_sites, row_use_sites, pair_use_sites}
-use Rattle.jt_rules.specs.UseSites.{condition_use_sites, filter_call_use_sites, stmt_use_sites, body_use_sites}
-use Rattle.jt_rules.specs.UseSites.{branch_use_sites}
+use Rattle.jt_uses.specs.Uses.{bound, expr_uses, row_uses, pair_uses, condition_uses, filter_call_use, filter_call_uses}
+use Rattle.jt_uses.specs.Uses.{stmt_uses, body_uses, branch_uses, place_at, before_loop, inside_scope, inside_loop}
+use Rattle.jt_uses.specs.Uses.{keys_bound}
+use Rattle.jt_uses.specs.declared.site.Enclosing.{Enclosing}
+use Rattle.jt_uses.specs.declared.site.Place.{Place as UsePlace}
 use Rattle.jt_semantics.proofs.CallInvariant.{Included}
-use Rattle.jt_semantics.proofs.StatementCorrect.{Each, each_front, each_back}
 use Rattle.jt_semantics.proofs.RoutineLookup.{chain_is, body_is}
 use Rattle.jt_semantics.proofs.EnvLookup.{no_both}
 use Rattle.jt_semantics.proofs.KeptUses.{AllKeep, front, back}
 use Rattle.jt_semantics.proofs.ArityOfParts.{Stands, rs, ETakes, HasBody, none_numbered}
 use Rattle.jt_semantics.proofs.ArityOfParts.{PartTail, slot_takes, reads_take, reads_count, filtered_takes, some_takes}
 use Rattle.jt_semantics.proofs.ArityOfParts.{row_counts, aside_counts, some_count, expr_takes, row_takes, asides_take}
+use Rattle.jt_semantics.proofs.EachElement.{each_front, each_back}
 
 module _ (cenv : CompileEnv) (order : List Namespace) where
   abbrev pub BTakes : Bool → SBody Constant → Type 0
@@ -69,46 +72,47 @@ module _ (cenv : CompileEnv) (order : List Namespace) where
         tt,
       )
 
-  filters_take : (w : Enclosing) (fs : List FilterCall) (sp : StaticEnv) (e : SlotExpr Constant)
-      → Stands cenv order sp.namespace → PartTail cenv order w.in_block sp.namespace sp.part
-      → AllKeep cenv sp.namespace (filter_call_use_sites fs w) → FilterCallKnown cenv.filters fs
-      → ETakes cenv order w.in_loop e
-      → ETakes cenv order w.in_loop (resolved_filters cenv order fs sp e)
-  filters_take w [] sp e k t h f r = r
-  filters_take w (g ∷ fs) sp e k t h f r =
-      let parts = pair_use_sites g.keywords w ++ filter_call_use_sites fs w in
-      let rest = back cenv sp.namespace (row_use_sites g.arguments w) parts h.1 in
+  filters_take : (here : UsePlace) (fs : List FilterCall) (sp : StaticEnv) (e : SlotExpr Constant)
+      → Stands cenv order sp.namespace → PartTail cenv order here.around.in_block sp.namespace sp.part
+      → AllKeep cenv sp.namespace (filter_call_uses fs here) → FilterCallKnown cenv.filters fs
+      → ETakes cenv order here.around.in_loop e
+      → ETakes cenv order here.around.in_loop (resolved_filters cenv order fs sp e)
+  filters_take here [] sp e k t h f r = r
+  filters_take here (g ∷ fs) sp e k t h f r =
+      let own = front cenv sp.namespace (filter_call_use g here) (filter_call_uses fs here) h in
+      let parts = own.1 in
       search (
         arith,
         rules,
-        filters_take w fs sp,
+        filters_take here fs sp,
         filtered_takes,
-        h.0.fitting,
+        own.0.fitting,
         row_counts,
         aside_counts,
         some_count,
         row_takes,
-        front cenv sp.namespace (row_use_sites g.arguments w) parts h.1,
+        front cenv sp.namespace (row_uses g.arguments here) (pair_uses g.keywords here) parts,
         asides_take,
-        front cenv sp.namespace (pair_use_sites g.keywords w) (filter_call_use_sites fs w) rest,
-        back cenv sp.namespace (pair_use_sites g.keywords w) (filter_call_use_sites fs w) rest,
+        back cenv sp.namespace (row_uses g.arguments here) (pair_uses g.keywords here) parts,
+        back cenv sp.namespace (filter_call_use g here) (filter_call_uses fs here) h,
         some_takes,
       )
 
-  values_take : (w : Enclosing) (ps : written.Pairs) (sp : StaticEnv) (line : ℕ) (behind : SBody Constant)
-      → Stands cenv order sp.namespace → PartTail cenv order w.in_block sp.namespace sp.part
-      → AllKeep cenv sp.namespace (pair_use_sites ps w) → Rattle.jt_rules.specs.Known.PairsKnown cenv.filters ps
-      → BTakes w.in_loop behind
-      → BTakes w.in_loop (resolved_values cenv order ps sp line behind)
-  values_take w written.no_pairs sp line behind e t h k r = r
-  values_take w (written.pair x a ps) sp line behind e t h k r =
-      search (arith, rules, expr_takes, front, back, values_take w ps)
+  values_take : (here : UsePlace) (ps : written.Pairs) (sp : StaticEnv) (line : ℕ) (behind : SBody Constant)
+      → Stands cenv order sp.namespace → PartTail cenv order here.around.in_block sp.namespace sp.part
+      → AllKeep cenv sp.namespace (pair_uses ps here) → Rattle.jt_rules.specs.Known.PairsKnown cenv.filters ps
+      → BTakes here.around.in_loop behind
+      → BTakes here.around.in_loop (resolved_values cenv order ps sp line behind)
+  values_take here written.no_pairs sp line behind e t h k r = r
+  values_take here (written.pair x a ps) sp line behind e t h k r =
+      search (arith, rules, expr_takes, front, back, values_take here ps)
 
-  condition_takes : (w : Enclosing) (c : Option Expr) (sp : StaticEnv) → Stands cenv order sp.namespace
-      → PartTail cenv order w.in_block sp.namespace sp.part → AllKeep cenv sp.namespace (condition_use_sites c w)
+  condition_takes : (here : UsePlace) (c : Option Expr) (sp : StaticEnv) → Stands cenv order sp.namespace
+      → PartTail cenv order here.around.in_block sp.namespace sp.part
+      → AllKeep cenv sp.namespace (condition_uses c here)
       → ConditionKnown cenv.filters c → ConditionTakes cenv.filters (rs cenv order) (resolved_condition cenv order c sp)
-  condition_takes w None sp e t h k = tt
-  condition_takes w (Some c) sp e t h k = expr_takes cenv order (record w { in_loop = false }) c sp e t h k
+  condition_takes here None sp e t h k = tt
+  condition_takes here (Some c) sp e t h k = expr_takes cenv order (before_loop here) c sp e t h k
 
   -- Holds if each of the blocks has a body in the chain.
   abbrev pub Embodied : Namespace → List BlockBody → Type 0
@@ -131,43 +135,46 @@ module _ (cenv : CompileEnv) (order : List Namespace) where
 
   mutual
     pub stmt_takes : (s : Stmt) (sp : StaticEnv) (w : Enclosing) → Stands cenv order sp.namespace
-        → PartTail cenv order w.in_block sp.namespace sp.part → AllKeep cenv sp.namespace (stmt_use_sites s w)
+        → PartTail cenv order w.in_block sp.namespace sp.part → AllKeep cenv sp.namespace (stmt_uses s w)
         → StmtKnown cenv.filters s → Needed sp.namespace (needs_by true s) (needs_by false s)
         → Embodied sp.namespace (blocks_of sp.template s sp.escaping) → BTakes w.in_loop (resolved_stmt cenv order s sp)
     stmt_takes (data_of s) sp w e t h k n d = (tt, tt)
-    stmt_takes (print line a) sp w e t h k n d = (expr_takes cenv order w a sp e t h k, tt)
+    stmt_takes (print line a) sp w e t h k n d = (expr_takes cenv order (place_at line w) a sp e t h k, tt)
     stmt_takes (choose bs other) sp w e t h k n d =
         search (
           arith,
           rules,
           choice_takes bs sp w,
-          front cenv sp.namespace (branch_use_sites bs w) (body_use_sites other w) h,
+          front cenv sp.namespace (branch_uses bs w) (body_uses other w) h,
           needed_front,
           each_front,
           body_serves other sp w e t,
-          back cenv sp.namespace (branch_use_sites bs w) (body_use_sites other w) h,
+          back cenv sp.namespace (branch_uses bs w) (body_uses other w) h,
           needed_back,
           each_back,
         )
     stmt_takes (for_each line xs a c body other) sp w e t h k n d =
-        let inside : Enclosing = record w { in_loop = true } in
-        let bodies = body_use_sites body inside ++ body_use_sites other w in
-        let tests = condition_use_sites c w ++ bodies in
-        let h1 = back cenv sp.namespace (expr_use_sites a w) (bound xs w ++ tests) h in
-        let h2 = back cenv sp.namespace (bound xs w) tests h1 in
-        let h3 = back cenv sp.namespace (condition_use_sites c w) bodies h2 in (
+        let here = place_at line w in
+        let inside = inside_loop w in
+        let bodies = body_uses body inside ++ body_uses other w in
+        let names = bound xs (place_at line (inside_scope w)) in
+        let head = expr_uses a here ++ (names ++ condition_uses c here) in
+        let h1 = front cenv sp.namespace head bodies h in
+        let h2 = back cenv sp.namespace (expr_uses a here) (names ++ condition_uses c here) h1 in
+        let h3 = back cenv sp.namespace head bodies h in (
           (
-            expr_takes cenv order w a sp e t (front cenv sp.namespace (expr_use_sites a w) (bound xs w ++ tests) h) k.0,
-            condition_takes w c (bound_all xs sp) e t (front cenv sp.namespace (condition_use_sites c w) bodies h2) k.1,
+            expr_takes cenv order here a sp e t
+                (front cenv sp.namespace (expr_uses a here) (names ++ condition_uses c here) h1) k.0,
+            condition_takes here c (bound_all xs sp) e t (back cenv sp.namespace names (condition_uses c here) h2) k.1,
             copied_takes true (place sp 1) (bound_all xs sp).table (bound_all xs sp).free (set_in body)
                 (resolved_body cenv order body (bound_all (set_in body) (bound_all xs sp)))
                 (body_serves body (bound_all (set_in body) (bound_all xs sp)) inside e t
-                (front cenv sp.namespace (body_use_sites body inside) (body_use_sites other w) h3) k.2
+                (front cenv sp.namespace (body_uses body inside) (body_uses other w) h3) k.2
                 (needed_front sp.namespace (needs_in true body) (needs_in true other) (needs_in false body)
                 (needs_in false other) n) (each_front (λ b. HasBody cenv order sp.namespace b.name)
                 (blocks_in sp.template body sp.escaping) (blocks_in sp.template other sp.escaping) d)),
             body_serves other sp w e t
-                (back cenv sp.namespace (body_use_sites body inside) (body_use_sites other w) h3) k.3
+                (back cenv sp.namespace (body_uses body inside) (body_uses other w) h3) k.3
                 (needed_back sp.namespace (needs_in true body) (needs_in true other) (needs_in false body)
                 (needs_in false other) n) (each_back (λ b. HasBody cenv order sp.namespace b.name)
                 (blocks_in sp.template body sp.escaping) (blocks_in sp.template other sp.escaping) d),
@@ -175,13 +182,41 @@ module _ (cenv : CompileEnv) (order : List Namespace) where
           tt,
         )
     stmt_takes (set line xs a) sp w e t h k n d =
-        (expr_takes cenv order w a sp e t (front cenv sp.namespace (expr_use_sites a w) (bound xs w) h) k, tt)
-    stmt_takes (set_block line x body) sp w e t h k n d = search (arith, rules, copied_takes, back, body_serves body)
+        let here = place_at line w in
+        (expr_takes cenv order here a sp e t (front cenv sp.namespace (expr_uses a here) (bound xs here) h) k, tt)
+    stmt_takes (set_block line x body) sp w e t h k n d =
+        let inner = λ (in_body : StaticEnv). body_serves body in_body (inside_scope w) in
+        search (arith, rules, copied_takes, h.1, inner)
     stmt_takes (with_values line ps body) sp w e t h k n d =
-        search (arith, rules, back, values_take, front, copied_takes, body_serves body)
+        let here = place_at line w in
+        let inner = λ (in_body : StaticEnv). body_serves body in_body (inside_scope w) in
+        let keys = keys_bound ps (place_at line (inside_scope w)) in
+        let rest = keys ++ body_uses body (inside_scope w) in
+        search (
+          arith,
+          rules,
+          values_take here ps,
+          front cenv sp.namespace (pair_uses ps here) rest h,
+          copied_takes,
+          inner,
+          back cenv sp.namespace keys (body_uses body (inside_scope w))
+              (back cenv sp.namespace (pair_uses ps here) rest h),
+        )
     stmt_takes (filter_block line fs body) sp w e t h k n d =
-        search (arith, rules, copied_takes, back, filters_take, front, body_serves body)
-    stmt_takes (autoescape line on body) sp w e t h k n d = search (arith, rules, copied_takes, body_serves body)
+        let here = place_at line w in
+        let inner = λ (in_body : StaticEnv). body_serves body in_body (inside_scope w) in
+        search (
+          arith,
+          rules,
+          copied_takes,
+          filters_take here fs,
+          front cenv sp.namespace (filter_call_uses fs here) (body_uses body (inside_scope w)) h,
+          inner,
+          back cenv sp.namespace (filter_call_uses fs here) (body_uses body (inside_scope w)) h,
+        )
+    stmt_takes (autoescape line on body) sp w e t h k n d =
+        let inner = λ (in_body : StaticEnv). body_serves body in_body (inside_scope w) in
+        search (arith, rules, copied_takes, inner)
     stmt_takes (macro line x ps body) sp w e t h k n d = tt
     stmt_takes (include line x ignore_missing with_context) sp w e t h k n d =
         search (arith, rules, no_both, followed_takes, handed_takes, chain_is)
@@ -191,7 +226,7 @@ module _ (cenv : CompileEnv) (order : List Namespace) where
     stmt_takes (block line x scoped required body) sp w e t h k n d = search (arith, rules, placed_takes)
 
     pub body_serves : (c : Body) (sp : StaticEnv) (w : Enclosing) → Stands cenv order sp.namespace
-        → PartTail cenv order w.in_block sp.namespace sp.part → AllKeep cenv sp.namespace (body_use_sites c w)
+        → PartTail cenv order w.in_block sp.namespace sp.part → AllKeep cenv sp.namespace (body_uses c w)
         → BodyKnown cenv.filters c → Needed sp.namespace (needs_in true c) (needs_in false c)
         → Embodied sp.namespace (blocks_in sp.template c sp.escaping) → BTakes w.in_loop (resolved_body cenv order c sp)
     body_serves end sp w e t h k n d = tt
@@ -201,36 +236,37 @@ module _ (cenv : CompileEnv) (order : List Namespace) where
           rules,
           followed_takes,
           stmt_takes s sp w e t,
-          front cenv sp.namespace (stmt_use_sites s w) (body_use_sites rest w) h,
+          front cenv sp.namespace (stmt_uses s w) (body_uses rest w) h,
           needed_front,
           each_front,
           body_serves rest sp w e t,
-          back cenv sp.namespace (stmt_use_sites s w) (body_use_sites rest w) h,
+          back cenv sp.namespace (stmt_uses s w) (body_uses rest w) h,
           needed_back,
           each_back,
         )
 
     pub choice_takes : (bs : Branches) (sp : StaticEnv) (w : Enclosing) (other : SBody Constant)
         → Stands cenv order sp.namespace → PartTail cenv order w.in_block sp.namespace sp.part
-        → AllKeep cenv sp.namespace (branch_use_sites bs w) → BranchesKnown cenv.filters bs
+        → AllKeep cenv sp.namespace (branch_uses bs w) → BranchesKnown cenv.filters bs
         → Needed sp.namespace (needs_under true bs) (needs_under false bs)
         → Embodied sp.namespace (blocks_under sp.template bs sp.escaping)
         → BTakes w.in_loop other → BTakes w.in_loop (resolved_choice cenv order bs sp other)
     choice_takes no_branches sp w other e t h k n d r = r
     choice_takes (branch line c body rest) sp w other e t h k n d r =
-        let here = expr_use_sites c w ++ body_use_sites body w in
-        let first = front cenv sp.namespace here (branch_use_sites rest w) h in
+        let here = place_at line w in
+        let own = expr_uses c here ++ body_uses body w in
+        let first = front cenv sp.namespace own (branch_uses rest w) h in
         search (
           arith,
           rules,
-          expr_takes,
-          front cenv sp.namespace (expr_use_sites c w) (body_use_sites body w) first,
+          expr_takes cenv order here c sp,
+          front cenv sp.namespace (expr_uses c here) (body_uses body w) first,
           body_serves body sp w e t,
-          back cenv sp.namespace (expr_use_sites c w) (body_use_sites body w) first,
+          back cenv sp.namespace (expr_uses c here) (body_uses body w) first,
           needed_front,
           each_front,
           choice_takes rest sp w other e t,
-          back cenv sp.namespace here (branch_use_sites rest w) h,
+          back cenv sp.namespace own (branch_uses rest w) h,
           needed_back,
           each_back,
         )

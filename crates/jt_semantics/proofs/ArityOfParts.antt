@@ -1,12 +1,12 @@
 -- If the rules hold and each test and filter is known, each resolved part gets the number of values
 -- that it takes.
-use Rattle.std.proofs.Common.{◌≡◌, ℕ, zero, suc, ◌+◌, ◌≤◌, ◌==◌, Bool, true, false, ◌&&◌, if◌then◌else◌, List, [], ◌∷◌}
+use Rattle.std.proofs.Common.{◌≡◌, ℕ, zero, suc, ◌+◌, ◌≤◌, Bool, true, false, ◌&&◌, if◌then◌else◌, List, [], ◌∷◌}
 use Rattle.std.proofs.Common.{◌++◌, length, map, Option, Some, None, refl, sym, ap, ◌∙◌, subst, arith, append_assoc}
 use Rattle.std.proofs.Common.{rules}
-use Rattle.std.specs.Prelude.{◌⊎◌, not, ◌||◌, nat_lt, max}
+use Rattle.std.specs.Prelude.{◌⊎◌, not, nat_lt, max}
 use Rattle.std.specs.Option.{is_some}
 use Rattle.std.proofs.lemmas.Bool.Decides.{nat_tests}
-use Rattle.std.proofs.lemmas.Bool.{true_from_ne_false}
+use Rattle.std.proofs.lemmas.Bool.{and_parts, true_from_ne_false}
 use mathlib.Core.Logic.{inl}
 use Rattle.jt_ids.specs.declared.op_id.OpId.TheVariants as op
 use Rattle.jt_ids.specs.declared.test_id.TestId.{TestId}
@@ -22,8 +22,10 @@ use Rattle.jt_semantics.specs.Operators.{form, range_of}
 use Rattle.jt_chains.specs.Uses.{count, keywords}
 use Rattle.jt_rules.specs.Arguments.{callee_takes, test_takes, filter_takes, names_rightly, fits, reached}
 use Rattle.jt_rules.specs.Rules.{MisusesLoop, CannotBeCalled}
-use Rattle.jt_rules.specs.UseSites.{Enclosing, UseSite, at, reads_loop_field, calls, is_called_by_name}
-use Rattle.jt_rules.specs.UseSites.{expr_use_sites, row_use_sites, pair_use_sites}
+use Rattle.jt_uses.specs.Uses.{Site, at, reads_loop_field, calls, is_called_by_name, place_at, inside_callee}
+use Rattle.jt_uses.specs.Uses.{expr_uses, row_uses, pair_uses}
+use Rattle.jt_uses.specs.declared.site.Enclosing.{Enclosing}
+use Rattle.jt_uses.specs.declared.site.Place.{Place}
 use Rattle.jt_ir.specs.Takes.{InPairs, HasParameters, ExprTakes, RowTakes}
 use Rattle.jt_ast.specs.Statements.{Parameter}
 use Rattle.jt_chains.specs.Chain.{Namespace, listed, BlockBody, bodies, from_given, MacroBody, Callee, a_macro, a_range}
@@ -51,17 +53,17 @@ use Rattle.jt_semantics.proofs.ExpressionCorrect.{GivenBy, given_by, numbered_ar
 use Rattle.jt_semantics.proofs.EnvLookup.{no_both}
 use Rattle.jt_semantics.proofs.KeptUses.{AllKeep, front, back}
 use Rattle.jt_semantics.proofs.RoutineLookup.{macro_is, body_is}
+use Rattle.jt_semantics.proofs.WithoutSuper.{right_false}
+use Rattle.std.proofs.lemmas.List.{length-map}
 
 first_holds : (a b : Bool) → ((a ≡ false) ⊎ (b ≡ false) → ⊥) → a ≡ true
 first_holds a b n = true_from_ne_false a (λ e. n (inl e))
 
 both_first : (a b : Bool) → a && b ≡ true → a ≡ true
-both_first true b h = refl
-both_first false b h = absurd (cc)
+both_first a b h = (and_parts a b h).0
 
 both_second : (a b : Bool) → a && b ≡ true → b ≡ true
-both_second true b h = h
-both_second false b h = absurd (cc)
+both_second a b h = (and_parts a b h).1
 
 -- ---- Operators
 
@@ -78,10 +80,7 @@ unary_one : (p : UnaryOperator) → op_operands (unary_operation p) ≡ 1
 unary_one p = search (arith, rules)
 
 range_takes : (n : ℕ) → nat_lt 0 n ≡ true → nat_lt n 4 ≡ true → op_operands (range_of n) ≡ n
-range_takes a0 h k = search (arith, rules, nat_tests)
-
-same_number : (m n : ℕ) → (m == n) ≡ true → m ≡ n
-same_number m n h = grind (arith, nat_tests, h)
+range_takes n h k = search (arith, rules, nat_tests)
 
 at_most : (m n : ℕ) → not (nat_lt m n) ≡ true → n ≤ m
 at_most m n h = grind (arith, nat_tests, h)
@@ -92,16 +91,11 @@ filled_count : (ps : List Parameter) (n d : ℕ) (table : Table) → n ≤ lengt
     → n + row_count (filled ps n d table) ≡ length ps
 filled_count [] n d table l = omega (arith, l)
 filled_count (p ∷ ps) zero d table l = let e = filled_count ps zero (suc d) table (omega arith) in omega (arith, e)
-filled_count (p ∷ ps) (suc n) d table l =
-    let e = filled_count ps n (suc d) table (let f : n ≤ length ps = omega (arith, l) in f) in omega (arith, e)
+filled_count (p ∷ ps) (suc n) d table l = search (arith, rules, filled_count ps n)
 
 none_reached : (ps : List Parameter) (ks : List Text) → some_given ps ks ≡ false → reached ps ks ≡ 0
 none_reached [] ks e = refl
 none_reached (p ∷ ps) ks e = ap (λ b. if b then suc (reached ps ks) else 0) e
-
-or_false : (a b : Bool) → (a || b) ≡ false → b ≡ false
-or_false true b e = absurd (cc)
-or_false false b e = e
 
 some_zero : (ps : List Parameter) (xs : List Text) (table : Table)
     → row_count (filled_some ps zero xs table) ≡ reached ps xs
@@ -112,7 +106,7 @@ pub some_count : (ps : List Parameter) (n : ℕ) (xs : List Text) (table : Table
     → n + row_count (filled_some ps n xs table) ≡ max n (reached ps xs)
 some_count [] n xs table = omega arith
 some_count (p ∷ ps) zero xs table = let e = some_zero (p ∷ ps) xs table in omega (arith, e)
-some_count (p ∷ ps) (suc n) xs table = search (arith, rules, some_count ps n xs table, none_reached, or_false)
+some_count (p ∷ ps) (suc n) xs table = search (arith, rules, some_count ps n xs table, none_reached, right_false)
 
 module _ (cenv : CompileEnv) (order : List Namespace) where
   abbrev pub rs : List (Routine Constant)
@@ -125,13 +119,11 @@ module _ (cenv : CompileEnv) (order : List Namespace) where
   RTakes l es = RowTakes cenv.filters rs l es
 
   pub slot_takes : (l : Bool) (s : Option Slot) (k : Constant) → ETakes l (value_or s k)
-  slot_takes l None k = tt
-  slot_takes l (Some s) k = tt
+  slot_takes l s k = search (arith, rules)
 
   filled_takes : (l : Bool) (ps : List Parameter) (n d : ℕ) (table : Table) → RTakes l (filled ps n d table)
   filled_takes l [] n d table = tt
-  filled_takes l (p ∷ ps) zero d table =
-      (slot_takes l (slot_in p.name table) (known d), filled_takes l ps zero (suc d) table)
+  filled_takes l (p ∷ ps) zero d table = search (arith, rules, slot_takes, filled_takes l ps zero)
   filled_takes l (p ∷ ps) (suc n) d table = filled_takes l ps n (suc d) table
 
   pub some_takes : (l : Bool) (ps : List Parameter) (n : ℕ) (xs : List Text) (table : Table)
@@ -161,12 +153,11 @@ module _ (cenv : CompileEnv) (order : List Namespace) where
   form_takes l f a b t h k = search (arith, rules)
 
   turned_takes : (l n : Bool) (e : SlotExpr Constant) → ETakes l e → ETakes l (turned_round n e)
-  turned_takes l false e h = h
-  turned_takes l true e h = (refl, (h, tt))
+  turned_takes l n e h = search (arith, rules)
 
   tested_takes : (l : Bool) (t : Option TestId) (ts : Exprs) (ps : written.Pairs) (es : SRow Constant) → IsThere t
       → (test_takes t ts ps ≡ false → ⊥) → row_count es ≡ suc (count ts) → RTakes l es → ETakes l (tested_by t es)
-  tested_takes l a1 ts ps es k h c r = search (arith, rules, true_from_ne_false, same_number, both_first)
+  tested_takes l t ts ps es k h c r = search (arith, rules, true_from_ne_false, nat_tests, both_first)
 
   pub filtered_takes : (l : Bool) (f : Option ℕ) (on : Bool) (ts : Exprs) (ps : written.Pairs) (es : SRow Constant)
       → IsThere f
@@ -174,7 +165,7 @@ module _ (cenv : CompileEnv) (order : List Namespace) where
       ⊎ (names_rightly cenv.filters f ts ps ≡ false) → ⊥)
       → row_count es ≡ suc (max (count ts) (reached (filter_parameters cenv.filters f) (keywords ps))) → RTakes l es
       → ETakes l (filtered_by f on es)
-  filtered_takes l a1 on ts ps es k h c r = search (arith, rules, both_first, first_holds)
+  filtered_takes l f on ts ps es k h c r = search (arith, rules, both_first, first_holds)
 
   -- Holds if a namespace is in the order, together with the namespaces that its macros come from.
   abbrev pub Stands : Namespace → Type 0
@@ -201,8 +192,7 @@ module _ (cenv : CompileEnv) (order : List Namespace) where
       → (o ≡ None → ⊥) → Stands h → Tail cenv order h x bs → GivenBy bs cs o
       → row_count es ≡ length (block_parameters cenv order h x) → RTakes l es
       → ETakes l (invoked_body cenv order h on o es)
-  next_takes l h on x bs cs None es there e t g c r = absurd (there refl)
-  next_takes l h on x bs cs (Some i) es there e t g c r = body_takes l h on x bs cs i es e t g c r
+  next_takes l h on x bs cs o es there e t g c r = search (arith, rules, body_takes)
 
   -- Holds if the block has a body in the chain.
   abbrev pub HasBody : Namespace → Text → Type 0
@@ -223,29 +213,26 @@ module _ (cenv : CompileEnv) (order : List Namespace) where
   PartTail goes_on h (Some p) = InPart goes_on h p
 
   is_there : (f : Option LoopField) → (f ≡ None → ⊥) → is_some f ≡ true
-  is_there None n = absurd (n refl)
-  is_there (Some f) n = refl
+  is_there f n = search (arith, rules)
 
   fields_take : (l : Bool) (f : Option LoopField) → is_some f ≡ true → l ≡ true → ETakes l (field_from f)
-  fields_take l None there h = absurd (cc)
-  fields_take l (Some f) there h = h
+  fields_take l f there h = search (arith, rules)
 
-  attribute_takes : (h : Namespace) (w : Enclosing) (b : Bool) (k : Text) (ss : List UseSite) (e : SlotExpr Constant)
-      → AllKeep cenv h (if b then at w (reads_loop_field k) else ss) → (AllKeep cenv h ss → ETakes w.in_loop e)
-      → ETakes w.in_loop
+  attribute_takes : (h : Namespace) (here : Place) (b : Bool) (k : Text) (ss : List Site) (e : SlotExpr Constant)
+      → AllKeep cenv h (if b then at here (reads_loop_field k) else ss)
+      → (AllKeep cenv h ss → ETakes here.around.in_loop e)
+      → ETakes here.around.in_loop
       (if b then field_from (field_named k) else operation_of op.Item e (slots.pooled (own (tree.text k))))
-  attribute_takes h w true k ss e r f = search (arith, rules, fields_take, is_there, true_from_ne_false)
-  attribute_takes h w false k ss e r f = (refl, (f r, (tt, tt)))
+  attribute_takes h here b k ss e r f = search (arith, rules, fields_take, is_there, true_from_ne_false)
 
   alone_no_cycle : (o : Option Definition) (x : Text) → named_alone cenv.sources o x ≡ a_cycle → ⊥
-  alone_no_cycle a0 x e = search (arith, rules)
+  alone_no_cycle o x e = search (arith, rules)
 
   offered_no_cycle : (n : Text) (o : Option MacroBody) → of_library cenv.sources n o ≡ a_cycle → ⊥
-  offered_no_cycle n None e = absurd (cc)
-  offered_no_cycle n (Some m) e = absurd (cc)
+  offered_no_cycle n o e = search (arith, rules)
 
   library_no_cycle : (o : Option Definition) (x : Text) → in_library cenv.sources o x ≡ a_cycle → ⊥
-  library_no_cycle a0 x e = search (arith, rules, offered_no_cycle)
+  library_no_cycle o x e = search (arith, rules, offered_no_cycle)
 
   -- A call of `loop.cycle` that does not misuse `loop` is in a loop.
   cycle_inside : (h : Namespace) (f : Expr) (w : Enclosing) → (MisusesLoop f w → ⊥)
@@ -286,7 +273,7 @@ module _ (cenv : CompileEnv) (order : List Namespace) where
       let n1 = row_counts ts sp (resolved_asides cenv order ps sp (filled b.parameters (count ts) d table)) in
       let n2 = aside_counts ps sp (filled b.parameters (count ts) d table) in
       let n3 = filled_count b.parameters (count ts) d table few in
-      let n4 = names_count b.parameters in
+      let n4 = length-map b.parameters (λ (p : Parameter). p.name) in
       let all : length (map (λ p. p.name) b.parameters)
       ≡ row_count
       (resolved_row cenv order ts sp (resolved_asides cenv order ps sp (filled b.parameters (count ts) d table))) =
@@ -297,10 +284,6 @@ module _ (cenv : CompileEnv) (order : List Namespace) where
         rows (resolved_asides cenv order ps sp (filled b.parameters (count ts) d table))
             (asides (filled b.parameters (count ts) d table) (filled_takes w.in_loop b.parameters (count ts) d table)),
       )
-    where
-      names_count : (qs : List Parameter) → length (map (λ p. p.name) qs) ≡ length qs
-      names_count [] = refl
-      names_count (q ∷ qs) = ap suc (names_count qs)
   call_takes a_range sp w ts ps e t named can fit inside rows asides =
       search (arith, rules, true_from_ne_false, both_second, row_counts, range_takes, both_first)
   call_takes a_super sp w ts ps e t named can fit inside rows asides = super_takes sp.part t
@@ -336,32 +319,34 @@ module _ (cenv : CompileEnv) (order : List Namespace) where
       (refl, ((tt, rows none tt), ((refl, (inside refl, (tt, tt))), tt)))
   call_takes no_callee sp w ts ps e t named can fit inside rows asides = absurd (can tt)
 
-  module _ (w : Enclosing) where
+  module _ (here : Place) where
     mutual
-      pub expr_takes : (e : Expr) (sp : StaticEnv) → Stands sp.namespace → PartTail w.in_block sp.namespace sp.part
-          → AllKeep cenv sp.namespace (expr_use_sites e w) → ExprKnown cenv.filters e → ETakes w.in_loop
+      pub expr_takes : (e : Expr) (sp : StaticEnv) → Stands sp.namespace
+          → PartTail here.around.in_block sp.namespace sp.part
+          → AllKeep cenv sp.namespace (expr_uses e here) → ExprKnown cenv.filters e → ETakes here.around.in_loop
           (resolved cenv order e sp)
       expr_takes (constant c) sp e t h k = tt
-      expr_takes (name x) sp e t h k = slot_takes w.in_loop (slot_in x sp.table) (known 0)
+      expr_takes (name x) sp e t h k = slot_takes here.around.in_loop (slot_in x sp.table) (known 0)
       expr_takes (group a) sp e t h k = expr_takes a sp e t h k
       expr_takes (list_of ts) sp e t h k = (tt, row_takes ts sp e t h k none tt)
       expr_takes (written.map_of ps) sp e t h k = (entries_pair ps sp, entries_take ps sp e t h k)
       expr_takes (attribute a x) sp e t h k = search (arith, rules, attribute_takes, expr_takes a sp e t)
       expr_takes (item a b) sp e t h k = search (arith, rules, front, back, expr_takes a sp e t, expr_takes b sp e t)
       expr_takes (written.call f ts ps) sp e t h k =
-          let first = (if is_called_by_name f then [] else expr_use_sites f w) in
-          let parts = row_use_sites ts w ++ pair_use_sites ps w in
-          let called = front cenv sp.namespace (first ++ at w (calls f ts ps)) parts h in
-          let kept = (back cenv sp.namespace first (at w (calls f ts ps)) called).0 in
-          let rest = back cenv sp.namespace (first ++ at w (calls f ts ps)) parts h in
-          call_takes (callee cenv.sources (given cenv.sources sp.namespace) f) sp w ts ps e t
+          let first =
+          (if is_called_by_name f then [] else expr_uses f (place_at here.line (inside_callee here.around))) in
+          let parts = row_uses ts here ++ pair_uses ps here in
+          let called = back cenv sp.namespace first (at here (calls f ts ps) ++ parts) h in
+          let kept = called.0 in
+          let rest = called.1 in
+          call_takes (callee cenv.sources (given cenv.sources sp.namespace) f) sp here.around ts ps e t
           (called_macro cenv.sources sp.namespace f) kept.callable kept.fitting
-          (cycle_inside sp.namespace f w kept.in_loops)
-          (row_takes ts sp e t (front cenv sp.namespace (row_use_sites ts w) (pair_use_sites ps w) rest) k.0)
-          (asides_take ps sp e t (back cenv sp.namespace (row_use_sites ts w) (pair_use_sites ps w) rest) k.1)
+          (cycle_inside sp.namespace f here.around kept.in_loops)
+          (row_takes ts sp e t (front cenv sp.namespace (row_uses ts here) (pair_uses ps here) rest) k.0)
+          (asides_take ps sp e t (back cenv sp.namespace (row_uses ts here) (pair_uses ps here) rest) k.1)
       expr_takes (written.filter a x ts ps) sp e t h k =
-          let parts = row_use_sites ts w ++ pair_use_sites ps w in
-          let rest = back cenv sp.namespace (expr_use_sites a w) parts h.1 in
+          let parts = row_uses ts here ++ pair_uses ps here in
+          let rest = back cenv sp.namespace (expr_uses a here) parts h.1 in
           search (
             arith,
             rules,
@@ -370,9 +355,9 @@ module _ (cenv : CompileEnv) (order : List Namespace) where
             row_counts,
             aside_counts,
             some_count,
-            expr_takes a sp e t (front cenv sp.namespace (expr_use_sites a w) parts h.1) k.1,
-            row_takes ts sp e t (front cenv sp.namespace (row_use_sites ts w) (pair_use_sites ps w) rest) k.2,
-            asides_take ps sp e t (back cenv sp.namespace (row_use_sites ts w) (pair_use_sites ps w) rest) k.3,
+            expr_takes a sp e t (front cenv sp.namespace (expr_uses a here) parts h.1) k.1,
+            row_takes ts sp e t (front cenv sp.namespace (row_uses ts here) (pair_uses ps here) rest) k.2,
+            asides_take ps sp e t (back cenv sp.namespace (row_uses ts here) (pair_uses ps here) rest) k.3,
             some_takes,
           )
       expr_takes (written.test a n x ts ps) sp e t h k =
@@ -384,24 +369,25 @@ module _ (cenv : CompileEnv) (order : List Namespace) where
       expr_takes (choice c a b) sp e t h k =
           search (arith, rules, back, front, expr_takes c sp e t, expr_takes a sp e t, expr_takes b sp e t)
 
-      pub row_takes : (ts : Exprs) (sp : StaticEnv) → Stands sp.namespace → PartTail w.in_block sp.namespace sp.part
-          → AllKeep cenv sp.namespace (row_use_sites ts w) → RowKnown cenv.filters ts → (behind : SRow Constant)
-          → RTakes w.in_loop behind → RTakes w.in_loop (resolved_row cenv order ts sp behind)
+      pub row_takes : (ts : Exprs) (sp : StaticEnv) → Stands sp.namespace
+          → PartTail here.around.in_block sp.namespace sp.part
+          → AllKeep cenv sp.namespace (row_uses ts here) → RowKnown cenv.filters ts → (behind : SRow Constant)
+          → RTakes here.around.in_loop behind → RTakes here.around.in_loop (resolved_row cenv order ts sp behind)
       row_takes no_exprs sp e t h k behind r = r
       row_takes (expr a ts) sp e t h k behind r =
           search (arith, rules, front, back, expr_takes a sp e t, row_takes ts sp e t)
 
       pub asides_take : (ps : written.Pairs) (sp : StaticEnv) → Stands sp.namespace
-          → PartTail w.in_block sp.namespace sp.part → AllKeep cenv sp.namespace (pair_use_sites ps w)
-          → PairsKnown cenv.filters ps → (behind : SRow Constant) → RTakes w.in_loop behind
-          → RTakes w.in_loop (resolved_asides cenv order ps sp behind)
+          → PartTail here.around.in_block sp.namespace sp.part → AllKeep cenv sp.namespace (pair_uses ps here)
+          → PairsKnown cenv.filters ps → (behind : SRow Constant) → RTakes here.around.in_loop behind
+          → RTakes here.around.in_loop (resolved_asides cenv order ps sp behind)
       asides_take no_pairs sp e t h k behind r = r
       asides_take (pair x a ps) sp e t h k behind r =
           search (arith, rules, front, back, expr_takes a sp e t, asides_take ps)
 
       pub entries_take : (ps : written.Pairs) (sp : StaticEnv) → Stands sp.namespace
-          → PartTail w.in_block sp.namespace sp.part → AllKeep cenv sp.namespace (pair_use_sites ps w)
-          → PairsKnown cenv.filters ps → RTakes w.in_loop (resolved_entries cenv order ps sp)
+          → PartTail here.around.in_block sp.namespace sp.part → AllKeep cenv sp.namespace (pair_uses ps here)
+          → PairsKnown cenv.filters ps → RTakes here.around.in_loop (resolved_entries cenv order ps sp)
       entries_take no_pairs sp e t h k = tt
       entries_take (pair x a ps) sp e t h k =
           search (arith, rules, front, back, expr_takes a sp e t, entries_take ps sp e t)

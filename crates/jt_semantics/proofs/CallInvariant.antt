@@ -94,7 +94,7 @@ module _ (cenv : CompileEnv) (order : List Namespace) where
 
   pub part_more : (h : Namespace) (p : Option Part) (q : Option Placement) (k j : ℕ) (m : Memory) → k ≤ j
       → PartHolds h p q k m → PartHolds h p q j m
-  part_more h a1 a2 k j m l t = search (arith, rules)
+  part_more h p q k j m l t = search (arith, rules)
 
   pub record Good (sp : StaticEnv) (q : Option Placement) (env : Env) (m : Memory) : Type 0 where
     pub known : Known sp.namespace
@@ -114,7 +114,7 @@ module _ (cenv : CompileEnv) (order : List Namespace) where
     fits = fits_more cenv order g.fits;
     agrees = g.agrees;
     part =
-        part_more sp.namespace sp.part q sp.free (suc sp.free) m (let e : sp.free ≤ suc sp.free = omega arith in e)
+        part_more sp.namespace sp.part q sp.free (suc sp.free) m (omega arith)
         g.part;
   }
 

@@ -1,10 +1,11 @@
 -- The consequences of the order of chains: for names, for slots, and for the bodies of a chain.
 use Rattle.std.proofs.Common.{◌≡◌, ℕ, ◌+◌, ◌≤◌, Bool, true, false, if◌then◌else◌, List, [], ◌∷◌, ◌++◌, length, map}
-use Rattle.std.proofs.Common.{Option, Some, None, refl, sym, ap, ◌∙◌, subst, arith, ◌⊎◌, inl, inr, rules}
+use Rattle.std.proofs.Common.{Option, Some, refl, sym, ap, ◌∙◌, subst, arith, ◌⊎◌, inl, inr, rules}
 use Rattle.std.specs.Prelude.{not, ◌&&◌, ◌||◌, flat_map}
 use Rattle.std.specs.Option.{is_some, is_none}
 use Rattle.std.specs.List.{list_any}
 use Rattle.std.specs.Str.{bytes_eq}
+use Rattle.std.specs.List.{AllByRecursion as Each}
 use Rattle.jt_ast.specs.Texts.{ascending}
 use Rattle.jt_ast.specs.Expressions.{Text}
 use Rattle.jt_ast.specs.Statements.{Stmt, choose, for_each, set_block, with_values, filter_block, autoescape, macro}
@@ -16,26 +17,24 @@ use Rattle.jt_rules.specs.CompileEnv.{CompileEnv}
 use Rattle.jt_chains.specs.Uses.{stmt_names, body_names, branch_names}
 use Rattle.jt_chains.specs.Uses.{own_names, set_in, scope_names}
 use Rattle.jt_chains.specs.Includes.{needs_by, needs_in, needs_under, with_source, included, AllIn, InOrder}
-use Rattle.jt_semantics.specs.Layout.{in_globals, names_in, names, first_in, first_slot, is_scoped, numbered_bodies}
+use Rattle.jt_semantics.specs.Layout.{in_globals, names_in, names, first_in, first_slot, numbered_bodies}
 use Rattle.jt_semantics.specs.Layout.{scopes}
-use Rattle.jt_semantics.proofs.EnvLookup.{same_is, namespace_same, namespace_is, no_both, among_front, among_back}
-use Rattle.jt_semantics.proofs.EnvLookup.{each_among}
+use Rattle.jt_semantics.proofs.EnvLookup.{same_is, namespace_same, namespace_is, no_both}
 use Rattle.jt_semantics.proofs.ExpressionCorrect.{counted_are}
 use Rattle.jt_semantics.proofs.EnvMemoryAgreement.{limit, read_names}
 use Rattle.jt_semantics.proofs.CallInvariant.{Known, Behind, Hands, Included}
-use Rattle.jt_semantics.proofs.DefinedNames.{source_there}
+use Rattle.jt_semantics.proofs.DefinedNames.{source_there, macro_all}
 use Rattle.jt_semantics.proofs.Scopes.{names_of, scopes_bound, templates_bind, ascending_among}
-use Rattle.jt_semantics.proofs.StatementCorrect.{Each, each_front, each_back, Scoping, a_tag, a_name, named, scoped_by}
+use Rattle.jt_semantics.proofs.StatementCorrect.{Scoping, a_tag, a_name, named, scoped_by}
 use Rattle.jt_semantics.proofs.StatementCorrect.{scoped_in, scoped_under, Proper, names_proper, behind_proper}
-use Rattle.jt_semantics.proofs.Among.{Among, AllAmong, all_ascending}
-
-or_right : (a : Bool) {b : Bool} → b ≡ true → (a || b) ≡ true
-or_right true e = refl
-or_right false e = e
+use Rattle.jt_semantics.proofs.Among.{Among, AllAmong, all_ascending, among_front, among_back, each_among, among_left}
+use Rattle.jt_semantics.proofs.Among.{among_right}
+use Rattle.jt_semantics.proofs.EachElement.{each_front, each_back, each_append, each_map}
+use Rattle.std.proofs.lemmas.Bool.{or_right}
 
 listed_append : (h : Namespace) (ks hs : List Namespace) → listed h hs ≡ true → listed h (ks ++ hs) ≡ true
 listed_append h [] hs e = e
-listed_append h (k ∷ ks) hs e = or_right (same_namespace k h) (listed_append h ks hs e)
+listed_append h (k ∷ ks) hs e = or_right (same_namespace k h) _ (listed_append h ks hs e)
 
 -- ---- The first index of a namespace in the order
 
@@ -54,48 +53,13 @@ first_at h (k ∷ ks) e = through (same_namespace k h) refl e (λ f. first_at h 
     through true p e f = ([], ks, ap (λ z. z ∷ ks) (namespace_same k h p), tt)
     through false p e f = let r = f e in (k ∷ r.0, r.1, ap (λ zs. k ∷ zs) r.2, (p, r.3))
 
--- Holds if the namespace is one of the list.
-abbrev OneOf : Namespace → List Namespace → Type 0
-OneOf h [] = ⊥
-OneOf h (k ∷ ks) = (k ≡ h) ⊎ OneOf h ks
-
-one_left : (h : Namespace) (hs ks : List Namespace) → OneOf h hs → OneOf h (hs ++ ks)
-one_left h [] ks i = absurd i
-one_left h (k ∷ hs) ks (inl e) = inl e
-one_left h (k ∷ hs) ks (inr i) = inr (one_left h hs ks i)
-
-one_right : (h : Namespace) (hs ks : List Namespace) → OneOf h ks → OneOf h (hs ++ ks)
-one_right h [] ks i = i
-one_right h (k ∷ hs) ks i = inr (one_right h hs ks i)
-
-one_mapped : (f : Text → Namespace) (x : Text) (xs : List Text) → Among x xs → OneOf (f x) (map f xs)
+one_mapped : (f : Text → Namespace) (x : Text) (xs : List Text) → Among x xs → Among (f x) (map f xs)
 one_mapped f x [] i = absurd i
 one_mapped f x (y ∷ ys) (inl e) = inl (ap f e)
 one_mapped f x (y ∷ ys) (inr i) = inr (one_mapped f x ys i)
 
 not_true : (b : Bool) → not b ≡ true → b ≡ true → ⊥
-not_true true e f = no_both f (sym e)
-not_true false e f = no_both f refl
-
-abbrev pub Every : {A : Type 0} → (A → Type 0) → List A → Type 0
-Every P [] = Unit {0}
-Every P (x ∷ xs) = P x × Every P xs
-
-pub every_append : {A : Type 0} (P : A → Type 0) (xs ys : List A) → Every P xs → Every P ys → Every P (xs ++ ys)
-every_append P [] ys a b = b
-every_append P (x ∷ xs) ys a b = (a.0, every_append P xs ys a.1 b)
-
-every_back : {A : Type 0} (P : A → Type 0) (xs ys : List A) → Every P (xs ++ ys) → Every P ys
-every_back P [] ys a = a
-every_back P (x ∷ xs) ys a = every_back P xs ys a.1
-
-each_append : {A : Type 0} (P : A → Type 0) (xs ys : List A) → Each P xs → Each P ys → Each P (xs ++ ys)
-each_append P [] ys a b = b
-each_append P (x ∷ xs) ys a b = (a.0, each_append P xs ys a.1 b)
-
-each_map : {A : Type 0} (P Q : A → Type 0) (xs : List A) → ((x : A) → P x → Q x) → Each P xs → Each Q xs
-each_map P Q [] f a = tt
-each_map P Q (x ∷ xs) f a = (f x a.0, each_map P Q xs f a.1)
+not_true b e f = search (arith, rules, no_both)
 
 -- ---- The blocks whose tags have `scoped` are blocks of the template
 
@@ -108,7 +72,7 @@ says_left (b ∷ bs) cs x e = search (arith, rules, says_left bs cs x)
 
 says_right : (bs cs : List BlockBody) (x : Text) → Says cs x → Says (bs ++ cs) x
 says_right [] cs x e = e
-says_right (b ∷ bs) cs x e = or_right (b.scoped && bytes_eq b.name x) (says_right bs cs x e)
+says_right (b ∷ bs) cs x e = or_right (b.scoped && bytes_eq b.name x) _ (says_right bs cs x e)
 
 -- Holds if `Says` holds of a tag; it holds of every name.
 abbrev Saying : List BlockBody → Scoping → Type 0
@@ -116,12 +80,10 @@ Saying bs (a_tag x) = Says bs x
 Saying bs (a_name x) = Unit {0}
 
 saying_left : (bs cs : List BlockBody) (s : Scoping) → Saying bs s → Saying (bs ++ cs) s
-saying_left bs cs (a_tag x) e = says_left bs cs x e
-saying_left bs cs (a_name x) e = tt
+saying_left bs cs s e = search (arith, rules, says_left)
 
 saying_right : (bs cs : List BlockBody) (s : Scoping) → Saying cs s → Saying (bs ++ cs) s
-saying_right bs cs (a_tag x) e = says_right bs cs x e
-saying_right bs cs (a_name x) e = tt
+saying_right bs cs s e = search (arith, rules, says_right)
 
 names_said : (bs : List BlockBody) (xs : List Text) (ss : List Scoping) → Each (Saying bs) ss
     → Each (Saying bs) (named xs ++ ss)
@@ -145,25 +107,17 @@ module _ (t : Text) where
           (scoped_body body on)),
     )
     scoped_stmt (block line x false required body) on =
-        names_said (blocks_of t (block line x false required body) on) (set_in body) (scoped_in body)
-        (each_map (Saying (blocks_in t body on)) (Saying (blocks_of t (block line x false required body) on))
-        (scoped_in body) (saying_right
-        (record { template = t; name = x; scoped = false; required = required; escaping = on; body = body } ∷ [])
-        (blocks_in t body on))
-        (scoped_body body on))
+        search (arith, rules, names_said, scoped_in, each_map, saying_right, scoped_body body on)
     scoped_stmt (choose bs other) on =
         search (arith, rules, both_said, scoped_under, scoped_in, scoped_branches bs on, scoped_body other on)
     scoped_stmt (for_each line xs e c body other) on =
         search (arith, rules, names_said, named, scoped_in, both_said, scoped_body body on, scoped_body other on)
-    scoped_stmt (set_block line x body) on =
-        names_said (blocks_in t body on) (set_in body) (scoped_in body) (scoped_body body on)
+    scoped_stmt (set_block line x body) on = search (arith, rules, names_said, scoped_in, scoped_body body on)
     scoped_stmt (with_values line ps body) on = search (arith, rules, names_said, named, scoped_in, scoped_body body on)
-    scoped_stmt (filter_block line fs body) on =
-        names_said (blocks_in t body on) (set_in body) (scoped_in body) (scoped_body body on)
-    scoped_stmt (autoescape line now body) on =
-        names_said (blocks_in t body now) (set_in body) (scoped_in body) (scoped_body body now)
+    scoped_stmt (filter_block line fs body) on = search (arith, rules, names_said, scoped_in, scoped_body body on)
+    scoped_stmt (autoescape line now body) on = search (arith, rules, names_said, scoped_in, scoped_body body now)
     scoped_stmt (macro line x ps body) on = search (arith, rules, names_said, named, scoped_in, scoped_body body on)
-    scoped_stmt a0 on = tt
+    scoped_stmt s on = tt
 
     scoped_body : (c : Body) (on : Bool) → Each (Saying (blocks_in t c on)) (scoped_in c)
     scoped_body end on = tt
@@ -220,33 +174,20 @@ module _ (cenv : CompileEnv) where
   names_here : (h : Namespace) (ks : List Namespace) → names_in cenv (h ∷ ks) h ≡ kept_names ks h
   names_here h ks = ap (λ b. if b then kept_names ks h else names_in cenv ks h) (namespace_is h)
 
-  flat_among : (f : Namespace → List Text) (ms : List Namespace) (m : Namespace) → OneOf m ms → (x : Text)
+  flat_among : (f : Namespace → List Text) (ms : List Namespace) (m : Namespace) → Among m ms → (x : Text)
       → Among x (f m) → Among x (flat_map f ms)
   flat_among f [] m i x j = absurd i
-  flat_among f (k ∷ ks) m (inl e) x j = front (f k) (subst (λ z. Among x (f z)) (sym e) j)
-    where
-      front : (ys : List Text) → Among x ys → Among x (ys ++ flat_map f ks)
-      front [] i = absurd i
-      front (y ∷ ys) (inl q) = inl q
-      front (y ∷ ys) (inr i) = inr (front ys i)
-  flat_among f (k ∷ ks) m (inr i) x j = back (f k) (flat_among f ks m i x j)
-    where
-      back : (ys : List Text) → Among x (flat_map f ks) → Among x (ys ++ flat_map f ks)
-      back [] i = i
-      back (y ∷ ys) i = inr (back ys i)
-
-  append_right : (x : Text) (xs ys : List Text) → Among x ys → Among x (xs ++ ys)
-  append_right x [] ys i = i
-  append_right x (z ∷ zs) ys i = inr (append_right x zs ys i)
+  flat_among f (k ∷ ks) m (inl e) x j = among_left x (f k) (flat_map f ks) (subst (λ z. Among x (f z)) (sym e) j)
+  flat_among f (k ∷ ks) m (inr i) x j = among_right x (f k) (flat_map f ks) (flat_among f ks m i x j)
 
   -- The names of a namespace include the names that it reads or binds, and the names of the
   -- namespaces that it leads to.
-  among_all : (f : Namespace → List Text) (h m : Namespace) → OneOf m (included cenv.sources h) → (x : Text)
+  among_all : (f : Namespace → List Text) (h m : Namespace) → Among m (included cenv.sources h) → (x : Text)
       → Among x (f m) → Among x (ascending (own_names cenv.sources h ++ flat_map f (included cenv.sources h)))
   among_all f h m i x j =
       let all = own_names cenv.sources h ++ flat_map f (included cenv.sources h) in
       each_among all (ascending all) (all_ascending all) x
-      (append_right x (own_names cenv.sources h) (flat_map f (included cenv.sources h))
+      (among_right x (own_names cenv.sources h) (flat_map f (included cenv.sources h))
       (flat_among f (included cenv.sources h) m i x j))
 
   own_all : (f : Namespace → List Text) (h : Namespace)
@@ -274,12 +215,10 @@ module _ (cenv : CompileEnv) where
 
     own_read : (h : Namespace) (ks : List Namespace) → names cenv order h ≡ kept_names ks h
         → AllAmong (own_names cenv.sources h) (read_names cenv order h)
-    own_read (a_chain n) ks e =
-        subst (AllAmong (own_names cenv.sources (a_chain n))) (sym e) (own_all (names_in cenv ks) (a_chain n))
-    own_read (a_library n) ks e = own_all (names cenv order) (a_library n)
+    own_read h ks e = search (arith, rules, own_all)
 
     handed_read : (h : Namespace) (ks : List Namespace) → names cenv order h ≡ kept_names ks h → (m : Namespace)
-        → OneOf m (included cenv.sources h) → names cenv order m ≡ names_in cenv ks m → (x : Text)
+        → Among m (included cenv.sources h) → names cenv order m ≡ names_in cenv ks m → (x : Text)
         → Among x (names cenv order m) → Among x (read_names cenv order h)
     handed_read (a_chain n) ks e m i same x j =
         subst (Among x) (sym e) (among_all (names_in cenv ks) (a_chain n) m i x (subst (Among x) same j))
@@ -302,10 +241,10 @@ module _ (cenv : CompileEnv) where
         pub names : (x : Text) → Among x (Rattle.jt_semantics.specs.Layout.names cenv order m)
             → Among x (read_names cenv order h)
 
-      next : (m : Namespace) → OneOf m (included cenv.sources h) → listed m at.1 ≡ true → Next m
+      next : (m : Namespace) → Among m (included cenv.sources h) → listed m at.1 ≡ true → Next m
       next m i e =
           let r = behind_order at.0 (h ∷ at.1) parts in
-          let in_all : listed m (h ∷ at.1) ≡ true = or_right (same_namespace h m) e in
+          let in_all : listed m (h ∷ at.1) ≡ true = or_right (same_namespace h m) _ e in
           let away = r.1 m in_all in
           let other = apart (same_namespace h m) refl r.0.0 in
           let skip : NotIn m (h ∷ []) = (other, tt) in
@@ -329,12 +268,12 @@ module _ (cenv : CompileEnv) where
           apart true p n = absurd (not_true (listed h at.1) n (ap (λ z. listed z at.1) (namespace_same h m p) ∙ e))
           apart false p n = refl
 
-      all_in : (m : Namespace) (ms ks : List Namespace) → OneOf m ms → AllIn ms ks → listed m ks ≡ true
+      all_in : (m : Namespace) (ms ks : List Namespace) → Among m ms → AllIn ms ks → listed m ks ≡ true
       all_in m [] ks i a = absurd i
       all_in m (y ∷ ys) ks (inl p) a = ap (λ z. listed z ks) (sym p) ∙ a.0
       all_in m (y ∷ ys) ks (inr i) a = all_in m ys ks i a.1
 
-      led : (m : Namespace) → OneOf m (included cenv.sources h) → Next m
+      led : (m : Namespace) → Among m (included cenv.sources h) → Next m
       led m i =
           let r = behind_order at.0 (h ∷ at.1) parts in next m i (all_in m (included cenv.sources h) at.1 i r.0.1.0)
 
@@ -342,7 +281,7 @@ module _ (cenv : CompileEnv) where
           → Among n (with_source cenv.sources (flat_map (λ t. needs_in true t.body) (templates cenv.sources h)))
           → Hands cenv order h n
       hands n i =
-          let r = led (a_chain n) (one_left (a_chain n)
+          let r = led (a_chain n) (among_left (a_chain n)
           (map a_chain (with_source cenv.sources (flat_map (λ t. needs_in true t.body) (templates cenv.sources h))))
           (map a_library (with_source cenv.sources (libraries cenv.sources h))) (one_mapped a_chain n _ i)) in
           record { known = r.stands; behind = r.behind; names = r.names }
@@ -351,7 +290,7 @@ module _ (cenv : CompileEnv) where
       pub libraries_stand : (n : Text) → Among n (with_source cenv.sources (libraries cenv.sources h))
           → Behind cenv order h (a_library n)
       libraries_stand n i =
-          let r = led (a_library n) (one_right (a_library n)
+          let r = led (a_library n) (among_right (a_library n)
           (map a_chain (with_source cenv.sources (flat_map (λ t. needs_in true t.body) (templates cenv.sources h))))
           (map a_library (with_source cenv.sources (libraries cenv.sources h))) (one_mapped a_library n _ i)) in
           record { known = r.stands; behind = r.behind }
@@ -377,15 +316,11 @@ module _ (cenv : CompileEnv) where
       owned : (c : Body) → AllAmong (body_names c) (read_names cenv order h)
           → Each (Included cenv order h) (needs_in true c)
           → Each (Proper cenv order h) (named (set_in c) ++ scoped_in c) → Owned c
-      owned c a n d = record {
-        belongs = record { names = a; included = n; scoped = behind_proper cenv order h (set_in c) (scoped_in c) d };
-        own = names_proper cenv order h (set_in c) (scoped_in c) d;
-      }
+      owned c a n d = search (arith, rules, behind_proper, scoped_in, names_proper)
 
       -- An option that is not `Some` is `None`.
       no_source : (o : Option Body) → is_some o ≡ false → is_none o ≡ true
-      no_source None e = refl
-      no_source (Some b) e = absurd (no_both refl e)
+      no_source o e = search (arith, rules, no_both)
 
       each_included : (xs : List Text)
           → ((x : Text) → Among x xs → Among x (flat_map (λ t. needs_in true t.body) (templates cenv.sources h)))
@@ -421,21 +356,20 @@ module _ (cenv : CompileEnv) where
 
       template_bodies : (ts : List Template) → AllAmong (flat_map (λ t. body_names t.body) ts) all_names
           → Each (Included cenv order h) (flat_map (λ t. needs_in true t.body) ts)
-          → Each (Proper cenv order h) (flat_map (λ t. scoped_in t.body) ts) → Every (λ t. Belongs t.body) ts
+          → Each (Proper cenv order h) (flat_map (λ t. scoped_in t.body) ts) → Each (λ t. Belongs t.body) ts
       template_bodies [] a b c = tt
       template_bodies (t ∷ ts) a b c =
           search (arith, rules, among_front, each_front, scoped_in, template_bodies ts, among_back, each_back)
 
       -- The templates of the chain belong to it.
-      pub templates_belong : Every (λ t. Belongs t.body) (templates cenv.sources h)
-      templates_belong =
-          search (arith, rules, template_bodies, own_read, at, names_are, each_included, scoped_templates)
+      pub templates_belong : Each (λ t. Belongs t.body) (templates cenv.sources h)
+      templates_belong = search (arith, rules, template_bodies, own_read, names_are, each_included, scoped_templates)
 
       -- The names that scopes bind are among the names that are read or bound.
       pub scopes_known : AllAmong (scopes cenv order h) (read_names cenv order h)
       scopes_known = search (arith, rules, read_names, scopes_are, ascending_among, templates_bind, own_read, names_are)
 
-      macro_bodies : (t : Text) (c : Body) → Belongs c → Every OwnedMacro (macros_in t c)
+      macro_bodies : (t : Text) (c : Body) → Belongs c → Each OwnedMacro (macros_in t c)
       macro_bodies t end b = tt
       macro_bodies t (stmt (macro line x ps body) rest) b =
           let f = belongs_front (macro line x ps body) rest b in
@@ -450,46 +384,32 @@ module _ (cenv : CompileEnv) where
           )
       macro_bodies t (stmt s rest) b = macro_bodies t rest (belongs_back s rest b)
 
-      pub all_macro_bodies : (ts : List Template) → Every (λ t. Belongs t.body) ts
-          → Every OwnedMacro (flat_map (λ t. macros_in t.name t.body) ts)
+      pub all_macro_bodies : (ts : List Template) → Each (λ t. Belongs t.body) ts
+          → Each OwnedMacro (flat_map (λ t. macros_in t.name t.body) ts)
       all_macro_bodies [] b = tt
       all_macro_bodies (t ∷ ts) b =
-          every_append OwnedMacro (macros_in t.name t.body) (flat_map (λ u. macros_in u.name u.body) ts)
+          each_append OwnedMacro (macros_in t.name t.body) (flat_map (λ u. macros_in u.name u.body) ts)
           (macro_bodies t.name t.body b.0) (all_macro_bodies ts b.1)
-
-      macro_among : (x : Text) (m : MacroBody) (ms : List MacroBody) → Every OwnedMacro ms → macro_of x ms ≡ Some m
-          → OwnedMacro m
-      macro_among x m [] b e = search (arith, rules)
-      macro_among x m (n ∷ ns) b e = through (bytes_eq n.name x) e (λ f. macro_among x m ns b.1 f)
-        where
-          is_it : Some n ≡ Some m → n ≡ m
-          is_it q = cc
-
-          through : (c : Bool) → (if c then Some n else macro_of x ns) ≡ Some m
-              → (macro_of x ns ≡ Some m → OwnedMacro m) → OwnedMacro m
-          through true e f = subst (λ z. OwnedMacro z) (is_it e) b.0
-          through false e f = f e
 
       -- The macros of the chain belong to it.
       pub macro_belongs : (x : Text) (m : MacroBody) → macro_of x (macros cenv.sources h) ≡ Some m → OwnedMacro m
       macro_belongs x m e =
-          macro_among x m (macros cenv.sources h) (all_macro_bodies (templates cenv.sources h) templates_belong) e
+          macro_all cenv.sources OwnedMacro x m (macros cenv.sources h)
+          (all_macro_bodies (templates cenv.sources h) templates_belong) e
 
       abbrev pub InBelongs : List BlockBody → Type 0
-      InBelongs bs = Every (λ b. Owned b.body) bs
+      InBelongs bs = Each (λ b. Owned b.body) bs
 
       module _ (t : Text) where
         mutual
           stmt_blocks : (s : Stmt) (on : Bool) → StmtBelongs s → InBelongs (blocks_of t s on)
-          stmt_blocks (block line x true required body) on b =
-              let o = owned body b.0 b.1 b.2.1 in (o, body_blocks body on o.belongs)
-          stmt_blocks (block line x false required body) on b =
-              let o = owned body b.0 b.1 b.2 in (o, body_blocks body on o.belongs)
+          stmt_blocks (block line x true required body) on b = search (arith, rules, owned, body_blocks body on)
+          stmt_blocks (block line x false required body) on b = search (arith, rules, owned, body_blocks body on)
           stmt_blocks (choose bs other) on b =
               search (
                 arith,
                 rules,
-                every_append,
+                each_append,
                 branch_blocks bs on,
                 among_front,
                 each_front,
@@ -507,7 +427,7 @@ module _ (cenv : CompileEnv) where
                 behind_proper,
                 scoped_in,
                 named,
-                every_append,
+                each_append,
                 body_blocks body on,
                 among_front,
                 each_front,
@@ -521,12 +441,12 @@ module _ (cenv : CompileEnv) where
           stmt_blocks (autoescape line now body) on b = body_blocks body now (owned body b.0 b.1 b.2).belongs
           stmt_blocks (macro line x ps body) on b =
               search (arith, rules, owned, among_back, behind_proper, named, scoped_in, body_blocks body on)
-          stmt_blocks a0 on b = tt
+          stmt_blocks s on b = tt
 
           body_blocks : (c : Body) (on : Bool) → Belongs c → InBelongs (blocks_in t c on)
           body_blocks end on b = tt
           body_blocks (stmt s rest) on b =
-              search (arith, rules, every_append, belongs_front, belongs_back, stmt_blocks s on, body_blocks rest on)
+              search (arith, rules, each_append, belongs_front, belongs_back, stmt_blocks s on, body_blocks rest on)
 
           branch_blocks : (bs : Branches) (on : Bool) → BranchesBelong bs → InBelongs (blocks_under t bs on)
           branch_blocks no_branches on b = tt
@@ -535,7 +455,7 @@ module _ (cenv : CompileEnv) where
                 arith,
                 rules,
                 among_back,
-                every_append,
+                each_append,
                 body_blocks body on,
                 among_front,
                 each_front,
@@ -545,11 +465,11 @@ module _ (cenv : CompileEnv) where
                 each_back,
               )
 
-      pub all_block_bodies : (on : Bool) (ts : List Template) → Every (λ t. Belongs t.body) ts
+      pub all_block_bodies : (on : Bool) (ts : List Template) → Each (λ t. Belongs t.body) ts
           → InBelongs (flat_map (λ t. blocks_in t.name t.body on) ts)
       all_block_bodies on [] b = tt
       all_block_bodies on (t ∷ ts) b =
-          every_append (λ b. Owned b.body) (blocks_in t.name t.body on) (flat_map (λ u. blocks_in u.name u.body on) ts)
+          each_append (λ b. Owned b.body) (blocks_in t.name t.body on) (flat_map (λ u. blocks_in u.name u.body on) ts)
           (body_blocks t.name t.body on b.0) (all_block_bodies on ts b.1)
 
       map_parts : (pre post : List (ℕ × BlockBody))
@@ -564,4 +484,4 @@ module _ (cenv : CompileEnv) where
           let all = all_block_bodies cenv.escaping (templates cenv.sources h) templates_belong in
           let same = sym (counted_are 0 (all_bodies cenv.sources cenv.escaping h)) ∙ ap (map (λ d. d.1)) e
           ∙ map_parts pre ((i, c) ∷ post) in
-          (every_back (λ b. Owned b.body) (map (λ d. d.1) pre) (c ∷ map (λ d. d.1) post) (subst InBelongs same all)).0
+          (each_back (λ b. Owned b.body) (map (λ d. d.1) pre) (c ∷ map (λ d. d.1) post) (subst InBelongs same all)).0

@@ -8,17 +8,16 @@ use Rattle.std.specs.List.{list_any}
 use Rattle.std.proofs.lemmas.Bool.Decides.{nat_tests}
 use Rattle.std.proofs.lemmas.List.Folds.{list_any-append}
 use Rattle.std.proofs.lemmas.Bool.{false_from_ne_true, and_from}
+use Rattle.std.specs.List.{AllByRecursion as Each}
 use Rattle.jt_ast.specs.Texts.{repeated}
 use Rattle.jt_ast.specs.Expressions.{Text}
 use Rattle.jt_chains.specs.Chain.{Sources, Namespace, a_chain, a_library, parent_of, names_up, max_templates, templates}
-use Rattle.jt_chains.specs.Chain.{BlockBody, all_bodies, bodies, from_given, libraries}
+use Rattle.jt_chains.specs.Chain.{BlockBody, all_bodies, bodies, from_given}
 use Rattle.jt_chains.specs.Includes.{needs_in}
 use Rattle.jt_chains.specs.Rules.{is_empty, lacks_super, extends_path, asked, Reaches, is_whole, KeepsRules}
 use Rattle.jt_chains.specs.Supers.{calls_super}
 use Rattle.jt_semantics.specs.Resolve.{next_given}
-use Rattle.jt_semantics.proofs.ChainOrder.{Every}
 use Rattle.jt_semantics.proofs.EnvLookup.{no_both}
-use Rattle.jt_semantics.proofs.StatementCorrect.{Each}
 use Rattle.jt_semantics.proofs.ExpressionCorrect.{GivenBy, given_by}
 use Rattle.jt_semantics.proofs.WithoutSuper.{left_false, right_false}
 
@@ -30,8 +29,7 @@ below m n l e = grind (arith, nat_tests, l, e)
 pub lacks_at : (pre : List (ℕ × BlockBody)) (c : ℕ × BlockBody) (bs : List (ℕ × BlockBody))
     → lacks_super (map (λ d. d.1) (pre ++ (c ∷ bs))) ≡ false
     → (calls_super c.1.body && is_empty (from_given (map (λ d. d.1) bs))) ≡ false
-lacks_at [] c bs e =
-    left_false (calls_super c.1.body && is_empty (from_given (map (λ d. d.1) bs))) (lacks_super (map (λ d. d.1) bs)) e
+lacks_at [] c bs e = search (arith, rules, left_false)
 lacks_at (p ∷ pre) c bs e = search (arith, rules, right_false, lacks_at pre c bs)
 
 none_given : (bs : List (ℕ × BlockBody)) (cs : List BlockBody) (o : Option ℕ) → GivenBy bs cs o → o ≡ None
@@ -47,16 +45,14 @@ not_called bs true e g =
 
 -- ---- A chain that is reached
 
+each_fails : {A : Type 0} (p : A → Bool) (xs : List A) → list_any p xs ≡ false → Each (λ x. p x ≡ false) xs
+each_fails p [] e = tt
+each_fails p (x ∷ xs) e = search (arith, rules, left_false, right_false, each_fails p xs)
+
 module _ (sources : Sources) (escaping : Bool) (entry h : Namespace) (reached : Reaches sources escaping entry h)
     (kept : KeepsRules sources escaping entry) where
   abbrev is_missing : Text → Bool
   is_missing n = is_none (sources n)
-
-  abbrev needed : List Text
-  needed = flat_map (λ t. needs_in false t.body) (templates sources h)
-
-  abbrev asked_behind : List Text
-  asked_behind = needed ++ libraries sources h
 
   none_missing : list_any is_missing (asked sources escaping false h) ≡ false
   none_missing =
@@ -65,14 +61,10 @@ module _ (sources : Sources) (escaping : Bool) (entry h : Namespace) (reached : 
   on_way : list_any is_missing (extends_path sources escaping h) ≡ false
   on_way = search (arith, rules, left_false, list_any-append, none_missing)
 
-  each_there : (ns : List Text) → list_any is_missing ns ≡ false → Each (λ n. is_missing n ≡ false) ns
-  each_there [] e = tt
-  each_there (n ∷ ns) e = search (arith, rules, left_false, right_false, each_there ns)
-
   -- Each name that the chain's templates include and that may not be missing has a source.
   pub needed_there : Each (λ n. is_none (sources n) ≡ false)
       (flat_map (λ t. needs_in false t.body) (templates sources h))
-  needed_there = search (arith, rules, each_there, left_false, list_any-append, right_false, none_missing)
+  needed_there = search (arith, rules, each_fails is_missing, left_false, list_any-append, right_false, none_missing)
 
   names_few : (k : ℕ) (o : Option Text) → length (names_up sources k o) ≤ k
   names_few zero o = omega arith
@@ -115,12 +107,7 @@ module _ (sources : Sources) (escaping : Bool) (entry h : Namespace) (reached : 
       (λ e. kept.no_super
       (h, reached, and_from (is_whole sources escaping h) (list_any lacks (all_bodies sources escaping h)) whole e))
 
-  each_body : (bs : List BlockBody) → list_any lacks bs ≡ false → Every (λ b. lacks b ≡ false) bs
-  each_body [] e = tt
-  each_body (b ∷ bs) e =
-      (left_false (lacks b) (list_any lacks bs) e, each_body bs (right_false (lacks b) (list_any lacks bs) e))
-
   -- Each body that calls `super()` has a later body to call.
-  pub bodies_behind : Every (λ b. lacks_super (bodies sources escaping h b.name) ≡ false)
+  pub bodies_behind : Each (λ b. lacks_super (bodies sources escaping h b.name) ≡ false)
       (all_bodies sources escaping h)
-  bodies_behind = each_body (all_bodies sources escaping h) none_lacks
+  bodies_behind = each_fails lacks (all_bodies sources escaping h) none_lacks

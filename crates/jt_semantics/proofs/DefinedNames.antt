@@ -4,26 +4,18 @@ use Rattle.std.proofs.Common.{◌≡◌, Bool, true, if◌then◌else◌, List, 
 use Rattle.std.proofs.Common.{◌⊎◌, inl, inr, arith, rules}
 use Rattle.std.specs.Prelude.{flat_map, codes}
 use Rattle.std.specs.Option.{is_some}
-use Rattle.std.specs.List.{AllByRecursion}
+use Rattle.std.specs.List.{AllByRecursion as Each}
 use Rattle.std.specs.Str.{bytes_eq}
 use Rattle.jt_ast.specs.Expressions.{Expr, name, attribute, Text}
 use Rattle.jt_ast.specs.Statements.{import_as, import_from, Body, end, stmt}
-use Rattle.jt_chains.specs.Chain.{Sources, Namespace, a_chain, a_library, Template, templates, MacroBody, macros}
+use Rattle.jt_chains.specs.Chain.{Sources, Namespace, a_library, Template, MacroBody, macros}
 use Rattle.jt_chains.specs.Chain.{macro_of, public_macro, Definition, one_macro, library, own, given_from}
 use Rattle.jt_chains.specs.Chain.{all_given_from, imports_in, imports, given, given_to, libraries_in, libraries}
 use Rattle.jt_chains.specs.Chain.{a_macro, a_block, a_cycle, no_callee, of_library, in_library, callee}
 use Rattle.jt_chains.specs.Includes.{with_source}
 use Rattle.jt_semantics.proofs.EnvLookup.{no_both}
-use Rattle.jt_semantics.proofs.Among.{Among}
-
-among_left : (x : Text) (xs ys : List Text) → Among x xs → Among x (xs ++ ys)
-among_left x [] ys i = absurd i
-among_left x (z ∷ zs) ys (inl e) = inl e
-among_left x (z ∷ zs) ys (inr i) = inr (among_left x zs ys i)
-
-among_right : (x : Text) (xs ys : List Text) → Among x ys → Among x (xs ++ ys)
-among_right x [] ys i = i
-among_right x (z ∷ zs) ys i = inr (among_right x zs ys i)
+use Rattle.jt_semantics.proofs.Among.{Among, among_left, among_right}
+use Rattle.jt_semantics.proofs.EachElement.{each_append, each_map}
 
 public_found : (x : Text) (ms : List MacroBody) (m : MacroBody) → public_macro x ms ≡ Some m → macro_of x ms ≡ Some m
 public_found x ms m e = search (arith, rules)
@@ -52,33 +44,24 @@ module _ (sources : Sources) where
   FromLibraries ls (library n) = Among n ls
 
   abbrev AllFrom : List Text → List (Text × Definition) → Type 0
-  AllFrom ls [] = Unit {0}
-  AllFrom ls (g ∷ gs) = FromLibraries ls g.1 × AllFrom ls gs
+  AllFrom ls gs = Each (λ g. FromLibraries ls g.1) gs
 
   from_more : (ls ks : List Text) → ((n : Text) → Among n ls → Among n ks) → (g : Definition) → FromLibraries ls g
       → FromLibraries ks g
-  from_more ls ks f (one_macro k b) h = (h.0, h.1, f h.0 h.2, h.3)
-  from_more ls ks f (library n) h = f n h
+  from_more ls ks f g h = search (arith, rules)
 
   all_more : (ls ks : List Text) → ((n : Text) → Among n ls → Among n ks) → (gs : List (Text × Definition))
       → AllFrom ls gs → AllFrom ks gs
-  all_more ls ks f [] h = tt
-  all_more ls ks f (g ∷ gs) h = (from_more ls ks f g.1 h.0, all_more ls ks f gs h.1)
-
-  all_append : (ls : List Text) (fs gs : List (Text × Definition)) → AllFrom ls fs → AllFrom ls gs
-      → AllFrom ls (fs ++ gs)
-  all_append ls [] gs a b = b
-  all_append ls (f ∷ fs) gs a b = (a.0, all_append ls fs gs a.1 b)
+  all_more ls ks f gs h = search (arith, rules, each_map, from_more)
 
   from_all : (n x y : Text) (ls : List Text) → Among n ls → (o : Option MacroBody)
       → public_macro y (macros sources (a_library n)) ≡ o → AllFrom ls (given_from n x o)
-  from_all n x y ls i None e = tt
-  from_all n x y ls i (Some m) e = ((n, refl, i, (y, public_found y (macros sources (a_library n)) m e)), tt)
+  from_all n x y ls i o e = search (arith, rules, public_found)
 
   all_from : (n : Text) (xs : List (Text × Text)) (ls : List Text) → Among n ls
       → AllFrom ls (all_given_from sources n xs)
   all_from n [] ls i = tt
-  all_from n (x ∷ xs) ls i = search (arith, rules, all_append, from_all, all_from n xs ls i)
+  all_from n (x ∷ xs) ls i = search (arith, rules, each_append, from_all, all_from n xs ls i)
 
   imports_all : (c : Body) → AllFrom (libraries_in c) (imports_in sources c)
   imports_all end = tt
@@ -87,7 +70,7 @@ module _ (sources : Sources) where
       search (
         arith,
         rules,
-        all_append (n ∷ libraries_in rest),
+        each_append,
         all_from n xs (n ∷ libraries_in rest) (inl refl),
         all_more (libraries_in rest) (n ∷ libraries_in rest) (λ m i. inr i),
         imports_all rest,
@@ -98,11 +81,10 @@ module _ (sources : Sources) where
       → AllFrom (flat_map (λ t. libraries_in t.body) ts) (flat_map (λ t. imports_in sources t.body) ts)
   templates_imports [] = tt
   templates_imports (t ∷ ts) =
-      search (arith, rules, all_append, all_more, among_left, imports_all, among_right, templates_imports ts)
+      search (arith, rules, each_append, all_more, among_left, imports_all, among_right, templates_imports ts)
 
   imports_from : (h : Namespace) → AllFrom (libraries sources h) (imports sources h)
-  imports_from (a_chain n) = templates_imports (templates sources (a_chain n))
-  imports_from (a_library n) = tt
+  imports_from h = search (arith, rules, templates_imports)
 
   look_all : (x : Text) (ls : List Text) (gs : List (Text × Definition)) (g : Definition) → AllFrom ls gs
       → given_to x gs ≡ Some g → FromLibraries ls g
@@ -145,46 +127,40 @@ module _ (sources : Sources) where
   -- Holds if P holds of the definition's macro, or of each macro of its library.
   abbrev pub GivenAll : (MacroBody → Type 0) → Definition → Type 0
   GivenAll P (one_macro k m) = P m
-  GivenAll P (library n) = AllByRecursion P (macros sources (a_library n))
+  GivenAll P (library n) = Each P (macros sources (a_library n))
 
   module _ (P : MacroBody → Type 0) where
-    macro_all : (x : Text) (b : MacroBody) (ms : List MacroBody) → AllByRecursion P ms → macro_of x ms ≡ Some b → P b
+    pub macro_all : (x : Text) (b : MacroBody) (ms : List MacroBody) → Each P ms → macro_of x ms ≡ Some b → P b
     macro_all x b [] a e = search (arith, rules)
     macro_all x b (m ∷ ms) a e = search (arith, rules, macro_all x b ms a.1)
 
-    own_all : (h : Namespace) (ms : List MacroBody) → AllByRecursion P ms
-        → AllByRecursion (λ g. GivenAll P g.1) (own h ms)
+    own_all : (h : Namespace) (ms : List MacroBody) → Each P ms
+        → Each (λ g. GivenAll P g.1) (own h ms)
     own_all h [] a = tt
     own_all h (m ∷ ms) a = (a.0, own_all h ms a.1)
 
     pub all_own : (h : Namespace) (ms : List MacroBody) (gs : List (Text × Definition))
-        → AllByRecursion (λ g. GivenAll P g.1) (own h ms ++ gs) → AllByRecursion P ms
+        → Each (λ g. GivenAll P g.1) (own h ms ++ gs) → Each P ms
     all_own h [] gs a = tt
     all_own h (m ∷ ms) gs a = (a.0, all_own h ms gs a.1)
 
-    both_all : (fs gs : List (Text × Definition)) → AllByRecursion (λ g. GivenAll P g.1) fs
-        → AllByRecursion (λ g. GivenAll P g.1) gs → AllByRecursion (λ g. GivenAll P g.1) (fs ++ gs)
-    both_all [] gs a b = b
-    both_all (f ∷ fs) gs a b = (a.0, both_all fs gs a.1 b)
-
     module _ (ls : List Text)
-        (each : (n : Text) → Among n (with_source sources ls) → AllByRecursion P (macros sources (a_library n))) where
-      of_library_all : (n : Text) → Among n ls → AllByRecursion P (macros sources (a_library n))
+        (each : (n : Text) → Among n (with_source sources ls) → Each P (macros sources (a_library n))) where
+      of_library_all : (n : Text) → Among n ls → Each P (macros sources (a_library n))
       of_library_all n i = search (arith, rules, source_there)
 
       one_from : (g : Definition) → FromLibraries ls g → GivenAll P g
-      one_from (one_macro k b) f = macro_all f.3.0 b (macros sources (a_library f.0)) (of_library_all f.0 f.2) f.3.1
-      one_from (library n) i = of_library_all n i
+      one_from g a1 = search (arith, rules, macro_all, of_library_all)
 
-      all_of_libraries : (gs : List (Text × Definition)) → AllFrom ls gs → AllByRecursion (λ g. GivenAll P g.1) gs
+      all_of_libraries : (gs : List (Text × Definition)) → AllFrom ls gs → Each (λ g. GivenAll P g.1) gs
       all_of_libraries [] f = tt
       all_of_libraries (g ∷ gs) f = (one_from g.1 f.0, all_of_libraries gs f.1)
 
-    pub given_all : (h : Namespace) → AllByRecursion P (macros sources h)
+    pub given_all : (h : Namespace) → Each P (macros sources h)
         → ((n : Text) → Among n (with_source sources (libraries sources h))
-        → AllByRecursion P (macros sources (a_library n)))
-        → AllByRecursion (λ g. GivenAll P g.1) (given sources h)
-    given_all h a each = search (arith, rules, both_all, own_all, all_of_libraries, imports_from)
+        → Each P (macros sources (a_library n)))
+        → Each (λ g. GivenAll P g.1) (given sources h)
+    given_all h a each = search (arith, rules, each_append, own_all, all_of_libraries, imports_from)
 
   given_library : (h : Namespace) (x n : Text) → given_to x (given sources h) ≡ Some (library n)
       → Among n (libraries sources h)

@@ -1,7 +1,7 @@
 -- A resolved tree needs at most half an entry for each of its tokens, and in addition one for each
 -- parameter that a call loads.
-use Rattle.std.proofs.Common.{◌≡◌, ℕ, zero, suc, ◌+◌, ◌*◌, max, min, ◌≤◌, Bool, true, false, if◌then◌else◌, List, []}
-use Rattle.std.proofs.Common.{◌∷◌, length, Option, Some, None, arith, refl, ap, rules}
+use Rattle.std.proofs.Common.{◌≡◌, ℕ, zero, suc, ◌+◌, ◌*◌, max, min, ◌≤◌, Bool, if◌then◌else◌, List, []}
+use Rattle.std.proofs.Common.{◌∷◌, length, Option, arith, ap, rules}
 use Rattle.jt_ids.specs.declared.test_id.TestId.{TestId}
 use Rattle.jt_ast.specs.Expressions.{Expr, constant, name, group, list_of, map_of, attribute, item, call, filter, test}
 use Rattle.jt_ast.specs.Expressions.{unary, binary, when, choice, Exprs, no_exprs, expr, Pairs, no_pairs, pair, weight}
@@ -20,7 +20,7 @@ use Rattle.jt_semantics.specs.Expressions.{filter_parameters}
 use Rattle.jt_semantics.specs.Layout.{Table, slot_in, names, block_parameters, default_index}
 use Rattle.jt_semantics.specs.Layout.{first_slot, unit, of_chain}
 use Rattle.jt_ir.specs.Slots as slots
-use Rattle.jt_ir.specs.Slots.{Slot, local, SlotExpr, SRow, SBody, variable, run}
+use Rattle.jt_ir.specs.Slots.{Slot, SlotExpr, SRow, SBody, run}
 use Rattle.jt_ir.specs.Pool.{Constant, known}
 use Rattle.jt_semantics.specs.Resolve.{value_or, turned_round, tested_by, filtered_by, in_form, field_from, followed}
 use Rattle.jt_semantics.specs.Resolve.{locals_from, fresh_targets, set_targets, filled, filled_some, first_locals}
@@ -39,28 +39,22 @@ use Rattle.jt_semantics.proofs.InstructionBounds.{none_filled, filter_few, Calle
 
 either_low : (b : Bool) (x y : SlotExpr Constant) (n : ℕ) → 2 * expr_height x ≤ n → 2 * expr_height y ≤ n
     → 2 * expr_height (if b then x else y) ≤ n
-either_low true x y n h k = h
-either_low false x y n h k = k
+either_low b x y n h k = search (arith, rules)
 
 value_low : (s : Option Slot) (k : Constant) → expr_height (value_or s k) ≡ 1
-value_low None k = refl
-value_low (Some s) k = refl
+value_low s k = search (arith, rules)
 
 field_low : (f : Option LoopField) → expr_height (field_from f) ≡ 1
-field_low None = refl
-field_low (Some f) = refl
+field_low f = search (arith, rules)
 
 turned_low : (b : Bool) (e : SlotExpr Constant) → expr_height (turned_round b e) ≤ max 1 (expr_height e)
-turned_low false e = omega arith
-turned_low true e = omega arith
+turned_low b e = search (arith, rules)
 
 tested_low : (t : Option TestId) (es : SRow Constant) → expr_height (tested_by t es) ≤ max 1 (row_height es)
-tested_low None es = omega arith
-tested_low (Some t) es = omega arith
+tested_low t es = search (arith, rules)
 
 filtered_low : (f : Option ℕ) (b : Bool) (es : SRow Constant) → expr_height (filtered_by f b es) ≤ max 1 (row_height es)
-filtered_low None b es = omega arith
-filtered_low (Some f) b es = omega arith
+filtered_low f b es = search (arith, rules)
 
 form_low : (f : OperatorForm) (a b : SlotExpr Constant)
     → expr_height (in_form f a b) ≤ max (expr_height a) (max 2 (1 + expr_height b))
@@ -117,13 +111,12 @@ handed_low p t n (x ∷ xs) = omega (arith, value_low (slot_in x t) (known 0), h
 module _ (cenv : CompileEnv) (order : List Namespace) (q : ℕ) where
   body_low : (h : Namespace) (on : Bool) (i : Option ℕ) (es : SRow Constant) → row_height es ≤ q
       → expr_height (invoked_body cenv order h on i es) ≤ 1 + q
-  body_low h on None es k = omega arith
-  body_low h on (Some i) es k = omega (arith, k)
+  body_low h on i es k = search (arith, rules)
 
   super_low : (sp : StaticEnv) (p : Option Part)
       → ((x : Text) → length (block_parameters cenv order sp.namespace x) ≤ q)
       → expr_height (invoked_super cenv order sp p) ≤ 1 + q
-  super_low sp a1 k = search (arith, rules, body_low, first_low)
+  super_low sp p k = search (arith, rules, body_low, first_low)
 
   -- The bound of the entries of a part that comes before a row.
   abbrev RowLow : ℕ → (SRow Constant → SRow Constant) → Type 0
@@ -220,8 +213,7 @@ module _ (cenv : CompileEnv) (order : List Namespace) (q : ℕ) where
 
   condition_low : (c : Option Expr) (sp : StaticEnv) → HasAtMost cenv order q sp.namespace
       → 2 * condition_height (resolved_condition cenv order c sp) ≤ condition_weight c + 2 * q
-  condition_low None sp k = omega arith
-  condition_low (Some c) sp k = omega (arith, resolved_low c sp k)
+  condition_low c sp k = search (arith, rules, resolved_low)
 
   filters_low : (fs : List FilterCall) (sp : StaticEnv) (e : SlotExpr Constant) → HasAtMost cenv order q sp.namespace
       → 2 * expr_height (resolved_filters cenv order fs sp e)
@@ -246,13 +238,11 @@ module _ (cenv : CompileEnv) (order : List Namespace) (q : ℕ) where
   values_low : (ps : Pairs) (sp : StaticEnv) (line : ℕ) (b : SBody Constant) → HasAtMost cenv order q sp.namespace
       → 2 * body_height (resolved_values cenv order ps sp line b) ≤ max (pairs_weight 0 ps + 2 * q) (2 * body_height b)
   values_low no_pairs sp line b k = omega arith
-  values_low (pair x e ps) sp line b k =
-      omega (arith, expr_some e, resolved_low e sp k, values_low ps (grown sp) line b k)
+  values_low (pair x e ps) sp line b k = search (arith, rules, expr_some, resolved_low, values_low ps)
 
   placed_low : (sp : StaticEnv) (i : Option ℕ) (x : Text) (t : Table)
       → length (block_parameters cenv order sp.namespace x) ≤ q → body_height (placed_body cenv order sp i x t) ≤ 1 + q
-  placed_low sp None x t k = omega arith
-  placed_low sp (Some i) x t k = omega (arith, reads_low t (block_parameters cenv order sp.namespace x), k)
+  placed_low sp i x t k = search (arith, rules, reads_low)
 
   include_low : (sp : StaticEnv) (line : ℕ) (n : Text) (missing c : Bool) (b : Bool)
       → body_height (if b then left_out sp line missing
@@ -274,13 +264,12 @@ module _ (cenv : CompileEnv) (order : List Namespace) (q : ℕ) where
     stmt_low (choose bs other) sp k g = search (arith, rules, choice_low bs sp k, all_low other sp k)
     stmt_low (for_each line xs e c body other) sp k g =
         search (arith, rules, fresh_low, resolved_low, condition_low, scope_low, all_low body, all_low other sp k)
-    stmt_low (set_block line x body) sp k g =
-        omega (arith, scope_low body sp (all_low body (bound_all (set_in body) sp) k (omega (arith, g))))
+    stmt_low (set_block line x body) sp k g = search (arith, rules, scope_low, all_low body)
     stmt_low (with_values line ps body) sp k g = search (arith, rules, values_low, scope_low, all_low body)
     stmt_low (filter_block line fs body) sp k g = search (arith, rules, scope_low, filters_low, all_low body)
     stmt_low (autoescape line on body) sp k g = search (arith, rules, scope_low, all_low body)
     stmt_low (block line x is required body) sp k g = search (arith, rules, placed_low)
-    stmt_low a0 sp k g = search (arith, rules, resolved_low, set_low, include_low)
+    stmt_low s sp k g = search (arith, rules, resolved_low, set_low, include_low)
 
     pub all_low : (b : Body) (sp : StaticEnv) → HasAtMost cenv order q sp.namespace → body_bound b ≤ q
         → 2 * body_height (resolved_body cenv order b sp) ≤ body_free b + 2 * q

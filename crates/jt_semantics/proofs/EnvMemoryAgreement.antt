@@ -1,6 +1,6 @@
 -- The agreement of an environment and a memory, and the changes that keep it.
 use Rattle.std.proofs.Common.{◌≡◌, ℕ, suc, ◌+◌, ◌<◌, ◌≤◌, Bool, true, false, if◌then◌else◌, List, [], ◌∷◌, ◌++◌, length}
-use Rattle.std.proofs.Common.{map, Option, Some, None, refl, sym, ap, ◌∙◌, subst, arith, inl, inr, rules}
+use Rattle.std.proofs.Common.{map, Option, Some, None, refl, sym, ◌∙◌, subst, arith, inl, inr, rules}
 use Rattle.std.specs.Prelude.{flat_map}
 use Rattle.std.specs.Str.{bytes_eq}
 use Rattle.jt_value.specs.Tree as tree
@@ -41,26 +41,17 @@ kept_less {b = b} {g = g} {c = c} {d = d} p q u = search (arith, rules)
 -- A change of the output keeps the first locals and the first globals.
 pub kept_out : {b g : ℕ} {m n : Memory} (o : Memory) → o.locals ≡ n.locals → o.globals ≡ n.globals → Kept b g m n
     → Kept b g m o
-kept_out o e f u = record {
-  locals = λ i l. ap (λ ts. tree_at ts i) e ∙ u.locals i l;
-  globals = λ i l. ap (λ ts. tree_at ts i) f ∙ u.globals i l;
-}
+kept_out o e f u = search (arith, rules)
 
 apart_less : (i b j : ℕ) → b ≤ i → j < b → i ≡ j → ⊥
 apart_less i b j p l e = omega (arith, p, l, e)
 
 -- A store to a later local keeps the first locals and the first globals.
 pub kept_store : (b g i : ℕ) (v : Tree) (m : Memory) → b ≤ i → Kept b g m (store (local i) v m)
-kept_store b g i v m p = record {
-  locals = λ j l. put_elsewhere i j v m.locals (apart_less i b j p l);
-  globals = λ j l. refl;
-}
+kept_store b g i v m p = search (arith, rules, put_elsewhere, apart_less)
 
 pub kept_global : (b g i : ℕ) (v : Tree) (m : Memory) → g ≤ i → Kept b g m (store (global i) v m)
-kept_global b g i v m p = record {
-  locals = λ j l. refl;
-  globals = λ j l. put_elsewhere i j v m.globals (apart_less i g j p l);
-}
+kept_global b g i v m p = search (arith, rules, put_elsewhere, apart_less)
 
 -- ---- Values in consecutive locals
 
@@ -72,15 +63,15 @@ pub held_put : (ts : List Tree) (k j : ℕ) (v : Tree) (vs : List Tree) → k < 
 held_put ts k j v [] l h = tt
 held_put ts k j v (w ∷ ws) l h = (
   put_elsewhere k j v ts (λ e. omega (arith, l, e)) ∙ h.0,
-  held_put ts k (suc j) v ws (let e : k < suc j = omega (arith, l) in e) h.1,
+  held_put ts k (suc j) v ws (omega (arith, l)) h.1,
 )
 
 pub held_kept : {b g : ℕ} {m n : Memory} (k : ℕ) (vs : List Tree) → k + length vs ≤ b → Kept b g m n
     → Held m.locals k vs → Held n.locals k vs
 held_kept k [] p u h = tt
 held_kept {b = b} k (v ∷ vs) p u h = (
-  u.locals k (let e : k < b = omega (arith, p) in e) ∙ h.0,
-  held_kept (suc k) vs (let e : suc k + length vs ≤ b = omega (arith, p) in e) u h.1,
+  u.locals k (omega (arith, p)) ∙ h.0,
+  held_kept (suc k) vs (omega (arith, p)) u h.1,
 )
 
 -- ---- Slots of globals
@@ -172,12 +163,10 @@ module _ (cenv : CompileEnv) (order : List Namespace) where
 
   pub seen_agree : (h : Namespace) (gs : Pairs) (ts : List Tree) → GlobalsAgree h gs ts
       → GlobalsAgree h (seen_by h gs) ts
-  seen_agree (a_chain n) gs ts a = a
-  seen_agree (a_library n) gs ts a = library_agrees n ts
+  seen_agree h gs ts a = search (arith, rules, library_agrees)
 
   load_kept : (k g : ℕ) (m n : Memory) (s : Slot) → Below k g s → Kept k g m n → load s n ≡ load s m
-  load_kept k g m n (local i) l u = u.locals i l
-  load_kept k g m n (global i) l u = u.globals i l
+  load_kept k g m n s l u = search (arith, rules)
 
   held_kept_in : {h : Namespace} {table : Table} {k : ℕ} {m n : Memory} → Fits h table k → Kept k (limit h) m n
       → (x : Text) → held (slot_in x table) n ≡ held (slot_in x table) m
@@ -216,7 +205,7 @@ module _ (cenv : CompileEnv) (order : List Namespace) where
 
       in_it : (y : Text) (s : Slot) (b : Bool) → (if b then Some (local k) else slot_in y table) ≡ Some s
           → (slot_in y table ≡ Some s → Below k (limit h) s) → Below (suc k) (limit h) s
-      in_it y s true e f = subst (λ t. Below (suc k) (limit h) t) (sym (first e)) (let l : k < suc k = omega arith in l)
+      in_it y s true e f = subst (λ t. Below (suc k) (limit h) t) (sym (first e)) (omega arith)
       in_it y s false e f = more s (f e)
 
       clash : (y : Text) (s : Slot) → s ≡ local k → slot_in y table ≡ Some s → ⊥
@@ -225,7 +214,7 @@ module _ (cenv : CompileEnv) (order : List Namespace) where
       part : (y z : Text) (s : Slot) (b c : Bool) → bytes_eq x y ≡ b → bytes_eq x z ≡ c
           → (if b then Some (local k) else slot_in y table) ≡ Some s
           → (if c then Some (local k) else slot_in z table) ≡ Some s → y ≡ z
-      part y z s a3 a4 p q e f = search (arith, rules, same_text, clash, first)
+      part y z s b c p q e f = search (arith, rules, same_text, clash, first)
 
       around : (y : Text) (b : Bool) → bytes_eq x y ≡ b → (Among y (scopes cenv order h) → ⊥)
           → slot_in y table ≡ slot_in y (globals cenv order h)
@@ -274,10 +263,10 @@ module _ (cenv : CompileEnv) (order : List Namespace) where
 
   pub fits_all : {h : Namespace} (xs : List Text) (k : ℕ) (table : Table) → AllAmong xs (scopes cenv order h)
       → Fits h table k → Fits h (bound_table xs k table) (k + length xs)
-  fits_all {h = h} [] k table a f = subst (λ n. Fits h table n) (let e : k ≡ k + 0 = omega arith in e) f
+  fits_all {h = h} [] k table a f = subst (λ n. Fits h table n) (omega arith) f
   fits_all {h = h} (x ∷ xs) k table a f =
       subst (λ n. Fits h (bound_table xs (suc k) ((x, local k) ∷ table)) n)
-      (let e : suc k + length xs ≡ k + length (x ∷ xs) = omega arith in e)
+      (omega arith)
       (fits_all xs (suc k) ((x, local k) ∷ table) a.1 (fits_one x a.0 f))
 
 -- Holds if the names are in locals from a base on.
@@ -298,13 +287,13 @@ still_local : (b k : ℕ) (table : Table) (x : Text) (ys : List Text) → b ≤ 
     → (i : ℕ) × (slot_in x (bound_table ys k table) ≡ Some (local i)) × (b ≤ i)
 still_local b k table x [] l s = s
 still_local b k table x (y ∷ ys) l s =
-    still_local b (suc k) ((y, local k) ∷ table) x ys (let e : b ≤ suc k = omega (arith, l) in e)
+    still_local b (suc k) ((y, local k) ∷ table) x ys (omega (arith, l))
     (later_local b k table x y l s)
 
 pub in_locals : (b k : ℕ) (table : Table) (xs : List Text) → b ≤ k → InLocals b (bound_table xs k table) xs
 in_locals b k table [] l x i = absurd i
 in_locals b k table (y ∷ ys) l x (inl e) =
-    still_local b (suc k) ((y, local k) ∷ table) x ys (let f : b ≤ suc k = omega (arith, l) in f)
+    still_local b (suc k) ((y, local k) ∷ table) x ys (omega (arith, l))
     (here (bytes_eq y x) (is_same y x e))
   where
     here : (c : Bool) → c ≡ true
@@ -312,4 +301,4 @@ in_locals b k table (y ∷ ys) l x (inl e) =
     here true q = (k, refl, l)
     here false q = absurd (no_both q refl)
 in_locals b k table (y ∷ ys) l x (inr i) =
-    in_locals b (suc k) ((y, local k) ∷ table) ys (let f : b ≤ suc k = omega (arith, l) in f) x i
+    in_locals b (suc k) ((y, local k) ∷ table) ys (omega (arith, l)) x i

@@ -2,7 +2,7 @@
 use Rattle.std.proofs.Common.{◌≡◌, ℕ, zero, suc, pos, ◌+◌, ◌<◌, ◌≤◌, Bool, true, false, if◌then◌else◌, List, [], ◌∷◌}
 use Rattle.std.proofs.Common.{◌++◌, length, map, Option, Some, None, refl, sym, ap, ◌∙◌, subst, arith, append_assoc}
 use Rattle.std.proofs.Common.{inl, inr, rules}
-use Rattle.std.proofs.lemmas.List.{length-map}
+use Rattle.std.proofs.lemmas.List.{append-nil, length-map}
 use Rattle.std.specs.Prelude.{unwrap_or, Result, filter}
 use Rattle.std.specs.Str.{bytes_eq}
 use Rattle.jt_value.specs.Tree as tree
@@ -19,7 +19,7 @@ use Rattle.jt_op_semantics.specs.Testing.{tested}
 use Rattle.jt_op_semantics.specs.Ranges.{ranged}
 use Rattle.jt_op_semantics.specs.Making.{listed}
 use Rattle.jt_ast.specs.Expressions as written
-use Rattle.jt_ast.specs.Expressions.{Expr, constant, name, group, list_of, map_of, attribute, item, unary, binary, when}
+use Rattle.jt_ast.specs.Expressions.{Expr, constant, name, group, list_of, attribute, item, unary, binary, when}
 use Rattle.jt_ast.specs.Expressions.{choice, Exprs, no_exprs, expr, no_pairs, pair, Text}
 use Rattle.jt_eval.specs.Eval.{Eval, gives, bind, checked}
 use Rattle.jt_semantics.specs.Operators.{unary_operation, OperatorForm, operation, negation, conjunction, disjunction}
@@ -33,7 +33,7 @@ use Rattle.jt_chains.specs.Uses.{count, keywords, expr_names, row_names, pair_na
 use Rattle.jt_ast.specs.Statements.{Parameter}
 use Rattle.jt_semantics.specs.Env.{Env, read, top}
 use Rattle.jt_chains.specs.Chain.{Namespace, a_library, BlockBody, bodies, all_bodies, from_given, MacroBody, given}
-use Rattle.jt_chains.specs.Chain.{Callee, a_macro, a_range, a_super, a_block, a_cycle, no_callee, callee}
+use Rattle.jt_chains.specs.Chain.{Callee, a_macro, a_range, a_super, a_block, callee}
 use Rattle.jt_ids.specs.declared.loop_field.LoopField.{LoopField}
 use Rattle.jt_ids.specs.declared.loop_field.LoopField.TheVariants.{Index0}
 use Rattle.jt_ids.specs.LoopTable.{field_named}
@@ -42,7 +42,7 @@ use Rattle.jt_eval.specs.Filters.{Filters, parameters, by_name, arguments}
 use Rattle.jt_rules.specs.CompileEnv.{CompileEnv}
 use Rattle.jt_semantics.specs.EvalContext.{Placement, the_macro, the_block, Calls}
 use Rattle.jt_ir.specs.Slots as slots
-use Rattle.jt_ir.specs.Slots.{Slot, local, NaryOp, operator, a_list, a_map, SlotExpr, made, SRow, none, Memory, Valued}
+use Rattle.jt_ir.specs.Slots.{Slot, local, NaryOp, operator, a_list, SlotExpr, made, SRow, none, Memory, Valued}
 use Rattle.jt_ir.specs.Slots.{Listed, Written, SCalls, load, store, make, valued, in_front, svalue, svalues}
 use Rattle.jt_semantics.specs.Layout.{Table, slot_in, first_slot, of_macro, of_body, names, globals, block_parameters}
 use Rattle.jt_semantics.specs.Layout.{is_scoped, numbered_of, numbered_bodies, counted_from, unit, default_index}
@@ -56,13 +56,13 @@ use Rattle.jt_semantics.specs.Resolve.{invoked_super, invoked, resolved, resolve
 use Rattle.jt_semantics.specs.Resolve.{resolved_entries}
 use Rattle.jt_semantics.proofs.SameEval.{SameEval, both, fault, deep, bind_both, if_both, weaken, right_both}
 use Rattle.jt_semantics.proofs.SameEval.{bind_gives, bind_assoc, bind_ext, by_left, by_right}
-use Rattle.jt_semantics.proofs.EnvLookup.{among_front, among_back, held, put_here}
+use Rattle.jt_semantics.proofs.EnvLookup.{held, put_here}
 use Rattle.jt_semantics.proofs.EnvMemoryAgreement.{Kept, kept_same, kept_then, kept_less, kept_store, Held, limit}
 use Rattle.jt_semantics.proofs.EnvMemoryAgreement.{global_reads, read_names, GlobalsAgree, library_agrees, seen_agree}
 use Rattle.jt_semantics.proofs.DefinedNames.{LeadsTo, Found, called_macro}
 use Rattle.jt_semantics.proofs.CallInvariant.{Evaluated, Rowed, Known, Sees, Tail, PartHolds, Good, good_kept}
 use Rattle.jt_semantics.proofs.CallInvariant.{good_grown, around_of, Wrote, CallsMean, DefaultsAt, Laid}
-use Rattle.jt_semantics.proofs.Among.{Among, AllAmong}
+use Rattle.jt_semantics.proofs.Among.{Among, AllAmong, among_front, among_back}
 
 -- ---- Rows of values
 
@@ -78,17 +78,13 @@ prefixed_memory : (vs : List Tree) (r : Listed) → (prefixed vs r).memory ≡ r
 prefixed_memory [] r = refl
 prefixed_memory (v ∷ vs) r = prefixed_memory vs r
 
-append_none : (vs : List Tree) → vs ++ [] ≡ vs
-append_none [] = refl
-append_none (v ∷ vs) = ap (λ ts. v ∷ ts) (append_none vs)
-
 -- Holds if the second list begins with the first one.
 abbrev pub FrontOf : List Tree → List Tree → Type 0
 FrontOf [] ts = Unit {0}
 FrontOf (v ∷ vs) [] = ⊥
 FrontOf (v ∷ vs) (t ∷ ts) = (t ≡ v) × FrontOf vs ts
 
-held_behind : (t : Tree) (ts : List Tree) (k : ℕ) (vs : List Tree) → Held ts k vs → Held (t ∷ ts) (suc k) vs
+pub held_behind : (t : Tree) (ts : List Tree) (k : ℕ) (vs : List Tree) → Held ts k vs → Held (t ∷ ts) (suc k) vs
 held_behind t ts k [] h = tt
 held_behind t ts k (v ∷ vs) h = (h.0, held_behind t ts (suc k) vs h.1)
 
@@ -209,7 +205,7 @@ module _ (cenv : CompileEnv) (order : List Namespace) (calls : Calls) (scall : S
       (λ rs. gives (in_front r.value rs))))
       (λ r. f r.values r.memory)
       ≡ bind g (λ r. bind (h r.memory) (λ s. f (r.value ∷ s.value ∷ []) s.memory))
-  two_after a0 h f = search (arith, rules)
+  two_after g h f = search (arith, rules)
 
   on_two : (o : OpId) (e k : SlotExpr Constant) (m : Memory)
       → seen (operation_of o e k) m ≡ bind (seen e m)
@@ -219,7 +215,7 @@ module _ (cenv : CompileEnv) (order : List Namespace) (calls : Calls) (scall : S
   -- A result over a memory that was kept has the outcome of its evaluation.
   done : {b g : ℕ} {m n : Memory} (r : Eval Tree) → Kept b g m n → n.out ≡ m.out
       → SameEval (Evaluated b g m) r (bind r (valued n))
-  done a0 u o = search (arith, rules, both, fault, deep)
+  done r u o = search (arith, rules, both, fault, deep)
 
   done_as : {b g : ℕ} {m n : Memory} (r s : Result Tree Fault) → r ≡ s → Kept b g m n → n.out ≡ m.out
       → SameEval (Evaluated b g m) (checked r) (bind (checked s) (valued n))
@@ -230,8 +226,7 @@ module _ (cenv : CompileEnv) (order : List Namespace) (calls : Calls) (scall : S
       → ((vs : List Tree) → o vs ≡ make fs k vs)
       → SameEval (Rowed b g m) h (seen_row es m)
       → SameEval (Evaluated b g m) (bind h (λ vs. checked (o vs))) (seen (made k es) m)
-  made_both k o es e u =
-      bind_both u (λ vs r w. done_as (o vs) (make fs k r.values) (e vs ∙ ap (make fs k) (sym w.values)) w.kept w.out)
+  made_both k o es e u = search (arith, rules, bind_both, done_as)
 
   -- An operator on one operand has one outcome by names and by slots.
   one_both : {b g : ℕ} {m : Memory} {h : Eval Tree} (o : OpId) (e : SlotExpr Constant)
@@ -269,8 +264,7 @@ module _ (cenv : CompileEnv) (order : List Namespace) (calls : Calls) (scall : S
   truth_both : {b g : ℕ} {m : Memory} {h k : Eval Tree} {p q : Eval Valued} (v w : Tree) → w ≡ v
       → SameEval (Evaluated b g m) h p → SameEval (Evaluated b g m) k q
       → SameEval (Evaluated b g m) (if tree.truth v then h else k) (if tree.truth w then p else q)
-  truth_both {h = h} {k = k} {p = p} {q = q} v w e s t =
-      by_right (ap (λ x. if tree.truth x then p else q) e) (if_both (tree.truth v) s t)
+  truth_both {h = h} {k = k} {p = p} {q = q} v w e s t = search (arith, rules, by_right, if_both)
 
   itself : {b g : ℕ} {m : Memory} (v : Tree) (r : Valued) → Evaluated b g m v r
       → SameEval (Evaluated b g m) (gives v) (gives r)
@@ -342,15 +336,13 @@ module _ (cenv : CompileEnv) (order : List Namespace) (calls : Calls) (scall : S
       × (seen_row (filled_some ps (length vs) xs table) m ≡ gives (record { values = ws; memory = m }))
       × (arguments ps vs xs ks ≡ vs ++ ws)
   some_gives ps [] xs table ks m k = (by_name ps xs ks, named_gives ps xs table ks m k, refl)
-  some_gives [] (v ∷ vs) xs table ks m k = ([], refl, sym (append_none (v ∷ vs)))
-  some_gives (p ∷ ps) (v ∷ vs) xs table ks m k =
-      let r = some_gives ps vs xs table ks m k in (r.0, r.1, ap (λ ts. v ∷ ts) r.2)
+  some_gives [] (v ∷ vs) xs table ks m k = ([], refl, sym (append-nil (v ∷ vs)))
+  some_gives (p ∷ ps) (v ∷ vs) xs table ks m k = search (arith, rules, some_gives ps vs xs table ks m k)
 
   -- The read of a slot has the value that the slot holds.
   pub read_gives : (s : Option Slot) (m : Memory)
       → seen (read_from s) m ≡ gives (record { value = held s m; memory = m })
-  read_gives None m = refl
-  read_gives (Some s) m = refl
+  read_gives s m = search (arith, rules)
 
   pub reads_give : (table : Table) (xs : List Text) (m : Memory)
       → seen_row (reads table xs) m ≡ gives (record { values = map (λ x. held (slot_in x table) m) xs; memory = m })
@@ -365,7 +357,7 @@ module _ (cenv : CompileEnv) (order : List Namespace) (calls : Calls) (scall : S
   locals_give n (x ∷ xs) (v ∷ vs) m e h =
       item_gives (slots.variable (local n)) (first_locals (suc n) xs) m v vs
       (ap (λ w. gives (record { value = w; memory = m })) h.0)
-      (locals_give (suc n) xs vs m (let f : length vs ≡ length xs = omega (arith, e) in f) h.1)
+      (locals_give (suc n) xs vs m (omega (arith, e)) h.1)
 
   -- ---- Calls
 
@@ -516,6 +508,26 @@ module _ (cenv : CompileEnv) (order : List Namespace) (calls : Calls) (scall : S
       ap (λ v. v ∷ map (λ y. held (slot_in y table) m) xs) (sym (f x i.0))
       ∙ ap (λ ts. read env x ∷ ts) (reads_are table env m xs all f i.1)
 
+  -- The values of a scoped block's parameters are those of their names; other blocks have none.
+  pub seen_params : (sp : StaticEnv) (b : Bool) (table : Table) (env : Env) (m : Memory)
+      → ((y : Text) → Among y (ns sp) → read env y ≡ held (slot_in y table) m) → AllAmong (bound_names sp) (ns sp)
+      → map (λ y. held (slot_in y table) m) (if b then bound_names sp else [])
+      ≡ map (read env) (if b then bound_names sp else [])
+  seen_params sp b table env m f few = search (arith, rules, reads_are)
+
+  -- A block that is not scoped sees the globals of its chain.
+  pub sees_globals : (x : Text) (sp : StaticEnv) (env : Env) (m : Memory) → Good cenv order sp q env m
+      → Sees cenv order sp.namespace x (top env.globals)
+      (map (λ y. held (slot_in y (globals cenv order sp.namespace)) m) (block_parameters cenv order sp.namespace x))
+      m.globals
+  sees_globals x sp env m g = record {
+    arguments = seen_params sp (is_scoped cenv sp.namespace x) (globals cenv order sp.namespace) (top env.globals) m
+        (λ y i. g.agrees.globals y i
+        ∙ sym (global_reads (first_slot cenv order sp.namespace) (names cenv order sp.namespace) y m)) g.fits.few;
+    globals = g.agrees.globals;
+    others = λ y i f. g.agrees.globals y i;
+  }
+
   -- The namespace of a called macro is this one or a later one, and the macro sees the globals of
   -- its own chain.
   reached : (h k : Namespace) (gs : Pairs) (ts : List Tree) → Known cenv order h → LeadsTo cenv.sources h k
@@ -564,7 +576,7 @@ module _ (cenv : CompileEnv) (order : List Namespace) (calls : Calls) (scall : S
       (scall (unit cenv order (of_macro k b.name)) r.values r.memory.globals) r.memory w.kept w.out
       (weaken (λ t y z. record {
         text = z.text;
-        globals = λ i d. z.globals i (let e : i < limit cenv order k = omega (arith, d, there.2) in e);
+        globals = λ i d. z.globals i (omega (arith, d, there.2));
       })
       (mean.macro_means k there.0 x.0 b x.1 p gs r.values r.memory.globals w.names w.values
       (there.1 (good_kept cenv order g w.kept).agrees.globals)))))
@@ -599,28 +611,12 @@ module _ (cenv : CompileEnv) (order : List Namespace) (calls : Calls) (scall : S
       (map (λ y. held (slot_in y (globals cenv order sp.namespace)) m) (block_parameters cenv order sp.namespace x))
       g.known ([], refl) (firsts (numbered_of cenv sp.namespace x))
       (reads_give (globals cenv order sp.namespace) (block_parameters cenv order sp.namespace x) m)
-      (record {
-        arguments = seen_params (is_scoped cenv sp.namespace x);
-        globals = g.agrees.globals;
-        others = λ y i f. g.agrees.globals y i;
-      }))
+      (sees_globals x sp env m g))
     where
       firsts : (bs : List (ℕ × BlockBody)) → GivenBy bs (map (λ d. d.1) bs) (first_body bs)
       firsts [] = tt
       firsts (b ∷ bs) = ([], bs, refl, refl)
-
-      at_globals : (y : Text) → Among y (ns sp)
-          → read (top env.globals) y ≡ held (slot_in y (globals cenv order sp.namespace)) m
-      at_globals y i = search (arith, rules, global_reads, names)
-
-      seen_params : (b : Bool) → map (λ y. held (slot_in y (globals cenv order sp.namespace)) m)
-          (if b then bound_names sp else [])
-          ≡ map (read (top env.globals)) (if b then bound_names sp else [])
-      seen_params true =
-          reads_are (globals cenv order sp.namespace) (top env.globals) m (bound_names sp) (ns sp) at_globals g.fits.few
-      seen_params false = refl
-  call_both a_cycle sp env ts ps g named row passed = search (arith, rules, cycle_both, values, around_of)
-  call_both no_callee sp env ts ps g named row passed = deep
+  call_both c sp env ts ps g named row passed = search (arith, rules, cycle_both, around_of, deep)
 
   -- ---- Arguments before a row
 
@@ -629,28 +625,7 @@ module _ (cenv : CompileEnv) (order : List Namespace) (calls : Calls) (scall : S
       ≡ bind (seen_row (resolved_row cenv order ts sp none) m)
       (λ r. bind (seen_row behind r.memory) (λ s. gives (prefixed r.values s)))
   row_apart no_exprs sp behind m = sym (bind_gives (seen_row behind m))
-  row_apart (expr e ts) sp behind m =
-      bind_ext (seen (resolved cenv order e sp) m)
-      (λ r. bind (seen_row (resolved_row cenv order ts sp behind) r.memory) (λ s. gives (in_front r.value s)))
-      (λ r. bind (bind (seen_row (resolved_row cenv order ts sp none) r.memory) (λ s. gives (in_front r.value s)))
-      (λ t. bind (seen_row behind t.memory) (λ s. gives (prefixed t.values s))))
-      (λ r. ap (λ g. bind g (λ s. gives (in_front r.value s))) (row_apart ts sp behind r.memory)
-      ∙ turn r.value (seen_row (resolved_row cenv order ts sp none) r.memory))
-      ∙ sym (bind_assoc (seen (resolved cenv order e sp) m)
-      (λ r. bind (seen_row (resolved_row cenv order ts sp none) r.memory) (λ s. gives (in_front r.value s)))
-      (λ t. bind (seen_row behind t.memory) (λ s. gives (prefixed t.values s))))
-    where
-      inner : (v : Tree) (vs : List Tree) (k : Eval Listed)
-          → bind (bind k (λ s. gives (prefixed vs s))) (λ s. gives (in_front v s))
-          ≡ bind k (λ s. gives (in_front v (prefixed vs s)))
-      inner v vs a2 = search (arith, rules)
-
-      turn : (v : Tree) (g : Eval Listed)
-          → bind (bind g (λ t. bind (seen_row behind t.memory) (λ s. gives (prefixed t.values s))))
-          (λ s. gives (in_front v s))
-          ≡ bind (bind g (λ s. gives (in_front v s)))
-          (λ t. bind (seen_row behind t.memory) (λ s. gives (prefixed t.values s)))
-      turn v g = search (arith, rules, inner, values)
+  row_apart (expr e ts) sp behind m = search (arith, rules, bind_ext, row_apart ts sp behind, bind_assoc)
 
   pub row_in_front : {X : Type 0} {m : Memory} {g : Eval (List Tree)} (ts : Exprs) (sp : StaticEnv)
       (S : X → Listed → Type 0) (f : List Tree → Eval X) (behind : SRow Constant)
@@ -685,8 +660,41 @@ module _ (cenv : CompileEnv) (order : List Namespace) (calls : Calls) (scall : S
       → SameEval (Aside sp m (keywords ps)) g (kept_aside ps sp m)
       → ((ks : Pairs) (n : Memory) → Aside sp m (keywords ps) ks n → SameEval S (f ks) (seen_row behind n))
       → SameEval S (bind g f) (seen_row (resolved_asides cenv order ps sp behind) m)
-  asides_in_front {m = m} ps sp S f behind u k =
-      by_right (aside_apart ps sp behind m) (bind_both u (λ ks n w. k ks n w))
+  asides_in_front {m = m} ps sp S f behind u k = search (arith, rules, by_right, aside_apart, bind_both)
+
+  -- A filter on the value of an expression has one outcome by names and by slots, if its arguments have.
+  pub filter_both : {m : Memory} {h : Eval Tree} (x : Text) (ts : Exprs) (ps : written.Pairs) (sp : StaticEnv)
+      (env : Env) (e : SlotExpr Constant)
+      → ((n : Memory) → Kept sp.free (end sp) m n
+      → SameEval (Counted sp n (count ts)) (values cenv calls ts (around_of cenv order sp l q) env)
+      (seen_row (resolved_row cenv order ts sp none) n))
+      → ((n : Memory) → Kept sp.free (end sp) m n
+      → SameEval (Aside sp n (keywords ps)) (named_values cenv calls ps (around_of cenv order sp l q) env)
+      (kept_aside ps sp n))
+      → Same sp m h e
+      → Same sp m (filtered fs (fs.named x ts ps) sp.escaping
+      (bind h (λ v. bind (values cenv calls ts (around_of cenv order sp l q) env)
+      (λ vs. bind (named_values cenv calls ps (around_of cenv order sp l q) env) (λ ks.
+      gives (v ∷ arguments (filter_parameters fs (fs.named x ts ps)) vs (keywords ps) ks))))))
+      (filtered_by (fs.named x ts ps) sp.escaping
+      (slots.item e (resolved_row cenv order ts sp
+      (resolved_asides cenv order ps sp (filled_some (filter_parameters fs (fs.named x ts ps)) (count ts) (keywords ps)
+      (locals_from sp.free (keywords ps)))))))
+  filter_both {m = m} x ts ps sp env e row asides u =
+      let rest = filled_some (filter_parameters fs (fs.named x ts ps)) (count ts) (keywords ps)
+      (locals_from sp.free (keywords ps)) in
+      filtered_both (fs.named x ts ps) sp.escaping
+      (slots.item e (resolved_row cenv order ts sp (resolved_asides cenv order ps sp rest)))
+      (bind_both u (λ v r w. right_both (in_front r.value)
+      (row_in_front ts sp (λ y s. Rowed sp.free (end sp) m y (in_front r.value s))
+      (λ vs. bind (named_values cenv calls ps (around_of cenv order sp l q) env)
+      (λ ks. gives (v ∷ arguments (filter_parameters fs (fs.named x ts ps)) vs (keywords ps) ks)))
+      (resolved_asides cenv order ps sp rest) (row r.memory w.kept) (λ vs n len k o.
+      asides_in_front ps sp (λ y s. Rowed sp.free (end sp) m y (in_front r.value (prefixed vs s)))
+      (λ ks. gives (v ∷ arguments (filter_parameters fs (fs.named x ts ps)) vs (keywords ps) ks)) rest
+      (asides n (kept_then w.kept k)) (λ ks n' z.
+      arguments_end (filter_parameters fs (fs.named x ts ps)) sp v r.value w.value vs (count ts) len (keywords ps) ks
+      z.names z.values (kept_then w.kept (kept_then k z.kept)) (z.out ∙ o ∙ w.out))))))
 
   -- ---- Every expression
 
@@ -695,9 +703,7 @@ module _ (cenv : CompileEnv) (order : List Namespace) (calls : Calls) (scall : S
         → AllAmong (expr_names e) (ns sp)
         → Same sp m (value cenv calls e (around_of cenv order sp l q) env) (resolved cenv order e sp)
     value_same (constant c) sp env m g i = given_both sp (literal c)
-    value_same (name x) sp env m g i =
-        by_right (read_gives (slot_in x sp.table) m)
-        (both (record { value = sym (g.agrees.names x i.0); kept = kept_same sp.free (end sp) m; out = refl }))
+    value_same (name x) sp env m g i = search (arith, rules, by_right, read_gives, both, kept_same)
     value_same (group e) sp env m g i = value_same e sp env m g i
     value_same (list_of ts) sp env m g i =
         made_both a_list listed (resolved_row cenv order ts sp none) (λ vs. refl)
@@ -728,21 +734,9 @@ module _ (cenv : CompileEnv) (order : List Namespace) (calls : Calls) (scall : S
         let back = among_back (expr_names e) (row_names ts ++ pair_names ps) (ns sp) i in
         let back1 = among_front (row_names ts) (pair_names ps) (ns sp) back in
         let back2 = among_back (row_names ts) (pair_names ps) (ns sp) back in
-        let rest = filled_some (filter_parameters fs (fs.named x ts ps)) (count ts) (keywords ps)
-        (locals_from sp.free (keywords ps)) in
-        filtered_both (fs.named x ts ps) sp.escaping
-        (slots.item (resolved cenv order e sp) (resolved_row cenv order ts sp (resolved_asides cenv order ps sp rest)))
-        (bind_both (value_same e sp env m g front) (λ v r w. right_both (in_front r.value)
-        (row_in_front ts sp (λ y s. Rowed sp.free (end sp) m y (in_front r.value s))
-        (λ vs. bind (named_values cenv calls ps (around_of cenv order sp l q) env)
-        (λ ks. gives (v ∷ arguments (filter_parameters fs (fs.named x ts ps)) vs (keywords ps) ks)))
-        (resolved_asides cenv order ps sp rest) (values_same ts sp env r.memory (good_kept cenv order g w.kept) back1)
-        (λ vs n len u o.
-        asides_in_front ps sp (λ y s. Rowed sp.free (end sp) m y (in_front r.value (prefixed vs s)))
-        (λ ks. gives (v ∷ arguments (filter_parameters fs (fs.named x ts ps)) vs (keywords ps) ks)) rest
-        (asides_same ps sp env n (good_kept cenv order g (kept_then w.kept u)) back2) (λ ks n' z.
-        arguments_end (filter_parameters fs (fs.named x ts ps)) sp v r.value w.value vs (count ts) len (keywords ps) ks
-        z.names z.values (kept_then w.kept (kept_then u z.kept)) (z.out ∙ o ∙ w.out))))))
+        filter_both x ts ps sp env (resolved cenv order e sp)
+        (λ n k. values_same ts sp env n (good_kept cenv order g k) back1)
+        (λ n k. asides_same ps sp env n (good_kept cenv order g k) back2) (value_same e sp env m g front)
     value_same (written.test e n x ts ps) sp env m g i =
         let front = among_front (expr_names e) (row_names ts ++ pair_names ps) (ns sp) i in
         let back = among_front (row_names ts) (pair_names ps) (ns sp)
@@ -809,7 +803,7 @@ module _ (cenv : CompileEnv) (order : List Namespace) (calls : Calls) (scall : S
     asides_same (pair x e ps) sp env m g i =
         bind_both (value_same e sp env m g (among_front (expr_names e) (pair_names ps) (ns sp) i)) (λ v r w.
         let stored = kept_then w.kept
-        (kept_store sp.free (end sp) sp.free r.value r.memory (let e : sp.free ≤ sp.free = omega arith in e)) in
+        (kept_store sp.free (end sp) sp.free r.value r.memory (omega arith)) in
         by_right (sym (bind_gives (kept_aside ps (grown sp) (store (local sp.free) r.value r.memory))))
         (bind_both (asides_same ps (grown sp) env (store (local sp.free) r.value r.memory)
         (good_grown cenv order (good_kept cenv order g stored)) (among_back (expr_names e) (pair_names ps) (ns sp) i))
@@ -817,13 +811,13 @@ module _ (cenv : CompileEnv) (order : List Namespace) (calls : Calls) (scall : S
         both (record {
           names = ap (λ ys. x ∷ ys) z.names;
           values = (
-            z.kept.locals sp.free (let e : sp.free < suc sp.free = omega arith in e)
+            z.kept.locals sp.free (omega arith)
                 ∙ put_here sp.free r.value r.memory.locals ∙ w.value,
             z.values,
           );
           kept =
-              kept_then stored (kept_less (let e : sp.free ≤ suc sp.free = omega arith in e)
-              (let e : end sp ≤ end sp = omega arith in e) z.kept);
+              kept_then stored (kept_less (omega arith)
+              (omega arith) z.kept);
           out = z.out ∙ w.out;
         }))))
 
@@ -845,32 +839,3 @@ module _ (cenv : CompileEnv) (order : List Namespace) (calls : Calls) (scall : S
           kept = kept_then w.kept z.kept;
           out = z.out ∙ w.out;
         }))))
-
-  -- A filter on the value of an expression has one outcome by names and by slots.
-  pub filter_both : {m : Memory} {h : Eval Tree} (x : Text) (ts : Exprs) (ps : written.Pairs) (sp : StaticEnv)
-      (env : Env) (e : SlotExpr Constant)
-      → Good cenv order sp q env m → AllAmong (row_names ts) (ns sp) → AllAmong (pair_names ps) (ns sp) → Same sp m h e
-      → Same sp m (filtered fs (fs.named x ts ps) sp.escaping
-      (bind h (λ v. bind (values cenv calls ts (around_of cenv order sp l q) env)
-      (λ vs. bind (named_values cenv calls ps (around_of cenv order sp l q) env) (λ ks.
-      gives (v ∷ arguments (filter_parameters fs (fs.named x ts ps)) vs (keywords ps) ks))))))
-      (filtered_by (fs.named x ts ps) sp.escaping
-      (slots.item e (resolved_row cenv order ts sp
-      (resolved_asides cenv order ps sp (filled_some (filter_parameters fs (fs.named x ts ps)) (count ts) (keywords ps)
-      (locals_from sp.free (keywords ps)))))))
-  filter_both {m = m} x ts ps sp env e g front back u =
-      let rest = filled_some (filter_parameters fs (fs.named x ts ps)) (count ts) (keywords ps)
-      (locals_from sp.free (keywords ps)) in
-      filtered_both (fs.named x ts ps) sp.escaping
-      (slots.item e (resolved_row cenv order ts sp (resolved_asides cenv order ps sp rest)))
-      (bind_both u (λ v r w. right_both (in_front r.value)
-      (row_in_front ts sp (λ y s. Rowed sp.free (end sp) m y (in_front r.value s))
-      (λ vs. bind (named_values cenv calls ps (around_of cenv order sp l q) env)
-      (λ ks. gives (v ∷ arguments (filter_parameters fs (fs.named x ts ps)) vs (keywords ps) ks)))
-      (resolved_asides cenv order ps sp rest) (values_same ts sp env r.memory (good_kept cenv order g w.kept) front)
-      (λ vs n len k o.
-      asides_in_front ps sp (λ y s. Rowed sp.free (end sp) m y (in_front r.value (prefixed vs s)))
-      (λ ks. gives (v ∷ arguments (filter_parameters fs (fs.named x ts ps)) vs (keywords ps) ks)) rest
-      (asides_same ps sp env n (good_kept cenv order g (kept_then w.kept k)) back) (λ ks n' z.
-      arguments_end (filter_parameters fs (fs.named x ts ps)) sp v r.value w.value vs (count ts) len (keywords ps) ks
-      z.names z.values (kept_then w.kept (kept_then k z.kept)) (z.out ∙ o ∙ w.out))))))

@@ -5,7 +5,7 @@ use Rattle.std.proofs.Common.{◌≡◌, ℕ, suc, ◌+◌, ◌*◌, ◌≤◌, 
 use Rattle.std.proofs.Common.{rules}
 use Rattle.std.proofs.lemmas.List.{length-map}
 use Rattle.std.specs.Prelude.{flat_map}
-use Rattle.std.specs.List.{AllByRecursion}
+use Rattle.std.specs.List.{AllByRecursion as Each}
 use Rattle.jt_ast.specs.Expressions.{Pairs, no_pairs, pair, weight, pairs_weight, Text}
 use Rattle.jt_ast.specs.Texts.{inserted, all_inserted, ascending}
 use Rattle.jt_ast.specs.Statements.{Parameter, parameters_weight, condition_weight, filter_call_weight, Stmt, data_of}
@@ -16,6 +16,7 @@ use Rattle.jt_ast.specs.Statements.{branch_weight, branch_bound, pairs_count}
 use Rattle.jt_chains.specs.Chain.{Template, BlockBody, blocks_of, blocks_in, blocks_under, MacroBody, macros_in}
 use Rattle.jt_chains.specs.Weights.{templates_weight}
 use Rattle.jt_chains.specs.Uses.{keywords, set_by, set_in, set_under, scope_names_by, scope_names_in, scope_names_under}
+use Rattle.jt_semantics.proofs.EachElement.{each_append, each_map}
 
 abbrev mutual
   pub stmt_free : Stmt → ℕ
@@ -63,7 +64,7 @@ mutual
   stmt_paid (autoescape line on body) = omega (arith, body_paid body)
   stmt_paid (macro line x ps body) = omega (arith, parameters_bound ps, body_paid body)
   stmt_paid (block line x scoped required body) = omega (arith, body_paid body)
-  stmt_paid a0 = omega arith
+  stmt_paid s = omega arith
 
   pub body_paid : (b : Body) → body_free b + 2 * body_bound b ≤ body_weight b
   body_paid end = omega arith
@@ -84,43 +85,29 @@ pub record PaidMacro (w n : ℕ) (m : MacroBody) : Type 0 where
   pub parameters : length m.parameters ≤ n
 
 abbrev pub AllPaid : ℕ → ℕ → List BlockBody → Type 0
-AllPaid w n bs = AllByRecursion (λ b. Paid w n b.body) bs
+AllPaid w n bs = Each (λ b. Paid w n b.body) bs
 
 abbrev pub MacrosPaid : ℕ → ℕ → List MacroBody → Type 0
-MacrosPaid w n ms = AllByRecursion (PaidMacro w n) ms
+MacrosPaid w n ms = Each (PaidMacro w n) ms
 
 paid_more : (w n v m : ℕ) → n ≤ m → w + 2 * m ≤ v + 2 * n → (b : Body) → Paid w n b → Paid v m b
-paid_more w n v m l e b p =
-    let f = p.free in let g = p.bound in record { free = omega (arith, l, e, f); bound = omega (arith, l, g) }
+paid_more w n v m l e b p = search (arith, rules)
 
 pub all_more : (w n v m : ℕ) → n ≤ m → w + 2 * m ≤ v + 2 * n → (bs : List BlockBody) → AllPaid w n bs → AllPaid v m bs
-all_more w n v m l e [] p = tt
-all_more w n v m l e (b ∷ bs) p = (paid_more w n v m l e b.body p.0, all_more w n v m l e bs p.1)
+all_more w n v m l e bs = each_map (λ b. Paid w n b.body) (λ b. Paid v m b.body) bs (λ b. paid_more w n v m l e b.body)
 
 pub macros_more : (w n v m : ℕ) → n ≤ m → w + 2 * m ≤ v + 2 * n → (ms : List MacroBody) → MacrosPaid w n ms
     → MacrosPaid v m ms
-macros_more w n v m l e [] p = tt
-macros_more w n v m l e (b ∷ bs) p = (
-  record {
-    body = paid_more w n v m l e b.body p.0.body;
-    parameters = let f = p.0.parameters in omega (arith, l, f);
-  },
-  macros_more w n v m l e bs p.1,
-)
-
-pub all_append : {A : Type 0} (P : A → Type 0) (xs ys : List A) → AllByRecursion P xs → AllByRecursion P ys
-    → AllByRecursion P (xs ++ ys)
-all_append P [] ys a b = b
-all_append P (x ∷ xs) ys a b = (a.0, all_append P xs ys a.1 b)
+macros_more w n v m l e ms = search (arith, rules, each_map, paid_more)
 
 -- If two parts are paid for by their own weights, both are paid for by the weight of the whole.
 pub both_paid : (w n v m z k : ℕ) → 2 * n ≤ w → 2 * m ≤ v → w + v + 2 * k ≤ z + 2 * n + 2 * m → n + m ≤ k
     → (bs cs : List BlockBody) → AllPaid w n bs → AllPaid v m cs → AllPaid z k (bs ++ cs)
-both_paid w n v m z k p q e l bs cs b c = search (arith, rules, all_append, all_more)
+both_paid w n v m z k p q e l bs cs b c = search (arith, rules, each_append, all_more)
 
 pub both_macros : (w n v m z k : ℕ) → 2 * n ≤ w → 2 * m ≤ v → w + v + 2 * k ≤ z + 2 * n + 2 * m → n + m ≤ k
     → (bs cs : List MacroBody) → MacrosPaid w n bs → MacrosPaid v m cs → MacrosPaid z k (bs ++ cs)
-both_macros w n v m z k p q e l bs cs b c = search (arith, rules, all_append, macros_more)
+both_macros w n v m z k p q e l bs cs b c = search (arith, rules, each_append, macros_more)
 
 module _ (t : Text) where
   mutual
@@ -142,7 +129,7 @@ module _ (t : Text) where
     stmt_blocks (filter_block line fs body) on = search (arith, rules, all_more, body_blocks body on)
     stmt_blocks (autoescape line now body) on = search (arith, rules, all_more, body_blocks body now)
     stmt_blocks (macro line x ps body) on = search (arith, rules, parameters_bound, all_more, body_blocks body on)
-    stmt_blocks a0 on = tt
+    stmt_blocks s on = tt
 
     pub body_blocks : (b : Body) (on : Bool) → AllPaid (body_weight b) (body_bound b) (blocks_in t b on)
     body_blocks end on = tt
@@ -218,17 +205,13 @@ mutual
   stmt_scopes (choose bs other) = search (arith, rules, length-append, branch_scopes bs, body_scopes other)
   stmt_scopes (for_each line xs e c body other) =
       search (arith, rules, length-append, body_scopes body, body_scopes other)
-  stmt_scopes (set_block line x body) =
-      omega (arith, body_scopes body, length-append (set_in body) (scope_names_in body))
+  stmt_scopes (set_block line x body) = search (arith, rules, body_scopes body, length-append)
   stmt_scopes (with_values line ps body) = search (arith, rules, keywords_count, length-append, body_scopes body)
-  stmt_scopes (filter_block line fs body) =
-      omega (arith, body_scopes body, length-append (set_in body) (scope_names_in body))
-  stmt_scopes (autoescape line on body) =
-      omega (arith, body_scopes body, length-append (set_in body) (scope_names_in body))
-  stmt_scopes (block line x scoped required body) =
-      omega (arith, body_scopes body, length-append (set_in body) (scope_names_in body))
+  stmt_scopes (filter_block line fs body) = search (arith, rules, body_scopes body, length-append)
+  stmt_scopes (autoescape line on body) = search (arith, rules, body_scopes body, length-append)
+  stmt_scopes (block line x scoped required body) = search (arith, rules, body_scopes body, length-append)
   stmt_scopes (macro line x ps body) = search (arith, rules, length-map, length-append, body_scopes body)
-  stmt_scopes a0 = omega arith
+  stmt_scopes s = omega arith
 
   body_scopes : (b : Body) → length (set_in b) + length (scope_names_in b) ≤ body_bound b
   body_scopes end = omega arith

@@ -1,9 +1,8 @@
 -- A resolved tree has at most 100 instructions for each token: expressions, rows, statements and
 -- bodies.
 use Rattle.std.proofs.Common.{◌≡◌, ℕ, zero, suc, ◌+◌, ◌*◌, min, ◌≤◌, Bool, true, false, if◌then◌else◌, List, [], ◌∷◌}
-use Rattle.std.proofs.Common.{length, Option, Some, None, arith, refl, length-append, rules}
-use Rattle.std.specs.Option.{is_none}
-use Rattle.std.specs.List.{AllByRecursion}
+use Rattle.std.proofs.Common.{length, Option, None, arith, refl, length-append, rules}
+use Rattle.std.specs.List.{AllByRecursion as Each}
 use Rattle.jt_ids.specs.declared.test_id.TestId.{TestId}
 use Rattle.jt_ast.specs.Expressions.{Expr, Literal, constant, name, group, list_of, map_of, attribute, item, call}
 use Rattle.jt_ast.specs.Expressions.{filter, test, unary, binary, when, choice, Exprs, no_exprs, expr, Pairs, no_pairs}
@@ -51,38 +50,31 @@ expr_some (constant l) = literal_some l
 expr_some (call a ts ps) = omega (arith, expr_some a)
 expr_some (test a n x ts ps) = omega (arith, expr_some a)
 expr_some (binary b x y) = omega (arith, expr_some x)
-expr_some a0 = omega arith
+expr_some e = omega arith
 
 pub is_some_weight : (b : Bool) → 2 ≤ is_weight b
-is_some_weight false = omega arith
-is_some_weight true = omega arith
+is_some_weight b = search (arith, rules)
 
 -- ---- Parts
 
 either_size : (b : Bool) (x y : SlotExpr Constant) (n : ℕ) → expr_size x ≤ n → expr_size y ≤ n
     → expr_size (if b then x else y) ≤ n
-either_size true x y n h k = h
-either_size false x y n h k = k
+either_size b x y n h k = search (arith, rules)
 
 value_size : (s : Option Slot) (k : Constant) → expr_size (value_or s k) ≡ 1
-value_size None k = refl
-value_size (Some s) k = refl
+value_size s k = search (arith, rules)
 
 field_size : (f : Option LoopField) → expr_size (field_from f) ≤ 1
-field_size None = omega arith
-field_size (Some f) = omega arith
+field_size f = search (arith, rules)
 
 turned_size : (b : Bool) (e : SlotExpr Constant) → expr_size (turned_round b e) ≤ expr_size e + 1
-turned_size false e = omega arith
-turned_size true e = omega arith
+turned_size b e = search (arith, rules)
 
 tested_size : (t : Option TestId) (es : SRow Constant) → expr_size (tested_by t es) ≤ row_size es + 1
-tested_size None es = omega arith
-tested_size (Some t) es = omega arith
+tested_size t es = search (arith, rules)
 
 filtered_size : (f : Option ℕ) (b : Bool) (es : SRow Constant) → expr_size (filtered_by f b es) ≤ row_size es + 1
-filtered_size None b es = omega arith
-filtered_size (Some f) b es = omega arith
+filtered_size f b es = search (arith, rules)
 
 form_size : (f : OperatorForm) (a b : SlotExpr Constant) → expr_size (in_form f a b) ≤ expr_size a + expr_size b + 4
 form_size f a b = search (arith, rules)
@@ -109,8 +101,7 @@ none_filled (p ∷ ps) zero ks = search (arith, rules, none_given)
 
 pub filter_few : (cenv : CompileEnv) (f : Option ℕ) → ((i : ℕ) → length (cenv.filters.parameters i) ≤ 3)
     → length (filter_parameters cenv.filters f) ≤ 3
-filter_few cenv None h = omega arith
-filter_few cenv (Some i) h = h i
+filter_few cenv f h = search (arith, rules)
 
 first_size : (n : ℕ) (xs : List Text) → row_size (first_locals n xs) ≡ length xs
 first_size n [] = refl
@@ -156,18 +147,18 @@ CalleeFew q w _ = Unit {0}
 
 module _ (q : ℕ) where
   abbrev AllGivenFew : Sources → List (Text × Definition) → Type 0
-  AllGivenFew sources gs = AllByRecursion (λ g. GivenFew sources q g.1) gs
+  AllGivenFew sources gs = Each (λ g. GivenFew sources q g.1) gs
 
   given_few : (sources : Sources) (gs : List (Text × Definition)) (x : Text) → AllGivenFew sources gs
       → CalleeFew q 1 (named_alone sources (given_to x gs) x)
   given_few sources [] x h = search (arith, rules)
   given_few sources (g ∷ gs) x h = search (arith, rules, given_few sources gs x h.1)
 
-  of_few : (sources : Sources) (n x : Text) (ms : List MacroBody) → AllByRecursion (λ m. length m.parameters ≤ q) ms
+  of_few : (sources : Sources) (n x : Text) (ms : List MacroBody) → Each (λ m. length m.parameters ≤ q) ms
       → CalleeFew q 3 (of_library sources n (public_macro x ms))
   of_few sources n x ms h = by (is_private x) (looked ms h)
     where
-      looked : (ns : List MacroBody) → AllByRecursion (λ m. length m.parameters ≤ q) ns
+      looked : (ns : List MacroBody) → Each (λ m. length m.parameters ≤ q) ns
           → CalleeFew q 3 (of_library sources n (macro_of x ns))
       looked [] f = tt
       looked (m ∷ ns) f = search (arith, rules, looked ns f.1)
@@ -201,12 +192,11 @@ module _ (cenv : CompileEnv) (order : List Namespace) where
 
   body_sized : (h : Namespace) (on : Bool) (i : Option ℕ) (es : SRow Constant) → row_size es ≤ 200
       → expr_size (invoked_body cenv order h on i es) ≤ 203
-  body_sized h on None es k = omega arith
-  body_sized h on (Some i) es k = omega (arith, k)
+  body_sized h on i es k = search (arith, rules)
 
   super_sized : (sp : StaticEnv) (p : Option Part) → HasFewNames cenv order sp.namespace
       → expr_size (invoked_super cenv order sp p) ≤ 203
-  super_sized sp a1 k = search (arith, rules, body_sized, first_size, parameters_few)
+  super_sized sp p k = search (arith, rules, body_sized, first_size, parameters_few)
 
   invoked_sized : (c : Callee) (sp : StaticEnv) (row asides : SRow Constant → SRow Constant) (n : ℕ) (ks : Table)
       (u w v : ℕ)
@@ -277,8 +267,7 @@ module _ (cenv : CompileEnv) (order : List Namespace) where
   condition_sized : (xs : Targets) (c : Option Expr) (sp : StaticEnv) (n : ℕ) → IsFew cenv order sp.namespace
       → targets_size xs ≤ 1 + n
       → condition_size xs (resolved_condition cenv order c sp) ≤ 6 + n + 100 * condition_weight c
-  condition_sized xs None sp n k h = omega arith
-  condition_sized xs (Some c) sp n k h = omega (arith, h, resolved_sized c sp k)
+  condition_sized xs c sp n k h = search (arith, rules, resolved_sized)
 
   filters_sized : (fs : List FilterCall) (sp : StaticEnv) (e : SlotExpr Constant) → IsFew cenv order sp.namespace
       → expr_size (resolved_filters cenv order fs sp e) ≤ expr_size e + 100 * filter_call_weight fs
@@ -293,9 +282,7 @@ module _ (cenv : CompileEnv) (order : List Namespace) where
 
   placed_sized : (sp : StaticEnv) (i : Option ℕ) (x : Text) (t : Table) → HasFewNames cenv order sp.namespace
       → body_size (placed_body cenv order sp i x t) ≤ 201
-  placed_sized sp None x t k = omega arith
-  placed_sized sp (Some i) x t k =
-      omega (arith, reads_size t (block_parameters cenv order sp.namespace x), parameters_few sp.namespace x k)
+  placed_sized sp i x t k = search (arith, rules, reads_size, parameters_few)
 
   include_sized : (sp : StaticEnv) (line : ℕ) (n : Text) (missing c : Bool) (b : Bool)
       → length (names cenv order (a_chain n)) ≤ 200
@@ -329,8 +316,7 @@ module _ (cenv : CompileEnv) (order : List Namespace) where
           all_sized other sp k,
         )
     stmt_sized (set line xs e) sp k = omega (arith, set_size sp.table xs, resolved_sized e sp k)
-    stmt_sized (set_block line x body) sp k =
-        omega (arith, scope_sized body sp (all_sized body (bound_all (set_in body) sp) k))
+    stmt_sized (set_block line x body) sp k = grind (arith, scope_sized, all_sized body)
     stmt_sized (with_values line ps body) sp k =
         search (
           arith,
@@ -351,10 +337,9 @@ module _ (cenv : CompileEnv) (order : List Namespace) where
           scope_sized body (record sp { escaping = on })
               (all_sized body (bound_all (set_in body) (record sp { escaping = on })) k),
         )
-    stmt_sized (include line n missing with_context) sp k =
-        omega (arith, include_sized sp line n missing with_context (is_none (cenv.sources n)) ((k.names (a_chain n)).0))
+    stmt_sized (include line n missing with_context) sp k = search (arith, rules, include_sized)
     stmt_sized (block line x is required body) sp k = search (arith, rules, placed_sized)
-    stmt_sized a0 sp k = omega arith
+    stmt_sized s sp k = omega arith
 
     pub all_sized : (b : Body) (sp : StaticEnv) → IsFew cenv order sp.namespace
         → body_size (resolved_body cenv order b sp) + 2 * length (set_in b) ≤ 100 * body_own b

@@ -1,4 +1,5 @@
 pub mod Among
+pub mod EachElement
 pub mod TestTemplates
 mod MeaningExamples
 mod RefusalExamples

@@ -1,8 +1,7 @@
 -- A resolved tree uses at most the locals that are in use before it, and one more for each token.
-use Rattle.std.proofs.Common.{◌≡◌, ℕ, zero, suc, ◌+◌, max, ◌≤◌, Bool, true, false, if◌then◌else◌, List, [], ◌∷◌, length}
-use Rattle.std.proofs.Common.{Option, Some, None, arith, refl, length-append, rules}
-use Rattle.std.specs.Option.{is_none}
-use Rattle.std.specs.List.{AllByRecursion}
+use Rattle.std.proofs.Common.{◌≡◌, ℕ, zero, suc, ◌+◌, max, ◌≤◌, Bool, if◌then◌else◌, List, [], ◌∷◌, length}
+use Rattle.std.proofs.Common.{Option, Some, None, arith, length-append, rules}
+use Rattle.std.specs.List.{AllByRecursion as Each}
 use Rattle.jt_ids.specs.declared.test_id.TestId.{TestId}
 use Rattle.jt_ast.specs.Expressions.{Expr, constant, name, group, list_of, map_of, attribute, item, call, filter, test}
 use Rattle.jt_ast.specs.Expressions.{unary, binary, when, choice, Exprs, no_exprs, expr, Pairs, no_pairs, pair, weight}
@@ -41,7 +40,7 @@ mutual
   by_few : (s : Stmt) → length (set_by s) ≤ stmt_own s
   by_few (choose bs other) = omega (arith, under_few bs, in_few other, length-append (set_under bs) (set_in other))
   by_few (for_each line xs e c body other) = omega (arith, in_few other)
-  by_few a0 = omega arith
+  by_few s = omega arith
 
   pub in_few : (b : Body) → length (set_in b) ≤ body_own b
   in_few end = omega arith
@@ -49,13 +48,12 @@ mutual
 
   under_few : (bs : Branches) → length (set_under bs) ≤ branch_own bs
   under_few no_branches = omega arith
-  under_few (branch line c body rest) =
-      omega (arith, in_few body, under_few rest, length-append (set_in body) (set_under rest))
+  under_few (branch line c body rest) = search (arith, rules, in_few body, under_few rest, length-append)
 
 module _ (n : ℕ) (some : 1 ≤ n) where
   -- Holds if each local of the table is below the limit.
   abbrev pub Below : Table → Type 0
-  Below t = AllByRecursion (λ e. slot_locals e.1 ≤ n) t
+  Below t = Each (λ e. slot_locals e.1 ≤ n) t
 
   abbrev SlotBelow : Option Slot → Type 0
   SlotBelow None = Unit {0}
@@ -70,8 +68,7 @@ module _ (n : ℕ) (some : 1 ≤ n) where
   of_below (b ∷ bs) x h = search (arith, rules, of_below bs x h.1)
 
   value_local : (s : Option Slot) (k : Constant) → SlotBelow s → expr_locals (value_or s k) ≤ n
-  value_local None k h = omega arith
-  value_local (Some s) k h = h
+  value_local s k h = search (arith, rules)
 
   from_below : (m : ℕ) (xs : List Text) → m + length xs ≤ n → Below (locals_from m xs)
   from_below m [] h = tt
@@ -86,25 +83,20 @@ module _ (n : ℕ) (some : 1 ≤ n) where
   bound_below (x ∷ xs) m t h g = bound_below xs (suc m) ((x, local m) ∷ t) (omega (arith, h)) (omega (arith, h), g)
 
   field_local : (f : Option LoopField) → expr_locals (field_from f) ≡ 0
-  field_local None = refl
-  field_local (Some f) = refl
+  field_local f = search (arith, rules)
 
   either_local : (b : Bool) (x y : SlotExpr Constant) → expr_locals x ≤ n → expr_locals y ≤ n
       → expr_locals (if b then x else y) ≤ n
-  either_local true x y h k = h
-  either_local false x y h k = k
+  either_local b x y h k = search (arith, rules)
 
   turned_local : (b : Bool) (e : SlotExpr Constant) → expr_locals (turned_round b e) ≤ expr_locals e
-  turned_local false e = omega arith
-  turned_local true e = omega arith
+  turned_local b e = search (arith, rules)
 
   tested_local : (t : Option TestId) (es : SRow Constant) → expr_locals (tested_by t es) ≤ row_locals es
-  tested_local None es = omega arith
-  tested_local (Some t) es = omega arith
+  tested_local t es = search (arith, rules)
 
   filtered_local : (f : Option ℕ) (b : Bool) (es : SRow Constant) → expr_locals (filtered_by f b es) ≤ row_locals es
-  filtered_local None b es = omega arith
-  filtered_local (Some f) b es = omega arith
+  filtered_local f b es = search (arith, rules)
 
   form_local : (f : OperatorForm) (a b : SlotExpr Constant)
       → expr_locals (in_form f a b) ≤ max (expr_locals a) (expr_locals b)
@@ -172,11 +164,10 @@ module _ (n : ℕ) (some : 1 ≤ n) where
       (few : (h : Namespace) (x : Text) → length (block_parameters cenv order h x) ≤ n) where
     body_localed : (h : Namespace) (on : Bool) (i : Option ℕ) (es : SRow Constant) → row_locals es ≤ n
         → expr_locals (invoked_body cenv order h on i es) ≤ n
-    body_localed h on None es k = omega arith
-    body_localed h on (Some i) es k = k
+    body_localed h on i es k = search (arith, rules)
 
     super_localed : (sp : StaticEnv) (p : Option Part) → expr_locals (invoked_super cenv order sp p) ≤ n
-    super_localed sp a1 = search (arith, rules, body_localed, first_local)
+    super_localed sp p = search (arith, rules, body_localed, first_local)
 
     invoked_localed : (c : Callee) (sp : StaticEnv) (row asides : SRow Constant → SRow Constant) (m : ℕ) (ks : Table)
         → Below ks → Front row → Front asides → expr_locals (invoked cenv order c sp row asides m ks) ≤ n
@@ -191,8 +182,7 @@ module _ (n : ℕ) (some : 1 ≤ n) where
       localed (group a) sp t k = localed a sp t (omega (arith, k))
       localed (list_of ts) sp t k = row_localed ts sp t (omega (arith, k)) slots.none (omega arith)
       localed (map_of ps) sp t k = entries_localed ps sp t (omega (arith, k))
-      localed (attribute a x) sp t k =
-          search (arith, rules, either_local, field_local, localed a sp t (omega (arith, k)))
+      localed (attribute a x) sp t k = search (arith, rules, either_local, field_local, localed a sp t)
       localed (item a b) sp t k = omega (arith, localed a sp t (omega (arith, k)), localed b sp t (omega (arith, k)))
       localed (call f ts ps) sp t k =
           search (arith, rules, invoked_localed, from_below, names_few, row_localed ts sp t, asides_localed ps sp t)
@@ -218,27 +208,23 @@ module _ (n : ℕ) (some : 1 ≤ n) where
       pub row_localed : (ts : Exprs) (sp : StaticEnv) → Below sp.table → sp.free + exprs_weight ts ≤ n
           → (b : SRow Constant) → row_locals b ≤ n → row_locals (resolved_row cenv order ts sp b) ≤ n
       row_localed no_exprs sp t k b h = h
-      row_localed (expr a ts) sp t k b h =
-          omega (arith, localed a sp t (omega (arith, k)), row_localed ts sp t (omega (arith, k)) b h)
+      row_localed (expr a ts) sp t k b h = search (arith, rules, localed a sp t, row_localed ts sp t)
 
       pub asides_localed : (ps : Pairs) (sp : StaticEnv) → Below sp.table → sp.free + pairs_weight 2 ps ≤ n
           → (b : SRow Constant) → row_locals b ≤ n → row_locals (resolved_asides cenv order ps sp b) ≤ n
       asides_localed no_pairs sp t k b h = h
-      asides_localed (pair x a ps) sp t k b h =
-          omega (arith, k, localed a sp t (omega (arith, k)), asides_localed ps (grown sp) t (omega (arith, k)) b h)
+      asides_localed (pair x a ps) sp t k b h = search (arith, rules, localed a sp t, asides_localed ps)
 
       entries_localed : (ps : Pairs) (sp : StaticEnv) → Below sp.table → sp.free + pairs_weight 3 ps ≤ n
           → row_locals (resolved_entries cenv order ps sp) ≤ n
       entries_localed no_pairs sp t k = omega arith
-      entries_localed (pair x a ps) sp t k =
-          omega (arith, localed a sp t (omega (arith, k)), entries_localed ps sp t (omega (arith, k)))
+      entries_localed (pair x a ps) sp t k = search (arith, rules, localed a sp t, entries_localed ps sp t)
 
     -- ---- Statements: the names that a scope sets have their locals before its statements
 
     condition_localed : (c : Option Expr) (sp : StaticEnv) → Below sp.table → sp.free + condition_weight c ≤ n
         → condition_locals (resolved_condition cenv order c sp) ≤ n
-    condition_localed None sp t k = omega arith
-    condition_localed (Some c) sp t k = localed c sp t (omega (arith, k))
+    condition_localed c sp t k = search (arith, rules, localed)
 
     filters_localed : (fs : List FilterCall) (sp : StaticEnv) (e : SlotExpr Constant) → Below sp.table
         → sp.free + filter_call_weight fs ≤ n → expr_locals e ≤ n
@@ -261,22 +247,18 @@ module _ (n : ℕ) (some : 1 ≤ n) where
         → sp.free + pairs_weight 2 ps ≤ n → body_locals b ≤ n
         → body_locals (resolved_values cenv order ps sp line b) ≤ n
     values_localed no_pairs sp line b t k h = h
-    values_localed (pair x e ps) sp line b t k h =
-        omega (arith, k, localed e sp t (omega (arith, k)), values_localed ps (grown sp) line b t (omega (arith, k)) h)
+    values_localed (pair x e ps) sp line b t k h = search (arith, rules, localed, values_localed ps)
 
     placed_localed : (sp : StaticEnv) (i : Option ℕ) (x : Text) (t : Table) → Below t
         → body_locals (placed_body cenv order sp i x t) ≤ n
-    placed_localed sp None x t h = omega arith
-    placed_localed sp (Some i) x t h = omega (arith, reads_local t (block_parameters cenv order sp.namespace x) h)
+    placed_localed sp i x t h = search (arith, rules, reads_local)
 
     table_below : (b : Bool) (sp : StaticEnv) → Below sp.table
         → Below (if b then sp.table else globals cenv order sp.namespace)
-    table_below true sp t = t
-    table_below false sp t = globals_below (first_slot cenv order sp.namespace) (names cenv order sp.namespace)
+    table_below b sp t = search (arith, rules, globals_below)
 
     seen_below : (b : Bool) (t : Table) → Below t → Below (if b then t else [])
-    seen_below true t h = h
-    seen_below false t h = tt
+    seen_below b t h = search (arith, rules)
 
     include_localed : (sp : StaticEnv) (line : ℕ) (m : Text) (missing c : Bool) (b : Bool) → Below sp.table
         → body_locals (if b then left_out sp line missing
@@ -341,10 +323,9 @@ module _ (n : ℕ) (some : 1 ≤ n) where
           scope_localed body inner (t) (omega (arith, k))
           (all_localed body (bound_all (set_in body) inner)
           (bound_below (set_in body) (sp.free) (sp.table) (omega (arith, k, in_few body)) (t)) (omega (arith, k)))
-      stmt_localed (include line m missing with_context) sp t k =
-          include_localed sp line m missing with_context (is_none (cenv.sources m)) t
+      stmt_localed (include line m missing with_context) sp t k = search (arith, rules, include_localed)
       stmt_localed (block line x is required body) sp t k = search (arith, rules, placed_localed, table_below)
-      stmt_localed a0 sp t k = omega arith
+      stmt_localed s sp t k = omega arith
 
       pub all_localed : (b : Body) (sp : StaticEnv) → Below sp.table → sp.free + body_own b ≤ n + length (set_in b)
           → body_locals (resolved_body cenv order b sp) ≤ n

@@ -1,8 +1,7 @@
 -- A text or a fault at depth n stays a result at greater depths. `Approximates g h` states that h
 -- equals g, or that g is too deep.
 use Rattle.std.proofs.Common.{◌≡◌, ◌≤◌, ◌+◌, ◌-◌, ℕ, zero, suc, refl, subst, arith, rules}
-use Rattle.std.specs.Prelude.{Bool, true, false, List, [], ◌∷◌, Option, Some, None, if◌then◌else◌}
-use Rattle.std.specs.Option.{is_none}
+use Rattle.std.specs.Prelude.{Bool, List, [], ◌∷◌, Option, Some, None, if◌then◌else◌}
 use Rattle.jt_value.specs.Tree as tree
 use Rattle.jt_value.specs.Tree.{Tree}
 use Rattle.jt_value.specs.Pairs.{Pairs}
@@ -19,12 +18,12 @@ use Rattle.jt_ast.specs.Statements.{FilterCall, Stmt, data_of, print, choose, fo
 use Rattle.jt_ast.specs.Statements.{filter_block, autoescape, macro, include, import_as, import_from, extends, block}
 use Rattle.jt_ast.specs.Statements.{Body, end, stmt, Branches, no_branches, branch}
 use Rattle.jt_semantics.specs.Env.{Env, inside, top}
-use Rattle.jt_chains.specs.Chain.{Namespace, Template, BlockBody, bodies, from_given, Callee, a_macro, a_range}
+use Rattle.jt_chains.specs.Chain.{Namespace, Template, BlockBody, bodies, Callee, a_macro, a_range}
 use Rattle.jt_chains.specs.Chain.{a_super, a_block, a_cycle, no_callee, is_loop}
 use Rattle.jt_eval.specs.Loops.{Loop}
 use Rattle.jt_eval.specs.Filters.{Filters}
 use Rattle.jt_rules.specs.CompileEnv.{CompileEnv}
-use Rattle.jt_semantics.specs.EvalContext.{Placement, EvalContext, State, Invocation, the_chain, Calls, tag}
+use Rattle.jt_semantics.specs.EvalContext.{Placement, EvalContext, State, Invocation, Calls, tag}
 use Rattle.jt_semantics.specs.Laws.{Stays}
 use Rattle.jt_semantics.specs.Meaning.{turns, eval_loop, outside, is_set, kept, through, meaning, meanings, chosen}
 use Rattle.jt_semantics.specs.Meaning.{sets, rendered, eval_invocation, calls_below, mean}
@@ -42,25 +41,20 @@ bound {g = deeper} same fs = less
 
 if_under : {A : Type 0} (b : Bool) {g h f k : Eval A} → Approximates g h → Approximates f k
     → Approximates (if b then g else f) (if b then h else k)
-if_under true u v = u
-if_under false u v = v
+if_under b u v = search (arith, rules)
 
 at_under : {A : Type 0} {g h : Eval A} (p : Place) → Approximates g h → Approximates (at p g) (at p h)
-at_under p less = less
-at_under p same = same
+at_under p a1 = search (arith, rules, less, same)
 
 turned_under : (n : Bool) {g h : Eval Tree} → Approximates g h → Approximates (turned n g) (turned n h)
-turned_under false u = u
-turned_under true u = bound u (λ v. same)
+turned_under n u = search (arith, rules, bound, same)
 
 asked_under : (t : Option TestId) {g h : Eval (List Tree)} → Approximates g h → Approximates (asked t g) (asked t h)
-asked_under None u = same
-asked_under (Some t) u = bound u (λ vs. same)
+asked_under t u = search (arith, rules, same, bound)
 
 filtered_under : (fs : Filters) (f : Option ℕ) (on : Bool) {g h : Eval (List Tree)} → Approximates g h
     → Approximates (filtered fs f on g) (filtered fs f on h)
-filtered_under fs None on u = same
-filtered_under fs (Some f) on u = bound u (λ vs. same)
+filtered_under fs f on u = search (arith, rules, same, bound)
 
 combined_under : (f : OperatorForm) {g h g' h' : Eval Tree} → Approximates g g' → Approximates h h'
     → Approximates (combined f g h) (combined f g' h')
@@ -88,12 +82,10 @@ gone_under f g us j k os xs p (v ∷ vs) st = turns_under f g us xs p (v ∷ vs)
 module _ (cenv : CompileEnv) (c d : Calls) (under : (x : Invocation) → Approximates (c x) (d x)) where
   block_under : (h : Namespace) (bs : List BlockBody) (env : Env)
       → Approximates (block_text c h bs env) (block_text d h bs env)
-  block_under h [] env = same
-  block_under h (b ∷ bs) env = under _
+  block_under h bs env = search (arith, rules, same)
 
   super_under : (h : Namespace) (q : Option Placement) → Approximates (super_text c h q) (super_text d h q)
-  super_under h None = same
-  super_under h (Some q) = block_under h (from_given q.behind) q.env
+  super_under h q = search (arith, rules, same, block_under)
 
   called_under : (f : Callee) (a : EvalContext) (env : Env) {g g' : Eval (List Tree)} {k k' : Eval Pairs}
       → Approximates g g' → Approximates k k' → Approximates (called cenv c f a env g k) (called cenv d f a env g' k')
@@ -167,8 +159,7 @@ module _ (cenv : CompileEnv) (c d : Calls) (under : (x : Invocation) → Approxi
         gone_under (λ l. meanings cenv c body (record a { loop = l }))
         (λ l. meanings cenv d body (record a { loop = l })) (λ l st. meanings_under body (record a { loop = l }) st)
         (meanings cenv c other a) (meanings cenv d other a) (λ st. meanings_under other a st) xs (tag a line) vs st)
-    meaning_under (set line xs e) a st =
-        bound (at_under (tag a line) (bound (value_under e a st.env) (λ v. same))) (λ s. same)
+    meaning_under (set line xs e) a st = search (arith, rules, bound, at_under, value_under, same)
     meaning_under (set_block line x body) a st = bound (bound (meanings_under body a _) (λ r. same)) (λ v. same)
     meaning_under (with_values line ps body) a st =
         bound (at_under (tag a line) (named_under ps a st.env)) (λ bs. bound (meanings_under body a _) (λ r. same))
@@ -176,8 +167,7 @@ module _ (cenv : CompileEnv) (c d : Calls) (under : (x : Invocation) → Approxi
         search (arith, rules, bound, same, at_under, through_under, meanings_under body a)
     meaning_under (autoescape line on body) a st = bound (meanings_under body _ _) (λ r. same)
     meaning_under (macro line x ps body) a st = same
-    meaning_under (include line n ignore_missing with_context) a st =
-        if_under (is_none (cenv.sources n)) same (bound (under _) (λ s. same))
+    meaning_under (include line n ignore_missing with_context) a st = search (arith, rules, if_under, same, bound)
     meaning_under (import_as line n new) a st = same
     meaning_under (import_from line n news) a st = same
     meaning_under (extends line n) a st = same
@@ -217,13 +207,11 @@ calls_under cenv (suc n) x = performed_under cenv (calls_below cenv n) (calls_be
 -- The meaning of a chain at depth n approximates the meaning at depth n + 1.
 pub mean_under : (cenv : CompileEnv) (entry : Text) (context : Pairs) (n : ℕ)
     → Approximates (mean cenv entry context n) (mean cenv entry context (suc n))
-mean_under cenv entry context n =
-    performed_under cenv (calls_below cenv n) (calls_below cenv (suc n)) (calls_under cenv n) (the_chain entry context)
+mean_under cenv entry context n = search (arith, rules, performed_under, calls_under)
 
 -- The meaning of a chain approximates the meaning at every greater depth.
 more_under : {g h k : Eval Text} → Approximates g h → Approximates h k → Approximates g k
-more_under less v = less
-more_under same v = v
+more_under a0 v = search (arith, rules, less)
 
 later_under : (cenv : CompileEnv) (entry : Text) (context : Pairs) (n k m : ℕ) → m ≡ k + n
     → Approximates (mean cenv entry context n) (mean cenv entry context m)

@@ -1,8 +1,8 @@
 -- If the sources of chains read or bind few names, each chain has few names.
-use Rattle.std.proofs.Common.{◌≡◌, ℕ, zero, suc, ◌≤◌, ◌<◌, Bool, true, false, if◌then◌else◌, List, [], ◌∷◌, ◌++◌}
-use Rattle.std.proofs.Common.{length, map, Option, Some, None, refl, sym, ap, ◌∙◌, subst, arith, inl, inr, rules}
+use Rattle.std.proofs.Common.{◌≡◌, ℕ, zero, suc, ◌≤◌, ◌<◌, Bool, true, false, if◌then◌else◌, List, [], ◌∷◌}
+use Rattle.std.proofs.Common.{length, map, Option, refl, sym, ap, subst, arith, inl, inr, rules}
 use Rattle.std.specs.Prelude.{◌||◌, flat_map, Contains, slice_index_or}
-use Rattle.std.specs.List.{AllByRecursion}
+use Rattle.std.specs.List.{AllByRecursion as Each}
 use Rattle.std.specs.declared.cmp.Ordering.{Ordering}
 use Rattle.std.specs.declared.cmp.Ordering.TheVariants.{Less}
 use Rattle.std.specs.Ordering.{nat_cmp, is_lt}
@@ -10,8 +10,8 @@ use Rattle.std.specs.Cmp.Lexicographic.{slice_cmp}
 use Rattle.std.specs.Str.{bytes_eq}
 use Rattle.std.proofs.lemmas.Cmp.{nat_list_cmp_total}
 use Rattle.std.proofs.lemmas.Map.Text.{is_eq-slice_cmp}
-use Rattle.std.proofs.lemmas.Bool.{false_from_ne_true}
-use Rattle.jt_ast.specs.Texts.{among, repeated, inserted, all_inserted, ascending}
+use Rattle.std.proofs.lemmas.Bool.{false_from_ne_true, or_parts, or_right}
+use Rattle.jt_ast.specs.Texts.{repeated, inserted, all_inserted, ascending}
 use Rattle.jt_ast.specs.Expressions.{Text}
 use Rattle.jt_ast.specs.Statements.{data_of, print, choose, for_each, set, set_block, with_values}
 use Rattle.jt_ast.specs.Statements.{filter_block, autoescape, macro, include, import_as, import_from, extends, block}
@@ -22,22 +22,22 @@ use Rattle.jt_chains.specs.Includes.{InOrder}
 use Rattle.jt_chains.specs.Weights.{NamesFew}
 use Rattle.jt_chains.specs.Uses.{stmt_names, body_names, own_names, scope_names}
 use Rattle.jt_chains.specs.View.{Seen, sources_of}
-use Rattle.jt_eval.specs.TheFilters.{the_filters, filter_of, parameters_of, with_defaults, defaults}
+use Rattle.jt_eval.specs.TheFilters.{the_filters, with_defaults, defaults}
 use Rattle.jt_ids.specs.declared.filter_id.FilterId.{FilterId}
-use Rattle.jt_ids.specs.FilterTable.{argument_names}
 use Rattle.jt_rules.specs.CompileEnv.{CompileEnv, cenv_of}
-use Rattle.jt_rules.specs.UseSites.{parameter_names, outside, stmt_use_sites, body_use_sites}
+use Rattle.jt_rules.specs.Rules.{parameter_names, chain_uses}
+use Rattle.jt_uses.specs.Uses.{outside, body_uses}
 use Rattle.jt_semantics.specs.Ascends.{IsBefore, Above, Ascends}
 use Rattle.jt_semantics.specs.Layout.{names_in, names}
 use Rattle.jt_semantics.proofs.DefinedNames.{given_all}
 use Rattle.jt_semantics.proofs.ChainOrder.{libraries_stand}
 use Rattle.jt_semantics.specs.Measure.{HasFewNames, IsFew, AreFew}
-use Rattle.jt_semantics.proofs.Among.{Among, AllAmong}
+use Rattle.jt_semantics.proofs.Among.{Among, AllAmong, among_front, among_back, each_among, all_among, among_both}
+use Rattle.jt_semantics.proofs.Among.{among_has}
 use Rattle.jt_semantics.proofs.KeptUses.{AllKeep, ChainsKeep, front, back}
-use Rattle.jt_semantics.proofs.EnvLookup.{namespace_same, namespace_is, same_text, is_same, no_both, among_front}
-use Rattle.jt_semantics.proofs.EnvLookup.{among_back, each_among}
-use Rattle.jt_semantics.proofs.Scopes.{ascending_among, all_among, templates_bind}
-use Rattle.jt_semantics.proofs.FreeNameWeights.{all_append}
+use Rattle.jt_semantics.proofs.EnvLookup.{namespace_same, namespace_is, same_text, is_same, no_both, each_listed}
+use Rattle.jt_semantics.proofs.Scopes.{ascending_among, templates_bind}
+use Rattle.jt_semantics.proofs.EachElement.{each_append}
 
 -- ---- The names in order ascend strictly
 
@@ -49,7 +49,7 @@ inserted_above x z [] l h = (l, tt)
 inserted_above x z (y ∷ ys) l h = search (arith, rules, inserted_above x y ys, behind)
 
 inserted_ascends : (x : Text) (ns : List Text) → Ascends ns → Ascends (inserted x ns)
-inserted_ascends x a1 h = search (arith, rules, inserted_above, behind)
+inserted_ascends x ns h = search (arith, rules, inserted_above, behind)
 
 all_ascend : (xs ns : List Text) → Ascends ns → Ascends (all_inserted xs ns)
 all_ascend [] ns h = h
@@ -72,8 +72,7 @@ pub less_is : (o : Ordering) → is_lt o ≡ true → o ≡ Less
 less_is o e = search (arith, rules)
 
 pub before_trans : (x y z : Text) → IsBefore x y → IsBefore y z → IsBefore x z
-before_trans x y z a b =
-    ap is_lt (nat_list_cmp_total.trans x y z (less_is (slice_cmp nat_cmp x y) a) (less_is (slice_cmp nat_cmp y z) b))
+before_trans x y z a b = search (arith, rules, nat_list_cmp_total, less_is)
 
 never_before : (x : Text) → IsBefore x x → ⊥
 never_before x a = search (arith, rules, less_is, nat_list_cmp_total)
@@ -88,8 +87,7 @@ above_differs z [] h = (λ i. i, tt)
 above_differs z (y ∷ ys) h = (λ i. never_before z (above_all z (y ∷ ys) h z i), above_differs y ys h.1)
 
 pub ascends_differs : (ns : List Text) → Ascends ns → Differs ns
-ascends_differs [] h = tt
-ascends_differs (y ∷ ys) h = above_differs y ys h
+ascends_differs ns h = search (arith, rules, above_differs)
 
 removed : Text → List Text → List Text
 removed x [] = []
@@ -98,25 +96,12 @@ removed x (y ∷ ys) = if bytes_eq y x then ys else y ∷ removed x ys
 removed_len : (x : Text) (ns : List Text) → Among x ns → suc (length (removed x ns)) ≤ length ns
 unfolding removed
 removed_len x [] i = absurd i
-removed_len x (y ∷ ys) i = through (bytes_eq y x) refl i (removed_len x ys)
-  where
-    through : (b : Bool) → bytes_eq y x ≡ b → Among x (y ∷ ys) → (Among x ys → suc (length (removed x ys)) ≤ length ys)
-        → suc (length (if b then ys else y ∷ removed x ys)) ≤ suc (length ys)
-    through true e k r = omega arith
-    through false e (inl p) r = absurd (no_both (is_same y x p) e)
-    through false e (inr k) r = let l = r k in omega (arith, l)
+removed_len x (y ∷ ys) i = search (arith, rules, removed_len x ys, removed, no_both, is_same)
 
 removed_keeps : (x z : Text) (ns : List Text) → (x ≡ z → ⊥) → Among z ns → Among z (removed x ns)
 unfolding removed
 removed_keeps x z [] d i = absurd i
-removed_keeps x z (y ∷ ys) d i = through (bytes_eq y x) refl i (removed_keeps x z ys d)
-  where
-    through : (b : Bool) → bytes_eq y x ≡ b → Among z (y ∷ ys) → (Among z ys → Among z (removed x ys))
-        → Among z (if b then ys else y ∷ removed x ys)
-    through true e (inl p) r = absurd (d (sym (same_text y x e) ∙ p))
-    through true e (inr k) r = k
-    through false e (inl p) r = inl p
-    through false e (inr k) r = inr (r k)
+removed_keeps x z (y ∷ ys) d i = search (arith, rules, removed_keeps x z ys d, removed, same_text)
 
 pub no_more : (xs ns : List Text) → Differs xs → AllAmong xs ns → length xs ≤ length ns
 no_more [] ns d a = omega arith
@@ -134,77 +119,55 @@ contained ns x c = at ns c.0 c.1 c.2
     at : (ns : List Text) (k : ℕ) → k < length ns → slice_index_or ns k x ≡ x → Among x ns
     at [] k l e = absurd (omega (arith, l))
     at (y ∷ ys) zero l e = inl e
-    at (y ∷ ys) (suc k) l e = inr (at ys k (let m : k < length ys = omega (arith, l) in m) e)
+    at (y ∷ ys) (suc k) l e = inr (at ys k (omega (arith, l)) e)
 
-all_contained : (ns xs : List Text) → AllByRecursion (λ x. Contains ns x) xs → AllAmong xs ns
+all_contained : (ns xs : List Text) → Each (λ x. Contains ns x) xs → AllAmong xs ns
 all_contained ns [] h = tt
 all_contained ns (x ∷ xs) h = (contained ns x h.0, all_contained ns xs h.1)
 
 -- ---- The names of a chain come from the chains of the order
 
-both_among : (xs ys ns : List Text) → AllAmong xs ns → AllAmong ys ns → AllAmong (xs ++ ys) ns
-both_among [] ys ns a b = b
-both_among (x ∷ xs) ys ns a b = (a.0, both_among xs ys ns a.1 b)
-
 flat_from : (g : Namespace → List Text) (ms : List Namespace) (ns : List Text) → ((m : Namespace) → AllAmong (g m) ns)
     → AllAmong (flat_map g ms) ns
 flat_from g [] ns h = tt
-flat_from g (m ∷ ms) ns h = both_among (g m) (flat_map g ms) ns (h m) (flat_from g ms ns h)
+flat_from g (m ∷ ms) ns h = among_both (g m) (flat_map g ms) ns (h m) (flat_from g ms ns h)
 
 pub names_from : (cenv : CompileEnv) (ns : List Text) (hs : List Namespace)
-    → AllByRecursion (λ h. AllAmong (own_names cenv.sources h) ns) hs → (h : Namespace)
+    → Each (λ h. AllAmong (own_names cenv.sources h) ns) hs → (h : Namespace)
     → AllAmong (names_in cenv hs h) ns
 names_from cenv ns [] a h = tt
 names_from cenv ns (k ∷ ks) a h =
-    search (arith, rules, names_from cenv ns ks a.1, ascending_among, both_among, namespace_same, flat_from)
+    search (arith, rules, names_from cenv ns ks a.1, ascending_among, among_both, namespace_same, flat_from)
 
 -- ---- The parameters of a macro are distinct
 
 repeated_differs : (xs : List Text) → repeated xs ≡ false → Differs xs
 repeated_differs [] e = tt
-repeated_differs (x ∷ xs) e =
-    let p = or_false (among x xs) e in (λ i. no_both (is_among xs i) p.0, repeated_differs xs p.1)
-  where
-    or_false : (b : Bool) {c : Bool} → (b || c) ≡ false → (b ≡ false) × (c ≡ false)
-    or_false a0 e = search (arith, rules)
-
-    is_among : (ys : List Text) → Among x ys → among x ys ≡ true
-    is_among [] i = absurd i
-    is_among (y ∷ ys) (inl p) = ap (λ b. b || among x ys) (is_same y x p)
-    is_among (y ∷ ys) (inr i) = search (arith, rules, is_among ys i)
+repeated_differs (x ∷ xs) e = search (arith, rules, or_parts, no_both, among_has, repeated_differs xs)
 
 module _ (cenv : CompileEnv) (h : Namespace) where
   abbrev OneEach : MacroBody → Type 0
   OneEach m = repeated (parameter_names m.parameters) ≡ false
 
-  macros_named : (t : Text) (c : Body) → AllKeep cenv h (body_use_sites c outside)
-      → AllByRecursion OneEach (macros_in t c)
+  macros_named : (t : Text) (c : Body) → AllKeep cenv h (body_uses c outside)
+      → Each OneEach (macros_in t c)
   macros_named t end k = tt
   macros_named t (stmt (macro line x ps body) rest) k =
       search (arith, rules, front, false_from_ne_true, back, macros_named t rest)
-  macros_named t (stmt (data_of d) rest) k =
-      macros_named t rest (back cenv h (stmt_use_sites (data_of d) outside) (body_use_sites rest outside) k)
-  macros_named t (stmt (print line x) rest) k =
-      macros_named t rest (back cenv h (stmt_use_sites (print line x) outside) (body_use_sites rest outside) k)
-  macros_named t (stmt (choose bs other) rest) k =
-      macros_named t rest (back cenv h (stmt_use_sites (choose bs other) outside) (body_use_sites rest outside) k)
+  macros_named t (stmt (data_of d) rest) k = search (arith, rules, macros_named t rest, back)
+  macros_named t (stmt (print line x) rest) k = search (arith, rules, macros_named t rest, back)
+  macros_named t (stmt (choose bs other) rest) k = search (arith, rules, macros_named t rest, back)
   macros_named t (stmt (for_each line xs x c body other) rest) k = search (arith, rules, back, macros_named t rest)
-  macros_named t (stmt (set line xs x) rest) k =
-      macros_named t rest (back cenv h (stmt_use_sites (set line xs x) outside) (body_use_sites rest outside) k)
-  macros_named t (stmt (set_block line x body) rest) k =
-      macros_named t rest (back cenv h (stmt_use_sites (set_block line x body) outside) (body_use_sites rest outside) k)
+  macros_named t (stmt (set line xs x) rest) k = search (arith, rules, macros_named t rest, back)
+  macros_named t (stmt (set_block line x body) rest) k = search (arith, rules, macros_named t rest, back)
   macros_named t (stmt (with_values line ps body) rest) k = search (arith, rules, back, macros_named t rest)
   macros_named t (stmt (filter_block line fs body) rest) k = search (arith, rules, back, macros_named t rest)
   macros_named t (stmt (autoescape line on body) rest) k = search (arith, rules, back, macros_named t rest)
-  macros_named t (stmt (include line n i w) rest) k =
-      macros_named t rest (back cenv h (stmt_use_sites (include line n i w) outside) (body_use_sites rest outside) k)
-  macros_named t (stmt (import_as line n new) rest) k =
-      macros_named t rest (back cenv h (stmt_use_sites (import_as line n new) outside) (body_use_sites rest outside) k)
+  macros_named t (stmt (include line n i w) rest) k = search (arith, rules, macros_named t rest, back)
+  macros_named t (stmt (import_as line n new) rest) k = search (arith, rules, macros_named t rest, back)
   macros_named t (stmt (import_from line n news) rest) k = search (arith, rules, back, macros_named t rest)
-  macros_named t (stmt (extends line n) rest) k =
-      macros_named t rest (back cenv h (stmt_use_sites (extends line n) outside) (body_use_sites rest outside) k)
-  macros_named t (stmt (block line x s r body) rest) k =
-      macros_named t rest (back cenv h (stmt_use_sites (block line x s r body) outside) (body_use_sites rest outside) k)
+  macros_named t (stmt (extends line n) rest) k = search (arith, rules, macros_named t rest, back)
+  macros_named t (stmt (block line x s r body) rest) k = search (arith, rules, macros_named t rest, back)
 
   abbrev Few : MacroBody → Type 0
   Few m = length m.parameters ≤ 200
@@ -217,30 +180,19 @@ module _ (cenv : CompileEnv) (h : Namespace) where
     named_few : (m : MacroBody) → OneEach m → AllAmong (map (λ p. p.name) m.parameters) ns → Few m
     named_few m e a = search (arith, rules, no_more, repeated_differs, mapped_len)
 
-    body_few : (t : Text) (c : Body) → AllAmong (body_names c) ns → AllByRecursion OneEach (macros_in t c)
-        → AllByRecursion Few (macros_in t c)
+    body_few : (t : Text) (c : Body) → AllAmong (body_names c) ns → Each OneEach (macros_in t c)
+        → Each Few (macros_in t c)
     body_few t end a o = tt
     body_few t (stmt (macro line x ps body) rest) a o =
         search (arith, rules, among_front, named_few, body_few t rest, among_back)
     body_few t (stmt s rest) a o = body_few t rest (among_back (stmt_names s) (body_names rest) ns a) o
 
     macros_few : (ts : List Template) → AllAmong (flat_map (λ t. body_names t.body) ts) ns
-        → AllKeep cenv h (flat_map (λ t. body_use_sites t.body outside) ts)
-        → AllByRecursion Few (flat_map (λ t. macros_in t.name t.body) ts)
+        → AllKeep cenv h (flat_map (λ t. body_uses t.body outside) ts)
+        → Each Few (flat_map (λ t. macros_in t.name t.body) ts)
     macros_few [] a e = tt
     macros_few (t ∷ ts) a e =
-        let others = flat_map (λ t. body_use_sites t.body outside) ts in
-        search (
-          arith,
-          rules,
-          all_append,
-          body_few,
-          among_front,
-          macros_named t.name t.body (front cenv h (body_use_sites t.body outside) others e),
-          macros_few ts,
-          among_back,
-          back cenv h (body_use_sites t.body outside) others e,
-        )
+        search (arith, rules, each_append, body_few, among_front, macros_named, front, macros_few ts, among_back, back)
 
 -- ---- Filters
 
@@ -255,34 +207,25 @@ three i = search arith
 
 pub filters_few : (n : ℕ) → length (the_filters.parameters n) ≤ 3
 unfolding the_filters
-filters_few n = through (filter_of n)
-  where
-    through : (o : Option FilterId) → length (parameters_of o) ≤ 3
-    through None = omega arith
-    through (Some i) = let a = defaults_len (argument_names i) (defaults i) in let b = three i in omega (arith, a, b)
+filters_few n = search (arith, rules, defaults_len, three)
 
 -- ---- All chains
 
 -- Each macro of these chains and libraries has few parameters.
 namespaces_few : (c : Seen) (ns : List Text) → length ns ≤ 200 → (hs : List Namespace)
-    → AllByRecursion (λ h. AllAmong (own_names (sources_of c) h) ns) hs → ChainsKeep (cenv_of c) hs
-    → (h : Namespace) → listed h hs ≡ true → AllByRecursion (λ m. length m.parameters ≤ 200) (macros (sources_of c) h)
-namespaces_few c ns l [] a e h i = absurd (no_both i refl)
-namespaces_few c ns l (k ∷ ks) a e h i =
-    search (
-      arith,
-      rules,
-      namespaces_few c ns l ks a.1 e.1 h,
-      macros_few (cenv_of c) k ns l (templates (sources_of c) k) a.0 e.0,
-      namespace_same,
-    )
+    → Each (λ h. AllAmong (own_names (sources_of c) h) ns) hs → ChainsKeep (cenv_of c) hs
+    → (h : Namespace) → listed h hs ≡ true → Each (λ m. length m.parameters ≤ 200) (macros (sources_of c) h)
+namespaces_few c ns l hs a e h i =
+    macros_few (cenv_of c) h ns l (templates (sources_of c) h)
+    (each_listed (λ k. AllAmong (own_names (sources_of c) k) ns) hs a h i)
+    (each_listed (λ k. AllKeep (cenv_of c) k (chain_uses (sources_of c) k)) hs e h i)
 
 chains_few : (c : Seen) → InOrder (sources_of c) c.order
     → ((h : Namespace) → listed h c.order ≡ true
-    → AllByRecursion (λ m. length m.parameters ≤ 200) (macros (sources_of c) h))
+    → Each (λ m. length m.parameters ≤ 200) (macros (sources_of c) h))
     → ((k : Namespace) → HasFewNames (cenv_of c) c.order k)
     → (hs : List Namespace) → ((h : Namespace) → listed h hs ≡ true → listed h c.order ≡ true)
-    → AllByRecursion (IsFew (cenv_of c) c.order) hs
+    → Each (IsFew (cenv_of c) c.order) hs
 chains_few c o each n [] i = tt
 chains_few c o each n (h ∷ hs) i =
     let known = i h (ap (λ b. b || listed h hs) (namespace_is h)) in (
@@ -293,12 +236,8 @@ chains_few c o each n (h ∷ hs) i =
             (λ l j. each (a_library l) (libraries_stand (cenv_of c) c.order o h known l j).known);
         filters = filters_few;
       },
-      chains_few c o each n hs (λ g j. i g (later g (same_namespace h g) j)),
+      chains_few c o each n hs (λ g j. i g (or_right (same_namespace h g) (listed g hs) j)),
     )
-  where
-    later : (g : Namespace) (b : Bool) → listed g hs ≡ true → (b || listed g hs) ≡ true
-    later g true j = refl
-    later g false j = j
 
 pub few_by : (c : Seen) → InOrder (sources_of c) c.order → NamesFew c → ChainsKeep (cenv_of c) c.order
     → AreFew (cenv_of c) c.order
@@ -313,18 +252,17 @@ few_by c o n e =
     )) c.order (λ h i. i)
   where
     all_own : (hs : List Namespace)
-        → AllByRecursion (λ h. AllByRecursion (λ x. Contains n.names x) (own_names (sources_of c) h)) hs
-        → AllByRecursion (λ h. AllAmong (own_names (sources_of c) h) n.names) hs
+        → Each (λ h. Each (λ x. Contains n.names x) (own_names (sources_of c) h)) hs
+        → Each (λ h. AllAmong (own_names (sources_of c) h) n.names) hs
     all_own [] a = tt
     all_own (h ∷ hs) a = (all_contained n.names (own_names (sources_of c) h) a.0, all_own hs a.1)
 
     own_of : (k : Namespace) (hs : List Namespace) → listed k hs ≡ true
-        → AllByRecursion (λ h. AllAmong (own_names (sources_of c) h) n.names) hs
+        → Each (λ h. AllAmong (own_names (sources_of c) h) n.names) hs
         → AllAmong (own_names (sources_of c) k) n.names
-    own_of k [] e a = absurd (no_both e refl)
-    own_of k (h ∷ hs) e a = search (arith, rules, own_of k hs, namespace_same)
+    own_of k hs e a = each_listed (λ h. AllAmong (own_names (sources_of c) h) n.names) hs a k e
 
     scopes_few : (k : Namespace) (b : Bool) → listed k c.order ≡ b
         → length (if b then scope_names (sources_of c) k else []) ≤ 200
-    scopes_few k a1 p =
+    scopes_few k b p =
         grind (arith, ascending_among, templates_bind, own_of, all_own, no_more, ascends_differs, ascending_ascends)

@@ -1,8 +1,8 @@
 -- No name of a program and no text of its pool is longer than the trees of its chains.
 use Rattle.std.proofs.Common.{◌≡◌, ℕ, suc, ◌≤◌, Bool, true, false, if◌then◌else◌, List, [], ◌∷◌, ◌++◌, length, map}
-use Rattle.std.proofs.Common.{Option, Some, None, refl, sym, subst, arith, inl, inr, rules}
+use Rattle.std.proofs.Common.{Option, Some, sym, subst, arith, inl, inr, rules}
 use Rattle.std.specs.Prelude.{flat_map, filter}
-use Rattle.std.specs.List.{AllByRecursion}
+use Rattle.std.specs.List.{AllByRecursion as Each}
 use Rattle.std.specs.Str.{bytes_eq}
 use Rattle.jt_value.specs.Tree.{Tree}
 use Rattle.jt_ast.specs.Expressions as written
@@ -13,7 +13,7 @@ use Rattle.jt_ast.specs.Sizes.{default_bytes, parameters_bytes, stmt_bytes, body
 use Rattle.jt_ast.specs.Statements.{Parameter, FilterCall, Stmt, print, choose, for_each, set, set_block, with_values}
 use Rattle.jt_ast.specs.Statements.{filter_block, autoescape, macro, block, Body, end, stmt, Branches, no_branches}
 use Rattle.jt_ast.specs.Statements.{branch}
-use Rattle.jt_chains.specs.Chain.{Namespace, a_chain, a_library, Template, templates, BlockBody, blocks_of, blocks_in}
+use Rattle.jt_chains.specs.Chain.{Namespace, Template, templates, BlockBody, blocks_of, blocks_in}
 use Rattle.jt_chains.specs.Chain.{blocks_under, MacroBody, macros_in, macros}
 use Rattle.jt_chains.specs.Uses.{keywords, set_in, expr_names, row_names, pair_names, condition_names}
 use Rattle.jt_chains.specs.Uses.{filter_call_names, stmt_names, body_names, branch_names, own_names}
@@ -23,7 +23,7 @@ use Rattle.jt_ir.specs.Slots.{SBody, Routine}
 use Rattle.jt_ir.specs.Pool.{Constant, stmt_values, body_values, routines_values}
 use Rattle.jt_ids.specs.declared.filter_id.FilterId.{FilterId}
 use Rattle.jt_chains.specs.View.{Seen, sources_of}
-use Rattle.jt_eval.specs.TheFilters.{the_filters, filter_of, filter_parameters, parameters_of}
+use Rattle.jt_eval.specs.TheFilters.{the_filters, filter_parameters}
 use Rattle.jt_rules.specs.CompileEnv.{CompileEnv, cenv_of}
 use Rattle.jt_semantics.specs.Bytes.{value_bytes, IsShort}
 use Rattle.jt_semantics.specs.Layout.{names, counted_from, block_parameters, defaults_of}
@@ -31,15 +31,15 @@ use Rattle.jt_semantics.specs.Meaning.{is_set}
 use Rattle.jt_semantics.specs.Programs.{program, routines, entry_routines, chain_routines, body_routines}
 use Rattle.jt_semantics.specs.Resolve.{followed, Part, bound_all, resolved_stmt, resolved_body, resolved_sets, top_senv}
 use Rattle.jt_semantics.specs.Resolve.{resolved_chain, scoped, macro_routine}
-use Rattle.jt_semantics.proofs.Among.{Among, AllAmong}
+use Rattle.jt_semantics.proofs.Among.{Among, AllAmong, among_left, among_right, each_among, all_among}
 use Rattle.jt_semantics.proofs.ValueBounds.{literal_is, total, Bare, ArePlain, stmt_within, all_within, scope_within}
 use Rattle.jt_semantics.proofs.NameCounts.{names_from, filters_few}
-use Rattle.jt_semantics.proofs.FreeNameWeights.{all_append}
+use Rattle.jt_semantics.proofs.EachElement.{each_front, each_back, each_append}
 
 -- ---- Values
 
 abbrev Shorts : ℕ → List Tree → Type 0
-Shorts n vs = AllByRecursion (λ v. value_bytes v ≤ n) vs
+Shorts n vs = Each (λ v. value_bytes v ≤ n) vs
 
 own_bytes : (v : Tree) → value_bytes v ≤ value_bytes v
 own_bytes v = omega arith
@@ -49,70 +49,69 @@ each_short n [] h = tt
 each_short n (v ∷ vs) h = (omega (arith, h), each_short n vs (omega (arith, h)))
 
 split : (n : ℕ) (xs ys : List Tree) → Shorts n (xs ++ ys) → Shorts n xs × Shorts n ys
-split n [] ys a = (tt, a)
-split n (x ∷ xs) ys a = let r = split n xs ys a.1 in ((a.0, r.0), r.1)
+split n xs ys a = search (arith, rules, each_front, each_back)
 
 followed_short : (n : ℕ) (a b : SBody Constant) → Shorts n (body_values a) → Shorts n (body_values b)
     → Shorts n (body_values (followed a b))
 followed_short n slots.end b h g = g
 followed_short n (slots.stmt s rest) b h g =
     let p = split n (stmt_values s) (body_values rest) h in
-    all_append (λ v. value_bytes v ≤ n) (stmt_values s) (body_values (followed rest b)) p.0
+    each_append (λ v. value_bytes v ≤ n) (stmt_values s) (body_values (followed rest b)) p.0
     (followed_short n rest b p.1 g)
 
 -- ---- The bodies of a template are no longer than it
 
 abbrev BlocksShort : ℕ → List BlockBody → Type 0
-BlocksShort n bs = AllByRecursion (λ b. body_bytes b.body ≤ n) bs
+BlocksShort n bs = Each (λ b. body_bytes b.body ≤ n) bs
 
 module _ (t : Text) (n : ℕ) where
   mutual
     stmt_blocks : (s : Stmt) (on : Bool) → stmt_bytes s ≤ n → BlocksShort n (blocks_of t s on)
     stmt_blocks (block line x scoped required body) on h = (omega (arith, h), body_blocks body on (omega (arith, h)))
-    stmt_blocks (choose bs other) on h = search (arith, rules, all_append, branch_blocks bs on, body_blocks other on)
+    stmt_blocks (choose bs other) on h = search (arith, rules, each_append, branch_blocks bs on, body_blocks other on)
     stmt_blocks (for_each line xs e c body other) on h =
-        search (arith, rules, all_append, body_blocks body on, body_blocks other on)
+        search (arith, rules, each_append, body_blocks body on, body_blocks other on)
     stmt_blocks (set_block line x body) on h = body_blocks body on (omega (arith, h))
     stmt_blocks (with_values line ps body) on h = body_blocks body on (omega (arith, h))
     stmt_blocks (filter_block line fs body) on h = body_blocks body on (omega (arith, h))
     stmt_blocks (autoescape line now body) on h = body_blocks body now (omega (arith, h))
     stmt_blocks (macro line x ps body) on h = body_blocks body on (omega (arith, h))
-    stmt_blocks a0 on h = tt
+    stmt_blocks s on h = tt
 
     body_blocks : (b : Body) (on : Bool) → body_bytes b ≤ n → BlocksShort n (blocks_in t b on)
     body_blocks end on h = tt
-    body_blocks (stmt s rest) on h = search (arith, rules, all_append, stmt_blocks s on, body_blocks rest on)
+    body_blocks (stmt s rest) on h = search (arith, rules, each_append, stmt_blocks s on, body_blocks rest on)
 
     branch_blocks : (bs : Branches) (on : Bool) → branch_bytes bs ≤ n → BlocksShort n (blocks_under t bs on)
     branch_blocks no_branches on h = tt
     branch_blocks (branch line c body rest) on h =
-        search (arith, rules, all_append, body_blocks body on, branch_blocks rest on)
+        search (arith, rules, each_append, body_blocks body on, branch_blocks rest on)
 
   abbrev MacroShort : MacroBody → Type 0
   MacroShort m = (body_bytes m.body ≤ n) × (parameters_bytes m.parameters ≤ n)
 
-  top_macros : (b : Body) → body_bytes b ≤ n → AllByRecursion MacroShort (macros_in t b)
+  top_macros : (b : Body) → body_bytes b ≤ n → Each MacroShort (macros_in t b)
   top_macros end h = tt
-  top_macros (stmt (macro line x ps body) rest) h =
-      ((omega (arith, h), omega (arith, h)), top_macros rest (omega (arith, h)))
+  top_macros (stmt (macro line x ps body) rest) h = search (arith, rules, top_macros rest)
   top_macros (stmt s rest) h = top_macros rest (omega (arith, h))
 
 abbrev pub TemplatesShort : ℕ → List Template → Type 0
-TemplatesShort n ts = AllByRecursion (λ t. body_bytes t.body ≤ n) ts
+TemplatesShort n ts = Each (λ t. body_bytes t.body ≤ n) ts
 
 chain_blocks : (n : ℕ) (on : Bool) (ts : List Template) → TemplatesShort n ts
     → BlocksShort n (flat_map (λ t. blocks_in t.name t.body on) ts)
 chain_blocks n on [] h = tt
 chain_blocks n on (t ∷ ts) h =
-    all_append (λ b. body_bytes b.body ≤ n) (blocks_in t.name t.body on) (flat_map (λ u. blocks_in u.name u.body on) ts)
+    each_append (λ b. body_bytes b.body ≤ n) (blocks_in t.name t.body on)
+    (flat_map (λ u. blocks_in u.name u.body on) ts)
     (body_blocks t.name n t.body on h.0) (chain_blocks n on ts h.1)
 
 chain_macros : (n : ℕ) (ts : List Template) → TemplatesShort n ts
-    → AllByRecursion (λ m. (body_bytes m.body ≤ n) × (parameters_bytes m.parameters ≤ n))
+    → Each (λ m. (body_bytes m.body ≤ n) × (parameters_bytes m.parameters ≤ n))
     (flat_map (λ t. macros_in t.name t.body) ts)
 chain_macros n [] h = tt
 chain_macros n (t ∷ ts) h =
-    all_append (λ m. (body_bytes m.body ≤ n) × (parameters_bytes m.parameters ≤ n)) (macros_in t.name t.body)
+    each_append (λ m. (body_bytes m.body ≤ n) × (parameters_bytes m.parameters ≤ n)) (macros_in t.name t.body)
     (flat_map (λ u. macros_in u.name u.body) ts) (top_macros t.name n t.body h.0) (chain_macros n ts h.1)
 
 -- ---- The values of a chain's routines
@@ -126,7 +125,7 @@ values_append : (n : ℕ) (a b : List (Routine Constant)) → Shorts n (routines
 values_append n [] b h g = g
 values_append n (r ∷ a) b h g =
     let p = split n (body_values r.body) (routines_values a) h in
-    all_append (λ v. value_bytes v ≤ n) (body_values r.body) (routines_values (a ++ b)) p.0 (values_append n a b p.1 g)
+    each_append (λ v. value_bytes v ≤ n) (body_values r.body) (routines_values (a ++ b)) p.0 (values_append n a b p.1 g)
 
 module _ (cenv : CompileEnv) (order : List Namespace) (n : ℕ) (k : Plain cenv) (h : Namespace) where
   sets_short : (b : Body) (t : Text) → body_bytes b ≤ n
@@ -153,7 +152,7 @@ module _ (cenv : CompileEnv) (order : List Namespace) (n : ℕ) (k : Plain cenv)
       (resolved_chain cenv order h (u ∷ us)) (sets_short t.body t.name g.0) (chain_short (u ∷ us) g.1)
 
   macros_short : (ms : List MacroBody)
-      → AllByRecursion (λ m. (body_bytes m.body ≤ n) × (parameters_bytes m.parameters ≤ n)) ms
+      → Each (λ m. (body_bytes m.body ≤ n) × (parameters_bytes m.parameters ≤ n)) ms
       → Shorts n (routines_values (map (macro_routine cenv order h) ms))
   macros_short [] g = tt
   macros_short (m ∷ ms) g =
@@ -161,7 +160,7 @@ module _ (cenv : CompileEnv) (order : List Namespace) (n : ℕ) (k : Plain cenv)
       let c = scope_within value_bytes own_bytes cenv order k m.body sp in
       let f = g.0.0 in
       let r = macro_routine cenv order h m in
-      all_append (λ v. value_bytes v ≤ n) (body_values r.body) (routines_values (map (macro_routine cenv order h) ms))
+      each_append (λ v. value_bytes v ≤ n) (body_values r.body) (routines_values (map (macro_routine cenv order h) ms))
       (each_short n (body_values r.body) (omega (arith, c, f))) (macros_short ms g.1)
 
   blocks_short : (i : ℕ) (bs : List BlockBody) → BlocksShort n bs
@@ -175,14 +174,13 @@ module _ (cenv : CompileEnv) (order : List Namespace) (n : ℕ) (k : Plain cenv)
       let r = scoped (set_in b.body) sp (resolved_body cenv order b.body) in
       let c = scope_within value_bytes own_bytes cenv order k b.body sp in
       let f = g.0 in
-      all_append (λ v. value_bytes v ≤ n) (body_values r)
+      each_append (λ v. value_bytes v ≤ n) (body_values r)
       (routines_values (body_routines cenv order h (counted_from (suc i) bs)))
       (each_short n (body_values r) (omega (arith, c, f))) (blocks_short (suc i) bs g.1)
 
   entry_short : (g : Namespace) → Shorts n (body_values (resolved_chain cenv order g (templates cenv.sources g)))
       → Shorts n (routines_values (entry_routines cenv order g))
-  entry_short (a_chain m) c = search (arith, rules, all_append)
-  entry_short (a_library m) c = tt
+  entry_short g c = search (arith, rules, each_append)
 
   in_chain : TemplatesShort n (templates cenv.sources h) → Shorts n (routines_values (chain_routines cenv order h))
   in_chain g =
@@ -192,29 +190,27 @@ module _ (cenv : CompileEnv) (order : List Namespace) (n : ℕ) (k : Plain cenv)
 -- ---- The defaults of macros
 
 default_is : (d : Option written.Literal) → value_bytes (default_value d) ≡ default_bytes d
-default_is None = refl
-default_is (Some l) = literal_is l
+default_is d = search (arith, rules, literal_is)
 
 parameters_short : (n : ℕ) (ps : List Parameter) → parameters_bytes ps ≤ n
     → Shorts n (map (λ p. default_value p.default) ps)
 parameters_short n [] h = tt
-parameters_short n (p ∷ ps) h =
-    let e = default_is p.default in (omega (arith, h, e), parameters_short n ps (omega (arith, h)))
+parameters_short n (p ∷ ps) h = search (arith, rules, default_is, parameters_short n ps)
 
 defaults_short : (n : ℕ) (ms : List MacroBody)
-    → AllByRecursion (λ m. (body_bytes m.body ≤ n) × (parameters_bytes m.parameters ≤ n)) ms → Shorts n (defaults_of ms)
+    → Each (λ m. (body_bytes m.body ≤ n) × (parameters_bytes m.parameters ≤ n)) ms → Shorts n (defaults_of ms)
 defaults_short n [] h = tt
 defaults_short n (m ∷ ms) h =
-    all_append (λ v. value_bytes v ≤ n) (map (λ p. default_value p.default) m.parameters) (defaults_of ms)
+    each_append (λ v. value_bytes v ≤ n) (map (λ p. default_value p.default) m.parameters) (defaults_of ms)
     (parameters_short n m.parameters h.0.1) (defaults_short n ms h.1)
 
 -- ---- Names
 
 abbrev Names : ℕ → List Text → Type 0
-Names n xs = AllByRecursion (λ x. length x ≤ n) xs
+Names n xs = Each (λ x. length x ≤ n) xs
 
 names_append : (n : ℕ) (xs ys : List Text) → Names n xs → Names n ys → Names n (xs ++ ys)
-names_append n xs ys = all_append (λ x. length x ≤ n) xs ys
+names_append n xs ys = each_append (λ x. length x ≤ n) xs ys
 
 module _ (n : ℕ) where
   mutual
@@ -225,23 +221,19 @@ module _ (n : ℕ) where
     expr_short (list_of ts) h = row_short ts h
     expr_short (map_of ps) h = pairs_short ps h
     expr_short (attribute a k) h = search (arith, rules, expr_short a (omega (arith, h)))
-    expr_short (item a b) h =
-        names_append n (expr_names a) (expr_names b) (expr_short a (omega (arith, h))) (expr_short b (omega (arith, h)))
+    expr_short (item a b) h = search (arith, rules, names_append, expr_short a, expr_short b)
     expr_short (call a ts ps) h = search (arith, rules, names_append, row_short ts, pairs_short ps)
     expr_short (written.filter a x ts ps) h =
         search (arith, rules, names_append, expr_short a, row_short ts, pairs_short ps)
     expr_short (test a m x ts ps) h = search (arith, rules, names_append, expr_short a, row_short ts, pairs_short ps)
     expr_short (unary o a) h = expr_short a h
-    expr_short (binary o a b) h =
-        names_append n (expr_names a) (expr_names b) (expr_short a (omega (arith, h))) (expr_short b (omega (arith, h)))
-    expr_short (when c a) h =
-        names_append n (expr_names c) (expr_names a) (expr_short c (omega (arith, h))) (expr_short a (omega (arith, h)))
+    expr_short (binary o a b) h = search (arith, rules, names_append, expr_short a, expr_short b)
+    expr_short (when c a) h = search (arith, rules, names_append, expr_short c, expr_short a)
     expr_short (choice c a b) h = search (arith, rules, names_append, expr_short c, expr_short a, expr_short b)
 
     row_short : (ts : Exprs) → exprs_bytes ts ≤ n → Names n (row_names ts)
     row_short no_exprs h = tt
-    row_short (expr a ts) h =
-        names_append n (expr_names a) (row_names ts) (expr_short a (omega (arith, h))) (row_short ts (omega (arith, h)))
+    row_short (expr a ts) h = search (arith, rules, names_append, expr_short a, row_short ts)
 
     pairs_short : (ps : Pairs) → pairs_bytes ps ≤ n → Names n (pair_names ps)
     pairs_short no_pairs h = tt
@@ -256,8 +248,7 @@ module _ (n : ℕ) where
   texts_short (x ∷ xs) h = (omega (arith, h), texts_short xs (omega (arith, h)))
 
   condition_short : (c : Option Expr) → condition_bytes c ≤ n → Names n (condition_names c)
-  condition_short None h = tt
-  condition_short (Some c) h = expr_short c h
+  condition_short c h = search (arith, rules, expr_short)
 
   filter_call_short : (fs : List FilterCall) → filter_call_bytes fs ≤ n → Names n (filter_call_names fs)
   filter_call_short [] h = tt
@@ -282,8 +273,7 @@ module _ (n : ℕ) where
           body_short body (omega (arith, h)),
           body_short other (omega (arith, h)),
         )
-    stmt_short (set line xs e) h =
-        names_append n (expr_names e) xs (expr_short e (omega (arith, h))) (texts_short xs (omega (arith, h)))
+    stmt_short (set line xs e) h = search (arith, rules, names_append, expr_short, texts_short)
     stmt_short (set_block line x body) h = (omega (arith, h), body_short body (omega (arith, h)))
     stmt_short (with_values line ps body) h =
         search (arith, rules, names_append, pairs_short, keys_short, body_short body)
@@ -291,7 +281,7 @@ module _ (n : ℕ) where
     stmt_short (autoescape line on body) h = body_short body h
     stmt_short (macro line x ps body) h = search (arith, rules, names_append, given_short, body_short body)
     stmt_short (block line x scoped required body) h = body_short body (omega (arith, h))
-    stmt_short a0 h = tt
+    stmt_short s h = tt
 
     body_short : (b : Body) → body_bytes b ≤ n → Names n (body_names b)
     body_short end h = tt
@@ -322,7 +312,7 @@ among_short n (x ∷ xs) ns h a = (at ns h a.0, among_short n xs ns h a.1)
 
 module _ (cenv : CompileEnv) (n : ℕ) where
   abbrev pub ChainsShort : List Namespace → Type 0
-  ChainsShort hs = AllByRecursion (λ h. TemplatesShort n (templates cenv.sources h)) hs
+  ChainsShort hs = Each (λ h. TemplatesShort n (templates cenv.sources h)) hs
 
   module _ (order : List Namespace) (k : Plain cenv) where
     chains_values : (hs : List Namespace) → ChainsShort hs
@@ -336,7 +326,7 @@ module _ (cenv : CompileEnv) (n : ℕ) where
       → Shorts n (flat_map (λ h. defaults_of (macros cenv.sources h)) hs)
   chains_defaults [] h = tt
   chains_defaults (g ∷ hs) h =
-      all_append (λ v. value_bytes v ≤ n) (defaults_of (macros cenv.sources g))
+      each_append (λ v. value_bytes v ≤ n) (defaults_of (macros cenv.sources g))
       (flat_map (λ h. defaults_of (macros cenv.sources h)) hs)
       (defaults_short n (macros cenv.sources g) (chain_macros n (templates cenv.sources g) h.0))
       (chains_defaults hs h.1)
@@ -347,32 +337,13 @@ module _ (cenv : CompileEnv) (n : ℕ) where
       names_append n (own_names cenv.sources g) (flat_map (own_names cenv.sources) hs)
       (own_short n (templates cenv.sources g) h.0) (chains_names hs h.1)
 
-among_left : (xs ys : List Text) → AllAmong xs (xs ++ ys)
-among_left xs ys = every xs (λ x i. front x xs i)
-  where
-    front : (x : Text) (zs : List Text) → Among x zs → Among x (zs ++ ys)
-    front x [] i = absurd i
-    front x (z ∷ zs) (inl e) = inl e
-    front x (z ∷ zs) (inr i) = inr (front x zs i)
-
-    every : (zs : List Text) → ((x : Text) → Among x zs → Among x (xs ++ ys)) → AllAmong zs (xs ++ ys)
-    every [] f = tt
-    every (z ∷ zs) f = (f z (inl refl), every zs (λ x i. f x (inr i)))
-
-among_right : (zs xs ys : List Text) → AllAmong zs ys → AllAmong zs (xs ++ ys)
-among_right [] xs ys a = tt
-among_right (z ∷ zs) xs ys a = (back xs a.0, among_right zs xs ys a.1)
-  where
-    back : (ws : List Text) → Among z ys → Among z (ws ++ ys)
-    back [] i = i
-    back (w ∷ ws) i = inr (back ws i)
-
 -- The names of each chain are among the names of all chains.
 own_among : (cenv : CompileEnv) (hs : List Namespace) (ns : List Text)
     → ((zs : List Text) → AllAmong zs (flat_map (own_names cenv.sources) hs) → AllAmong zs ns)
-    → AllByRecursion (λ h. AllAmong (own_names cenv.sources h) ns) hs
+    → Each (λ h. AllAmong (own_names cenv.sources h) ns) hs
 own_among cenv [] ns f = tt
-own_among cenv (h ∷ hs) ns f = search (arith, rules, among_left, among_right, own_among cenv hs ns)
+own_among cenv (h ∷ hs) ns f =
+    search (arith, rules, all_among, among_left, own_among cenv hs ns, among_right, each_among)
 
 pub program_short : (cenv : CompileEnv) (entry : Namespace) (rest : List Namespace) (n : ℕ) → Plain cenv
     → ChainsShort cenv n (entry ∷ rest) → IsShort n (program cenv (entry ∷ rest) entry)
@@ -385,7 +356,7 @@ program_short cenv entry rest n k h =
           (names_from cenv all order (own_among cenv order all (λ zs a. a)) entry);
       pool = (
         omega arith,
-        all_append (λ v. value_bytes v ≤ n) (flat_map (λ g. defaults_of (macros cenv.sources g)) order)
+        each_append (λ v. value_bytes v ≤ n) (flat_map (λ g. defaults_of (macros cenv.sources g)) order)
             (routines_values (routines cenv order)) (chains_defaults cenv n order h)
             (chains_values cenv n order k order h),
       );
@@ -398,17 +369,13 @@ defaults_bare i = search (arith, rules)
 
 filters_bare : (n : ℕ) → Bare value_bytes (the_filters.parameters n)
 unfolding the_filters
-filters_bare n = through (filter_of n)
-  where
-    through : (o : Option FilterId) → Bare value_bytes (parameters_of o)
-    through None = tt
-    through (Some i) = defaults_bare i
+filters_bare n = search (arith, rules, defaults_bare)
 
 pub chain_is_short : (c : Seen) (entry : Namespace) (rest : List Namespace) (n : ℕ) → c.order ≡ entry ∷ rest
-    → AllByRecursion (λ h. AllByRecursion (λ t. body_bytes t.body ≤ n) (templates (sources_of c) h)) c.order
+    → Each (λ h. Each (λ t. body_bytes t.body ≤ n) (templates (sources_of c) h)) c.order
     → IsShort n (program (cenv_of c) c.order entry)
 chain_is_short c entry rest n e h =
     subst (λ hs. IsShort n (program (cenv_of c) hs entry)) (sym e)
     (program_short (cenv_of c) entry rest n (λ i. record { few = filters_few i; bare = filters_bare i })
-    (subst (λ hs. AllByRecursion (λ h. AllByRecursion (λ t. body_bytes t.body ≤ n) (templates (sources_of c) h)) hs) e
+    (subst (λ hs. Each (λ h. Each (λ t. body_bytes t.body ≤ n) (templates (sources_of c) h)) hs) e
     h))

@@ -1,19 +1,18 @@
 -- The meaning of a tree with indices into the pool is the meaning of the tree with its values.
-use Rattle.std.proofs.Common.{◌≡◌, ℕ, zero, suc, ◌+◌, Bool, true, false, if◌then◌else◌, List, [], ◌∷◌, ◌++◌, length}
+use Rattle.std.proofs.Common.{◌≡◌, ℕ, zero, suc, ◌+◌, Bool, if◌then◌else◌, List, [], ◌∷◌, ◌++◌, length}
 use Rattle.std.proofs.Common.{Option, Some, None, refl, ap, ◌∙◌, subst, arith, rules}
 use Rattle.std.specs.Prelude.{slice_get}
 use Rattle.jt_value.specs.Tree.{Tree}
 use Rattle.jt_value.specs.Place.{Place}
-use Rattle.jt_eval.specs.Eval.{Eval, gives, bind, checked, at}
-use Rattle.jt_eval.specs.Values.{bytes_of}
+use Rattle.jt_eval.specs.Eval.{Eval, bind, checked, at}
 use Rattle.jt_ir.specs.Slots.{SlotExpr, pooled, variable, field, absent, made, conjunction, disjunction}
 use Rattle.jt_ir.specs.Slots.{choice, invoke, SRow, none, item, aside, Targets, SlotStmt, put_pooled, print, assign}
 use Rattle.jt_ir.specs.Slots.{if_else, for_each, capture, run, SBody, end, stmt, Routine, Memory, Valued, Listed}
-use Rattle.jt_ir.specs.Slots.{SCalls, take, make, valued, svalue, svalues, skept, sturns, seval_loop, smeaning}
+use Rattle.jt_ir.specs.Slots.{SCalls, valued, svalue, svalues, skept, sturns, seval_loop, smeaning}
 use Rattle.jt_ir.specs.Slots.{smeanings, seval_invocation, scalls}
 use Rattle.jt_eval.specs.Loops.{Loop, items_of_value, tree_at}
 use Rattle.jt_eval.specs.Filters.{Filters}
-use Rattle.jt_ir.specs.Pool.{Constant, own, known, constant_in, constant_values, expr_values, row_values}
+use Rattle.jt_ir.specs.Pool.{Constant, constant_in, constant_values, expr_values, row_values}
 use Rattle.jt_ir.specs.Pool.{condition_values, stmt_values, body_values, routines_values, placed, placed_expr}
 use Rattle.jt_ir.specs.Pool.{placed_row, placed_condition, placed_stmt, placed_body, placed_routines}
 use Rattle.jt_semantics.proofs.SameEval.{bind_ext}
@@ -24,9 +23,9 @@ held_front ts n [] vs h = tt
 held_front ts n (u ∷ us) vs h = (h.0, held_front ts (suc n) us vs h.1)
 
 held_back : (ts : List Tree) (n : ℕ) (us vs : List Tree) → Held ts n (us ++ vs) → Held ts (n + length us) vs
-held_back ts n [] vs h = subst (λ k. Held ts k vs) (let e : n ≡ n + 0 = omega arith in e) h
+held_back ts n [] vs h = subst (λ k. Held ts k vs) (omega arith) h
 held_back ts n (u ∷ us) vs h =
-    subst (λ k. Held ts k vs) (let e : suc n + length us ≡ n + length (u ∷ us) = omega arith in e)
+    subst (λ k. Held ts k vs) (omega arith)
     (held_back ts (suc n) us vs h.1)
 
 module _ (fs : Filters) (pool : List Tree) (call call' : SCalls)
@@ -34,8 +33,7 @@ module _ (fs : Filters) (pool : List Tree) (call call' : SCalls)
   -- The value of a constant is at its index in the pool.
   constant_placed : (k : Constant) (n : ℕ) → Held pool n (constant_values k)
       → tree_at pool (placed k n) ≡ constant_in pool k
-  constant_placed (own v) n h = h.0
-  constant_placed (known i) n h = refl
+  constant_placed k n h = search (arith, rules)
 
   abbrev by_value : SlotExpr Constant → Option Loop → Memory → Eval Valued
   by_value e l m = svalue fs (constant_in pool) call e l m
@@ -50,8 +48,7 @@ module _ (fs : Filters) (pool : List Tree) (call call' : SCalls)
   row_by_place es l m = svalues fs (tree_at pool) call' es l m
 
   if_same : {A : Type 0} (b : Bool) (x y x' y' : A) → x ≡ x' → y ≡ y' → (if b then x else y) ≡ (if b then x' else y')
-  if_same true x y x' y' e f = e
-  if_same false x y x' y' e f = f
+  if_same b x y x' y' e f = search (arith, rules)
 
   -- If two computations are equal, and their continuations are equal, the sequences are equal.
   then_same : {A B : Type 0} (g h : Eval A) (f k : A → Eval B) → g ≡ h → ((x : A) → f x ≡ k x) → bind g f ≡ bind h k
@@ -64,8 +61,7 @@ module _ (fs : Filters) (pool : List Tree) (call call' : SCalls)
     expr_placed (variable s) n l m h = refl
     expr_placed (field f) n l m h = refl
     expr_placed absent n l m h = refl
-    expr_placed (made k es) n l m h =
-        ap (λ g. bind g (λ r. bind (checked (make fs k r.values)) (valued r.memory))) (row_placed es n l m h)
+    expr_placed (made k es) n l m h = search (arith, rules, row_placed es n l m h)
     expr_placed (conjunction a b) n l m h =
         search (arith, rules, then_same, held_front, if_same, held_back, expr_placed a n l m, expr_placed b)
     expr_placed (disjunction a b) n l m h =
@@ -100,8 +96,7 @@ module _ (fs : Filters) (pool : List Tree) (call call' : SCalls)
   gone_same : (f k : Option Loop → Memory → Eval Memory) → ((l : Option Loop) (m : Memory) → f l m ≡ k l m)
       → (g h : Memory → Eval Memory) → ((m : Memory) → g m ≡ h m)
       → (xs : Targets) (p : Place) (vs : List Tree) (m : Memory) → seval_loop f g xs p vs m ≡ seval_loop k h xs p vs m
-  gone_same f k d g h e xs p [] m = e m
-  gone_same f k d g h e xs p (v ∷ vs) m = turns_same f k d xs p (v ∷ vs) 0 (v ∷ vs) m
+  gone_same f k d g h e xs p vs m = search (arith, rules, turns_same)
 
   abbrev body_by_value : SBody Constant → Option Loop → Memory → Eval Memory
   body_by_value b l m = smeanings fs (constant_in pool) call b l m
@@ -112,11 +107,9 @@ module _ (fs : Filters) (pool : List Tree) (call call' : SCalls)
   mutual
     stmt_placed : (s : SlotStmt Constant) (n : ℕ) (l : Option Loop) (m : Memory) → Held pool n (stmt_values s)
         → smeaning fs (tree_at pool) call' (placed_stmt s n) l m ≡ smeaning fs (constant_in pool) call s l m
-    stmt_placed (put_pooled k) n l m h =
-        ap (λ v. gives (record m { out = m.out ++ bytes_of v })) (constant_placed k n h)
+    stmt_placed (put_pooled k) n l m h = search (arith, rules, constant_placed)
     stmt_placed (print p on e) n l m h = search (arith, rules, expr_placed)
-    stmt_placed (assign p xs e) n l m h =
-        ap (λ g. at p (bind g (λ r. take xs r.value r.memory))) (expr_placed e n l m h)
+    stmt_placed (assign p xs e) n l m h = search (arith, rules, expr_placed)
     stmt_placed (if_else p c a b) n l m h =
         search (arith, rules, held_back, then_same, expr_placed, held_front, if_same, body_placed a, body_placed b)
     stmt_placed (for_each p xs e c body other) n l m h =

@@ -2,7 +2,7 @@
 use Rattle.std.proofs.Common.{◌≡◌, ℕ, zero, suc, ◌+◌, Bool, true, false, List, [], ◌∷◌, length, Option, Some, None}
 use Rattle.std.proofs.Common.{refl, sym, ap, subst}
 use Rattle.std.specs.Prelude.{slice_get}
-use Rattle.std.specs.List.{AllByRecursion}
+use Rattle.std.specs.List.{AllByRecursion as Each}
 use Rattle.jt_chains.specs.Chain.{Namespace}
 use Rattle.jt_eval.specs.Filters.{Filters}
 use Rattle.jt_rules.specs.CompileEnv.{CompileEnv}
@@ -18,7 +18,6 @@ use Rattle.jt_semantics.specs.Layout.{shared}
 use Rattle.jt_semantics.specs.Programs.{routines, program}
 use Rattle.jt_chains.specs.Includes.{InOrder}
 use Rattle.jt_chains.specs.Rules.{Reaches, KeepsRules}
-use Rattle.jt_semantics.proofs.ChainOrder.{Every}
 use Rattle.jt_semantics.proofs.KeptUses.{ChainsKeep}
 use Rattle.jt_semantics.proofs.ArityCorrect.{routines_serve}
 
@@ -95,16 +94,16 @@ module _ (fs : Filters) (rs : List (Routine Constant)) (k : ℕ) where
     body_placed l end n h = tt
     body_placed l (stmt s rest) n h = (stmt_placed l s n h.0, body_placed l rest (n + length (stmt_values s)) h.1)
 
-  all_placed : (qs : List (Routine Constant)) (n : ℕ) → Every (λ r. BodyTakes fs rs false r.body) qs
-      → AllByRecursion (λ r. BodyTakes fs (placed_routines rs k) false r.body) (placed_routines qs n)
+  all_placed : (qs : List (Routine Constant)) (n : ℕ) → Each (λ r. BodyTakes fs rs false r.body) qs
+      → Each (λ r. BodyTakes fs (placed_routines rs k) false r.body) (placed_routines qs n)
   all_placed [] n h = tt
   all_placed (q ∷ qs) n h = (body_placed false q.body n h.0, all_placed qs (n + length (body_values q.body)) h.1)
 
 pub program_takes : (cenv : CompileEnv) (entry : Namespace) (rest : List Namespace)
-    → InOrder cenv.sources (entry ∷ rest) → AllByRecursion (Reaches cenv.sources cenv.escaping entry) (entry ∷ rest)
+    → InOrder cenv.sources (entry ∷ rest) → Each (Reaches cenv.sources cenv.escaping entry) (entry ∷ rest)
     → KeepsRules cenv.sources cenv.escaping entry
     → ChainsKeep cenv (entry ∷ rest) → ChainsKnown cenv (entry ∷ rest)
-    → AllByRecursion (λ r. BodyTakes cenv.filters (program cenv (entry ∷ rest) entry).routines false r.body)
+    → Each (λ r. BodyTakes cenv.filters (program cenv (entry ∷ rest) entry).routines false r.body)
     (program cenv (entry ∷ rest) entry).routines
 program_takes cenv entry rest ordered reached unbroken kept known =
     all_placed cenv.filters (routines cenv (entry ∷ rest)) (length (shared cenv (entry ∷ rest)))

@@ -1,6 +1,6 @@
 -- The meaning of a chain's program is the meaning of the chain.
 use Rattle.std.proofs.Common.{◌≡◌, ℕ, suc, ◌+◌, ◌≤◌, Bool, true, false, if◌then◌else◌, List, [], ◌∷◌, ◌++◌, length, map}
-use Rattle.std.proofs.Common.{Some, None, refl, sym, ap, ◌∙◌, subst, arith, rules}
+use Rattle.std.proofs.Common.{Some, refl, sym, ap, ◌∙◌, subst, arith, rules}
 use Rattle.std.specs.Prelude.{◌||◌}
 use Rattle.std.specs.Str.{bytes_eq}
 use Rattle.jt_value.specs.Tree.{Tree}
@@ -23,6 +23,7 @@ use Rattle.jt_semantics.proofs.EnvMemoryAgreement.{Held, global_given, global_he
 use Rattle.jt_semantics.proofs.CallInvariant.{Wrote}
 use Rattle.jt_semantics.proofs.ResolutionCorrect.{held_locals, held_first, held_after, chain_knot, calls_mean}
 use Rattle.jt_semantics.proofs.PoolCorrect.{routine_placed, calls_placed}
+use Rattle.std.proofs.lemmas.List.{length-map}
 
 append_empty : {A : Type 0} (us : List A) → us ++ [] ≡ us
 append_empty [] = refl
@@ -32,10 +33,7 @@ append_empty (u ∷ us) = ap (λ zs. u ∷ zs) (append_empty us)
 start_holds : (context : Pairs) (n : ℕ) (ns : List Text) (ts : List Tree) (x : Text) (i : ℕ)
     → slot_in x (globals_from n ns) ≡ Some (global i) → Held ts n (map (value_in context) ns)
     → value_in context x ≡ tree_at ts i
-start_holds context n [] ts x i e h = absurd (nothing e)
-  where
-    nothing : None ≡ Some (global i) → ⊥
-    nothing q = cc
+start_holds context n [] ts x i e h = search (arith, rules)
 start_holds context n (y ∷ ys) ts x i e h =
     through (bytes_eq y x) refl e (λ f. start_holds context (suc n) ys ts x i f h.1)
   where
@@ -68,7 +66,7 @@ program_means cenv name rest ordered context n =
     let values = map (value_in context) (names cenv order entry) in
     let gs = with_locals (count_globals cenv order order) (globals_of context (names cenv order entry)) in
     let in_pool : Held p k (routines_values rs) =
-    subst (λ z. Held p z (routines_values rs)) (let e : k + 0 ≡ k = omega arith in e)
+    subst (λ z. Held p z (routines_values rs)) (omega arith)
     (held_after (shared cenv order) (routines_values rs) 0 (routines_values rs)
     (subst (λ z. Held z 0 (routines_values rs)) (append_empty (routines_values rs))
     (held_first (routines_values rs) []))) in
@@ -91,9 +89,5 @@ program_means cenv name rest ordered context n =
     ∙ same_text_out cenv order (chain_knot cenv order ordered (calls_below cenv n) call
     (calls_mean cenv order ordered n) name known context gs agree)
   where
-    counts : (ns : List Text) → length (map (value_in context) ns) ≡ length ns
-    counts [] = refl
-    counts (x ∷ ns) = ap suc (counts ns)
-
     room : (ns : List Text) (c : ℕ) → 0 + length (map (value_in context) ns) ≤ length ns + c
-    room ns c = let e = counts ns in omega (arith, e)
+    room ns c = let e = length-map ns (value_in context) in omega (arith, e)

@@ -3,13 +3,13 @@ use Rattle.std.proofs.Common.{◌≡◌, ℕ, suc, ◌+◌, ◌*◌, max, ◌≤
 use Rattle.std.proofs.Common.{◌++◌, length, Option, Some, None, arith, refl, length-append, rules}
 use Rattle.std.proofs.lemmas.List.{length-map}
 use Rattle.std.specs.Prelude.{flat_map, filter, map}
-use Rattle.std.specs.List.{AllByRecursion}
+use Rattle.std.specs.List.{AllByRecursion as Each}
 use Rattle.std.specs.Str.{bytes_eq}
 use Rattle.jt_ast.specs.Expressions.{Text}
 use Rattle.jt_ast.specs.Statements.{Parameter, Stmt, choose, for_each, set_block, with_values, filter_block, autoescape}
 use Rattle.jt_ast.specs.Statements.{macro, block, stmt_weight, Body, end, stmt, body_weight, Branches, no_branches}
 use Rattle.jt_ast.specs.Statements.{branch, branch_weight, body_bound}
-use Rattle.jt_chains.specs.Chain.{Sources, Namespace, a_chain, a_library, same_namespace, listed, Template, templates}
+use Rattle.jt_chains.specs.Chain.{Sources, Namespace, a_library, same_namespace, listed, Template, templates}
 use Rattle.jt_chains.specs.Chain.{BlockBody, blocks_of, blocks_in, blocks_under, all_bodies, MacroBody, macros_in}
 use Rattle.jt_chains.specs.Chain.{macros}
 use Rattle.jt_eval.specs.Filters.{default_value}
@@ -37,11 +37,12 @@ use Rattle.jt_semantics.proofs.ValueBounds.{followed_count, stmt_counted, all_co
 use Rattle.jt_semantics.proofs.EntryBounds.{followed_low, stmt_low, all_low, scope_low}
 use Rattle.jt_semantics.proofs.FreeNameWeights.{stmt_free, body_free, AllPaid, MacrosPaid, all_more, macros_more}
 use Rattle.jt_semantics.proofs.FreeNameWeights.{body_paid, templates_bound, templates_pay, chain_blocks, chain_macros}
-use Rattle.jt_semantics.proofs.FreeNameWeights.{scopes_few, parameters_bound, all_append}
+use Rattle.jt_semantics.proofs.FreeNameWeights.{scopes_few, parameters_bound}
 use Rattle.jt_chains.specs.Includes.{InOrder}
 use Rattle.jt_semantics.proofs.EnvLookup.{namespace_same, namespace_is, no_both}
 use Rattle.jt_semantics.proofs.DefinedNames.{given_all, all_own}
 use Rattle.jt_semantics.proofs.ChainOrder.{libraries_stand}
+use Rattle.jt_semantics.proofs.EachElement.{each_append}
 
 -- ---- Each body is counted once: in its template, or as the body of a block or a macro
 
@@ -65,20 +66,18 @@ module _ (t : Text) where
   mutual
     stmt_once : (s : Stmt) (on : Bool) → stmt_own s + bodies_own (blocks_of t s on) ≤ stmt_weight s
     stmt_once (choose bs other) on = search (arith, rules, bodies_append, branch_once bs on, body_once other on)
-    stmt_once (for_each line xs e c body other) on =
-        omega (arith, bodies_append (blocks_in t body on) (blocks_in t other on), body_once body on, body_once other on)
+    stmt_once (for_each line xs e c body other) on = grind (arith, bodies_append, body_once body on, body_once other on)
     stmt_once (set_block line x body) on = omega (arith, body_once body on)
     stmt_once (with_values line ps body) on = omega (arith, body_once body on)
     stmt_once (filter_block line fs body) on = omega (arith, body_once body on)
     stmt_once (autoescape line now body) on = omega (arith, body_once body now)
     stmt_once (macro line x ps body) on = omega (arith, body_once body on)
     stmt_once (block line x is required body) on = omega (arith, body_once body on)
-    stmt_once a0 on = omega arith
+    stmt_once s on = omega arith
 
     body_once : (b : Body) (on : Bool) → body_own b + bodies_own (blocks_in t b on) ≤ body_weight b
     body_once end on = omega arith
-    body_once (stmt s rest) on =
-        omega (arith, bodies_append (blocks_of t s on) (blocks_in t rest on), stmt_once s on, body_once rest on)
+    body_once (stmt s rest) on = search (arith, rules, bodies_append, stmt_once s on, body_once rest on)
 
     branch_once : (bs : Branches) (on : Bool) → branch_own bs + bodies_own (blocks_under t bs on) ≤ branch_weight bs
     branch_once no_branches on = omega arith
@@ -143,8 +142,7 @@ module _ (cenv : CompileEnv) (order : List Namespace) (h : Namespace) where
     entry_sized : (g : Namespace) → body_size (resolved_chain cenv order g (templates cenv.sources g))
         ≤ 100 * templates_own (templates cenv.sources g)
         → routines_size (entry_routines cenv order g) ≤ 100 * templates_own (templates cenv.sources g) + 1
-    entry_sized (a_chain n) c = omega (arith, c)
-    entry_sized (a_library n) c = omega arith
+    entry_sized g c = search (arith, rules)
 
     all_in_chain : routines_size (chain_routines cenv order h) ≤ 100 * templates_weight (templates cenv.sources h) + 1
     all_in_chain =
@@ -160,7 +158,7 @@ mutual
   expr_placed (slots.disjunction x y) n = search (arith, rules, expr_placed x n, expr_placed y)
   expr_placed (slots.choice c x y) n = search (arith, rules, expr_placed c n, expr_placed x, expr_placed y)
   expr_placed (slots.invoke u on es) n = let a = row_placed es n in (omega (arith, a.0), omega (arith, a.1))
-  expr_placed a0 n = (refl, refl)
+  expr_placed e n = (refl, refl)
 
   row_placed : (es : SRow Constant) (n : ℕ)
       → (row_size (placed_row es n) ≡ row_size es) × (row_height (placed_row es n) ≡ row_height es)
@@ -200,14 +198,12 @@ mutual
 
 routines_placed : (rs : List (Routine Constant)) (n : ℕ) → routines_size (placed_routines rs n) ≡ routines_size rs
 routines_placed [] n = refl
-routines_placed (r ∷ rs) n =
-    let a = body_placed r.body n in omega (arith, a.0, routines_placed rs (n + length (body_values r.body)))
+routines_placed (r ∷ rs) n = search (arith, rules, body_placed, routines_placed rs)
 
-heights_placed : (w : ℕ) (rs : List (Routine Constant)) (n : ℕ) → AllByRecursion (λ r. 2 * body_height r.body ≤ w) rs
-    → AllByRecursion (λ r. 2 * body_height r.body ≤ w) (placed_routines rs n)
+heights_placed : (w : ℕ) (rs : List (Routine Constant)) (n : ℕ) → Each (λ r. 2 * body_height r.body ≤ w) rs
+    → Each (λ r. 2 * body_height r.body ≤ w) (placed_routines rs n)
 heights_placed w [] n h = tt
-heights_placed w (r ∷ rs) n h =
-    let a = body_placed r.body n in (omega (arith, a.1, h.0), heights_placed w rs (n + length (body_values r.body)) h.1)
+heights_placed w (r ∷ rs) n h = search (arith, rules, body_placed, heights_placed w rs)
 
 -- ---- The entries of a chain's routines: bound names pay for the parameters that calls load
 
@@ -238,7 +234,7 @@ module _ (cenv : CompileEnv) (order : List Namespace) (h : Namespace) (q : ℕ) 
 
   -- The sequence of templates needs at most the entries of the template that needs most.
   chain_low : (w : ℕ) (ts : List Template)
-      → AllByRecursion (λ t. (body_free t.body + 2 * q ≤ w) × (body_bound t.body ≤ q)) ts
+      → Each (λ t. (body_free t.body + 2 * q ≤ w) × (body_bound t.body ≤ q)) ts
       → 2 * body_height (resolved_chain cenv order h ts) ≤ w
   chain_low w [] g = omega arith
   chain_low w (t ∷ []) g =
@@ -246,7 +242,7 @@ module _ (cenv : CompileEnv) (order : List Namespace) (h : Namespace) (q : ℕ) 
   chain_low w (t ∷ (u ∷ us)) g = search (arith, rules, chain_low w (u ∷ us) g.1, sets_low, followed_low)
 
   blocks_low : (w n : ℕ) (bs : List BlockBody) → AllPaid w q bs
-      → AllByRecursion (Low (max 2 w)) (body_routines cenv order h (counted_from n bs))
+      → Each (Low (max 2 w)) (body_routines cenv order h (counted_from n bs))
   blocks_low w n [] g = tt
   blocks_low w n (b ∷ bs) g =
       let part : Part =
@@ -263,7 +259,7 @@ module _ (cenv : CompileEnv) (order : List Namespace) (h : Namespace) (q : ℕ) 
       )
 
   macros_low : (w : ℕ) (ms : List MacroBody) → MacrosPaid w q ms
-      → AllByRecursion (Low (max 2 w)) (map (macro_routine cenv order h) ms)
+      → Each (Low (max 2 w)) (map (macro_routine cenv order h) ms)
   macros_low w [] g = tt
   macros_low w (m ∷ ms) g =
       let sp = bound_all (map (λ p. p.name) m.parameters) (top_senv cenv order h m.template) in
@@ -279,11 +275,11 @@ module _ (cenv : CompileEnv) (order : List Namespace) (h : Namespace) (q : ℕ) 
 
 -- Each template of a chain is paid for, with the names that all templates bind.
 templates_each : (w n : ℕ) (ts : List Template) → templates_weight ts + 2 * n ≤ w + 2 * templates_bound ts
-    → templates_bound ts ≤ n → AllByRecursion (λ t. (body_free t.body + 2 * n ≤ w) × (body_bound t.body ≤ n)) ts
+    → templates_bound ts ≤ n → Each (λ t. (body_free t.body + 2 * n ≤ w) × (body_bound t.body ≤ n)) ts
 templates_each w n [] e l = tt
 templates_each w n (t ∷ ts) e l = search (arith, rules, body_paid t.body, templates_pay ts, templates_each w n ts)
 
-macros_few : (w n : ℕ) (ms : List MacroBody) → MacrosPaid w n ms → AllByRecursion (λ m. length m.parameters ≤ n) ms
+macros_few : (w n : ℕ) (ms : List MacroBody) → MacrosPaid w n ms → Each (λ m. length m.parameters ≤ n) ms
 macros_few w n [] p = tt
 macros_few w n (m ∷ ms) p = (p.0.parameters, macros_few w n ms p.1)
 
@@ -349,27 +345,24 @@ module _ (cenv : CompileEnv) (order : List Namespace) (ordered : InOrder cenv.so
       few = (is_part cenv.sources order h known).bound
 
       in_order : (b : Bool) → length (if b then scope_names cenv.sources h else []) ≤ q
-      in_order true = omega (arith, few, scopes_few (templates cenv.sources h))
-      in_order false = omega arith
+      in_order b = search (arith, rules, few, scopes_few)
 
       of_scopes : (b : Bool) → length (if b then scopes cenv order h else []) ≤ q
-      of_scopes true = in_order (listed h order)
-      of_scopes false = omega arith
+      of_scopes b = grind (arith, in_order)
 
   entry_low : (g : Namespace) → 2 * body_height (resolved_chain cenv order g (templates cenv.sources g)) ≤ w
-      → AllByRecursion (Low (max 2 w)) (entry_routines cenv order g)
-  entry_low (a_chain n) c = (omega (arith, c), tt)
-  entry_low (a_library n) c = tt
+      → Each (Low (max 2 w)) (entry_routines cenv order g)
+  entry_low g c = search (arith, rules)
 
-  low_in_chain : (h : Namespace) → listed h order ≡ true → AllByRecursion (Low (max 2 w)) (chain_routines cenv order h)
+  low_in_chain : (h : Namespace) → listed h order ≡ true → Each (Low (max 2 w)) (chain_routines cenv order h)
   low_in_chain h known =
       let ts = templates cenv.sources h in
       let p = is_part cenv.sources order h known in
       let k = at_most h known in
-      all_append (Low (max 2 w)) (entry_routines cenv order h)
+      each_append (Low (max 2 w)) (entry_routines cenv order h)
       (map (macro_routine cenv order h) (macros cenv.sources h) ++ body_routines cenv order h (numbered_bodies cenv h))
       (entry_low h (chain_low cenv order h q k w ts (templates_each w q ts p.paid p.bound)))
-      (all_append (Low (max 2 w)) (map (macro_routine cenv order h) (macros cenv.sources h))
+      (each_append (Low (max 2 w)) (map (macro_routine cenv order h) (macros cenv.sources h))
       (body_routines cenv order h (numbered_bodies cenv h))
       (macros_low cenv order h q k w (macros cenv.sources h) (namespace_macros h known))
       (blocks_low cenv order h q k w 0 (all_bodies cenv.sources cenv.escaping h)
@@ -377,13 +370,13 @@ module _ (cenv : CompileEnv) (order : List Namespace) (ordered : InOrder cenv.so
       (chain_blocks cenv.escaping ts))))
 
   chains_low : (hs : List Namespace) → ((h : Namespace) → listed h hs ≡ true → listed h order ≡ true)
-      → AllByRecursion (Low (max 2 w)) (flat_map (chain_routines cenv order) hs)
+      → Each (Low (max 2 w)) (flat_map (chain_routines cenv order) hs)
   chains_low [] i = tt
-  chains_low (h ∷ hs) i = search (arith, rules, all_append (Low (max 2 w)), low_in_chain, namespace_is, chains_low hs)
+  chains_low (h ∷ hs) i = search (arith, rules, each_append (Low (max 2 w)), low_in_chain, namespace_is, chains_low hs)
 
 -- ---- All chains
 
-chains_sized : (cenv : CompileEnv) (order hs : List Namespace) → AllByRecursion (IsFew cenv order) hs
+chains_sized : (cenv : CompileEnv) (order hs : List Namespace) → Each (IsFew cenv order) hs
     → routines_size (flat_map (chain_routines cenv order) hs) ≤ 100 * chains_weight cenv.sources hs + length hs
 chains_sized cenv order [] k = omega arith
 chains_sized cenv order (h ∷ hs) k =
@@ -454,8 +447,7 @@ module _ (cenv : CompileEnv) (order : List Namespace) (h : Namespace)
   entry_counted : (g : Namespace) → length (body_values (resolved_chain cenv order g (templates cenv.sources g)))
       ≤ templates_own (templates cenv.sources g)
       → length (routines_values (entry_routines cenv order g)) ≤ templates_own (templates cenv.sources g)
-  entry_counted (a_chain n) c = search (arith, rules, length-append)
-  entry_counted (a_library n) c = omega arith
+  entry_counted g c = search (arith, rules, length-append)
 
   counted_in_chain : length (routines_values (chain_routines cenv order h))
       + length (defaults_of (macros cenv.sources h))
@@ -474,8 +466,7 @@ module _ (cenv : CompileEnv) (order : List Namespace) (h : Namespace)
   bodies_number n (b ∷ bs) = omega (arith, bodies_number (suc n) bs)
 
   entry_number : (g : Namespace) → length (entry_routines cenv order g) ≤ 1
-  entry_number (a_chain n) = omega arith
-  entry_number (a_library n) = omega arith
+  entry_number g = search (arith, rules)
 
   units_in_chain : length (chain_routines cenv order h) ≤ templates_weight (templates cenv.sources h) + 1
   units_in_chain = search (arith, rules, chain_once, macros_number, bodies_number, entry_number, length-append)
@@ -559,8 +550,8 @@ module _ (cenv : CompileEnv) (order : List Namespace) (n : ℕ) (some : 1 ≤ n)
       (bound_below n some (set_in b) (sp.free + length ps) (bound_table ps sp.free sp.table)
       (omega (arith, k, locality.in_few b)) it) (omega (arith, k)))
 
-  macros_localed : (ms : List MacroBody) → AllByRecursion (λ m. length m.parameters ≤ 200) ms → 200 + macros_own ms ≤ n
-      → AllByRecursion (Holds n) (map (macro_routine cenv order h) ms)
+  macros_localed : (ms : List MacroBody) → Each (λ m. length m.parameters ≤ 200) ms → 200 + macros_own ms ≤ n
+      → Each (Holds n) (map (macro_routine cenv order h) ms)
   macros_localed [] f k = tt
   macros_localed (m ∷ ms) f k =
       let l = length-map m.parameters (λ (p : Parameter). p.name) in (
@@ -576,7 +567,7 @@ module _ (cenv : CompileEnv) (order : List Namespace) (n : ℕ) (some : 1 ≤ n)
       )
 
   blocks_localed : (i : ℕ) (bs : List BlockBody) → ((x : Text) → length (block_parameters cenv order h x) ≤ 200)
-      → 200 + bodies_own bs ≤ n → AllByRecursion (Holds n) (body_routines cenv order h (counted_from i bs))
+      → 200 + bodies_own bs ≤ n → Each (Holds n) (body_routines cenv order h (counted_from i bs))
   blocks_localed i [] f k = tt
   blocks_localed i (b ∷ bs) f k =
       let part : Part =
@@ -588,18 +579,17 @@ module _ (cenv : CompileEnv) (order : List Namespace) (n : ℕ) (some : 1 ≤ n)
       )
 
   entry_localed : (g : Namespace) → body_locals (resolved_chain cenv order g (templates cenv.sources g)) ≤ n
-      → AllByRecursion (Holds n) (entry_routines cenv order g)
-  entry_localed (a_chain m) c = (c, tt)
-  entry_localed (a_library m) c = tt
+      → Each (Holds n) (entry_routines cenv order g)
+  entry_localed g c = search (arith, rules)
 
   localed_in_chain : IsFew cenv order h → 200 + templates_weight (templates cenv.sources h) ≤ n
-      → AllByRecursion (Holds n) (chain_routines cenv order h)
+      → Each (Holds n) (chain_routines cenv order h)
   localed_in_chain k room =
       let once = chain_once cenv.escaping (templates cenv.sources h) in
-      all_append (Holds n) (entry_routines cenv order h)
+      each_append (Holds n) (entry_routines cenv order h)
       (map (macro_routine cenv order h) (macros cenv.sources h) ++ body_routines cenv order h (numbered_bodies cenv h))
       (entry_localed h (chain_localed (templates cenv.sources h) (omega (arith, room, once))))
-      (all_append (Holds n) (map (macro_routine cenv order h) (macros cenv.sources h))
+      (each_append (Holds n) (map (macro_routine cenv order h) (macros cenv.sources h))
       (body_routines cenv order h (numbered_bodies cenv h))
       (macros_localed (macros cenv.sources h)
       (all_own cenv.sources (λ m. length m.parameters ≤ 200) h (macros cenv.sources h) _ k.macros)
@@ -609,16 +599,16 @@ module _ (cenv : CompileEnv) (order : List Namespace) (n : ℕ) (some : 1 ≤ n)
 
 chains_localed : (cenv : CompileEnv) (order hs : List Namespace) (n : ℕ) (some : 1 ≤ n)
     (few : (h : Namespace) (x : Text) → length (block_parameters cenv order h x) ≤ n)
-    → AllByRecursion (IsFew cenv order) hs → 200 + chains_weight cenv.sources hs ≤ n
-    → AllByRecursion (Holds n) (flat_map (chain_routines cenv order) hs)
+    → Each (IsFew cenv order) hs → 200 + chains_weight cenv.sources hs ≤ n
+    → Each (Holds n) (flat_map (chain_routines cenv order) hs)
 chains_localed cenv order [] n some few k room = tt
 chains_localed cenv order (h ∷ hs) n some few k room =
-    all_append (Holds n) (chain_routines cenv order h) (flat_map (chain_routines cenv order) hs)
+    each_append (Holds n) (chain_routines cenv order h) (flat_map (chain_routines cenv order) hs)
     (localed_in_chain cenv order n some few h k.0 (omega (arith, room)))
     (chains_localed cenv order hs n some few k.1 (omega (arith, room)))
 
-holds_placed : (n : ℕ) (rs : List (Routine Constant)) (i : ℕ) → AllByRecursion (Holds n) rs
-    → AllByRecursion (Holds n) (placed_routines rs i)
+holds_placed : (n : ℕ) (rs : List (Routine Constant)) (i : ℕ) → Each (Holds n) rs
+    → Each (Holds n) (placed_routines rs i)
 holds_placed n [] i h = tt
 holds_placed n (r ∷ rs) i h = (h.0, holds_placed n rs (i + length (body_values r.body)) h.1)
 

@@ -169,55 +169,57 @@ with_b = source "l" (Macro 1 (codes "b") (parameter "t" ∷ []) end ∷ []) ∷ 
 
 -- A library is read as a value in `{% import "l" as f %}{{ f }}`.
 library_read : Breaks (source "t" (Import "l" "f" ∷ print (name "f") ∷ []) ∷ with_b) error.MacroAsValue
-library_read = inl (inr (inl refl))
+library_read = inl (inr (inr (inl refl)))
 
 -- Calls after `{% import "l" as f %}`: `{{ f.z() }}`, `{{ f() }}`, `{{ f.b(1, 2) }}` and `{{ f.b(1)
 -- }}`.
 no_macro_called : Breaks (source "t" (Import "l" "f" ∷ print (call (of (name "f") "z") []) ∷ []) ∷ with_b)
     error.NotCallable
-no_macro_called = inl (inr (inl tt))
+no_macro_called = inl (inr (inr (inl tt)))
 
 library_called : Breaks (source "t" (Import "l" "f" ∷ print (call (name "f") []) ∷ []) ∷ with_b)
     error.NotCallable
-library_called = inl (inr (inl tt))
+library_called = inl (inr (inr (inl tt)))
 
 too_many_for_a_library : Breaks
     (source "t" (Import "l" "f" ∷ print (call (of (name "f") "b") (num 1 ∷ num 2 ∷ [])) ∷ []) ∷ with_b)
     error.BadArguments
-too_many_for_a_library = inl (inr (inl refl))
+too_many_for_a_library = inl (inr (inr (inl refl)))
 
 fits_a_library : Breaks (source "t" (Import "l" "f" ∷ print (call (of (name "f") "b") (num 1 ∷ [])) ∷ []) ∷ with_b)
     error.BadArguments → ⊥
 fits_a_library (inl (inl e)) = e
-fits_a_library (inl (inr (inl e))) = differs e
-fits_a_library (inl (inr (inr e))) = e
+fits_a_library (inl (inr (inl e))) = e
+fits_a_library (inl (inr (inr (inl e)))) = differs e
+fits_a_library (inl (inr (inr (inr e)))) = e
 fits_a_library (inr e) = e
 
 -- Reads and calls after `{% from "l" import b as c %}`: `{{ c }}`, `{{ b(1) }}` and `{{ c(1) }}`.
 given_read : Breaks (source "t" (From "l" ((codes "b", codes "c") ∷ []) ∷ print (name "c") ∷ []) ∷ with_b)
     error.MacroAsValue
-given_read = inl (inr (inl refl))
+given_read = inl (inr (inr (inl refl)))
 
 not_given : Breaks
     (source "t" (From "l" ((codes "b", codes "c") ∷ []) ∷ print (call (name "b") (num 1 ∷ [])) ∷ []) ∷ with_b)
     error.NotCallable
-not_given = inl (inr (inl tt))
+not_given = inl (inr (inr (inl tt)))
 
 given_called : Breaks
     (source "t" (From "l" ((codes "b", codes "c") ∷ []) ∷ print (call (name "c") (num 1 ∷ [])) ∷ []) ∷ with_b)
     error.BadArguments → ⊥
 given_called (inl (inl e)) = e
-given_called (inl (inr (inl e))) = differs e
-given_called (inl (inr (inr e))) = e
+given_called (inl (inr (inl e))) = e
+given_called (inl (inr (inr (inl e)))) = differs e
+given_called (inl (inr (inr (inr e)))) = e
 given_called (inr e) = e
 
 -- Imports that bind reserved names: `{% import "l" as loop %}` and `{% from "l" import b as range
 -- %}`.
 loop_given : Breaks (source "t" (Import "l" "loop" ∷ []) ∷ with_b) error.LoopOutside
-loop_given = inl (inl refl)
+loop_given = inl (inr (inl refl))
 
 range_given : Breaks (source "t" (From "l" ((codes "b", codes "range") ∷ []) ∷ []) ∷ with_b) error.NotCallable
-range_given = inl (inl (inr (inr refl)))
+range_given = inl (inr (inl (inr (inr refl))))
 
 -- The library has no macro z for `{% from "l" import z %}`.
 no_such_macro : NoMacro (among_these (source "t" (From "l" ((codes "z", codes "z") ∷ []) ∷ []) ∷ with_b)) true entry

@@ -2,9 +2,10 @@
 use Rattle.std.proofs.Common.{◌≡◌, ℕ, zero, suc, ◌+◌, ◌<◌, ◌≤◌, Bool, true, false, if◌then◌else◌, List, [], ◌∷◌, ◌++◌}
 use Rattle.std.proofs.Common.{length, map, Option, Some, None, refl, sym, ap, ◌∙◌, subst, arith, append_assoc, ◌⊎◌, inl}
 use Rattle.std.proofs.Common.{inr, rules}
-use Rattle.std.proofs.lemmas.List.{length-map}
-use Rattle.std.specs.Prelude.{◌||◌, flat_map, max, slice_get}
+use Rattle.std.proofs.lemmas.List.{append-nil, length-map}
+use Rattle.std.specs.Prelude.{flat_map, max, slice_get}
 use Rattle.std.specs.Str.{bytes_eq}
+use Rattle.std.specs.List.{AllByRecursion as Each}
 use Rattle.jt_value.specs.Tree.{Tree}
 use Rattle.jt_value.specs.Pairs.{Pairs}
 use Rattle.jt_eval.specs.Eval.{gives, bind}
@@ -13,7 +14,7 @@ use Rattle.jt_ir.specs.Slots.{scalls}
 use Rattle.jt_ast.specs.Expressions.{Text}
 use Rattle.jt_ast.specs.Statements.{Parameter, Body, end, stmt}
 use Rattle.jt_semantics.specs.Env.{Env, read, inside, top}
-use Rattle.jt_chains.specs.Chain.{Namespace, a_chain, same_namespace, listed, Template, templates, BlockBody, MacroBody}
+use Rattle.jt_chains.specs.Chain.{Namespace, a_chain, listed, Template, templates, BlockBody, MacroBody}
 use Rattle.jt_chains.specs.Chain.{macros, macro_of}
 use Rattle.jt_eval.specs.Loops.{tree_at}
 use Rattle.jt_eval.specs.Filters.{default_value}
@@ -32,52 +33,49 @@ use Rattle.jt_semantics.specs.Resolve.{macro_routine, body_routine}
 use Rattle.jt_ir.specs.Locals.{body_locals}
 use Rattle.jt_semantics.specs.Programs.{routines, pool}
 use Rattle.jt_semantics.proofs.SameEval.{SameEval, both, deep, bind_both, weaken, by_right}
-use Rattle.jt_semantics.proofs.EnvLookup.{same_text, namespace_same, is_same, no_both, among_front, among_back, IsInner}
-use Rattle.jt_semantics.proofs.EnvLookup.{held}
+use Rattle.jt_semantics.proofs.EnvLookup.{same_text, namespace_same, is_same, no_both, IsInner, held}
 use Rattle.jt_semantics.proofs.EnvMemoryAgreement.{Kept, kept_same, kept_then, Held, global_slot, globals_apart}
 use Rattle.jt_semantics.proofs.EnvMemoryAgreement.{global_held, global_reads, limit, Below, read_names, Fits}
 use Rattle.jt_semantics.proofs.EnvMemoryAgreement.{GlobalsAgree, fits_all}
 use Rattle.jt_semantics.proofs.CallInvariant.{Sees, Tail, Good, around_of, Wrote, CallsMean, DefaultsAt, DefaultsLaid}
 use Rattle.jt_semantics.proofs.CallInvariant.{Laid, Included}
-use Rattle.jt_semantics.proofs.StatementCorrect.{set_among, in_among, Each, each_front, each_back, scoped_by, scoped_in}
+use Rattle.jt_semantics.proofs.StatementCorrect.{set_among, in_among, scoped_by, scoped_in}
 use Rattle.jt_semantics.proofs.StatementCorrect.{Proper, followed_same, Owns, of_top, of_scope, Here, scope_both}
 use Rattle.jt_semantics.proofs.StatementCorrect.{good_bound, inside_inner, stmt_same, body_same}
+use Rattle.jt_semantics.proofs.ExpressionCorrect.{held_behind}
 use Rattle.jt_semantics.proofs.RoutineLookup.{chain_is, macro_named, macro_is, body_is}
 use Rattle.jt_semantics.proofs.Scopes.{among_or_not}
-use Rattle.jt_semantics.proofs.ChainOrder.{Every, Belongs, libraries_stand, templates_belong, scopes_known}
+use Rattle.jt_semantics.proofs.ChainOrder.{Belongs, libraries_stand, templates_belong, scopes_known}
 use Rattle.jt_semantics.proofs.ChainOrder.{macro_belongs, body_belongs}
-use Rattle.jt_semantics.proofs.Among.{Among, AllAmong}
+use Rattle.jt_semantics.proofs.Among.{Among, AllAmong, among_front, among_back, all_of}
+use Rattle.jt_semantics.proofs.EachElement.{each_front, each_back}
 
 -- ---- Locals at the start of a routine
 
 locals_at : (n : ℕ) (ts : List Tree) (i : ℕ) → i < n → tree_at (with_locals n ts) i ≡ tree_at ts i
-locals_at (suc n) [] (suc i) l = locals_at n [] i (let e : i < n = omega (arith, l) in e)
-locals_at (suc n) (t ∷ ts) (suc i) l = locals_at n ts i (let e : i < n = omega (arith, l) in e)
-locals_at a0 a1 a2 l = search (arith, rules)
+locals_at (suc n) [] (suc i) l = locals_at n [] i (omega (arith, l))
+locals_at (suc n) (t ∷ ts) (suc i) l = locals_at n ts i (omega (arith, l))
+locals_at n ts i l = search (arith, rules)
 
 pub held_locals : (n : ℕ) (ts : List Tree) (k : ℕ) (vs : List Tree) → k + length vs ≤ n → Held ts k vs
     → Held (with_locals n ts) k vs
 held_locals n ts k [] l h = tt
 held_locals n ts k (v ∷ vs) l h = (
-  locals_at n ts k (let e : k < n = omega (arith, l) in e) ∙ h.0,
-  held_locals n ts (suc k) vs (let e : suc k + length vs ≤ n = omega (arith, l) in e) h.1,
+  locals_at n ts k (omega (arith, l)) ∙ h.0,
+  held_locals n ts (suc k) vs (omega (arith, l)) h.1,
 )
 
 -- ---- Rows before and after others
 
-held_one : (t : Tree) (ts : List Tree) (k : ℕ) (vs : List Tree) → Held ts k vs → Held (t ∷ ts) (suc k) vs
-held_one t ts k [] h = tt
-held_one t ts k (v ∷ vs) h = (h.0, held_one t ts (suc k) vs h.1)
-
 pub held_after : (us ts : List Tree) (k : ℕ) (vs : List Tree) → Held ts k vs → Held (us ++ ts) (length us + k) vs
-held_after [] ts k vs h = subst (λ n. Held ts n vs) (let e : k ≡ 0 + k = omega arith in e) h
+held_after [] ts k vs h = subst (λ n. Held ts n vs) (omega arith) h
 held_after (u ∷ us) ts k vs h =
-    subst (λ n. Held (u ∷ (us ++ ts)) n vs) (let e : suc (length us + k) ≡ length (u ∷ us) + k = omega arith in e)
-    (held_one u (us ++ ts) (length us + k) vs (held_after us ts k vs h))
+    subst (λ n. Held (u ∷ (us ++ ts)) n vs) (omega arith)
+    (held_behind u (us ++ ts) (length us + k) vs (held_after us ts k vs h))
 
 pub held_first : (vs ts : List Tree) → Held (vs ++ ts) 0 vs
 held_first [] ts = tt
-held_first (v ∷ vs) ts = (refl, held_one v (vs ++ ts) 0 vs (held_first vs ts))
+held_first (v ∷ vs) ts = (refl, held_behind v (vs ++ ts) 0 vs (held_first vs ts))
 
 -- ---- Defaults
 
@@ -87,10 +85,7 @@ default_row m = map (λ p. default_value p.default) m.parameters
 defaults_in : (x : Text) (b : MacroBody) (ms : List MacroBody) (ts : List Tree) → macro_of x ms ≡ Some b
     → Held (defaults_of ms ++ ts) (first_default x ms) (default_row b)
 unfolding default_row
-defaults_in x b [] ts e = absurd (nothing e)
-  where
-    nothing : None ≡ Some b → ⊥
-    nothing q = cc
+defaults_in x b [] ts e = search (arith, rules)
 defaults_in x b (m ∷ ms) ts e =
     subst (λ us. Held us (first_default x (m ∷ ms)) (map (λ p. default_value p.default) b.parameters))
     (sym (append_assoc (map (λ p. default_value p.default) m.parameters) (defaults_of ms) ts))
@@ -99,17 +94,13 @@ defaults_in x b (m ∷ ms) ts e =
     is_it : Some m ≡ Some b → m ≡ b
     is_it q = cc
 
-    counts : (ps : List Parameter) → length (map (λ p. default_value p.default) ps) ≡ length ps
-    counts [] = refl
-    counts (p ∷ ps) = ap suc (counts ps)
-
     through : (c : Bool) → (if c then Some m else macro_of x ms) ≡ Some b
         → (macro_of x ms ≡ Some b
         → Held (defaults_of ms ++ ts) (first_default x ms) (map (λ p. default_value p.default) b.parameters))
         → Held (map (λ p. default_value p.default) m.parameters ++ (defaults_of ms ++ ts))
         (if c then 0 else length m.parameters + first_default x ms) (map (λ p. default_value p.default) b.parameters)
     through true e f = search (arith, rules, is_it, held_first)
-    through false e f = search (arith, rules, counts, held_after)
+    through false e f = search (arith, rules, length-map, held_after)
 
 module _ (cenv : CompileEnv) (order : List Namespace) where
   defaults_among : (h : Namespace) (x : Text) (b : MacroBody) (hs : List Namespace) (ts : List Tree)
@@ -119,28 +110,7 @@ module _ (cenv : CompileEnv) (order : List Namespace) where
   unfolding default_row
   defaults_among h x b [] ts e m = absurd (no_both e refl)
   defaults_among h x b (g ∷ gs) ts e m =
-      subst (λ us. Held us (default_in cenv order (g ∷ gs) h x) (map (λ p. default_value p.default) b.parameters))
-      (sym
-      (append_assoc (defaults_of (macros cenv.sources g)) (flat_map (λ k. defaults_of (macros cenv.sources k)) gs) ts))
-      (through (same_namespace g h) refl e (λ f. defaults_among h x b gs ts f m))
-    where
-      through : (c : Bool) → same_namespace g h ≡ c → ((c || listed h gs) ≡ true)
-          → (listed h gs ≡ true → Held (flat_map (λ k. defaults_of (macros cenv.sources k)) gs ++ ts)
-          (default_in cenv order gs h x) (map (λ p. default_value p.default) b.parameters))
-          → Held (defaults_of (macros cenv.sources g) ++ (flat_map (λ k. defaults_of (macros cenv.sources k)) gs ++ ts))
-          (if c then first_default x (macros cenv.sources h)
-          else length (defaults_of (macros cenv.sources g)) + default_in cenv order gs h x)
-          (map (λ p. default_value p.default) b.parameters)
-      through true p e f =
-          subst (λ z. Held
-          (defaults_of (macros cenv.sources z) ++ (flat_map (λ k. defaults_of (macros cenv.sources k)) gs ++ ts))
-          (first_default x (macros cenv.sources h)) (map (λ p. default_value p.default) b.parameters))
-          (sym (namespace_same g h p))
-          (defaults_in x b (macros cenv.sources h) (flat_map (λ k. defaults_of (macros cenv.sources k)) gs ++ ts) m)
-      through false p e f =
-          held_after (defaults_of (macros cenv.sources g))
-          (flat_map (λ k. defaults_of (macros cenv.sources k)) gs ++ ts) (default_in cenv order gs h x)
-          (map (λ p. default_value p.default) b.parameters) (f e)
+      search (arith, rules, append_assoc, defaults_among h x b gs ts, namespace_same, defaults_in, held_after)
 
   defaults_at : (d : ℕ) (ps : List Parameter) → Held (pool cenv order) d (map (λ p. default_value p.default) ps)
       → DefaultsAt cenv order d ps
@@ -148,7 +118,7 @@ module _ (cenv : CompileEnv) (order : List Namespace) where
   defaults_at d (p ∷ ps) h = (h.0, defaults_at (suc d) ps h.1)
 
   defaults_laid : DefaultsLaid cenv order
-  defaults_laid h e x b m = search (arith, rules, macro_named, defaults_at, held_one, defaults_among)
+  defaults_laid h e x b m = search (arith, rules, macro_named, defaults_at, held_behind, defaults_among)
 
   abbrev lim : Namespace → ℕ
   lim h = limit cenv order h
@@ -188,10 +158,8 @@ module _ (cenv : CompileEnv) (order : List Namespace) where
   params_agree env m [] k table h y (inr r) = r
   params_agree env m (x ∷ xs) k table h y (inl (inl p)) =
       search (arith, rules, params_agree env m xs (suc k) ((x, local k) ∷ table) h.1 y, is_same, held, no_both)
-  params_agree env m (x ∷ xs) k table h y (inl (inr i)) =
-      params_agree env m xs (suc k) ((x, local k) ∷ table) h.1 y (inl i)
-  params_agree env m (x ∷ xs) k table h y (inr r) =
-      search (arith, rules, params_agree env m xs (suc k) ((x, local k) ∷ table) h.1 y, held, same_text)
+  params_agree env m (x ∷ xs) k table h y (inl (inr i)) = search (arith, rules, params_agree env m xs)
+  params_agree env m (x ∷ xs) k table h y (inr r) = search (arith, rules, params_agree env m xs, held, same_text)
 
   left_max : (a b : ℕ) → a ≤ max a b
   left_max a b = omega arith
@@ -275,7 +243,7 @@ module _ (cenv : CompileEnv) (order : List Namespace) where
           (body_locals (scoped (set_in c.body) (bound_all ps sp) (resolved_body cenv order c.body))) in
           let fit : 0 + length (map (read env) ps) ≤ r.locals = omega (arith, count, room) in
           let given : Held vs 0 (map (read env) ps) = subst (λ z. Held z 0 (map (read env) ps)) (sym seen.arguments)
-          (subst (λ z. Held z 0 (map (read env) ps)) (append_empty (map (read env) ps))
+          (subst (λ z. Held z 0 (map (read env) ps)) (append-nil (map (read env) ps))
           (held_first (map (read env) ps) [])) in
           let params = held_locals r.locals vs 0 (map (read env) ps) fit given in
           let bel = body_belongs cenv order ordered h e i c found.2.0 found.2.1 found.2.2 in
@@ -305,17 +273,6 @@ module _ (cenv : CompileEnv) (order : List Namespace) where
           refl good (inside_inner cenv order calls scall mean (laid_out ordered) env []) refl bel.belongs.names
           bel.belongs.included bel.belongs.scoped bel.own)
         where
-          append_empty : (us : List Tree) → us ++ [] ≡ us
-          append_empty [] = refl
-          append_empty (u ∷ us) = ap (λ zs. u ∷ zs) (append_empty us)
-
-          all_of : (xs : List Text) → AllAmong xs xs
-          all_of xs = every xs xs (λ y i. i)
-            where
-              every : (ys zs : List Text) → ((y : Text) → Among y ys → Among y zs) → AllAmong ys zs
-              every [] zs f = tt
-              every (y ∷ ys) zs f = (f y (inl refl), every ys zs (λ z i. f z (inr i)))
-
           of_scopes : (b : Bool) → AllAmong (if b then scopes cenv order h else []) (scopes cenv order h)
           of_scopes true = all_of (scopes cenv order h)
           of_scopes false = tt
@@ -397,7 +354,7 @@ module _ (cenv : CompileEnv) (order : List Namespace) where
 
       chain_same : (h : Namespace) (e : listed h order ≡ true) (ts : List Template) (t : Template) (st : State)
           (m : Memory)
-          → at_top h t st m → Every (λ u. Belongs cenv order ordered h e u.body) ts
+          → at_top h t st m → Each (λ u. Belongs cenv order ordered h e u.body) ts
           → SameEval (λ st' n. (n.out ≡ st'.out) × Kept 0 (first_slot cenv order h) m n) (rendered cenv calls h ts st)
           (smeanings cenv.filters cs scall (resolved_chain cenv order h ts) None m)
       unfolding at_top
@@ -430,8 +387,8 @@ module _ (cenv : CompileEnv) (order : List Namespace) where
           let here : at_top h t (record { env = top gs; out = [] }) start_memory = record {
             good = good_top h n gs start_memory e (scopes_known cenv order ordered h e) ga;
             owns =
-                of_top (let f : 0 ≤ 0 = omega arith in f) refl
-                (let f : first_slot cenv order h ≤ first_slot cenv order h = omega arith in f) refl refl refl;
+                of_top (omega arith) refl
+                (omega arith) refl refl refl;
             out = refl;
           } in
           bind_both (chain_same h e (templates cenv.sources h) t (record { env = top gs; out = [] }) start_memory here

@@ -15,7 +15,7 @@ use Rattle.jt_ir.specs.Pool.{Constant}
 use Rattle.jt_semantics.specs.Resolve.{chain_routine, macro_routine, body_routine}
 use Rattle.jt_semantics.specs.Programs.{body_routines, entry_routines, chain_routines, routines}
 use Rattle.std.proofs.lemmas.Bool.Decides.{Decides-eqb}
-use Rattle.jt_semantics.proofs.EnvLookup.{same_text, namespace_same, namespace_is, no_both}
+use Rattle.jt_semantics.proofs.EnvLookup.{same_text, namespace_same, namespace_is, no_both, same_is}
 
 abbrev assoc : {A : Type 0} → Key → List (Key × A) → Option A
 assoc k [] = None
@@ -81,12 +81,10 @@ module _ (cenv : CompileEnv) (order : List Namespace) where
   macro_routines_are h (m ∷ ms) = ap (λ rs. macro_routine cenv order h m ∷ rs) (macro_routines_are h ms)
 
   entry_keys_are : (h : Namespace) → map (λ p. p.0) (entry_keyed h) ≡ entry_keys cenv h
-  entry_keys_are (a_chain n) = refl
-  entry_keys_are (a_library n) = refl
+  entry_keys_are h = search (arith, rules)
 
   entry_routines_are : (h : Namespace) → map (λ p. p.1) (entry_keyed h) ≡ entry_routines cenv order h
-  entry_routines_are (a_chain n) = refl
-  entry_routines_are (a_library n) = refl
+  entry_routines_are h = search (arith, rules)
 
   chain_keys_are : (h : Namespace) → map (λ p. p.0) (keyed h) ≡ chain_keys cenv h
   chain_keys_are h = search (arith, rules, map-append, entry_keys_are, macro_keys, body_keys)
@@ -135,36 +133,38 @@ module _ (cenv : CompileEnv) (order : List Namespace) where
   bodies_no_macro h g x (b ∷ bs) = (refl, bodies_no_macro h g x bs)
 
   entry_no_macro : (h g : Namespace) (x : Text) → Passes (of_macro g x) (entry_keyed h)
-  entry_no_macro (a_chain n) g x = (refl, tt)
-  entry_no_macro (a_library n) g x = tt
+  entry_no_macro h g x = search (arith, rules)
 
   entry_no_body : (h g : Namespace) (i : ℕ) → Passes (of_body g i) (entry_keyed h)
-  entry_no_body (a_chain n) g i = (refl, tt)
-  entry_no_body (a_library n) g i = tt
+  entry_no_body h g i = search (arith, rules)
+
+  -- The routine of a namespace is found in every list of namespaces that has it.
+  keyed_found : (k : Key) (h : Namespace) (r : Routine Constant)
+      → ((g : Namespace) → same_namespace g h ≡ false → Passes k (keyed g)) → assoc k (keyed h) ≡ Some r
+      → (hs : List Namespace) → listed h hs ≡ true → assoc k (flat_map keyed hs) ≡ Some r
+  keyed_found k h r others here [] e = absurd (no_both e refl)
+  keyed_found k h r others here (g ∷ gs) e = through (same_namespace g h) refl e (keyed_found k h r others here gs)
+    where
+      through : (b : Bool) → same_namespace g h ≡ b → (b || listed h gs) ≡ true
+          → (listed h gs ≡ true → assoc k (flat_map keyed gs) ≡ Some r)
+          → assoc k (keyed g ++ flat_map keyed gs) ≡ Some r
+      through true p f later =
+          subst (λ z. assoc k (keyed z ++ flat_map keyed gs) ≡ Some r) (sym (namespace_same g h p))
+          (found_front k (keyed h) (flat_map keyed gs) r here)
+      through false p f later = passed k (keyed g) (flat_map keyed gs) (others g p) ∙ later f
+
+  entry_no_chain : (n : Text) (g : Namespace) → same_namespace g (a_chain n) ≡ false
+      → Passes (of_chain n) (entry_keyed g)
+  entry_no_chain n g p = search (arith, rules)
 
   chain_found : (n : Text) (hs : List Namespace) → listed (a_chain n) hs ≡ true
       → assoc (of_chain n) (flat_map keyed hs) ≡ Some (chain_routine cenv order n)
-  chain_found n [] e = absurd (no_both e refl)
-  chain_found n (a_library m ∷ gs) e =
-      search (arith, rules, chain_found n gs e, passed, passes_append, macros_no_chain, bodies_no_chain)
-  chain_found n (a_chain m ∷ gs) e = through (bytes_eq m n) refl e (λ f. chain_found n gs f)
-    where
-      g : Namespace
-      g = a_chain m
-
-      rest : assoc (of_chain n)
-          ((macros_keyed g (macros cenv.sources g) ++ bodies_keyed g (numbered_bodies cenv g)) ++ flat_map keyed gs)
-          ≡ assoc (of_chain n) (flat_map keyed gs)
-      rest = search (arith, rules, passed, g, passes_append, macros_no_chain, bodies_no_chain)
-
-      through : (b : Bool) → bytes_eq m n ≡ b → (b || listed (a_chain n) gs) ≡ true
-          → (listed (a_chain n) gs ≡ true → assoc (of_chain n) (flat_map keyed gs) ≡ Some (chain_routine cenv order n))
-          → (if b then Some (chain_routine cenv order m)
-          else assoc (of_chain n)
-          ((macros_keyed g (macros cenv.sources g) ++ bodies_keyed g (numbered_bodies cenv g)) ++ flat_map keyed gs))
-          ≡ Some (chain_routine cenv order n)
-      through true p e f = ap (λ z. Some (chain_routine cenv order z)) (same_text m n p)
-      through false p e f = rest ∙ f e
+  chain_found n =
+      let own = macros_keyed (a_chain n) (macros cenv.sources (a_chain n))
+      ++ bodies_keyed (a_chain n) (numbered_bodies cenv (a_chain n)) in
+      keyed_found (of_chain n) (a_chain n) (chain_routine cenv order n)
+      (λ g p. search (arith, rules, passes_append, entry_no_chain, macros_no_chain, bodies_no_chain))
+      (ap (λ b. if b then Some (chain_routine cenv order n) else assoc (of_chain n) own) (same_is n))
 
   macro_found_in : (h : Namespace) (x : Text) (b : MacroBody) (ms : List MacroBody) → macro_of x ms ≡ Some b
       → assoc (of_macro h x) (macros_keyed h ms) ≡ Some (macro_routine cenv order h b)
@@ -188,39 +188,14 @@ module _ (cenv : CompileEnv) (order : List Namespace) where
   macro_found : (h : Namespace) (x : Text) (b : MacroBody) (hs : List Namespace) → listed h hs ≡ true
       → macro_of x (macros cenv.sources h) ≡ Some b
       → assoc (of_macro h x) (flat_map keyed hs) ≡ Some (macro_routine cenv order h b)
-  macro_found h x b [] e m = absurd (no_both e refl)
-  macro_found h x b (g ∷ gs) e m = through (same_namespace g h) refl e (λ f. macro_found h x b gs f m)
-    where
-      through : (c : Bool) → same_namespace g h ≡ c → (c || listed h gs) ≡ true
-          → (listed h gs ≡ true → assoc (of_macro h x) (flat_map keyed gs) ≡ Some (macro_routine cenv order h b))
-          → assoc (of_macro h x) ((entry_keyed g
-          ++ (macros_keyed g (macros cenv.sources g) ++ bodies_keyed g (numbered_bodies cenv g)))
-          ++ flat_map keyed gs)
-          ≡ Some (macro_routine cenv order h b)
-      through true p e f =
-          subst (λ z. assoc (of_macro h x) ((entry_keyed z
-          ++ (macros_keyed z (macros cenv.sources z) ++ bodies_keyed z (numbered_bodies cenv z)))
-          ++ flat_map keyed gs)
-          ≡ Some (macro_routine cenv order h b))
-          (sym (namespace_same g h p))
-          (found_front (of_macro h x)
-          (entry_keyed h ++ (macros_keyed h (macros cenv.sources h) ++ bodies_keyed h (numbered_bodies cenv h)))
-          (flat_map keyed gs) (macro_routine cenv order h b)
-          (passed (of_macro h x) (entry_keyed h)
-          (macros_keyed h (macros cenv.sources h) ++ bodies_keyed h (numbered_bodies cenv h)) (entry_no_macro h h x)
-          ∙ found_front (of_macro h x) (macros_keyed h (macros cenv.sources h))
-          (bodies_keyed h (numbered_bodies cenv h)) (macro_routine cenv order h b)
-          (macro_found_in h x b (macros cenv.sources h) m)))
-      through false p e f =
-          passed (of_macro h x)
-          (entry_keyed g ++ (macros_keyed g (macros cenv.sources g) ++ bodies_keyed g (numbered_bodies cenv g)))
-          (flat_map keyed gs)
-          (passes_append (of_macro h x) (entry_keyed g)
-          (macros_keyed g (macros cenv.sources g) ++ bodies_keyed g (numbered_bodies cenv g)) (entry_no_macro g h x)
-          (passes_append (of_macro h x) (macros_keyed g (macros cenv.sources g))
-          (bodies_keyed g (numbered_bodies cenv g)) (macros_pass g h x (macros cenv.sources g) p)
-          (bodies_no_macro g h x (numbered_bodies cenv g))))
-          ∙ f e
+  macro_found h x b hs e m =
+      let ms = macros_keyed h (macros cenv.sources h) in
+      let bs = bodies_keyed h (numbered_bodies cenv h) in
+      keyed_found (of_macro h x) h (macro_routine cenv order h b)
+      (λ g p. search (arith, rules, passes_append, entry_no_macro, macros_pass, bodies_no_macro))
+      (passed (of_macro h x) (entry_keyed h) (ms ++ bs) (entry_no_macro h h x)
+      ∙ found_front (of_macro h x) ms bs (macro_routine cenv order h b)
+      (macro_found_in h x b (macros cenv.sources h) m)) hs e
 
   tail_of : {A : Type 0} {x y : A} {xs ys : List A} → x ∷ xs ≡ y ∷ ys → xs ≡ ys
   tail_of q = cc
@@ -259,31 +234,14 @@ module _ (cenv : CompileEnv) (order : List Namespace) where
       → listed h hs ≡ true → numbered_bodies cenv h ≡ pre ++ ((i, c) ∷ post)
       → assoc (of_body h i) (flat_map keyed hs)
       ≡ Some (body_routine cenv order h c (filter (λ d. bytes_eq d.1.name c.name) post))
-  body_found h pre post i c [] e m = absurd (no_both e refl)
-  body_found h pre post i c (g ∷ gs) e m = through (same_namespace g h) refl e (λ f. body_found h pre post i c gs f m)
-    where
-      through : (b : Bool) → same_namespace g h ≡ b → (b || listed h gs) ≡ true
-          → (listed h gs ≡ true → assoc (of_body h i) (flat_map keyed gs)
-          ≡ Some (body_routine cenv order h c (filter (λ d. bytes_eq d.1.name c.name) post)))
-          → assoc (of_body h i) ((entry_keyed g
-          ++ (macros_keyed g (macros cenv.sources g) ++ bodies_keyed g (numbered_bodies cenv g)))
-          ++ flat_map keyed gs)
-          ≡ Some (body_routine cenv order h c (filter (λ d. bytes_eq d.1.name c.name) post))
-      through true p e f =
-          subst (λ z. assoc (of_body h i) ((entry_keyed z
-          ++ (macros_keyed z (macros cenv.sources z) ++ bodies_keyed z (numbered_bodies cenv z)))
-          ++ flat_map keyed gs)
-          ≡ Some (body_routine cenv order h c (filter (λ d. bytes_eq d.1.name c.name) post)))
-          (sym (namespace_same g h p))
-          (found_front (of_body h i)
-          (entry_keyed h ++ (macros_keyed h (macros cenv.sources h) ++ bodies_keyed h (numbered_bodies cenv h)))
-          (flat_map keyed gs) (body_routine cenv order h c (filter (λ d. bytes_eq d.1.name c.name) post))
-          (passed (of_body h i) (entry_keyed h)
-          (macros_keyed h (macros cenv.sources h) ++ bodies_keyed h (numbered_bodies cenv h)) (entry_no_body h h i)
-          ∙ passed (of_body h i) (macros_keyed h (macros cenv.sources h)) (bodies_keyed h (numbered_bodies cenv h))
-          (macros_no_body h h i (macros cenv.sources h))
-          ∙ body_found_in h 0 (all_bodies cenv.sources cenv.escaping h) pre post i c m))
-      through false p e f = search (arith, rules, passed, passes_append, entry_no_body, macros_no_body, bodies_pass)
+  body_found h pre post i c hs e m =
+      let ms = macros_keyed h (macros cenv.sources h) in
+      let bs = bodies_keyed h (numbered_bodies cenv h) in
+      keyed_found (of_body h i) h (body_routine cenv order h c (filter (λ d. bytes_eq d.1.name c.name) post))
+      (λ g p. search (arith, rules, passes_append, entry_no_body, macros_no_body, bodies_pass))
+      (passed (of_body h i) (entry_keyed h) (ms ++ bs) (entry_no_body h h i)
+      ∙ passed (of_body h i) ms bs (macros_no_body h h i (macros cenv.sources h))
+      ∙ body_found_in h 0 (all_bodies cenv.sources cenv.escaping h) pre post i c m) hs e
 
   -- If a body of a block is found, it splits the bodies into earlier ones and later ones.
   split_by : (p : (ℕ × BlockBody) → Bool) (bs before behind : List (ℕ × BlockBody)) (c : ℕ × BlockBody)

@@ -1,7 +1,7 @@
 -- The relation of two computations with one outcome: both have related results, or one fault, or
 -- both call too deep.
-use Rattle.std.proofs.Common.{◌≡◌, Bool, true, false, if◌then◌else◌, Option, refl, sym, subst, arith, rules}
-use Rattle.std.specs.Prelude.{Result, Ok, Err}
+use Rattle.std.proofs.Common.{◌≡◌, Bool, if◌then◌else◌, Option, refl, sym, subst, arith, rules}
+use Rattle.std.specs.Prelude.{Result}
 use Rattle.jt_value.specs.declared.fault.Fault.{Fault}
 use Rattle.jt_value.specs.Place.{Place}
 use Rattle.jt_eval.specs.Eval.{Eval, gives, fails, deeper, bind, checked, at}
@@ -24,8 +24,7 @@ at_both p x2 = search (arith, rules, both, fault, deep)
 
 pub if_both : {A B : Type 0} {R : A → B → Type 0} (b : Bool) {g f : Eval A} {h k : Eval B} → SameEval R g h
     → SameEval R f k → SameEval R (if b then g else f) (if b then h else k)
-if_both true u v = u
-if_both false u v = v
+if_both b u v = search (arith, rules)
 
 -- Two computations that agree also agree for a weaker relation.
 pub weaken : {A B : Type 0} {R S : A → B → Type 0} {g : Eval A} {h : Eval B} → ((x : A) (y : B) → R x y → S x y)
@@ -64,8 +63,7 @@ by_right {R = R} {g = g} e u = subst (λ x. SameEval R g x) (sym e) u
 
 -- A checked result agrees with itself.
 pub checked_both : {A : Type 0} (r : Result A Fault) → SameEval (λ x y. y ≡ x) (checked r) (checked r)
-checked_both (Ok x) = both refl
-checked_both (Err e) = fault
+checked_both r = search (arith, rules, both, fault)
 
 -- A computation agrees with itself.
 pub same_both : {A : Type 0} (g : Eval A) → SameEval (λ x y. y ≡ x) g g

@@ -7,13 +7,14 @@ use Rattle.jt_ast.specs.Expressions.{Text}
 use Rattle.jt_ast.specs.Statements.{Stmt, choose, for_each, set_block, with_values, filter_block, autoescape, macro}
 use Rattle.jt_ast.specs.Statements.{block, Body, end, stmt, Branches, no_branches, branch}
 use Rattle.jt_chains.specs.Chain.{Namespace, Template, templates}
-use Rattle.jt_chains.specs.Uses.{filter_call_names, stmt_names, body_names, branch_names, set_in}
+use Rattle.jt_chains.specs.Uses.{stmt_names, body_names, branch_names, set_in}
 use Rattle.jt_chains.specs.Uses.{scope_names_by, scope_names_in, scope_names_under, scope_names}
 use Rattle.jt_rules.specs.CompileEnv.{CompileEnv}
-use Rattle.jt_semantics.proofs.Among.{Among, AllAmong, all_ascending}
-use Rattle.jt_semantics.proofs.EnvLookup.{same_text, is_same, no_both, among_front, among_back, each_among}
+use Rattle.jt_semantics.proofs.EnvLookup.{same_text, is_same, no_both}
 use Rattle.jt_semantics.proofs.StatementCorrect.{Scoping, a_tag, a_name, named, scoped_by, scoped_in, scoped_under}
-use Rattle.jt_semantics.proofs.StatementCorrect.{among_both, in_among}
+use Rattle.jt_semantics.proofs.StatementCorrect.{in_among}
+use Rattle.jt_semantics.proofs.Among.{Among, AllAmong, all_ascending, among_front, among_back, each_among, among_both}
+use Rattle.jt_semantics.proofs.Among.{all_among}
 
 -- ---- The names alone
 
@@ -44,7 +45,7 @@ mutual
   stmt_scopes (filter_block line fs body) = scope_scopes body
   stmt_scopes (autoescape line on body) = scope_scopes body
   stmt_scopes (macro line x ps body) = search (arith, rules, names_behind, named, scoped_in, scope_scopes body)
-  stmt_scopes a0 = refl
+  stmt_scopes s = refl
 
   scope_scopes : (body : Body) → names_of (named (set_in body) ++ scoped_in body) ≡ set_in body ++ scope_names_in body
   scope_scopes end = refl
@@ -82,12 +83,11 @@ mutual
   stmt_binds (set_block line x body) ns a = scope_binds body ns a.1
   stmt_binds (with_values line ps body) ns a =
       search (arith, rules, among_back, among_both, among_front, scope_binds body ns)
-  stmt_binds (filter_block line fs body) ns a =
-      scope_binds body ns (among_front (body_names body) (filter_call_names fs) ns a)
+  stmt_binds (filter_block line fs body) ns a = search (arith, rules, scope_binds body ns, among_front)
   stmt_binds (autoescape line on body) ns a = scope_binds body ns a
   stmt_binds (macro line x ps body) ns a =
       search (arith, rules, among_both, among_front, among_back, scope_binds body ns)
-  stmt_binds a0 ns a = tt
+  stmt_binds s ns a = tt
 
   scope_binds : (body : Body) (ns : List Text) → AllAmong (body_names body) ns
       → AllAmong (set_in body ++ scope_names_in body) ns
@@ -124,10 +124,6 @@ all_from (x ∷ xs) z ns i = search (arith, rules, all_from xs z (inserted x ns)
 
 pub ascending_from : (xs : List Text) (z : Text) → Among z (ascending xs) → Among z xs
 ascending_from xs z i = search (arith, rules, all_from xs z [] i)
-
-pub all_among : (ys zs : List Text) → ((y : Text) → Among y ys → Among y zs) → AllAmong ys zs
-all_among [] zs f = tt
-all_among (y ∷ ys) zs f = (f y (inl refl), all_among ys zs (λ z i. f z (inr i)))
 
 pub ascending_among : (xs ns : List Text) → AllAmong xs ns → AllAmong (ascending xs) ns
 ascending_among xs ns a = all_among (ascending xs) ns (λ y i. each_among xs ns a y (ascending_from xs y i))

@@ -1,7 +1,6 @@
 -- The values that targets and scopes bind to names are the values that slots store.
 use Rattle.std.proofs.Common.{◌≡◌, ℕ, suc, ◌≤◌, Bool, true, false, if◌then◌else◌, List, [], ◌∷◌, map, Option, Some}
 use Rattle.std.proofs.Common.{None, refl, sym, ap, ◌∙◌, subst, arith, inl, inr, rules}
-use Rattle.std.specs.Prelude.{◌||◌}
 use Rattle.std.specs.Str.{bytes_eq}
 use Rattle.jt_value.specs.Tree.{Tree}
 use Rattle.jt_value.specs.Pairs.{Pairs}
@@ -13,7 +12,7 @@ use Rattle.jt_eval.specs.Loops.{items_of_value}
 use Rattle.jt_ast.specs.Texts.{among}
 use Rattle.jt_rules.specs.CompileEnv.{CompileEnv}
 use Rattle.jt_semantics.specs.Meaning.{each_target, targets}
-use Rattle.jt_ir.specs.Slots.{Slot, local, global, Memory, load, store, store_if, store_each, take}
+use Rattle.jt_ir.specs.Slots.{Slot, Memory, load, store, store_if, store_each, take}
 use Rattle.jt_semantics.specs.Layout.{Table, slot_in}
 use Rattle.jt_semantics.specs.Resolve.{fresh, fresh_targets, kept_slots, slot_of, set_targets}
 use Rattle.jt_semantics.proofs.SameEval.{SameEval, both, fault, bind_both, by_right, checked_both}
@@ -21,7 +20,7 @@ use Rattle.jt_semantics.proofs.EnvLookup.{same_text, same_is, is_same, no_both, 
 use Rattle.jt_semantics.proofs.EnvLookup.{put_elsewhere}
 use Rattle.jt_semantics.proofs.EnvMemoryAgreement.{Kept, kept_same, kept_then, kept_less, kept_store, Held, held_put}
 use Rattle.jt_semantics.proofs.EnvMemoryAgreement.{read_names, Fits}
-use Rattle.jt_semantics.proofs.Among.{Among, AllAmong}
+use Rattle.jt_semantics.proofs.Among.{Among, AllAmong, among_is, among_has}
 
 -- ---- Fresh targets
 
@@ -64,7 +63,7 @@ taken g (x ∷ []) v k m =
     both (record {
       names = refl;
       values = (put_here k v m.locals, tt);
-      kept = kept_store k g k v m (let e : k ≤ k = omega arith in e);
+      kept = kept_store k g k v m (omega arith);
       out = refl;
     })
 taken g (x ∷ y ∷ ys) v k m = several_taken g (x ∷ y ∷ ys) v k m
@@ -84,17 +83,7 @@ reads_bound (b ∷ bs) e f x (inr i) = reads_bound bs (bound e b.0 b.1) (bound f
 
 reads_not : (bs : Pairs) (e : Env) (x : Text) → (Among x (map (λ b. b.0) bs) → ⊥) → read (all_bound e bs) x ≡ read e x
 reads_not [] e x n = refl
-reads_not (b ∷ bs) e x n =
-    search (arith, rules, reads_not bs (bound e b.0 b.1) x (λ i. n (inr i)), read_bound, same_text)
-
-among_is : (x : Text) (xs : List Text) → among x xs ≡ true → Among x xs
-among_is x [] e = absurd (no_both e refl)
-among_is x (y ∷ ys) e = search (arith, rules, among_is x ys, same_text)
-
-pub among_has : (x : Text) (xs : List Text) → Among x xs → among x xs ≡ true
-among_has x [] i = absurd i
-among_has x (y ∷ ys) (inl p) = ap (λ b. b || among x ys) (is_same y x p)
-among_has x (y ∷ ys) (inr i) = search (arith, rules, among_has x ys i)
+reads_not (b ∷ bs) e x n = search (arith, rules, reads_not bs, read_bound, same_text)
 
 -- ---- Slots that exist
 
@@ -103,15 +92,13 @@ slot_there x [] s e = search (arith, rules)
 slot_there x (b ∷ bs) s e = search (arith, rules, slot_there x bs s)
 
 load_here : (s : Slot) (v : Tree) (m : Memory) → load s (store s v m) ≡ v
-load_here (local i) v m = put_here i v m.locals
-load_here (global i) v m = put_here i v m.globals
+load_here s v m = search (arith, rules, put_here)
 
 load_elsewhere : (s t : Slot) (v : Tree) (m : Memory) → (s ≡ t → ⊥) → load t (store s v m) ≡ load t m
 load_elsewhere s t v m n = search (arith, rules, put_elsewhere)
 
 store_out : (s : Slot) (v : Tree) (m : Memory) → (store s v m).out ≡ m.out
-store_out (local i) v m = refl
-store_out (global i) v m = refl
+store_out s v m = search (arith, rules)
 
 module _ (cenv : CompileEnv) (order : List Namespace) (h : Namespace) (table : Table) (k : ℕ)
     (fits : Fits cenv order h table k) (S : List Text) (m : Memory) (T : Memory → Type 0) (first : T m)
@@ -161,11 +148,11 @@ module _ (cenv : CompileEnv) (order : List Namespace) (h : Namespace) (table : T
 
       at_slot : (o : Option Slot) → slot_in x table ≡ o → among x xs ≡ false
           → Set (x ∷ xs) ((x, v) ∷ s) (store_if o v n)
-      at_slot a0 e f = search (arith, rules, slotted, set_here, store_out)
+      at_slot o e f = search (arith, rules, slotted, set_here, store_out)
 
       through : (b : Bool) → among x xs ≡ b
           → Set (x ∷ xs) ((x, v) ∷ s) (store_if (if b then None else slot_in x table) v n)
-      through a0 e = search (arith, rules, shadowed, among_is, at_slot)
+      through b e = search (arith, rules, shadowed, among_is, at_slot)
 
   nothing_set : Set [] [] m
   nothing_set = record { names = refl; reads = λ env a y i. a y i; touched = first; out = refl }

@@ -3,6 +3,7 @@ use Rattle.std.proofs.Common.{◌≡◌, ℕ, suc, ◌+◌, ◌<◌, ◌≤◌, 
 use Rattle.std.proofs.Common.{map, Option, Some, None, refl, sym, ap, ◌∙◌, subst, arith, inl, inr, rules}
 use Rattle.std.specs.Prelude.{unwrap_or}
 use Rattle.std.specs.Str.{bytes_eq}
+use Rattle.std.specs.List.{AllByRecursion as Each}
 use Rattle.jt_value.specs.Tree as tree
 use Rattle.jt_value.specs.Tree.{Tree}
 use Rattle.jt_value.specs.Pairs.{Pairs, look}
@@ -40,31 +41,21 @@ use Rattle.jt_semantics.specs.Resolve.{placed_body, resolved_stmt, resolved_body
 use Rattle.jt_semantics.proofs.SameEval.{SameEval, both, bind_both, at_both, if_both, weaken, left_both, right_both}
 use Rattle.jt_semantics.proofs.SameEval.{at_bind, bind_gives, bind_assoc, bind_ext, by_left, by_right, checked_both}
 use Rattle.jt_semantics.proofs.SameEval.{same_both, deep}
-use Rattle.jt_semantics.proofs.EnvLookup.{among_front, among_back, same_text, is_same, no_both, IsInner, all_inner}
-use Rattle.jt_semantics.proofs.EnvLookup.{all_globals, all_top, read_top, held, put_here}
+use Rattle.jt_semantics.proofs.EnvLookup.{same_text, is_same, no_both, IsInner, all_inner, all_globals, all_top}
+use Rattle.jt_semantics.proofs.EnvLookup.{read_top, held, put_here}
 use Rattle.jt_semantics.proofs.EnvMemoryAgreement.{Kept, kept_same, kept_then, kept_less, kept_out, kept_store}
 use Rattle.jt_semantics.proofs.EnvMemoryAgreement.{kept_global, Held, global_slot, global_given, global_held}
 use Rattle.jt_semantics.proofs.EnvMemoryAgreement.{global_reads, limit, read_names, Fits, Agrees, agrees_kept}
 use Rattle.jt_semantics.proofs.EnvMemoryAgreement.{pairs_held, copies_held, fits_all, InLocals, in_locals}
 use Rattle.jt_semantics.proofs.CallInvariant.{Evaluated, Rowed, Sees, PartHolds, part_kept, part_more, Good, good_kept}
 use Rattle.jt_semantics.proofs.CallInvariant.{good_grown, around_of, Wrote, CallsMean, Laid, Hands, Included}
-use Rattle.jt_semantics.proofs.ExpressionCorrect.{numbered_are, value_same, filter_both, read_gives, reads_give}
-use Rattle.jt_semantics.proofs.ExpressionCorrect.{reads_are}
+use Rattle.jt_semantics.proofs.ExpressionCorrect.{numbered_are, value_same, values_same, asides_same, filter_both}
+use Rattle.jt_semantics.proofs.ExpressionCorrect.{read_gives, reads_give, seen_params, sees_globals}
 use Rattle.jt_semantics.proofs.ScopesToSlots.{taken, Set, one_set, all_set}
-use Rattle.jt_semantics.proofs.Among.{Among, AllAmong}
+use Rattle.jt_semantics.proofs.Among.{Among, AllAmong, among_front, among_back, among_both, all_of}
+use Rattle.jt_semantics.proofs.EachElement.{each_front, each_back}
 
 -- ---- Names
-
-pub all_of : (xs : List Text) → AllAmong xs xs
-all_of xs = every xs xs (λ y i. i)
-  where
-    every : (ys zs : List Text) → ((y : Text) → Among y ys → Among y zs) → AllAmong ys zs
-    every [] zs f = tt
-    every (y ∷ ys) zs f = (f y (inl refl), every ys zs (λ z i. f z (inr i)))
-
-pub among_both : (xs ys ns : List Text) → AllAmong xs ns → AllAmong ys ns → AllAmong (xs ++ ys) ns
-among_both [] ys ns a b = b
-among_both (x ∷ xs) ys ns a b = (a.0, among_both xs ys ns a.1 b)
 
 -- The names that a statement sets are among the names that are read or bound.
 mutual
@@ -74,7 +65,7 @@ mutual
   set_among (choose bs other) ns a =
       search (arith, rules, among_both, among_front, among_back, under_among bs ns, in_among other ns)
   set_among (for_each line xs e c body other) ns a = search (arith, rules, among_back, in_among other ns)
-  set_among a0 ns a = tt
+  set_among s ns a = tt
 
   pub in_among : (b : Body) (ns : List Text) → AllAmong (body_names b) ns → AllAmong (set_in b) ns
   in_among end ns a = tt
@@ -122,19 +113,6 @@ abbrev mutual
 abbrev pub Proper : CompileEnv → List Namespace → Namespace → Scoping → Type 0
 Proper cenv order h (a_tag x) = is_scoped cenv h x ≡ true
 Proper cenv order h (a_name x) = Among x (scopes cenv order h)
-
--- Holds if each element of the list has the property.
-abbrev pub Each : {A : Type 0} → (A → Type 0) → List A → Type 0
-Each P [] = Unit {0}
-Each P (x ∷ xs) = P x × Each P xs
-
-pub each_front : {A : Type 0} (P : A → Type 0) (xs ys : List A) → Each P (xs ++ ys) → Each P xs
-each_front P [] ys e = tt
-each_front P (x ∷ xs) ys e = (e.0, each_front P xs ys e.1)
-
-pub each_back : {A : Type 0} (P : A → Type 0) (xs ys : List A) → Each P (xs ++ ys) → Each P ys
-each_back P [] ys e = e
-each_back P (x ∷ xs) ys e = each_back P xs ys e.1
 
 pub names_proper : (cenv : CompileEnv) (order : List Namespace) (h : Namespace) (xs : List Text) (ys : List Scoping)
     → Each (Proper cenv order h) (named xs ++ ys) → AllAmong xs (scopes cenv order h)
@@ -200,13 +178,11 @@ module _ (cenv : CompileEnv) (order : List Namespace) (calls : Calls) (scall : S
 
   owns_room : {sp : StaticEnv} {q : Option Placement} {b g : ℕ} {S : List Text} {env : Env} → Owns sp q b g S env
       → b ≤ sp.free
-  owns_room (of_top r t l e p c) = r
-  owns_room (of_scope r l i s f) = r
+  owns_room a0 = search (arith, rules)
 
   owns_limit : {sp : StaticEnv} {q : Option Placement} {b g : ℕ} {S : List Text} {env : Env} → Owns sp q b g S env
       → g ≤ limit cenv order sp.namespace
-  owns_limit {sp = sp} {g = g} (of_top r t l e p c) =
-      let f : g ≤ first_slot cenv order sp.namespace + length (names cenv order sp.namespace) = omega (arith, l) in f
+  owns_limit {sp = sp} {g = g} (of_top r t l e p c) = search (arith, rules)
   owns_limit (of_scope r l i s f) = l
 
   pub record Here (sp : StaticEnv) (q : Option Placement) (b g : ℕ) (S : List Text) (st : State) (m : Memory) : Type
@@ -231,10 +207,7 @@ module _ (cenv : CompileEnv) (order : List Namespace) (calls : Calls) (scall : S
   -- A step that appends to the text and keeps the names is a valid change.
   stays : {sp : StaticEnv} {q : Option Placement} {b g : ℕ} {S : List Text} {st : State} {m n : Memory} (t : Text)
       → Here sp q b g S st m → Kept sp.free (lim sp) m n → n.out ≡ t → After sp q b g S m (record st { out = t }) n
-  stays t h u e = record {
-    here = record { good = good_kept cenv order h.good u; owns = h.owns; out = e };
-    kept = lower h.owns u;
-  }
+  stays t h u e = search (arith, rules, good_kept, lower)
 
   -- ---- Scopes
 
@@ -263,23 +236,19 @@ module _ (cenv : CompileEnv) (order : List Namespace) (calls : Calls) (scall : S
   copies_hold : (h : Namespace) (table : Table) (j k : ℕ) (env : Env) (xs : List Text) (m : Memory)
       → Fits cenv order h table j → j ≤ k → Agrees cenv order h table env m → AllAmong xs (read_names cenv order h)
       → Copied h k (map (read env) xs) m (copies table k xs m)
-  copies_hold h table j k env [] m f l a i = record {
-    kept = kept_same k (limit cenv order h) m;
-    values = tt;
-    out = refl;
-  }
+  copies_hold h table j k env [] m f l a i = search (arith, rules, kept_same, limit)
   copies_hold h table j k env (x ∷ xs) m f l a i =
       let n = store (local k) (held (slot_in x table) m) m in
-      let one = kept_store k (limit cenv order h) k (held (slot_in x table) m) m (let e : k ≤ k = omega arith in e) in
-      let r = copies_hold h table j (suc k) env xs n f (let e : j ≤ suc k = omega (arith, l) in e)
+      let one = kept_store k (limit cenv order h) k (held (slot_in x table) m) m (omega arith) in
+      let r = copies_hold h table j (suc k) env xs n f (omega (arith, l))
       (agrees_kept cenv order f a
-      (kept_less l (let e : limit cenv order h ≤ limit cenv order h = omega arith in e) one)) i.1 in
+      (kept_less l (omega arith) one)) i.1 in
       record {
         kept =
-            kept_then one (kept_less (let e : k ≤ suc k = omega arith in e)
-            (let e : limit cenv order h ≤ limit cenv order h = omega arith in e) r.kept);
+            kept_then one (kept_less (omega arith)
+            (omega arith) r.kept);
         values = (
-          r.kept.locals k (let e : k < suc k = omega arith in e) ∙ put_here k (held (slot_in x table) m) m.locals
+          r.kept.locals k (omega arith) ∙ put_here k (held (slot_in x table) m) m.locals
               ∙ sym (a.names x i.0),
           r.values,
         );
@@ -311,7 +280,7 @@ module _ (cenv : CompileEnv) (order : List Namespace) (calls : Calls) (scall : S
       let xs = set_in body in
       let n = copies sp.table sp.free xs m in
       let c = copies_hold sp.namespace sp.table sp.free sp.free env xs m g.fits
-      (let e : sp.free ≤ sp.free = omega arith in e) g.agrees (in_among body (ns sp) i) in
+      (omega arith) g.agrees (in_among body (ns sp) i) in
       let k = good_kept cenv order g c.kept in
       let more : sp.free ≤ sp.free + length xs = omega arith in
       let here : Here (bound_all xs sp) q sp.free (lim sp) xs (record { env = env; out = out }) n = record {
@@ -322,8 +291,8 @@ module _ (cenv : CompileEnv) (order : List Namespace) (calls : Calls) (scall : S
           part = part_more cenv order sp.namespace sp.part q sp.free (sp.free + length xs) n more k.part;
         };
         owns =
-            of_scope more (let e : lim sp ≤ lim sp = omega arith in e) inner
-            (in_locals sp.free sp.free sp.table xs (let e : sp.free ≤ sp.free = omega arith in e))
+            of_scope more (omega arith) inner
+            (in_locals sp.free sp.free sp.table xs (omega arith))
             (part_lower sp.namespace sp.part q sp.free (sp.free + length xs) m g.part);
         out = c.out ∙ o;
       } in
@@ -349,7 +318,7 @@ module _ (cenv : CompileEnv) (order : List Namespace) (calls : Calls) (scall : S
             (pairs_held cenv order sp.table sp.free bs ([], env.scopes, refl) h outer);
         part =
             part_more cenv order sp.namespace sp.part q sp.free (sp.free + length xs) n
-            (let f : sp.free ≤ sp.free + length xs = omega arith in f) k.part;
+            (omega arith) k.part;
       }
 
   pub inside_inner : (env : Env) (bs : Pairs) → IsInner (inside bs env)
@@ -364,7 +333,7 @@ module _ (cenv : CompileEnv) (order : List Namespace) (calls : Calls) (scall : S
 
   part_top : (h : Namespace) (p : Option Part) (q : Option Placement) (k : ℕ) (m n : Memory) → p ≡ None
       → PartHolds cenv order h p q k m → PartHolds cenv order h p q k n
-  part_top h a1 a2 k m n e t = search (arith, rules)
+  part_top h p q k m n e t = search (arith, rules)
 
   inside_some : {s t : Slot} → Some s ≡ Some t → s ≡ t
   inside_some q = cc
@@ -406,7 +375,7 @@ module _ (cenv : CompileEnv) (order : List Namespace) (calls : Calls) (scall : S
           let z_is : z ≡ global k.0 = inside_some (sym f ∙ ap (slot_in x) t ∙ k.1) in
           let range = (global_slot (first_slot cenv order sp.namespace) (names cenv order sp.namespace) x k.0 k.1).0 in
           kept_then u (subst (λ y. Kept b j n (store y v n)) (sym z_is)
-          (kept_global b j k.0 v n (let d : j ≤ k.0 = omega (arith, l, range) in d))))
+          (kept_global b j k.0 v n (omega (arith, l, range)))))
           (λ x inS inN. let k = global_given (first_slot cenv order sp.namespace) (names cenv order sp.namespace) x
           (subst (λ zs. Among x zs) c inN) in
           (global k.0, ap (slot_in x) t ∙ k.1)))
@@ -429,7 +398,7 @@ module _ (cenv : CompileEnv) (order : List Namespace) (calls : Calls) (scall : S
               owns = of_scope r l (all_inner st.env s inner) il f;
               out = w.out ∙ here.out;
             };
-            kept = kept_less (let e : b ≤ b = omega arith in e) l w.touched.0;
+            kept = kept_less (omega arith) l w.touched.0;
           }) (runs (λ n. Kept b (lim sp) m n × (n.globals ≡ m.globals)) (kept_same b (lim sp) m, refl)
           (λ x z v n inS inN e u.
           let k = il x inS in
@@ -465,16 +434,14 @@ module _ (cenv : CompileEnv) (order : List Namespace) (calls : Calls) (scall : S
       → SameEval (Rowed sp.free (lim sp) m) (kept cenv calls c xs (around_of cenv order sp l q) env vs)
       (skept cenv.filters constants scall (resolved_condition cenv order c (bound_all xs sp)) (fresh_targets sp.free xs)
       vs m)
-  kept_both l q None xs sp env vs m own g i =
-      both (record { values = refl; kept = kept_same sp.free (lim sp) m; out = refl })
-  kept_both l q (Some c) xs sp env [] m own g i =
-      both (record { values = refl; kept = kept_same sp.free (lim sp) m; out = refl })
+  kept_both l q None xs sp env vs m own g i = search (arith, rules, both, kept_same)
+  kept_both l q (Some c) xs sp env [] m own g i = search (arith, rules, both, kept_same)
   kept_both l q (Some c) xs sp env (v ∷ vs) m own g i =
       bind_both (taken (lim sp) xs v sp.free m) (λ s n w.
       bind_both (value_same cenv order calls scall mean laid None q c (bound_all xs sp) (inside s env) n
       (good_bound sp q s xs w.names own g w.kept w.values) i) (λ b r z.
       let u : Kept sp.free (lim sp) m r.memory = kept_then w.kept
-      (kept_less (let e : sp.free ≤ sp.free + length xs = omega arith in e) (let e : lim sp ≤ lim sp = omega arith in e)
+      (kept_less (omega arith) (omega arith)
       z.kept) in
       bind_both (kept_both l q (Some c) xs sp env vs r.memory own (good_kept cenv order g u) i) (λ rest rs y.
       rowed_if sp m v b r.value z.value rest rs
@@ -519,8 +486,8 @@ module _ (cenv : CompileEnv) (order : List Namespace) (calls : Calls) (scall : S
         (weaken (λ r n' z. record {
           env = refl;
           kept =
-              kept_then w.kept (kept_less (let e : sp.free ≤ sp.free + length xs = omega arith in e)
-              (let e : lim sp ≤ lim sp = omega arith in e) z.kept);
+              kept_then w.kept (kept_less (omega arith)
+              (omega arith) z.kept);
           out = z.out;
         }) (same (Some (record { items = all; before = i })) (inside s st.env) st.out n
         (good_bound sp q s xs w.names own g w.kept w.values) (inside_inner st.env s) (w.out ∙ o)))) (λ st1 n1 z.
@@ -574,9 +541,11 @@ module _ (cenv : CompileEnv) (order : List Namespace) (calls : Calls) (scall : S
   through_same (f ∷ fs) sp l q env m g e good i u =
       let rest = among_back (row_names f.arguments) (pair_names f.keywords ++ filter_call_names fs) (ns sp) i in
       through_same fs sp l q env m _ _ good (among_back (pair_names f.keywords) (filter_call_names fs) (ns sp) rest)
-      (filter_both cenv order calls scall mean laid l q f.name f.arguments f.keywords sp env e good
-      (among_front (row_names f.arguments) (pair_names f.keywords ++ filter_call_names fs) (ns sp) i)
-      (among_front (pair_names f.keywords) (filter_call_names fs) (ns sp) rest) u)
+      (filter_both cenv order calls scall mean laid l q f.name f.arguments f.keywords sp env e
+      (λ n k. values_same cenv order calls scall mean laid l q f.arguments sp env n (good_kept cenv order good k)
+      (among_front (row_names f.arguments) (pair_names f.keywords ++ filter_call_names fs) (ns sp) i))
+      (λ n k. asides_same cenv order calls scall mean laid l q f.keywords sp env n (good_kept cenv order good k)
+      (among_front (pair_names f.keywords) (filter_call_names fs) (ns sp) rest)) u)
 
   -- ---- `with`
 
@@ -593,8 +562,7 @@ module _ (cenv : CompileEnv) (order : List Namespace) (calls : Calls) (scall : S
       → ((ks : Pairs) (n : Memory) → Filled sp m (keywords ps) ks n → SameEval S (f ks) (sbody behind l n))
       → SameEval S (bind (at (place sp line) (named_values cenv calls ps (around_of cenv order sp l q) env)) f)
       (sbody (resolved_values cenv order ps sp line behind) l m)
-  with_same written.no_pairs sp l q env m line g i S f behind k =
-      k [] m (record { names = refl; values = tt; kept = kept_same sp.free (lim sp) m; out = refl })
+  with_same written.no_pairs sp l q env m line g i S f behind k = search (arith, rules, kept_same)
   with_same (written.pair x e ps) sp l q env m line g i S f behind k =
       let p = place sp line in
       let v_e = value cenv calls e (around_of cenv order sp l q) env in
@@ -605,7 +573,7 @@ module _ (cenv : CompileEnv) (order : List Namespace) (calls : Calls) (scall : S
       (at_both p (right_both (λ r. store (local sp.free) r.value r.memory) (weaken (λ v r w. (
         put_here sp.free r.value r.memory.locals ∙ w.value,
         kept_then w.kept
-            (kept_store sp.free (lim sp) sp.free r.value r.memory (let d : sp.free ≤ sp.free = omega arith in d)),
+            (kept_store sp.free (lim sp) sp.free r.value r.memory (omega arith)),
         w.out,
       )) (value_same cenv order calls scall mean laid l q e sp env m g
       (among_front (expr_names e) (pair_names ps) (ns sp) i)))))
@@ -616,10 +584,10 @@ module _ (cenv : CompileEnv) (order : List Namespace) (calls : Calls) (scall : S
       (among_back (expr_names e) (pair_names ps) (ns sp) i) S (λ bs. f ((x, v) ∷ bs)) behind (λ ks o z.
       k ((x, v) ∷ ks) o (record {
         names = ap (λ ys. x ∷ ys) z.names;
-        values = (z.kept.locals sp.free (let d : sp.free < suc sp.free = omega arith in d) ∙ w.0, z.values);
+        values = (z.kept.locals sp.free (omega arith) ∙ w.0, z.values);
         kept =
-            kept_then w.1 (kept_less (let d : sp.free ≤ suc sp.free = omega arith in d)
-            (let d : lim sp ≤ lim sp = omega arith in d) z.kept);
+            kept_then w.1 (kept_less (omega arith)
+            (omega arith) z.kept);
         out = z.out ∙ w.2;
       })))))
 
@@ -634,7 +602,7 @@ module _ (cenv : CompileEnv) (order : List Namespace) (calls : Calls) (scall : S
   run_both sp l q b j S st m n w k here u o le c =
       bind_both c (λ s z y. both (stays (st.out ++ s) here
       (kept_then u
-      (record { locals = λ i d. refl; globals = λ i d. y.globals i (let e : i < k = omega (arith, d, le) in e) }))
+      (record { locals = λ i d. refl; globals = λ i d. y.globals i (omega (arith, d, le)) }))
       (ap (λ t. t ++ z.text) (o ∙ here.out) ∙ ap (λ t. st.out ++ t) y.text)))
 
   placed_both : (x : Text) (table : Table) (env : Env) (bs : List (ℕ × BlockBody)) (sp : StaticEnv) (l : Option Loop)
@@ -655,7 +623,7 @@ module _ (cenv : CompileEnv) (order : List Namespace) (calls : Calls) (scall : S
       (reads_give cenv order calls scall mean laid l q table (block_parameters cenv order sp.namespace x) m))
       (run_both sp l q b j S st m m (scall (unit cenv order (of_body sp.namespace c.0))
       (map (λ y. held (slot_in y table) m) (block_parameters cenv order sp.namespace x)) m.globals) (lim sp) here
-      (kept_same sp.free (lim sp) m) refl (let d : lim sp ≤ lim sp = omega arith in d)
+      (kept_same sp.free (lim sp) m) refl (omega arith)
       (mean.block_means sp.namespace here.good.known x c.0 c.1 cs ([], e) env
       (map (λ y. held (slot_in y table) m) (block_parameters cenv order sp.namespace x)) m.globals sees))
 
@@ -666,45 +634,15 @@ module _ (cenv : CompileEnv) (order : List Namespace) (calls : Calls) (scall : S
       → Sees cenv order sp.namespace x env
       (map (λ y. held (slot_in y sp.table) m) (block_parameters cenv order sp.namespace x)) m.globals
   sees_around x sp q env m g e = record {
-    arguments = seen_params (is_scoped cenv sp.namespace x);
+    arguments =
+        seen_params cenv order calls scall mean laid None q sp (is_scoped cenv sp.namespace x) sp.table env m
+        g.agrees.names g.fits.few;
     globals = g.agrees.globals;
     others = λ y i f.
         g.agrees.names y i ∙ ap (λ o. held o m)
         (g.fits.outer y (λ k. f (subst (λ b. Among y (if b then bound_names sp else [])) (sym e) k)))
         ∙ global_reads (first_slot cenv order sp.namespace) (names cenv order sp.namespace) y m;
   }
-    where
-      seen_params : (b : Bool) → map (λ y. held (slot_in y sp.table) m) (if b then bound_names sp else [])
-          ≡ map (read env) (if b then bound_names sp else [])
-      seen_params true =
-          reads_are cenv order calls scall mean laid None q sp.table env m (bound_names sp) (ns sp) g.agrees.names
-          g.fits.few
-      seen_params false = refl
-
-  sees_globals : (x : Text) (sp : StaticEnv) (q : Option Placement) (env : Env) (m : Memory)
-      → Good cenv order sp q env m
-      → Sees cenv order sp.namespace x (top env.globals)
-      (map (λ y. held (slot_in y (globals cenv order sp.namespace)) m) (block_parameters cenv order sp.namespace x))
-      m.globals
-  sees_globals x sp q env m g = record {
-    arguments = seen_params (is_scoped cenv sp.namespace x);
-    globals = g.agrees.globals;
-    others = λ y i f. g.agrees.globals y i;
-  }
-    where
-      at_globals : (y : Text) → Among y (ns sp)
-          → read (top env.globals) y ≡ held (slot_in y (globals cenv order sp.namespace)) m
-      at_globals y i =
-          g.agrees.globals y i
-          ∙ sym (global_reads (first_slot cenv order sp.namespace) (names cenv order sp.namespace) y m)
-
-      seen_params : (b : Bool) → map (λ y. held (slot_in y (globals cenv order sp.namespace)) m)
-          (if b then bound_names sp else [])
-          ≡ map (read (top env.globals)) (if b then bound_names sp else [])
-      seen_params true =
-          reads_are cenv order calls scall mean laid None q (globals cenv order sp.namespace) (top env.globals) m
-          (bound_names sp) (ns sp) at_globals g.fits.few
-      seen_params false = refl
 
   -- ---- Includes
 
@@ -740,12 +678,12 @@ module _ (cenv : CompileEnv) (order : List Namespace) (calls : Calls) (scall : S
       let m1 = store (global k) v m in
       let one = kept_global c d k v m le in
       let less : d ≤ suc k = omega (arith, le) in
-      let r = handed_holds table c (suc k) (suc k) xs f m1 (let e : suc k ≤ suc k = omega arith in e)
-      (λ n u y i. a n (kept_then one (kept_less (let e : c ≤ c = omega arith in e) less u)) y (inr i)) in
+      let r = handed_holds table c (suc k) (suc k) xs f m1 (omega arith)
+      (λ n u y i. a n (kept_then one (kept_less (omega arith) less u)) y (inr i)) in
       record {
-        kept = kept_then one (kept_less (let e : c ≤ c = omega arith in e) less r.kept);
+        kept = kept_then one (kept_less (omega arith) less r.kept);
         values = λ y i j e. which (handed table (suc k) xs m1) y (bytes_eq x y) refl i j e
-            (r.kept.globals k (let e' : k < suc k = omega arith in e') ∙ put_here k v m.globals
+            (r.kept.globals k (omega arith) ∙ put_here k v m.globals
             ∙ a m (kept_same c d m) x (inl refl))
             (λ i' e'. r.values y i' j e');
         out = r.out;
@@ -815,9 +753,7 @@ module _ (cenv : CompileEnv) (order : List Namespace) (calls : Calls) (scall : S
         → Each (Proper cenv order sp.namespace) (scoped_by s)
         → SameEval (After sp q b j S m) (meaning cenv calls s (around_of cenv order sp l q) st)
         (sbody (resolved_stmt cenv order s sp) l m)
-    stmt_same (data_of t) sp l q b j S st m h i o n d =
-        both (stays (st.out ++ t) h (kept_out (record m { out = m.out ++ t }) refl refl (kept_same sp.free (lim sp) m))
-        (ap (λ u. u ++ t) h.out))
+    stmt_same (data_of t) sp l q b j S st m h i o n d = search (arith, rules, both, stays, kept_out, kept_same)
     stmt_same (print line e) sp l q b j S st m h i o n d =
         by_right (alone_same (slots.print (place sp line) sp.escaping (resolved cenv order e sp)) l m)
         (at_both (place sp line)
@@ -919,8 +855,8 @@ module _ (cenv : CompileEnv) (order : List Namespace) (calls : Calls) (scall : S
         (scoped (set_in body) (bound_all (keywords ps) sp) (resolved_body cenv order body)) (λ ks n' w.
         left_both (λ r. record st { out = r.out })
         (weaken (λ st' n'' y. stays st'.out h (kept_then w.kept
-        (kept_less (let f : sp.free ≤ sp.free + length (keywords ps) = omega arith in f)
-        (let f : lim sp ≤ lim sp = omega arith in f) y.kept)) y.out)
+        (kept_less (omega arith)
+        (omega arith) y.kept)) y.out)
         (scope_both body (bound_all (keywords ps) sp) l q (inside ks st.env) st.out n'
         (good_bound sp q ks (keywords ps) w.names own h.good w.kept w.values) (inside_inner st.env ks) (w.out ∙ h.out)
         i1 (names_proper cenv order sp.namespace (set_in body) (scoped_in body) d1)
@@ -941,16 +877,16 @@ module _ (cenv : CompileEnv) (order : List Namespace) (calls : Calls) (scall : S
         let m2 : Memory = store (local sp.free) (as_value sp.escaping n'.out) (record n' { out = m.out }) in
         let less : sp.free ≤ suc sp.free = omega arith in
         let one = kept_store sp.free (lim sp) sp.free (as_value sp.escaping n'.out) (record n' { out = m.out })
-        (let f : sp.free ≤ sp.free = omega arith in f) in
+        (omega arith) in
         let u : Kept sp.free (lim sp) m m2 = kept_then (kept_out (record n' { out = m.out }) refl refl
-        (kept_less less (let f : lim sp ≤ lim sp = omega arith in f) w.kept)) one in
+        (kept_less less (omega arith) w.kept)) one in
         let h' : Here sp q b j S st m2 = record { good = good_kept cenv order h.good u; owns = h.owns; out = h.out } in
         by_right (alone_same (slots.print (place sp line) sp.escaping
         (resolved_filters cenv order fs (grown sp) (slots.variable (local sp.free)))) l m2)
         (at_both (place sp line) (weaken (λ st' n'' y. since (lower h.owns u) y) (put_shown sp q b j S st m2 h'
         (weaken (λ x r y. record {
           value = y.value;
-          kept = kept_less less (let f : lim sp ≤ lim sp = omega arith in f) y.kept;
+          kept = kept_less less (omega arith) y.kept;
           out = y.out;
         })
         (through_same fs (grown sp) l q st.env m2 (gives v) (slots.variable (local sp.free))
@@ -985,7 +921,7 @@ module _ (cenv : CompileEnv) (order : List Namespace) (calls : Calls) (scall : S
         by_left (ap (λ bs. bind (block_text calls sp.namespace bs (top st.env.globals)) (λ s. gives (put st s)))
         (numbered_are cenv sp.namespace x))
         (placed_both x (globals cenv order sp.namespace) (top st.env.globals) (numbered_of cenv sp.namespace x) sp l q b
-        j S st m h (sees_globals x sp q st.env m h.good) refl)
+        j S st m h (sees_globals cenv order calls scall mean laid l q x sp st.env m h.good) refl)
 
     pub body_same : (c : Body) (sp : StaticEnv) (l : Option Loop) (q : Option Placement) (b j : ℕ) (S : List Text)
         (st : State) (m : Memory)

@@ -1,6 +1,6 @@
 -- Some filters, and abbreviations for small templates.
 use Rattle.std.specs.Prelude.{ℕ, ◌-◌, pos, Bool, true, false, ◌&&◌, List, [], ◌∷◌, length, map, codes, Option, Some}
-use Rattle.std.specs.Prelude.{None, Result, Ok, Err, ◌==◌, nat_lt, if◌then◌else◌, ◌≡◌, flat_map}
+use Rattle.std.specs.Prelude.{None, Result, Ok, Err, ◌==◌, nat_lt, if◌then◌else◌, flat_map}
 use Rattle.std.specs.Str.{bytes_eq}
 use Prim.Native.String.{String}
 use Rattle.jt_value.specs.Tree as v
@@ -186,16 +186,15 @@ meaning_of ss context = mean (cenv ss) (codes "t") context 9
 abbrev pub resolved_meaning : List (Text × Body) → Pairs → Eval Text
 resolved_meaning ss context = smean small (program (cenv ss) (order_of ss) (a_chain (codes "t"))) context 9
 
--- Holds if the text of the entry for a context is this one, by names and by slots.
-abbrev pub Shows : List (Text × Body) → Pairs → String → Type 0
-Shows ss context x = (meaning_of ss context ≡ gives (codes x)) × (resolved_meaning ss context ≡ gives (codes x))
+-- Sources and a context of the entry, with its outcome.
+abbrev pub Example : Type 0
+Example = (List (Text × Body) × Pairs) × Eval Text
 
--- Holds if the outcome of the entry is this fault, with this template and line.
-abbrev pub FaultsAt : List (Text × Body) → Pairs → Fault → String → ℕ → Type 0
-FaultsAt ss context f n line =
-    (meaning_of ss context ≡ fails f (Some (record { template = codes n; line = line })))
-    × (resolved_meaning ss context ≡ fails f (Some (record { template = codes n; line = line })))
+abbrev pub shows : List (Text × Body) → Pairs → String → Example
+shows ss context x = ((ss, context), gives (codes x))
 
--- Holds if the entry calls too deep, by names and by slots.
-abbrev pub IsDeeper : List (Text × Body) → Pairs → Type 0
-IsDeeper ss context = (meaning_of ss context ≡ deeper) × (resolved_meaning ss context ≡ deeper)
+abbrev pub faults_at : List (Text × Body) → Pairs → Fault → String → ℕ → Example
+faults_at ss context f n line = ((ss, context), fails f (Some (record { template = codes n; line = line })))
+
+abbrev pub is_deeper : List (Text × Body) → Pairs → Example
+is_deeper ss context = ((ss, context), deeper)

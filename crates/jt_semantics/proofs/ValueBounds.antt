@@ -2,8 +2,7 @@
 -- have at most the bytes of the texts of its source.
 use Rattle.std.proofs.Common.{◌≡◌, ℕ, zero, suc, ◌+◌, ◌*◌, min, ◌≤◌, Bool, true, false, if◌then◌else◌, List, [], ◌∷◌}
 use Rattle.std.proofs.Common.{◌++◌, length, Option, Some, None, arith, refl, sym, subst, rules}
-use Rattle.std.specs.Option.{is_none}
-use Rattle.std.specs.List.{AllByRecursion}
+use Rattle.std.specs.List.{AllByRecursion as Each}
 use Rattle.std.specs.Prelude.{pos}
 use Rattle.jt_value.specs.Tree as tree
 use Rattle.jt_ids.specs.declared.op_id.OpId.TheVariants as op
@@ -33,7 +32,7 @@ use Rattle.jt_semantics.specs.Expressions.{filter_parameters}
 use Rattle.jt_semantics.specs.Layout.{Table, slot_in, names}
 use Rattle.jt_semantics.specs.Layout.{first_slot, unit, of_chain}
 use Rattle.jt_ir.specs.Slots as slots
-use Rattle.jt_ir.specs.Slots.{Slot, local, SlotExpr, SRow, SBody, variable, run}
+use Rattle.jt_ir.specs.Slots.{Slot, SlotExpr, SRow, SBody, run}
 use Rattle.jt_ir.specs.Pool.{Constant, own, known, expr_values, row_values, condition_values, stmt_values, body_values}
 use Rattle.jt_semantics.specs.Resolve.{value_or, turned_round, tested_by, filtered_by, in_form, field_from, followed}
 use Rattle.jt_semantics.specs.Resolve.{locals_from, fresh_targets, filled, filled_some, first_locals, reads, handed_on}
@@ -54,7 +53,7 @@ total size (v ∷ vs) = size v + total size vs
 
 -- Holds if the defaults of the parameters have size 0.
 abbrev pub Bare : (tree.Tree → ℕ) → List Parameter → Type 0
-Bare size ps = AllByRecursion (λ p. size (default_value p.default) ≡ 0) ps
+Bare size ps = Each (λ p. size (default_value p.default) ≡ 0) ps
 
 -- Holds if there are at most 3 parameters, and their defaults have size 0.
 pub record ArePlain (size : tree.Tree → ℕ) (ps : List Parameter) : Type 0 where
@@ -81,20 +80,16 @@ module _ (size : tree.Tree → ℕ) (small : (v : tree.Tree) → size v ≤ valu
 
   either_within : (b : Bool) (x y : SlotExpr Constant) (c n : ℕ) → Within c n (expr_values x)
       → Within c n (expr_values y) → Within c n (expr_values (if b then x else y))
-  either_within true x y c n h k = h
-  either_within false x y c n h k = k
+  either_within b x y c n h k = search (arith, rules)
 
   known_within : (s : Option Slot) (i : ℕ) → Within 0 0 (expr_values (value_or s (known i)))
-  known_within None i = omega arith
-  known_within (Some s) i = omega arith
+  known_within s i = search (arith, rules)
 
   own_within : (s : Option Slot) (v : tree.Tree) → Within 1 (size v) (expr_values (value_or s (own v)))
-  own_within None v = omega arith
-  own_within (Some s) v = omega arith
+  own_within s v = search (arith, rules)
 
   field_within : (f : Option LoopField) → Within 0 0 (expr_values (field_from f))
-  field_within None = omega arith
-  field_within (Some f) = omega arith
+  field_within f = search (arith, rules)
 
   pair_joins : (a b : SlotExpr Constant)
       → Joins (row_values (slots.item a (slots.item b slots.none))) (expr_values a) (expr_values b)
@@ -104,17 +99,14 @@ module _ (size : tree.Tree → ℕ) (small : (v : tree.Tree) → size v ≤ valu
   single_joins a = values_append (expr_values a) []
 
   turned_adds : (b : Bool) (e : SlotExpr Constant) → Adds 0 0 (expr_values (turned_round b e)) (expr_values e)
-  turned_adds false e = omega arith
-  turned_adds true e = omega (arith, single_joins e)
+  turned_adds b e = search (arith, rules, single_joins)
 
   tested_adds : (t : Option TestId) (es : SRow Constant) → Adds 0 0 (expr_values (tested_by t es)) (row_values es)
-  tested_adds None es = omega arith
-  tested_adds (Some t) es = omega arith
+  tested_adds t es = search (arith, rules)
 
   filtered_adds : (f : Option ℕ) (b : Bool) (es : SRow Constant)
       → Adds 0 0 (expr_values (filtered_by f b es)) (row_values es)
-  filtered_adds None b es = omega arith
-  filtered_adds (Some f) b es = omega arith
+  filtered_adds f b es = search (arith, rules)
 
   form_adds : (f : OperatorForm) (a b : SlotExpr Constant)
       → Adds (length (expr_values a)) (total size (expr_values a)) (expr_values (in_form f a b)) (expr_values b)
@@ -184,8 +176,7 @@ module _ (size : tree.Tree → ℕ) (small : (v : tree.Tree) → size v ≤ valu
       (plain : (i : ℕ) → ArePlain size (cenv.filters.parameters i)) where
     body_within : (h : Namespace) (on : Bool) (i : Option ℕ) (es : SRow Constant) → Within 0 0 (row_values es)
         → Within 0 0 (expr_values (invoked_body cenv order h on i es))
-    body_within h on None es k = omega arith
-    body_within h on (Some i) es k = k
+    body_within h on i es k = search (arith, rules)
 
     super_within : (sp : StaticEnv) (p : Option Part) → Within 0 0 (expr_values (invoked_super cenv order sp p))
     super_within sp None = omega arith
@@ -211,8 +202,7 @@ module _ (size : tree.Tree → ℕ) (small : (v : tree.Tree) → size v ≤ valu
     invoked_within no_callee sp row asides i ks c d n m r a = omega arith
 
     filter_plain : (f : Option ℕ) → ArePlain size (filter_parameters cenv.filters f)
-    filter_plain None = record { few = omega arith; bare = tt }
-    filter_plain (Some i) = plain i
+    filter_plain f = search (arith, rules)
 
     mutual
       expr_within : (e : Expr) (sp : StaticEnv)
@@ -334,8 +324,7 @@ module _ (size : tree.Tree → ℕ) (small : (v : tree.Tree) → size v ≤ valu
     mutual
       pub stmt_within : (s : Stmt) (sp : StaticEnv)
           → Within (stmt_own s) (stmt_bytes s) (body_values (resolved_stmt cenv order s sp))
-      stmt_within (choose bs other) sp =
-          omega (arith, choice_adds bs sp (resolved_body cenv order other sp), all_within other sp)
+      stmt_within (choose bs other) sp = search (arith, rules, choice_adds bs sp, all_within other sp)
       stmt_within (for_each line xs e c body other) sp =
           let inner = bound_all xs sp in
           let b = scoped (set_in body) inner (resolved_body cenv order body) in
@@ -358,15 +347,12 @@ module _ (size : tree.Tree → ℕ) (small : (v : tree.Tree) → size v ≤ valu
       stmt_within (filter_block line fs body) sp =
           search (arith, rules, inner_within, filters_add, values_append, all_within body)
       stmt_within (autoescape line on body) sp = search (arith, rules, inner_within, all_within body)
-      stmt_within (include line n missing with_context) sp =
-          omega (arith, include_within sp line n missing with_context (is_none (cenv.sources n)))
+      stmt_within (include line n missing with_context) sp = search (arith, rules, include_within)
       stmt_within (block line x is required body) sp = search (arith, rules, placed_within)
       stmt_within (data_of t) sp = omega (arith, small (tree.text t))
-      stmt_within (print line e) sp =
-          omega (arith, expr_within e sp, values_append (expr_values (resolved cenv order e sp)) [])
-      stmt_within (set line xs e) sp =
-          omega (arith, expr_within e sp, values_append (expr_values (resolved cenv order e sp)) [])
-      stmt_within a0 sp = omega arith
+      stmt_within (print line e) sp = search (arith, rules, expr_within, values_append)
+      stmt_within (set line xs e) sp = search (arith, rules, expr_within, values_append)
+      stmt_within s sp = omega arith
 
       pub all_within : (b : Body) (sp : StaticEnv)
           → Within (body_own b) (body_bytes b) (body_values (resolved_body cenv order b sp))

@@ -1,13 +1,15 @@
 -- If `super()` is not called and the uses of a tree keep the rules in a block, they keep them outside
 -- blocks.
-use Rattle.std.proofs.Common.{◌≡◌, Bool, true, false, if◌then◌else◌, List, [], ◌∷◌, ◌++◌, Option, Some, None, refl}
+use Rattle.std.proofs.Common.{◌≡◌, Bool, false, if◌then◌else◌, List, [], ◌∷◌, ◌++◌, Option, Some, None}
 use Rattle.std.proofs.Common.{arith, rules}
+use Rattle.std.proofs.lemmas.Bool.{or_parts}
 use Rattle.std.specs.Prelude.{◌||◌, codes}
 use Rattle.std.specs.Str.{bytes_eq}
 use Rattle.jt_ast.specs.Expressions as written
 use Rattle.jt_ast.specs.Expressions.{Expr, constant, name, group, list_of, attribute, item, unary, binary, when, choice}
 use Rattle.jt_ast.specs.Expressions.{Exprs, no_exprs, expr, no_pairs, pair, Text}
-use Rattle.jt_ast.specs.Statements.{FilterCall, Stmt, data_of, print, choose, for_each, set, set_block, with_values}
+use Rattle.jt_ast.specs.Statements.{Parameter, FilterCall, Stmt, data_of, print, choose, for_each, set, set_block}
+use Rattle.jt_ast.specs.Statements.{with_values}
 use Rattle.jt_ast.specs.Statements.{filter_block, autoescape, macro, include, import_as, import_from, extends, block}
 use Rattle.jt_ast.specs.Statements.{Body, end, stmt, Branches, no_branches, branch}
 use Rattle.jt_chains.specs.Chain.{Namespace, MacroBody, Definition, given, Callee, a_super, named_alone, named_in}
@@ -16,37 +18,42 @@ use Rattle.jt_chains.specs.Supers.{is_super, has_super, row_super, pairs_super, 
 use Rattle.jt_chains.specs.Supers.{stmt_super, calls_super, branches_super}
 use Rattle.jt_rules.specs.CompileEnv.{CompileEnv}
 use Rattle.jt_rules.specs.Rules.{MisusesLoop, CannotBeCalled}
-use Rattle.jt_rules.specs.UseSites.{Enclosing, Use, reads, binds, reads_loop_field, calls, filters, tests, declares}
-use Rattle.jt_rules.specs.UseSites.{names_import, UseSite, at, bound, named_imports, parameter_names, is_called_by_name}
-use Rattle.jt_rules.specs.UseSites.{expr_use_sites, row_use_sites, pair_use_sites, condition_use_sites}
-use Rattle.jt_rules.specs.UseSites.{filter_call_use_sites, stmt_use_sites, body_use_sites, branch_use_sites}
+use Rattle.jt_uses.specs.Uses.{Use, Site, reads, binds, reads_loop_field, calls, filters, tests, declares_macro}
+use Rattle.jt_uses.specs.Uses.{declares_block, includes, imports, binds_library, binds_macro, at, bound, place_at}
+use Rattle.jt_uses.specs.Uses.{parameters_bound, keys_bound, macros_bound, is_called_by_name, inside_scope}
+use Rattle.jt_uses.specs.Uses.{before_loop}
+use Rattle.jt_uses.specs.Uses.{inside_callee, inside_loop, expr_uses, row_uses, pair_uses, condition_uses}
+use Rattle.jt_uses.specs.Uses.{filter_call_uses, stmt_uses, body_uses, branch_uses}
+use Rattle.jt_uses.specs.Uses as uses
+use Rattle.jt_uses.specs.declared.site.Place.{Place}
+use Rattle.jt_uses.specs.declared.site.Enclosing.{Enclosing}
 use Rattle.jt_semantics.proofs.KeptUses.{AllKeep, front, back, joined}
 
 pub left_false : (a b : Bool) → (a || b) ≡ false → a ≡ false
-left_false true b e = e
-left_false false b e = refl
+left_false a b e = (or_parts a b e).0
 
 pub right_false : (a b : Bool) → (a || b) ≡ false → b ≡ false
-right_false true b e = absurd (cc)
-right_false false b e = e
+right_false a b e = (or_parts a b e).1
 
 -- The context outside blocks with the loop of this context.
 abbrev pub out_of : Enclosing → Enclosing
 out_of w = record w { in_block = false }
+
+abbrev pub out_at : Place → Place
+out_at p = place_at p.line (out_of p.around)
 
 module _ (cenv : CompileEnv) (h : Namespace) where
   -- ---- No callee is `super` if its expression is not
 
   alone_no_super : (o : Option Definition) (x : Text) → bytes_eq x (codes "super") ≡ false
       → named_alone cenv.sources o x ≡ a_super → ⊥
-  alone_no_super a0 x e is = search (arith, rules)
+  alone_no_super o x e is = search (arith, rules)
 
   offered_no_super : (n : Text) (o : Option MacroBody) → of_library cenv.sources n o ≡ a_super → ⊥
-  offered_no_super n None e = absurd (cc)
-  offered_no_super n (Some m) e = absurd (cc)
+  offered_no_super n o e = search (arith, rules)
 
   library_no_super : (o : Option Definition) (x : Text) → in_library cenv.sources o x ≡ a_super → ⊥
-  library_no_super a0 x e = search (arith, rules, offered_no_super)
+  library_no_super o x e = search (arith, rules, offered_no_super)
 
   member_no_super : (o : Option Definition) (of x : Text) → named_in cenv.sources o of x ≡ a_super → ⊥
   member_no_super o of x e = search (arith, rules, library_no_super)
@@ -56,30 +63,25 @@ module _ (cenv : CompileEnv) (h : Namespace) where
 
   callable_outside : (c : Callee) (w : Enclosing) → (c ≡ a_super → ⊥) → CannotBeCalled cenv h c (out_of w)
       → CannotBeCalled cenv h c w
-  callable_outside a_super w n p = absurd (n refl)
-  callable_outside c w n p = p
+  callable_outside c w n p = search (arith, rules)
 
   misused_inside : (f : Expr) (w : Enclosing) → MisusesLoop f (out_of w) → MisusesLoop f w
-  misused_inside (name x) w p = p
-  misused_inside f w p = p
+  misused_inside f w p = search (arith, rules)
 
   -- ---- Uses that keep the rules wherever others do
 
   -- Holds if the second uses keep the rules whenever the first ones do.
-  pub record Follow (xs ys : List UseSite) : Type 0 where
+  pub record Follow (xs ys : List Site) : Type 0 where
     pub kept : AllKeep cenv h xs → AllKeep cenv h ys
 
-  both : {xs ys us vs : List UseSite} → Follow xs us → Follow ys vs → Follow (xs ++ ys) (us ++ vs)
-  both {xs} {ys} {us} {vs} e f = record {
-    kept = λ k. joined cenv h us vs (e.kept (front cenv h xs ys k)) (f.kept (back cenv h xs ys k));
-  }
+  both : {xs ys us vs : List Site} → Follow xs us → Follow ys vs → Follow (xs ++ ys) (us ++ vs)
+  both {xs} {ys} {us} {vs} e f = search (arith, rules, joined, front, back)
 
-  either : {xs ys us vs : List UseSite} (b : Bool) → Follow xs us → Follow ys vs
+  either : {xs ys us vs : List Site} (b : Bool) → Follow xs us → Follow ys vs
       → Follow (if b then xs else ys) (if b then us else vs)
-  either true e f = e
-  either false e f = f
+  either b e f = search (arith, rules)
 
-  same : {xs : List UseSite} → Follow xs xs
+  same : {xs : List Site} → Follow xs xs
   same = record { kept = λ k. k }
 
   -- A use that is no call keeps the rules outside blocks.
@@ -87,144 +89,154 @@ module _ (cenv : CompileEnv) (h : Namespace) where
   IsNoCall (calls f ts ps) = ⊥
   IsNoCall u = Unit {0}
 
-  one : (u : Use) (w : Enclosing) → IsNoCall u → Follow (at w u) (at (out_of w) u)
-  one (calls f ts ps) w n = absurd n
-  one (reads x) w n = record {
-    kept = λ k. (record { in_loops = k.0.in_loops; callable = k.0.callable; fitting = k.0.fitting }, tt);
-  }
-  one u w n = record {
-    kept = λ k. (record { in_loops = k.0.in_loops; callable = k.0.callable; fitting = k.0.fitting }, tt);
-  }
+  one : (u : Use) (p : Place) → IsNoCall u → Follow (at p u) (at (out_at p) u)
+  one u p n = search (arith, rules)
 
-  called : (f : Expr) (ts : Exprs) (ps : written.Pairs) (w : Enclosing) → is_super f ≡ false
-      → Follow (at w (calls f ts ps)) (at (out_of w) (calls f ts ps))
-  called f ts ps w s = record {
-    kept = λ k. (
-      record {
-        in_loops = λ p. k.0.in_loops (misused_inside f w p);
-        callable = λ p. k.0.callable
-            (callable_outside (callee cenv.sources (given cenv.sources h) f) w (no_super f s) p);
-        fitting = k.0.fitting;
-      },
-      tt,
-    );
-  }
+  called : (f : Expr) (ts : Exprs) (ps : written.Pairs) (p : Place) → is_super f ≡ false
+      → Follow (at p (calls f ts ps)) (at (out_at p) (calls f ts ps))
+  called f ts ps p s = search (arith, rules, misused_inside, callable_outside, no_super)
 
-  names_without : (xs : List Text) (w : Enclosing) → Follow (bound xs w) (bound xs (out_of w))
-  names_without [] w = same
-  names_without (x ∷ xs) w = both (one (binds x) w tt) (names_without xs w)
+  names_without : (xs : List Text) (p : Place) → Follow (bound xs p) (bound xs (out_at p))
+  names_without [] p = same
+  names_without (x ∷ xs) p = both (one (binds x) p tt) (names_without xs p)
 
-  imports_without : (xs : List (Text × Text)) (w : Enclosing)
-      → Follow (named_imports xs w) (named_imports xs (out_of w))
-  imports_without [] w = same
-  imports_without (x ∷ xs) w = both (one (names_import x.1) w tt) (imports_without xs w)
+  parameters_without : (xs : List Parameter) (p : Place)
+      → Follow (parameters_bound xs p) (parameters_bound xs (out_at p))
+  parameters_without [] p = same
+  parameters_without (x ∷ xs) p = both (one (binds x.name) p tt) (parameters_without xs p)
+
+  keys_without : (ps : written.Pairs) (p : Place) → Follow (keys_bound ps p) (keys_bound ps (out_at p))
+  keys_without no_pairs p = same
+  keys_without (pair x e ps) p = both (one (binds x) p tt) (keys_without ps p)
+
+  macros_without : (n : Text) (xs : List (Text × Text)) (p : Place)
+      → Follow (macros_bound n xs p) (macros_bound n xs (out_at p))
+  macros_without n [] p = same
+  macros_without n (x ∷ xs) p = both (one (binds_macro n x.0 x.1) p tt) (macros_without n xs p)
 
   -- ---- Expressions
 
   mutual
-    expr_without : (e : Expr) (w : Enclosing) → has_super e ≡ false
-        → Follow (expr_use_sites e w) (expr_use_sites e (out_of w))
-    expr_without (constant l) w s = same
-    expr_without (name x) w s = one (reads x) w tt
-    expr_without (group a) w s = expr_without a w s
-    expr_without (list_of ts) w s = row_without ts w s
-    expr_without (written.map_of ps) w s = pairs_without ps w s
-    expr_without (attribute a k) w s = either (is_loop a) (one (reads_loop_field k) w tt) (expr_without a w s)
-    expr_without (item a b) w s =
-        search (arith, rules, both, left_false, right_false, expr_without a w, expr_without b w)
-    expr_without (written.call f ts ps) w s =
+    expr_without : (e : Expr) (p : Place) → has_super e ≡ false
+        → Follow (expr_uses e p) (expr_uses e (out_at p))
+    expr_without (constant l) p s = same
+    expr_without (name x) p s = one (reads x) p tt
+    expr_without (group a) p s = expr_without a p s
+    expr_without (list_of ts) p s = row_without ts p s
+    expr_without (written.map_of ps) p s = pairs_without ps p s
+    expr_without (attribute a k) p s = either (is_loop a) (one (reads_loop_field k) p tt) (expr_without a p s)
+    expr_without (item a b) p s =
+        search (arith, rules, both, left_false, right_false, expr_without a p, expr_without b p)
+    expr_without (written.call f ts ps) p s =
         let s1 = right_false (is_super f) (has_super f || (row_super ts || pairs_super ps)) s in
         let s2 = right_false (has_super f) (row_super ts || pairs_super ps) s1 in
         both
-        (both (either (is_called_by_name f) same
-        (expr_without f w (left_false (has_super f) (row_super ts || pairs_super ps) s1)))
-        (called f ts ps w (left_false (is_super f) (has_super f || (row_super ts || pairs_super ps)) s)))
-        (both (row_without ts w (left_false (row_super ts) (pairs_super ps) s2))
-        (pairs_without ps w (right_false (row_super ts) (pairs_super ps) s2)))
-    expr_without (written.filter a x ts ps) w s =
+        (either (is_called_by_name f) same
+        (expr_without f (place_at p.line (inside_callee p.around))
+        (left_false (has_super f) (row_super ts || pairs_super ps) s1)))
+        (both (called f ts ps p (left_false (is_super f) (has_super f || (row_super ts || pairs_super ps)) s))
+        (both (row_without ts p (left_false (row_super ts) (pairs_super ps) s2))
+        (pairs_without ps p (right_false (row_super ts) (pairs_super ps) s2))))
+    expr_without (written.filter a x ts ps) p s =
         let s1 = right_false (has_super a) (row_super ts || pairs_super ps) s in
-        both (one (filters x ts ps) w tt)
-        (both (expr_without a w (left_false (has_super a) (row_super ts || pairs_super ps) s))
-        (both (row_without ts w (left_false (row_super ts) (pairs_super ps) s1))
-        (pairs_without ps w (right_false (row_super ts) (pairs_super ps) s1))))
-    expr_without (written.test a n x ts ps) w s =
+        both (one (filters x ts ps) p tt)
+        (both (expr_without a p (left_false (has_super a) (row_super ts || pairs_super ps) s))
+        (both (row_without ts p (left_false (row_super ts) (pairs_super ps) s1))
+        (pairs_without ps p (right_false (row_super ts) (pairs_super ps) s1))))
+    expr_without (written.test a n x ts ps) p s =
         let s1 = right_false (has_super a) (row_super ts || pairs_super ps) s in
-        both (one (tests x ts ps) w tt)
-        (both (expr_without a w (left_false (has_super a) (row_super ts || pairs_super ps) s))
-        (both (row_without ts w (left_false (row_super ts) (pairs_super ps) s1))
-        (pairs_without ps w (right_false (row_super ts) (pairs_super ps) s1))))
-    expr_without (unary o a) w s = expr_without a w s
-    expr_without (binary o a b) w s =
-        search (arith, rules, both, left_false, right_false, expr_without a w, expr_without b w)
-    expr_without (when c a) w s =
-        search (arith, rules, both, left_false, right_false, expr_without c w, expr_without a w)
-    expr_without (choice c a b) w s =
-        search (arith, rules, right_false, both, left_false, expr_without c w, expr_without a w, expr_without b w)
+        both (one (tests x ts ps) p tt)
+        (both (expr_without a p (left_false (has_super a) (row_super ts || pairs_super ps) s))
+        (both (row_without ts p (left_false (row_super ts) (pairs_super ps) s1))
+        (pairs_without ps p (right_false (row_super ts) (pairs_super ps) s1))))
+    expr_without (unary o a) p s = expr_without a p s
+    expr_without (binary o a b) p s =
+        search (arith, rules, both, left_false, right_false, expr_without a p, expr_without b p)
+    expr_without (when c a) p s =
+        search (arith, rules, both, left_false, right_false, expr_without c p, expr_without a p)
+    expr_without (choice c a b) p s =
+        search (arith, rules, right_false, both, left_false, expr_without c p, expr_without a p, expr_without b p)
 
-    row_without : (ts : Exprs) (w : Enclosing) → row_super ts ≡ false
-        → Follow (row_use_sites ts w) (row_use_sites ts (out_of w))
-    row_without no_exprs w s = same
-    row_without (expr a ts) w s =
-        search (arith, rules, both, left_false, right_false, expr_without a w, row_without ts w)
+    row_without : (ts : Exprs) (p : Place) → row_super ts ≡ false
+        → Follow (row_uses ts p) (row_uses ts (out_at p))
+    row_without no_exprs p s = same
+    row_without (expr a ts) p s =
+        search (arith, rules, both, left_false, right_false, expr_without a p, row_without ts p)
 
-    pairs_without : (ps : written.Pairs) (w : Enclosing) → pairs_super ps ≡ false
-        → Follow (pair_use_sites ps w) (pair_use_sites ps (out_of w))
-    pairs_without no_pairs w s = same
-    pairs_without (pair k a ps) w s =
-        search (arith, rules, both, left_false, right_false, expr_without a w, pairs_without ps w)
+    pairs_without : (ps : written.Pairs) (p : Place) → pairs_super ps ≡ false
+        → Follow (pair_uses ps p) (pair_uses ps (out_at p))
+    pairs_without no_pairs p s = same
+    pairs_without (pair k a ps) p s =
+        search (arith, rules, both, left_false, right_false, expr_without a p, pairs_without ps p)
 
   -- ---- Statements
 
-  condition_without : (c : Option Expr) (w : Enclosing) → condition_super c ≡ false
-      → Follow (condition_use_sites c w) (condition_use_sites c (out_of w))
-  condition_without None w s = same
-  condition_without (Some c) w s = expr_without c (record w { in_loop = false }) s
+  condition_without : (c : Option Expr) (p : Place) → condition_super c ≡ false
+      → Follow (condition_uses c p) (condition_uses c (out_at p))
+  condition_without None p s = same
+  condition_without (Some c) p s = expr_without c (before_loop p) s
 
-  filter_call_without : (fs : List FilterCall) (w : Enclosing) → filter_call_super fs ≡ false
-      → Follow (filter_call_use_sites fs w) (filter_call_use_sites fs (out_of w))
-  filter_call_without [] w s = same
-  filter_call_without (f ∷ fs) w s =
-      search (arith, rules, right_false, both, one, row_without, left_false, pairs_without, filter_call_without fs w)
+  filter_call_without : (fs : List FilterCall) (p : Place) → filter_call_super fs ≡ false
+      → Follow (filter_call_uses fs p) (filter_call_uses fs (out_at p))
+  filter_call_without [] p s = same
+  filter_call_without (f ∷ fs) p s =
+      let later = pairs_super f.keywords || filter_call_super fs in
+      let s1 = right_false (row_super f.arguments) later s in
+      both
+      (both (one (filters f.name f.arguments f.keywords) p tt)
+      (both (row_without f.arguments p (left_false (row_super f.arguments) later s))
+      (pairs_without f.keywords p (left_false (pairs_super f.keywords) (filter_call_super fs) s1))))
+      (filter_call_without fs p (right_false (pairs_super f.keywords) (filter_call_super fs) s1))
 
   mutual
     stmt_without : (t : Stmt) (w : Enclosing) → stmt_super t ≡ false
-        → Follow (stmt_use_sites t w) (stmt_use_sites t (out_of w))
+        → Follow (stmt_uses t w) (stmt_uses t (out_of w))
     stmt_without (data_of x) w s = same
-    stmt_without (print line e) w s = expr_without e w s
+    stmt_without (print line e) w s = expr_without e (place_at line w) s
     stmt_without (choose bs other) w s =
         search (arith, rules, both, left_false, right_false, branches_without bs w, body_without other w)
     stmt_without (for_each line xs e c body other) w s =
         let later = condition_super c || (calls_super body || calls_super other) in
         let s1 = right_false (has_super e) later s in
         let s2 = right_false (condition_super c) (calls_super body || calls_super other) s1 in
-        both (expr_without e w (left_false (has_super e) later s))
-        (both (names_without xs w)
-        (both (condition_without c w (left_false (condition_super c) (calls_super body || calls_super other) s1))
-        (both (body_without body (record w { in_loop = true }) (left_false (calls_super body) (calls_super other) s2))
-        (body_without other w (right_false (calls_super body) (calls_super other) s2)))))
-    stmt_without (set line xs e) w s = both (expr_without e w s) (names_without xs w)
-    stmt_without (set_block line x body) w s = both (one (binds x) w tt) (body_without body w s)
+        let p = place_at line w in
+        both
+        (both (expr_without e p (left_false (has_super e) later s))
+        (both (names_without xs (place_at line (inside_scope w)))
+        (condition_without c p (left_false (condition_super c) (calls_super body || calls_super other) s1))))
+        (both (body_without body (inside_loop w) (left_false (calls_super body) (calls_super other) s2))
+        (body_without other w (right_false (calls_super body) (calls_super other) s2)))
+    stmt_without (set line xs e) w s = both (expr_without e (place_at line w) s) (names_without xs (place_at line w))
+    stmt_without (set_block line x body) w s =
+        both (one (binds x) (place_at line w) tt) (body_without body (inside_scope w) s)
     stmt_without (with_values line ps body) w s =
-        search (arith, rules, both, pairs_without, left_false, names_without, right_false, body_without body w)
+        both (pairs_without ps (place_at line w) (left_false (pairs_super ps) (calls_super body) s))
+        (both (keys_without ps (place_at line (inside_scope w)))
+        (body_without body (inside_scope w) (right_false (pairs_super ps) (calls_super body) s)))
     stmt_without (filter_block line fs body) w s =
-        search (arith, rules, both, filter_call_without, right_false, left_false, body_without body w)
-    stmt_without (autoescape line on body) w s = body_without body w s
+        both (filter_call_without fs (place_at line w) (right_false (calls_super body) (filter_call_super fs) s))
+        (body_without body (inside_scope w) (left_false (calls_super body) (filter_call_super fs) s))
+    stmt_without (autoescape line on body) w s = body_without body (inside_scope w) s
     stmt_without (macro line x ps body) w s =
-        both (both (one (declares x ps) w tt) (names_without (parameter_names ps) w)) same
-    stmt_without (include line n missing with_context) w s = same
-    stmt_without (import_as line n new) w s = one (names_import new) w tt
-    stmt_without (import_from line n news) w s = imports_without news w
-    stmt_without (extends line n) w s = same
-    stmt_without (block line x scoped required body) w s = same
+        both (one (declares_macro x ps body) (place_at line w) tt)
+        (both (parameters_without ps (place_at line (inside_scope w))) same)
+    stmt_without (include line n missing with_context) w s = one (includes n missing with_context) (place_at line w) tt
+    stmt_without (import_as line n new) w s =
+        both (one (imports n) (place_at line w) tt) (one (binds_library n new) (place_at line w) tt)
+    stmt_without (import_from line n news) w s =
+        both (one (imports n) (place_at line w) tt) (macros_without n news (place_at line w))
+    stmt_without (extends line n) w s = one (uses.extends n) (place_at line w) tt
+    stmt_without (block line x scoped required body) w s =
+        both (one (declares_block x scoped required body) (place_at line w) tt) same
 
     pub body_without : (b : Body) (w : Enclosing) → calls_super b ≡ false
-        → Follow (body_use_sites b w) (body_use_sites b (out_of w))
+        → Follow (body_uses b w) (body_uses b (out_of w))
     body_without end w s = same
     body_without (stmt t rest) w s =
         search (arith, rules, both, left_false, right_false, stmt_without t w, body_without rest w)
 
     branches_without : (bs : Branches) (w : Enclosing) → branches_super bs ≡ false
-        → Follow (branch_use_sites bs w) (branch_use_sites bs (out_of w))
+        → Follow (branch_uses bs w) (branch_uses bs (out_of w))
     branches_without no_branches w s = same
     branches_without (branch line c body rest) w s =
         search (arith, rules, right_false, both, expr_without, left_false, body_without body w, branches_without rest w)

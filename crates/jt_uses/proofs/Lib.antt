@@ -1,2 +1,1 @@
-pub mod AppendUses
 pub mod ExpressionsBindNothing

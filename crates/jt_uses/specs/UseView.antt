@@ -1,6 +1,5 @@
 -- The view of uses in contracts, without the references to the tree.
-use Rattle.std.specs.Prelude.{◌≡◌, ◌++◌, List, map, Vec}
-use Rattle.std.specs.declared.alloc.Global.{Global}
+use Rattle.std.specs.Prelude.{List, map}
 use Rattle.jt_ast.specs.ExpressionView.{expr_view, exprs_view, pairs_view}
 use Rattle.jt_ast.specs.StatementView.{body_view, parameters_view, is_ignored, passes_context}
 use Rattle.jt_uses.specs.Uses as uses
@@ -30,7 +29,3 @@ site_view s = record { place = s.place; made = use_view s.made }
 
 abbrev pub sites_view : List UseSite → List Site
 sites_view = map site_view
-
--- The new list is the old one with these uses appended.
-abbrev pub Adds : Vec UseSite Global → Vec UseSite Global → List Site → Type 0
-Adds old new xs = sites_view new.items ≡ sites_view old.items ++ xs

@@ -1,9 +1,9 @@
 -- The uses of a template: what it does at each of its places, in the order of the source, with the
 -- line of the tag and the context. No rule is defined here.
-use Rattle.std.specs.Prelude.{ℕ, Bool, true, false, if◌then◌else◌, List, [], ◌∷◌, ◌++◌, codes, Option, Some, None}
-use Rattle.std.specs.Str.{bytes_eq}
+use Rattle.std.specs.Prelude.{ℕ, Bool, true, false, if◌then◌else◌, List, [], ◌∷◌, ◌++◌, Option, Some, None}
 use Rattle.jt_ast.specs.Expressions.{Expr, constant, name, group, list_of, map_of, attribute, item, call, filter, test}
 use Rattle.jt_ast.specs.Expressions.{unary, binary, when, choice, Exprs, no_exprs, expr, Pairs, no_pairs, pair, Text}
+pub use Rattle.jt_ast.specs.Expressions.{is_loop}
 use Rattle.jt_ast.specs.Statements as trees
 use Rattle.jt_ast.specs.Statements.{Parameter, FilterCall, Stmt, data_of, print, choose, for_each, set, set_block}
 use Rattle.jt_ast.specs.Statements.{with_values, filter_block, autoescape, macro, include, import_as, import_from}
@@ -72,11 +72,6 @@ abbrev pub macros_bound : Text → List (Text × Text) → Place → List Site
 macros_bound n [] p = []
 macros_bound n (x ∷ xs) p =
     record { place = p; made = binds_macro n x.0 x.1 } ∷ macros_bound n xs p
-
--- True if the expression is the bare name `loop`.
-abbrev pub is_loop : Expr → Bool
-is_loop (name x) = bytes_eq x (codes "loop")
-is_loop e = false
 
 abbrev pub is_name : Expr → Bool
 is_name (name x) = true

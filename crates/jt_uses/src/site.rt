@@ -2,8 +2,9 @@
 
 ghost use Rattle.std.specs.Prelude.{◌≡◌, IfOk};
 ghost use Rattle.jt_uses.specs.Uses.{at, inside_scope, inside_loop, inside_block, inside_macro};
-ghost use Rattle.jt_uses.specs.Uses.{inside_callee};
-ghost use Rattle.jt_uses.specs.UseView.{Adds, use_view};
+ghost use Rattle.jt_uses.specs.Uses.{inside_callee, place_at};
+ghost use Rattle.jt_uses.specs.UseView.{use_view};
+ghost use Rattle.jt_uses.specs.internal.Adds.{Adds};
 
 use jt_ast::{Expr, IncludeContext, Missing, Parameter, Stmt};
 use std::alloc::AllocError;
@@ -64,16 +65,6 @@ impl Enclosing {
             ..self
         }
     }
-
-    /// Returns the context of a callee that is no name.
-    pub(crate) fn in_a_callee(self) -> Self
-        ensures { result ≡ inside_callee self }
-    {
-        Enclosing {
-            in_callee: true,
-            ..self
-        }
-    }
 }
 
 /// The line of a tag, and the context of the uses in it.
@@ -81,6 +72,19 @@ impl Enclosing {
 pub struct Place {
     pub line: u32,
     pub around: Enclosing,
+}
+
+impl Place {
+    /// Returns the place of the uses in a callee that is no name.
+    pub(crate) fn in_a_callee(self) -> Self
+        ensures { result ≡ place_at self.line (inside_callee self.around) }
+    {
+        let around = Enclosing {
+            in_callee: true,
+            ..self.around
+        };
+        Place { around, ..self }
+    }
 }
 
 /// A use: what a template does at a place.
@@ -156,14 +160,18 @@ pub struct UseSite<'a> {
 // A use takes at most 64 bytes.
 const _: () = prove!(size_of::<UseSite<'static>>() <= 64);
 
-/// Appends a use.
-pub(crate) fn add_use<'a>(
-    found: &mut Vec<UseSite<'a>>,
-    place: Place,
-    made: Use<'a>,
-) -> Result<(), AllocError>
-    ensures { IfOk result (λ _. Adds found.old found.new (at place (use_view made.entry))) }
-{
-    found.push(UseSite { place, made })?;
-    Ok(())
+/// The uses that were found, in the order of the source.
+#[derive(Drop)]
+pub(crate) struct UseList<'a> {
+    pub(crate) sites: Vec<UseSite<'a>>,
+}
+
+impl<'a> UseList<'a> {
+    /// Appends a use.
+    pub(crate) fn add(&mut self, place: Place, made: Use<'a>) -> Result<(), AllocError>
+        ensures { IfOk result (λ _. Adds self.old self.new (at place (use_view made.entry))) }
+    {
+        self.sites.push(UseSite { place, made })?;
+        Ok(())
+    }
 }

@@ -30,7 +30,7 @@ use Rattle.jt_bind.specs.declared.resolver.Arguments.{Arguments}
 use Rattle.jt_bind.specs.declared.resolver.Resolver.{Resolver}
 use Rattle.jt_bind.specs.internal.Scoped.{values, IsAdded, PutsNone, RowLeads, cenv_in, order_in, senv_in, templates_in}
 use Rattle.jt_bind.specs.internal.Scoped.{expr_in, row_in, asides_in, entries_in, filter_row_in, filtered_in}
-use Rattle.jt_bind.specs.internal.Stated.{IsBranch, AreTurns, line_in, stmt_in, body_in}
+use Rattle.jt_bind.specs.internal.Stated.{Emits, IsBranch, AreTurns, line_in, stmt_in, body_in}
 use Rattle.jt_bind.specs.internal.Stated.{scoped_in, layer_at, values_in, condition_in}
 
 -- A part of a list is appended, and its values to a pool; the part `left` remains.
@@ -104,12 +104,6 @@ module _ (r : Resolver) where
   abbrev pub called_of : Signature → Arguments → SRow Constant
   called_of s a = given_of a (filled_of s a)
 
-  -- The values of a filter's parameters after the positional ones.
-  abbrev pub some_filled_of : List Parameter → Arguments → SRow Constant
-  some_filled_of ps a =
-      resolve.filled_some (parameters_view ps) (length a.row.now) (keywords (by_name a))
-      (kept_of (by_name a))
-
   -- The call of a block, whatever its arguments are, and the call of the next body of the current
   -- block.
   abbrev pub IsBlock : Text → SlotExpr → Type 0
@@ -140,6 +134,15 @@ module _ (r : Resolver) where
 
   abbrev pub stmt_of : trees.Stmt → SBody Constant
   stmt_of t = stmt_in r.tables.now t r.senv
+
+  -- Statements are emitted, and those of a statement of a template.
+  abbrev pub Puts : SBody Constant → Vec SlotStmt Global → Vec SlotStmt Global → Vec Value Global → Vec Value Global
+      → Type 0
+  Puts whole before after old new = Emits templates_of whole before.items after.items (values old) (values new)
+
+  abbrev pub PutsStmt : trees.Stmt → Vec SlotStmt Global → Vec SlotStmt Global → Vec Value Global → Vec Value Global
+      → Type 0
+  PutsStmt t = Puts (stmt_of t)
 
   abbrev pub body_of : trees.Body → SBody Constant
   body_of b = body_in r.tables.now b r.senv

@@ -1,65 +1,61 @@
--- The tests of the rules, as the code makes them: the rule that a name, a call, a filter, a test or a
--- macro breaks. jt_rules defines the rules. Only private clauses cite this module.
-use Rattle.std.specs.Prelude.{ℕ, nat_lt, Bool, not, ◌&&◌, ◌||◌, List, length, codes, Option, Some, None}
+-- The tests of the rules, as the code makes them: one for each rule of jt_rules, and the first rule
+-- that a use breaks. Only private clauses cite this module.
+use Rattle.std.specs.Prelude.{ℕ, nat_lt, Bool, true, false, not, ◌&&◌, ◌||◌, List, length, codes, Option, Some, None}
 use Rattle.std.specs.Prelude.{if◌then◌else◌}
-use Rattle.std.specs.Option.{option_or, is_some}
+use Rattle.std.specs.Option.{is_some, option_or}
 use Rattle.std.specs.Str.{bytes_eq}
-use Rattle.jt_ids.specs.declared.test_id.TestId.{TestId}
+use Rattle.jt_ids.specs.LoopTable.{field_named}
 use Rattle.jt_ast.specs.Expressions as trees
 use Rattle.jt_ast.specs.Expressions.{Expr, name, attribute, Exprs, Text}
 use Rattle.jt_ast.specs.Statements.{Parameter}
 use Rattle.jt_ast.specs.Texts.{repeated}
 use Rattle.jt_chains.specs.Uses.{count, keywords}
-use Rattle.jt_chains.specs.Chain.{Namespace, bodies, given, given_to, Callee, a_macro, a_range, a_super, a_block}
-use Rattle.jt_chains.specs.Chain.{a_cycle, no_callee}
+use Rattle.jt_chains.specs.Chain.{Namespace, bodies, given, given_to, Callee, a_super, a_block, no_callee, callee}
+use Rattle.jt_chains.specs.Chain.{is_loop}
 use Rattle.jt_eval.specs.Filters.{Filters}
+use Rattle.jt_eval.specs.Tests.{test_named}
 use Rattle.jt_rules.specs.CompileEnv.{CompileEnv}
+use Rattle.jt_uses.specs.Uses.{Use, reads, binds, reads_loop_field, calls, filters, tests, declares_macro}
+use Rattle.jt_uses.specs.Uses.{binds_library, binds_macro}
+pub use Rattle.jt_uses.specs.declared.site.Enclosing.{Enclosing}
 use Rattle.jt_rules.specs.Rules.{max_parameters}
-pub use Rattle.jt_rules.specs.UseSites.{Enclosing, parameter_names}
+pub use Rattle.jt_rules.specs.Rules.{parameter_names}
 pub use Rattle.jt_rules.specs.Arguments.{no_keywords, fits, reached, is_filled, filter_fits}
-use Rattle.jt_rules.specs.Arguments.{callee_takes, test_takes}
+use Rattle.jt_rules.specs.Arguments.{callee_takes, test_takes, filter_takes, names_rightly}
 use Rattle.jt_rules.specs.declared.error.ScopeError.{ScopeError}
 use Rattle.jt_rules.specs.declared.error.ScopeError.TheVariants as error
 
--- The rule that a name breaks when it is read by itself: V1 for `loop`, and V3 for a name that can
--- only be called.
-abbrev pub read_alone : Text → Option ScopeError
-read_alone x =
-    if bytes_eq x (codes "loop") then Some error.LoopOutside
-    else
-    if bytes_eq x (codes "self") || (bytes_eq x (codes "super") || bytes_eq x (codes "range"))
-    then Some error.NotCallable
-    else None
+abbrev pub refused : Bool → ScopeError → Option ScopeError
+refused wrong e = if wrong then Some e else None
 
 -- The rule that arguments break if they are not right.
 abbrev pub unless : Bool → Option ScopeError
 unless right = if right then None else Some error.BadArguments
 
--- The rule that the arguments of `range` break.
-abbrev pub range_broken : Exprs → trees.Pairs → Option ScopeError
-range_broken arguments pairs = unless (callee_takes a_range arguments pairs)
+-- True if the name is a callee, or a part of one.
+abbrev pub is_only_called : Text → Bool
+is_only_called x = bytes_eq x (codes "self") || (bytes_eq x (codes "super") || bytes_eq x (codes "range"))
 
-abbrev pub test_broken : Option TestId → Exprs → trees.Pairs → Option ScopeError
-test_broken None arguments pairs = None
-test_broken (Some t) arguments pairs = unless (test_takes (Some t) arguments pairs)
+-- The rule that a name breaks when it is read by itself.
+abbrev pub read_alone : Text → Option ScopeError
+read_alone x =
+    if bytes_eq x (codes "loop") then Some error.LoopOutside else refused (is_only_called x) error.NotCallable
 
-abbrev pub filter_broken : Filters → Option ℕ → Exprs → trees.Pairs → Option ScopeError
-filter_broken fs None arguments pairs = None
-filter_broken fs (Some f) arguments pairs =
-    unless (filter_fits fs f (count arguments) (keywords pairs) && fs.inside f arguments pairs)
+-- True if the callee is `loop` itself, a field of it other than `cycle`, or `cycle` outside a loop.
+abbrev pub misuses_loop : Expr → Enclosing → Bool
+misuses_loop (name x) around = bytes_eq x (codes "loop")
+misuses_loop (attribute a k) around = is_loop a && (not (bytes_eq k (codes "cycle")) || not around.in_loop)
+misuses_loop f around = false
 
-abbrev pub refused : Bool → ScopeError → Option ScopeError
-refused wrong e = if wrong then Some e else None
+abbrev pub filter_right : Filters → Option ℕ → Exprs → trees.Pairs → Bool
+filter_right fs o arguments pairs =
+    filter_takes fs o (count arguments) (keywords pairs) && names_rightly fs o arguments pairs
 
--- V1 if the callee misuses `loop` in every context: it is `loop` itself, or a field of it other
--- than `cycle`.
-abbrev pub callee_broken : Expr → Option ScopeError
-callee_broken (name x) = refused (bytes_eq x (codes "loop")) error.LoopOutside
-callee_broken (attribute (name of) k) =
-    refused (bytes_eq of (codes "loop") && not (bytes_eq k (codes "cycle"))) error.LoopOutside
-callee_broken f = None
+-- The rule that a read of a field of `loop` breaks.
+abbrev pub field_broken : Text → Enclosing → Option ScopeError
+field_broken k around = refused (not (around.in_loop && is_some (field_named k))) error.LoopOutside
 
--- The rule that a macro breaks by its name and the number and the names of its parameters.
+-- The rule that a macro breaks by its name and its parameters.
 abbrev pub macro_broken : Text → List Parameter → Option ScopeError
 macro_broken x parameters =
     option_or (read_alone x)
@@ -72,18 +68,69 @@ module _ (cenv : CompileEnv) (namespace : Namespace) where
 
   -- The rule that a name breaks when it is read as a value, or bound.
   abbrev pub used : Text → Option ScopeError
-  used x = option_or (read_alone x) (refused (is_macro x) error.MacroAsValue)
+  used x =
+      if bytes_eq x (codes "loop") then Some error.LoopOutside
+      else if is_only_called x then Some error.NotCallable else refused (is_macro x) error.MacroAsValue
+
+  abbrev pub cannot_be_called : Callee → Enclosing → Bool
+  cannot_be_called no_callee around = true
+  cannot_be_called a_super around = not around.in_block
+  cannot_be_called (a_block x) around = nat_lt (length (bodies cenv.sources cenv.escaping namespace x)) 1
+  cannot_be_called c around = false
 
   -- The rule that a call breaks, by its callee.
   abbrev pub call_broken : Callee → Enclosing → Exprs → trees.Pairs → Option ScopeError
-  call_broken (a_macro h m) around arguments pairs = unless (callee_takes (a_macro h m) arguments pairs)
-  call_broken a_range around arguments pairs = range_broken arguments pairs
-  call_broken a_super around arguments pairs =
-      option_or (refused (not around.in_block) error.NotCallable) (unless (callee_takes a_super arguments pairs))
-  call_broken (a_block x) around arguments pairs =
-      option_or
-      (refused (nat_lt (length (bodies cenv.sources cenv.escaping namespace x)) 1) error.NotCallable)
-      (unless (callee_takes (a_block x) arguments pairs))
-  call_broken a_cycle around arguments pairs =
-      option_or (refused (not around.in_loop) error.LoopOutside) (unless (callee_takes a_cycle arguments pairs))
-  call_broken no_callee around arguments pairs = Some error.NotCallable
+  call_broken c around arguments pairs =
+      if cannot_be_called c around then Some error.NotCallable else unless (callee_takes c arguments pairs)
+
+  abbrev pub its_callee : Expr → Callee
+  its_callee f = callee cenv.sources (given cenv.sources namespace) f
+
+  -- ---- One test for each rule
+
+  abbrev pub loop_outside : Use → Enclosing → Bool
+  loop_outside (reads x) around = bytes_eq x (codes "loop")
+  loop_outside (binds x) around = bytes_eq x (codes "loop")
+  loop_outside (declares_macro x parameters body) around = bytes_eq x (codes "loop")
+  loop_outside (binds_library n x) around = bytes_eq x (codes "loop")
+  loop_outside (binds_macro n m x) around = bytes_eq x (codes "loop")
+  loop_outside (reads_loop_field k) around = not (around.in_loop && is_some (field_named k))
+  loop_outside (calls f arguments pairs) around = misuses_loop f around
+  loop_outside u around = false
+
+  abbrev pub not_callable : Use → Enclosing → Bool
+  not_callable (reads x) around = is_only_called x
+  not_callable (binds x) around = is_only_called x
+  not_callable (declares_macro x parameters body) around = is_only_called x
+  not_callable (binds_library n x) around = is_only_called x
+  not_callable (binds_macro n m x) around = is_only_called x
+  not_callable (calls f arguments pairs) around = cannot_be_called (its_callee f) around
+  not_callable u around = false
+
+  abbrev pub macro_as_value : Use → Bool
+  macro_as_value (reads x) = is_macro x
+  macro_as_value (binds x) = is_macro x
+  macro_as_value u = false
+
+  abbrev pub right_arguments : Use → Bool
+  right_arguments (calls f arguments pairs) = callee_takes (its_callee f) arguments pairs
+  right_arguments (filters x arguments pairs) =
+      filter_right cenv.filters (cenv.filters.named x arguments pairs) arguments pairs
+  right_arguments (tests x arguments pairs) = test_takes (test_named x) arguments pairs
+  right_arguments (declares_macro x parameters body) = not (repeated (parameter_names parameters))
+  right_arguments u = true
+
+  abbrev pub many_parameters : Use → Bool
+  many_parameters (declares_macro x parameters body) = nat_lt max_parameters (length parameters)
+  many_parameters u = false
+
+  -- The first rule that a use breaks.
+  abbrev pub use_broken : Use → Enclosing → Option ScopeError
+  use_broken u around =
+      if loop_outside u around then Some error.LoopOutside
+      else
+      if not_callable u around then Some error.NotCallable
+      else
+      if macro_as_value u then Some error.MacroAsValue
+      else
+      if right_arguments u then refused (many_parameters u) error.TooManySlots else Some error.BadArguments

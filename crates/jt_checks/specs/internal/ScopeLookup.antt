@@ -1,10 +1,5 @@
--- Sets of names, and the environment and the blocks of a chain. Only private clauses cite this module.
+-- The environment and the blocks of a chain. Only private clauses cite this module.
 use Rattle.std.specs.Prelude.{ℕ, ◌+◌, Bool, not, nat_lt, length}
-use Rattle.std.specs.Ordering.{nat_cmp}
-use Rattle.std.specs.Cmp.Lexicographic.{slice_cmp}
-use Rattle.std.specs.BTreeSet as set
-use Rattle.std.specs.BTreeSet.{BTreeSet}
-use denote.Ref.{Bor}
 use Rattle.jt_ast.specs.Expressions.{Text}
 use Rattle.jt_ast.specs.Texts.{ascending}
 use Rattle.jt_chains.specs.Chain.{Namespace, a_chain, a_library, bodies, libraries}
@@ -14,12 +9,6 @@ use Rattle.jt_chains.specs.View.{chain_view}
 use Rattle.jt_chains.specs.declared.chain.Chain.{Chain}
 use Rattle.jt_rules.specs.CompileEnv.{CompileEnv, cenv_of}
 use Rattle.jt_rules.specs.Rules.{libraries_counted}
-
-abbrev pub Names : Type 0
-Names = BTreeSet (Bor Text)
-
-abbrev pub is_among : Names → Text → Bool
-is_among s x = set.contains_by (λ k. slice_cmp nat_cmp x k.now) s
 
 unfoldable pub cenv_in : Chain → CompileEnv
 cenv_in c = cenv_of (chain_view c)

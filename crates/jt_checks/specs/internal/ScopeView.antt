@@ -1,12 +1,9 @@
 -- The view of a scope in contracts, and the rules in it. Only private clauses cite this module.
-use Rattle.std.specs.Prelude.{◌≡◌, ◌==◌, ◌&&◌, ℕ, ◌-◌, ◌^◌, min, nat_lt, length, Bool, List, Option, Some, None}
-use Rattle.std.specs.Prelude.{String}
-use Rattle.std.specs.declared.alloc.Global.{Global}
+use Rattle.std.specs.Prelude.{◌==◌, ◌&&◌, ℕ, ◌-◌, ◌^◌, min, length, Bool, List, Option, Some, None}
 use Rattle.jt_ast.specs.Expressions.{Expr, Exprs, Pairs, name, Text}
-use Rattle.jt_ast.specs.ExpressionView.{exprs_view, pairs_view}
 use Rattle.jt_ast.specs.Texts.{ascending}
 use Rattle.jt_ast.specs.declared.expression.Expr as expression
-use Rattle.jt_chains.specs.Chain.{Namespace, Sources, Definition, Callee, given, given_to}
+use Rattle.jt_chains.specs.Chain.{Namespace, Sources, Definition, given, given_to}
 use Rattle.jt_chains.specs.Named.{given_view}
 use Rattle.jt_chains.specs.Uses.{count, own_names}
 use Rattle.jt_chains.specs.View.{chain_view}
@@ -16,10 +13,7 @@ use Rattle.jt_names.specs.FactsOfChains.{IsKnown}
 use Rattle.jt_checks.specs.internal.ScopeLookup.{cenv_in, namespace_in, names_of}
 use Rattle.jt_rules.specs.CompileEnv.{CompileEnv}
 use Rattle.jt_checks.specs.internal.RuleTests as rules
-use Rattle.jt_rules.specs.declared.error.ScopeError.{ScopeError}
 use Rattle.jt_checks.specs.declared.scope.Scope.{Scope}
-use Rattle.jt_uses.specs.declared.site.Enclosing.{Enclosing}
-use Rattle.jt_checks.specs.internal.UseRules.{within_view}
 
 abbrev pub its_cenv : Scope → CompileEnv
 its_cenv s = cenv_in s.chain.now
@@ -54,15 +48,6 @@ name_in e = None
 abbrev pub in_scope : {A : Type 0} → (CompileEnv → Namespace → A) → Scope → A
 in_scope rule s = rule (its_cenv s) (its_namespace s)
 
--- The first rule that a call breaks, by its callee.
-abbrev pub call_found : Scope → Enclosing → Callee → Exprs → Pairs → Option ScopeError
-call_found s w called = in_scope rules.call_broken s called (within_view w)
-
--- The result is the first rule that a call breaks.
-abbrev pub FindsCall : Scope → Enclosing → Callee → List expression.Expr
-    → List (String Global × expression.Expr) → Option ScopeError → Type 0
-FindsCall s w called row pairs o = o ≡ call_found s w called (exprs_view row) (pairs_view pairs)
-
 -- The number of different names that a chain and each of its libraries read or bind.
 abbrev pub names_in : Chain → ℕ → ℕ
 names_in c number = names_of (cenv_in c) (namespace_in c number)
@@ -78,7 +63,3 @@ capped n = min n (2 ^ 64 - 1)
 -- There are no arguments.
 abbrev pub is_bare : Exprs → Pairs → Bool
 is_bare ts ps = (count ts == 0) && rules.no_keywords ps
-
--- There are arguments, all of them positional.
-abbrev pub is_positional : Exprs → Pairs → Bool
-is_positional ts ps = nat_lt 0 (count ts) && rules.no_keywords ps

@@ -1,26 +1,24 @@
 -- The rule that a use breaks, and the first finding in templates. Only private clauses cite this
 -- module.
-use Rattle.std.specs.Prelude.{ℕ, not, ◌&&◌, List, [], ◌∷◌, Option, Some, None, option_map, slice_get}
-use Rattle.std.specs.Option.{option_or, is_some}
-use Rattle.jt_ids.specs.LoopTable.{field_named}
+use Rattle.std.specs.Prelude.{ℕ, List, [], ◌∷◌, Option, Some, None, option_map, slice_get}
+use Rattle.std.specs.Option.{option_or}
 use Rattle.jt_ast.specs.Expressions.{Text}
 use Rattle.jt_ast.specs.Statements.{Body}
-use Rattle.jt_chains.specs.Chain.{Namespace, Template, templates, given, callee}
-use Rattle.jt_eval.specs.Tests.{test_named}
-use Rattle.jt_uses.specs.Uses.{Use, reads, binds, reads_loop_field, calls, filters, tests, declares_macro}
-use Rattle.jt_uses.specs.Uses.{binds_library, binds_macro, Site, body_uses, outside}
-use Rattle.jt_uses.specs.declared.site.Enclosing.{Enclosing}
+use Rattle.jt_chains.specs.Along.{body_at}
+use Rattle.jt_chains.specs.Chain.{Namespace, Template, templates}
+use Rattle.jt_chains.specs.Parts.{name_at}
+use Rattle.jt_uses.specs.Uses.{Site, body_uses, outside}
 use Rattle.jt_rules.specs.CompileEnv.{CompileEnv}
 use Rattle.jt_rules.specs.Rules.{max_bindings}
 use Rattle.jt_checks.specs.Findings.{Finding, Subject, the_bindings, subject_of}
-pub use Rattle.jt_checks.specs.Findings.{within_view, binds_name, lines_bound}
+pub use Rattle.jt_checks.specs.Findings.{binds_name, lines_bound}
 use Rattle.jt_checks.specs.internal.RuleTests as rules
 use Rattle.jt_rules.specs.declared.error.ScopeError.{ScopeError}
 use Rattle.jt_rules.specs.declared.error.ScopeError.TheVariants as error
 
--- The rule that a read of a field of `loop` breaks.
-abbrev pub field_broken : Text → Enclosing → Option ScopeError
-field_broken k w = rules.refused (not (w.in_loop && is_some (field_named k))) error.LoopOutside
+-- The template at an index.
+abbrev pub template_at : List Template → ℕ → Template
+template_at ts i = record { name = name_at ts i; body = body_at ts i }
 
 -- The finding of a broken rule, if there is one, in the template of this name.
 abbrev pub finding_of : Text → ℕ → Option Subject → Option ScopeError → Option Finding
@@ -42,22 +40,8 @@ first g (x ∷ xs) = option_or (g x) (first g xs)
 
 module _ (cenv : CompileEnv) (namespace : Namespace) where
   -- The rule that a use breaks.
-  abbrev pub use_broken : Use → Enclosing → Option ScopeError
-  use_broken (reads x) w = rules.used cenv namespace x
-  use_broken (binds x) w = rules.used cenv namespace x
-  use_broken (reads_loop_field k) w = field_broken k w
-  use_broken (calls f ts ps) w =
-      option_or (rules.callee_broken f)
-      (rules.call_broken cenv namespace (callee cenv.sources (given cenv.sources namespace) f) (within_view w) ts ps)
-  use_broken (filters x ts ps) w = rules.filter_broken cenv.filters (cenv.filters.named x ts ps) ts ps
-  use_broken (tests x ts ps) w = rules.test_broken (test_named x) ts ps
-  use_broken (declares_macro x parameters body) w = rules.macro_broken x parameters
-  use_broken (binds_library n x) w = rules.read_alone x
-  use_broken (binds_macro n m x) w = rules.read_alone x
-  use_broken u w = None
-
   abbrev pub site_broken : Site → Option ScopeError
-  site_broken s = use_broken s.made s.place.around
+  site_broken s = rules.use_broken cenv namespace s.made s.place.around
 
   -- The finding at a use, in the template of this name.
   abbrev pub site_finding : Text → Site → Option Finding

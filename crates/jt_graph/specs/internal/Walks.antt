@@ -1,7 +1,11 @@
 -- The invariants of a depth-first search. Only private clauses cite this module.
-use Rattle.std.specs.Prelude.{◌≡◌, ℕ, ◌<◌, ◌≤◌, Bool, true, false, List, length, reverse, slice_get, unwrap_or}
+use Rattle.std.specs.Prelude.{◌≡◌, ℕ, ◌<◌, ◌≤◌, Bool, true, false, List, [], ◌∷◌, length, reverse, slice_get}
+use Rattle.std.specs.Prelude.{unwrap_or}
 use Rattle.std.specs.List.{AllByRecursion, count_by}
-use Rattle.jt_graph.specs.Graph.{Graph, among, AreOrdered, Reaches}
+use Rattle.jt_graph.specs.Graph.{Graph, among, AreOrdered, IsRing, Leads}
+use Rattle.jt_graph.specs.declared.error.Ring.{Ring}
+use Rattle.jt_graph.specs.declared.stop.Stop.{Stop}
+use Rattle.jt_graph.specs.declared.stop.Stop.TheVariants as stop
 use Rattle.jt_graph.specs.declared.walk.VisitState.{VisitState}
 use Rattle.jt_graph.specs.declared.walk.VisitState.TheVariants.{New, Open, Done}
 use Rattle.jt_graph.specs.declared.walk.Walk.{Walk}
@@ -39,9 +43,17 @@ pub record IsWalk (g : Graph) (w : Walk) : Type 0 where
   pub within : AllByRecursion (λ j. j < length g) (done_of w)
   pub ordered : AreOrdered g (done_of w)
 
--- Each open node reaches the given one.
-abbrev pub LeadTo : Graph → Walk → ℕ → Type 0
-LeadTo g w i = (j : ℕ) → is_open (visit_of w.visits.items j) ≡ true → Reaches g j i
+-- The numbers begin with the node, and lead to the target. There are none if the node is the target.
+abbrev pub IsPath : Graph → ℕ → List ℕ → ℕ → Type 0
+IsPath g i [] target = i ≡ target
+IsPath g i (k ∷ ks) target = (k ≡ i) × Leads g k ks target
+
+-- The search from a node stops at a path back to an open node, at a ring, or for lack of memory.
+abbrev pub IsStop : Graph → Walk → Ring → ℕ → Stop → Type 0
+IsStop g w r i stop.Back =
+    (is_open (visit_of w.visits.items r.first) ≡ true) × IsPath g i (reverse r.others.items) r.first
+IsStop g w r i stop.Ring = IsRing g r.first r.others.items
+IsStop g w r i stop.NoMemory = Unit {0}
 
 -- The open nodes are unchanged, finished nodes stay finished, and no node becomes new.
 pub record GoesOn (v w : Walk) : Type 0 where

@@ -1,9 +1,10 @@
 -- The tags that break a rule on the blocks, macros and imports of templates. Only private clauses
 -- cite this module.
-use Rattle.std.specs.Prelude.{◌≡◌, ◌&&◌, Bool, true, List, [], ◌∷◌, Option, Some, None, string_bytes}
+use Rattle.std.specs.Prelude.{◌≡◌, ◌&&◌, Bool, false, true, List, [], ◌∷◌, Option, Some, None, string_bytes, ◌<◌, ℕ}
+use Rattle.std.specs.Prelude.{length}
 use Rattle.std.specs.Option.{is_none}
 use Rattle.jt_ast.specs.Expressions.{Text}
-use Rattle.jt_chains.specs.Chain.{Sources, a_library, Template, is_a_library, macros, public_macro}
+use Rattle.jt_chains.specs.Chain.{Sources, a_library, Template, is_a_library, macros, public_macro, sources_in}
 use Rattle.jt_inherit.specs.Findings.{ForSome, HasTag, HasTwoTags, IsNotGiven, HasNoSuper, binds_macro, is_block}
 use Rattle.jt_inherit.specs.Findings.{defines}
 use Rattle.jt_inherit.specs.declared.error.ChainError.{ChainError}
@@ -12,10 +13,19 @@ use Rattle.jt_inherit.specs.declared.finding.ChainFinding.{ChainFinding}
 use Rattle.jt_inherit.specs.declared.finding.ChainSubject.{ChainSubject}
 use Rattle.jt_inherit.specs.declared.finding.ChainSubject.TheVariants as v
 use Rattle.jt_inherit.specs.declared.finding.TagPlace.{TagPlace}
+use Rattle.jt_inherit.specs.declared.importing.MissingMacro.{MissingMacro}
+use Rattle.jt_graph.specs.Graph.{next_of}
+use Rattle.jt_chains.specs.Along.{templates_at}
+use Rattle.jt_inherit.specs.internal.RuleTests.{BreakOne}
 
 -- The library was read, and does not offer the macro to importers.
 abbrev pub lacks : Sources → Text → Text → Bool
 lacks s library x = is_a_library (s library) && is_none (public_macro x (macros s (a_library library)))
+
+-- The library of the missing macro lacks it, or the test is false.
+abbrev pub Misses : Sources → Bool → Option MissingMacro → Type 0
+Misses s b None = b ≡ false
+Misses s b (Some m) = (b ≡ true) × (lacks s m.library.now m.name.now ≡ true)
 
 module _ (s : Sources) (ts : List Template) where
   -- The tag of the templates breaks the rule in the subject.
@@ -41,8 +51,21 @@ module _ (s : Sources) (ts : List Template) where
 
 -- The template has two blocks of one name at the places.
 abbrev pub TwiceAt : Template → Option TagPlace → Option ChainSubject → Type 0
+TwiceAt t None None = Unit {0}
 TwiceAt t (Some p) (Some (v.BlockTwice x first)) = HasTwoTags (is_block (string_bytes x)) (t ∷ []) first p
 TwiceAt t p x = ⊥
 
 abbrev pub IsTwiceIn : Template → ChainFinding → Type 0
 IsTwiceIn t f = (f.error ≡ error.DoubleBlock) × TwiceAt t f.place f.subject
+
+-- The templates break the rule of the error, with the tag that breaks it.
+pub record IsBroken (s : Sources) (escaping : Bool) (ts : List Template) (f : ChainFinding) : Type 0 where
+  pub broken : BreakOne s escaping ts f.error
+  pub said : RuleAt s ts f.place f.subject f.error
+
+-- The templates of some chain or library break the rule.
+pub record FindsAt (escaping : Bool) (ts : List Template) (extends_paths : List (List ℕ)) (f : ChainFinding) :
+    Type 0 where
+  pub number : ℕ
+  pub within : number < length extends_paths
+  pub found : IsBroken (sources_in ts) escaping (templates_at ts (next_of extends_paths number)) f

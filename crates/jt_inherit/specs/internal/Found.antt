@@ -1,29 +1,28 @@
 -- The invariants of the search for chains and libraries. They concern includes and imports, and the
 -- chains and libraries that were followed. Only private clauses cite this module.
 use Rattle.std.specs.Prelude.{◌≡◌, ℕ, ◌<◌, ◌≤◌, ◌⊎◌, false, Bool, IsTrue, List, [], ◌∷◌, ◌++◌, ◌||◌, length, map}
-use Rattle.std.specs.Prelude.{filter, slice_get, Some, None}
+use Rattle.std.specs.Prelude.{filter, slice_get, Some, None, true}
 use Rattle.std.specs.List.{AllByRecursion}
 use Rattle.jt_graph.specs.Graph.{IsClosed, next_of}
 use Rattle.jt_graph.specs.View.{graph_of}
 use Rattle.jt_ast.specs.Texts.{among, repeated}
 use Rattle.jt_ast.specs.Expressions.{Text}
 use Rattle.jt_scan.specs.declared.options.Options.{Options}
-use Rattle.jt_chains.specs.Along.{AreIndices, templates_at}
-use Rattle.jt_inherit.specs.internal.Along.{needs_along, needs_of}
+use Rattle.jt_chains.specs.Along.{AreIndices, templates_at, along}
 use Rattle.jt_chains.specs.Chain as chain
-use Rattle.jt_chains.specs.Chain.{Template, a_chain, a_library, namespace_name, listed, sources_in}
+use Rattle.jt_chains.specs.Chain.{Template, a_chain, a_library, namespace_name, listed, sources_in, libraries_in}
 use Rattle.jt_inherit.specs.Chains.{SourceTexts}
 use Rattle.jt_inherit.specs.Findings.{IsNoMemory}
 use Rattle.jt_inherit.specs.internal.Faults.{IsFaultOf}
 use Rattle.jt_inherit.specs.internal.RuleTests.{KeepAll}
 use Rattle.jt_chains.specs.Names.{IsName}
-use Rattle.jt_chains.specs.Needs.{Need, need_namespace, need_view}
+use Rattle.jt_chains.specs.Needs.{Need, need_namespace, need_view, includes_along, library_need, needed}
 use Rattle.jt_chains.specs.TemplateFiles.{files_view, namespace_view}
 use Rattle.jt_chains.specs.Indices.{namespace_at}
 use Rattle.jt_chains.specs.Rules.{max_chains, Asks, Reaches}
 use Rattle.jt_inherit.specs.internal.Sets.{names_view, namespaces_view}
 use Rattle.jt_inherit.specs.internal.ExtendsPaths.{AreKnown, AreNamed, IsExtendsPath}
-use Rattle.jt_inherit.specs.internal.Placing.{IsIncludedMore}
+use Rattle.jt_inherit.specs.internal.Placing.{IsIncludedMore, IsOfNeed}
 use Rattle.jt_inherit.specs.declared.discovery.Discovery.{Discovery}
 use Rattle.jt_inherit.specs.declared.sets.Names.{Names}
 use Rattle.jt_chains.specs.declared.include_tags.NeededTemplate.{NeededTemplate}
@@ -32,6 +31,16 @@ use Rattle.jt_inherit.specs.declared.error.ChainError.{ChainError}
 use Rattle.jt_inherit.specs.declared.finding.ChainFinding.{ChainFinding}
 use Rattle.jt_chains.specs.declared.chain.Namespace.{Namespace}
 use Rattle.jt_inherit.specs.declared.error.ChainError.TheVariants as error
+
+abbrev pub imports_along : List Template → List ℕ → List Need
+imports_along ts = along ts (λ n b. map library_need (libraries_in b))
+
+-- The includes come before the imports.
+abbrev pub needs_along : List Template → List ℕ → List Need
+needs_along ts is = includes_along ts is ++ imports_along ts is
+
+abbrev pub needs_of : List TemplateFile → List ℕ → List Need
+needs_of ps = needs_along (files_view ps)
 
 -- An included or imported template is known, or it may be missing and is: its name is valid and has
 -- no source.
@@ -126,14 +135,12 @@ pub record IsFollowed (given : SourceTexts) (ts : List Template) (hs : List chai
       map (slice_get hs) next ≡ map Some (chosen (map (λ t. t.name) ts) (needs_along ts extends_path))
 
 -- The first namespaces were followed, one for each path.
-abbrev pub AreFollowed : SourceTexts → List Template → List chain.Namespace → List chain.Namespace → List (List ℕ)
-    → List (List ℕ) → Type 0
-AreFollowed given ts hs gs [] [] = Unit {0}
-AreFollowed given ts hs gs [] (n ∷ ns) = ⊥
-AreFollowed given ts hs gs (w ∷ ws) [] = ⊥
-AreFollowed given ts hs [] (w ∷ ws) (n ∷ ns) = ⊥
-AreFollowed given ts hs (g ∷ gs) (w ∷ ws) (n ∷ ns) =
-    IsFollowed given ts hs g w n × AreFollowed given ts hs gs ws ns
+pub record AreFollowed (given : SourceTexts) (ts : List Template) (hs : List chain.Namespace)
+    (extends_paths next : List (List ℕ)) : Type 0 where
+  pub few : length extends_paths ≤ length hs
+  pub lens : length next ≡ length extends_paths
+  pub each : (i : ℕ) → i < length extends_paths
+      → IsFollowed given ts hs (namespace_at hs i) (next_of extends_paths i) (next_of next i)
 
 -- A chain or library on one of the paths includes or imports the chain or library.
 abbrev pub IsLedTo : List Template → List (List ℕ) → chain.Namespace → Type 0
@@ -154,7 +161,7 @@ pub record AreFound (given : SourceTexts) (options : Options) (root : Text) (ts 
   pub reached : (h : chain.Namespace) → IsTrue (listed h hs)
       → Reaches (sources_in ts) options.autoescape (a_chain root) h
   pub led : (h : chain.Namespace) → IsTrue (listed h hs) → (h ≡ a_chain root) ⊎ IsLedTo ts extends_paths h
-  pub followed : AreFollowed given ts hs hs extends_paths next
+  pub followed : AreFollowed given ts hs extends_paths next
 
 abbrev pub found_templates : Discovery → List Template
 found_templates f = files_view f.files.items
@@ -204,3 +211,16 @@ pub record IsDone (given : SourceTexts) (options : Options) (entry : Text) (f : 
   pub paths : length f.extends_paths.items ≡ length (found_namespaces f)
   pub next : length f.next.items ≡ length (found_namespaces f)
   pub closed : IsClosed (graph_of f.next.items)
+
+-- The error is one of an included or imported template; it is `Missing` only for a template that
+-- may not be missing. The place is that of the tag that asks for the template.
+pub record IsUnmetNeed (given : SourceTexts) (options : Options) (ps : List TemplateFile) (is : List ℕ)
+    (f : ChainFinding) : Type 0 where
+  pub name : Text
+  pub asked : IsTrue (among name (needed true (needs_of ps is)))
+  pub must : f.error ≡ error.Missing → IsTrue (among name (needed false (needs_of ps is)))
+  pub fault : IsFaultOf f.error given name options
+  pub placed : IsOfNeed (templates_at (files_view ps) is) name f.error f
+
+abbrev pub IsUnmet : SourceTexts → Options → List TemplateFile → List ℕ → ChainFinding → Type 0
+IsUnmet given options ps is f = IsNoMemory f ⊎ IsUnmetNeed given options ps is f

@@ -6,6 +6,7 @@ use Rattle.jt_ast.specs.Expressions.{Text}
 use Rattle.jt_chains.specs.Along.{templates_at}
 use Rattle.jt_chains.specs.Chain.{Namespace, namespace_name, a_chain, a_library, Template, is_a_library, sources_in}
 use Rattle.jt_inherit.specs.Findings.{HasTag, IsNoMemory, all_uses, leads_to}
+use Rattle.jt_inherit.specs.internal.Placing.{IsFoundAt}
 use Rattle.jt_inherit.specs.internal.Tags.{place_in, tags}
 use Rattle.jt_inherit.specs.declared.error.ChainError.TheVariants as error
 use Rattle.jt_inherit.specs.declared.finding.ChainFinding.{ChainFinding}
@@ -35,10 +36,8 @@ module _ (ts : List Template) (extends_paths : List (List ℕ)) (h : Namespace) 
   LeadsAt (Some p) =
       (i : ℕ) × (i < length extends_paths) × HasTag (leads_to h) (templates_at ts (next_of extends_paths i)) p
 
-  pub record IsOfImport (f : ChainFinding) : Type 0 where
-    pub error : f.error ≡ error.NotALibrary
-    pub place : LeadsAt f.place
-    pub subject : IsItsName h f.subject
+  abbrev pub IsOfImport : ChainFinding → Type 0
+  IsOfImport = IsFoundAt error.NotALibrary LeadsAt (IsItsName h)
 
   -- The finding is that of a library that holds something other than macros, or lack of memory.
   abbrev pub IsNoLibrary : ChainFinding → Type 0

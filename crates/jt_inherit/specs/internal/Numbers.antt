@@ -8,23 +8,20 @@ use Rattle.std.specs.Coded.{Coded-set, coded_ℕ, coded_option, Π_prop}
 use Rattle.std.specs.BTreeMap.{get_by_text}
 use Rattle.std.specs.Str.{bytes_eq}
 use Rattle.jt_ast.specs.Expressions.{Text}
-use Rattle.jt_chains.specs.Chain.{a_chain, a_library, same_namespace}
+use Rattle.jt_chains.specs.Chain.{same_namespace}
 use Rattle.jt_chains.specs.Tables.{Table}
-use Rattle.jt_inherit.specs.internal.SetView.{key_view}
+use Rattle.jt_inherit.specs.internal.SetView.{key_view, keyed}
 use Rattle.jt_inherit.specs.declared.sets.NamespaceKey.{NamespaceKey}
 
 -- ---- tests of keys
 
--- The key is the name x, the chain of the name, or the library of the name.
-
+-- The key is the name x.
 abbrev pub is_text : Text → String Global → Bool
 is_text x k = bytes_eq x (string_bytes k)
 
-abbrev pub is_chain : Text → NamespaceKey → Bool
-is_chain x k = same_namespace (a_chain x) (key_view k)
-
-abbrev pub is_library : Text → NamespaceKey → Bool
-is_library x k = same_namespace (a_library x) (key_view k)
+-- The key is the library of the name x, or its chain.
+abbrev pub is_kind : Bool → Text → NamespaceKey → Bool
+is_kind library x k = same_namespace (keyed library x) (key_view k)
 
 -- A table has the index of the first item of each name, and no other entries.
 abbrev pub AreNumbers : {A : Type 0} → (Text → A → Bool) → List A → Table → Type 0

@@ -1,28 +1,39 @@
 -- The rules on the blocks, macros and imports of the templates of a chain or a library. Only
 -- private clauses cite this module.
-use Rattle.std.specs.Prelude.{◌≡◌, true, false, Bool, ◌||◌, ◌++◌, List, [], ◌∷◌, map, flat_map, if◌then◌else◌}
-use Rattle.std.specs.Option.{is_some, is_none}
+use Rattle.std.specs.Prelude.{◌≡◌, true, false, Bool, ◌++◌, List, [], ◌∷◌, map, flat_map, if◌then◌else◌, filter}
+use Rattle.std.specs.Option.{is_some}
 use Rattle.std.specs.List.{list_any}
 use Rattle.jt_ast.specs.Expressions.{Text}
 use Rattle.jt_ast.specs.Texts.{repeated}
 use Rattle.jt_ast.specs.Statements.{import_as, import_from, Body, end, stmt}
 use Rattle.jt_chains.specs.Chain.{Sources, a_library, Template, BlockBody, MacroBody, blocks_in, macros_in, macros}
 use Rattle.jt_chains.specs.Chain.{public_macro}
-use Rattle.jt_chains.specs.Rules.{lacks_macros}
-use Rattle.jt_inherit.specs.internal.Checks.{lacks_body, lacks_next}
+use Rattle.jt_chains.specs.Rules.{lacks_macros, is_required, lacks_super}
 use Rattle.jt_inherit.specs.declared.error.ChainError.{ChainError}
 use Rattle.jt_inherit.specs.declared.error.ChainError.TheVariants as error
+use Rattle.std.specs.Str.{bytes_eq}
+use Rattle.jt_chains.specs.declared.parts.Block.{Block}
+
+-- The bodies of one block.
+abbrev pub named : Text → List BlockBody → List BlockBody
+named x bs = filter (λ b. bytes_eq b.name x) bs
+
+-- The nearest body of one of the blocks is a required one.
+abbrev pub lacks_body : List BlockBody → Bool
+lacks_body bs = list_any (λ b. is_required (named b.name bs)) bs
+
+-- A body calls `super()`, and each body of its block after it, if any, is required.
+abbrev pub lacks_next : List BlockBody → Bool
+lacks_next bs = list_any (λ b. lacks_super (named b.name bs)) bs
+
+abbrev pub block_names : List Block → List Text
+block_names bs = map (λ b. b.name.now) bs
 
 -- The names that a `from` tag binds to macros that the library offers.
 abbrev pub names_from : List MacroBody → List (Text × Text) → List Text
 names_from ms [] = []
 names_from ms (x ∷ xs) =
     (if is_some (public_macro x.0 ms) then x.1 ∷ [] else []) ++ names_from ms xs
-
--- The library does not offer all of the macros.
-abbrev pub has_not : List MacroBody → List (Text × Text) → Bool
-has_not ms [] = false
-has_not ms (x ∷ xs) = is_none (public_macro x.0 ms) || has_not ms xs
 
 -- The names that the imports of a template bind.
 abbrev pub imported_names : Sources → Body → List Text

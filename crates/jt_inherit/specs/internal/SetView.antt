@@ -16,8 +16,12 @@ AddsTexts old new xs = texts new ≡ texts old ++ xs
 abbrev pub strings : List (String Global) → List Text
 strings ks = map string_bytes ks
 
+-- The library of a name, or its chain.
+abbrev pub keyed : Bool → Text → Namespace
+keyed library n = if library then a_library n else a_chain n
+
 abbrev pub key_view : NamespaceKey → Namespace
-key_view k = if k.is_library then a_library (string_bytes k.name) else a_chain (string_bytes k.name)
+key_view k = keyed k.is_library (string_bytes k.name)
 
 abbrev pub keys_view : List NamespaceKey → List Namespace
 keys_view = map key_view

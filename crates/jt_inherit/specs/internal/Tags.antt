@@ -3,7 +3,6 @@ use Rattle.std.specs.Prelude.{◌≡◌, ◌+◌, ℕ, Bool, false, true, IsTrue
 use Rattle.std.specs.Prelude.{option_map, string_bytes}
 use Rattle.std.specs.List.{AllByRecursion}
 use Rattle.jt_ast.specs.Expressions.{Text}
-use Rattle.jt_uses.specs.Uses as uses
 use Rattle.jt_uses.specs.Uses.{Use, Site}
 use Rattle.jt_uses.specs.UseView.{site_view}
 use Rattle.jt_inherit.specs.Findings.{asks, is_extends, is_include, is_import, binds_macro, is_block, defines}
@@ -12,11 +11,6 @@ use Rattle.jt_inherit.specs.declared.finding.TagPlace.{TagPlace}
 use Rattle.jt_inherit.specs.declared.tags.FoundTag.{FoundTag}
 use Rattle.jt_inherit.specs.declared.tags.Wanted.{Wanted}
 use Rattle.jt_inherit.specs.declared.tags.Wanted.TheVariants as v
-
--- The use is a block.
-abbrev pub is_any_block : Use → Bool
-is_any_block (uses.declares_block y scoped required body) = true
-is_any_block u = false
 
 -- The test that a wanted use passes.
 abbrev pub test_of : Wanted → Use → Bool
@@ -27,7 +21,6 @@ test_of (v.Includes n) = is_include n.now
 test_of (v.Imports n) = is_import n.now
 test_of (v.BindsMacro n x) = binds_macro n.now x.now
 test_of (v.Block x) = is_block x.now
-test_of v.Blocks = is_any_block
 test_of (v.Defines x) = defines x.now
 
 abbrev pub place_view : TagPlace → Text × ℕ
@@ -54,6 +47,11 @@ tags test xs = filter (λ x. test x.1.made) xs
 -- The place of the tag at a number.
 abbrev pub place_in : ℕ → List (Text × Site) → Option (Text × ℕ)
 place_in k xs = option_map place_of (slice_get xs k)
+
+-- The places are those of the first two tags.
+abbrev pub AreFirst : List FoundTag → TagPlace × TagPlace → Type 0
+AreFirst found p =
+    (place_in 0 (tags_view found) ≡ Some (place_view p.0)) × (place_in 1 (tags_view found) ≡ Some (place_view p.1))
 
 -- Among the blocks, one calls `super()` in a tag at the line, and each further one is required.
 pub record IsLastCall (blocks : List (Text × Site)) (tag : Text × Site) (line : ℕ) : Type 0 where

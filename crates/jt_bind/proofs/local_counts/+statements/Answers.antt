@@ -1,9 +1,5 @@
-use Rattle.std.proofs.Common.{List, max, sym, ap, ◌∙◌, arith}
-use Rattle.std.proofs.lemmas.List.{at_drop_all}
-use Rattle.jt_ir.specs.Locals.{body_locals}
-use Rattle.jt_ir.specs.View.{body_view}
-use Rattle.jt_ir.specs.declared.program.SlotStmt.{SlotStmt}
-use Rattle.jt_ir.proofs.StatementViews.{SBranch}
+use Rattle.std.proofs.lemmas.List.{drop_all}
+use Rattle.std.proofs.Common.{max, sym, ap, ◌∙◌, arith}
 use Rattle.jt_bind.specs.internal.Counts.{branches_locals}
 use Rattle.jt_bind.proofs.LocalCounts.{max_zero, body_step, branch_step, choice_done, loop_counted, capture_counted}
 use Rattle.jt_bind.proofs.local_counts.+statements.Goals as goal
@@ -19,8 +15,7 @@ body_locals-loop-statement-preserved t c = λ ts behind.
 pub body_locals-returns : goal.body_locals-returns
 body_locals-returns t c = λ ts behind.
     let l = c.loop-statement in
-    sym (l.invariant ts behind) ∙ at_drop_all (λ (z : List SlotStmt). max l.most (body_locals (body_view ts z behind)))
-    c.args.body.now l.statement-index (omega arith)
+    sym (rw (drop_all l.statement-index c.args.body.now (omega arith)) at (l.invariant ts behind))
 
 pub branches_locals-loop-branch-preserved : goal.branches_locals-loop-branch-preserved
 branches_locals-loop-branch-preserved t c = λ ts.
@@ -33,9 +28,7 @@ branches_locals-loop-branch-preserved t c = λ ts.
 pub branches_locals-returns : goal.branches_locals-returns
 branches_locals-returns t c = λ ts.
     let l = c.loop-branch in
-    sym (max_zero l.most) ∙ sym (at_drop_all (λ (z : List SBranch). max l.most (branches_locals ts z))
-    c.args.branches.now l.branch-index (omega arith))
-    ∙ l.invariant ts
+    sym (max_zero l.most) ∙ (rw (drop_all l.branch-index c.args.branches.now (omega arith)) at (l.invariant ts))
 
 pub stmt_locals-returns-in_ok-body_locals-in-If : goal.stmt_locals-returns-in_ok-body_locals-in-If
 stmt_locals-returns-in_ok-body_locals-in-If t c = λ ts behind.

@@ -1,18 +1,16 @@
+use Rattle.std.proofs.lemmas.List.{drop_all}
 use Rattle.std.proofs.Common.{◌+◌, ◌<◌, length, drop, sym, append-nil, arith}
-use Rattle.std.proofs.lemmas.List.{at_drop_all}
 use Rattle.jt_ir.specs.Slots.{variable, local}
 use Rattle.jt_ir.specs.declared.program.Slot.TheVariants as s
 use Rattle.jt_ir.specs.declared.program.SlotExpr.TheVariants as e
 use Rattle.jt_semantics.specs.Resolve as resolve
 use Rattle.jt_bind.proofs.CalleeResolution.{locals_next}
-use Rattle.jt_bind.proofs.RowConcatenation.{of_whole, of_left, row_both, row_item}
+use Rattle.jt_bind.proofs.RowConcatenation.{of_whole, row_both, row_item}
 use Rattle.jt_ir.proofs.ExpressionViews.{view_Variable}
 use Rattle.jt_bind.proofs.rows.first_locals.Goals as goal
 
 pub returns : goal.returns
-returns c = λ xs n p.
-    let l = c.loop-local in
-    of_left _ _ _ _ _ _ _ (at_drop_all (resolve.first_locals l.local) xs l.local (omega arith)) (l.invariant xs p n)
+returns c = λ xs n p. rw (drop_all c.loop-local.local xs (omega arith)) at (c.loop-local.invariant xs p n)
 
 pub loop-local-preserved : goal.loop-local-preserved
 loop-local-preserved c = λ xs p n.

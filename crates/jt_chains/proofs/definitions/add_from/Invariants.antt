@@ -1,8 +1,6 @@
-use Rattle.std.proofs.Common.{◌≡◌, ◌++◌, drop}
+use Rattle.jt_chains.proofs.Vocabulary.{◌≡◌, ◌++◌, drop, sources_in, files_view, names_view}
 use Rattle.jt_ast.specs.StatementView.{given_view}
-use Rattle.jt_chains.specs.Chain.{Namespace, all_given_from, sources_in}
-use Rattle.jt_chains.specs.TemplateFiles.{files_view}
-use Rattle.jt_chains.specs.Named.{names_view}
+use Rattle.jt_chains.specs.Chain.{Namespace, all_given_from}
 use Rattle.jt_chains.proofs.definitions.add_from.Given as goal
 
 abbrev pub invariant-loop-name : goal.invariant-loop-name

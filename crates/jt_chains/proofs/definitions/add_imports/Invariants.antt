@@ -1,8 +1,5 @@
-use Rattle.std.proofs.Common.{◌≡◌, ◌++◌, drop}
-use Rattle.jt_ast.specs.StatementView.{body_view}
-use Rattle.jt_chains.specs.Chain.{Namespace, imports_in, sources_in}
-use Rattle.jt_chains.specs.TemplateFiles.{files_view}
-use Rattle.jt_chains.specs.Named.{names_view}
+use Rattle.jt_chains.proofs.Vocabulary.{◌≡◌, ◌++◌, drop, body_view, imports_in, sources_in, files_view, names_view}
+use Rattle.jt_chains.specs.Chain.{Namespace}
 use Rattle.jt_chains.proofs.definitions.add_imports.Given as goal
 
 abbrev pub invariant-loop-statement : goal.invariant-loop-statement

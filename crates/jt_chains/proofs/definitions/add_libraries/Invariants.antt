@@ -1,6 +1,4 @@
-use Rattle.std.proofs.Common.{◌≡◌, ◌++◌, map, drop}
-use Rattle.jt_ast.specs.StatementView.{body_view}
-use Rattle.jt_chains.specs.Chain.{libraries_in}
+use Rattle.jt_chains.proofs.Vocabulary.{◌≡◌, ◌++◌, map, drop, body_view, libraries_in}
 use Rattle.jt_chains.proofs.definitions.add_libraries.Given as goal
 
 abbrev pub invariant-loop-statement : goal.invariant-loop-statement

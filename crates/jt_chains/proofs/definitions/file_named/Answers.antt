@@ -1,5 +1,4 @@
-use Rattle.std.proofs.Common.{arith, rules}
-use Rattle.std.proofs.lemmas.List.{length-map}
+use Rattle.jt_chains.proofs.Vocabulary.{arith, rules, length-map}
 use Rattle.jt_chains.proofs.definitions.file_named.Goals as goal
 
 pub returns-in-Some : goal.returns-in-Some

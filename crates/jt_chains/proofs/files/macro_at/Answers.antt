@@ -1,8 +1,4 @@
-use Rattle.std.proofs.Common.{sym, ap, arith, rules}
-use Rattle.std.specs.Prelude.{option_and_then}
-use Rattle.jt_ast.specs.StatementView.{stmt_view}
-use Rattle.jt_chains.specs.Parts.{name_at}
-use Rattle.jt_chains.specs.Tables.{as_macro}
+use Rattle.jt_chains.proofs.Vocabulary.{sym, ap, arith, rules, option_and_then, stmt_view, name_at, as_macro}
 use Rattle.jt_chains.proofs.TemplatesByIndex.{map_at}
 use Rattle.jt_chains.proofs.MacroTableLookup.{past_mapped}
 use Rattle.jt_chains.proofs.files.macro_at.Goals as goal

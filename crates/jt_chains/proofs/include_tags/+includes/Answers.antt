@@ -1,10 +1,7 @@
-use Rattle.std.proofs.Common.{List, ◌++◌, refl, sym, ◌∙◌}
-use Rattle.std.proofs.lemmas.List.{at_drop_all, append-nil}
-use Rattle.jt_ast.specs.StatementView.{branches_view}
-use Rattle.jt_chains.specs.Includes.{includes_by, includes_in, includes_under}
-use Rattle.jt_chains.specs.Needs.{include_need, needs_view}
-use Rattle.jt_ast.proofs.RemainingParts.{Branch}
-use Rattle.jt_ast.proofs.CollectedLists.{choice_added, loop_added}
+use Rattle.jt_chains.proofs.Vocabulary.{List, ◌++◌, refl, sym, ◌∙◌, arith, rules, at_drop_all, append-nil}
+use Rattle.jt_chains.proofs.Vocabulary.{branches_view, includes_by, includes_in, includes_under, include_need}
+use Rattle.jt_chains.proofs.Vocabulary.{needs_view, Branch, choice_added, view_For}
+use Rattle.std.proofs.Common.{append_assoc}
 use Rattle.jt_chains.proofs.include_tags.+includes.Goals as goal
 
 pub add_statement-returns-in_ok-add_includes-in-If-2 : goal.add_statement-returns-in_ok-add_includes-in-If-2
@@ -21,11 +18,4 @@ add_statement-returns-in_ok-add_includes-in-If-2 t c =
     (sym (append-nil (needs_view l.found.items)) ∙ sym ended ∙ l.invariant) c.in_ok-add_includes-in-If-2.ensures
 
 pub add_statement-returns-in_ok-add_includes-in-For-2 : goal.add_statement-returns-in_ok-add_includes-in-For-2
-add_statement-returns-in_ok-add_includes-in-For-2 t c =
-    loop_added (includes_by include_need) (includes_in include_need) (includes_under include_need)
-    (λ l xs e d a b. refl) c.args.statement.now c.in-For.line c.in-For.targets c.in-For.over c.in-For.condition
-    c.in-For.body c.in-For.other
-    c.deref-in-For.result.now c.deref-in-For-2.result.now (needs_view c.args.found.now.items)
-    (needs_view c.add_includes-in-For.new.found.items) (needs_view c.add_includes-in-For-2.new.found.items)
-    c.in-For.is c.deref-in-For.ensures.value c.deref-in-For-2.ensures.value c.in_ok-add_includes-in-For.ensures
-    c.in_ok-add_includes-in-For-2.ensures
+add_statement-returns-in_ok-add_includes-in-For-2 t c = search (arith, rules, append_assoc, view_For)

@@ -1,7 +1,5 @@
-use Rattle.std.proofs.Common.{◌≡◌, ◌++◌, drop}
-use Rattle.jt_ast.specs.StatementView.{body_view, branches_view}
-use Rattle.jt_chains.specs.Includes.{includes_in, includes_under}
-use Rattle.jt_chains.specs.Needs.{include_need, needs_view}
+use Rattle.jt_chains.proofs.Vocabulary.{◌≡◌, ◌++◌, drop, body_view, branches_view, includes_in, includes_under}
+use Rattle.jt_chains.proofs.Vocabulary.{include_need, needs_view}
 use Rattle.jt_chains.proofs.include_tags.+includes.Given as goal
 
 abbrev pub invariant-add_includes-loop-statement : goal.invariant-add_includes-loop-statement

@@ -1,6 +1,4 @@
-use Rattle.std.proofs.Common.{◌≡◌, ◌++◌, drop}
-use Rattle.jt_chains.specs.Needs.{includes_along, needs_view}
-use Rattle.jt_chains.specs.TemplateFiles.{files_view}
+use Rattle.jt_chains.proofs.Vocabulary.{◌≡◌, ◌++◌, drop, includes_along, needs_view, files_view}
 use Rattle.jt_chains.proofs.include_tags.includes_at.Given as goal
 
 abbrev pub invariant-loop-index : goal.invariant-loop-index

@@ -1,7 +1,5 @@
-use Rattle.std.proofs.Common.{◌≡◌, ◌++◌, drop, map}
-use Rattle.jt_chains.specs.Along.{layers_along}
+use Rattle.jt_chains.proofs.Vocabulary.{◌≡◌, ◌++◌, drop, map, layers_along, files_view}
 use Rattle.jt_chains.specs.Layers.{layer_view}
-use Rattle.jt_chains.specs.TemplateFiles.{files_view}
 use Rattle.jt_chains.proofs.layers.layers_at.Given as goal
 
 abbrev pub invariant-loop-index : goal.invariant-loop-index

@@ -1,8 +1,4 @@
-use Rattle.std.proofs.Common.{◌≡◌, ◌++◌, drop}
-use Rattle.jt_ast.specs.StatementView.{body_view}
-use Rattle.jt_chains.specs.Chain.{macros_in}
-use Rattle.jt_chains.specs.TemplateFiles.{files_view}
-use Rattle.jt_chains.specs.Parts.{macros_view, name_at}
+use Rattle.jt_chains.proofs.Vocabulary.{◌≡◌, ◌++◌, drop, body_view, macros_in, files_view, macros_view, name_at}
 use Rattle.jt_chains.proofs.parts.add_macros.Given as goal
 
 abbrev pub invariant-loop-statement : goal.invariant-loop-statement

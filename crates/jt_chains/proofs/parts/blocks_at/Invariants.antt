@@ -1,7 +1,4 @@
-use Rattle.std.proofs.Common.{◌≡◌, ◌++◌, drop}
-use Rattle.jt_chains.specs.Along.{blocks_along}
-use Rattle.jt_chains.specs.TemplateFiles.{files_view}
-use Rattle.jt_chains.specs.Parts.{blocks_view}
+use Rattle.jt_chains.proofs.Vocabulary.{◌≡◌, ◌++◌, drop, blocks_along, files_view, blocks_view}
 use Rattle.jt_chains.proofs.parts.blocks_at.Given as goal
 
 abbrev pub invariant-loop-index : goal.invariant-loop-index

@@ -1,7 +1,4 @@
-use Rattle.std.proofs.Common.{◌≡◌, ◌++◌, drop}
-use Rattle.jt_chains.specs.Along.{macros_along}
-use Rattle.jt_chains.specs.TemplateFiles.{files_view}
-use Rattle.jt_chains.specs.Parts.{macros_view}
+use Rattle.jt_chains.proofs.Vocabulary.{◌≡◌, ◌++◌, drop, macros_along, files_view, macros_view}
 use Rattle.jt_chains.proofs.parts.macros_at.Given as goal
 
 abbrev pub invariant-loop-index : goal.invariant-loop-index

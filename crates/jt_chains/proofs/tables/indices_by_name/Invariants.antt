@@ -1,9 +1,4 @@
-use Rattle.std.proofs.Common.{◌≡◌, ◌+◌, ◌≤◌, length, drop}
-use Rattle.std.specs.Prelude.{unwrap_or}
-use Rattle.std.specs.BTreeMap.{get_by_text}
-use Rattle.jt_ast.specs.Expressions.{Text}
-use Rattle.jt_chains.specs.TemplateFiles.{files_view}
-use Rattle.jt_chains.specs.Indices.{index_of}
+use Rattle.jt_chains.proofs.Vocabulary.{◌≡◌, ◌+◌, ◌≤◌, length, drop, unwrap_or, get_by_text, Text, files_view, index_of}
 use Rattle.jt_chains.proofs.tables.indices_by_name.Given as goal
 
 abbrev pub invariant-loop-left : goal.invariant-loop-left

@@ -1,8 +1,4 @@
-use Rattle.std.proofs.Common.{◌≡◌, ◌≤◌, length, drop}
-use Rattle.std.specs.BTreeMap.{get_by_text}
-use Rattle.jt_ast.specs.Expressions.{Text}
-use Rattle.jt_ast.specs.StatementView.{body_view}
-use Rattle.jt_chains.specs.Tables.{macro_index}
+use Rattle.jt_chains.proofs.Vocabulary.{◌≡◌, ◌≤◌, length, drop, get_by_text, Text, body_view, macro_index}
 use Rattle.jt_chains.proofs.tables.macro_table.Given as goal
 
 abbrev pub invariant-loop-left : goal.invariant-loop-left

@@ -1,5 +1,4 @@
-use Rattle.std.proofs.Common.{◌≡◌, drop}
-use Rattle.jt_ast.specs.Texts.{repeated, texts}
+use Rattle.jt_checks.proofs.Vocabulary.{◌≡◌, drop, repeated, texts}
 use Rattle.jt_checks.proofs.NameSets.{again}
 use Rattle.jt_checks.proofs.arguments.any_repeated.Given as goal
 

@@ -1,5 +1,4 @@
-use Rattle.std.proofs.Common.{length}
-use Rattle.jt_ast.specs.ExpressionView.{exprs_view, pairs_view}
+use Rattle.jt_checks.proofs.Vocabulary.{length, exprs_view, pairs_view}
 use Rattle.jt_checks.proofs.FilterArity.{filter_known, filter_unknown}
 use Rattle.jt_checks.proofs.RowLengths.{counted}
 use Rattle.jt_checks.proofs.arguments.filter_broken.Goals as goal

@@ -1,4 +1,4 @@
-use Rattle.std.proofs.Common.{arith, rules}
+use Rattle.jt_checks.proofs.Vocabulary.{arith, rules}
 use Rattle.jt_checks.proofs.ArgumentsFit.{equal_ok, named_well, not_taken, not_filled, filled_well}
 use Rattle.jt_checks.proofs.arguments.filter_takes.Goals as goal
 

@@ -1,10 +1,7 @@
-use Rattle.std.proofs.Common.{length, ◌∙◌, ap}
-use Rattle.jt_ast.specs.ExpressionView.{exprs_view, pairs_view}
-use Rattle.jt_ast.specs.StatementView.{parameters_view}
-use Rattle.jt_chains.specs.Uses.{count, keywords}
-use Rattle.jt_checks.specs.internal.RuleTests as rules
-use Rattle.jt_ast.specs.Texts.{texts}
+use Rattle.jt_checks.proofs.Vocabulary.{length, ◌∙◌, ap, exprs_view, pairs_view, parameters_view, count, keywords}
+use Rattle.jt_checks.proofs.Vocabulary.{texts}
 use Rattle.jt_checks.proofs.ArgumentsFit.{equal_ok, fits_is, too_many, named_well}
+use Rattle.jt_checks.specs.internal.RuleTests as rules
 use Rattle.jt_checks.proofs.arguments.fits.Goals as goal
 
 pub returns-then-parameters-row : goal.returns-then-parameters-row

@@ -1,7 +1,4 @@
-use Rattle.std.proofs.Common.{take, ◌∙◌, rules, tests}
-use Rattle.std.proofs.lemmas.Iterator.{YieldsList-from_slice}
-use Rattle.std.proofs.lemmas.Iterator.Search.{all_from_yields_List}
-use Rattle.jt_ast.specs.Texts.{texts}
+use Rattle.jt_checks.proofs.Vocabulary.{take, ◌∙◌, rules, tests, YieldsList-from_slice, all_from_yields_List, texts}
 use Rattle.jt_checks.proofs.FilledParameters.{is_filled, filled_among}
 use Rattle.jt_checks.proofs.arguments.is_filled.Goals as goal
 

@@ -1,12 +1,6 @@
-use Rattle.std.proofs.Common.{◌∙◌, ◌||◌, refl, string_bytes, rules, tests}
-use Rattle.std.specs.List.{list_any}
-use Rattle.std.specs.Str.{bytes_eq}
-use Rattle.std.proofs.lemmas.Iterator.{YieldsList-from_slice}
 use Rattle.std.proofs.lemmas.Iterator.Search.{any_from_yields_List}
-use Rattle.std.proofs.lemmas.List.Recursion.{same_from_clauses}
-use Rattle.jt_ast.specs.Expressions.{Text}
-use Rattle.jt_ast.specs.Texts.{among, texts}
-use denote.Ref.{Bor}
+use Rattle.jt_checks.proofs.Vocabulary.{◌∙◌, ◌||◌, refl, string_bytes, rules, tests, list_any, bytes_eq}
+use Rattle.jt_checks.proofs.Vocabulary.{YieldsList-from_slice, same_from_clauses, Text, among, texts, Bor}
 use Rattle.jt_checks.proofs.arguments.is_given.Goals as goal
 
 pub returns : goal.returns

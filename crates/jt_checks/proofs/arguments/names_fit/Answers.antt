@@ -1,6 +1,4 @@
-use Rattle.std.proofs.Common.{not, ◌∙◌, ap}
-use Rattle.std.specs.List.{list_any}
-use Rattle.jt_ast.specs.Texts.{among, texts}
+use Rattle.jt_checks.proofs.Vocabulary.{not, ◌∙◌, ap, list_any, among, texts}
 use Rattle.jt_checks.proofs.ArgumentsFit.{equal_ok, well_named, named_well}
 use Rattle.jt_checks.proofs.arguments.names_fit.Goals as goal
 

@@ -1,4 +1,4 @@
-use Rattle.std.proofs.Common.{arith, rules}
+use Rattle.jt_checks.proofs.Vocabulary.{arith, rules}
 use Rattle.jt_checks.proofs.FilledParameters.{last_reached, none_reached}
 use Rattle.jt_checks.proofs.arguments.reached.Goals as goal
 

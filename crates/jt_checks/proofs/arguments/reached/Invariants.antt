@@ -1,7 +1,5 @@
-use Rattle.std.proofs.Common.{◌≡◌, ◌≤◌, length, drop, false}
+use Rattle.jt_checks.proofs.Vocabulary.{◌≡◌, ◌≤◌, length, drop, false, some_given, texts}
 use Rattle.jt_ast.specs.StatementView as parsed
-use Rattle.jt_eval.specs.Filters.{some_given}
-use Rattle.jt_ast.specs.Texts.{texts}
 use Rattle.jt_checks.proofs.arguments.reached.Given as goal
 
 abbrev pub invariant-loop-last : goal.invariant-loop-last

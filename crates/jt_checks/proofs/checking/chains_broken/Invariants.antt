@@ -1,7 +1,6 @@
-use Rattle.std.proofs.Common.{◌≡◌, drop}
-use Rattle.jt_chains.specs.View.{chain_view}
-use Rattle.jt_checks.specs.internal.UseRules as broken
 use Rattle.jt_checks.specs.internal.ScopeLookup.{cenv_in}
+use Rattle.jt_checks.proofs.Vocabulary.{◌≡◌, drop, chain_view}
+use Rattle.jt_checks.specs.internal.UseRules as broken
 use Rattle.jt_checks.proofs.checking.chains_broken.Given as goal
 
 abbrev pub invariant-loop-namespace : goal.invariant-loop-namespace

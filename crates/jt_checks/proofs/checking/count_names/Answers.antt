@@ -1,4 +1,4 @@
-use Rattle.std.proofs.Common.{arith, rules}
+use Rattle.jt_checks.proofs.Vocabulary.{arith, rules}
 use Rattle.jt_checks.proofs.LoopSteps.{namespace_seen, library_free, chain_counted}
 use Rattle.jt_checks.proofs.checking.count_names.Goals as goal
 

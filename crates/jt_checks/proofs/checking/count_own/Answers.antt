@@ -1,8 +1,8 @@
-use Rattle.std.proofs.Common.{arith}
+use Rattle.std.proofs.lemmas.List.{length-map}
 use Rattle.jt_checks.specs.internal.ScopeLookup.{cenv_in, namespace_in}
-use Rattle.jt_checks.proofs.LoopSteps.{texts_length}
+use Rattle.jt_checks.proofs.Vocabulary.{arith}
 use Rattle.jt_checks.proofs.checking.count_own.Goals as goal
 
 pub returns : goal.returns
 unfolding cenv_in namespace_in
-returns c = grind (arith, texts_length)
+returns c = grind (arith, length-map)

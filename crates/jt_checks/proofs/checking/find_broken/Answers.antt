@@ -1,11 +1,7 @@
-use Rattle.std.proofs.Common.{refl, sym, ap, ◌∙◌}
-use Rattle.std.specs.Prelude.{option_map}
-use mathlib.Core.Logic.{inl, inr}
-use Rattle.jt_chains.specs.View.{chain_view}
-use Rattle.jt_rules.specs.Rules.{names_counted}
 use Rattle.jt_rules.specs.CompileEnv.{cenv_of}
 use Rattle.jt_checks.specs.FindingView.{finding_view}
 use Rattle.jt_checks.specs.internal.ScopeLookup.{cenv_in}
+use Rattle.jt_checks.proofs.Vocabulary.{refl, sym, ap, ◌∙◌, option_map, inl, inr, chain_view, names_counted}
 use Rattle.jt_checks.proofs.FindingsHold.{chains_hold, found_is_broken, none_is_broken}
 use Rattle.jt_checks.proofs.LoopSteps.{few_enough, over, name_seen}
 use Rattle.jt_checks.proofs.checking.find_broken.Goals as goal

@@ -1,7 +1,5 @@
-use Rattle.std.proofs.Common.{◌≡◌, ◌+◌, ◌≤◌, drop}
-use Rattle.jt_chains.specs.View.{chain_view}
-use Rattle.jt_rules.specs.Rules.{names_counted}
 use Rattle.jt_checks.specs.internal.ScopeLookup.{cenv_in}
+use Rattle.jt_checks.proofs.Vocabulary.{◌≡◌, ◌+◌, ◌≤◌, drop, chain_view, names_counted}
 use Rattle.jt_checks.proofs.checking.has_few_names.Given as goal
 
 abbrev pub invariant-loop-namespace : goal.invariant-loop-namespace

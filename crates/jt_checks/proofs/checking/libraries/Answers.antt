@@ -1,7 +1,6 @@
-use Rattle.std.proofs.Common.{ap, ◌∙◌}
 use Rattle.std.proofs.lemmas.Result.{IfOk-weaker}
-use Rattle.jt_ast.specs.Texts.{ascending, texts}
 use Rattle.jt_checks.specs.internal.ScopeLookup.{cenv_in, namespace_in}
+use Rattle.jt_checks.proofs.Vocabulary.{ap, ◌∙◌, ascending, texts}
 use Rattle.jt_checks.proofs.checking.libraries.Goals as goal
 
 pub returns : goal.returns

@@ -1,8 +1,5 @@
-use Rattle.std.proofs.Common.{◌≡◌, drop}
-use Rattle.jt_chains.specs.Along.{layers_along}
-use Rattle.jt_chains.specs.View.{chain_view}
+use Rattle.jt_checks.proofs.Vocabulary.{◌≡◌, drop, layers_along, chain_view, its_cenv, its_namespace}
 use Rattle.jt_checks.specs.internal.UseRules as broken
-use Rattle.jt_checks.specs.internal.ScopeView.{its_cenv, its_namespace}
 use Rattle.jt_checks.proofs.checking.templates_broken.Given as goal
 
 abbrev pub invariant-loop-template : goal.invariant-loop-template

@@ -1,14 +1,9 @@
-use Rattle.std.proofs.Common.{◌∙◌, ◌&&◌, refl, string_bytes, rules, tests}
 use Rattle.std.specs.Prelude.{option_and_then}
-use Rattle.std.specs.List.{list_all}
-use Rattle.std.proofs.lemmas.Iterator.{YieldsList-from_slice}
-use Rattle.std.proofs.lemmas.Iterator.Search.{all_from_yields_List}
-use Rattle.std.proofs.lemmas.List.Recursion.{same_from_clauses}
-use Rattle.jt_ast.specs.Written.{literal_text}
-use Rattle.jt_ast.specs.ExpressionView.{expr_view, pairs_view}
-use Rattle.jt_ast.proofs.RemainingParts.{Entry}
-use Rattle.jt_ids.specs.FilterTable.{named_at, position_of}
-use Rattle.jt_eval.specs.Inside.{argument_well, pairs_well}
+use Rattle.jt_ids.specs.FilterTable.{position_of}
+use Rattle.jt_eval.specs.Inside.{pairs_well}
+use Rattle.jt_checks.proofs.Vocabulary.{◌∙◌, ◌&&◌, refl, string_bytes, rules, tests, list_all, YieldsList-from_slice}
+use Rattle.jt_checks.proofs.Vocabulary.{all_from_yields_List, same_from_clauses, literal_text, expr_view, pairs_view}
+use Rattle.jt_checks.proofs.Vocabulary.{Entry, named_at, argument_well}
 use Rattle.jt_checks.proofs.nested_calls.are_pairs_well.Goals as goal
 
 pub returns : goal.returns

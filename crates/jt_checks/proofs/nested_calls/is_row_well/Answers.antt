@@ -1,4 +1,4 @@
-use Rattle.std.proofs.Common.{arith, rules}
+use Rattle.jt_checks.proofs.Vocabulary.{arith, rules}
 use Rattle.jt_checks.proofs.NestedCallNames.{row_wrong, row_right}
 use Rattle.jt_checks.proofs.nested_calls.is_row_well.Goals as goal
 

@@ -1,6 +1,4 @@
-use Rattle.std.proofs.Common.{◌≡◌, ◌+◌, drop}
-use Rattle.jt_ast.specs.ExpressionView.{exprs_view}
-use Rattle.jt_eval.specs.Inside.{row_well}
+use Rattle.jt_checks.proofs.Vocabulary.{◌≡◌, ◌+◌, drop, exprs_view, row_well}
 use Rattle.jt_checks.proofs.nested_calls.is_row_well.Given as goal
 
 abbrev pub invariant-loop-index : goal.invariant-loop-index

@@ -1,6 +1,5 @@
-use Rattle.std.proofs.Common.{◌≡◌, drop}
-use Rattle.jt_uses.specs.UseView.{sites_view}
 use Rattle.jt_checks.specs.internal.ScopeView.{in_scope}
+use Rattle.jt_checks.proofs.Vocabulary.{◌≡◌, drop, sites_view}
 use Rattle.jt_checks.specs.internal.UseRules as broken
 use Rattle.jt_checks.proofs.uses.uses_broken.Given as goal
 

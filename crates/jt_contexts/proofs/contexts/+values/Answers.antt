@@ -1,12 +1,12 @@
 use Rattle.std.proofs.Common.{◌≡◌, ◌∙◌, ◌++◌, [], ◌∷◌, Some, ap, append_assoc, map, string_bytes, sym, refl}
 use Rattle.std.proofs.Common.{arith, rules}
-use Rattle.std.proofs.lemmas.List.{map-append}
+use Rattle.std.proofs.lemmas.List.{map-append, nil_from_length}
 use Rattle.std.proofs.lemmas.Result.{err_from_is_err_and}
 use Rattle.jt_value.specs.Pairs.{pairs}
 use Rattle.jt_value.specs.View.{view}
 use Rattle.jt_value.specs.declared.text.Text.{Text}
 use Rattle.jt_contexts.specs.internal.KeyOrder.{Entry}
-use Rattle.jt_contexts.proofs.MemberValues.{Member, entries_from, item_flaw, items_from, member_flaw, nil_of, one_more}
+use Rattle.jt_contexts.proofs.MemberValues.{Member, entries_from, item_flaw, items_from, member_flaw, one_more}
 use Rattle.jt_contexts.proofs.MemberValues.{shown, value_in}
 use Rattle.jt_contexts.proofs.contexts.+values.Goals as goal
 
@@ -71,4 +71,4 @@ items_of-loop-item-preserved t c =
     )
 
 pub items_of-returns-clause-ok : goal.items_of-returns-clause-ok
-items_of-returns-clause-ok t c = search (arith, rules, nil_of, items_from)
+items_of-returns-clause-ok t c = search (arith, rules, nil_from_length, items_from)

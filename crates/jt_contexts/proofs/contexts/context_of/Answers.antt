@@ -7,7 +7,8 @@ use Rattle.jt_value.specs.ContextView.{pairs_of}
 use Rattle.jt_value.specs.Pairs.{put}
 use Rattle.jt_value.specs.View.{view}
 use Rattle.jt_value.specs.declared.text.Text.{Text}
-use Rattle.jt_contexts.proofs.MemberValues.{Member, member_flaw, one_more, pairs_from, put_last, shown, unless_failed}
+use Rattle.jt_contexts.proofs.MemberValues.{Member, member_flaw, one_more, pairs_from, put_last, shown}
+use Rattle.jt_value.proofs.ContextLookup.{unless_failed}
 use Rattle.jt_contexts.proofs.contexts.context_of.Goals as goal
 
 pub loop-name-init : goal.loop-name-init

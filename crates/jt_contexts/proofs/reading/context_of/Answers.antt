@@ -1,11 +1,12 @@
 use Rattle.std.proofs.Common.{◌≡◌, ◌∙◌, ◌++◌, [], ◌∷◌, ap, append_assoc, subst}
 use Rattle.std.proofs.Common.{sym, arith, rules}
+use Rattle.std.proofs.lemmas.List.{nil_from_length}
 use Rattle.std.specs.List.Sorted.{IsStrictlySortedBy}
 use Rattle.std.specs.Map.{keys_of}
 use Rattle.jt_value.specs.Pairs.{Pairs, put}
 use Rattle.jt_value.specs.View.{view}
 use Rattle.jt_contexts.specs.internal.KeyOrder.{text_cmp}
-use Rattle.jt_contexts.proofs.MemberValues.{nil_of, unless_failed}
+use Rattle.jt_value.proofs.ContextLookup.{unless_failed}
 use Rattle.jt_contexts.proofs.ParseSteps.{Entry, put_last}
 use Rattle.jt_contexts.proofs.reading.context_of.Goals as goal
 
@@ -27,4 +28,4 @@ loop-name-preserved c =
     )
 
 pub returns : goal.returns
-returns c = search (arith, rules, nil_of)
+returns c = search (arith, rules, nil_from_length)

@@ -1,21 +1,20 @@
-use Rattle.std.proofs.Common.{◌≡◌, ◌<◌, ◌+◌, true, Err, cond, length, refl, sym, ap, ◌∙◌, arith, slice_index_or, rules}
+use Rattle.std.proofs.Common.{◌≡◌, ◌<◌, ◌+◌, true, cond, length, refl, sym, ap, ◌∙◌, arith, slice_index_or, rules}
 use Rattle.std.specs.Vec.{with_item}
 use Rattle.jt_graph.specs.Graph.{among, next_of}
 use Rattle.jt_graph.specs.View.{graph_of}
-use Rattle.jt_graph.specs.internal.Walks.{is_done, visit_of}
-use Rattle.jt_graph.specs.declared.error.OrderError.TheVariants.{Cycle}
+use Rattle.jt_graph.specs.internal.Walks.{is_done, is_open, visit_of}
 use Rattle.jt_graph.specs.declared.walk.VisitState.TheVariants.{New, Open, Done}
 use Rattle.jt_graph.specs.declared.walk.Walk.{Walk}
 use Rattle.jt_graph.proofs.DepthFirstSearch.{read_visit, next_at, graph_len, next_within, among_take, among_all}
-use Rattle.jt_graph.proofs.DepthFirstSearch.{among_at, lead_next, opened_walk, done_walk, done_goes, still_open}
-use Rattle.jt_graph.proofs.DepthFirstSearch.{goes_none, goes_both, fewer_news, told_set, itself, never, passed_on}
+use Rattle.jt_graph.proofs.DepthFirstSearch.{among_at, opened_walk, done_walk, done_goes, still_open}
+use Rattle.jt_graph.proofs.DepthFirstSearch.{goes_none, goes_both, fewer_news, told_set, itself, never, opened_one}
 use Rattle.jt_graph.proofs.walk.+visit.Goals as goal
 
 pub visit-requires : goal.visit-requires
 visit-requires t c =
     let g = graph_of c.args.next.now in
     let v = c.args.walk.now in
-    let u : Walk = record { visits = with_item v.visits c.args.number Open; done = v.done } in
+    let u : Walk = record { visits = with_item v.visits c.args.number Open; done = v.done; ring = v.ring } in
     let lv : c.args.number < length v.visits.items =
     omega (arith, c.requires.walked.each, graph_len c.args.next.now, c.requires.within) in
     let new : visit_of v.visits.items c.args.number ≡ New =
@@ -32,27 +31,26 @@ visit-requires t c =
         omega (arith, next_within g c.args.number j c.requires.closed edge, graph_len c.args.next.now),
         (
           c.requires.closed,
-          (
-            c.loop-other.invariant.walked,
-            lead_next g v u c.loop-other.walk c.args.number j lv refl c.loop-other.invariant.goes.opens c.requires.lead
-                edge,
-          ),
+          c.loop-other.invariant.walked,
         ),
       ),
     )
 
 pub loop-other-preserved : goal.loop-other-preserved
 loop-other-preserved t c = record {
-  walked = c.in_ok-visit.ensures.walk;
+  walked = c.in-Ok.ensures.walk;
   goes =
-      goes_both (let u : Walk =
-      record { visits = with_item c.args.walk.now.visits c.args.number Open; done = c.args.walk.now.done } in
-      u)
-      c.loop-other.walk c.visit.new.walk c.loop-other.invariant.goes c.in_ok-visit.ensures.goes;
+      goes_both
+      (record {
+        visits = with_item c.args.walk.now.visits c.args.number Open;
+        done = c.args.walk.now.done;
+        ring = c.args.walk.now.ring;
+      })
+      c.loop-other.walk c.visit.new.walk c.loop-other.invariant.goes c.in-Ok.ensures.goes;
   reached =
       among_take (λ j. is_done (visit_of c.visit.new.walk.visits.items j) ≡ true) c.deref-other-items.result.now
       c.loop-other.other-index (c.loop-other.other-index + 1) refl c.loop-other-test.true
-      (λ j h. c.in_ok-visit.ensures.goes.dones j (c.loop-other.invariant.reached j h)) c.in_ok-visit.ensures.done;
+      (λ j h. c.in-Ok.ensures.goes.dones j (c.loop-other.invariant.reached j h)) c.in-Ok.ensures.done;
 }
 
 pub returns-clause-walk : goal.returns-clause-walk
@@ -65,8 +63,9 @@ returns-clause-walk t c =
     let theirs : next_of g c.args.number ≡ c.deref-other-items.result.now =
     next_at c.args.next.now c.args.number c.index-next-number.result c.requires.within c.index-next-number.is
     ∙ sym c.deref-other-items.ensures.value in
-    let u : Walk = record { visits = with_item v.visits c.args.number Open; done = v.done } in
-    let x : Walk = record { visits = with_item c.loop-other.walk.visits c.args.number Done; done = c.push.new.self } in
+    let u : Walk = record { visits = with_item v.visits c.args.number Open; done = v.done; ring = v.ring } in
+    let x : Walk =
+    record { visits = with_item l.walk.visits c.args.number Done; done = c.push.new.self; ring = l.walk.ring } in
     done_walk g l.walk x c.args.number (omega (arith, graph_len c.args.next.now, c.requires.within))
     (still_open v u l.walk c.args.number lv refl l.invariant.goes) refl c.in_ok-push.ensures.items
     (λ j h. l.invariant.reached j
@@ -84,8 +83,9 @@ returns-clause-goes t c =
     omega (arith, l.invariant.walked.each, graph_len c.args.next.now, c.requires.within) in
     let new : visit_of v.visits.items c.args.number ≡ New =
     read_visit v.visits.items c.args.number c.index.result.now lv c.index.ensures ∙ c.in-New.is in
-    let u : Walk = record { visits = with_item v.visits c.args.number Open; done = v.done } in
-    let x : Walk = record { visits = with_item c.loop-other.walk.visits c.args.number Done; done = c.push.new.self } in
+    let u : Walk = record { visits = with_item v.visits c.args.number Open; done = v.done; ring = v.ring } in
+    let x : Walk =
+    record { visits = with_item l.walk.visits c.args.number Done; done = c.push.new.self; ring = l.walk.ring } in
     done_goes g v u l.walk x c.args.number lv lw new refl l.invariant.goes refl
 
 pub returns-clause-done : goal.returns-clause-done
@@ -105,7 +105,7 @@ loop-other-init t c =
     let lg : c.args.number < length g = omega (arith, graph_len c.args.next.now, c.requires.within) in
     let new : visit_of v.visits.items c.args.number ≡ New =
     read_visit v.visits.items c.args.number c.index.result.now lv c.index.ensures ∙ c.in-New.is in
-    let u : Walk = record { visits = with_item v.visits c.args.number Open; done = v.done } in
+    let u : Walk = record { visits = with_item v.visits c.args.number Open; done = v.done; ring = v.ring } in
     record {
       walked = opened_walk g v u c.args.number lg new refl refl c.requires.walked;
       goes = goes_none u;
@@ -116,13 +116,29 @@ pub index_mut-requires-2 : goal.index_mut-requires-2
 index_mut-requires-2 t c =
     omega (arith, c.loop-other.invariant.walked.each, graph_len c.args.next.now, c.requires.within)
 
-pub returns-in_err-visit-clause-cycle : goal.returns-in_err-visit-clause-cycle
-returns-in_err-visit-clause-cycle t c is =
-    c.in_err-visit.ensures.cycle
-    (ap (λ e. Err e) (passed_on c.from_residual.result c.in_err-visit.field-0.0 Cycle c.from_residual.ensures.1 is))
-
-pub returns-in-Open-clause-cycle : goal.returns-in-Open-clause-cycle
-returns-in-Open-clause-cycle t c is = search (arith, rules, graph_len, read_visit)
-
 pub returns-in-Done-clause-done : goal.returns-in-Done-clause-done
 returns-in-Done-clause-done t c = search (arith, rules, graph_len, read_visit)
+
+pub returns-in-Err-clause-stop : goal.returns-in-Err-clause-stop
+returns-in-Err-clause-stop t c =
+    let g = graph_of c.args.next.now in
+    let v = c.args.walk.now in
+    let lv : c.args.number < length v.visits.items =
+    omega (arith, c.requires.walked.each, graph_len c.args.next.now, c.requires.within) in
+    let theirs : next_of g c.args.number ≡ c.deref-other-items.result.now =
+    next_at c.args.next.now c.args.number c.index-next-number.result c.requires.within c.index-next-number.is
+    ∙ sym c.deref-other-items.ensures.value in
+    let u : Walk = record { visits = with_item v.visits c.args.number Open; done = v.done; ring = v.ring } in
+    let j = slice_index_or c.deref-other-items.result.now c.loop-other.other-index 0 in
+    c.leave.ensures g v c.loop-other.walk j
+    (opened_one v u c.loop-other.walk c.args.number lv refl c.loop-other.invariant.goes)
+    (ap (among j) theirs ∙ among_at c.deref-other-items.result.now c.loop-other.other-index c.loop-other-test.true)
+    c.in-Err.ensures.stop
+
+pub returns-in-Open-clause-stop : goal.returns-in-Open-clause-stop
+returns-in-Open-clause-stop t c =
+    let v = c.args.walk.now in
+    let lv : c.args.number < length v.visits.items =
+    omega (arith, c.requires.walked.each, graph_len c.args.next.now, c.requires.within) in
+    c.back.ensures (graph_of c.args.next.now) v
+    (ap is_open (read_visit v.visits.items c.args.number c.index.result.now lv c.index.ensures ∙ c.in-Open.is))

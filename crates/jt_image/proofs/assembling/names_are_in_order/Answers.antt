@@ -1,4 +1,4 @@
-use Rattle.std.proofs.Common.{◌≡◌, ℕ, ◌+◌, [], ◌∷◌, ◌++◌, take, true, sym, ap, ◌∙◌, String, Global, arith, rules}
+use Rattle.std.proofs.Common.{◌≡◌, [], take, true, sym, ◌∙◌, arith, rules}
 use Rattle.std.proofs.lemmas.List.{take_all}
 use Rattle.jt_image.specs.View.{name_view, names_view}
 use Rattle.jt_image.specs.Parts.{IsShort, is_next}
@@ -28,14 +28,12 @@ pub names-preserved : goal.names-preserved
 names-preserved c =
     let x = c.index-names-index.result in
     let before = names_view (take c.names.index c.args.names.now) in
-    let short : IsShort (name_view x) = rw c.index-names-index.is
-    (each_fits name_view IsShort c.args.names.now c.names.index x c.requires c.names-test.true) in
+    let short = each_fits name_view IsShort c.args.names.now c.names.index x c.requires c.names-test.true
+    c.index-names-index.is in
     let test : c.is_next.result ≡ is_next c.args.globals before (name_view x) = c.is_next.ensures in
     let here : IsNamed c.args.globals before (name_view x) =
     next_named c.args.globals before (name_view x) short (sym test ∙ c.if-not-is_next.false) in
-    let e : names_view (take (c.names.index + 1) c.args.names.now) ≡ before ++ name_view x ∷ [] = seen_more name_view
-    c.args.names.now c.names.index x c.names-test.true
-    ∙ ap (λ (n : ℕ × String Global). before ++ name_view n ∷ []) (sym c.index-names-index.is) in
+    let e = seen_more name_view c.args.names.now c.names.index x c.names-test.true c.index-names-index.is in
     record {
       named = rw e (good_push (IsNamed c.args.globals) [] before (name_view x) here c.names.invariant.named);
       table =

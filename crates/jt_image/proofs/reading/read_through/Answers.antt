@@ -4,7 +4,7 @@ use Rattle.jt_image.specs.InPlace.{template_in, code_in}
 use Rattle.jt_image.specs.Reading.{code_of}
 use Rattle.jt_image.proofs.DecodeSoundLemmas.{all_at, wide16}
 use Rattle.jt_image.proofs.WholeCodeSound.{IsSpelledBy, code_found}
-use Rattle.jt_image.proofs.ReadPrefix.{length-seen}
+use Rattle.std.proofs.lemmas.List.{length-map}
 use Rattle.jt_image.proofs.TablesInPlace.{number_last, start_last}
 use Rattle.jt_image.proofs.reading.read_through.Goals as goal
 
@@ -44,7 +44,7 @@ returns-clause-spells c =
             omega (
               arith,
               found.0.count_templates,
-              length-seen (template_in c.args.bytes.now) c.in_ok-back.back.templates.items,
+              length-map c.in_ok-back.back.templates.items (template_in c.args.bytes.now),
             );
         templates = c.in_ok-back.ensures.there.templates;
         places = c.in_ok-back.ensures.there.places;

@@ -6,7 +6,7 @@ use Rattle.jt_image.specs.InPlace.{section_in, sections_in, HasUnit}
 use Rattle.jt_image.specs.internal.HeaderView.{header_view, headers_view}
 use Rattle.jt_image.specs.Reading.{each_at, section_at}
 use Rattle.jt_image.proofs.TableLoops.{each_goes_on, each_ends, each_is_done}
-use Rattle.jt_image.proofs.InstructionsInPlace.{all_push}
+use Rattle.jt_image.proofs.ReadPrefix.{all_push}
 use Rattle.jt_image.proofs.UnitOffsets.{unit_total-push, counted_push, total_front, total_below}
 use Rattle.jt_image.proofs.sections.offsets_at.Goals as goal
 

@@ -8,11 +8,11 @@ use Rattle.jt_inherit.proofs.bodies.not_given.Goals as goal
 pub returns : goal.returns
 returns c =
     let ts = its_templates c.args.store c.args.indices.now in
-    let x = c.in-Some.name.now in
-    let nearest = c.in-Some-first.nearest.now in
+    let x = c.args.name.now in
+    let nearest = c.in-Some.nearest.now in
     let found : slice_get c.in_ok-named.named.items 0 ≡ Some nearest =
-    sym (ap (λ (l : List FoundTag). slice_get l 0) c.deref-2.ensures.value) ∙ sym c.first.ensures.value
-    ∙ ap option_copied c.in-Some-first.is in
+    sym (ap (λ (l : List FoundTag). slice_get l 0) c.deref.ensures.value) ∙ sym c.first.ensures.value
+    ∙ ap option_copied c.in-Some.is in
     let there : slice_get (blocks_named x ts) 0 ≡ Some (tag_view nearest) =
     sym (ap (λ (l : List (Text × Site)). slice_get l 0) c.in_ok-named.ensures)
     ∙ first_view c.in_ok-named.named.items nearest found in
@@ -20,7 +20,7 @@ returns c =
       refl,
       (
         refl,
-        subst (λ z. IsNotGiven ts z c.in_ok-place.place) (sym c.in_ok-name-2.ensures.ok) (record {
+        subst (λ z. IsNotGiven ts z c.in_ok-place.place) (sym c.in_ok-name.ensures.ok) (record {
           tag = tag_view nearest;
           nearest = there;
           required = (

@@ -1,7 +1,19 @@
-use Rattle.std.proofs.Common.{arith, rules}
-use Rattle.jt_inherit.proofs.Vocabulary.{index_within}
-use Rattle.jt_inherit.proofs.TagPlaces.{twice_rule}
+use Rattle.std.proofs.Common.{◌∷◌, [], List, refl, sym, ap, subst, ◌∙◌, IfSome}
+use Rattle.jt_inherit.specs.internal.Tags.{AreFirst}
+use Rattle.jt_inherit.proofs.Vocabulary.{append-nil, file_view, HasTwoTags, InTurn, IsAt, is_block, place_in, tags_view}
+use Rattle.jt_inherit.proofs.Vocabulary.{uses_in, FoundTag}
+use Rattle.jt_inherit.proofs.TagPlaces.{second_shows}
 use Rattle.jt_inherit.proofs.breaking.block_twice.Goals as goal
 
-pub returns-in-Some : goal.returns-in-Some
-returns-in-Some c = search (arith, rules, twice_rule, index_within)
+pub returns : goal.returns
+returns c =
+    let t = file_view c.args.file.now in
+    let test = is_block c.args.name.now in
+    let p = c.in-Some.places in
+    let found = sym (ap (λ (l : List FoundTag). tags_view l) c.deref.ensures.value ∙ c.in_ok-tags.ensures) in
+    let at = subst (λ o. IfSome o (AreFirst c.deref.result.now)) c.in-Some.is c.in_ok-places.ensures in (
+      refl,
+      subst (λ z. HasTwoTags (is_block z) (t ∷ []) p.0 p.1) (sym c.in_ok-name.ensures.ok)
+          (subst (InTurn (IsAt test p.0) (IsAt test p.1)) (sym (append-nil (uses_in t)))
+          (second_shows test p.0 p.1 (uses_in t) (ap (place_in 0) found ∙ at.0) (ap (place_in 1) found ∙ at.1))),
+    )

@@ -1,5 +1,4 @@
-use Rattle.std.proofs.Common.{arith, rules}
-use Rattle.std.proofs.Common.{List, subst}
+use Rattle.std.proofs.Common.{arith, rules, List, subst}
 use Rattle.jt_chains.specs.Tables.{AreAt}
 use Rattle.jt_inherit.proofs.Vocabulary.{err_from_is_err_and, files_view, TemplateFile, found_templates}
 use Rattle.jt_inherit.proofs.PathTemplates.{all_short}

@@ -1,5 +1,4 @@
-use Rattle.std.proofs.Common.{arith, rules}
-use Rattle.std.proofs.Common.{List, sym, subst}
+use Rattle.std.proofs.Common.{arith, rules, List, sym, subst}
 use Rattle.jt_inherit.proofs.Vocabulary.{err_from_is_err_and, graph_of, AreIndices, templates_at, sources_in}
 use Rattle.jt_inherit.proofs.Vocabulary.{files_view, TemplateFile, IsBroken, found_templates}
 use Rattle.jt_inherit.proofs.ChainComplete.{at_number, way_at}

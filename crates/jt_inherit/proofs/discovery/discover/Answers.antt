@@ -2,7 +2,7 @@ use Rattle.std.proofs.Common.{◌≡◌, length, ap, arith}
 use Rattle.jt_inherit.proofs.Vocabulary.{length-map, graph_of, found_templates, found_namespaces, found_paths, root_of}
 use Rattle.jt_inherit.proofs.Vocabulary.{namespace_name, files_view, namespace_at, strings, key_view, names_view}
 use Rattle.jt_inherit.proofs.ChainComplete.{search_done}
-use Rattle.jt_inherit.proofs.DiscoveryInvariant.{found_first, followed_len}
+use Rattle.jt_inherit.proofs.DiscoveryInvariant.{found_first}
 use Rattle.jt_inherit.proofs.discovery.discover.Goals as goal
 
 pub chains-init : goal.chains-init
@@ -30,7 +30,7 @@ returns-clause-done g c =
       c.len.ensures,
       f.extends_paths.ok.0,
       length-map f.namespaces.items.items key_view,
-      followed_len _ _ _ _ _ _ is.followed,
+      is.followed.few,
       length-map f.extends_paths.items (λ v. v.items),
     ) in
     search_done f c.chains.invariant.root is paths

@@ -1,19 +1,15 @@
-use Rattle.std.proofs.Common.{rules}
-use Rattle.std.proofs.Common.{◌≡◌, ◌<◌, true, ◌⊎◌, ◌++◌, ◌∷◌, [], List, ℕ, sym, ap, subst, ◌∙◌, arith}
-use Rattle.std.proofs.Common.{length, Vec, Global}
-use Rattle.jt_inherit.proofs.Vocabulary.{length-map, AllByRecursion, err_from_is_err_and, graph_of, among}
-use Rattle.jt_inherit.proofs.Vocabulary.{AreIndices, templates_at, needs_along, needed, files_view, TemplateFile}
-use Rattle.jt_inherit.proofs.Vocabulary.{AreFound, AreNext, IsMet, IsNextFinding, chosen, found_namespaces, root_of}
-use Rattle.jt_inherit.proofs.Vocabulary.{key_view, names_view, namespaces_view}
-use Rattle.jt_inherit.proofs.Vocabulary.{IsUnmet, map_more, of_namespaces, indexed_among, repeated}
-use Rattle.jt_inherit.proofs.FindingsHold.{need_finds}
+use Rattle.std.proofs.Common.{rules, ◌≡◌, ◌<◌, true, ◌⊎◌, ◌++◌, ◌∷◌, [], List, ℕ, sym, ap, subst, ◌∙◌, arith, length}
+use Rattle.std.proofs.Common.{Vec, Global}
+use Rattle.jt_inherit.proofs.Vocabulary.{length-map, AllByRecursion, err_from_is_err_and, graph_of, among, AreIndices}
+use Rattle.jt_inherit.proofs.Vocabulary.{templates_at, needs_along, needed, files_view, TemplateFile, AreFound, AreNext}
+use Rattle.jt_inherit.proofs.Vocabulary.{IsMet, IsNextFinding, chosen, found_namespaces, root_of, key_view, names_view}
+use Rattle.jt_inherit.proofs.Vocabulary.{namespaces_view, IsUnmet, of_namespaces, indexed_among, repeated, map_push}
+use Rattle.jt_inherit.proofs.FindingsHold.{need_finds, next_finds, library_finds}
 use Rattle.jt_inherit.proofs.DiscoveryInvariant.{namespace_number, reached_here, reached_there, found_more}
 use Rattle.jt_inherit.proofs.DiscoveryInvariant.{chosen_there, first_same, reached_from, way_there, both_files}
 use Rattle.jt_inherit.proofs.DiscoveryInvariant.{both_known, same_needs}
-use Rattle.jt_inherit.proofs.ManyChains.{next_finds}
 use Rattle.jt_inherit.proofs.TopologicalOrder.{namespace_among}
 use Rattle.jt_inherit.proofs.ChainComplete.{ways_indexed}
-use Rattle.jt_inherit.proofs.ImportFound.{library_finds}
 use Rattle.jt_inherit.proofs.discovery.follow.Goals as goal
 
 pub get-namespace-requires : goal.get-namespace-requires
@@ -36,7 +32,7 @@ returns-in_err-check_library-clause-refused g c =
     omega (arith, c.len-number.ensures, f.extends_paths.ok.0, c.requires.more) in
     let p = err_from_is_err_and c.from_residual.result c.from_residual.ensures.1 in
     rw (p.1, p.2)
-    (library_finds c.requires.found (namespace_among (found_namespaces f) c.len-number.result lt)
+    (library_finds c.requires.found _ (namespace_among (found_namespaces f) c.len-number.result lt)
     c.in_err-check_library.field-0.0 c.in_err-check_library.ensures.refused)
 
 pub read_namespace-requires-clause-library : goal.read_namespace-requires-clause-library
@@ -135,9 +131,9 @@ returns-clause-found g c =
     let needs = same_needs c.read_namespace.new.files.items c.deref.result.now c.in_ok-extends_path.extends_path.items
     c.deref-2.result.now c.deref.ensures.value c.deref-2.ensures.value in
     let longer = ap graph_of c.in_ok-push.ensures.items
-    ∙ map_more (λ (v : Vec ℕ Global). v.items) f.extends_paths.items c.in_ok-extends_path.extends_path in
+    ∙ map_push (λ (v : Vec ℕ Global). v.items) f.extends_paths.items c.in_ok-extends_path.extends_path in
     let longer_next = ap graph_of c.in_ok-push-2.ensures.items
-    ∙ map_more (λ (v : Vec ℕ Global). v.items) f.next.items c.in_ok-next.next in
+    ∙ map_push (λ (v : Vec ℕ Global). v.items) f.next.items c.in_ok-next.next in
     subst (λ z. AreFound (g.L.Library.sources c.args.loader.now.library.now) c.args.loader.now.options z ts ks hs
     (graph_of c.push.new.self.items) (graph_of c.push-2.new.self.items))
     (sym (first_same c.requires.found at extends_path.grown extends_path.extends_path newly_read grown known numbers))

@@ -3,7 +3,7 @@ use Rattle.std.proofs.lemmas.List.{at_drop_all}
 use Rattle.jt_inherit.proofs.Vocabulary.{append-nil, body_view, along, templates_at, sources_in, files_view}
 use Rattle.jt_inherit.proofs.Vocabulary.{imported_names, texts, along_turn, file_at, index_within}
 use Rattle.jt_inherit.proofs.DiscoveryInvariant.{indexed_templates}
-use Rattle.jt_inherit.proofs.ChainRules.{names_found}
+use Rattle.jt_inherit.proofs.BodyRules.{names_found}
 use Rattle.jt_inherit.proofs.importing.names_at.Goals as goal
 
 pub loop-index-preserved : goal.loop-index-preserved

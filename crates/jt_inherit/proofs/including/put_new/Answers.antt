@@ -1,5 +1,5 @@
 use Rattle.std.proofs.Common.{arith, rules}
-use Rattle.jt_inherit.proofs.NamespaceSets.{library_more, chain_more}
+use Rattle.jt_inherit.proofs.NumberTables.{library_more, chain_more}
 use Rattle.jt_inherit.proofs.including.put_new.Goals as goal
 
 pub returns-then-namespace-clause-few : goal.returns-then-namespace-clause-few

@@ -1,5 +1,4 @@
-use Rattle.std.proofs.Common.{rules}
-use Rattle.std.proofs.Common.{◌≡◌, ◌≤◌, None, length, ap, subst, arith, IsUtf8}
+use Rattle.std.proofs.Common.{rules, ◌≡◌, ◌≤◌, None, length, ap, subst, arith, IsUtf8}
 use Rattle.std.proofs.lemmas.Str.{IsUtf8-string_bytes}
 use Rattle.jt_scan.specs.Cut.{weight_of}
 use Rattle.jt_parse.specs.declared.error.ParseError.TheVariants as parse_error

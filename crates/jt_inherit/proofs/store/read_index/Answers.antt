@@ -1,5 +1,4 @@
-use Rattle.std.proofs.Common.{rules}
-use Rattle.std.proofs.Common.{◌≡◌, ◌++◌, ◌∷◌, [], List, false, sym, ap, subst, ◌∙◌, arith, string_bytes, inl}
+use Rattle.std.proofs.Common.{rules, ◌≡◌, ◌++◌, ◌∷◌, [], List, false, sym, ap, subst, ◌∙◌, arith, string_bytes, inl}
 use Rattle.jt_inherit.proofs.Vocabulary.{slice_get, append-nil, among, Text, file_view, files_view, names_view}
 use Rattle.jt_inherit.proofs.Vocabulary.{AreKnown, among_last}
 use Rattle.jt_inherit.proofs.PathsGrow.{known_more, files_more, file_last}

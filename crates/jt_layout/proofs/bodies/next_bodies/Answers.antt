@@ -1,5 +1,5 @@
-use Rattle.std.proofs.Common.{arith, rules}
 use Rattle.std.proofs.lemmas.Grind.{common_steps}
+use Rattle.jt_layout.proofs.Vocabulary.{arith, rules}
 use Rattle.jt_layout.proofs.BodyIndices.{given_turn, required_turn, nexts_turn}
 use Rattle.jt_layout.proofs.bodies.next_bodies.Goals as goal
 

@@ -1,13 +1,5 @@
-use Rattle.std.proofs.Common.{◌≡◌, ◌≤◌, List, length, map, drop}
-use Rattle.std.specs.Prelude.{filter}
-use Rattle.std.specs.Str.{bytes_eq}
-use Rattle.jt_ast.specs.Expressions.{Text}
-use Rattle.jt_chains.specs.Chain.{Template}
-use Rattle.jt_chains.specs.Parts.{block_view}
-use Rattle.jt_semantics.specs.Layout.{counted_from}
-use Rattle.jt_semantics.specs.Resolve.{next_given}
-use Rattle.jt_names.specs.Names.{value_in}
-use Rattle.jt_layout.specs.internal.Indices.{nexts}
+use Rattle.jt_layout.proofs.Vocabulary.{◌≡◌, ◌≤◌, List, length, map, drop, filter, bytes_eq, Text, Template, block_view}
+use Rattle.jt_layout.proofs.Vocabulary.{counted_from, next_given, value_in, nexts}
 use Rattle.jt_layout.proofs.bodies.next_bodies.Given as goal
 
 abbrev pub invariant-loop-left : goal.invariant-loop-left

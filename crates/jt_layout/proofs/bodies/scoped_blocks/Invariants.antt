@@ -1,11 +1,5 @@
-use Rattle.std.proofs.Common.{◌≡◌, ◌&&◌, ◌||◌, List, map, drop}
-use Rattle.std.specs.List.{list_any}
-use Rattle.std.specs.Option.{is_some}
-use Rattle.std.specs.Str.{bytes_eq}
-use Rattle.jt_ast.specs.Expressions.{Text}
-use Rattle.jt_chains.specs.Chain.{Template}
-use Rattle.jt_chains.specs.Parts.{block_view}
-use Rattle.jt_names.specs.Names.{value_in}
+use Rattle.jt_layout.proofs.Vocabulary.{◌≡◌, ◌&&◌, ◌||◌, List, map, drop, list_any, is_some, bytes_eq, Text, Template}
+use Rattle.jt_layout.proofs.Vocabulary.{block_view, value_in}
 use Rattle.jt_layout.proofs.bodies.scoped_blocks.Given as goal
 
 abbrev pub invariant-loop-block : goal.invariant-loop-block

@@ -1,6 +1,4 @@
-use Rattle.std.proofs.Common.{arith, string_bytes, rules}
-use Rattle.std.proofs.lemmas.List.{length-map}
-use Rattle.jt_chains.proofs.TemplatesByIndex.{name_of_namespace}
+use Rattle.jt_layout.proofs.Vocabulary.{arith, string_bytes, rules, length-map, name_of_namespace}
 use Rattle.jt_layout.proofs.NamesInOrder.{names_turn, names_kept}
 use Rattle.jt_layout.proofs.collected.gather.Goals as goal
 

@@ -1,10 +1,5 @@
-use Rattle.std.proofs.Common.{◌≡◌, ◌≤◌, length, drop}
-use Rattle.jt_ast.specs.Expressions.{Text}
-use Rattle.jt_chains.specs.Chain.{a_chain}
-use Rattle.jt_chains.specs.View.{chain_view}
 use Rattle.jt_rules.specs.CompileEnv.{cenv_of}
-use Rattle.jt_semantics.specs.Layout.{names_in}
-use Rattle.jt_layout.specs.internal.Indices.{names_at}
+use Rattle.jt_layout.proofs.Vocabulary.{◌≡◌, ◌≤◌, length, drop, Text, a_chain, chain_view, names_in, names_at}
 use Rattle.jt_layout.proofs.collected.gather.Given as goal
 
 abbrev pub invariant-loop-left : goal.invariant-loop-left

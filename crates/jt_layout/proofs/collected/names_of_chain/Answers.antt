@@ -1,53 +1,41 @@
-use Rattle.std.proofs.Common.{◌≡◌, List, [], true, ◌+◌, drop, sym, ap}
-use Rattle.std.proofs.Common.{◌∙◌, Vec, Global, get_or, ◌<◌, length, arith}
 use Rattle.std.proofs.lemmas.Result.{IfOk-weaker}
-use Rattle.std.specs.Prelude.{flat_map}
-use Rattle.std.proofs.lemmas.List.{at_drop_all, length-map}
-use denote.Ref.{Bor}
-use Rattle.jt_ast.specs.Expressions.{Text}
-use Rattle.jt_ast.specs.Texts.{all_inserted, ascending, texts}
-use Rattle.jt_chains.specs.Chain.{a_chain, templates}
-use Rattle.jt_chains.specs.Includes.{with_source}
-use Rattle.jt_chains.specs.Needs.{Need, needed, needs_view}
-use Rattle.jt_chains.specs.TemplateFiles.{namespace_view}
-use Rattle.jt_chains.specs.Uses.{own_names}
-use Rattle.jt_chains.specs.View.{namespace_in, its_sources}
-use Rattle.jt_chains.specs.declared.include_tags.NeededTemplate.{NeededTemplate}
+use Rattle.jt_chains.specs.Needs.{Need}
+use Rattle.jt_chains.specs.View.{its_sources}
 use Rattle.jt_chains.proofs.IncludeCollection.{by_templates}
-use Rattle.jt_semantics.specs.Layout.{names_in}
-use Rattle.jt_layout.specs.internal.Namespaces.{its_cenv, its_order}
 use Rattle.jt_names.proofs.SortedNames.{ascending_inserted}
+use Rattle.jt_layout.proofs.Vocabulary.{get_or, ◌≡◌, List, [], true, ◌+◌, drop, sym, ap, ◌∙◌, Vec, Global, ◌<◌, length}
+use Rattle.jt_layout.proofs.Vocabulary.{arith, flat_map, at_drop_all, length-map, Bor, Text, all_inserted, ascending}
+use Rattle.jt_layout.proofs.Vocabulary.{texts, a_chain, templates, with_source, needed, needs_view, namespace_view}
+use Rattle.jt_layout.proofs.Vocabulary.{own_names, namespace_in, NeededTemplate, names_in, names_of, its_cenv}
+use Rattle.jt_layout.proofs.Vocabulary.{its_order}
 use Rattle.jt_layout.proofs.NamesInOrder.{chain_turn, none_turn, names_here}
-use Rattle.jt_layout.proofs.collected.names_of_chain.Invariants.{names_of}
 use Rattle.jt_layout.proofs.collected.names_of_chain.Goals as goal
 
 pub loop-include-preserved-then-is_missing : goal.loop-include-preserved-then-is_missing
 loop-include-preserved-then-is_missing c =
     let chain = c.args.facts.now.chain.now in
-    let N : Text → List Text =
-    (λ x. names_in (its_cenv chain) (drop (c.args.namespace + 1) (its_order chain)) (a_chain x)) in
     let l = c.loop-include in
-    none_turn N (its_sources chain) c.deref-include-items.result.now l.include-index _ c.loop-include-test.true
-    (texts l.names.keys) (sym c.is_missing.ensures ∙ c.if-is_missing.true)
+    none_turn (its_cenv chain) (drop (c.args.namespace + 1) (its_order chain)) c.deref-include-items.result.now
+    l.include-index _ c.loop-include-test.true (texts l.names.keys) (sym c.is_missing.ensures ∙ c.if-is_missing.true)
     ∙ l.invariant
 
 pub loop-include-preserved : goal.loop-include-preserved
 loop-include-preserved c =
     let chain = c.args.facts.now.chain.now in
-    let N : Text → List Text =
-    (λ x. names_in (its_cenv chain) (drop (c.args.namespace + 1) (its_order chain)) (a_chain x)) in
     let l = c.loop-include in
     let k = get_or c.deref-include-items.result.now l.include-index _ in
-    chain_turn N (its_sources chain) c.deref-include-items.result.now l.include-index _ c.loop-include-test.true
-    (texts l.names.keys) (texts c.add_to.new.names.keys) (sym c.is_missing.ensures ∙ c.if-is_missing.false)
+    chain_turn (its_cenv chain) (drop (c.args.namespace + 1) (its_order chain)) c.deref-include-items.result.now
+    l.include-index _ c.loop-include-test.true (texts l.names.keys) (texts c.add_to.new.names.keys)
+    (sym c.is_missing.ensures ∙ c.if-is_missing.false)
     (c.in_ok-add_to.ensures ∙ ap (λ xs. all_inserted xs (texts l.names.keys)) (c.requires.behind k.name.now))
     ∙ l.invariant
 
 pub returns : goal.returns
 returns c =
     let chain = c.args.facts.now.chain.now in
-    let N : Text → List Text =
-    (λ x. names_in (its_cenv chain) (drop (c.args.namespace + 1) (its_order chain)) (a_chain x)) in
+    let W = its_cenv chain in
+    let behind = drop (c.args.namespace + 1) (its_order chain) in
+    let N : Text → List Text = (λ x. names_in W behind (a_chain x)) in
     let l = c.loop-include in
     let ks = c.deref-include-items.result.now in
     let first = texts c.add_names.new.names.keys in
@@ -60,10 +48,10 @@ returns c =
     ∙ ap (λ (zs : List Text). all_inserted zs []) (ap texts c.deref.ensures.value ∙ c.at.ensures.names)
     ∙ ascending_inserted names [] in
     let ended = at_drop_all
-    (λ (z : List NeededTemplate). all_inserted (names_of chain c.args.namespace z) (texts l.names.keys)) ks
+    (λ (z : List NeededTemplate). all_inserted (names_of W behind z) (texts l.names.keys)) ks
     l.include-index
     c.loop-include-test.false in
-    let all : texts l.names.keys ≡ all_inserted (names_of chain c.args.namespace ks) first = sym ended ∙ l.invariant in
+    let all : texts l.names.keys ≡ all_inserted (names_of W behind ks) first = sym ended ∙ l.invariant in
     let needs = ap needs_view c.deref-include-items.ensures.value ∙ c.in_ok-included.ensures.there c.requires.stands in
     let whole = all
     ∙ ap (λ (ns : List Need). all_inserted (flat_map N (with_source (its_sources chain) (needed true ns))) first) needs

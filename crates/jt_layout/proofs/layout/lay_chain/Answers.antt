@@ -1,25 +1,15 @@
-use Rattle.std.proofs.Common.{◌≡◌, ◌+◌, ◌&&◌, length, map, string_bytes, sym, ap, ◌∙◌, arith}
-use Rattle.std.proofs.lemmas.List.{length-map}
-use Rattle.std.specs.List.{list_any}
-use Rattle.std.specs.Prelude.{slice_get}
-use Rattle.std.specs.Str.{bytes_eq}
-use Rattle.jt_chains.specs.Chain.{macros, all_bodies}
-use Rattle.jt_chains.specs.TemplateFiles.{namespace_view}
-use Rattle.jt_chains.specs.Parts.{macro_view, macros_view, blocks_view}
-use Rattle.jt_chains.specs.View.{its_templates, namespace_in}
-use Rattle.jt_semantics.specs.Layout as layout
-use Rattle.jt_ast.specs.Texts.{texts}
-use Rattle.jt_layout.specs.internal.Namespaces.{its_cenv, its_order}
-use Rattle.jt_layout.specs.internal.Indices.{defaults_from, nexts}
-use Rattle.jt_names.specs.Names.{first_of}
-use Rattle.jt_layout.specs.NamespaceLayout.{is_library}
-use Rattle.jt_layout.specs.declared.namespace_layout.NamespaceLayout.{NamespaceLayout}
-use Rattle.jt_chains.proofs.TemplatesByIndex.{name_of_namespace}
+use Rattle.jt_chains.specs.Parts.{macros_view, blocks_view}
+use Rattle.jt_chains.specs.View.{its_templates}
+use Rattle.jt_layout.proofs.Vocabulary.{◌≡◌, ◌+◌, ◌&&◌, length, map, string_bytes, sym, ap, ◌∙◌, arith, length-map}
+use Rattle.jt_layout.proofs.Vocabulary.{list_any, slice_get, bytes_eq, macros, all_bodies, namespace_view, macro_view}
+use Rattle.jt_layout.proofs.Vocabulary.{namespace_in, texts, its_cenv, its_order, defaults_from, nexts, first_of}
+use Rattle.jt_layout.proofs.Vocabulary.{is_library, FirstFree, NamespaceLayout, name_of_namespace}
 use Rattle.jt_layout.proofs.BodyIndices.{next_at}
 use Rattle.jt_layout.proofs.FirstOccurrences.{first_bodies}
 use Rattle.jt_layout.proofs.OffsetSteps.{slot_here, chain_unit}
-use Rattle.jt_layout.proofs.LayoutCorrect.{rest, here, kind_named, slots_laid, is_called, body_units}
-use Rattle.jt_layout.proofs.LayoutCorrect.{count_next, count_blocks, scoped_laid, behind}
+use Rattle.jt_layout.proofs.LayoutCorrect.{rest, here, kind_named, slots_laid, is_called, body_units, count_next}
+use Rattle.jt_layout.proofs.LayoutCorrect.{count_blocks, scoped_laid, behind}
+use Rattle.jt_semantics.specs.Layout as layout
 use Rattle.jt_layout.proofs.layout.lay_chain.Goals as goal
 
 pub returns : goal.returns
@@ -47,15 +37,14 @@ returns c =
     ≡ nexts (layout.counted_from 0 (all_bodies W.sources W.escaping h)) =
     c.in_ok-next_bodies.ensures ts
     ∙ ap (λ z. nexts (layout.counted_from 0 z)) (ap (blocks_view ts) c.deref-5.ensures.value ∙ facts.all_blocks) in
-    let ps = c.in_ok-indices.indices in
     let k = c.index-itself.result.now in
     let is : h ≡ namespace_view k = name_of_namespace a.namespaces.items i k lt c.index-itself.ensures in
     let entries : c.entries_of.result ≡ length (layout.entry_keys W h) =
     c.entries_of.ensures W ∙ ap (λ z. length (layout.entry_keys W z)) (sym is) in
-    let macro_unit : ps.macro_unit ≡ f.unit + length (layout.entry_keys W h) =
-    c.in_ok-indices.ensures.macro_unit ∙ ap (λ n. f.unit + n) entries in
-    let unit : ps.body_unit ≡ ps.macro_unit + length (macros W.sources h) =
-    omega (arith, c.in_ok-indices.ensures.body_unit, c.len-2.ensures, ms.ok.0, count) in
+    let macro_unit : c.in_ok-macro_unit.macro_unit ≡ f.unit + length (layout.entry_keys W h) =
+    c.in_ok-macro_unit.ensures ∙ ap (λ n. f.unit + n) entries in
+    let unit : c.in_ok-body_unit.body_unit ≡ c.in_ok-macro_unit.macro_unit + length (macros W.sources h) =
+    omega (arith, c.in_ok-body_unit.ensures, c.len.ensures, ms.ok.0, count) in
     let l : NamespaceLayout = record {
       is_library = k.is_library;
       known = c.at-known.result;
@@ -63,8 +52,8 @@ returns c =
       slots = c.in_ok-slots.slots;
       first_slot = f.slot;
       unit = f.unit;
-      macro_unit = ps.macro_unit;
-      body_unit = ps.body_unit;
+      macro_unit = c.in_ok-macro_unit.macro_unit;
+      body_unit = c.in_ok-body_unit.body_unit;
       called = c.in_ok-called.called;
       defaults = c.in_ok-defaults.defaults.indices;
       next_bodies = c.in_ok-next_bodies.next_bodies;
@@ -72,19 +61,23 @@ returns c =
     } in
     let slots : length c.args.names.items ≡ length (layout.names W O h) =
     sym (length-map c.args.names.items (λ k. k.now)) ∙ ap length c.requires.named in
-    let units : ps.behind.unit ≡ (f.unit + length (layout.entry_keys W h)) + length ms.items + length bs.items =
-    omega (
+    let g : FirstFree = record {
+      slot = c.in_ok-behind_slot.behind_slot;
+      unit = c.in_ok-behind_unit.behind_unit;
+      default = c.in_ok-defaults.defaults.end;
+    } in
+    let units : g.unit ≡ (f.unit + length (layout.entry_keys W h)) + length ms.items + length bs.items = omega (
       arith,
-      c.in_ok-indices.ensures.unit,
-      c.in_ok-indices.ensures.body_unit,
+      c.in_ok-behind_unit.ensures,
+      c.in_ok-body_unit.ensures,
       macro_unit,
-      c.len-2.ensures,
+      c.len.ensures,
       c.len-3.ensures,
       ms.ok.0,
       bs.ok.0,
     ) in
-    let slots_are : ps.behind.slot ≡ f.slot + length c.args.names.items =
-    omega (arith, c.in_ok-indices.ensures.slot, c.len.ensures, c.args.names.ok.0) in
+    let slots_are : g.slot ≡ f.slot + length c.args.names.items =
+    omega (arith, c.in_ok-behind_slot.ensures, c.len-2.ensures, c.args.names.ok.0) in
     record {
       namespace_layout = record {
         kind = kind_named k.is_library (string_bytes k.name) ∙ ap is_library (sym is);
@@ -117,8 +110,8 @@ returns c =
             facts.scope_names;
       };
       behind =
-          behind a i lt f s ps.behind (length c.args.names.items) (length ms.items) (length bs.items) slots_are
+          behind a i lt f s g (length c.args.names.items) (length ms.items) (length bs.items) slots_are
           slots units count (count_blocks a i lt f s bs.items facts.all_blocks)
-          (c.in_ok-indices.ensures.default ∙ c.in_ok-defaults.ensures.ended ts
+          (c.in_ok-defaults.ensures.ended ts
           ∙ ap (λ z. f.default + length (layout.defaults_of z)) given_macros);
     }

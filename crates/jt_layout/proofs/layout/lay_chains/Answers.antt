@@ -1,19 +1,12 @@
-use Rattle.std.proofs.Common.{◌≡◌, ℕ, ◌+◌, ◌<◌, ◌≤◌, [], ◌∷◌, length, get_or, sym, ap, subst, ◌∙◌, arith, length-append}
-use Rattle.std.proofs.Common.{List, drop, string_bytes, rules}
-use Rattle.std.specs.Prelude.{flat_map}
-use Rattle.std.proofs.lemmas.List.{at_drop_all, length-map}
-use Rattle.jt_chains.specs.Chain.{a_chain, listed, same_namespace}
-use Rattle.jt_chains.specs.TemplateFiles.{namespace_view}
-use Rattle.jt_chains.specs.View.{chain_view, namespace_in}
-use Rattle.jt_semantics.specs.Layout as layout
-use Rattle.jt_layout.specs.internal.Namespaces.{its_cenv, its_order}
-use Rattle.jt_layout.specs.NamespaceLayout.{IsLaid}
-use Rattle.jt_layout.specs.internal.Indices.{names_at}
-use Rattle.jt_layout.specs.declared.namespace_layout.NamespaceLayout.{NamespaceLayout}
-use Rattle.jt_chains.proofs.TemplatesByIndex.{name_of_namespace}
 use Rattle.jt_names.proofs.EachItem.{each_more}
+use Rattle.jt_layout.proofs.Vocabulary.{◌≡◌, ℕ, ◌+◌, ◌<◌, ◌≤◌, [], ◌∷◌, length, get_or, sym, ap, subst, ◌∙◌, arith}
+use Rattle.jt_layout.proofs.Vocabulary.{length-append, List, drop, string_bytes, rules, flat_map, at_drop_all}
+use Rattle.jt_layout.proofs.Vocabulary.{length-map, a_chain, listed, same_namespace, namespace_view, chain_view}
+use Rattle.jt_layout.proofs.Vocabulary.{namespace_in, its_cenv, its_order, IsLaid, names_at, NamespaceLayout}
+use Rattle.jt_layout.proofs.Vocabulary.{name_of_namespace}
 use Rattle.jt_layout.proofs.OffsetSteps.{first_front}
 use Rattle.jt_layout.proofs.LayoutCorrect.{listed_left, left_turn, names_handed}
+use Rattle.jt_semantics.specs.Layout as layout
 use Rattle.jt_layout.proofs.layout.lay_chains.Goals as goal
 
 pub lay_chain-requires : goal.lay_chain-requires

@@ -1,13 +1,6 @@
-use Rattle.std.proofs.Common.{◌≡◌, ℕ, ◌<◌, true, length, drop, get_or}
-use Rattle.jt_ast.specs.Expressions.{Text}
-use Rattle.jt_chains.specs.Chain.{a_chain, listed}
-use Rattle.jt_chains.specs.View.{chain_view, namespace_in}
+use Rattle.jt_layout.proofs.Vocabulary.{◌≡◌, ℕ, ◌<◌, true, length, drop, get_or, Text, a_chain, listed, chain_view}
+use Rattle.jt_layout.proofs.Vocabulary.{namespace_in, Stands, its_cenv, its_order, IsLaid, names_at, NamespaceLayout}
 use Rattle.jt_semantics.specs.Layout as layout
-use Rattle.jt_layout.specs.internal.Front.{Stands}
-use Rattle.jt_layout.specs.internal.Namespaces.{its_cenv, its_order}
-use Rattle.jt_layout.specs.NamespaceLayout.{IsLaid}
-use Rattle.jt_layout.specs.internal.Indices.{names_at}
-use Rattle.jt_layout.specs.declared.namespace_layout.NamespaceLayout.{NamespaceLayout}
 use Rattle.jt_layout.proofs.layout.lay_chains.Given as goal
 
 abbrev pub invariant-loop-namespace : goal.invariant-loop-namespace

@@ -1,8 +1,5 @@
-use Rattle.std.proofs.Common.{◌≡◌, ◌+◌, ◌++◌, List, length, map, drop}
-use Rattle.jt_chains.specs.Chain.{Template}
-use Rattle.jt_chains.specs.Parts.{macro_view}
-use Rattle.jt_semantics.specs.Layout.{defaults_of}
-use Rattle.jt_layout.specs.internal.Indices.{defaults_from}
+use Rattle.jt_layout.proofs.Vocabulary.{◌≡◌, ◌+◌, ◌++◌, List, length, map, drop, Template, macro_view, defaults_of}
+use Rattle.jt_layout.proofs.Vocabulary.{defaults_from}
 use Rattle.jt_layout.proofs.macros.default_indices.Given as goal
 
 abbrev pub invariant-loop-entry : goal.invariant-loop-entry

@@ -1,8 +1,5 @@
-use Rattle.std.proofs.Common.{◌≡◌, ◌≤◌, length, map, drop}
-use Rattle.jt_ast.specs.Expressions.{Text}
-use Rattle.jt_chains.specs.TemplateFiles.{namespace_view}
-use Rattle.jt_names.specs.Names.{value_in}
-use Rattle.jt_layout.specs.internal.Indices.{namespace_named, first_namespace}
+use Rattle.jt_layout.proofs.Vocabulary.{◌≡◌, ◌≤◌, length, map, drop, Text, namespace_view, value_in, namespace_named}
+use Rattle.jt_layout.proofs.Vocabulary.{first_namespace}
 use Rattle.jt_layout.proofs.namespace_index.namespace_index.Given as goal
 
 abbrev pub invariant-loop-left : goal.invariant-loop-left

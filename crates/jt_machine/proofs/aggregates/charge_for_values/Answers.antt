@@ -1,8 +1,5 @@
+use Rattle.jt_machine.proofs.Vocabulary.{top_sizes, all_held, made, config_view}
 use Rattle.std.proofs.Common.{◌≡◌, ◌∙◌, arith}
-use Rattle.jt_image.specs.Step.{top_sizes}
-use Rattle.jt_machine.specs.Entries.{all_held}
-use Rattle.jt_machine.specs.InstructionSteps.{made}
-use Rattle.jt_machine.specs.View.{config_view}
 use Rattle.jt_machine.proofs.PoppedValues.{sizes_exact, values_are, make_pays}
 use Rattle.jt_machine.proofs.aggregates.charge_for_values.Goals as goal
 

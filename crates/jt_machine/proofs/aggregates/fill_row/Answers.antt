@@ -1,12 +1,6 @@
-use Rattle.std.proofs.Common.{◌≡◌, ◌∙◌, ◌-◌, ◌+◌, ◌∷◌, ℕ, suc, List, length, map, take, drop, refl, sym, ap}
-use Rattle.std.proofs.Common.{arith}
-use Rattle.std.specs.Prelude.{slice_set}
+use Rattle.jt_machine.proofs.Vocabulary.{value, Activations, values_on, view, Value, slice_set}
+use Rattle.std.proofs.Common.{◌≡◌, ◌∙◌, ◌-◌, ◌+◌, ◌∷◌, ℕ, suc, List, length, map, take, drop, refl, sym, ap, arith}
 use Rattle.std.proofs.Math.ListN.{length-set}
-use Rattle.jt_value.specs.View.{view}
-use Rattle.jt_value.specs.declared.value.Value.{Value}
-use Rattle.jt_image.specs.Config.{value}
-use Rattle.jt_machine.specs.Activations.{Activations}
-use Rattle.jt_machine.specs.View.{values_on}
 use Rattle.jt_machine.proofs.TopValues.{row_set, row_none}
 use Rattle.jt_machine.proofs.PoppedValues.{found, more_is, one_taken, values_are}
 use Rattle.jt_machine.proofs.aggregates.fill_row.Goals as goal

@@ -1,10 +1,7 @@
-use Rattle.std.proofs.Common.{◌≡◌, ◌∙◌, None, sym}
+use Rattle.jt_machine.proofs.Vocabulary.{listed, with_entries, below, step_on, values_at, with_state, config_view}
+use Rattle.jt_machine.proofs.Vocabulary.{limit_view, items_of}
+use Rattle.std.proofs.Common.{◌∙◌, sym}
 use Rattle.jt_value.specs.Tree as tree
-use Rattle.jt_value.specs.View.{items_of}
-use Rattle.jt_image.specs.Step.{listed, with_entries}
-use Rattle.jt_image.specs.Run.{limit_of}
-use Rattle.jt_machine.specs.InstructionSteps.{make, made, push, step_on, with_state, values_at, below}
-use Rattle.jt_machine.specs.View.{config_view, limit_view}
 use Rattle.jt_machine.proofs.AllocationPoints.{lost}
 use Rattle.jt_machine.proofs.StepLemmas.{push_spent, push_goes_on}
 use Rattle.jt_machine.proofs.PoppedValues.{makes_of}
@@ -26,37 +23,20 @@ returns-in-Some-list_limit c =
     c.in_default.ensures.rest listed ∙ push_spent t e step_on (limit_view c.in-Some-list_limit.spent)
     (rw c.top_entries.ensures at c.in-Some-list_limit.ensures)
 
-pub returns-in_err-values : goal.returns-in_err-values
-returns-in_err-values c =
-    let n = c.args.count in
-    let d = config_view c.charge_for_values.new.state in
-    let t = tree.list (items_of (values_at n d.machine.state.entries)) in
-    let e = with_state d (with_entries d.machine.state (below n d.machine.state.entries)) in
-    let is : make n listed (config_view c.args.state.now) ≡ push t e step_on = c.in_default.ensures.rest listed in
-    lost _ _ _ c.from_residual.result c.from_residual.ensures.1
-    (rw is (push_goes_on t e (rw c.top_entries.ensures at c.in_default-list_limit.ensures)))
-
 pub returns-in_err-list : goal.returns-in_err-list
 returns-in_err-list c =
     let n = c.args.count in
     let d = config_view c.charge_for_values.new.state in
     let t = tree.list (items_of (values_at n d.machine.state.entries)) in
     let e = with_state d (with_entries d.machine.state (below n d.machine.state.entries)) in
-    let is : make n listed (config_view c.args.state.now) ≡ push t e step_on = c.in_default.ensures.rest listed in
-    lost _ _ _ c.from_residual-in_err-list.result c.from_residual-in_err-list.ensures.1
-    (rw is (push_goes_on t e (rw c.top_entries.ensures at c.in_default-list_limit.ensures)))
+    lost _ _ _ c.from_residual.result c.from_residual.ensures.1 (rw (c.in_default.ensures.rest listed)
+    (push_goes_on t e (rw c.top_entries.ensures at c.in_default-list_limit.ensures)))
 
 pub push_checked-requires-clause-fits : goal.push_checked-requires-clause-fits
 push_checked-requires-clause-fits c =
-    let d = config_view c.charge_for_values.new.state in
-    let fits : None ≡ limit_of d.left (tree.list (items_of (values_at c.args.count d.machine.state.entries))) =
-    rw c.top_entries.ensures at c.in_default-list_limit.ensures in
-    rw c.in_ok-list.ensures (sym (rw c.in_ok-values.ensures.values at fits))
+    rw c.in_ok-list.ensures.list (sym (rw c.top_entries.ensures at c.in_default-list_limit.ensures))
 
 pub returns : goal.returns
 returns c =
-    let n = c.args.count in
-    let d = config_view c.charge_for_values.new.state in
-    let is : make n listed (config_view c.args.state.now) ≡ made n listed d = c.in_default.ensures.rest listed in
-    rw (is, c.in_ok-values.ensures.values)
-    (rw (c.in_ok-list.ensures, c.in_ok-values.ensures.taken) at c.push_checked.ensures)
+    rw (c.in_default.ensures.rest listed)
+    (rw (c.in_ok-list.ensures.list, c.in_ok-list.ensures.taken) at c.push_checked.ensures)

@@ -1,9 +1,5 @@
-use Rattle.std.proofs.Common.{◌≡◌, ◌∙◌, map, refl}
-use Rattle.jt_value.specs.View.{view}
-use Rattle.jt_image.specs.Step.{mapped, with_entries}
-use Rattle.jt_machine.specs.internal.Making.{IsWithin}
-use Rattle.jt_machine.specs.InstructionSteps.{make, made, with_state, values_at, below}
-use Rattle.jt_machine.specs.View.{budget_view, config_view}
+use Rattle.jt_machine.proofs.Vocabulary.{mapped, with_entries, below, values_at, with_state, budget_view, config_view}
+use Rattle.std.proofs.Common.{◌∙◌, refl}
 use Rattle.jt_machine.proofs.AllocationPoints.{lost}
 use Rattle.jt_machine.proofs.PoppedValues.{makes_of}
 use Rattle.jt_machine.proofs.MapSize.{within_texts, within_goes_on}
@@ -22,49 +18,26 @@ returns-in-Some-map_refusal c =
     let e = with_state d (with_entries d.machine.state (below c.args.count d.machine.state.entries)) in
     c.in_default.ensures.rest mapped ∙ (rw c.top_entries.ensures at (c.in-Some-map_refusal.ensures.ends e refl))
 
-pub returns-in_err-values : goal.returns-in_err-values
-returns-in_err-values c =
-    let n = c.args.count in
-    let d = config_view c.charge_for_values.new.state in
-    let e = with_state d (with_entries d.machine.state (below n d.machine.state.entries)) in
-    let fits : IsWithin (budget_view c.charge_for_values.new.state.left) (mapped (values_at n d.machine.state.entries))
-    = rw c.top_entries.ensures at c.in_default-map_refusal.ensures.fits in
-    let is : make n mapped (config_view c.args.state.now) ≡ made n mapped d = c.in_default.ensures.rest mapped in
-    lost _ _ _ c.from_residual.result c.from_residual.ensures.1
-    (rw is (within_goes_on (mapped (values_at n d.machine.state.entries)) e fits))
-
-pub map_of-requires : goal.map_of-requires
-map_of-requires c =
-    let n = c.args.count in
-    let d = config_view c.charge_for_values.new.state in
-    let fits : IsWithin (budget_view c.charge_for_values.new.state.left) (mapped (values_at n d.machine.state.entries))
-    = rw c.top_entries.ensures at c.in_default-map_refusal.ensures.fits in
-    within_texts (budget_view c.charge_for_values.new.state.left) (map view c.in_ok-values.values.items)
-    (rw c.in_ok-values.ensures.values at fits)
+pub map_on_top-requires-clause-texts : goal.map_on_top-requires-clause-texts
+map_on_top-requires-clause-texts c =
+    let es = c.charge_for_values.new.state.stack.running in
+    within_texts (budget_view c.charge_for_values.new.state.left) (values_at c.args.count es)
+    (rw c.top_entries.ensures at c.in_default-map_refusal.ensures.fits)
 
 pub returns-in_err-map : goal.returns-in_err-map
 returns-in_err-map c =
     let n = c.args.count in
     let d = config_view c.charge_for_values.new.state in
     let e = with_state d (with_entries d.machine.state (below n d.machine.state.entries)) in
-    let fits : IsWithin (budget_view c.charge_for_values.new.state.left) (mapped (values_at n d.machine.state.entries))
-    = rw c.top_entries.ensures at c.in_default-map_refusal.ensures.fits in
-    let is : make n mapped (config_view c.args.state.now) ≡ made n mapped d = c.in_default.ensures.rest mapped in
-    lost _ _ _ c.from_residual-in_err-map.result c.from_residual-in_err-map.ensures.1
-    (rw is (within_goes_on (mapped (values_at n d.machine.state.entries)) e fits))
+    lost _ _ _ c.from_residual.result c.from_residual.ensures.1 (rw (c.in_default.ensures.rest mapped)
+    (within_goes_on (mapped (values_at n d.machine.state.entries)) e
+    (rw c.top_entries.ensures at c.in_default-map_refusal.ensures.fits)))
 
 pub push_checked-requires-clause-fits : goal.push_checked-requires-clause-fits
 push_checked-requires-clause-fits c =
-    let n = c.args.count in
-    let d = config_view c.charge_for_values.new.state in
-    let fits : IsWithin (budget_view c.charge_for_values.new.state.left) (mapped (values_at n d.machine.state.entries))
-    = rw c.top_entries.ensures at c.in_default-map_refusal.ensures.fits in
-    rw (c.in_ok-values.ensures.values, c.in_ok-map.ensures) at fits
+    rw (c.top_entries.ensures, c.in_ok-map.ensures.map) at c.in_default-map_refusal.ensures.fits
 
 pub returns : goal.returns
 returns c =
-    let n = c.args.count in
-    let d = config_view c.charge_for_values.new.state in
-    let is : make n mapped (config_view c.args.state.now) ≡ made n mapped d = c.in_default.ensures.rest mapped in
-    rw (is, c.in_ok-values.ensures.values, c.in_ok-map.ensures)
-    (rw c.in_ok-values.ensures.taken at c.push_checked.ensures)
+    rw (c.in_default.ensures.rest mapped, c.in_ok-map.ensures.map)
+    (rw c.in_ok-map.ensures.taken at c.push_checked.ensures)

@@ -1,6 +1,5 @@
+use Rattle.jt_machine.proofs.Vocabulary.{op_operands, HasValues}
 use Rattle.std.proofs.Common.{◌≡◌, ℕ, subst, arith}
-use Rattle.jt_ids.specs.OpTable.{op_operands}
-use Rattle.jt_machine.specs.View.{HasValues}
 use Rattle.jt_machine.proofs.aggregates.operated.Goals as goal
 
 pub pop_one-operand-requires : goal.pop_one-operand-requires

@@ -1,6 +1,6 @@
+use Rattle.jt_machine.proofs.Vocabulary.{view}
 use Rattle.std.proofs.Common.{◌≡◌, ◌∙◌, ◌-◌, ◌+◌, suc, map, reverse, arith}
 use Rattle.jt_machine.proofs.MapEntries.{map-reverse}
-use Rattle.jt_value.specs.View.{view}
 use Rattle.jt_machine.proofs.PoppedValues.{more_is, one_taken, none_left, pushed, values_are}
 use Rattle.jt_machine.proofs.aggregates.take_values.Goals as goal
 

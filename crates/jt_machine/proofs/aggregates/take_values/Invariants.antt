@@ -1,6 +1,5 @@
+use Rattle.jt_machine.proofs.Vocabulary.{values_on, view}
 use Rattle.std.proofs.Common.{◌≡◌, ◌-◌, map, reverse}
-use Rattle.jt_value.specs.View.{view}
-use Rattle.jt_machine.specs.View.{values_on}
 use Rattle.jt_machine.proofs.PoppedValues.{found}
 use Rattle.jt_machine.proofs.aggregates.take_values.Given as goal
 

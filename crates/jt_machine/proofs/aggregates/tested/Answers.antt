@@ -1,5 +1,5 @@
+use Rattle.jt_machine.proofs.Vocabulary.{HasValues}
 use Rattle.std.proofs.Common.{◌≡◌, ℕ, subst}
-use Rattle.jt_machine.specs.View.{HasValues}
 use Rattle.jt_machine.proofs.aggregates.tested.Goals as goal
 
 pub pop_one-value-requires : goal.pop_one-value-requires

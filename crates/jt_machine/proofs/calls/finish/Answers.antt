@@ -1,8 +1,6 @@
+use Rattle.jt_machine.proofs.Vocabulary.{Caller, config_view, outer_view, caller_view, string_bytes}
 use Rattle.std.proofs.Common.{◌≡◌, ◌∙◌, [], ◌∷◌, List, ap, sym, refl, length, arith}
-use Rattle.std.specs.Prelude.{string_bytes}
-use Rattle.jt_image.specs.Config.{Caller}
-use Rattle.jt_machine.specs.internal.StackView.{caller_view}
-use Rattle.jt_machine.specs.View.{config_view, outer_view, given_view}
+use Rattle.jt_machine.specs.View.{given_view}
 use Rattle.jt_machine.proofs.ReturnCorrect.{return_back, return_ends, back_same}
 use Rattle.jt_machine.proofs.calls.finish.Goals as goal
 

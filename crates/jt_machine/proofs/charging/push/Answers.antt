@@ -1,6 +1,4 @@
-use Rattle.jt_value.specs.View.{view}
-use Rattle.jt_machine.specs.InstructionSteps.{step_on}
-use Rattle.jt_machine.specs.View.{limit_view, config_view}
+use Rattle.jt_machine.proofs.Vocabulary.{step_on, config_view, limit_view, view}
 use Rattle.jt_machine.proofs.StepLemmas.{push_spent}
 use Rattle.jt_machine.proofs.charging.push.Goals as goal
 

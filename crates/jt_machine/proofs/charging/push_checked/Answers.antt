@@ -1,7 +1,5 @@
+use Rattle.jt_machine.proofs.Vocabulary.{step_on, config_view, view}
 use Rattle.std.proofs.Common.{sym}
-use Rattle.jt_value.specs.View.{view}
-use Rattle.jt_machine.specs.InstructionSteps.{step_on}
-use Rattle.jt_machine.specs.View.{config_view}
 use Rattle.jt_machine.proofs.AllocationPoints.{lost}
 use Rattle.jt_machine.proofs.StepLemmas.{push_fits, push_goes_on}
 use Rattle.jt_machine.proofs.charging.push_checked.Goals as goal

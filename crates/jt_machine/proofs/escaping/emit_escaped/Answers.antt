@@ -1,8 +1,6 @@
-use Rattle.std.proofs.Common.{◌≡◌, ℕ, ◌+◌, ◌<◌, length}
-use Rattle.std.proofs.Common.{arith, rules}
-use Rattle.std.proofs.lemmas.List.{take_all}
+use Rattle.jt_machine.proofs.Vocabulary.{escaped, take_all}
+use Rattle.std.proofs.Common.{◌≡◌, ℕ, ◌+◌, ◌<◌, length, arith, rules}
 use Rattle.jt_budget.specs.declared.budget.Budget.{Budget}
-use Rattle.jt_escape.specs.Escaping.{escaped}
 use Rattle.jt_escape.proofs.EscapedPrefix.{escaped_front}
 use Rattle.jt_machine.proofs.EscapedLength.{taken_more}
 use Rattle.jt_machine.proofs.escaping.emit_escaped.Goals as goal

@@ -1,5 +1,5 @@
+use Rattle.jt_machine.proofs.Vocabulary.{escaped}
 use Rattle.std.proofs.Common.{◌≡◌, ◌+◌, length, take}
-use Rattle.jt_escape.specs.Escaping.{escaped}
 use Rattle.jt_machine.proofs.escaping.emit_escaped.Given as goal
 
 abbrev pub invariant-bytes : goal.invariant-bytes

@@ -1,6 +1,5 @@
+use Rattle.jt_machine.proofs.Vocabulary.{escaped, take_all}
 use Rattle.std.proofs.Common.{◌∙◌, ◌<◌, ◌≤◌, List, ℕ, length, ap, arith}
-use Rattle.std.proofs.lemmas.List.{take_all}
-use Rattle.jt_escape.specs.Escaping.{escaped}
 use Rattle.jt_machine.proofs.EscapedLength.{taken_more}
 use Rattle.jt_machine.proofs.escaping.escaped_size.Goals as goal
 

@@ -1,7 +1,5 @@
+use Rattle.jt_machine.proofs.Vocabulary.{escaped_more, escaped, escaped_byte, take_all, take_more}
 use Rattle.std.proofs.Common.{◌≡◌, ◌∙◌, ℕ, ◌+◌, ◌<◌, ◌≤◌, List, [], ◌∷◌, ◌++◌, length, get_or, take, sym, ap, refl}
-use Rattle.std.proofs.lemmas.List.{take_all, take_more}
-use Rattle.jt_escape.specs.Escaping.{escaped, escaped_byte}
-use Rattle.jt_escape.proofs.EscapedPrefix.{escaped_more}
 use Rattle.jt_machine.proofs.escaping.is_plain.Goals as goal
 
 -- A text that needs no escaping needs none with one more byte of this kind.

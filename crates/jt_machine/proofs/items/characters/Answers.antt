@@ -1,10 +1,8 @@
+use Rattle.jt_machine.proofs.Vocabulary.{text, items_of, view, take_all, chars}
 use Rattle.std.proofs.Common.{◌≡◌, ◌∙◌, ◌+◌, ◌++◌, ◌∷◌, [], length, map, ap, arith}
 use Rattle.std.proofs.lemmas.Iterator.{YieldsList-from_chars}
 use Rattle.std.proofs.lemmas.Iterator.Consumers.{YieldsList-turn, YieldsList-end}
-use Rattle.std.proofs.lemmas.List.{take_all, length_push}
-use Rattle.std.specs.Str.{chars}
-use Rattle.jt_value.specs.Tree.{text}
-use Rattle.jt_value.specs.View.{view, items_of}
+use Rattle.std.proofs.lemmas.List.{length_push}
 use Rattle.jt_machine.proofs.StepLemmas.{mapped-more, character_of, characters-are}
 use Rattle.jt_machine.proofs.items.characters.Goals as goal
 

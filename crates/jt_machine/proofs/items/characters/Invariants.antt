@@ -1,6 +1,5 @@
+use Rattle.jt_machine.proofs.Vocabulary.{view, chars}
 use Rattle.std.proofs.Common.{◌≡◌, length, map, take}
-use Rattle.std.specs.Str.{chars}
-use Rattle.jt_value.specs.View.{view}
 use Rattle.jt_machine.proofs.StepLemmas.{character_of}
 use Rattle.jt_machine.proofs.items.characters.Given as goal
 

@@ -1,6 +1,6 @@
+use Rattle.jt_machine.proofs.Vocabulary.{view}
 use Rattle.std.proofs.Common.{ap, ◌∙◌}
 use Rattle.jt_value.specs.ListItems.{listed}
-use Rattle.jt_value.specs.View.{view}
 use Rattle.jt_machine.proofs.UnpackCorrect.{list_counted, map_counted, text_counted, markup_counted}
 use Rattle.jt_machine.proofs.items.count_of.Goals as goal
 

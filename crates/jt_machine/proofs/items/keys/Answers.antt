@@ -1,7 +1,5 @@
+use Rattle.jt_machine.proofs.Vocabulary.{text, items_of, view, take_all}
 use Rattle.std.proofs.Common.{◌∙◌, map, ap}
-use Rattle.std.proofs.lemmas.List.{take_all}
-use Rattle.jt_value.specs.Tree.{text}
-use Rattle.jt_value.specs.View.{view, items_of}
 use Rattle.jt_value.specs.declared.value.Value.TheVariants as value
 use Rattle.jt_machine.proofs.StepLemmas.{mapped-more, key_of, keys-are}
 use Rattle.jt_machine.proofs.items.keys.Goals as goal

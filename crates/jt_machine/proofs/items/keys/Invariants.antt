@@ -1,5 +1,5 @@
+use Rattle.jt_machine.proofs.Vocabulary.{view}
 use Rattle.std.proofs.Common.{◌≡◌, map, take}
-use Rattle.jt_value.specs.View.{view}
 use Rattle.jt_machine.proofs.StepLemmas.{key_of}
 use Rattle.jt_machine.proofs.items.keys.Given as goal
 

@@ -1,6 +1,5 @@
-use Rattle.std.proofs.Common.{arith}
-use Rattle.jt_machine.proofs.StepLemmas.{within}
+use Rattle.jt_machine.proofs.Vocabulary.{view}
 use Rattle.jt_machine.proofs.limits.exceeded_limit.Goals as goal
 
-pub returns-in-Ok : goal.returns-in-Ok
-returns-in-Ok c = grind (arith, within)
+pub returns : goal.returns
+returns c = c.limit_by.ensures (view c.args.value.now) c.size.ensures c.nesting.ensures

@@ -1,7 +1,6 @@
+use Rattle.jt_machine.proofs.Vocabulary.{all_held, items_of}
 use Rattle.std.proofs.Common.{arith}
 use Rattle.jt_value.specs.Tree as tree
-use Rattle.jt_value.specs.View.{items_of}
-use Rattle.jt_machine.specs.Entries.{all_held}
 use Rattle.jt_machine.proofs.limits.list_limit.Goals as goal
 
 pub returns : goal.returns

@@ -1,9 +1,6 @@
+use Rattle.jt_machine.proofs.Vocabulary.{put_entries, all_held, budget_view, no_entries}
 use Rattle.std.proofs.Common.{arith}
 use Rattle.jt_value.specs.Tree as tree
-use Rattle.jt_value.specs.Tree.{no_entries}
-use Rattle.jt_image.specs.Step.{put_entries}
-use Rattle.jt_machine.specs.Entries.{all_held}
-use Rattle.jt_machine.specs.View.{budget_view}
 use Rattle.jt_machine.proofs.MapSize.{map_size, map_nesting, map_within}
 use Rattle.jt_machine.proofs.limits.map_limit.Goals as goal
 

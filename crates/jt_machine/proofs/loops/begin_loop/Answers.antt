@@ -1,5 +1,5 @@
+use Rattle.jt_machine.proofs.Vocabulary.{view}
 use Rattle.std.proofs.Common.{map}
-use Rattle.jt_value.specs.View.{view}
 use Rattle.jt_machine.proofs.StepLemmas.{trees-items}
 use Rattle.jt_machine.proofs.loops.begin_loop.Goals as goal
 

@@ -1,6 +1,5 @@
-use Rattle.std.specs.Prelude.{slice_get}
+use Rattle.jt_machine.proofs.Vocabulary.{frame_view, slice_get}
 use Rattle.jt_image.specs.Loops.{loop_field_value}
-use Rattle.jt_machine.specs.Entries.{frame_view}
 use Rattle.jt_machine.proofs.StepLemmas.{framed_is}
 use Rattle.jt_machine.proofs.loops.get_field.Goals as goal
 

@@ -1,5 +1,4 @@
-use Rattle.jt_value.specs.View.{view}
-use Rattle.jt_machine.specs.Entries.{values_view}
+use Rattle.jt_machine.proofs.Vocabulary.{values_view, view}
 use Rattle.jt_machine.proofs.StepLemmas.{item_is, item_none}
 use Rattle.jt_machine.proofs.loops.item_after.Goals as goal
 

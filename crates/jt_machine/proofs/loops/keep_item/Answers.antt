@@ -1,4 +1,4 @@
-use Rattle.std.specs.Prelude.{slice_get}
+use Rattle.jt_machine.proofs.Vocabulary.{slice_get}
 use Rattle.jt_machine.proofs.AllocationPoints.{lost}
 use Rattle.jt_machine.proofs.StepLemmas.{framed_is}
 use Rattle.jt_machine.proofs.loops.keep_item.Goals as goal

@@ -1,7 +1,5 @@
+use Rattle.jt_machine.proofs.Vocabulary.{Ends, Goes, after, next, ComesToGrow, config_view, outcome_view}
 use Rattle.std.proofs.Common.{◌≡◌, ◌∙◌, ℕ, ◌-◌, ◌<◌, refl, ap, arith}
-use Rattle.jt_image.specs.Run.{next, Goes, Ends, after}
-use Rattle.jt_machine.specs.Growing.{ComesToGrow}
-use Rattle.jt_machine.specs.View.{config_view, outcome_view}
 use Rattle.jt_machine.proofs.FastPathCorrect.{slice_gone, slice_on, underway_gone}
 use Rattle.jt_machine.proofs.DrainedOutput.{on_err}
 use Rattle.jt_machine.proofs.StepLemmas.{reached_sound}

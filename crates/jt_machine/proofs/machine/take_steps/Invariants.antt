@@ -1,8 +1,5 @@
+use Rattle.jt_machine.proofs.Vocabulary.{Goes, after, AreCached, IsReached, config_view}
 use Rattle.std.proofs.Common.{◌≡◌, ◌≤◌, ◌-◌}
-use Rattle.jt_image.specs.Run.{Goes, after}
-use Rattle.jt_machine.specs.StageView.{IsReached}
-use Rattle.jt_machine.specs.ConstantCache.{AreCached}
-use Rattle.jt_machine.specs.View.{config_view}
 use Rattle.jt_machine.proofs.machine.take_steps.Given as goal
 
 abbrev pub invariant-steps : goal.invariant-steps

@@ -1,7 +1,6 @@
+use Rattle.jt_machine.proofs.Vocabulary.{upward, view, reverse-reverse}
 use Rattle.std.proofs.Common.{◌≡◌, ◌∙◌, map, reverse, sym, ap, refl}
-use Rattle.std.proofs.lemmas.List.{reverse-reverse}
-use Rattle.jt_value.specs.View.{view, entries_view}
-use Rattle.jt_machine.specs.internal.Making.{upward}
+use Rattle.jt_value.specs.View.{entries_view}
 use Rattle.jt_machine.proofs.MapEntries.{map-reverse}
 use Rattle.jt_machine.proofs.maps.entries_of.Goals as goal
 

@@ -1,8 +1,7 @@
+use Rattle.jt_machine.proofs.Vocabulary.{put_entries, upward, no_entries, view}
 use Rattle.std.proofs.Common.{◌≡◌, length, map}
-use Rattle.jt_value.specs.Tree.{no_entries}
-use Rattle.jt_value.specs.View.{view, entries_view}
-use Rattle.jt_image.specs.Step.{put_entries}
-use Rattle.jt_machine.specs.internal.Making.{upward, HasTextKeys}
+use Rattle.jt_value.specs.View.{entries_view}
+use Rattle.jt_machine.specs.internal.Making.{HasTextKeys}
 use Rattle.jt_machine.proofs.maps.entries_of.Given as goal
 
 abbrev pub invariant-pairs : goal.invariant-pairs

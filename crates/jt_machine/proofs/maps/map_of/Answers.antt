@@ -1,7 +1,7 @@
+use Rattle.jt_machine.proofs.Vocabulary.{Tree, view}
 use Rattle.std.proofs.Common.{◌≡◌, map, ap, rules, sym, ◌∙◌, Ok}
+use Rattle.jt_value.specs.View.{entries_view}
 use Rattle.jt_value.specs.Tree as tree
-use Rattle.jt_value.specs.Tree.{Tree}
-use Rattle.jt_value.specs.View.{view, entries_view}
 use Rattle.jt_machine.proofs.MapUnlessKeyFault.{mapped_is}
 use Rattle.jt_machine.proofs.ReturnCorrect.{if_ok_map}
 use Rattle.jt_machine.proofs.maps.map_of.Goals as goal

@@ -1,6 +1,5 @@
+use Rattle.jt_machine.proofs.Vocabulary.{all_held, budget_view, limit_view}
 use Rattle.std.proofs.Common.{sym}
-use Rattle.jt_machine.specs.Entries.{all_held}
-use Rattle.jt_machine.specs.View.{budget_view, limit_view}
 use Rattle.jt_machine.proofs.MapSize.{fault_ends, spent_ends, texts_within}
 use Rattle.jt_machine.proofs.maps.map_refusal.Goals as goal
 

@@ -1,7 +1,6 @@
+use Rattle.jt_machine.proofs.Vocabulary.{all_held, lasting_nesting, lasting_size}
 use Rattle.std.proofs.Common.{◌∙◌, ◌-◌, List, length, take, drop, min, sym, ap}
 use Rattle.jt_machine.specs.declared.entries.StackEntry.{StackEntry}
-use Rattle.jt_machine.specs.Entries.{all_held}
-use Rattle.jt_machine.specs.internal.Making.{lasting_size, lasting_nesting}
 use Rattle.jt_machine.proofs.TopValues.{pairs_are}
 use Rattle.jt_machine.proofs.measure.+lasting.Goals as goal
 

@@ -1,7 +1,5 @@
+use Rattle.jt_machine.proofs.Vocabulary.{all_held, items_nesting, items_of}
 use Rattle.std.proofs.Common.{◌≡◌, ◌-◌, ◌^◌, min, take}
-use Rattle.jt_value.specs.Tree.{items_nesting}
-use Rattle.jt_value.specs.View.{items_of}
-use Rattle.jt_machine.specs.Entries.{all_held}
 use Rattle.jt_machine.proofs.measure.deepest.Given as goal
 
 abbrev pub invariant-entries : goal.invariant-entries

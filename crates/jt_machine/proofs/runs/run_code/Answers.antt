@@ -1,11 +1,6 @@
+use Rattle.jt_machine.proofs.Vocabulary.{Caller, Ends, Goes, next, passed, start, AreCached, ComesToGrow, budget_view}
+use Rattle.jt_machine.proofs.Vocabulary.{config_view, outcome_view, pairs_of, Value}
 use Rattle.std.proofs.Common.{◌≡◌, ◌∙◌, sym, refl, ap, inl, inr, None, List, length, arith, ℕ, subst}
-use Rattle.jt_value.specs.ContextView.{pairs_of}
-use Rattle.jt_value.specs.declared.value.Value.{Value}
-use Rattle.jt_image.specs.Config.{Caller}
-use Rattle.jt_image.specs.Run.{next, Goes, Ends, passed, start}
-use Rattle.jt_machine.specs.ConstantCache.{AreCached}
-use Rattle.jt_machine.specs.View.{budget_view, config_view, outcome_view}
-use Rattle.jt_machine.specs.Growing.{ComesToGrow}
 use Rattle.jt_machine.proofs.DrainedOutput.{ends_at, on_err}
 use Rattle.jt_machine.proofs.FastPathCorrect.{gone_sound, reached_gone}
 use Rattle.jt_machine.proofs.StepLemmas.{reached_next}

@@ -1,5 +1,5 @@
+use Rattle.jt_machine.proofs.Vocabulary.{nat_tests}
 use Rattle.std.proofs.Common.{◌≡◌, ◌∙◌, length, sym, arith}
-use Rattle.std.proofs.lemmas.Bool.Decides.{nat_tests}
 use Rattle.jt_machine.proofs.SinkWrites.{none_taken, goes_on, front_taken, all_taken}
 use Rattle.jt_machine.proofs.DrainedOutput.{on_err}
 use Rattle.jt_machine.proofs.sink.put_all.Goals as goal

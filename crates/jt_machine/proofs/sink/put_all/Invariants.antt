@@ -1,5 +1,5 @@
+use Rattle.jt_machine.proofs.Vocabulary.{TookTo}
 use Rattle.std.proofs.Common.{◌≡◌, false, length}
-use Rattle.jt_machine.specs.Sinks.{TookTo}
 use Rattle.jt_machine.proofs.sink.put_all.Given as goal
 
 abbrev pub invariant-pieces : goal.invariant-pieces

@@ -1,6 +1,5 @@
+use Rattle.jt_machine.proofs.Vocabulary.{budget_view, pairs_of}
 use Rattle.std.proofs.Common.{sym}
-use Rattle.jt_machine.specs.View.{budget_view}
-use Rattle.jt_value.specs.ContextView.{pairs_of}
 use Rattle.jt_machine.proofs.StepLemmas.{passed_at}
 use Rattle.jt_machine.proofs.start.context_limit.Goals as goal
 

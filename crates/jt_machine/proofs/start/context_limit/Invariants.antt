@@ -1,7 +1,5 @@
+use Rattle.jt_machine.proofs.Vocabulary.{passed, budget_view, pairs_of}
 use Rattle.std.proofs.Common.{◌≡◌, drop}
-use Rattle.jt_value.specs.ContextView.{pairs_of}
-use Rattle.jt_image.specs.Run.{passed}
-use Rattle.jt_machine.specs.View.{budget_view}
 use Rattle.jt_machine.proofs.start.context_limit.Given as goal
 
 abbrev pub invariant-names : goal.invariant-names

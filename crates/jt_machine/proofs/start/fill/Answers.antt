@@ -1,5 +1,4 @@
-use Rattle.jt_value.specs.View.{view}
-use Rattle.std.proofs.lemmas.List.{map-set}
+use Rattle.jt_machine.proofs.Vocabulary.{view, map-set}
 use Rattle.jt_machine.proofs.start.fill.Goals as goal
 
 pub returns-then-slot-len : goal.returns-then-slot-len

@@ -1,9 +1,7 @@
+use Rattle.jt_machine.proofs.Vocabulary.{values_view, pairs_of, replicate}
 use Rattle.std.proofs.Common.{◌≡◌, drop}
-use Rattle.std.specs.Prelude.{replicate}
-use Rattle.jt_value.specs.Tree as tree
-use Rattle.jt_value.specs.ContextView.{pairs_of}
 use Rattle.jt_image.specs.Run.{filled}
-use Rattle.jt_machine.specs.Entries.{values_view}
+use Rattle.jt_value.specs.Tree as tree
 use Rattle.jt_machine.proofs.start.globals_of.Given as goal
 
 abbrev pub invariant-names : goal.invariant-names

@@ -1,7 +1,6 @@
+use Rattle.jt_machine.proofs.Vocabulary.{values_view, replicate}
 use Rattle.std.proofs.Common.{◌≡◌}
-use Rattle.std.specs.Prelude.{replicate}
 use Rattle.jt_value.specs.Tree as tree
-use Rattle.jt_machine.specs.Entries.{values_view}
 use Rattle.jt_machine.proofs.start.undefined_values.Given as goal
 
 abbrev pub invariant-values : goal.invariant-values

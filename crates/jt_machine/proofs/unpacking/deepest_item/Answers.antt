@@ -1,9 +1,6 @@
+use Rattle.jt_machine.proofs.Vocabulary.{greatest, nesting, view, min}
 use Rattle.std.proofs.Common.{◌≡◌, ◌-◌, ◌^◌, ap, ◌∙◌}
-use Rattle.std.specs.Prelude.{min}
 use Rattle.jt_value.specs.ListItems.{listed}
-use Rattle.jt_value.specs.Tree.{nesting}
-use Rattle.jt_value.specs.View.{view}
-use Rattle.jt_image.specs.Step.{greatest}
 use Rattle.jt_machine.proofs.UnpackCorrect.{listed_trees}
 use Rattle.jt_machine.proofs.unpacking.deepest_item.Goals as goal
 

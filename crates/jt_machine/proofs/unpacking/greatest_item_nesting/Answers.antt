@@ -1,10 +1,6 @@
+use Rattle.jt_machine.proofs.Vocabulary.{trees_of, greatest, Tree, nesting, view, min}
 use Rattle.std.proofs.Common.{◌-◌, ◌^◌, List, map, ap, sym, ◌∙◌}
-use Rattle.std.specs.Prelude.{min}
 use Rattle.jt_value.specs.ListItems.{listed}
-use Rattle.jt_value.specs.Tree.{Tree, nesting}
-use Rattle.jt_value.specs.View.{view}
-use Rattle.jt_image.specs.Loops.{trees_of}
-use Rattle.jt_image.specs.Step.{greatest}
 use Rattle.jt_machine.proofs.StepLemmas.{trees-items}
 use Rattle.jt_machine.proofs.unpacking.greatest_item_nesting.Goals as goal
 

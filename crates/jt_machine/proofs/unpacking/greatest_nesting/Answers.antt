@@ -1,5 +1,5 @@
+use Rattle.jt_machine.proofs.Vocabulary.{nesting}
 use Rattle.std.proofs.Common.{arith}
-use Rattle.jt_value.specs.Tree.{nesting}
 use Rattle.jt_machine.proofs.StepLemmas.{greatest-more}
 use Rattle.jt_machine.proofs.unpacking.greatest_nesting.Goals as goal
 

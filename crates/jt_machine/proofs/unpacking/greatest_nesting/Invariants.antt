@@ -1,8 +1,6 @@
+use Rattle.jt_machine.proofs.Vocabulary.{greatest, values_view, min}
 use Rattle.std.proofs.Common.{◌≡◌, ◌-◌, ◌^◌, take}
-use Rattle.std.specs.Prelude.{min}
 use Rattle.jt_value.specs.Tree as tree
-use Rattle.jt_image.specs.Step.{greatest}
-use Rattle.jt_machine.specs.Entries.{values_view}
 use Rattle.jt_machine.proofs.unpacking.greatest_nesting.Given as goal
 
 abbrev pub invariant-values : goal.invariant-values

@@ -1,10 +1,6 @@
+use Rattle.jt_machine.proofs.Vocabulary.{piled, upward, Tree, view, reverse-reverse}
 use Rattle.std.proofs.Common.{◌≡◌, ◌∙◌, List, map, reverse, refl, ap}
-use Rattle.std.proofs.lemmas.List.{reverse-reverse}
 use Rattle.jt_machine.proofs.MapEntries.{map-reverse}
-use Rattle.jt_value.specs.Tree.{Tree}
-use Rattle.jt_value.specs.View.{view}
-use Rattle.jt_image.specs.Step.{piled}
-use Rattle.jt_machine.specs.internal.Making.{upward}
 use Rattle.jt_machine.proofs.unpacking.push_all.Goals as goal
 
 pub values-init : goal.values-init

@@ -1,7 +1,5 @@
+use Rattle.jt_machine.proofs.Vocabulary.{piled, values_view, upward}
 use Rattle.std.proofs.Common.{◌≡◌, length}
-use Rattle.jt_image.specs.Step.{piled}
-use Rattle.jt_machine.specs.Entries.{values_view}
-use Rattle.jt_machine.specs.internal.Making.{upward}
 use Rattle.jt_machine.proofs.unpacking.push_all.Given as goal
 
 abbrev pub invariant-values : goal.invariant-values

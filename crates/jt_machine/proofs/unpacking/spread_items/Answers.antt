@@ -1,7 +1,5 @@
+use Rattle.jt_machine.proofs.Vocabulary.{config_view, items_of_tree, view}
 use Rattle.std.proofs.Common.{refl}
-use Rattle.jt_value.specs.View.{view}
-use Rattle.jt_value.specs.Iteration.{items_of_tree}
-use Rattle.jt_machine.specs.View.{config_view}
 use Rattle.jt_machine.proofs.UnpackCorrect.{items_put}
 use Rattle.jt_machine.proofs.unpacking.spread_items.Goals as goal
 

@@ -1,4 +1,4 @@
-use Rattle.std.proofs.lemmas.Result.{err_from_is_err_and}
+use Rattle.jt_machine.proofs.Vocabulary.{err_from_is_err_and}
 use Rattle.jt_machine.proofs.writing.drain.Goals as goal
 
 pub returns-in_err-put_all-clause-put : goal.returns-in_err-put_all-clause-put

@@ -1,9 +1,6 @@
+use Rattle.jt_machine.proofs.Vocabulary.{prefixed, config_view, outer_view, on_ok_weaker, slice_set, string_bytes}
 use Rattle.std.proofs.Common.{◌∷◌, List, ℕ, ap, subst, sym, ◌∙◌}
-use Rattle.std.specs.Prelude.{string_bytes, slice_set}
-use Rattle.std.proofs.lemmas.Result.{on_ok_weaker}
-use Rattle.jt_machine.specs.Emitting.{prefixed}
 use Rattle.jt_machine.specs.Sinks.{HasPut}
-use Rattle.jt_machine.specs.View.{config_view, outer_view}
 use Rattle.jt_machine.proofs.DrainedOutput.{outer_is, outer_emptied, with_buffers}
 use Rattle.jt_machine.proofs.writing.send.Goals as goal
 

@@ -1,12 +1,6 @@
+use Rattle.jt_machine.proofs.Vocabulary.{Caller, Config, Ends, Goes, next, passed, start, AreCached, emitted_by}
+use Rattle.jt_machine.proofs.Vocabulary.{budget_view, config_view, outcome_view, pairs_of, Value, Appends-nil}
 use Rattle.std.proofs.Common.{◌≡◌, ◌∙◌, List, [], None, length, sym, refl, ap, inl, inr, arith, ℕ, subst}
-use Rattle.std.proofs.KnownBytes.{Appends-nil}
-use Rattle.jt_value.specs.ContextView.{pairs_of}
-use Rattle.jt_value.specs.declared.value.Value.{Value}
-use Rattle.jt_image.specs.Config.{Caller, Config}
-use Rattle.jt_image.specs.Run.{next, start, Goes, Ends, passed}
-use Rattle.jt_machine.specs.Emitting.{emitted_by}
-use Rattle.jt_machine.specs.ConstantCache.{AreCached}
-use Rattle.jt_machine.specs.View.{budget_view, config_view, outcome_view}
 use Rattle.jt_machine.proofs.FastPathCorrect.{found_same, gone_sent, so_far_gone}
 use Rattle.jt_machine.proofs.DrainedOutput.{nothing_yet, went_on, whole_run, cut_short, text_is, on_err}
 use Rattle.jt_machine.proofs.AllocationPoints.{if_err_given, so_far_grows}

@@ -1,7 +1,5 @@
+use Rattle.jt_machine.proofs.Vocabulary.{AreCached, budget_view, config_view, pairs_of}
 use Rattle.std.proofs.Common.{◌≡◌, ◌+◌, ◌<◌, ◌^◌, false, length}
-use Rattle.jt_value.specs.ContextView.{pairs_of}
-use Rattle.jt_machine.specs.ConstantCache.{AreCached}
-use Rattle.jt_machine.specs.View.{budget_view, config_view}
 use Rattle.jt_machine.proofs.DrainedOutput.{SoFar}
 use Rattle.jt_machine.proofs.writing.write_code.Given as goal
 

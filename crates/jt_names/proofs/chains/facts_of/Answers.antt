@@ -1,8 +1,5 @@
-use Rattle.std.proofs.Common.{List, sym, subst}
-use Rattle.jt_chains.specs.TemplateFiles.{files_view}
-use Rattle.jt_chains.specs.View.{its_templates}
 use Rattle.jt_chains.specs.declared.files.TemplateFile.{TemplateFile}
-use Rattle.jt_names.specs.FactsOfTemplates.{AreKnown}
+use Rattle.jt_names.proofs.Vocabulary.{List, sym, subst, files_view, its_templates, AreKnown}
 use Rattle.jt_names.proofs.chains.facts_of.Goals as goal
 
 pub facts_of_namespaces-requires : goal.facts_of_namespaces-requires

@@ -1,5 +1,4 @@
-use Rattle.std.proofs.Common.{◌≡◌, length}
-use Rattle.jt_names.specs.FactsOfChains.{EachKnown}
+use Rattle.jt_names.proofs.Vocabulary.{◌≡◌, length, EachKnown}
 use Rattle.jt_names.proofs.chains.facts_of_namespaces.Given as goal
 
 abbrev pub invariant-loop-namespace : goal.invariant-loop-namespace

@@ -1,5 +1,5 @@
-use Rattle.std.proofs.Common.{◌-◌, arith, Some}
-use Rattle.std.proofs.lemmas.Map.Text.{btree_map_updates_str}
+use Rattle.std.proofs.Common.{◌-◌}
+use Rattle.jt_names.proofs.Vocabulary.{arith, Some, btree_map_updates_str}
 use Rattle.jt_names.proofs.FirstDefinition.{defined_turn}
 use Rattle.jt_names.proofs.index.definitions_of.Goals as goal
 

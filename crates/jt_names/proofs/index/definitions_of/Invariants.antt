@@ -1,9 +1,5 @@
-use Rattle.std.proofs.Common.{◌≡◌, ◌≤◌, List, length, drop}
-use Rattle.std.specs.Prelude.{option_map}
-use Rattle.jt_ast.specs.Expressions.{Text}
-use Rattle.jt_chains.specs.Chain.{Template, Namespace, given_to}
-use Rattle.jt_chains.specs.Named.{given_view, names_view}
-use Rattle.jt_names.specs.Names.{value_in}
+use Rattle.jt_names.proofs.Vocabulary.{◌≡◌, ◌≤◌, List, length, drop, option_map, Text, Template, Namespace, given_to}
+use Rattle.jt_names.proofs.Vocabulary.{given_view, names_view, value_in}
 use Rattle.jt_names.proofs.index.definitions_of.Given as goal
 
 abbrev pub invariant-loop-left : goal.invariant-loop-left

@@ -1,6 +1,5 @@
-use Rattle.std.proofs.Common.{string_bytes, rules, tests}
-use Rattle.std.proofs.lemmas.Iterator.{YieldsList-from_slice, YieldsList-from_map_by}
-use Rattle.std.proofs.lemmas.Iterator.Consumers.{map_from_collect}
+use Rattle.jt_names.proofs.Vocabulary.{string_bytes, rules, tests, YieldsList-from_slice, YieldsList-from_map_by}
+use Rattle.jt_names.proofs.Vocabulary.{map_from_collect}
 use Rattle.jt_names.proofs.lists.names_of.Goals as goal
 
 pub returns : goal.returns

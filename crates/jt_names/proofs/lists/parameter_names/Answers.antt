@@ -1,7 +1,5 @@
-use Rattle.std.proofs.Common.{◌≡◌, subst, IfOk, string_bytes, rules, tests}
-use Rattle.std.proofs.lemmas.Iterator.{YieldsList-from_slice, YieldsList-from_map_by}
-use Rattle.std.proofs.lemmas.Iterator.Consumers.{map_from_collect}
-use Rattle.jt_ast.specs.Texts.{texts}
+use Rattle.jt_names.proofs.Vocabulary.{◌≡◌, subst, IfOk, string_bytes, rules, tests, YieldsList-from_slice}
+use Rattle.jt_names.proofs.Vocabulary.{YieldsList-from_map_by, map_from_collect, texts}
 use Rattle.jt_names.proofs.ListedNames.{their_names}
 use Rattle.jt_names.proofs.lists.parameter_names.Goals as goal
 

@@ -1,5 +1,4 @@
-use Rattle.std.proofs.Common.{◌≡◌, drop}
-use Rattle.jt_ast.specs.Texts.{all_inserted, texts}
+use Rattle.jt_names.proofs.Vocabulary.{◌≡◌, drop, all_inserted, texts}
 use Rattle.jt_names.proofs.ordered.add_names.Given as goal
 
 abbrev pub invariant-loop-name : goal.invariant-loop-name

@@ -1,8 +1,4 @@
-use Rattle.std.proofs.Common.{◌≡◌, drop}
-use Rattle.std.specs.List.{filter_map}
-use Rattle.jt_ast.specs.Texts.{all_inserted, texts}
-use Rattle.jt_uses.specs.UseView.{sites_view}
-use Rattle.jt_names.specs.internal.UsedNames.{name_used}
+use Rattle.jt_names.proofs.Vocabulary.{◌≡◌, drop, filter_map, all_inserted, texts, sites_view, name_used}
 use Rattle.jt_names.proofs.own.add_used.Given as goal
 
 abbrev pub invariant-loop-site : goal.invariant-loop-site

@@ -1,10 +1,8 @@
-use Rattle.std.proofs.Common.{List, ◌++◌, refl, sym, ap, ◌∙◌}
-use Rattle.std.proofs.lemmas.List.{at_drop_all, append-nil}
-use Rattle.jt_ast.specs.StatementView.{body_view, branches_view}
-use Rattle.jt_chains.specs.Uses.{set_by, set_in, set_under}
-use Rattle.jt_ast.specs.Texts.{texts}
+use Rattle.std.proofs.lemmas.List.{at_drop_all}
 use Rattle.jt_ast.proofs.RemainingParts.{Branch}
 use Rattle.jt_ast.proofs.CollectedLists.{branch_added, choice_added, statement_added}
+use Rattle.jt_names.proofs.Vocabulary.{List, ◌++◌, refl, sym, ap, ◌∙◌, append-nil, body_view, branches_view, set_by}
+use Rattle.jt_names.proofs.Vocabulary.{set_in, set_under, texts}
 use Rattle.jt_names.proofs.sets.+sets.Goals as goal
 
 pub add_sets-loop-statement-preserved : goal.add_sets-loop-statement-preserved

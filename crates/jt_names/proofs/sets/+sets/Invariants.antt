@@ -1,7 +1,4 @@
-use Rattle.std.proofs.Common.{◌≡◌, ◌++◌, drop}
-use Rattle.jt_ast.specs.StatementView.{body_view, branches_view}
-use Rattle.jt_chains.specs.Uses.{set_in, set_under}
-use Rattle.jt_ast.specs.Texts.{texts}
+use Rattle.jt_names.proofs.Vocabulary.{◌≡◌, ◌++◌, drop, body_view, branches_view, set_in, set_under, texts}
 use Rattle.jt_names.proofs.sets.+sets.Given as goal
 
 abbrev pub invariant-add_sets-loop-statement : goal.invariant-add_sets-loop-statement

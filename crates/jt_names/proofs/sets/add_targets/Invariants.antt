@@ -1,6 +1,5 @@
-use Rattle.std.proofs.Common.{◌≡◌, ◌++◌, drop}
 use Rattle.jt_ast.specs.StatementView.{names_view}
-use Rattle.jt_ast.specs.Texts.{texts}
+use Rattle.jt_names.proofs.Vocabulary.{◌≡◌, ◌++◌, drop, texts}
 use Rattle.jt_names.proofs.sets.add_targets.Given as goal
 
 abbrev pub invariant-loop-target : goal.invariant-loop-target

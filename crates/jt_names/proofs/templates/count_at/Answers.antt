@@ -1,12 +1,6 @@
 use borrow.Author.Tests.{ltb-true}
-use Rattle.std.proofs.Common.{◌≡◌, List, length, sym, ap, ◌∙◌, arith}
-use Rattle.std.proofs.lemmas.List.{length-map}
-use denote.Ref.{Bor}
-use Rattle.jt_ast.specs.Expressions.{Text}
-use Rattle.jt_ast.specs.Texts.{ascending}
-use Rattle.jt_chains.specs.Along.{body_at}
-use Rattle.jt_chains.specs.Uses.{body_names}
-use Rattle.jt_uses.specs.Uses.{Site}
+use Rattle.jt_names.proofs.Vocabulary.{◌≡◌, List, length, sym, ap, ◌∙◌, arith, length-map, Bor, Text, ascending}
+use Rattle.jt_names.proofs.Vocabulary.{body_at, body_names, Site}
 use Rattle.jt_names.proofs.FactsOfTemplatesCorrect.{facts_at, nothing_at}
 use Rattle.jt_names.proofs.templates.count_at.Goals as goal
 

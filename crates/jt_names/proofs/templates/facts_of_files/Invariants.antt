@@ -1,6 +1,4 @@
-use Rattle.std.proofs.Common.{◌≡◌, ◌++◌, drop, map}
-use Rattle.jt_chains.specs.TemplateFiles.{files_view}
-use Rattle.jt_names.specs.FactsOfTemplates.{known_of, facts_in}
+use Rattle.jt_names.proofs.Vocabulary.{◌≡◌, ◌++◌, drop, map, files_view, known_of, facts_in}
 use Rattle.jt_names.proofs.templates.facts_of_files.Given as goal
 
 abbrev pub invariant-loop-file : goal.invariant-loop-file

@@ -1,8 +1,5 @@
-use Rattle.std.proofs.Common.{◌≡◌, length, arith, rules}
-use Rattle.std.proofs.lemmas.List.{length-map}
-use Rattle.jt_chains.specs.Indices.{index_of}
 use Rattle.jt_chains.specs.TemplateFiles.{file_view}
-use Rattle.jt_chains.specs.View.{its_templates}
+use Rattle.jt_names.proofs.Vocabulary.{◌≡◌, length, arith, rules, length-map, index_of, its_templates}
 use Rattle.jt_names.proofs.LibraryNames.{missing}
 use Rattle.jt_names.proofs.templates.is_missing.Goals as goal
 

@@ -1,36 +1,34 @@
-use Rattle.std.proofs.Common.{◌≡◌, ℕ, ◌+◌, List, [], length, drop, sym, ap, ◌∙◌, subst, arith}
-use Rattle.std.proofs.Common.{add-one, Some, None}
+use Rattle.std.proofs.lemmas.List.{drop_all}
+use Rattle.std.proofs.Common.{◌≡◌, ℕ, ◌+◌, [], length, drop, sym, ap, ◌∙◌, subst, arith}
+use Rattle.std.proofs.Common.{add-one, Some}
 use Rattle.std.specs.Prelude.{option_map}
-use Rattle.std.proofs.lemmas.List.{at_drop_all}
 use Rattle.std.proofs.lemmas.Result.{IfOk-weaker}
 use Rattle.jt_value.specs.Tree as tree
 use Rattle.jt_ids.specs.declared.op_id.OpId.TheVariants as op
 use Rattle.jt_ast.specs.ExpressionView.{expr_view, exprs_view, pairs_view}
-use Rattle.jt_ast.specs.declared.expression.Expr.{Expr}
 use Rattle.jt_ids.specs.FilterTable.{filter_id}
 use Rattle.jt_ast.specs.StatementView.{parameters_view}
-use Rattle.jt_chains.specs.Chain.{a_macro, a_range, a_super, a_block, a_cycle, no_callee}
+use Rattle.jt_chains.specs.Chain.{a_block}
 use Rattle.jt_chains.specs.Uses.{keywords}
 use Rattle.jt_semantics.specs.Operators.{range_of}
 use Rattle.jt_semantics.specs.Resolve.{filled, filled_some}
 use Rattle.jt_semantics.specs.Resolve.{locals_from}
 use Rattle.jt_semantics.specs.Expressions.{filter_parameters}
-use Rattle.jt_ir.specs.Pool.{Constant, own}
+use Rattle.jt_ir.specs.Pool.{own}
 use Rattle.jt_ir.specs.Slots as slots
-use Rattle.jt_ir.specs.Slots.{invoke}
 use Rattle.jt_eval.specs.TheFilters.{the_filters, filter_parameters as written_parameters}
-use Rattle.jt_ir.specs.View.{expr_view as coded, row_view}
+use Rattle.jt_ir.specs.View.{expr_view as coded}
 use Rattle.jt_ir.specs.declared.program.NaryOp.TheVariants as m
 use Rattle.jt_bind.specs.internal.Callees.{IsCallee}
 use Rattle.jt_bind.specs.declared.callee.Callee.{Callee}
-use Rattle.jt_bind.specs.internal.Scoped.{values, IsPlaced, cenv_in, order_in, callee_in, expr_in, row_in}
+use Rattle.jt_bind.specs.internal.Scoped.{values, cenv_in, order_in, callee_in, expr_in, row_in}
 use Rattle.jt_bind.specs.internal.Scoped.{asides_in, entries_in, filter_row_in}
-use Rattle.jt_bind.proofs.CalleeResolution.{count_length, macro_called, called_placed}
+use Rattle.jt_bind.proofs.CalleeResolution.{count_length, called_placed}
 use Rattle.jt_bind.proofs.ExpressionDepths.{call_depth, filter_depth, test_depth}
 use Rattle.jt_bind.proofs.FilterTags.{named_is, parameters_are}
-use Rattle.jt_bind.proofs.RowConcatenation.{begun, of_whole, of_left, row_both, row_item, row_aside}
+use Rattle.jt_bind.proofs.RowConcatenation.{begun, of_whole, row_both, row_item, row_aside}
 use Rattle.jt_bind.proofs.RowConcatenation.{made_placed, invoked_placed}
-use Rattle.jt_ast.proofs.RemainingParts.{Entry, row_left, pairs_left}
+use Rattle.jt_ast.proofs.RemainingParts.{row_left, pairs_left}
 use Rattle.jt_ast.proofs.ExpressionViews.{view_Item, view_Call, view_Filter, view_Test, view_Unary, view_Binary}
 use Rattle.jt_ast.proofs.ExpressionViews.{view_When, view_Choice}
 use Rattle.jt_ir.proofs.ExpressionViews.{view_Made, view_Invoke}
@@ -51,11 +49,7 @@ resolve_row-loop-expr-preserved t c = λ left.
 
 pub resolve_row-returns : goal.resolve_row-returns
 resolve_row-returns t c = λ left.
-    let l = c.loop-expr in
-    of_left _ _ _ _ _ _ _ (at_drop_all
-    (λ (z : List Expr). row_in c.args.self.now.tables.now (exprs_view z) c.args.self.now.senv left) c.args.row.now
-    l.expr-index (omega arith))
-    (l.invariant left)
+    rw (drop_all c.loop-expr.expr-index c.args.row.now (omega arith)) at (c.loop-expr.invariant left)
 
 pub resolve_entries-loop-key-preserved : goal.resolve_entries-loop-key-preserved
 resolve_entries-loop-key-preserved t c =
@@ -75,11 +69,21 @@ resolve_entries-loop-key-preserved t c =
     c.in_ok-entry_key.ensures c.in_ok-put_argument.ensures)
     (row_item value rest c.in_ok-next.next _ _ _ _ c.in_ok-next.ensures c.in_ok-put_argument-2.ensures)))
 
-pub resolve_list-returns : goal.resolve_list-returns
-resolve_list-returns t c =
-    rw c.into_part.ensures (made_placed slots.a_list _ c.resolve_row.new.done.items _ _ _
+pub resolve_made-returns : goal.resolve_made-returns
+resolve_made-returns t c =
+    rw c.into_part.ensures (made_placed _ _ c.resolve_row.new.done.items _ _ _
     (begun _ _ _ _ _ _ _ c.new.ensures.items (c.in_ok-resolve_row.ensures slots.none))
-    (view_Made m.List c.resolve_row.new.done))
+    (view_Made c.args.op c.resolve_row.new.done))
+
+pub resolve_applied-returns : goal.resolve_applied-returns
+resolve_applied-returns t c =
+    let es = row_in c.args.self.now.tables.now (exprs_view c.args.row.now) c.args.self.now.senv slots.none in
+    let done = c.resolve_row.new.done in
+    rw c.into_part.ensures (made_placed _ _ done.items _ _ _
+    (row_both _ es slots.none [] _ done.items _ _ _
+    (begun _ _ _ _ _ _ _ c.in_ok-with_capacity.ensures.items (c.in_ok-resolve_operand.ensures es))
+    (c.in_ok-resolve_row.ensures slots.none))
+    (view_Made c.args.op done))
 
 pub resolve_map-returns : goal.resolve_map-returns
 resolve_map-returns t c =
@@ -103,11 +107,7 @@ resolve_attribute-returns t c =
 
 pub resolve_asides-returns : goal.resolve_asides-returns
 resolve_asides-returns t c = λ left.
-    let l = c.loop-value in
-    of_left _ _ _ _ _ _ _ (at_drop_all
-    (λ (z : List Entry). asides_in c.args.self.now.tables.now (pairs_view z) l.senv left) c.args.pairs.now l.value-index
-    (omega arith))
-    (l.invariant left)
+    rw (drop_all c.loop-value.value-index c.args.pairs.now (omega arith)) at (c.loop-value.invariant left)
 
 pub resolve_asides-loop-value-preserved : goal.resolve_asides-loop-value-preserved
 resolve_asides-loop-value-preserved t c = λ left.
@@ -126,26 +126,8 @@ resolve_asides-loop-value-preserved t c = λ left.
     (row_aside l.senv.free value (asides_in scope rest (record l.senv { free = c.in_ok-senv.field-0 }) left)
     c.in_ok-next.next l.done.items _ (values l.pool) _ c.in_ok-next.ensures c.in_ok-put_argument.ensures))
 
-pub resolve_operation-returns : goal.resolve_operation-returns
-resolve_operation-returns t c =
-    let b = expr_in c.args.self.now.tables.now (expr_view c.args.right.now) c.args.self.now.senv in
-    let done = c.resolve_operand-2.new.done in
-    rw c.into_part.ensures (made_placed (slots.operator c.args.op) _ done.items _ _ _
-    (row_both _ (slots.item b slots.none) slots.none [] _ done.items _ _ _
-    (begun _ _ _ _ _ _ _ c.in_ok-with_capacity.ensures.items
-    (c.in_ok-resolve_operand.ensures (slots.item b slots.none)))
-    (c.in_ok-resolve_operand-2.ensures slots.none))
-    (view_Made (m.Operator c.args.op) done))
-
-pub resolve_unary-returns : goal.resolve_unary-returns
-resolve_unary-returns t c =
-    IfOk-weaker c.on_one.result _ _ (λ e h. rw (← c.unary_operation.ensures) (h _ _ _ c.in_ok-value.ensures))
-    c.on_one.ensures
-
 pub resolve_binary-returns-in-Operation : goal.resolve_binary-returns-in-Operation
-resolve_binary-returns-in-Operation t c =
-    IfOk-weaker c.resolve_operation.result _ _ (λ e h. rw (← c.form_of.ensures, c.in-Operation.is) h)
-    c.resolve_operation.ensures
+resolve_binary-returns-in-Operation t c = rw (← c.form_of.ensures, c.in-Operation.is) c.resolve_operation.ensures
 
 pub resolve_binary-returns-in_ok-inside-in-Negation : goal.resolve_binary-returns-in_ok-inside-in-Negation
 resolve_binary-returns-in_ok-inside-in-Negation t c =
@@ -245,10 +227,15 @@ resolve_expression-returns-in-Choice t c =
 
 -- ---- tests and filters
 
+pub resolve_test-returns-in_default : goal.resolve_test-returns-in_default
+resolve_test-returns-in_default t c =
+    IfOk-weaker c.turned.result _ _ (λ e h ps. rw (← c.is_negated.ensures, ← c.test_of.ensures, c.in_default.is)
+    (h _ _ _ (c.absent.ensures (values c.args.pool.now)))) c.turned.ensures
+
 pub resolve_test-returns : goal.resolve_test-returns
 resolve_test-returns t c =
-    IfOk-weaker c.turned.result _ _ (λ e h ps. rw (← c.is_negated.ensures) (h _ _ _ (c.in_ok-test.ensures ps)))
-    c.turned.ensures
+    IfOk-weaker c.turned-2.result _ _ (λ e h ps. rw (← c.is_negated-2.ensures, ← c.test_of.ensures, c.in-Some.is)
+    (h _ _ _ c.in_ok-test.ensures)) c.turned-2.ensures
 
 pub resolve_operand-returns : goal.resolve_operand-returns
 resolve_operand-returns t c =
@@ -256,30 +243,9 @@ resolve_operand-returns t c =
     (λ u h. λ left. row_item _ left c.in_ok-next.next c.args.done.now.items _ _ _ c.in_ok-next.ensures h)
     c.put_argument.ensures
 
-pub resolve_plain_test-returns-in_ok-resolve_row-in-Some : goal.resolve_plain_test-returns-in_ok-resolve_row-in-Some
-resolve_plain_test-returns-in_ok-resolve_row-in-Some t c =
-    λ ps.
-    let s = c.args.self.now.tables.now in
-    let es = row_in s (exprs_view c.args.row.now) c.args.self.now.senv slots.none in
-    let done = c.resolve_row.new.done in
-    rw (c.into_part.ensures, ← c.test_of.ensures, c.in-Some.is)
-    (made_placed (slots.test c.in-Some.test) _ done.items _ _ _
-    (row_both _ es slots.none [] _ done.items _ _ _
-    (begun _ _ _ _ _ _ _ c.new.ensures.items (c.in_ok-resolve_operand-in-Some.ensures es))
-    (c.in_ok-resolve_row-in-Some.ensures slots.none))
-    (view_Made (m.Test c.in-Some.test) done))
-
-pub resolve_plain_test-returns-in-None : goal.resolve_plain_test-returns-in-None
-resolve_plain_test-returns-in-None t c =
-    λ ps. rw (← c.test_of.ensures, c.in-None.is) (c.absent.ensures (values c.args.pool.now))
-
 pub resolve_filter-returns-in-None : goal.resolve_filter-returns-in-None
 resolve_filter-returns-in-None t c =
-    let ts = exprs_view c.args.arguments.row.now in
-    let ps = pairs_view c.args.arguments.pairs.now in
-    let named : (cenv_in c.args.self.now.tables.now).filters.named c.args.name.now ts ps ≡ None =
-    named_is c.args.name.now ts ps ∙ ap (option_map filter_id) (sym c.filter_of.ensures ∙ c.in-None.is) in
-    rw named (c.absent.ensures (values c.args.pool.now))
+    rw (named_is, ← c.filter_of.ensures, c.in-None.is) (c.absent.ensures (values c.args.pool.now))
 
 pub resolve_filter-returns-in_ok-resolve_filter_row-in-Some :
     goal.resolve_filter-returns-in_ok-resolve_filter_row-in-Some
@@ -336,65 +302,25 @@ resolve_macro-returns t c =
     (begun _ _ _ _ _ _ _ c.new.ensures.items (c.in_ok-resolve_given.ensures left)) (c.in_ok-fill.ensures q))
     (view_Invoke signature.unit senv.escaping full))
 
-pub resolve_range-returns : goal.resolve_range-returns
-resolve_range-returns t c =
-    let done = c.resolve_row.new.done in
-    rw c.into_part.ensures (made_placed (slots.operator (range_of (length c.args.row.now))) _ done.items _ _ _
-    (begun _ _ _ _ _ _ _ c.new.ensures.items (c.in_ok-resolve_row.ensures slots.none))
-    (view_Made (m.Operator c.range_of.result) done
-    ∙ ap (λ o. slots.made (slots.operator o) (row_view done.items slots.none)) c.range_of.ensures))
-
 pub resolve_cycle-returns : goal.resolve_cycle-returns
 resolve_cycle-returns t c =
     IfOk-weaker c.item_in_turn.result _ _ (λ e h. h _ _ c.in_ok-items.ensures) c.item_in_turn.ensures
 
 pub resolve_call-returns-in-Macro : goal.resolve_call-returns-in-Macro
-resolve_call-returns-in-Macro t c =
-    let s = c.args.self.now.tables.now in
-    let senv = c.args.self.now.senv in
-    let f = expr_view c.args.called.now in
-    let row = c.args.arguments.row.now in
-    let ps = pairs_view c.args.arguments.pairs.now in
-    let Q : Callee → Type 0 = λ z. IsCallee (cenv_in s) (order_in s) z (callee_in s f) in
-    let m = subst Q c.in-Macro.is c.in_ok-signature.ensures in
-    IfOk-weaker c.resolve_macro.result _ _ (λ e h.
-    let P : slots.SlotExpr Constant → Type 0 =
-    λ z. IsPlaced z (coded e) (values c.args.pool.now) (values c.resolve_macro.new.pool) in
-    called_placed s senv f (a_macro m.0 m.1) row ps (coded e) _ _ m.2.1
-    (subst P (macro_called (cenv_in s) (order_in s) m.0 c.in-Macro.signature m.1 m.2.0 senv.escaping
-    (λ z. row_in s (exprs_view row) senv (asides_in s ps senv z)) (length row) (locals_from senv.free (keywords ps)))
-    h)) c.resolve_macro.ensures
+resolve_call-returns-in-Macro t c = let m = rw c.in-Macro.is at c.in_ok-signature.ensures in
+    rw (m.2.1, count_length, ← m.2.0.takes, ← m.2.0.runs, ← m.2.0.defaults) c.resolve_macro.ensures
 
 pub resolve_call-returns-in-Range : goal.resolve_call-returns-in-Range
-resolve_call-returns-in-Range t c =
-    let s = c.args.self.now.tables.now in
-    let f = expr_view c.args.called.now in
-    let Q : Callee → Type 0 = λ z. IsCallee (cenv_in s) (order_in s) z (callee_in s f) in
-    IfOk-weaker c.resolve_range.result _ _ (λ e h. called_placed s c.args.self.now.senv f a_range
-    c.args.arguments.row.now
-    (pairs_view c.args.arguments.pairs.now) (coded e) _ _ (subst Q c.in-Range.is c.in_ok-signature.ensures) h)
-    c.resolve_range.ensures
+resolve_call-returns-in-Range t c = let is = rw c.in-Range.is at c.in_ok-signature.ensures in
+    rw (is, count_length, ← c.range_of.ensures) c.resolve_made.ensures
 
 pub resolve_call-returns-in-Cycle : goal.resolve_call-returns-in-Cycle
-resolve_call-returns-in-Cycle t c =
-    let s = c.args.self.now.tables.now in
-    let f = expr_view c.args.called.now in
-    let Q : Callee → Type 0 = λ z. IsCallee (cenv_in s) (order_in s) z (callee_in s f) in
-    IfOk-weaker c.resolve_cycle.result _ _ (λ e h. called_placed s c.args.self.now.senv f a_cycle
-    c.args.arguments.row.now
-    (pairs_view c.args.arguments.pairs.now) (coded e) _ _ (subst Q c.in-Cycle.is c.in_ok-signature.ensures) h)
-    c.resolve_cycle.ensures
+resolve_call-returns-in-Cycle t c = let is = rw c.in-Cycle.is at c.in_ok-signature.ensures in
+    rw (is, count_length) c.resolve_cycle.ensures
 
 pub resolve_call-returns-in-Super : goal.resolve_call-returns-in-Super
-resolve_call-returns-in-Super t c =
-    let s = c.args.self.now.tables.now in
-    let f = expr_view c.args.called.now in
-    let Q : Callee → Type 0 = λ z. IsCallee (cenv_in s) (order_in s) z (callee_in s f) in
-    IfOk-weaker c.super_called.result _ _ (λ e h. called_placed s c.args.self.now.senv f a_super
-    c.args.arguments.row.now
-    (pairs_view c.args.arguments.pairs.now) (coded e) _ _ (subst Q c.in-Super.is c.in_ok-signature.ensures) (h (values
-    c.args.pool.now)))
-    c.super_called.ensures
+resolve_call-returns-in-Super t c = let is = rw c.in-Super.is at c.in_ok-signature.ensures in
+    rw is (IfOk-weaker c.super_called.result _ _ (λ e h. h (values c.args.pool.now)) c.super_called.ensures)
 
 pub resolve_call-returns-in-Block : goal.resolve_call-returns-in-Block
 resolve_call-returns-in-Block t c =
@@ -411,13 +337,8 @@ resolve_call-returns-in-Block t c =
     (values c.args.pool.now))) c.block_called.ensures
 
 pub resolve_call-returns-in-Unknown : goal.resolve_call-returns-in-Unknown
-resolve_call-returns-in-Unknown t c =
-    let s = c.args.self.now.tables.now in
-    let f = expr_view c.args.called.now in
-    let Q : Callee → Type 0 = λ z. IsCallee (cenv_in s) (order_in s) z (callee_in s f) in
-    called_placed s c.args.self.now.senv f no_callee c.args.arguments.row.now (pairs_view c.args.arguments.pairs.now)
-    (coded c.absent.result) _ _ (subst Q c.in-Unknown.is c.in_ok-signature.ensures)
-    (c.absent.ensures (values c.args.pool.now))
+resolve_call-returns-in-Unknown t c = let is = rw c.in-Unknown.is at c.in_ok-signature.ensures in
+    rw is (c.absent.ensures (values c.args.pool.now))
 
 -- ---- the remaining trees are less deep
 

@@ -26,8 +26,11 @@ abbrev pub decreases-resolve_given : goal.decreases-resolve_given
 decreases-resolve_given l =
     6 * max (most (λ x. size-Expr x) l.arguments.row.now) (most (λ x. size-Expr x.1) l.arguments.pairs.now) + 2
 
-abbrev pub decreases-resolve_list : goal.decreases-resolve_list
-decreases-resolve_list l = 6 * most (λ x. size-Expr x) l.row.now + 2
+abbrev pub decreases-resolve_made : goal.decreases-resolve_made
+decreases-resolve_made l = 6 * most (λ x. size-Expr x) l.row.now + 2
+
+abbrev pub decreases-resolve_applied : goal.decreases-resolve_applied
+decreases-resolve_applied l = 6 * max (size-Expr l.value.now) (most (λ x. size-Expr x) l.row.now) + 2
 
 abbrev pub decreases-resolve_map : goal.decreases-resolve_map
 decreases-resolve_map l = 6 * most (λ x. size-Expr x.1) l.pairs.now + 2
@@ -36,10 +39,10 @@ abbrev pub decreases-resolve_attribute : goal.decreases-resolve_attribute
 decreases-resolve_attribute l = 6 * size-Expr l.value.now + 2
 
 abbrev pub decreases-resolve_operation : goal.decreases-resolve_operation
-decreases-resolve_operation l = 6 * max (size-Expr l.left.now) (size-Expr l.right.now) + 2
+decreases-resolve_operation l = 6 * max (size-Expr l.left.now) (size-Expr l.right.now) + 3
 
 abbrev pub decreases-resolve_binary : goal.decreases-resolve_binary
-decreases-resolve_binary l = 6 * max (size-Expr l.left.now) (size-Expr l.right.now) + 3
+decreases-resolve_binary l = 6 * max (size-Expr l.left.now) (size-Expr l.right.now) + 4
 
 abbrev pub decreases-resolve_when : goal.decreases-resolve_when
 decreases-resolve_when l = 6 * max (size-Expr l.condition.now) (size-Expr l.value.now) + 2
@@ -52,13 +55,10 @@ abbrev pub decreases-resolve_boxed : goal.decreases-resolve_boxed
 decreases-resolve_boxed l = 6 * size-Expr l.expr.now + 1
 
 abbrev pub decreases-resolve_unary : goal.decreases-resolve_unary
-decreases-resolve_unary l = 6 * size-Expr l.operand.now + 1
+decreases-resolve_unary l = 6 * size-Expr l.operand.now + 3
 
 abbrev pub decreases-resolve_test : goal.decreases-resolve_test
 decreases-resolve_test l = 6 * max (size-Expr l.value.now) (most (λ x. size-Expr x) l.row.now) + 3
-
-abbrev pub decreases-resolve_plain_test : goal.decreases-resolve_plain_test
-decreases-resolve_plain_test l = 6 * max (size-Expr l.value.now) (most (λ x. size-Expr x) l.row.now) + 2
 
 abbrev pub decreases-resolve_operand : goal.decreases-resolve_operand
 decreases-resolve_operand l = 6 * size-Expr l.value.now + 1
@@ -80,9 +80,6 @@ decreases-resolve_call l =
 abbrev pub decreases-resolve_macro : goal.decreases-resolve_macro
 decreases-resolve_macro l =
     6 * max (most (λ x. size-Expr x) l.arguments.row.now) (most (λ x. size-Expr x.1) l.arguments.pairs.now) + 3
-
-abbrev pub decreases-resolve_range : goal.decreases-resolve_range
-decreases-resolve_range l = 6 * most (λ x. size-Expr x) l.row.now + 2
 
 abbrev pub decreases-resolve_cycle : goal.decreases-resolve_cycle
 decreases-resolve_cycle l = 6 * most (λ x. size-Expr x) l.row.now + 3

@@ -1,11 +1,11 @@
-use Rattle.std.proofs.Common.{◌+◌, List, [], drop, sym, ap, subst, ◌∙◌, arith, Global}
+use Rattle.std.proofs.lemmas.List.{drop_all}
+use Rattle.std.proofs.Common.{◌+◌, List, drop, sym, ap, subst, ◌∙◌, arith, Global}
 use Rattle.std.specs.Prelude.{Vec}
 use Rattle.std.proofs.lemmas.List.{at_drop_all}
 use Rattle.std.proofs.lemmas.Result.{IfOk-weaker}
 use Rattle.jt_ast.specs.ExpressionView.{expr_view, pairs_view}
 use Rattle.jt_ast.specs.StatementView.{filter_calls_view, stmt_view, body_view}
 use Rattle.jt_ast.specs.StatementView.{branches_view}
-use Rattle.jt_ast.specs.declared.statement.Stmt.{Stmt}
 use Rattle.jt_ir.specs.Slots as slots
 use Rattle.jt_ir.specs.View.{place_view}
 use Rattle.jt_ir.specs.declared.program.SlotBranch.{SlotBranch}
@@ -13,9 +13,9 @@ use Rattle.jt_ir.specs.declared.program.SlotStmt.{SlotStmt}
 use Rattle.jt_semantics.specs.Resolve.{followed, alone, bound_all, resolved_filters, copied, place}
 use Rattle.jt_ast.specs.Texts.{texts}
 use Rattle.jt_bind.specs.internal.Scoped.{values, cenv_in, order_in, expr_in, senv_in, templates_in}
-use Rattle.jt_bind.specs.internal.Stated.{Emits, ChoiceLeads, line_in, stmt_in, body_in, choice_in, scoped_in}
+use Rattle.jt_bind.specs.internal.Stated.{ChoiceLeads, line_in, stmt_in, body_in, choice_in, scoped_in}
 use Rattle.jt_bind.specs.internal.Stated.{values_in}
-use Rattle.jt_bind.proofs.BodyConcatenation.{lead_both, lead_of, lead_left, emits_of, emits_both, emits_begun}
+use Rattle.jt_bind.proofs.BodyConcatenation.{lead_both, lead_of, emits_of, emits_both, emits_begun}
 use Rattle.jt_bind.proofs.BodyConcatenation.{emits_nothing, place_is, followed_again, choice_same, choice_other}
 use Rattle.jt_bind.proofs.BodyConcatenation.{branch_lead, choice_emitted, capture_emitted, print_emitted}
 use Rattle.jt_bind.proofs.BodyConcatenation.{assign_emitted, loop_emitted}
@@ -44,31 +44,11 @@ resolve_body-loop-statement-preserved t c = λ left.
 
 pub resolve_body-returns : goal.resolve_body-returns
 resolve_body-returns t c = λ left.
-    let l = c.loop-statement in
-    let scope = c.args.self.now.tables.now in
-    lead_left (templates_in scope) _ _ _ _ _ _ _
-    (at_drop_all (λ (z : List Stmt). followed (body_in scope (body_view z) c.args.self.now.senv) left) c.args.body.now
-    l.statement-index (omega arith))
-    (l.invariant left)
+    rw (drop_all c.loop-statement.statement-index c.args.body.now (omega arith)) at (c.loop-statement.invariant left)
 
 pub resolve_whole-returns : goal.resolve_whole-returns
 resolve_whole-returns t c =
-    let scope = c.args.self.now.tables.now in
-    let P : Vec SlotStmt Global → Type 0 =
-    λ z. Emits (templates_in scope) (body_in scope (body_view c.args.body.now) c.args.self.now.senv) [] z.items
-    (values c.args.pool.now) (values c.resolve_body.new.pool) in
-    subst P (sym c.into_part.ensures)
-    (emits_begun (templates_in scope) _ _ _ _ _ _ c.new.ensures.items c.in_ok-resolve_body.ensures)
-
-pub resolve_inside-returns : goal.resolve_inside-returns
-resolve_inside-returns t c =
-    let scope = c.args.self.now.tables.now in
-    let P : Vec SlotStmt Global → Type 0 =
-    λ z. Emits (templates_in scope)
-    (scoped_in scope (body_view c.args.body.now) (senv_in scope c.args.self.now.senv)) [] z.items
-    (values c.args.pool.now) (values c.resolve_scoped.new.pool) in
-    subst P (sym c.into_part.ensures)
-    (emits_begun (templates_in scope) _ _ _ _ _ _ c.new.ensures.items c.in_ok-resolve_scoped.ensures)
+    rw c.into_part.ensures (emits_begun _ _ _ _ _ _ _ c.new.ensures.items c.in_ok-resolve_body.ensures)
 
 -- ---- scopes
 
@@ -194,8 +174,8 @@ resolve_filter_block-returns t c =
 
 pub resolve_text-returns : goal.resolve_text-returns
 resolve_text-returns t c =
-    IfOk-weaker c.put_capture.result _ _
-    (λ u h. capture_emitted (templates_in c.args.self.now.tables.now) _ _ _ _ _ _ _ _ c.in_ok-text.ensures h)
+    let text = emits_begun _ _ _ _ _ _ _ c.new.ensures.items c.in_ok-resolve_scoped.ensures in
+    IfOk-weaker c.put_capture.result _ _ (λ u h. capture_emitted _ _ _ _ _ _ _ _ _ (rw c.into_part.ensures text) h)
     c.put_capture.ensures
 
 pub resolve_escaping-returns : goal.resolve_escaping-returns
@@ -213,8 +193,7 @@ pub resolve_statement-returns-in-Print : goal.resolve_statement-returns-in-Print
 resolve_statement-returns-in-Print t c = rw (c.in-Print.is, view_Print) c.resolve_print.ensures
 
 pub resolve_statement-returns-in-If : goal.resolve_statement-returns-in-If
-resolve_statement-returns-in-If t c =
-    rw (c.in-If.is, view_If, ← c.deref-in-If.ensures.value, ← c.deref-in-If-2.ensures.value) c.resolve_branches.ensures
+resolve_statement-returns-in-If t c = grind (arith, view_If)
 
 pub resolve_statement-returns-in-For : goal.resolve_statement-returns-in-For
 resolve_statement-returns-in-For t c =
@@ -246,20 +225,16 @@ resolve_statement-returns-in-Autoescape t c =
     (IfOk-weaker c.resolve_escaping.result _ _ (λ u h. h c.in-Autoescape.line) c.resolve_escaping.ensures)
 
 pub resolve_statement-returns-in-Macro : goal.resolve_statement-returns-in-Macro
-resolve_statement-returns-in-Macro t c =
-    rw (c.in-Macro.is, view_Macro) (emits_nothing (templates_in c.args.self.now.tables.now) _ _)
+resolve_statement-returns-in-Macro t c = grind (arith, view_Macro, emits_nothing)
 
 pub resolve_statement-returns-in-Import : goal.resolve_statement-returns-in-Import
-resolve_statement-returns-in-Import t c =
-    rw (c.in-Import.is, view_Import) (emits_nothing (templates_in c.args.self.now.tables.now) _ _)
+resolve_statement-returns-in-Import t c = grind (arith, view_Import, emits_nothing)
 
 pub resolve_statement-returns-in-From : goal.resolve_statement-returns-in-From
-resolve_statement-returns-in-From t c =
-    rw (c.in-From.is, view_From) (emits_nothing (templates_in c.args.self.now.tables.now) _ _)
+resolve_statement-returns-in-From t c = grind (arith, view_From, emits_nothing)
 
 pub resolve_statement-returns-in-Extends : goal.resolve_statement-returns-in-Extends
-resolve_statement-returns-in-Extends t c =
-    rw (c.in-Extends.is, view_Extends) (emits_nothing (templates_in c.args.self.now.tables.now) _ _)
+resolve_statement-returns-in-Extends t c = grind (arith, view_Extends, emits_nothing)
 
 pub resolve_statement-returns-in-Include : goal.resolve_statement-returns-in-Include
 resolve_statement-returns-in-Include t c =

@@ -27,9 +27,6 @@ decreases-resolve_whole l = 6 * most (λ x. size-Stmt x) l.body.now + 3
 abbrev pub decreases-resolve_scoped : goal.decreases-resolve_scoped
 decreases-resolve_scoped l = 6 * most (λ x. size-Stmt x) l.body.now + 3
 
-abbrev pub decreases-resolve_inside : goal.decreases-resolve_inside
-decreases-resolve_inside l = 6 * most (λ x. size-Stmt x) l.body.now + 4
-
 abbrev pub decreases-resolve_within : goal.decreases-resolve_within
 decreases-resolve_within l = 6 * most (λ x. size-Stmt x) l.body.now + 4
 

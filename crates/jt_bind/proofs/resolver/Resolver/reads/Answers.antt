@@ -1,24 +1,17 @@
-use Rattle.std.proofs.Common.{◌+◌, List, drop, arith}
+use Rattle.std.proofs.lemmas.List.{drop_all}
+use Rattle.std.proofs.Common.{◌+◌, drop, arith}
 use Rattle.std.specs.Prelude.{option_map}
-use Rattle.std.proofs.lemmas.List.{at_drop_all}
-use denote.Ref.{Bor}
-use Rattle.jt_ast.specs.Expressions.{Text}
 use Rattle.jt_ast.specs.Texts.{texts}
 use Rattle.jt_ir.specs.View.{slot_view}
 use Rattle.jt_semantics.specs.Resolve as resolve
 use Rattle.jt_semantics.specs.Resolve.{read_from}
 use Rattle.jt_bind.specs.internal.Scoped.{senv_in}
 use Rattle.jt_bind.proofs.CalleeResolution.{reads_next}
-use Rattle.jt_bind.proofs.RowConcatenation.{of_whole, of_left, row_both, row_item}
+use Rattle.jt_bind.proofs.RowConcatenation.{of_whole, row_both, row_item}
 use Rattle.jt_bind.proofs.resolver.Resolver.reads.Goals as goal
 
 pub returns : goal.returns
-returns c = λ p.
-    let l = c.loop-name in
-    let table = (senv_in c.args.self.now.tables.now c.args.self.now.senv).table in
-    of_left _ _ _ _ _ _ _
-    (at_drop_all (λ (z : List (Bor Text)). resolve.reads table (texts z)) c.args.names.now l.name-index (omega arith))
-    (l.invariant p)
+returns c = λ p. rw (drop_all c.loop-name.name-index c.args.names.now (omega arith)) at (c.loop-name.invariant p)
 
 pub loop-name-preserved : goal.loop-name-preserved
 loop-name-preserved c = λ p.

@@ -1,24 +1,18 @@
-use Rattle.std.proofs.Common.{ℕ, ◌+◌, List, drop, sym, ap, ◌∙◌, arith, add-one}
-use Rattle.std.proofs.lemmas.List.{at_drop_all}
+use Rattle.std.proofs.lemmas.List.{drop_all}
+use Rattle.std.proofs.Common.{ℕ, ◌+◌, drop, sym, ap, ◌∙◌, arith, add-one}
 use Rattle.jt_ast.specs.ExpressionView.{expr_view, pairs_view}
 use Rattle.jt_ir.specs.Slots as slots
-use Rattle.jt_bind.specs.internal.Scoped.{cenv_in, order_in, senv_in, expr_in, templates_in}
+use Rattle.jt_bind.specs.internal.Scoped.{expr_in, templates_in}
 use Rattle.jt_bind.specs.internal.Stated.{line_in, values_in}
-use Rattle.jt_bind.proofs.BodyConcatenation.{lead_both, lead_of, lead_left, assign_emitted}
+use Rattle.jt_bind.proofs.BodyConcatenation.{lead_both, lead_of, assign_emitted}
 use Rattle.jt_bind.proofs.StatementResolution.{values_followed}
-use Rattle.jt_ast.proofs.RemainingParts.{Entry, pairs_left}
+use Rattle.jt_ast.proofs.RemainingParts.{pairs_left}
 use Rattle.jt_bind.proofs.resolver.Resolver.resolve_values.Goals as goal
 
 pub returns : goal.returns
 returns c = λ left.
     let l = c.loop-value in
-    let scope = c.args.self.now.tables.now in
-    lead_of (templates_in scope) _ _ left _ _ _ _
-    (sym (values_followed (cenv_in scope) (order_in scope) (pairs_view c.args.pairs.now)
-    (senv_in scope c.args.self.now.senv) c.args.line slots.end left))
-    (lead_left (templates_in scope) _ _ _ _ _ _ _
-    (at_drop_all (λ (z : List Entry). values_in scope (pairs_view z) l.senv c.args.line left)
-    c.args.pairs.now l.value-index (omega arith)) (l.invariant left))
+    rw values_followed (rw (drop_all l.value-index c.args.pairs.now (omega arith)) at (l.invariant left))
 
 pub loop-value-preserved : goal.loop-value-preserved
 loop-value-preserved c = λ behind.

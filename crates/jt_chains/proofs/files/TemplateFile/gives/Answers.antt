@@ -1,7 +1,4 @@
-use Rattle.std.proofs.Common.{List, [], ◌∷◌, string_bytes, ap, ◌∙◌}
-use Rattle.std.specs.Option.{is_some}
-use Rattle.jt_ast.specs.StatementView.{body_of}
-use Rattle.jt_chains.specs.Chain.{Template}
+use Rattle.jt_chains.proofs.Vocabulary.{List, [], ◌∷◌, string_bytes, ap, ◌∙◌, is_some, body_of, Template}
 use Rattle.jt_chains.specs.Parts.{macro_view}
 use Rattle.jt_chains.proofs.MacroTableLookup.{some_mapped}
 use Rattle.jt_chains.proofs.files.TemplateFile.gives.Goals as goal

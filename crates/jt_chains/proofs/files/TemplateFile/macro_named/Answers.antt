@@ -1,9 +1,6 @@
-use Rattle.std.proofs.Common.{map, subst, sym, ap, ◌∙◌, Some, arith, rules}
-use Rattle.jt_ast.specs.StatementView.{stmt_view, body_of}
-use Rattle.jt_chains.specs.Chain.{macro_of}
-use Rattle.jt_chains.specs.Parts.{name_at}
-use Rattle.jt_chains.specs.Tables.{IsTable, library_macros}
-use Rattle.jt_chains.proofs.MacroTableLookup.{table_some, table_none, no_table}
+use Rattle.jt_chains.proofs.Vocabulary.{map, subst, sym, ap, ◌∙◌, Some, None, arith, rules, stmt_view, body_of}
+use Rattle.jt_chains.proofs.Vocabulary.{macro_of, name_at, IsTable, library_macros}
+use Rattle.jt_chains.proofs.MacroTableLookup.{looked_up, no_table}
 use Rattle.jt_chains.proofs.files.TemplateFile.macro_named.Goals as goal
 
 pub returns-in_default : goal.returns-in_default
@@ -18,11 +15,11 @@ returns-in-Some-get c = λ ts.
     let t = subst (λ z. IsTable z (Some c.in-Some.macros)) (sym c.body.ensures)
     (subst (IsTable (body_of file.template)) c.in-Some.is file.table) in
     c.macro_at.ensures ts
-    ∙ table_some x n (map stmt_view b) c.in-Some.macros c.in-Some-get.statement.now t c.in-Some-get.ensures.value
+    ∙ looked_up x n (map stmt_view b) c.in-Some.macros (Some c.in-Some-get.statement.now) t c.in-Some-get.ensures.value
     ∙ ap (λ z. macro_of x (library_macros n z)) c.body.ensures
 
 pub returns-in-None : goal.returns-in-None
 returns-in-None c = λ ts.
     let file = c.args.self.now in
-    table_none c.args.name.now (name_at ts c.args.index) (map stmt_view file.template.body.items) c.in-Some.macros
+    looked_up c.args.name.now (name_at ts c.args.index) (map stmt_view file.template.body.items) c.in-Some.macros None
     (subst (IsTable (body_of file.template)) c.in-Some.is file.table) c.in-None.ensures.value

@@ -1,5 +1,5 @@
-use Rattle.std.proofs.Common.{arith, rules}
 use Rattle.jt_checks.specs.internal.ScopeLookup.{cenv_in, namespace_in}
+use Rattle.jt_checks.proofs.Vocabulary.{arith, rules}
 use Rattle.jt_checks.proofs.scope.Scope.given.Goals as goal
 
 pub returns : goal.returns

@@ -1,5 +1,5 @@
-use Rattle.std.proofs.Common.{arith, rules}
 use Rattle.jt_checks.specs.internal.ScopeLookup.{cenv_in, namespace_in}
+use Rattle.jt_checks.proofs.Vocabulary.{arith, rules}
 use Rattle.jt_checks.proofs.ScopeLookup.{has_body}
 use Rattle.jt_checks.proofs.scope.Scope.is_block.Goals as goal
 

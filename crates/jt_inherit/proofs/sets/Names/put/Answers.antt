@@ -2,8 +2,7 @@ use Rattle.std.proofs.Common.{◌≡◌, ◌++◌, ◌∷◌, [], Some, List, St
 use Rattle.std.proofs.Common.{subst, ◌∙◌, arith}
 use Rattle.jt_inherit.proofs.Vocabulary.{get_by_text, bytes_eq, btree_map_updates_text, among, Text, AreNumbers}
 use Rattle.jt_inherit.proofs.Vocabulary.{is_text, strings}
-use Rattle.jt_inherit.proofs.NameSets.{put_told}
-use Rattle.jt_inherit.proofs.NumberTables.{pushed}
+use Rattle.jt_inherit.proofs.NumberTables.{name_put, pushed}
 use Rattle.jt_inherit.proofs.sets.Names.put.Goals as goal
 
 pub invariant_of-self-2 : goal.invariant_of-self-2
@@ -24,6 +23,6 @@ invariant_of-self-2 c =
     ∙ ap (λ n. cond (bytes_eq (string_bytes item) x) (Some n) (get_by_text s.numbers x)) number in
     record {
       numbered = subst (λ (l : List (String Global)). AreNumbers is_text l c.insert.new.self) (sym all)
-          (put_told ks item s.numbers c.insert.new.self s.numbered
+          (name_put ks item s.numbers c.insert.new.self s.numbered
           (ap (λ (n : Text). among n (strings ks)) c.in_ok-item.ensures.ok ∙ c.requires) more);
     }

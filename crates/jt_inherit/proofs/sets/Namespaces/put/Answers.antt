@@ -1,8 +1,8 @@
-use Rattle.std.proofs.Common.{◌≡◌, ◌++◌, ◌∷◌, [], Some, List, length, string_bytes, cond, sym, ap, subst, ◌∙◌, arith}
-use Rattle.jt_inherit.specs.internal.Numbers.{is_chain, is_library}
+use Rattle.std.proofs.Common.{false, true, ◌≡◌, ◌++◌, ◌∷◌, [], Some, List, length, string_bytes, cond, sym, ap, subst}
+use Rattle.std.proofs.Common.{◌∙◌, arith}
+use Rattle.jt_inherit.specs.internal.Numbers.{is_kind}
 use Rattle.jt_inherit.proofs.Vocabulary.{get_by_text, bytes_eq, btree_map_updates_text, Text, AreNumbers, NamespaceKey}
-use Rattle.jt_inherit.proofs.NamespaceSets.{chain_kept, chain_put, library_kept, library_put}
-use Rattle.jt_inherit.proofs.NumberTables.{pushed}
+use Rattle.jt_inherit.proofs.NumberTables.{namespace_kept, namespace_put, pushed}
 use Rattle.jt_inherit.proofs.sets.Namespaces.put.Goals as goal
 
 pub invariant_of-self-then-namespace : goal.invariant_of-self-then-namespace
@@ -23,11 +23,12 @@ invariant_of-self-then-namespace c =
     ∙ ap (λ n. cond (bytes_eq (string_bytes k.name) x) (Some n) (get_by_text s.libraries x)) number in
     record {
       chains_numbered =
-          subst (λ (l : List NamespaceKey). AreNumbers is_chain l s.chains) (sym all)
-          (library_kept ks k s.chains s.chains_numbered c.if-namespace.true);
+          subst (λ (l : List NamespaceKey). AreNumbers (is_kind false) l s.chains) (sym all)
+          (namespace_kept false ks k s.chains s.chains_numbered c.if-namespace.true);
       libraries_numbered =
-          subst (λ (l : List NamespaceKey). AreNumbers is_library l c.insert.new.self) (sym all)
-          (library_put ks k s.libraries c.insert.new.self s.libraries_numbered c.if-namespace.true c.requires more);
+          subst (λ (l : List NamespaceKey). AreNumbers (is_kind true) l c.insert.new.self) (sym all)
+          (namespace_put true ks k s.libraries c.insert.new.self s.libraries_numbered c.if-namespace.true c.requires
+          more);
     }
 
 pub invariant_of-self-2 : goal.invariant_of-self-2
@@ -48,9 +49,10 @@ invariant_of-self-2 c =
     ∙ ap (λ n. cond (bytes_eq (string_bytes k.name) x) (Some n) (get_by_text s.chains x)) number in
     record {
       chains_numbered =
-          subst (λ (l : List NamespaceKey). AreNumbers is_chain l c.insert-2.new.self) (sym all)
-          (chain_put ks k s.chains c.insert-2.new.self s.chains_numbered c.if-namespace.false c.requires more);
+          subst (λ (l : List NamespaceKey). AreNumbers (is_kind false) l c.insert-2.new.self) (sym all)
+          (namespace_put false ks k s.chains c.insert-2.new.self s.chains_numbered c.if-namespace.false c.requires
+          more);
       libraries_numbered =
-          subst (λ (l : List NamespaceKey). AreNumbers is_library l s.libraries) (sym all)
-          (chain_kept ks k s.libraries s.libraries_numbered c.if-namespace.false);
+          subst (λ (l : List NamespaceKey). AreNumbers (is_kind true) l s.libraries) (sym all)
+          (namespace_kept true ks k s.libraries s.libraries_numbered c.if-namespace.false);
     }

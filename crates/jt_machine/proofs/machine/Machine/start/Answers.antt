@@ -1,10 +1,5 @@
+use Rattle.jt_machine.proofs.Vocabulary.{Code, Goes, start, AreCached, budget_view, pairs_of, Value}
 use Rattle.std.proofs.Common.{◌≡◌, ◌∙◌, ℕ, List, [], sym, ap, subst}
-use Rattle.jt_value.specs.declared.value.Value.{Value}
-use Rattle.jt_machine.specs.ConstantCache.{AreCached}
-use Rattle.jt_value.specs.ContextView.{pairs_of}
-use Rattle.jt_image.specs.Code.{Code}
-use Rattle.jt_image.specs.Run.{Goes, start}
-use Rattle.jt_machine.specs.View.{budget_view}
 use Rattle.jt_machine.proofs.SlicesAddUp.{runs_in_slices}
 use Rattle.jt_machine.proofs.machine.Machine.start.Goals as goal
 

@@ -1,7 +1,4 @@
-use Rattle.std.proofs.Common.{◌≡◌, ◌+◌, ◌≤◌, length, drop}
-use Rattle.jt_ast.specs.Expressions.{Text}
-use Rattle.jt_ast.specs.Texts.{texts}
-use Rattle.jt_names.specs.Names.{value_in, first_of}
+use Rattle.jt_names.proofs.Vocabulary.{◌≡◌, ◌+◌, ◌≤◌, length, drop, Text, texts, value_in, first_of}
 use Rattle.jt_names.proofs.index.NameIndex.of.Given as goal
 
 abbrev pub invariant-loop-left : goal.invariant-loop-left

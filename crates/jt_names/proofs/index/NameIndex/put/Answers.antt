@@ -1,4 +1,4 @@
-use Rattle.std.proofs.lemmas.Map.Text.{btree_map_updates_str}
+use Rattle.jt_names.proofs.Vocabulary.{btree_map_updates_str}
 use Rattle.jt_names.proofs.index.NameIndex.put.Goals as goal
 
 pub returns : goal.returns

@@ -1,6 +1,0 @@
-use Rattle.std.proofs.Common.{arith, rules}
-use Rattle.jt_chains.proofs.TemplatesByIndex.{along_turn}
-use Rattle.jt_chains.proofs.parts.blocks_at.Goals as goal
-
-pub loop-index-preserved : goal.loop-index-preserved
-loop-index-preserved c = search (arith, rules, along_turn)

@@ -1,9 +1,0 @@
-use Rattle.std.proofs.Common.{◌≡◌, List, take}
-use Rattle.jt_inherit.proofs.Vocabulary.{Text, among, texts, Template, block_names, blocks_view}
-use Rattle.jt_inherit.proofs.BodyRules.{AreGiven}
-use Rattle.jt_inherit.proofs.rules.any_lacks_body.Given as goal
-
-abbrev pub invariant-loop-block : goal.invariant-loop-block
-invariant-loop-block l =
-    ((x : Text) → among x (texts l.names.keys) ≡ among x (block_names (take l.block-index l.blocks)))
-    × ((ts : List Template) → AreGiven (blocks_view ts (take l.block-index l.blocks)))

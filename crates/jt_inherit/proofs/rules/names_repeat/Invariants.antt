@@ -1,8 +1,0 @@
-use Rattle.std.proofs.Common.{◌≡◌, false, take}
-use Rattle.jt_inherit.proofs.Vocabulary.{Text, among, repeated, texts}
-use Rattle.jt_inherit.proofs.rules.names_repeat.Given as goal
-
-abbrev pub invariant-loop-name : goal.invariant-loop-name
-invariant-loop-name l =
-    ((x : Text) → among x (texts l.names.keys) ≡ among x (texts (take l.name-index l.given)))
-    × (repeated (texts (take l.name-index l.given)) ≡ false)

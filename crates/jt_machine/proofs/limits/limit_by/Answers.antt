@@ -1,6 +1,0 @@
-use Rattle.std.proofs.Common.{arith}
-use Rattle.jt_machine.proofs.StepLemmas.{within}
-use Rattle.jt_machine.proofs.limits.limit_by.Goals as goal
-
-pub returns-in-Ok : goal.returns-in-Ok
-returns-in-Ok c = grind (arith, within)

@@ -1,9 +1,0 @@
-use Rattle.std.proofs.Common.{◌≡◌, ◌-◌, ◌^◌, take}
-use Rattle.std.specs.Prelude.{min}
-use Rattle.jt_value.specs.Tree as tree
-use Rattle.jt_image.specs.Step.{greatest}
-use Rattle.jt_machine.specs.Entries.{values_view}
-use Rattle.jt_machine.proofs.unpacking.greatest_size.Given as goal
-
-abbrev pub invariant-values : goal.invariant-values
-invariant-values l = l.most ≡ min (greatest tree.size (values_view (take l.value-index l.values))) (2 ^ 64 - 1)
