@@ -1,9 +1,8 @@
 -- The names that a scope knows.
 use Rattle.jt_chains.specs.Chain.{BlockBody}
-use Rattle.jt_checks.specs.internal.ScopeLookup.{cenv_in}
 use Rattle.jt_checks.proofs.Vocabulary.{◌≡◌, ℕ, suc, nat_lt, Bool, true, false, not, List, [], ◌∷◌, length, map, refl}
 use Rattle.jt_checks.proofs.Vocabulary.{Option, Some, None, arith, rules, bytes_eq, nat_tests, Text, first_of, is_some}
-use Rattle.jt_checks.proofs.Vocabulary.{option_map, filter, Chain, the_filters}
+use Rattle.jt_checks.proofs.Vocabulary.{option_map, filter}
 
 pub mapped : {A B : Type 0} → (f : A → B) (o : Option A) → is_some (option_map f o) ≡ is_some o
 mapped f (Some a) = refl
@@ -17,11 +16,3 @@ pub has_body : (x : Text) (n : ℕ) (bs : List BlockBody)
     → is_some (first_of x n (map (λ b. b.name) bs)) ≡ not (nat_lt (length (filter (λ b. bytes_eq b.name x) bs)) 1)
 has_body x n [] = refl
 has_body x n (b ∷ bs) = search (arith, rules, has_body x (suc n) bs, nat_lt, some_left)
-
-pub not_not : (b : Bool) → not (not b) ≡ b
-not_not true = refl
-not_not false = refl
-
-pub its_filters : (c : Chain) → (cenv_in c).filters ≡ the_filters
-unfolding cenv_in
-its_filters c = refl

@@ -23,22 +23,11 @@ use jt_rules::ScopeError;
 use std::alloc::{AllocError, Global};
 use std::collections::BTreeSet;
 
-/// Returns `rule` if `wrong` holds.
-pub(crate) fn refused(wrong: bool, rule: ScopeError) -> Option<ScopeError>
-    ensures { result ≡ rules.refused wrong rule }
-{
-    if wrong { Some(rule) } else { None }
-}
-
 /// Returns `BadArguments` unless the arguments are right.
 pub(crate) fn unless(right: bool) -> Option<ScopeError>
     ensures { result ≡ rules.unless right }
 {
-    if right {
-        None
-    } else {
-        Some(ScopeError::BadArguments)
-    }
+    (!right).then_some(ScopeError::BadArguments)
 }
 
 /// Returns whether a name occurs twice.

@@ -71,7 +71,7 @@ fn callee_in_library<'a>(scope: &Scope<'_, 'a>, of: &str, field: &str) -> Callee
     let Some(Definition::Library(library)) = scope.given(of) else {
         return Callee::Nothing;
     };
-    match scope.chain.library_macro(library, field) {
+    match scope.facts.chain.library_macro(library, field) {
         Some(found) => Callee::Macro(found.parameters),
         None => Callee::Nothing,
     }

@@ -1,13 +1,11 @@
 use Rattle.jt_rules.specs.CompileEnv.{cenv_of}
 use Rattle.jt_checks.specs.FindingView.{finding_view}
-use Rattle.jt_checks.specs.internal.ScopeLookup.{cenv_in}
 use Rattle.jt_checks.proofs.Vocabulary.{refl, sym, ap, ◌∙◌, option_map, inl, inr, chain_view, names_counted}
 use Rattle.jt_checks.proofs.FindingsHold.{chains_hold, found_is_broken, none_is_broken}
 use Rattle.jt_checks.proofs.LoopSteps.{few_enough, over, name_seen}
 use Rattle.jt_checks.proofs.checking.find_broken.Goals as goal
 
 pub returns-in-Some-clause-found : goal.returns-in-Some-clause-found
-unfolding cenv_in
 returns-in-Some-clause-found c =
     let seen = chain_view c.args.facts.now.chain.now in
     let f = finding_view c.in-Some.finding in
@@ -15,14 +13,12 @@ returns-in-Some-clause-found c =
     (sym c.in_ok-finding.ensures ∙ ap (option_map finding_view) c.in-Some.is))
 
 pub returns-in-Some-clause-holds : goal.returns-in-Some-clause-holds
-unfolding cenv_in
 returns-in-Some-clause-holds c =
     let seen = chain_view c.args.facts.now.chain.now in
     inl (chains_hold (cenv_of seen) seen.order (finding_view c.in-Some.finding)
     (sym c.in_ok-finding.ensures ∙ ap (option_map finding_view) c.in-Some.is))
 
 pub returns-then-branch-clause-kept : goal.returns-then-branch-clause-kept
-unfolding cenv_in
 returns-then-branch-clause-kept c =
     let seen = chain_view c.args.facts.now.chain.now in
     none_is_broken (cenv_of seen) seen.order
@@ -31,14 +27,12 @@ returns-then-branch-clause-kept c =
     c.in_ok-has_few_names.ensures c.if-branch.true)
 
 pub returns-clause-found : goal.returns-clause-found
-unfolding cenv_in
 returns-clause-found c =
     let seen = chain_view c.args.facts.now.chain.now in
     inr (over c.in_ok-has_few_names.field-0 (names_counted (cenv_of seen) seen.order) 65535
     c.in_ok-has_few_names.ensures c.if-branch.false)
 
 pub returns-clause-holds : goal.returns-clause-holds
-unfolding cenv_in
 returns-clause-holds c =
     let seen = chain_view c.args.facts.now.chain.now in
     inr (record {

@@ -1,4 +1,4 @@
-use Rattle.jt_checks.specs.internal.ScopeLookup.{cenv_in}
+use Rattle.jt_checks.specs.internal.ScopeView.{cenv_in}
 use Rattle.jt_checks.proofs.Vocabulary.{◌≡◌, ◌+◌, ◌≤◌, drop, chain_view, names_counted}
 use Rattle.jt_checks.proofs.checking.has_few_names.Given as goal
 
