@@ -1,13 +1,10 @@
 -- Attributes, by their operand.
 use Rattle.jt_ast.specs.Expressions.{Expr}
-use Rattle.jt_chains.specs.Chain.{Sources, Definition, library, MacroBody, macros, public_macro, a_library, callee}
-use Rattle.jt_chains.specs.Chain.{named_in, in_library, of_library}
+use Rattle.jt_chains.specs.Chain.{Sources, Definition, callee, named_in}
 use Rattle.jt_checks.specs.Findings.{a_called_field, a_called_expression, called}
-use Rattle.jt_checks.specs.declared.calls.Callee as code
-use Rattle.jt_checks.specs.internal.CalleeView.{Means}
 use Rattle.jt_checks.specs.internal.ScopeView.{name_in}
 use Rattle.jt_checks.proofs.Vocabulary.{◌≡◌, List, Option, Some, None, arith, rules, attribute, Text, given_to, Callee}
-use Rattle.jt_checks.proofs.Vocabulary.{no_callee, Subject, sym, subst}
+use Rattle.jt_checks.proofs.Vocabulary.{no_callee, Subject}
 
 abbrev pub called_of : Option Text → Text → Subject
 called_of (Some of) k = a_called_field of k
@@ -23,10 +20,3 @@ callee_of sources gs None k = no_callee
 pub attribute_callee : (sources : Sources) (gs : List (Text × Definition)) (a : Expr) (k : Text)
     → callee sources gs (attribute a k) ≡ callee_of sources gs (name_in a) k
 attribute_callee sources gs a2 k = search (arith, rules)
-
--- The macro of a library, by the definition of the library's name.
-pub means_in_library : (sources : Sources) (o : Option Definition) (n x : Text) (m : Option MacroBody) (k : code.Callee)
-    → o ≡ Some (library n) → m ≡ public_macro x (macros sources (a_library n)) → Means k (of_library sources n m)
-    → Means k (in_library sources o x)
-means_in_library sources o n x m k e is h =
-    subst (λ d. Means k (in_library sources d x)) (sym e) (subst (λ z. Means k (of_library sources n z)) is h)

@@ -6,7 +6,7 @@ use Rattle.jt_chains.specs.Chain.{namespace_name, a_chain, a_library}
 use Rattle.jt_chains.specs.View.{namespace_in}
 use Rattle.jt_chains.proofs.TemplatesByIndex.{name_of_namespace, namespace_layers, namespace_indices, index_within}
 use Rattle.jt_checks.specs.internal.ScopeView.{names_of}
-use Rattle.jt_checks.proofs.Vocabulary.{◌≡◌, ℕ, ◌+◌, ◌<◌, ◌≤◌, Bool, true, false, List, [], ◌∷◌, length, drop, cenv_in}
+use Rattle.jt_checks.proofs.Vocabulary.{◌≡◌, ℕ, ◌+◌, ◌<◌, ◌≤◌, Bool, true, false, List, ◌∷◌, length, drop, cenv_in}
 use Rattle.jt_checks.proofs.Vocabulary.{get_or, if◌then◌else◌, string_bytes, refl, sym, ap, ◌∙◌, arith, rules, Chain}
 use Rattle.jt_checks.proofs.Vocabulary.{drop_more, Namespace, Template, templates, layers_along, names_counted}
 use Rattle.jt_checks.proofs.Vocabulary.{nat_tests, chain_view, CompileEnv}

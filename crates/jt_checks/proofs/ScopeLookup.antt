@@ -1,12 +1,8 @@
 -- The names that a scope knows.
 use Rattle.jt_chains.specs.Chain.{BlockBody}
-use Rattle.jt_checks.proofs.Vocabulary.{◌≡◌, ℕ, suc, nat_lt, Bool, true, false, not, List, [], ◌∷◌, length, map, refl}
-use Rattle.jt_checks.proofs.Vocabulary.{Option, Some, None, arith, rules, bytes_eq, nat_tests, Text, first_of, is_some}
-use Rattle.jt_checks.proofs.Vocabulary.{option_map, filter}
-
-pub mapped : {A B : Type 0} → (f : A → B) (o : Option A) → is_some (option_map f o) ≡ is_some o
-mapped f (Some a) = refl
-mapped f None = refl
+use Rattle.jt_checks.proofs.Vocabulary.{◌≡◌, ℕ, suc, nat_lt, true, not, List, [], ◌∷◌, length, map, refl}
+use Rattle.jt_checks.proofs.Vocabulary.{arith, rules, bytes_eq, nat_tests, Text, first_of, is_some}
+use Rattle.jt_checks.proofs.Vocabulary.{filter}
 
 some_left : (n : ℕ) → true ≡ not (nat_lt (suc n) 1)
 some_left n = grind (arith, nat_tests)
