@@ -1,13 +1,85 @@
--- Arguments that fit parameters.
+-- Arguments that fit the parameters of macros and filters.
+use Rattle.jt_rules.specs.Arguments.{no_keywords}
+use Rattle.std.proofs.lemmas.Bool.{or_right}
 use Rattle.std.proofs.Common.{Result, Ok, Err, IfOk}
 use Rattle.std.proofs.lemmas.List.{take_rest, drop_min, drop-map, length-map}
 use Rattle.jt_ast.specs.StatementView.{parameter_view}
-use Rattle.jt_checks.proofs.Vocabulary.{◌≡◌, ℕ, ◌<◌, ◌≤◌, ◌-◌, min, take, length, drop, sym, ap, ◌∙◌, arith, rules}
-use Rattle.jt_checks.proofs.Vocabulary.{Bool, false, not, ◌&&◌, List, list_any, nat_tests, exprs_view, Expr, among}
-use Rattle.jt_checks.proofs.Vocabulary.{repeated, Text, parameters_view, Parameter, count}
-use Rattle.jt_checks.proofs.FilledParameters.{filled_behind}
-use Rattle.jt_checks.proofs.RowLengths.{counted}
+use Rattle.jt_filter_semantics.specs.FilterIds.{filter_of}
+use Rattle.jt_ids.specs.FilterTable.{filter_id}
+use Rattle.jt_eval.specs.Inside.{names_well}
+use Rattle.jt_eval.specs.TheFilters.{the_filters, filter_written, filter_parameters}
+use Rattle.jt_checks.proofs.Vocabulary.{◌≡◌, suc, List, [], ◌∷◌, length, refl, ap, arith, nat_eq, rules, nat_tests}
+use Rattle.jt_checks.proofs.Vocabulary.{exprs_view, pairs_view, Expr, count, Entry, ℕ, zero, ◌<◌, Bool, true, false}
+use Rattle.jt_checks.proofs.Vocabulary.{◌||◌, if◌then◌else◌, take, drop, get_or, ◌∙◌, Option, Some, None, string_bytes}
+use Rattle.jt_checks.proofs.Vocabulary.{list_all, is_some, option_map, among, Text, parameters_view, Parameter}
+use Rattle.jt_checks.proofs.Vocabulary.{some_given, ◌≤◌, ◌-◌, min, sym, not, ◌&&◌, list_any, repeated, Exprs, FilterId}
+use Rattle.jt_checks.proofs.Vocabulary.{keywords, filter_takes, ScopeError}
+use Rattle.jt_ast.specs.Statements as statements
 use Rattle.jt_checks.specs.internal.RuleTests as rules
+use Rattle.jt_ast.specs.Expressions as trees
+use Rattle.jt_ids.specs.declared.filter_id.FilterId.TheVariants as filter
+
+pub counted : (ts : List Expr) → count (exprs_view ts) ≡ length ts
+counted [] = refl
+counted (t ∷ ts) = ap suc (counted ts)
+
+pub keyless : (ps : List Entry) → no_keywords (pairs_view ps) ≡ nat_eq (length ps) 0
+keyless [] = refl
+keyless (p ∷ ps) = search (arith, rules, nat_eq, nat_tests)
+
+abbrev pub is_filled : List Text → Parameter → Bool
+is_filled ks p = among (string_bytes p.name) ks || is_some p.default
+
+module _ (ks : List Text) where
+  -- A named parameter is among those that are named.
+  given_at : (ps : List Parameter) (i : ℕ) (p : Parameter) → i < length ps → p ≡ get_or ps i p
+      → among (string_bytes p.name) ks ≡ true → some_given (parameters_view ps) ks ≡ true
+  given_at [] i p lt is e = absurd (omega arith)
+  given_at (q ∷ ps) zero p lt is e = search (arith, rules, string_bytes)
+  given_at (q ∷ ps) (suc i) p lt is e = search (arith, rules, or_right, string_bytes, given_at ps i p)
+
+  -- If no parameter is named, none is reached.
+  pub none_reached : (ps : List statements.Parameter) → some_given ps ks ≡ false → rules.reached ps ks ≡ 0
+  none_reached [] e = refl
+  none_reached (p ∷ ps) e = ap (λ b. if b then suc (rules.reached ps ks) else 0) e
+
+  -- The last named parameter.
+  pub last_reached : (ps : List Parameter) (i : ℕ) (p : Parameter) → i < length ps → p ≡ get_or ps i p
+      → among (string_bytes p.name) ks ≡ true
+      → some_given (parameters_view (drop (suc i) ps)) ks ≡ false → rules.reached (parameters_view ps) ks ≡ suc i
+  last_reached [] i p lt is e none = absurd (omega arith)
+  last_reached (q ∷ ps) zero p lt is e none = search (arith, rules, given_at, none_reached)
+  last_reached (q ∷ ps) (suc i) p lt is e none = search (arith, rules, given_at, last_reached ps i p)
+
+  -- One more parameter that is not named.
+  pub none_more : (ps : List Parameter) (i : ℕ) (p : Parameter) → i < length ps → p ≡ get_or ps i p
+      → among (string_bytes p.name) ks ≡ false
+      → some_given (parameters_view (drop (suc i) ps)) ks ≡ false → some_given (parameters_view (drop i ps)) ks ≡ false
+  none_more [] i p lt is e none = absurd (omega arith)
+  none_more (q ∷ ps) zero p lt is e none = search (arith, rules, string_bytes)
+  none_more (q ∷ ps) (suc i) p lt is e none = none_more ps i p (omega arith) is e none
+
+  mapped : {A B : Type 0} → (f : A → B) (o : Option A) → is_some (option_map f o) ≡ is_some o
+  mapped f (Some a) = refl
+  mapped f None = refl
+
+  -- Each parameter up to the last named one is filled.
+  filled_up_to : (ps : List Parameter) → list_all (is_filled ks) (take (rules.reached (parameters_view ps) ks) ps)
+      ≡ rules.is_filled (parameters_view ps) 0 ks
+  filled_up_to [] = refl
+  filled_up_to (p ∷ ps) = search (arith, rules, filled_up_to ps, string_bytes, mapped)
+
+  pub filled_among : (ps : List Parameter) (r : ℕ) → r ≡ rules.reached (parameters_view ps) ks
+      → list_all (is_filled ks) (take r ps) ≡ rules.is_filled (parameters_view ps) 0 ks
+  filled_among ps r e = ap (λ n. list_all (is_filled ks) (take n ps)) e ∙ filled_up_to ps
+
+-- The parameters after the ones that positional arguments fill.
+pub filled_behind : (ps : List statements.Parameter) (n : ℕ) (ks : List Text)
+    → rules.is_filled ps n ks ≡ rules.is_filled (drop n ps) 0 ks
+filled_behind [] zero ks = refl
+filled_behind [] (suc n) ks = refl
+filled_behind (p ∷ ps) zero ks = refl
+filled_behind (p ∷ ps) (suc n) ks = filled_behind ps n ks
 
 pub equal_ok : {E : Type 0} → (r : Result Bool E) (u v : Bool) → u ≡ v → IfOk r (λ b. b ≡ u) → IfOk r (λ b. b ≡ v)
 equal_ok (Ok b) u v e h = h ∙ e
@@ -41,3 +113,34 @@ pub well_named : (ps : List Parameter) (n m : ℕ) (left ns : List Text) → m �
     → left ≡ rules.parameter_names (parameters_view (take (length ps - m) (drop m ps))) → false ≡ repeated ns
     → not (list_any (λ k. not (among k left)) ns) ≡ named_well ps n ns
 well_named ps n m left ns e f g = search (arith, rules, dropped)
+
+pub known_filter : (f : FilterId) → filter_of (filter_id f) ≡ Some f
+unfolding filter_of
+known_filter filter.Abs = refl
+known_filter f = refl
+
+abbrev pub taken_rightly : FilterId → ℕ → Exprs → trees.Pairs → Bool
+taken_rightly f n ts ps = filter_takes f (filter_parameters f) n (keywords ps) && names_well f ts ps
+
+rule_of : Option FilterId → Exprs → trees.Pairs → Option ScopeError
+rule_of None ts ps = None
+rule_of (Some f) ts ps = rules.unless (taken_rightly f (count ts) ts ps)
+
+-- The rule that a filter breaks, by its id.
+by_id : (o : Option FilterId) (ts : Exprs) (ps : trees.Pairs)
+    → rules.unless (rules.filter_right the_filters (option_map filter_id o) ts ps) ≡ rule_of o ts ps
+unfolding the_filters rule_of
+by_id None ts ps = refl
+by_id (Some f) ts ps = search (arith, rules, known_filter)
+
+pub filter_known : (x : Text) (f : FilterId) (n : ℕ) (ts : Exprs) (ps : trees.Pairs) (b : Bool) (r : Option ScopeError)
+    → Some f ≡ filter_written x ts ps → count ts ≡ n → b ≡ taken_rightly f n ts ps → r ≡ rules.unless b
+    → r ≡ rules.unless (rules.filter_right the_filters (the_filters.named x ts ps) ts ps)
+unfolding the_filters rule_of
+filter_known x f n ts ps b r is same e h = search (arith, rules, rule_of, by_id)
+
+pub filter_unknown : (x : Text) (ts : Exprs) (ps : trees.Pairs) → None ≡ filter_written x ts ps
+    → None ≡ rules.unless (rules.filter_right the_filters (the_filters.named x ts ps) ts ps)
+unfolding the_filters rule_of
+filter_unknown x ts ps is =
+    ap (λ (o : Option FilterId). rule_of o ts ps) is ∙ sym (by_id (filter_written x ts ps) ts ps)

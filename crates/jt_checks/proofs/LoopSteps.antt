@@ -1,15 +1,14 @@
 -- Steps of the loops over chains, and over the templates of a chain.
-use Rattle.std.proofs.Common.{nat_le}
 use Rattle.std.proofs.lemmas.List.{length-map}
 use Rattle.std.proofs.lemmas.Option.{unwrap_or-slice_get}
 use Rattle.jt_chains.specs.Chain.{namespace_name, a_chain, a_library}
 use Rattle.jt_chains.specs.View.{namespace_in}
 use Rattle.jt_chains.proofs.TemplatesByIndex.{name_of_namespace, namespace_layers, namespace_indices, index_within}
 use Rattle.jt_checks.specs.internal.ScopeView.{names_of}
-use Rattle.jt_checks.proofs.Vocabulary.{◌≡◌, ℕ, ◌+◌, ◌<◌, ◌≤◌, Bool, true, false, List, ◌∷◌, length, drop, cenv_in}
+use Rattle.jt_checks.proofs.Vocabulary.{◌≡◌, ℕ, ◌+◌, ◌<◌, Bool, true, false, List, ◌∷◌, length, drop, cenv_in}
 use Rattle.jt_checks.proofs.Vocabulary.{get_or, if◌then◌else◌, string_bytes, refl, sym, ap, ◌∙◌, arith, rules, Chain}
 use Rattle.jt_checks.proofs.Vocabulary.{drop_more, Namespace, Template, templates, layers_along, names_counted}
-use Rattle.jt_checks.proofs.Vocabulary.{nat_tests, chain_view, CompileEnv}
+use Rattle.jt_checks.proofs.Vocabulary.{chain_view, CompileEnv}
 use Rattle.jt_chains.specs.declared.chain.Namespace as written
 use Rattle.jt_checks.specs.internal.UseRules as broken
 
@@ -44,12 +43,6 @@ pub template_within : (c : Chain) (i : ℕ) (h : written.Namespace) → i < leng
     → h ≡ get_or c.namespaces.items i h → (k : ℕ) → k < length h.templates.items
     → get_or h.templates.items k 0 < length c.templates.items
 template_within c i h lt at k within = search (arith, rules, index_within, namespace_indices)
-
-pub few_enough : (b : Bool) (n m : ℕ) → b ≡ nat_le n m → b ≡ true → n ≤ m
-few_enough b n m e h = grind (arith, nat_tests)
-
-pub over : (b : Bool) (n m : ℕ) → b ≡ nat_le n m → b ≡ false → m < n
-over b n m e h = grind (arith, nat_tests)
 
 -- The name of a chain or a library.
 pub name_seen : (c : Chain) (i : ℕ) (h : written.Namespace) → i < length c.namespaces.items

@@ -6,7 +6,7 @@ use Rattle.jt_checks.proofs.Vocabulary.{◌≡◌, ℕ, suc, ◌+◌, ◌<◌, �
 use Rattle.jt_checks.proofs.Vocabulary.{length-drop, get_or, sym, ap, ◌∙◌, arith, Option, None, rules, nat_tests}
 use Rattle.jt_checks.proofs.Vocabulary.{drop_more, literal_text, expr_view, exprs_view, Expr, named_at, FilterId}
 use Rattle.jt_checks.proofs.Vocabulary.{argument_well, row_well}
-use Rattle.jt_checks.proofs.RowLengths.{counted}
+use Rattle.jt_checks.proofs.ArgumentsFit.{counted}
 
 -- Without the name of an only argument, a name means the filter of that name.
 pub alone : (o : Option FilterId) → with_only o None ≡ o

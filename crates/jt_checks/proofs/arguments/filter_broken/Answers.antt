@@ -1,6 +1,4 @@
-use Rattle.jt_checks.proofs.Vocabulary.{arith, rules}
-use Rattle.jt_checks.proofs.FilterArity.{filter_known, filter_unknown}
-use Rattle.jt_checks.proofs.RowLengths.{counted}
+use Rattle.jt_checks.proofs.{arith, rules, filter_known, filter_unknown, counted}
 use Rattle.jt_checks.proofs.arguments.filter_broken.Goals as goal
 
 pub returns-in_ok-filter_accepts-in-Some : goal.returns-in_ok-filter_accepts-in-Some

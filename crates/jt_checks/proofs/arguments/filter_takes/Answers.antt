@@ -1,5 +1,4 @@
-use Rattle.jt_checks.proofs.Vocabulary.{arith, rules}
-use Rattle.jt_checks.proofs.ArgumentsFit.{equal_ok, named_well, filled_is}
+use Rattle.jt_checks.proofs.{arith, rules, equal_ok, named_well, filled_is}
 use Rattle.jt_checks.proofs.arguments.filter_takes.Goals as goal
 
 pub returns-then-not-takes : goal.returns-then-not-takes

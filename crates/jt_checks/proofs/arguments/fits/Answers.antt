@@ -1,5 +1,4 @@
-use Rattle.jt_checks.proofs.Vocabulary.{◌∙◌, ap, arith, rules, texts}
-use Rattle.jt_checks.proofs.ArgumentsFit.{equal_ok, fits_is, too_many}
+use Rattle.jt_checks.proofs.{◌∙◌, ap, arith, rules, texts, equal_ok, fits_is, too_many}
 use Rattle.jt_checks.proofs.arguments.fits.Goals as goal
 
 pub returns-then-parameters-row : goal.returns-then-parameters-row

@@ -1,5 +1,4 @@
-use Rattle.jt_checks.proofs.Vocabulary.{sym, ◌∙◌, ap, texts}
-use Rattle.jt_checks.proofs.ArgumentsFit.{equal_ok, well_named}
+use Rattle.jt_checks.proofs.{sym, ◌∙◌, ap, texts, equal_ok, well_named}
 use Rattle.jt_checks.proofs.arguments.names_fit.Goals as goal
 
 pub returns : goal.returns

@@ -1,5 +1,4 @@
-use Rattle.jt_checks.proofs.Vocabulary.{arith, rules}
-use Rattle.jt_checks.proofs.LoopSteps.{chains_left}
+use Rattle.jt_checks.proofs.{arith, rules, chains_left}
 use Rattle.jt_checks.proofs.checking.chains_broken.Goals as goal
 
 pub returns-in-Some : goal.returns-in-Some

@@ -1,8 +1,7 @@
 use Rattle.jt_checks.specs.FindingView.{finding_view}
 use Rattle.jt_checks.specs.Findings.{Holds}
-use Rattle.jt_checks.proofs.Vocabulary.{refl, sym, ap, ◌∙◌, arith, option_map, inr, chain_view, cenv_in, nat_tests}
-use Rattle.jt_checks.proofs.FindingsHold.{judged, found_is_broken, none_is_broken}
-use Rattle.jt_checks.proofs.LoopSteps.{name_seen}
+use Rattle.jt_checks.proofs.{refl, sym, ap, ◌∙◌, arith, option_map, inr, chain_view, cenv_in, nat_tests, judged}
+use Rattle.jt_checks.proofs.{found_is_broken, none_is_broken, name_seen}
 use Rattle.jt_checks.proofs.checking.find_broken.Goals as goal
 
 pub returns-in-Some : goal.returns-in-Some

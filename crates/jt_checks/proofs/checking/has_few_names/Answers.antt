@@ -1,5 +1,4 @@
-use Rattle.jt_checks.proofs.Vocabulary.{arith}
-use Rattle.jt_checks.proofs.LoopSteps.{names_left}
+use Rattle.jt_checks.proofs.{arith, names_left}
 use Rattle.jt_checks.proofs.checking.has_few_names.Goals as goal
 
 pub returns-then-left-count : goal.returns-then-left-count

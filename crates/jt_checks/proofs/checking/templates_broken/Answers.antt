@@ -1,6 +1,5 @@
 use Rattle.std.proofs.lemmas.List.{drop_all}
-use Rattle.jt_checks.proofs.Vocabulary.{arith, rules}
-use Rattle.jt_checks.proofs.LoopSteps.{templates_left, template_within, its_templates}
+use Rattle.jt_checks.proofs.{arith, rules, templates_left, template_within, its_templates}
 use Rattle.jt_checks.proofs.checking.templates_broken.Goals as goal
 
 pub template_broken-requires-clause-within : goal.template_broken-requires-clause-within

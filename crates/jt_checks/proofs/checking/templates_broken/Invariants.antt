@@ -1,5 +1,5 @@
 use Rattle.jt_checks.specs.internal.ScopeView.{in_scope, its_chain}
-use Rattle.jt_checks.proofs.Vocabulary.{◌≡◌, drop, layers_along, chain_view}
+use Rattle.jt_checks.proofs.{◌≡◌, drop, layers_along, chain_view}
 use Rattle.jt_checks.specs.internal.UseRules as broken
 use Rattle.jt_checks.proofs.checking.templates_broken.Given as goal
 

@@ -1,5 +1,4 @@
-use Rattle.jt_checks.proofs.Vocabulary.{arith, rules}
-use Rattle.jt_checks.proofs.ScopeLookup.{has_body}
+use Rattle.jt_checks.proofs.{arith, rules, has_body}
 use Rattle.jt_checks.proofs.scope.Scope.is_block.Goals as goal
 
 pub returns : goal.returns
