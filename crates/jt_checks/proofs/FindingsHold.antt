@@ -120,8 +120,7 @@ module _ (cenv : CompileEnv) (namespace : Namespace) where
   named : (n : Text) (f : Finding) (ss : List Site) → ForSome (IsNamed n f) ss
       → (n ≡ f.template) × ForSome (IsFoundAt cenv namespace f) ss
   named n f [] h = absurd h
-  named n f (s ∷ ss) (inl h) = (h.0, inl h.1)
-  named n f (s ∷ ss) (inr h) = let rest = named n f ss h in (rest.0, inr rest.1)
+  named n f (s ∷ ss) h = search (arith, rules, named n f ss)
 
   template_judged : (t : Template)
       → Judged (broken.template_broken cenv namespace t) (λ f. IsFoundIn cenv namespace f t)
@@ -134,10 +133,7 @@ module _ (cenv : CompileEnv) (namespace : Namespace) where
       let AtUses : ScopeError → Type 0 = (λ rule. ForSome (SiteBreaks rule) ss) in
       rejudged (broken.template_broken cenv namespace t) (λ f. Named f ⊎ Passes f) (λ f. IsFoundIn cenv namespace f t)
       (λ rule. TemplateBreaks rule t) (λ rule. TemplateBreaks rule t)
-      (λ f h. elim h [
-        | inl p ↦ let q = named t.name f ss p in record { template = q.0; found = inl q.1 }
-        | inr q ↦ record { template = q.0; found = inr q.1 }
-      ]) (λ rule h. h)
+      (λ f h. search (arith, rules, named t.name f ss)) (λ rule h. h)
       (or_judged (broken.uses_broken cenv namespace t.name ss) over Named Passes AtUses (λ rule. OfNumber rule t)
       (first_judged (broken.site_finding cenv namespace t.name) (λ s f. IsNamed t.name f s)
       (λ s rule. SiteBreaks rule s) (site_judged t.name) ss) (over_judged t))

@@ -2,7 +2,8 @@
 use Rattle.std.specs.Prelude.{◌==◌, ◌&&◌, ℕ, ◌+◌, ◌-◌, ◌^◌, min, length, nat_lt, not, Bool, List, Option, Some, None}
 use Rattle.jt_ast.specs.Expressions.{Expr, Exprs, Pairs, name, Text}
 use Rattle.jt_ast.specs.Texts.{ascending}
-use Rattle.jt_chains.specs.Chain.{Namespace, a_chain, a_library, Sources, Definition, given, given_to, bodies, libraries}
+use Rattle.jt_chains.specs.Chain.{Namespace, a_chain, a_library, Sources, Definition, given, given_to, bodies}
+use Rattle.jt_chains.specs.Chain.{libraries}
 use Rattle.jt_chains.specs.Named.{given_view}
 use Rattle.jt_chains.specs.Uses.{count, own_names}
 use Rattle.jt_chains.specs.View.{chain_view, namespace_in}
