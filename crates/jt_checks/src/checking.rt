@@ -83,6 +83,7 @@ pub fn find_broken<'a>(
 }
 
 /// Returns the first finding in the templates of the chains.
+#[tactic(auto, using(crate::proofs::LoopSteps::chains_left))]
 fn chains_broken<'a>(
     alloc: Global,
     facts: &ChainFacts<'a>,
@@ -152,6 +153,7 @@ fn template_broken<'a>(
 
 /// Returns whether the chains read or bind at most `MAX_NAMES` names, each counted once for each
 /// chain.
+#[tactic(auto, using(crate::proofs::LoopSteps::names_left))]
 fn has_few_names(alloc: Global, facts: &ChainFacts<'_>) -> Result<bool, AllocError>
     requires { AllKnown facts.now }
     ensures { IfOk result (λ b. b ≡ nat_le (names_counted (cenv_in facts.now.chain.now)

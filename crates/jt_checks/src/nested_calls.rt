@@ -38,7 +38,7 @@ fn is_argument_well(naming: Option<ArgumentRole>, argument: &Expr, values: usize
 
 /// Returns whether each positional argument that names something names it correctly. A named filter
 /// or test takes the item and the arguments after its name.
-#[tactic(auto, using(crate::proofs::NestedCallNames::turn))]
+#[tactic(auto, using(crate::proofs::NestedCallNames::row_wrong, crate::proofs::NestedCallNames::row_right))]
 fn is_row_well(filter: FilterId, row: &[Expr]) -> bool
     ensures { result ≡ inside.row_well filter 1 (exprs_view row.now) }
 {
