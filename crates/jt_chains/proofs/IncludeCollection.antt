@@ -3,8 +3,8 @@ use Rattle.jt_chains.proofs.Vocabulary.{◌≡◌, Bool, List, [], ◌∷◌, �
 use Rattle.jt_chains.proofs.Vocabulary.{append-nil, Text, Stmt, macro, Body, end, stmt, Template, includes_by}
 use Rattle.jt_chains.proofs.Vocabulary.{includes_in, includes_under, include_need}
 use Rattle.std.proofs.lemmas.Grind.{flat_map-append}
-use Rattle.jt_ast.specs.Statements.{choose, for_each, set_block, with_values, filter_block, autoescape}
-use Rattle.jt_ast.specs.Statements.{block, Branches, no_branches, branch}
+use Rattle.jt_ast.specs.Statements.{choose, for_each, set_block, with_values, filter_block, autoescape, block, Branches}
+use Rattle.jt_ast.specs.Statements.{no_branches, branch}
 use Rattle.jt_chains.specs.Includes.{need, needs_in}
 use Rattle.jt_chains.specs.Needs.{Need, needed}
 

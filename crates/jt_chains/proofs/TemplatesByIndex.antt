@@ -1,7 +1,8 @@
 -- Templates by their indices.
 use Rattle.jt_chains.proofs.Vocabulary.{◌≡◌, ℕ, suc, ◌+◌, ◌<◌, Bool, true, false, ◌||◌, if◌then◌else◌, List, [], ◌∷◌}
 use Rattle.jt_chains.proofs.Vocabulary.{◌++◌, length, map, drop, get_or, refl, sym, ap, subst, ◌∙◌, arith, Option, Some}
-use Rattle.jt_chains.proofs.Vocabulary.{None, rules, slice_get, flat_map, unwrap_or, option_map, length-map}
+use Rattle.jt_chains.proofs.Vocabulary.{None, rules, tests, stmt, macro, a_library, imports, imports_in, libraries}
+use Rattle.jt_chains.proofs.Vocabulary.{libraries_in, slice_get, flat_map, unwrap_or, option_map, length-map}
 use Rattle.jt_chains.proofs.Vocabulary.{bytes_eq-Decides, bytes_eq, Text, Body, end, body_of, body_at, along}
 use Rattle.jt_chains.proofs.Vocabulary.{macros_along, blocks_along, layers_along, Sources, Template, template}
 use Rattle.jt_chains.proofs.Vocabulary.{holds_macros, library_template, templates, sources_in, macros_in, blocks_in}
@@ -14,12 +15,13 @@ use Rattle.std.proofs.lemmas.Option.{slice_get_within, slice_get-map, slice_get_
 use Rattle.std.proofs.lemmas.Cmp.{nat_list_eq_equiv}
 use Rattle.std.proofs.lemmas.Bool.{or_parts}
 use Rattle.jt_chains.specs.Along.{AreIndices}
-use Rattle.jt_chains.specs.Chain.{max_templates}
-use Rattle.jt_chains.specs.Chain.{names_up}
+use Rattle.jt_chains.specs.Chain.{max_templates, names_up}
 use Rattle.jt_ast.specs.Texts.{among}
 use Rattle.jt_chains.specs.TemplateFiles.{names_at}
 use Rattle.jt_chains.specs.declared.chain.Namespace.{Namespace}
 use Rattle.jt_chains.specs.Chain as chain
+use Rattle.jt_chains.specs.internal.AreFrom.{AreFrom}
+use Rattle.jt_ast.specs.Statements.{data_of}
 
 pub number_at : (P : ℕ → Type 0) (xs : List ℕ) (i : ℕ) → i < length xs → AllByRecursion P xs → P (get_or xs i 0)
 number_at P [] i lt a = absurd (omega arith)
@@ -59,7 +61,7 @@ module _ {A : Type 0} (g : Text → Body → List A) (ts : List Template) where
       (unwrap_or (option_map (λ (u : Template). u.body) o) end)) e
 
   -- `along` over the indices of templates is `flat_map` over the templates.
-  pub along_templates : (is : List ℕ) (us : List Template) → map (slice_get ts) is ≡ map Some us
+  pub along_templates : (is : List ℕ) (us : List Template) → AreFrom ts is us
       → along ts g is ≡ flat_map (λ t. g t.name t.body) us
   along_templates [] [] e = refl
   along_templates [] (u ∷ us) e = absurd (cc)
@@ -69,8 +71,7 @@ module _ {A : Type 0} (g : Text → Body → List A) (ts : List Template) where
       let r : map (slice_get ts) is ≡ map Some us = cc in
       ap (λ l. l ++ along ts g is) (one i u h) ∙ ap (λ l. g u.name u.body ++ l) (along_templates is us r)
 
-pub are_indices : (ts : List Template) (is : List ℕ) (us : List Template) → map (slice_get ts) is ≡ map Some us
-    → AreIndices ts is
+pub are_indices : (ts : List Template) (is : List ℕ) (us : List Template) → AreFrom ts is us → AreIndices ts is
 are_indices ts [] us e = tt
 are_indices ts (i ∷ is) [] e = absurd (cc)
 are_indices ts (i ∷ is) (u ∷ us) e =
@@ -173,8 +174,7 @@ template_named ts i u once g e = by (slice_get ts i) refl
         at ∙ ap Some (alike t u p (cc))
 
 indexed_by_names : (ts : List Template) (is : List ℕ) (us : List Template) → repeated (map (λ u. u.name) ts) ≡ false
-    → Definition (sources_in ts) us → names_at ts is ≡ map (λ t. Some t.name) us
-    → map (slice_get ts) is ≡ map Some us
+    → Definition (sources_in ts) us → names_at ts is ≡ map (λ t. Some t.name) us → AreFrom ts is us
 indexed_by_names ts [] [] once g e = refl
 indexed_by_names ts [] (u ∷ us) once g e = absurd (cc)
 indexed_by_names ts (i ∷ is) [] once g e = absurd (cc)
@@ -184,66 +184,102 @@ indexed_by_names ts (i ∷ is) (u ∷ us) once g e =
     ap (λ o. o ∷ map (slice_get ts) is) (template_named ts i u once g.0 here)
     ∙ ap (λ l. Some u ∷ l) (indexed_by_names ts is us once g.1 rest)
 
--- The names at the indices of a chain are those of its templates.
-pub whole_at : (ts : List Template) (hs : List Namespace) (i : ℕ) (h : Namespace) → i < length hs → h ≡ get_or hs i h
+-- The names at the indices of a namespace are those of its templates.
+whole_at : (ts : List Template) (hs : List Namespace) (i : ℕ) (h : Namespace) → i < length hs → h ≡ get_or hs i h
     → AreWhole ts hs
-    → names_at ts h.templates.items ≡ map (λ t. Some t.name) (templates (sources_in ts) (namespace_view h))
+    → names_at ts h.templates.items
+    ≡ map (λ t. Some t.name) (templates (sources_in ts) (namespace_at (map namespace_view hs) i))
 whole_at ts [] i h lt is w = absurd (omega arith)
-whole_at ts (k ∷ hs) zero h lt is w =
-    subst (λ (z : Namespace).
-    names_at ts z.templates.items ≡ map (λ t. Some t.name) (templates (sources_in ts) (namespace_view z))) (sym is) w.0
+whole_at ts (k ∷ hs) zero h lt is w = ap (λ (z : Namespace). names_at ts z.templates.items) is ∙ w.0
 whole_at ts (k ∷ hs) (suc i) h lt is w = whole_at ts hs i h (omega arith) is w.1
 
-pub namespace_templates : (ts : List Template) (hs : List Namespace) (i : ℕ) (h : Namespace) → i < length hs
+pub indices_of_namespace : (ts : List Template) (hs : List Namespace) (i : ℕ) (h : Namespace) → i < length hs
     → h ≡ get_or hs i h → repeated (map (λ u. u.name) ts) ≡ false → AreWhole ts hs
-    → map (slice_get ts) h.templates.items ≡ map Some (templates (sources_in ts) (namespace_view h))
-namespace_templates ts hs i h lt is once w =
-    indexed_by_names ts h.templates.items (templates (sources_in ts) (namespace_view h)) once
-    (given_templates (sources_in ts) (namespace_view h)) (whole_at ts hs i h lt is w)
+    → AreFrom ts h.templates.items (templates (sources_in ts) (namespace_at (map namespace_view hs) i))
+indices_of_namespace ts hs i h lt is once w =
+    indexed_by_names ts h.templates.items _ once (given_templates (sources_in ts) _) (whole_at ts hs i h lt is w)
 
 each_alone : (ts : List Template) → flat_map (λ t. record { name = t.name; body = t.body } ∷ []) ts ≡ ts
 each_alone [] = refl
 each_alone (t ∷ ts) = ap (λ l. t ∷ l) (each_alone ts)
 
--- `along` over the indices of a chain is `flat_map` over its templates.
+-- ---- a library imports nothing
+
+no_imports : (s : Sources) (b : Body) → holds_macros b ≡ true → (imports_in s b ≡ []) × (libraries_in b ≡ [])
+no_imports s end h = (refl, refl)
+no_imports s (stmt (data_of text) rest) h = no_imports s rest (search (rules, tests))
+no_imports s (stmt (macro line x ps b) rest) h = no_imports s rest h
+no_imports s (stmt other rest) h = absurd (cc)
+
+nothing_in : {A : Type 0} (g : Body → List A) → ((b : Body) → holds_macros b ≡ true → g b ≡ []) → (n : Text)
+    (o : Option Body)
+    → flat_map (λ t. g t.body) (library_template n o) ≡ []
+nothing_in g none n None = refl
+nothing_in g none n (Some b) = by (holds_macros b) refl
+  where
+    by : (c : Bool) → holds_macros b ≡ c → flat_map (λ t. g t.body) (if c then template n (Some b) else []) ≡ []
+    by true e = ap (λ l. l ++ []) (none b e)
+    by false e = refl
+
+-- What the templates of a namespace have, by their indices.
+module _ (ps qs : List TemplateFile) (is : List ℕ) (h : chain.Namespace) (same : qs ≡ ps)
+    (from : AreFrom (files_view ps) is (templates (sources_in (files_view ps)) h)) where
+  abbrev s : Sources
+  s = sources_in (files_view ps)
+
+  all_from : {A : Type 0} (g : Text → Body → List A)
+      → along (files_view qs) g is ≡ flat_map (λ t. g t.name t.body) (templates s h)
+  all_from g = rw same (along_templates g (files_view ps) is _ from)
+
+  pub macros_from : macros_along (files_view qs) is ≡ chain.macros s h
+  macros_from = all_from macros_in
+
+  pub blocks_from : (escaping : Bool) → blocks_along (files_view qs) escaping is ≡ chain.all_bodies s escaping h
+  blocks_from escaping = all_from (λ n b. blocks_in n b escaping)
+
+  pub includes_from : includes_along (files_view qs) is
+      ≡ flat_map (λ t. includes_in include_need t.body) (templates s h)
+  includes_from = all_from (λ n b. includes_in include_need b)
+
+  pub layers_from : layers_along (files_view qs) is ≡ templates s h
+  layers_from = all_from (λ n b. record { name = n; body = b } ∷ []) ∙ each_alone (templates s h)
+
+  pub imports_from : along (files_view qs) (λ n b. imports_in s b) is ≡ imports s h
+  imports_from = all_from (λ n b. imports_in s b) ∙ by h
+    where
+      by : (k : chain.Namespace) → flat_map (λ t. imports_in s t.body) (templates s k) ≡ imports s k
+      by (chain.a_chain n) = refl
+      by (a_library n) = nothing_in (imports_in s) (λ b e. (no_imports s b e).0) n (s n)
+
+  pub libraries_from : along (files_view qs) (λ n b. libraries_in b) is ≡ libraries s h
+  libraries_from = all_from (λ n b. libraries_in b) ∙ by h
+    where
+      by : (k : chain.Namespace) → flat_map (λ t. libraries_in t.body) (templates s k) ≡ libraries s k
+      by (chain.a_chain n) = refl
+      by (a_library n) = nothing_in libraries_in (λ b e. (no_imports s b e).1) n (s n)
+
+-- A list is empty if its view is collected at no index.
+pub nothing_along : {X A : Type 0} (f : X → A) (xs : List X) (g : Text → Body → List A) (ts : List Template)
+    (is : List ℕ)
+    → map f xs ≡ along ts g is → is ≡ [] → xs ≡ []
+nothing_along f [] g ts is e none = refl
+nothing_along f (x ∷ xs) g ts is e none = absurd (cc (ap (along ts g) none))
+
 module _ (ps qs : List TemplateFile) (hs : List Namespace) (i : ℕ) (h : Namespace) (is : List ℕ) (same_files : qs ≡ ps)
     (same_indices : is ≡ h.templates.items) (lt : i < length hs) (at : h ≡ get_or hs i h)
     (once : repeated (map (λ u. u.name) (files_view ps)) ≡ false) (whole : AreWhole (files_view ps) hs) where
-  there : map (slice_get (files_view ps)) h.templates.items
-      ≡ map Some (templates (sources_in (files_view ps)) (namespace_view h))
-  there = namespace_templates (files_view ps) hs i h lt at once whole
+  abbrev k : chain.Namespace
+  k = namespace_at (map namespace_view hs) i
+
+  from : AreFrom (files_view ps) is (templates (sources_in (files_view ps)) k)
+  from = rw same_indices (indices_of_namespace (files_view ps) hs i h lt at once whole)
 
   pub namespace_indices : AreIndices (files_view qs) is
-  namespace_indices =
-      subst (λ (z : List TemplateFile). AreIndices (files_view z) is) (sym same_files)
-      (subst (AreIndices (files_view ps)) (sym same_indices)
-      (are_indices (files_view ps) h.templates.items (templates (sources_in (files_view ps)) (namespace_view h)) there))
+  namespace_indices = rw same_files (are_indices (files_view ps) is _ from)
 
   pub namespace_along : {A : Type 0} (g : Text → Body → List A)
-      → along (files_view qs) g is ≡ flat_map (λ t. g t.name t.body)
-      (templates (sources_in (files_view ps)) (namespace_at (map namespace_view hs) i))
-  namespace_along g =
-      ap (λ (z : List TemplateFile). along (files_view z) g is) same_files ∙ ap (along (files_view ps) g) same_indices
-      ∙ along_templates g (files_view ps) h.templates.items (templates (sources_in (files_view ps)) (namespace_view h))
-      there
-      ∙ ap (λ n. flat_map (λ t. g t.name t.body) (templates (sources_in (files_view ps)) n))
-      (sym (name_of_namespace hs i h lt at))
+      → along (files_view qs) g is ≡ flat_map (λ t. g t.name t.body) (templates (sources_in (files_view ps)) k)
+  namespace_along = all_from ps qs is k same_files from
 
-  -- The macros, the bodies of blocks, the includes and the templates of a chain.
-  pub namespace_macros : macros_along (files_view qs) is
-      ≡ chain.macros (sources_in (files_view ps)) (namespace_at (map namespace_view hs) i)
-  namespace_macros = namespace_along macros_in
-
-  pub namespace_blocks : (escaping : Bool) → blocks_along (files_view qs) escaping is
-      ≡ chain.all_bodies (sources_in (files_view ps)) escaping (namespace_at (map namespace_view hs) i)
-  namespace_blocks escaping = namespace_along (λ n b. blocks_in n b escaping)
-
-  pub namespace_includes : includes_along (files_view qs) is ≡ flat_map (λ t. includes_in include_need t.body)
-      (templates (sources_in (files_view ps)) (namespace_at (map namespace_view hs) i))
-  namespace_includes = namespace_along (λ n b. includes_in include_need b)
-
-  pub namespace_layers : layers_along (files_view qs) is
-      ≡ templates (sources_in (files_view ps)) (namespace_at (map namespace_view hs) i)
-  namespace_layers =
-      namespace_along (λ n b. record { name = n; body = b } ∷ [])
-      ∙ each_alone (templates (sources_in (files_view ps)) (namespace_at (map namespace_view hs) i))
+  pub namespace_layers : layers_along (files_view qs) is ≡ templates (sources_in (files_view ps)) k
+  namespace_layers = layers_from ps qs is k same_files from
