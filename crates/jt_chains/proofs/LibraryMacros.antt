@@ -1,16 +1,15 @@
 -- The macros of a library, by the index of its template and by their names.
-use Rattle.jt_chains.proofs.Vocabulary.{◌≡◌, ◌≤◌, ℕ, suc, ◌+◌, length, Bool, true, false, arith, rules, subst}
+use Rattle.jt_chains.proofs.Vocabulary.{map, ◌≡◌, ◌≤◌, ℕ, suc, ◌+◌, length, Bool, true, false, arith, rules, subst}
 use Rattle.jt_chains.proofs.Vocabulary.{if◌then◌else◌, List, [], ◌∷◌, refl, sym, ap, ◌∙◌, Option, Some, None, flat_map}
-use Rattle.jt_chains.proofs.Vocabulary.{unwrap_or, option_map, slice_get, bytes_eq, append-nil, bytes_eq-Decides, Text}
-use Rattle.jt_chains.proofs.Vocabulary.{Body, end, body_at, Template, MacroBody, template, stmt, macro, Stmt, templates}
-use Rattle.jt_chains.proofs.Vocabulary.{holds_macros, library_template, macros_in, macro_of, macro_index, a_library}
-use Rattle.jt_chains.proofs.Vocabulary.{sources_in, file_view, files_view, library_macros, as_macro, name_at, index_of}
-use Rattle.jt_chains.proofs.Vocabulary.{TemplateFile, IsTable, option_and_then, get_by_text, length-map}
-use Rattle.std.proofs.lemmas.Option.{slice_get_past}
-use Rattle.jt_ast.specs.StatementView.{stmts_of}
-use Rattle.jt_chains.specs.Along.{first_body}
-use Rattle.jt_chains.specs.Chain.{macros, is_private, public_macro}
-use Rattle.jt_chains.specs.Tables.{Table, is_named}
+use Rattle.jt_chains.proofs.Vocabulary.{unwrap_or, option_map, slice_get, option_and_then, append-nil, length-map}
+use Rattle.jt_chains.proofs.Vocabulary.{bytes_eq-Decides, Text, body_at, first_body, Template, MacroBody, templates}
+use Rattle.jt_chains.proofs.Vocabulary.{holds_macros, library_template, macros_in, macro_of, a_library, sources_in}
+use Rattle.jt_chains.proofs.Vocabulary.{macros, is_private, public_macro, file_view, files_view, name_at, index_of}
+use Rattle.jt_chains.proofs.Vocabulary.{TemplateFile, get_by_text, slice_get_past, slice_get-map, stmts_of, body_view}
+use Rattle.jt_chains.proofs.Vocabulary.{body_of, stmt_view}
+use Rattle.jt_ast.specs.Statements.{Body, end, stmt, macro, Stmt}
+use Rattle.jt_chains.specs.Tables.{macro_index, library_macros, as_macro, IsTable, Table, is_named}
+use Rattle.jt_ast.specs.declared.statement.Stmt as statement
 
 -- ---- the template of a library
 
@@ -21,14 +20,7 @@ as_template n b = record { name = n; body = b }
 named : (ts : List Template) (n : Text)
     → slice_get ts (index_of ts n) ≡ option_map (as_template n) (sources_in ts n)
 named [] n = refl
-named (t ∷ ts) n = by (bytes_eq t.name n) refl (named ts n)
-  where
-    by : (c : Bool) → bytes_eq t.name n ≡ c
-        → slice_get ts (index_of ts n) ≡ option_map (as_template n) (sources_in ts n)
-        → slice_get (t ∷ ts) (if c then 0 else suc (index_of ts n))
-        ≡ option_map (as_template n) (if c then Some t.body else sources_in ts n)
-    by true e rest = ap (λ x. Some (as_template x t.body)) ((bytes_eq-Decides t.name n).0 e)
-    by false e rest = rest
+named (t ∷ ts) n = search (arith, rules, bytes_eq-Decides, named ts n)
 
 -- What a library has, F of its template, is f of the name and the statements of the template at its index.
 module _ {X : Type 0} (F : List Template → X) (f : Text → Body → X) (none : f [] end ≡ F [])
@@ -40,12 +32,7 @@ module _ {X : Type 0} (F : List Template → X) (f : Text → Body → X) (none 
       else F []
 
   held : (n : Text) (o : Option Body) → of_held (option_map (as_template n) o) ≡ F (library_template n o)
-  held n None = none
-  held n (Some b) = by (holds_macros b)
-    where
-      by : (c : Bool) → (if c then f n b else F []) ≡ F (if c then template n (Some b) else [])
-      by true = one n b
-      by false = refl
+  held n o = search (arith, rules, none, one)
 
   library_has : (ts : List Template) (n : Text) (i : ℕ) → i ≡ index_of ts n
       → of_held (slice_get ts i) ≡ F (templates (sources_in ts) (a_library n))
@@ -65,9 +52,7 @@ library_nowhere ps n i past e =
 
 library_body : (ts : List Template) (n : Text) (b : Body) (c : Bool) → b ≡ body_at ts (index_of ts n)
     → holds_macros b ≡ c → (if c then b else end) ≡ first_body (templates (sources_in ts) (a_library n))
-library_body ts n b c is e =
-    sym (ap (λ (d : Bool). if d then b else end) e) ∙ ap (λ z. if holds_macros z then z else end) is
-    ∙ library_has first_body (λ _ z. z) refl (λ _ _. refl) ts n (index_of ts n) refl
+library_body ts n b c is e = rw (← e, is) (library_has first_body (λ _ z. z) refl (λ _ _. refl) ts n _ refl)
 
 pub body_held : (ts : List Template) (n : Text) (b : Body) → b ≡ body_at ts (index_of ts n) → holds_macros b ≡ true
     → b ≡ first_body (templates (sources_in ts) (a_library n))
@@ -121,19 +106,15 @@ module _ (x n : Text) where
           ap (λ j. option_and_then (as_macro n) (slice_get ss j)) e ∙ sym f.2
 
   -- A lookup of a name that is not private finds the macro that the library offers.
-  pub offered : (b : Body) (ss : List Stmt) (o : Option Table) (t : Table) (i : Option ℕ) → stmts_of ss ≡ b
-      → IsTable b o → o ≡ Some t → i ≡ get_by_text t x → is_private x ≡ false
-      → option_and_then (λ j. option_and_then (as_macro n) (slice_get ss j)) i ≡ public_macro x (library_macros n b)
-  offered b ss o t i is table some at public =
-      looked_up ss t i (rw is (rw some at table)) at ∙ ap (λ z. macro_of x (library_macros n z)) is
-      ∙ ap (λ (c : Bool). if c then None else macro_of x (library_macros n b)) (sym public)
+  pub offered : (file : TemplateFile) (ss : List statement.Stmt) (t : Table) (i : Option ℕ)
+      → body_view ss ≡ body_of file.template → file.macros ≡ Some t → i ≡ get_by_text t x → is_private x ≡ false
+      → option_and_then (λ j. option_and_then (as_macro n) (option_map stmt_view (slice_get ss j))) i
+      ≡ public_macro x (library_macros n (body_of file.template))
+  offered file ss t i is some at public =
+      let table : IsTable (body_of file.template) (Some t) = rw some at file.table in
+      simp slice_get-map at (looked_up (map stmt_view ss) t i (rw is table) at)
+      ∙ ap (λ z. macro_of x (library_macros n z)) is
+      ∙ ap (λ (c : Bool). if c then None else macro_of x (library_macros n (body_of file.template))) (sym public)
 
 pub no_public : (x : Text) → None ≡ public_macro x []
-no_public x = by (is_private x)
-  where
-    nothing : Option MacroBody
-    nothing = None
-
-    by : (b : Bool) → nothing ≡ (if b then nothing else nothing)
-    by true = refl
-    by false = refl
+no_public x = search (arith, rules)

@@ -7,12 +7,15 @@ ghost use Rattle.jt_ast.specs.Texts.{texts};
 ghost use Rattle.jt_chains.specs.Chain as chains;
 ghost use Rattle.jt_chains.specs.Chain.{macros, all_given_from, imports_in, libraries_in};
 ghost use Rattle.jt_chains.specs.Chain.{libraries, given, a_library};
+ghost use Rattle.jt_chains.specs.Along.{along};
+ghost use Rattle.jt_chains.specs.TemplateFiles.{files_view};
 ghost use Rattle.jt_chains.specs.Parts.{macro_view};
 ghost use Rattle.jt_chains.specs.Indices.{index_of};
 ghost use Rattle.jt_chains.specs.Named.{Adds, names_view};
 ghost use Rattle.jt_chains.specs.View.{NoneBeyond, namespace_in, its_sources, its_templates};
 
 use crate::chain::Chain;
+use crate::files::TemplateFile;
 use crate::parts::{Macro, body_of_file};
 use jt_ast::Stmt;
 use std::alloc::{AllocError, Global};
@@ -43,7 +46,7 @@ fn is_space(byte: u8) -> bool
 fn is_blank(text: &str) -> bool
     ensures { result ≡ not (list_any (λ c. not (chains.is_space c)) text.now) }
 {
-    text.bytes().all(is_space)
+    !text.bytes().any(|byte| !is_space(byte))
 }
 
 /// Returns whether a library may hold the statement.
@@ -143,6 +146,23 @@ fn add_libraries<'a>(body: &'a [Stmt], found: &mut Vec<&'a str>) -> Result<(), A
     Ok(())
 }
 
+/// Returns the names of the libraries that the templates at `indices` import, once for each tag.
+#[tactic(auto, using(crate::proofs::TemplatesByIndex::along_turn))]
+fn libraries_at<'a>(
+    alloc: Global,
+    files: &'a [TemplateFile],
+    indices: &[usize],
+) -> Result<Vec<&'a str>, AllocError>
+    ensures { IfOk result (λ names. texts names.items
+        ≡ along (files_view files.now) (λ n b. libraries_in b) indices.now) }
+{
+    let mut found = Vec::new(alloc);
+    for index in indices {
+        add_libraries(body_of_file(files, *index), &mut found)?;
+    }
+    Ok(found)
+}
+
 impl Chain {
     /// Returns all names of a chain that stand for a macro or a library, its own macros first.
     /// Returns none if `namespace` is out of range.
@@ -168,17 +188,14 @@ impl Chain {
 
     /// Returns the names of the libraries that a chain imports, once for each import tag. Returns
     /// none if `namespace` is out of range.
+    #[tactic(auto, using(crate::proofs::TemplatesByIndex::libraries_from, crate::proofs::TemplatesByIndex::nothing_along))]
     pub fn libraries(&self, alloc: Global, namespace: usize) -> Result<Vec<&str>, AllocError>
         ensures there { namespace < length self.now.namespaces.items → IfOk result (λ names.
             texts names.items
             ≡ libraries (its_sources self.now) (namespace_in self.now namespace)) }
         ensures nowhere { NoneBeyond self.now namespace result }
     {
-        let mut found = Vec::new(alloc);
-        for index in self.indices_of(namespace) {
-            add_libraries(body_of_file(&self.templates, *index), &mut found)?;
-        }
-        Ok(found)
+        libraries_at(alloc, &self.templates, self.indices_of(namespace))
     }
 
     /// Returns the macro of this name that the library offers to importers.

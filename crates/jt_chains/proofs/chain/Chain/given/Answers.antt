@@ -1,6 +1,6 @@
 use Rattle.jt_chains.proofs.Vocabulary.{ℕ, List, ◌++◌, refl, sym, ap, ◌∙◌, at_drop_all, append-nil, own, imports}
-use Rattle.jt_chains.proofs.Vocabulary.{names_view, macros_view, imports_along, its_templates, namespace_in}
-use Rattle.jt_chains.specs.View.{its_sources}
+use Rattle.jt_chains.proofs.Vocabulary.{names_view, macros_view}
+use Rattle.jt_chains.specs.View.{imports_along, its_templates, namespace_in, its_sources}
 use Rattle.jt_chains.specs.declared.parts.Macro.{Macro}
 use Rattle.jt_chains.proofs.TemplatesByIndex.{imports_from}
 use Rattle.jt_chains.proofs.chain.Chain.given.Goals as goal

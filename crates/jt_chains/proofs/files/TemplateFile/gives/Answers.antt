@@ -1,6 +1,6 @@
-use Rattle.jt_chains.proofs.Vocabulary.{◌≡◌, List, [], ◌∷◌, string_bytes, refl, ap, ◌∙◌, is_some, body_of, Template}
-use Rattle.jt_chains.proofs.Vocabulary.{Option, Some, None, option_map}
-use Rattle.jt_chains.specs.Parts.{macro_view}
+use Rattle.jt_chains.proofs.Vocabulary.{◌≡◌, List, [], ◌∷◌, string_bytes, refl, ap, ◌∙◌, Option, Some, None, body_of}
+use Rattle.jt_chains.proofs.Vocabulary.{Template, option_map, macro_view}
+use Rattle.std.specs.Option.{is_some}
 use Rattle.jt_chains.proofs.files.TemplateFile.gives.Goals as goal
 
 some_mapped : {X Y : Type 0} (f : X → Y) (o : Option X) → is_some o ≡ is_some (option_map f o)
