@@ -190,18 +190,18 @@ nothing_along f (x ∷ xs) g ts is e none = absurd (cc (ap (along ts g) none))
 module _ (ps qs : List TemplateFile) (hs : List Namespace) (i : ℕ) (h : Namespace) (is : List ℕ) (same_files : qs ≡ ps)
     (same_indices : is ≡ h.templates.items) (lt : i < length hs) (at : h ≡ get_or hs i h)
     (once : repeated (map (λ u. u.name) (files_view ps)) ≡ false) (whole : AreWhole (files_view ps) hs) where
-  abbrev k : chain.Namespace
-  k = namespace_at (map namespace_view hs) i
-
-  from : AreFrom (files_view ps) is (templates (sources_in (files_view ps)) k)
+  from : AreFrom (files_view ps) is (templates (sources_in (files_view ps)) (namespace_at (map namespace_view hs) i))
   from = rw same_indices (indices_of_namespace (files_view ps) hs i h lt at once whole)
 
   pub namespace_indices : AreIndices (files_view qs) is
   namespace_indices = rw same_files (are_indices (files_view ps) is _ from)
 
   pub namespace_along : {A : Type 0} (g : Text → Body → List A)
-      → along (files_view qs) g is ≡ flat_map (λ t. g t.name t.body) (templates (sources_in (files_view ps)) k)
-  namespace_along = all_from ps qs is k same_files from
+      → along (files_view qs) g is
+      ≡ flat_map (λ t. g t.name t.body)
+      (templates (sources_in (files_view ps)) (namespace_at (map namespace_view hs) i))
+  namespace_along = all_from ps qs is _ same_files from
 
-  pub namespace_layers : layers_along (files_view qs) is ≡ templates (sources_in (files_view ps)) k
-  namespace_layers = layers_from ps qs is k same_files from
+  pub namespace_layers : layers_along (files_view qs) is
+      ≡ templates (sources_in (files_view ps)) (namespace_at (map namespace_view hs) i)
+  namespace_layers = layers_from ps qs is _ same_files from
