@@ -1,7 +1,7 @@
 -- The words that several proofs of this crate take from definitions and from other crates.
 pub use Rattle.std.proofs.Common.{Bool, IfOk, List, None, Option, Some, [], ap, arith, drop, false, get_or}
 pub use Rattle.std.proofs.Common.{if◌then◌else◌, length, map, refl, rules, string_bytes, subst, suc, sym, tests, true}
-pub use Rattle.std.proofs.Common.{zero, ℕ, ◌++◌, ◌+◌, ◌<◌, ◌||◌, ◌∙◌, ◌∷◌, ◌≡◌, ◌≤◌}
+pub use Rattle.std.proofs.Common.{not, zero, ℕ, ◌&&◌, ◌++◌, ◌+◌, ◌<◌, ◌||◌, ◌∙◌, ◌∷◌, ◌≡◌, ◌≤◌}
 pub use Rattle.std.proofs.lemmas.Iterator.{YieldsList-from_map_by, YieldsList-from_slice}
 pub use Rattle.std.proofs.lemmas.Iterator.Consumers.{map_from_collect}
 pub use Rattle.std.proofs.lemmas.List.{append-nil, drop_more, length-map}
@@ -28,4 +28,5 @@ pub use Rattle.jt_uses.specs.declared.site.Enclosing.{Enclosing}
 pub use Rattle.jt_names.specs.FactsOfChains.{EachKnown}
 pub use Rattle.jt_names.specs.FactsOfTemplates.{AreKnown, facts_in, known_of}
 pub use Rattle.jt_names.specs.Names.{first_of, value_in}
-pub use Rattle.jt_names.specs.internal.UsedNames.{name_scoped, name_used}
+pub use Rattle.jt_names.specs.internal.UsedNames.{name_used, names_by}
+pub use Rattle.jt_names.specs.declared.templates.TemplateFacts.{TemplateFacts}
