@@ -1,9 +1,9 @@
 -- The facts of the template at an index, and the names of the templates of a chain.
 use Rattle.jt_names.specs.internal.UsedNames.{names_by}
 use Rattle.jt_names.specs.declared.own.NamesOf.{NamesOf}
-use Rattle.jt_names.proofs.Vocabulary.{◌≡◌, ◌<◌, ◌+◌, ℕ, zero, suc, List, [], ◌∷◌, length, drop, get_or, sym, ap, ◌∙◌}
-use Rattle.jt_names.proofs.Vocabulary.{arith, rules, drop_more, length-map, Text, all_inserted, along, body_at}
-use Rattle.jt_names.proofs.Vocabulary.{Template, TemplateFacts, known_of, facts_in, AreKnown}
+use Rattle.jt_names.proofs.Vocabulary.{◌≡◌, ◌<◌, ◌+◌, ℕ, zero, suc, List, [], ◌∷◌, length, drop, get_or, arith, rules}
+use Rattle.jt_names.proofs.Vocabulary.{drop_more, length-map, Text, all_inserted, along, body_at, Template}
+use Rattle.jt_names.proofs.Vocabulary.{TemplateFacts, known_of, facts_in, AreKnown}
 use Rattle.jt_names.proofs.SortedNames.{inserted_both}
 
 pub facts_at : (ts : List Template) (fs : List TemplateFacts) (i : ℕ) (f : TemplateFacts) → i < length fs
@@ -22,5 +22,4 @@ turn of ts is k old new lt e = search (arith, rules, inserted_both, drop_more)
 
 -- As many templates as facts.
 pub all_known : (ts : List Template) (fs : List TemplateFacts) → AreKnown ts fs → length fs ≡ length ts
-all_known ts fs e =
-    sym (length-map fs known_of) ∙ ap length e ∙ length-map ts (λ t. facts_in t.body)
+all_known ts fs e = search (arith, rules, length-map)

@@ -6,10 +6,9 @@ use Rattle.jt_uses.specs.Uses.{reads, binds, outside}
 use Rattle.jt_names.specs.internal.UsedNames.{used, name_used, names_by}
 use Rattle.jt_names.specs.declared.own.NamesOf.{NamesOf}
 use Rattle.jt_names.specs.declared.own.NamesOf.TheVariants.{Template, Scopes}
-use Rattle.jt_names.proofs.Vocabulary.{◌≡◌, Bool, true, false, ℕ, ◌+◌, List, [], ◌∷◌, refl, ap, ◌∙◌, arith, rules}
-use Rattle.jt_names.proofs.Vocabulary.{filter_map, Text, Body, body_bound, all_inserted, body_names, set_in}
-use Rattle.jt_names.proofs.Vocabulary.{scope_names_in, Use, Site, body_uses, Enclosing, sites_view, facts_in, known_of}
-use Rattle.jt_names.proofs.Vocabulary.{texts, TemplateFacts}
+use Rattle.jt_names.proofs.Vocabulary.{◌≡◌, Bool, true, false, ℕ, ◌+◌, List, [], ◌∷◌, refl, arith, rules, filter_map}
+use Rattle.jt_names.proofs.Vocabulary.{Text, Body, body_bound, all_inserted, body_names, set_in, scope_names_in, Use}
+use Rattle.jt_names.proofs.Vocabulary.{Site, body_uses, Enclosing, sites_view, facts_in, known_of, texts, TemplateFacts}
 use Rattle.jt_names.proofs.SortedNames.{one, weight, as_often, ascending_inserted}
 use Rattle.jt_names.proofs.UseWeights.{weightless, weight_of, heavy, body_weighs}
 
@@ -18,11 +17,7 @@ abbrev pub bindings : List Site → ℕ
 bindings = heavy (λ c x. 0) (λ c x. 0) (λ x. refl)
 
 pub bindings_counted : (b : Body) → bindings (body_uses b outside) ≡ body_bound b
-bindings_counted b = omega (
-  arith,
-  body_weighs (λ c x. 0) (λ c x. 0) (λ x. refl) b outside,
-  weightless (λ x. 0) (λ x. refl) (body_names b),
-)
+bindings_counted b = search (arith, rules, body_weighs, weightless)
 
 module _ (of : NamesOf) (q : Text) where
   -- What a read and a binding weigh: one if they count and have the text q, and nothing otherwise.
@@ -41,42 +36,27 @@ module _ (of : NamesOf) (q : Text) where
   uses_weigh : (ss : List Site)
       → weight (one q) (filter_map (name_used of) ss) + bindings ss ≡ heavy read_by bound_by (λ x. refl) ss
   uses_weigh [] = refl
-  uses_weigh (s ∷ ss) =
-      omega (arith, use_weighs s.made s.place.around (filter_map (name_used of) ss), uses_weigh ss)
+  uses_weigh (s ∷ ss) = search (arith, rules, use_weighs, uses_weigh ss)
 
 pub names_inserted : (of : NamesOf) (b : Body) (ns : List Text)
     → all_inserted (filter_map (name_used of) (body_uses b outside)) ns ≡ all_inserted (names_by of b) ns
 names_inserted of b ns =
     as_often (filter_map (name_used of) (body_uses b outside)) (names_by of b) ns (by of)
   where
-    none : (xs : List Text) → weight (λ x. 0) xs ≡ 0
-    none = weightless (λ x. 0) (λ x. refl)
-
     by : (n : NamesOf) (q : Text)
         → weight (one q) (filter_map (name_used n) (body_uses b outside)) ≡ weight (one q) (names_by n b)
-    by Template q =
-        let w = body_weighs (read_by Template q) (bound_by Template q) (λ x. refl) b outside in
-        omega (arith, uses_weigh Template q (body_uses b outside), w, bindings_counted b)
+    by Template q = search (arith, rules, body_weighs, uses_weigh, bindings_counted)
     by Scopes q =
         let w = body_weighs (read_by Scopes q) (bound_by Scopes q) (λ x. refl) b outside in
-        omega (
-          arith,
-          uses_weigh Scopes q (body_uses b outside),
-          w,
-          bindings_counted b,
-          none (set_in b),
-          none (scope_names_in b),
-          none (body_names b),
-        )
+        let none = weightless (λ x. 0) (λ x. refl) in
+        let uses = uses_weigh Scopes q (body_uses b outside) in
+        omega (arith, uses, w, bindings_counted b, none (set_in b), none (scope_names_in b), none (body_names b))
 
 -- What is known of a template has the names of its body.
 module _ (f : TemplateFacts) (b : Body) (ns : List Text) (e : known_of f ≡ facts_in b) where
   pub known_scopes : all_inserted (filter_map (name_used Scopes) (sites_view f.uses.items)) ns
       ≡ all_inserted (scope_names_in b) ns
-  known_scopes =
-      ap (λ (p : List Site × List Text). all_inserted (filter_map (name_used Scopes) p.0) ns) e
-      ∙ names_inserted Scopes b ns
+  known_scopes = search (arith, rules, names_inserted)
 
   pub known_names : all_inserted (texts f.names.items) ns ≡ all_inserted (body_names b) ns
-  known_names =
-      ap (λ (p : List Site × List Text). all_inserted p.1 ns) e ∙ ascending_inserted (body_names b) ns
+  known_names = search (arith, rules, ascending_inserted)

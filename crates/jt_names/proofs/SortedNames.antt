@@ -2,6 +2,7 @@
 use Rattle.std.specs.declared.cmp.Ordering.{Ordering}
 use Rattle.std.specs.declared.cmp.Ordering.TheVariants.{Less, Equal, Greater}
 use Rattle.std.specs.Ordering.{nat_cmp, is_lt, is_eq, match_ordering, ordering_reverse}
+use Rattle.std.specs.Cmp.{Equal-is}
 use Rattle.std.specs.Cmp.Lexicographic.{slice_cmp}
 use Rattle.std.specs.BTreeSet.{insert_key}
 use Rattle.std.proofs.lemmas.Cmp.{nat_list_eq_equiv, nat_list_cmp_total}
@@ -90,11 +91,7 @@ past y [] ns = refl
 past y (x ∷ xs) ns = past y xs (inserted x ns) ∙ ap (all_inserted xs) (swapped x y ns)
 
 itself : (x : Text) → cmp x x ≡ Equal
-itself x = by (cmp x x) (is_eq-slice_cmp x x ∙ nat_list_eq_equiv.refl x)
-  where
-    by : (o : Ordering) → is_eq o ≡ true → o ≡ Equal
-    by Equal e = refl
-    by o e = absurd (cc)
+itself x = (Equal-is (cmp x x)).0 (is_eq-slice_cmp x x ∙ nat_list_eq_equiv.refl x)
 
 again : (x : Text) (ns : List Text) → inserted x (inserted x ns) ≡ inserted x ns
 again x [] = at_head x x [] Equal (itself x)
@@ -120,8 +117,7 @@ one_inserted x (y ∷ ys) ms = by (bytes_eq y x) (is_lt (cmp x y)) refl (one_ins
 
 inserted_later : (xs ns ms : List Text) → all_inserted (all_inserted xs ns) ms ≡ all_inserted xs (all_inserted ns ms)
 inserted_later [] ns ms = refl
-inserted_later (x ∷ xs) ns ms =
-    inserted_later xs (inserted x ns) ms ∙ ap (all_inserted xs) (one_inserted x ns ms)
+inserted_later (x ∷ xs) ns ms = search (arith, rules, inserted_later xs, one_inserted)
 
 pub ascending_inserted : (xs ms : List Text) → all_inserted (ascending xs) ms ≡ all_inserted xs ms
 ascending_inserted xs ms = inserted_later xs [] ms
@@ -152,9 +148,7 @@ absorbed x (y ∷ ys) ns h = by (bytes_eq y x) refl (absorbed x ys (inserted y n
 absorbs : (xs ys ns : List Text) → ((q : Text) → weight (one q) xs ≤ weight (one q) ys)
     → all_inserted ys (all_inserted xs ns) ≡ all_inserted ys ns
 absorbs [] ys ns h = refl
-absorbs (x ∷ xs) ys ns h =
-    let here : one x x ≡ 1 = ap (λ b. if b then 1 else 0) (nat_list_eq_equiv.refl x) in
-    absorbs xs ys (inserted x ns) (λ q. omega (arith, h q)) ∙ absorbed x ys ns (omega (arith, h x, here))
+absorbs (x ∷ xs) ys ns h = search (arith, rules, nat_list_eq_equiv, absorbs xs ys, absorbed)
 
 crossed : (xs ys ns : List Text) → all_inserted ys (all_inserted xs ns) ≡ all_inserted xs (all_inserted ys ns)
 crossed xs [] ns = refl

@@ -61,30 +61,27 @@ module _ (r b : Bool → Text → ℕ) (silent : (x : Text) → r true x ≡ 0) 
     expr_weighs (map_of ps) p = pairs_weigh ps p
     expr_weighs (attribute a k) p =
         field_or (is_loop a) p k (expr_uses a p) (expr_names a) (expr_weighs a p)
-    expr_weighs (item a b) p = simp weight-append (omega (arith, expr_weighs a p, expr_weighs b p))
+    expr_weighs (item a b) p = grind (arith, weight-append, expr_weighs a, expr_weighs b)
     expr_weighs (call f ts ps) p =
         let q = place_at p.line (inside_callee p.around) in
         let callee = skipped (uses.is_called_by_name f) (expr_uses f q)
         (expr_weighs f q ∙ weightless (r true) silent (expr_names f)) in
         simp weight-append (omega (arith, callee, row_weighs ts p, pairs_weigh ps p))
-    expr_weighs (filter a x ts ps) p =
-        simp weight-append (omega (arith, expr_weighs a p, row_weighs ts p, pairs_weigh ps p))
-    expr_weighs (test a n x ts ps) p =
-        simp weight-append (omega (arith, expr_weighs a p, row_weighs ts p, pairs_weigh ps p))
+    expr_weighs (filter a x ts ps) p = grind (arith, weight-append, expr_weighs a, row_weighs ts, pairs_weigh ps)
+    expr_weighs (test a n x ts ps) p = grind (arith, weight-append, expr_weighs a, row_weighs ts, pairs_weigh ps)
     expr_weighs (unary o a) p = expr_weighs a p
-    expr_weighs (binary o a b) p = simp weight-append (omega (arith, expr_weighs a p, expr_weighs b p))
-    expr_weighs (when c a) p = simp weight-append (omega (arith, expr_weighs c p, expr_weighs a p))
-    expr_weighs (choice c a b) p =
-        simp weight-append (omega (arith, expr_weighs c p, expr_weighs a p, expr_weighs b p))
+    expr_weighs (binary o a b) p = grind (arith, weight-append, expr_weighs a, expr_weighs b)
+    expr_weighs (when c a) p = grind (arith, weight-append, expr_weighs c, expr_weighs a)
+    expr_weighs (choice c a b) p = grind (arith, weight-append, expr_weighs c, expr_weighs a, expr_weighs b)
     expr_weighs a p = omega arith
 
     row_weighs : (ts : Exprs) (p : Place) → Reads (row_uses ts p) p (row_names ts)
     row_weighs no_exprs p = refl
-    row_weighs (expr a ts) p = simp weight-append (omega (arith, expr_weighs a p, row_weighs ts p))
+    row_weighs (expr a ts) p = grind (arith, weight-append, expr_weighs a, row_weighs ts)
 
     pairs_weigh : (ps : Pairs) (p : Place) → Reads (pair_uses ps p) p (pair_names ps)
     pairs_weigh no_pairs p = refl
-    pairs_weigh (pair k a ps) p = simp weight-append (omega (arith, expr_weighs a p, pairs_weigh ps p))
+    pairs_weigh (pair k a ps) p = grind (arith, weight-append, expr_weighs a, pairs_weigh ps)
 
   condition_weighs : (c : Option Expr) (p : Place) → Reads (condition_uses c p) p (condition_names c)
   condition_weighs None p = refl
@@ -92,8 +89,7 @@ module _ (r b : Bool → Text → ℕ) (silent : (x : Text) → r true x ≡ 0) 
 
   filters_weigh : (fs : List FilterCall) (p : Place) → Reads (filter_call_uses fs p) p (filter_call_names fs)
   filters_weigh [] p = refl
-  filters_weigh (f ∷ fs) p =
-      simp weight-append (omega (arith, row_weighs f.arguments p, pairs_weigh f.keywords p, filters_weigh fs p))
+  filters_weigh (f ∷ fs) p = grind (arith, weight-append, row_weighs, pairs_weigh, filters_weigh fs p)
 
   bound_weigh : (xs : List Text) (p : Place) → Binds (bound xs p) p xs (length xs)
   bound_weigh [] p = refl
@@ -122,47 +118,27 @@ module _ (r b : Bool → Text → ℕ) (silent : (x : Text) → r true x ≡ 0) 
   mutual
     stmt_weighs : (s : Stmt) (w : Enclosing)
         → Weighs (stmt_uses s w) w (stmt_names s) (set_by s) (scope_names_by s) (stmt_bound s)
-    stmt_weighs (print line e) w = omega (arith, expr_weighs e (place_at line w))
-    stmt_weighs (choose bs others) w = simp weight-append (omega (arith, branches_weigh bs w, body_weighs others w))
+    stmt_weighs (print line e) w = grind (arith, expr_weighs)
+    stmt_weighs (choose bs others) w = grind (arith, weight-append, branches_weigh bs, body_weighs others)
     stmt_weighs (for_each line xs e c body others) w =
-        let p = place_at line w in
-        let targets = bound_weigh xs (place_at line (inside_scope w)) in
-        simp weight-append (omega (
-          arith,
-          expr_weighs e p,
-          targets,
-          condition_weighs c p,
-          body_weighs body (inside_loop w),
-          body_weighs others w,
-        ))
-    stmt_weighs (set line xs e) w =
-        let p = place_at line w in
-        simp weight-append (omega (arith, expr_weighs e p, bound_weigh xs p))
-    stmt_weighs (set_block line x body) w = simp weight-append (omega (arith, body_weighs body (inside_scope w)))
-    stmt_weighs (with_values line ps body) w =
-        let keys = keys_weigh ps (place_at line (inside_scope w)) in
-        let inside = body_weighs body (inside_scope w) in
-        simp weight-append (omega (arith, pairs_weigh ps (place_at line w), keys, inside))
-    stmt_weighs (filter_block line fs body) w =
-        let inside = body_weighs body (inside_scope w) in
-        simp weight-append (omega (arith, filters_weigh fs (place_at line w), inside))
-    stmt_weighs (autoescape line on body) w = simp weight-append (omega (arith, body_weighs body (inside_scope w)))
-    stmt_weighs (macro line x ps body) w =
-        let parameters = parameters_weigh ps (place_at line (inside_scope w)) in
-        simp weight-append (omega (arith, parameters, body_weighs body (inside_macro w)))
-    stmt_weighs (import_from line n xs) w = omega (arith, macros_weigh n xs (place_at line w))
-    stmt_weighs (block line x scoped required body) w =
-        simp weight-append (omega (arith, body_weighs body (inside_block w)))
+        grind (arith, weight-append, expr_weighs, bound_weigh, condition_weighs, body_weighs body, body_weighs others)
+    stmt_weighs (set line xs e) w = grind (arith, weight-append, expr_weighs, bound_weigh)
+    stmt_weighs (set_block line x body) w = grind (arith, weight-append, body_weighs body)
+    stmt_weighs (with_values line ps body) w = grind (arith, keys_weigh, body_weighs body, weight-append, pairs_weigh)
+    stmt_weighs (filter_block line fs body) w = grind (arith, body_weighs body, weight-append, filters_weigh)
+    stmt_weighs (autoescape line on body) w = grind (arith, weight-append, body_weighs body)
+    stmt_weighs (macro line x ps body) w = grind (arith, parameters_weigh, weight-append, body_weighs body)
+    stmt_weighs (import_from line n xs) w = grind (arith, macros_weigh)
+    stmt_weighs (block line x scoped required body) w = grind (arith, weight-append, body_weighs body)
     stmt_weighs s w = omega arith
 
     pub body_weighs : (b : Body) (w : Enclosing)
         → Weighs (body_uses b w) w (body_names b) (set_in b) (scope_names_in b) (body_bound b)
     body_weighs end w = refl
-    body_weighs (stmt s rest) w = simp weight-append (omega (arith, stmt_weighs s w, body_weighs rest w))
+    body_weighs (stmt s rest) w = grind (arith, weight-append, stmt_weighs s, body_weighs rest)
 
     branches_weigh : (bs : Branches) (w : Enclosing)
         → Weighs (branch_uses bs w) w (branch_names bs) (set_under bs) (scope_names_under bs) (branch_bound bs)
     branches_weigh no_branches w = refl
     branches_weigh (branch line c body rest) w =
-        let condition = expr_weighs c (place_at line w) in
-        simp weight-append (omega (arith, condition, body_weighs body w, branches_weigh rest w))
+        grind (arith, weight-append, expr_weighs, body_weighs body, branches_weigh rest)

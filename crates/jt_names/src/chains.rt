@@ -8,7 +8,7 @@ ghost use Rattle.jt_names.specs.FactsOfChains.{AllKnown, IsKnown, EachKnown};
 use crate::facts::{ChainFacts, NamespaceFacts};
 use crate::index::{definitions_of, first_bodies};
 use crate::own::NamesOf;
-use crate::templates::{TemplateFacts, facts_of_files, names_of_namespace};
+use crate::templates::{TemplateFacts, facts_of_templates, names_of_namespace};
 use jt_chains::Chain;
 use std::alloc::{AllocError, Global};
 
@@ -17,7 +17,7 @@ pub fn facts_of(alloc: Global, chain: &Chain) -> Result<ChainFacts<'_>, AllocErr
     ensures known { IfOk result (λ facts. AllKnown facts) }
     ensures chain { IfOk result (λ facts. facts.chain.now ≡ chain.now) }
 {
-    let templates = facts_of_files(alloc, &chain.templates)?;
+    let templates = facts_of_templates(alloc, chain)?;
     let namespaces = facts_of_namespaces(alloc, chain, &templates)?;
     Ok(ChainFacts {
         chain,

@@ -39,7 +39,11 @@ pub fn keyword_names<'a>(
 ) -> Result<Vec<&'a str>, AllocError>
     ensures { IfOk result (λ ns. texts ns.items ≡ keywords (pairs_view pairs.now)) }
 {
-    pairs.iter().map(|pair| pair.0.as_str()).collect(alloc)
+    let mut names = Vec::with_capacity(alloc, pairs.len())?;
+    for (name, _) in pairs {
+        names.push(name.as_str())?;
+    }
+    Ok(names)
 }
 
 /// Returns the names of parameters.
@@ -49,8 +53,9 @@ pub fn parameter_names<'a>(
 ) -> Result<Vec<&'a str>, AllocError>
     ensures { IfOk result (λ ns. texts ns.items ≡ parameter_names parameters.now) }
 {
-    parameters
-        .iter()
-        .map(|one| one.name.as_str())
-        .collect(alloc)
+    let mut names = Vec::with_capacity(alloc, parameters.len())?;
+    for parameter in parameters {
+        names.push(parameter.name.as_str())?;
+    }
+    Ok(names)
 }

@@ -6,7 +6,7 @@ ghost use Rattle.jt_ast.specs.Texts.{ascending, texts};
 ghost use Rattle.jt_ast.specs.Statements.{Body};
 ghost use Rattle.jt_ast.specs.StatementView.{body_view};
 ghost use Rattle.jt_chains.specs.Chain as chains;
-ghost use Rattle.jt_chains.specs.TemplateFiles.{files_view};
+ghost use Rattle.jt_chains.specs.Indices.{index_of};
 ghost use Rattle.jt_chains.specs.View.{its_sources, its_templates, namespace_in};
 ghost use Rattle.jt_names.specs.FactsOfTemplates.{known_of, facts_in, AreKnown};
 ghost use Rattle.jt_names.specs.Names.{Puts};
@@ -15,7 +15,7 @@ ghost use Rattle.jt_names.specs.internal.UsedNames.{names_by};
 use crate::ordered::{add_names, list_of};
 use crate::own::{NamesOf, add_used};
 use jt_ast::Stmt;
-use jt_chains::{Chain, TemplateFile};
+use jt_chains::Chain;
 use jt_uses::{UseSite, uses_of};
 use std::alloc::{AllocError, Global};
 use std::collections::BTreeSet;
@@ -42,27 +42,35 @@ fn facts_of_body(alloc: Global, body: &[Stmt]) -> Result<TemplateFacts<'_>, Allo
 }
 
 /// Returns what is known of each template.
-pub(crate) fn facts_of_files(
+pub(crate) fn facts_of_templates(
     alloc: Global,
-    files: &[TemplateFile],
+    chain: &Chain,
 ) -> Result<Vec<TemplateFacts<'_>>, AllocError>
-    ensures { IfOk result (λ fs. AreKnown (files_view files.now) fs.items) }
+    ensures { IfOk result (λ fs. AreKnown (its_templates chain.now) fs.items) }
 {
-    let mut found = Vec::with_capacity(alloc, files.len())?;
-    for file in files {
+    let mut found = Vec::with_capacity(alloc, chain.templates.len())?;
+    for file in &chain.templates {
         found.push(facts_of_body(alloc, file.template.body())?)?;
     }
     Ok(found)
 }
 
+/// Returns the index of the template of a name, or the number of templates if it does not exist.
+pub(crate) fn template_named(chain: &Chain, name: &str) -> usize
+    ensures { result ≡ index_of (its_templates chain.now) name.now }
+{
+    match chain.indices.get(name) {
+        Some(index) => *index,
+        None => chain.templates.as_slice().len(),
+    }
+}
+
 /// Returns whether no template `name` was read.
+#[tactic(auto, using(crate::proofs::LibraryNames::missing))]
 pub fn is_missing(chain: &Chain, name: &str) -> bool
     ensures { result ≡ is_none (its_sources chain.now name.now) }
 {
-    match chain.indices.get(name) {
-        Some(index) => chain.templates.len() <= *index,
-        None => true,
-    }
+    chain.templates.as_slice().len() <= template_named(chain, name)
 }
 
 /// Adds names of a template.

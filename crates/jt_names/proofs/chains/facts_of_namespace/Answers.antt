@@ -1,5 +1,5 @@
 use Rattle.jt_chains.specs.View.{namespace_in}
-use Rattle.jt_names.proofs.Vocabulary.{map, ap, ◌∙◌, given_to, names_view, blocks_view, its_templates, first_of}
+use Rattle.jt_names.proofs.{map, ap, ◌∙◌, given_to, names_view, blocks_view, its_templates, first_of}
 use Rattle.jt_names.proofs.chains.facts_of_namespace.Goals as goal
 
 pub returns : goal.returns

@@ -1,4 +1,4 @@
-use Rattle.jt_names.proofs.Vocabulary.{btree_map_updates_str}
+use Rattle.jt_names.proofs.{btree_map_updates_str}
 use Rattle.jt_names.proofs.index.set_entry.Goals as goal
 
 pub returns : goal.returns

@@ -1,4 +1,4 @@
-use Rattle.jt_names.proofs.Vocabulary.{◌≡◌, drop, filter_map, all_inserted, texts, sites_view, name_used}
+use Rattle.jt_names.proofs.{◌≡◌, drop, filter_map, all_inserted, texts, sites_view, name_used}
 use Rattle.jt_names.proofs.own.add_used.Given as goal
 
 abbrev pub invariant-loop-site : goal.invariant-loop-site

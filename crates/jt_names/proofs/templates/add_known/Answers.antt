@@ -1,5 +1,4 @@
-use Rattle.jt_names.proofs.Vocabulary.{arith, rules}
-use Rattle.jt_names.proofs.NamesOfUses.{known_scopes, known_names}
+use Rattle.jt_names.proofs.{arith, rules, known_scopes, known_names}
 use Rattle.jt_names.proofs.templates.add_known.Goals as goal
 
 pub returns-in-Scopes : goal.returns-in-Scopes

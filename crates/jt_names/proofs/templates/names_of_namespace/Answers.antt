@@ -1,8 +1,7 @@
 use Rattle.std.specs.List.{AllByRecursion}
 use Rattle.jt_chains.proofs.TemplatesByIndex.{namespace_along, namespace_indices, number_at}
-use Rattle.jt_names.proofs.Vocabulary.{◌<◌, List, length, get_or, refl, sym, ap, subst, ◌∙◌, Bor, Text, all_inserted}
-use Rattle.jt_names.proofs.Vocabulary.{ascending, texts, along, names_by, its_templates, body_at}
-use Rattle.jt_names.proofs.FactsOfTemplatesCorrect.{all_known, facts_at, turn}
+use Rattle.jt_names.proofs.{◌<◌, List, length, get_or, refl, sym, ap, subst, ◌∙◌, Bor, Text, all_inserted, ascending}
+use Rattle.jt_names.proofs.{texts, along, names_by, its_templates, body_at, all_known, facts_at, turn}
 use Rattle.jt_names.proofs.templates.names_of_namespace.Goals as goal
 
 pub loop-index-init : goal.loop-index-init

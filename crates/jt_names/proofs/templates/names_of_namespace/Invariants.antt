@@ -1,8 +1,8 @@
 use Rattle.std.specs.List.{AllByRecursion}
 use Rattle.jt_chains.specs.Chain.{templates}
 use Rattle.jt_chains.specs.View.{its_sources, namespace_in}
-use Rattle.jt_names.proofs.Vocabulary.{◌≡◌, ◌<◌, length, drop, flat_map, all_inserted, ascending, texts, along}
-use Rattle.jt_names.proofs.Vocabulary.{names_by, its_templates}
+use Rattle.jt_names.proofs.{◌≡◌, ◌<◌, length, drop, flat_map, all_inserted, ascending, texts, along, names_by}
+use Rattle.jt_names.proofs.{its_templates}
 use Rattle.jt_names.proofs.templates.names_of_namespace.Given as goal
 
 abbrev pub invariant-loop-index : goal.invariant-loop-index
