@@ -42,4 +42,4 @@ pub use Rattle.jt_uses.specs.Uses.{Site, Use, body_uses, outside}
 pub use Rattle.jt_uses.specs.declared.site.Enclosing.{Enclosing}
 pub use Rattle.jt_checks.specs.Findings.{BreaksAt, Finding, Subject, lines_bound}
 pub use Rattle.jt_checks.specs.internal.Fitting.{filter_takes}
-pub use Rattle.jt_checks.specs.internal.ScopeView.{its_cenv, its_namespace}
+pub use Rattle.jt_checks.specs.internal.ScopeView.{cenv_in, in_scope, its_chain}

@@ -23,22 +23,11 @@ use jt_rules::ScopeError;
 use std::alloc::{AllocError, Global};
 use std::collections::BTreeSet;
 
-/// Returns `rule` if `wrong` holds.
-pub(crate) fn refused(wrong: bool, rule: ScopeError) -> Option<ScopeError>
-    ensures { result ≡ rules.refused wrong rule }
-{
-    if wrong { Some(rule) } else { None }
-}
-
 /// Returns `BadArguments` unless the arguments are right.
 pub(crate) fn unless(right: bool) -> Option<ScopeError>
     ensures { result ≡ rules.unless right }
 {
-    if right {
-        None
-    } else {
-        Some(ScopeError::BadArguments)
-    }
+    (!right).then_some(ScopeError::BadArguments)
 }
 
 /// Returns whether a name occurs twice.
@@ -100,7 +89,7 @@ pub(crate) fn fits(
 }
 
 /// Returns the rule that the arguments of `range` break.
-#[tactic(auto, using(crate::proofs::RowLengths::counted, crate::proofs::RowLengths::keyless))]
+#[tactic(auto, using(crate::proofs::ArgumentsFit::counted, crate::proofs::ArgumentsFit::keyless))]
 pub(crate) fn range_broken(row: &[Expr], pairs: &[(String, Expr)]) -> Option<ScopeError>
     ensures { result
         ≡ rules.unless (callee_takes a_range (exprs_view row.now) (pairs_view pairs.now)) }
@@ -110,7 +99,7 @@ pub(crate) fn range_broken(row: &[Expr], pairs: &[(String, Expr)]) -> Option<Sco
 }
 
 /// Returns the rule that the arguments of a test break.
-#[tactic(auto, using(crate::proofs::RowLengths::counted, crate::proofs::RowLengths::keyless))]
+#[tactic(auto, using(crate::proofs::ArgumentsFit::counted, crate::proofs::ArgumentsFit::keyless))]
 pub(crate) fn test_broken(name: &str, row: &[Expr], pairs: &[(String, Expr)]) -> Option<ScopeError>
     ensures { result ≡ rules.unless
         (test_takes (test_named name.now) (exprs_view row.now) (pairs_view pairs.now)) }

@@ -71,7 +71,7 @@ fn callee_in_library<'a>(scope: &Scope<'_, 'a>, of: &str, field: &str) -> Callee
     let Some(Definition::Library(library)) = scope.given(of) else {
         return Callee::Nothing;
     };
-    match scope.chain.library_macro(library, field) {
+    match scope.facts.chain.library_macro(library, field) {
         Some(found) => Callee::Macro(found.parameters),
         None => Callee::Nothing,
     }
@@ -92,7 +92,7 @@ fn callee_of_field<'a>(scope: &Scope<'_, 'a>, of: &str, field: &'a str) -> Calle
 }
 
 /// Returns what a callee names.
-#[tactic(auto, using(crate::proofs::AttributeForms::attribute_callee))]
+#[tactic(auto, using(crate::proofs::Lookups::attribute_callee))]
 pub(crate) fn callee_of<'a>(scope: &Scope<'_, 'a>, called: &'a Expr) -> Callee<'a>
     requires { HasFacts scope.now }
     ensures { Means result (callee (its_sources scope.now) (its_given scope.now)
@@ -110,7 +110,7 @@ pub(crate) fn callee_of<'a>(scope: &Scope<'_, 'a>, called: &'a Expr) -> Callee<'
 
 /// Returns the rule that a call without arguments breaks, if `callable` says whether its callee can
 /// be called.
-#[tactic(auto, using(crate::proofs::RowLengths::counted, crate::proofs::RowLengths::keyless))]
+#[tactic(auto, using(crate::proofs::ArgumentsFit::counted, crate::proofs::ArgumentsFit::keyless))]
 fn bare_call_broken(callable: bool, row: &[Expr], pairs: &[(String, Expr)]) -> Option<ScopeError>
     ensures { result ≡ (if callable then rules.unless (is_bare (exprs_view row.now)
         (pairs_view pairs.now)) else Some error.NotCallable) }
@@ -123,7 +123,7 @@ fn bare_call_broken(callable: bool, row: &[Expr], pairs: &[(String, Expr)]) -> O
 }
 
 /// Returns the rule that a call breaks by its callee.
-#[tactic(auto, using(crate::proofs::RowLengths::counted, crate::proofs::RowLengths::keyless))]
+#[tactic(auto, using(crate::proofs::ArgumentsFit::counted, crate::proofs::ArgumentsFit::keyless))]
 pub(crate) fn call_broken(
     scope: &Scope<'_, '_>,
     around: Enclosing,

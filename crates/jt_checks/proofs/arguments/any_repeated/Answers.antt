@@ -1,5 +1,5 @@
-use Rattle.jt_checks.proofs.Vocabulary.{sym, ◌∙◌, get_or, arith, rules, texts}
-use Rattle.jt_checks.proofs.NameSets.{is_among, again_none, again_step, again_here, from_not, from_not_false, nameless}
+use Rattle.jt_checks.proofs.{sym, ◌∙◌, get_or, arith, rules, texts, is_among, again_none, again_step, again_here}
+use Rattle.jt_checks.proofs.{from_not, from_not_false, nameless}
 use Rattle.jt_checks.proofs.arguments.any_repeated.Goals as goal
 
 pub loop-name-init : goal.loop-name-init

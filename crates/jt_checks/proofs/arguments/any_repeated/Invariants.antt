@@ -1,5 +1,4 @@
-use Rattle.jt_checks.proofs.Vocabulary.{◌≡◌, drop, repeated, texts}
-use Rattle.jt_checks.proofs.NameSets.{again}
+use Rattle.jt_checks.proofs.{◌≡◌, drop, repeated, texts, again}
 use Rattle.jt_checks.proofs.arguments.any_repeated.Given as goal
 
 abbrev pub invariant-loop-name : goal.invariant-loop-name

@@ -1,13 +1,11 @@
--- Attributes, by their operand.
+-- Attributes by their operand, and the blocks of a scope by their names.
 use Rattle.jt_ast.specs.Expressions.{Expr}
-use Rattle.jt_chains.specs.Chain.{Sources, Definition, library, MacroBody, macros, public_macro, a_library, callee}
-use Rattle.jt_chains.specs.Chain.{named_in, in_library, of_library}
+use Rattle.jt_chains.specs.Chain.{Sources, Definition, callee, named_in, BlockBody}
 use Rattle.jt_checks.specs.Findings.{a_called_field, a_called_expression, called}
-use Rattle.jt_checks.specs.declared.calls.Callee as code
-use Rattle.jt_checks.specs.internal.CalleeView.{Means}
 use Rattle.jt_checks.specs.internal.ScopeView.{name_in}
 use Rattle.jt_checks.proofs.Vocabulary.{◌≡◌, List, Option, Some, None, arith, rules, attribute, Text, given_to, Callee}
-use Rattle.jt_checks.proofs.Vocabulary.{no_callee, Subject, sym, subst}
+use Rattle.jt_checks.proofs.Vocabulary.{no_callee, Subject, ℕ, suc, nat_lt, true, not, [], ◌∷◌, length, map, refl}
+use Rattle.jt_checks.proofs.Vocabulary.{bytes_eq, nat_tests, first_of, is_some, filter}
 
 abbrev pub called_of : Option Text → Text → Subject
 called_of (Some of) k = a_called_field of k
@@ -24,9 +22,11 @@ pub attribute_callee : (sources : Sources) (gs : List (Text × Definition)) (a :
     → callee sources gs (attribute a k) ≡ callee_of sources gs (name_in a) k
 attribute_callee sources gs a2 k = search (arith, rules)
 
--- The macro of a library, by the definition of the library's name.
-pub means_in_library : (sources : Sources) (o : Option Definition) (n x : Text) (m : Option MacroBody) (k : code.Callee)
-    → o ≡ Some (library n) → m ≡ public_macro x (macros sources (a_library n)) → Means k (of_library sources n m)
-    → Means k (in_library sources o x)
-means_in_library sources o n x m k e is h =
-    subst (λ d. Means k (in_library sources d x)) (sym e) (subst (λ z. Means k (of_library sources n z)) is h)
+some_left : (n : ℕ) → true ≡ not (nat_lt (suc n) 1)
+some_left n = grind (arith, nat_tests)
+
+-- A block has a body exactly if one of the bodies is found by its name.
+pub has_body : (x : Text) (n : ℕ) (bs : List BlockBody)
+    → is_some (first_of x n (map (λ b. b.name) bs)) ≡ not (nat_lt (length (filter (λ b. bytes_eq b.name x) bs)) 1)
+has_body x n [] = refl
+has_body x n (b ∷ bs) = search (arith, rules, has_body x (suc n) bs, nat_lt, some_left)
