@@ -1,9 +1,9 @@
 -- Bodies of blocks by their indices.
 use Rattle.std.proofs.Common.{set}
 use Rattle.std.proofs.lemmas.List.{drop-set}
-use Rattle.jt_layout.proofs.Vocabulary.{◌≡◌, ℕ, zero, suc, ◌+◌, ◌<◌, true, false, List, [], ◌∷◌, length, map, drop}
-use Rattle.jt_layout.proofs.Vocabulary.{get_or, refl, ap, Option, Some, if◌then◌else◌, add-one, arith, rules, slice_get}
-use Rattle.jt_layout.proofs.Vocabulary.{filter, drop_more, bytes_eq, Text, Template, BlockBody, block_view, Block}
+use Rattle.jt_layout.proofs.Vocabulary.{List, Option, Some, [], add-one, ap, arith, drop, false, get_or, if◌then◌else◌}
+use Rattle.jt_layout.proofs.Vocabulary.{length, map, refl, rules, suc, true, zero, ℕ, ◌+◌, ◌<◌, ◌∷◌, ◌≡◌, drop_more}
+use Rattle.jt_layout.proofs.Vocabulary.{filter, slice_get, bytes_eq, Text, BlockBody, Template, block_view, Block}
 use Rattle.jt_layout.proofs.Vocabulary.{counted_from, next_given, nexts}
 
 pub length-counted : {A : Type 0} (n : ℕ) (xs : List A) → length (counted_from n xs) ≡ length xs

@@ -1,11 +1,10 @@
 -- The first macro of a name.
 use Rattle.jt_ast.specs.StatementView.{parameters_view}
 use Rattle.jt_chains.specs.declared.parts.Macro.{Macro}
-use Rattle.jt_layout.proofs.Vocabulary.{◌≡◌, ℕ, suc, ◌+◌, Bool, true, false, List, [], ◌∷◌, ◌++◌, length, map, refl}
-use Rattle.jt_layout.proofs.Vocabulary.{sym, ap, ◌∙◌, Option, Some, None, if◌then◌else◌, arith, rules, slice_get}
-use Rattle.jt_layout.proofs.Vocabulary.{bytes_eq, Text, Namespace, Template, macro_of, macro_view, Key, of_macro}
-use Rattle.jt_layout.proofs.Vocabulary.{index_of, first_default, defaults_from, first_of}
-use Rattle.jt_layout.proofs.NamespacesByName.{itself}
+use Rattle.jt_layout.proofs.Vocabulary.{Bool, List, None, Option, Some, [], ap, arith, false, if◌then◌else◌, length}
+use Rattle.jt_layout.proofs.Vocabulary.{map, refl, rules, suc, sym, true, ℕ, ◌++◌, ◌+◌, ◌∙◌, ◌∷◌, ◌≡◌, slice_get}
+use Rattle.jt_layout.proofs.Vocabulary.{bytes_eq, Text, Namespace, Template, macro_of, macro_view, first_of}
+use Rattle.jt_layout.proofs.Vocabulary.{namespace_is, Key, first_default, index_of, of_macro, defaults_from}
 
 module _ (ts : List Template) (x : Text) where
   -- The first macro of the name, at its index.
@@ -46,7 +45,7 @@ module _ (ts : List Template) (x : Text) where
               named = q;
               meant = search (arith, rules);
               default = λ d. search (arith, rules);
-              unit = λ h ks. search (arith, rules, itself);
+              unit = λ h ks. search (arith, rules, namespace_is);
             },
           )
       by false q g =
@@ -60,7 +59,7 @@ module _ (ts : List Template) (x : Text) where
               named = a.named;
               meant = search (arith, rules, a.meant);
               default = λ d. search (arith, rules, a.default (d + size));
-              unit = λ h ks. search (arith, rules, itself, a.unit h ks);
+              unit = λ h ks. search (arith, rules, namespace_is, a.unit h ks);
             },
           )
 

@@ -1,12 +1,11 @@
 -- The first occurrences of names in lists.
 use Rattle.jt_semantics.specs.Resolve.{first_body}
 use Rattle.jt_layout.specs.NamespaceLayout.{IsNamespaceAt}
-use Rattle.jt_layout.proofs.Vocabulary.{◌≡◌, ℕ, zero, suc, ◌+◌, ◌<◌, Bool, true, false, ◌||◌, List, [], ◌∷◌, length}
-use Rattle.jt_layout.proofs.Vocabulary.{map, drop, get_or, refl, ap, ◌∙◌, Option, Some, None, if◌then◌else◌, arith}
-use Rattle.jt_layout.proofs.Vocabulary.{rules, option_map, filter, drop_more, bytes_eq, Text, Namespace, a_chain}
-use Rattle.jt_layout.proofs.Vocabulary.{same_namespace, listed, BlockBody, namespace_at, global, slot_in, globals_from}
-use Rattle.jt_layout.proofs.Vocabulary.{counted_from, first_namespace, first_of}
-use Rattle.jt_layout.proofs.NamespacesByName.{same_is}
+use Rattle.jt_layout.proofs.Vocabulary.{Bool, List, None, Option, Some, [], ap, arith, drop, false, get_or}
+use Rattle.jt_layout.proofs.Vocabulary.{if◌then◌else◌, length, map, refl, rules, suc, true, zero, ℕ, ◌+◌, ◌<◌, ◌||◌}
+use Rattle.jt_layout.proofs.Vocabulary.{◌∙◌, ◌∷◌, ◌≡◌, drop_more, filter, option_map, bytes_eq, Text, BlockBody}
+use Rattle.jt_layout.proofs.Vocabulary.{Namespace, a_chain, listed, same_namespace, namespace_at, global, first_of}
+use Rattle.jt_layout.proofs.Vocabulary.{namespace_same, counted_from, globals_from, slot_in, first_namespace}
 
 -- Names in slots.
 pub in_slots : (x : Text) (n : ℕ) (xs : List Text) → option_map global (first_of x n xs) ≡ slot_in x (globals_from n xs)
@@ -34,7 +33,7 @@ from h n (k ∷ hs) = by (same_namespace k h) refl (from h (suc n) hs)
 
     by : (b : Bool) → same_namespace k h ≡ b → IsFrom hs h (suc n) (first_namespace h (suc n) hs)
         → IsFrom (k ∷ hs) h n (if b then Some n else first_namespace h (suc n) hs)
-    by true e r = (0, omega arith, omega arith, same_is k h e)
+    by true e r = (0, omega arith, omega arith, namespace_same k h e)
     by false e r = later (first_namespace h (suc n) hs) e r
 
 pub is_namespace : (h : Namespace) (order : List Namespace) (o : Option ℕ) → o ≡ first_namespace h 0 order

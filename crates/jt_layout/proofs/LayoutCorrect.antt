@@ -4,20 +4,19 @@ use Rattle.jt_chains.specs.View.{sources_of}
 use Rattle.jt_chains.specs.declared.chain.Chain.{Chain}
 use Rattle.jt_semantics.specs.Layout.{block_parameters, is_scoped}
 use Rattle.jt_layout.specs.NamespaceLayout.{IsCalled}
-use Rattle.jt_layout.proofs.Vocabulary.{◌≡◌, ℕ, zero, suc, ◌+◌, ◌<◌, Bool, true, false, not, ◌||◌, List, [], ◌∷◌, ◌++◌}
-use Rattle.jt_layout.proofs.Vocabulary.{length, map, drop, refl, sym, ap, subst, ◌∙◌, Option, Some, None, if◌then◌else◌}
-use Rattle.jt_layout.proofs.Vocabulary.{arith, add-one, rules, length-map, slice_get, option_map, is_some, or_right}
-use Rattle.jt_layout.proofs.Vocabulary.{Text, Namespace, a_chain, same_namespace, listed, Sources, Template, MacroBody}
-use Rattle.jt_layout.proofs.Vocabulary.{macros, macro_of, all_bodies, namespace_view, macro_view, block_view}
-use Rattle.jt_layout.proofs.Vocabulary.{namespace_at, chain_view, namespace_in, Block, CompileEnv, global, in_globals}
-use Rattle.jt_layout.proofs.Vocabulary.{slot_in, globals_from, counted_from, of_macro, of_body, entry_keys, index_of}
-use Rattle.jt_layout.proofs.Vocabulary.{first_default, default_index, names, unit, defaults_of, Stands, its_cenv}
-use Rattle.jt_layout.proofs.Vocabulary.{its_order, is_library, namespace_named, defaults_from, nexts, first_of}
-use Rattle.jt_layout.proofs.Vocabulary.{FirstFree, NamespaceLayout}
+use Rattle.jt_layout.proofs.Vocabulary.{Bool, List, None, Option, Some, [], add-one, ap, arith, drop, false}
+use Rattle.jt_layout.proofs.Vocabulary.{if◌then◌else◌, length, map, not, refl, rules, subst, suc, sym, true, zero, ℕ}
+use Rattle.jt_layout.proofs.Vocabulary.{◌++◌, ◌+◌, ◌<◌, ◌||◌, ◌∙◌, ◌∷◌, ◌≡◌, or_right, length-map, is_some, option_map}
+use Rattle.jt_layout.proofs.Vocabulary.{slice_get, Text, MacroBody, Namespace, Sources, Template, a_chain, all_bodies}
+use Rattle.jt_layout.proofs.Vocabulary.{listed, macro_of, macros, same_namespace, namespace_at, block_view, macro_view}
+use Rattle.jt_layout.proofs.Vocabulary.{namespace_view, chain_view, namespace_in, Block, global, first_of, CompileEnv}
+use Rattle.jt_layout.proofs.Vocabulary.{namespace_is, same_text, counted_from, default_index, defaults_of, entry_keys}
+use Rattle.jt_layout.proofs.Vocabulary.{first_default, globals_from, in_globals, index_of, names, of_body, of_macro}
+use Rattle.jt_layout.proofs.Vocabulary.{slot_in, unit, is_library, FirstFree, NamespaceLayout, Stands, defaults_from}
+use Rattle.jt_layout.proofs.Vocabulary.{namespace_named, nexts, its_cenv, its_order}
 use Rattle.jt_layout.proofs.BodyIndices.{length-counted, length-nexts}
 use Rattle.jt_layout.proofs.FirstMacro.{first_macro, no_macro}
 use Rattle.jt_layout.proofs.FirstOccurrences.{in_slots, namespaces_left}
-use Rattle.jt_layout.proofs.NamespacesByName.{same, itself}
 use Rattle.jt_layout.proofs.NamesInOrder.{no_names}
 use Rattle.jt_layout.proofs.OffsetSteps.{apart, macro_unit, body_unit, default_here, front_turn, count_keys}
 use Rattle.jt_chains.specs.Uses as uses
@@ -25,7 +24,7 @@ use Rattle.jt_chains.specs.Uses as uses
 -- Each namespace is in the list, and not among those after it.
 listed_at : (hs : List Namespace) (i : ℕ) → i < length hs → listed (namespace_at hs i) hs ≡ true
 listed_at [] i lt = absurd (omega arith)
-listed_at (h ∷ hs) zero lt = ap (λ b. b || listed h hs) (itself h)
+listed_at (h ∷ hs) zero lt = ap (λ b. b || listed h hs) (namespace_is h)
 listed_at (h ∷ hs) (suc i) lt =
     or_right (same_namespace h (namespace_at hs i)) (listed (namespace_at hs i) hs) (listed_at hs i (omega arith))
 
@@ -76,7 +75,7 @@ module _ (c : Chain) (i : ℕ) (lt : i < length c.namespaces.items) (f : FirstFr
           let r = first_macro ts x l.known.now.macros.items 0 k (sym e) in
           let a = r.2 in
           let is : k ≡ r.0 = omega (arith, r.1) in
-          let name : x ≡ a.code.name.now = sym (same a.code.name.now x a.named) in
+          let name : x ≡ a.code.name.now = sym (same_text a.code.name.now x a.named) in
           let keyed = macro_unit W O h rest f s x r.0
           (λ ks. ap (λ ms. index_of (of_macro h x) (map (λ (m : MacroBody). of_macro h m.name) ms ++ ks)) (sym all)
           ∙ a.unit h ks) in
@@ -132,7 +131,7 @@ module _ (c : Chain) (i : ℕ) (lt : i < length c.namespaces.items) where
   inside = omega (arith, lt, length-map c.namespaces.items namespace_view)
 
   pub listed_left : listed (namespace_in c i) (drop i (its_order c)) ≡ true
-  listed_left = search (arith, rules, namespaces_left, inside, itself)
+  listed_left = search (arith, rules, namespaces_left, inside, namespace_is)
 
   -- Each namespace after this one differs from it.
   pub left_turn : (x : Namespace) → listed x (drop (i + 1) (its_order c)) ≡ true

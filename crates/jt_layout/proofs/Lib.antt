@@ -3,6 +3,5 @@ pub mod BodyIndices
 pub mod FirstMacro
 pub mod FirstOccurrences
 pub mod OffsetSteps
-pub mod NamespacesByName
 pub mod NamesInOrder
 pub mod LayoutCorrect

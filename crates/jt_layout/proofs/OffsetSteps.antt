@@ -3,19 +3,19 @@ use Rattle.std.proofs.Common.{◌==◌}
 use Rattle.std.proofs.lemmas.Bool.Decides.{nat_tests}
 use Rattle.jt_semantics.specs.Layout.{of_chain, same_key, chain_keys, numbered_bodies, first_slot}
 use Rattle.jt_layout.specs.internal.Front.{namespace_of}
-use Rattle.jt_layout.proofs.Vocabulary.{refl, ◌≡◌, ℕ, zero, suc, ◌+◌, ◌<◌, true, false, not, ◌||◌, List, [], ◌∷◌, ◌++◌}
-use Rattle.jt_layout.proofs.Vocabulary.{length, map, sym, ap, ◌∙◌, arith, length-append, append_assoc, rules}
-use Rattle.jt_layout.proofs.Vocabulary.{length-map, flat_map, or_right, Text, Namespace, a_chain, a_library}
-use Rattle.jt_layout.proofs.Vocabulary.{same_namespace, listed, BlockBody, MacroBody, macros, all_bodies, CompileEnv}
-use Rattle.jt_layout.proofs.Vocabulary.{Key, of_macro, of_body, index_of, entry_keys, unit, names, counted_from}
-use Rattle.jt_layout.proofs.Vocabulary.{default_index, defaults_of, first_default, Stands, FirstFree}
+use Rattle.jt_layout.proofs.Vocabulary.{List, [], ap, append_assoc, arith, false, length, length-append, map, not, refl}
+use Rattle.jt_layout.proofs.Vocabulary.{rules, suc, sym, true, zero, ℕ, ◌++◌, ◌+◌, ◌<◌, ◌||◌, ◌∙◌, ◌∷◌, ◌≡◌, or_right}
+use Rattle.jt_layout.proofs.Vocabulary.{length-map, flat_map, Text, BlockBody, MacroBody, Namespace, a_chain, a_library}
+use Rattle.jt_layout.proofs.Vocabulary.{all_bodies, listed, macros, same_namespace, CompileEnv, namespace_is}
+use Rattle.jt_layout.proofs.Vocabulary.{namespace_same, same_is, Key, counted_from, default_index, defaults_of}
+use Rattle.jt_layout.proofs.Vocabulary.{entry_keys, first_default, index_of, names, of_body, of_macro, unit, FirstFree}
+use Rattle.jt_layout.proofs.Vocabulary.{Stands}
 use Rattle.jt_layout.proofs.BodyIndices.{length-counted}
-use Rattle.jt_layout.proofs.NamespacesByName.{reflexive, same_is, itself}
 
 -- A namespace after another one differs from it.
 pub apart : (h : Namespace) (hs : List Namespace) → not (listed h hs) ≡ true → (k : Namespace) → listed k hs ≡ true
     → same_namespace h k ≡ false
-apart h hs n k a = search (arith, rules, same_is)
+apart h hs n k a = search (arith, rules, namespace_same)
 
 -- ---- keys before a key
 
@@ -44,10 +44,10 @@ different_numbers n m lt = grind (arith, nat_tests)
 body_at : (h : Namespace) (n i k : ℕ) (bs : List BlockBody) (rest : List Key) → i < length bs → k ≡ n + i
     → index_of (of_body h k) (map (λ b. of_body h b.0) (counted_from n bs) ++ rest) ≡ i
 body_at h n i k [] rest lt e = absurd (omega arith)
-body_at h n zero k (b ∷ bs) rest lt e = search (arith, rules, itself, equal_numbers n k (omega arith))
+body_at h n zero k (b ∷ bs) rest lt e = search (arith, rules, namespace_is, equal_numbers n k (omega arith))
 body_at h n (suc i) k (b ∷ bs) rest lt e =
     let other = different_numbers n k (omega arith) in
-    search (arith, rules, itself, other, body_at h (suc n) i k bs rest (omega arith) (omega arith))
+    search (arith, rules, namespace_is, other, body_at h (suc n) i k bs rest (omega arith) (omega arith))
 
 module _ (cenv : CompileEnv) (h : Namespace) where
   abbrev ms : List MacroBody
@@ -98,7 +98,7 @@ module _ (cenv : CompileEnv) (h : Namespace) where
 
 pub chain_key : (cenv : CompileEnv) (n : Text) (rest : List Key)
     → index_of (of_chain n) (chain_keys cenv (a_chain n) ++ rest) ≡ 0
-chain_key cenv n rest = search (arith, rules, reflexive)
+chain_key cenv n rest = search (arith, rules, same_is)
 
 -- ---- the first of the remaining namespaces
 
@@ -112,10 +112,10 @@ module _ (cenv : CompileEnv) (order : List Namespace) where
     behind = flat_map (chain_keys cenv) rest
 
     here : listed h (h ∷ rest) ≡ true
-    here = ap (λ b. b || listed h rest) (itself h)
+    here = ap (λ b. b || listed h rest) (namespace_is h)
 
     pub slot_here : first_slot cenv order h ≡ f.slot
-    slot_here = search (arith, rules, itself, here)
+    slot_here = search (arith, rules, namespace_is, here)
 
     pub chain_unit : (n : Text) → h ≡ a_chain n → unit cenv order (of_chain n) ≡ f.unit
     chain_unit n e = search (arith, rules, here, chain_key)
@@ -129,7 +129,7 @@ module _ (cenv : CompileEnv) (order : List Namespace) where
     body_unit i lt = omega (arith, s.units (of_body h i) here, body_key cenv h i behind lt)
 
     pub default_here : (x : Text) → default_index cenv order h x ≡ f.default + first_default x (macros cenv.sources h)
-    default_here x = search (arith, rules, itself, here)
+    default_here x = search (arith, rules, namespace_is, here)
 
     -- The first free numbers of the next namespace.
     module _ (new : not (listed h rest) ≡ true) (g : FirstFree) where

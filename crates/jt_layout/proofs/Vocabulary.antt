@@ -28,6 +28,7 @@ pub use Rattle.jt_chains.specs.declared.parts.Block.{Block}
 pub use Rattle.jt_ir.specs.Slots.{global}
 pub use Rattle.jt_names.specs.Names.{first_of, value_in}
 pub use Rattle.jt_rules.specs.CompileEnv.{CompileEnv}
+pub use Rattle.jt_semantics.proofs.EnvLookup.{namespace_is, namespace_same, same_is, same_text}
 pub use Rattle.jt_semantics.specs.Layout.{Key, counted_from, default_index, defaults_of, entry_keys, first_default}
 pub use Rattle.jt_semantics.specs.Layout.{globals_from, in_globals, index_of, names, names_in, of_body, of_macro}
 pub use Rattle.jt_semantics.specs.Layout.{slot_in, unit}
@@ -36,6 +37,6 @@ pub use Rattle.jt_layout.specs.NamespaceLayout.{IsLaid, is_library}
 pub use Rattle.jt_layout.specs.declared.front.FirstFree.{FirstFree}
 pub use Rattle.jt_layout.specs.declared.namespace_layout.NamespaceLayout.{NamespaceLayout}
 pub use Rattle.jt_layout.specs.internal.Front.{Stands}
-pub use Rattle.jt_layout.specs.internal.Indices.{defaults_from, first_namespace, names_at, names_of, namespace_named}
-pub use Rattle.jt_layout.specs.internal.Indices.{nexts, texts_of}
+pub use Rattle.jt_layout.specs.internal.Indices.{defaults_from, first_namespace, names_at, namespace_named, nexts}
+pub use Rattle.jt_layout.specs.internal.Indices.{texts_of}
 pub use Rattle.jt_layout.specs.internal.Namespaces.{its_cenv, its_order}

@@ -1,5 +1,5 @@
 use Rattle.jt_rules.specs.CompileEnv.{cenv_of}
-use Rattle.jt_layout.proofs.Vocabulary.{◌≡◌, ◌≤◌, length, drop, Text, a_chain, chain_view, names_in, names_at}
+use Rattle.jt_layout.proofs.Vocabulary.{drop, length, ◌≡◌, ◌≤◌, Text, a_chain, chain_view, names_in, names_at}
 use Rattle.jt_layout.proofs.collected.gather.Given as goal
 
 abbrev pub invariant-loop-left : goal.invariant-loop-left

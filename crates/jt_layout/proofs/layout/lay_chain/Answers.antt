@@ -1,9 +1,9 @@
 use Rattle.jt_chains.specs.Parts.{macros_view, blocks_view}
 use Rattle.jt_chains.specs.View.{its_templates}
-use Rattle.jt_layout.proofs.Vocabulary.{◌≡◌, ◌+◌, ◌&&◌, length, map, string_bytes, sym, ap, ◌∙◌, arith, length-map}
-use Rattle.jt_layout.proofs.Vocabulary.{list_any, slice_get, bytes_eq, macros, all_bodies, namespace_view, macro_view}
-use Rattle.jt_layout.proofs.Vocabulary.{namespace_in, texts, its_cenv, its_order, defaults_from, nexts, first_of}
-use Rattle.jt_layout.proofs.Vocabulary.{is_library, FirstFree, NamespaceLayout, name_of_namespace}
+use Rattle.jt_layout.proofs.Vocabulary.{ap, arith, length, map, string_bytes, sym, ◌&&◌, ◌+◌, ◌∙◌, ◌≡◌, length-map}
+use Rattle.jt_layout.proofs.Vocabulary.{list_any, slice_get, bytes_eq, texts, name_of_namespace, all_bodies, macros}
+use Rattle.jt_layout.proofs.Vocabulary.{macro_view, namespace_view, namespace_in, first_of, unit, is_library, FirstFree}
+use Rattle.jt_layout.proofs.Vocabulary.{NamespaceLayout, defaults_from, nexts, its_cenv, its_order}
 use Rattle.jt_layout.proofs.BodyIndices.{next_at}
 use Rattle.jt_layout.proofs.FirstOccurrences.{first_bodies}
 use Rattle.jt_layout.proofs.OffsetSteps.{slot_here, chain_unit}

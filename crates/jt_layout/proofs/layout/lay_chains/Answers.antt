@@ -1,9 +1,8 @@
 use Rattle.jt_names.proofs.EachItem.{each_more}
-use Rattle.jt_layout.proofs.Vocabulary.{◌≡◌, ℕ, ◌+◌, ◌<◌, ◌≤◌, [], ◌∷◌, length, get_or, sym, ap, subst, ◌∙◌, arith}
-use Rattle.jt_layout.proofs.Vocabulary.{length-append, List, drop, string_bytes, rules, flat_map, at_drop_all}
-use Rattle.jt_layout.proofs.Vocabulary.{length-map, a_chain, listed, same_namespace, namespace_view, chain_view}
-use Rattle.jt_layout.proofs.Vocabulary.{namespace_in, its_cenv, its_order, IsLaid, names_at, NamespaceLayout}
-use Rattle.jt_layout.proofs.Vocabulary.{name_of_namespace}
+use Rattle.jt_layout.proofs.Vocabulary.{List, [], ap, arith, drop, get_or, length, length-append, rules, string_bytes}
+use Rattle.jt_layout.proofs.Vocabulary.{subst, sym, ℕ, ◌+◌, ◌<◌, ◌∙◌, ◌∷◌, ◌≡◌, ◌≤◌, at_drop_all, length-map, flat_map}
+use Rattle.jt_layout.proofs.Vocabulary.{name_of_namespace, a_chain, listed, same_namespace, namespace_view, chain_view}
+use Rattle.jt_layout.proofs.Vocabulary.{namespace_in, IsLaid, NamespaceLayout, names_at, its_cenv, its_order}
 use Rattle.jt_layout.proofs.OffsetSteps.{first_front}
 use Rattle.jt_layout.proofs.LayoutCorrect.{listed_left, left_turn, names_handed}
 use Rattle.jt_semantics.specs.Layout as layout

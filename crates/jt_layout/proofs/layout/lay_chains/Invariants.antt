@@ -1,5 +1,5 @@
-use Rattle.jt_layout.proofs.Vocabulary.{◌≡◌, ℕ, ◌<◌, true, length, drop, get_or, Text, a_chain, listed, chain_view}
-use Rattle.jt_layout.proofs.Vocabulary.{namespace_in, Stands, its_cenv, its_order, IsLaid, names_at, NamespaceLayout}
+use Rattle.jt_layout.proofs.Vocabulary.{drop, get_or, length, true, ℕ, ◌<◌, ◌≡◌, Text, a_chain, listed, chain_view}
+use Rattle.jt_layout.proofs.Vocabulary.{namespace_in, IsLaid, NamespaceLayout, Stands, names_at, its_cenv, its_order}
 use Rattle.jt_semantics.specs.Layout as layout
 use Rattle.jt_layout.proofs.layout.lay_chains.Given as goal
 
