@@ -2,7 +2,9 @@
 use Rattle.std.specs.BTreeMap.{BTreeMap}
 use Rattle.std.proofs.lemmas.Grind.{flat_map-append}
 use Rattle.std.proofs.lemmas.List.{append-nil}
-use Rattle.jt_chains.specs.Includes.{included, includes_in}
+use Rattle.jt_chains.specs.Includes.{includes_in, with_source}
+use Rattle.jt_chains.specs.Uses.{own_names}
+use Rattle.jt_chains.specs.declared.include_tags.NeededTemplate.{NeededTemplate}
 use Rattle.jt_chains.specs.Needs.{include_need}
 use Rattle.jt_chains.proofs.IncludeCollection.{by_templates}
 use Rattle.jt_layout.specs.internal.Indices.{all_names}
@@ -10,9 +12,8 @@ use Rattle.jt_names.proofs.SortedNames.{ascending_inserted, inserted_both}
 use Rattle.jt_layout.proofs.Vocabulary.{Bool, Global, List, Option, Some, Vec, [], ap, arith, drop, false}
 use Rattle.jt_layout.proofs.Vocabulary.{if◌then◌else◌, length, map, refl, rules, true, ℕ, ◌+◌, ◌<◌, ◌∙◌, ◌∷◌, ◌≡◌}
 use Rattle.jt_layout.proofs.Vocabulary.{is_some, flat_map, bytes_eq, Bor, Text, all_inserted, ascending, texts}
-use Rattle.jt_layout.proofs.Vocabulary.{Namespace, Sources, a_chain, a_library, templates, with_source, namespace_at}
-use Rattle.jt_layout.proofs.Vocabulary.{needed, needs_view, own_names, NeededTemplate, CompileEnv, same_text, names_in}
-use Rattle.jt_layout.proofs.Vocabulary.{names_at, texts_of}
+use Rattle.jt_layout.proofs.Vocabulary.{Namespace, Sources, a_chain, a_library, templates, namespace_at, needed}
+use Rattle.jt_layout.proofs.Vocabulary.{needs_view, CompileEnv, same_text, names_in, names_at, texts_of}
 use Rattle.jt_layout.proofs.FirstOccurrences.{namespaces_left}
 
 -- ---- the names of a map
@@ -54,8 +55,17 @@ module _ (cenv : CompileEnv) (hs : List Namespace) where
         (all_inserted (ascending (own_names cenv.sources h)) [])
         → ns ≡ all_names cenv hs h
     all_stored ks ns e f =
-        search
-        (arith, rules, flat_map-append, stored, by_templates, no_names_of, append-nil, ascending_inserted, inserted_both)
+        search (
+          arith,
+          rules,
+          flat_map-append,
+          stored,
+          by_templates,
+          no_names_of,
+          append-nil,
+          ascending_inserted,
+          inserted_both,
+        )
 
 module _ (cenv : CompileEnv) (order : List Namespace) (i : ℕ) (lt : i < length order) where
   abbrev behind : List Namespace
