@@ -159,7 +159,8 @@ module _ (cenv : CompileEnv) (order : List Namespace) (h : Namespace) (rest : Li
       }
 
   pub body_units : (ts : List Template) (bs : List Block)
-      → map (block_view ts) bs ≡ all_bodies cenv.sources cenv.escaping h → (u k : ℕ) → u ≡ f.unit + (length (entry_keys cenv h) + length (macros cenv.sources h)) → k < length bs
+      → map (block_view ts) bs ≡ all_bodies cenv.sources cenv.escaping h → (u k : ℕ)
+      → u ≡ f.unit + (length (entry_keys cenv h) + length (macros cenv.sources h)) → k < length bs
       → u + k ≡ unit cenv order (of_body h k)
   body_units ts bs all u k e lt =
       let there : k < length (all_bodies cenv.sources cenv.escaping h) =

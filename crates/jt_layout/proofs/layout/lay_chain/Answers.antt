@@ -105,5 +105,6 @@ returns c =
           ))
           (omega (arith, unit, c.in_ok-behind_unit.ensures, c.len-3.ensures, known.blocks.ok.0, body_count))
           (c.in_ok-defaults.ensures.ended ts
-          ∙ ap (λ z. f.default + length (layout.defaults_of z)) (ap (map (macro_view ts)) c.deref-4.ensures.value ∙ facts.all_macros));
+          ∙ ap (λ z. f.default + length (layout.defaults_of z))
+          (ap (map (macro_view ts)) c.deref-4.ensures.value ∙ facts.all_macros));
     }
