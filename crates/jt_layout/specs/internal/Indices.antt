@@ -1,6 +1,6 @@
 -- The indices of names and namespaces in lists, and the names of chains. Only private clauses cite
 -- this module.
-use Rattle.std.specs.Prelude.{ℕ, suc, ◌+◌, Bool, true, List, [], ◌∷◌, ◌++◌, length, flat_map, Option, Some, None}
+use Rattle.std.specs.Prelude.{ℕ, suc, ◌+◌, Bool, List, [], ◌∷◌, ◌++◌, length, flat_map, Option, Some, None}
 use Rattle.std.specs.Prelude.{if◌then◌else◌, filter, Vec}
 use Rattle.std.specs.declared.alloc.Global.{Global}
 use Rattle.std.specs.BTreeMap.{BTreeMap}
@@ -9,10 +9,8 @@ use denote.Ref.{Bor}
 use Rattle.jt_ast.specs.Expressions.{Text}
 use Rattle.jt_ast.specs.Texts.{ascending, texts}
 use Rattle.jt_chains.specs.Chain.{Namespace, a_chain, a_library, same_namespace, BlockBody, MacroBody}
-use Rattle.jt_chains.specs.Includes.{included, with_source}
-use Rattle.jt_chains.specs.Needs.{needed, needs_view}
+use Rattle.jt_chains.specs.Includes.{included}
 use Rattle.jt_chains.specs.Uses.{own_names}
-use Rattle.jt_chains.specs.declared.include_tags.NeededTemplate.{NeededTemplate}
 use Rattle.jt_rules.specs.CompileEnv.{CompileEnv}
 use Rattle.jt_semantics.specs.Layout.{names_in}
 use Rattle.jt_semantics.specs.Resolve.{next_given}
@@ -32,11 +30,6 @@ abbrev pub all_names : CompileEnv → List Namespace → Namespace → List Text
 all_names cenv behind h =
     ascending
     (own_names cenv.sources h ++ flat_map (names_in cenv behind) (included cenv.sources h))
-
--- The names of the chains that some includes lead to.
-abbrev pub names_of : CompileEnv → List Namespace → List NeededTemplate → List Text
-names_of cenv behind ns =
-    flat_map (λ x. names_in cenv behind (a_chain x)) (with_source cenv.sources (needed true (needs_view ns)))
 
 -- The names that are stored for a chain, or none if none are stored.
 abbrev pub texts_of : Option (Vec (Bor Text) Global) → List Text

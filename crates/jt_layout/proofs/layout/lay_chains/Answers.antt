@@ -1,11 +1,9 @@
 use Rattle.jt_names.proofs.EachItem.{each_more}
-use Rattle.jt_layout.proofs.Vocabulary.{◌≡◌, ℕ, ◌+◌, ◌<◌, ◌≤◌, [], ◌∷◌, length, get_or, sym, ap, subst, ◌∙◌, arith}
-use Rattle.jt_layout.proofs.Vocabulary.{length-append, List, drop, string_bytes, rules, flat_map, at_drop_all}
-use Rattle.jt_layout.proofs.Vocabulary.{length-map, a_chain, listed, same_namespace, namespace_view, chain_view}
-use Rattle.jt_layout.proofs.Vocabulary.{namespace_in, its_cenv, its_order, IsLaid, names_at, NamespaceLayout}
-use Rattle.jt_layout.proofs.Vocabulary.{name_of_namespace}
-use Rattle.jt_layout.proofs.OffsetSteps.{first_front}
-use Rattle.jt_layout.proofs.LayoutCorrect.{listed_left, left_turn, names_handed}
+use Rattle.jt_layout.proofs.Vocabulary.{[], ap, arith, drop, length, length-append, rules, string_bytes, subst, sym}
+use Rattle.jt_layout.proofs.Vocabulary.{◌+◌, ◌<◌, ◌∙◌, ◌∷◌, ◌≡◌, ◌≤◌, at_drop_all, length-map, flat_map}
+use Rattle.jt_layout.proofs.Vocabulary.{name_of_namespace, a_chain, listed, same_namespace, namespace_view}
+use Rattle.jt_layout.proofs.Vocabulary.{namespace_in, AreLaid, IsLaidAt, names_at, its_cenv, its_order}
+use Rattle.jt_layout.proofs.LayoutCorrect.{first_front, left_turn, listed_left, names_handed}
 use Rattle.jt_semantics.specs.Layout as layout
 use Rattle.jt_layout.proofs.layout.lay_chains.Goals as goal
 
@@ -36,18 +34,11 @@ pub loop-namespace-preserved : goal.loop-namespace-preserved
 loop-namespace-preserved c =
     let a = c.args.facts.now.chain.now in
     let l = c.loop-namespace in
-    let W = its_cenv a in
-    let O = its_order a in
     let lt : l.namespace < length a.namespaces.items =
     omega (arith, c.loop-namespace-test.true, c.len-namespace-end.ensures, a.namespaces.ok.0) in
-    let k = c.index.result.now in
-    let is : namespace_in a l.namespace ≡ namespace_view k =
-    name_of_namespace a.namespaces.items l.namespace k lt c.index.ensures in
-    let grown = c.in_ok-push.ensures.items in
-    let P : ℕ → NamespaceLayout → Type 0 = (λ i t. IsLaid W O (chain_view a).templates (namespace_in a i) t) in
-    let last : P (length l.namespaces.items) c.in_ok-indexed.indexed.namespace_layout = subst
-    (λ i. P i c.in_ok-indexed.indexed.namespace_layout) (sym l.invariant.all) c.in_ok-indexed.ensures.namespace_layout
-    in
+    let is : namespace_in a l.namespace ≡ namespace_view c.index.result.now =
+    name_of_namespace a.namespaces.items l.namespace c.index.result.now lt c.index.ensures in
+    let laid = c.in_ok-indexed.indexed.namespace_layout in
     record {
       stands = c.in_ok-indexed.ensures.behind;
       left = λ x u.
@@ -55,12 +46,12 @@ loop-namespace-preserved c =
           c.take-names.ensures.others x (ap (λ h. same_namespace h (a_chain x)) (sym is) ∙ other.0)
           ∙ l.invariant.left x other.1;
       all =
-          ap length grown ∙ length-append l.namespaces.items (c.in_ok-indexed.indexed.namespace_layout ∷ [])
+          ap length c.in_ok-push.ensures.items ∙ length-append l.namespaces.items (laid ∷ [])
           ∙ ap (λ n. n + 1) l.invariant.all;
       each =
-          subst
-          (λ (ts : List NamespaceLayout). (i : ℕ) (t : NamespaceLayout) → i < length ts → t ≡ get_or ts i t → P i t)
-          (sym grown) (each_more P l.namespaces.items c.in_ok-indexed.indexed.namespace_layout l.invariant.each last);
+          subst (AreLaid a) (sym c.in_ok-push.ensures.items)
+          (each_more (IsLaidAt a) l.namespaces.items laid l.invariant.each
+          (subst (λ i. IsLaidAt a i laid) (sym l.invariant.all) c.in_ok-indexed.ensures.namespace_layout));
     }
 
 pub returns-clause-units : goal.returns-clause-units

@@ -1,7 +1,7 @@
 use Rattle.std.specs.BTreeMap.{get_by}
 use Rattle.std.specs.Ordering.{nat_cmp}
 use Rattle.std.specs.Cmp.Lexicographic.{slice_cmp}
-use Rattle.jt_layout.proofs.Vocabulary.{◌∙◌, ap, bytes_eq, btree_map_updates_str, texts_of}
+use Rattle.jt_layout.proofs.Vocabulary.{ap, ◌∙◌, btree_map_updates_str, bytes_eq, texts_of}
 use Rattle.jt_layout.proofs.NamesInOrder.{names_put}
 use Rattle.jt_layout.proofs.collected.CollectedNames.put.Goals as goal
 
