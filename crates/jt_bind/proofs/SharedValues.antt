@@ -1,14 +1,7 @@
 -- The values at the beginning of a pool, one more part.
-use Rattle.std.proofs.Common.{◌≡◌, ℕ, ◌+◌, ◌<◌, List, ◌∷◌, ◌++◌, length, map, drop, get_or, sym, ap, ◌∙◌}
-use Rattle.std.proofs.Common.{append_assoc}
-use Rattle.std.proofs.lemmas.List.{drop_more}
-use Rattle.std.proofs.lemmas.Simd.{map-map}
-use Rattle.jt_ast.specs.StatementView.{parameter_view}
-use Rattle.jt_chains.specs.Chain.{Template}
-use Rattle.jt_chains.specs.Parts.{macro_view}
-use Rattle.jt_chains.specs.declared.parts.Macro.{Macro}
-use Rattle.jt_eval.specs.Filters.{default_value}
-use Rattle.jt_semantics.specs.Layout.{defaults_of}
+use Rattle.jt_bind.specs.internal.{◌≡◌, ℕ, ◌+◌, ◌<◌, List, ◌∷◌, ◌++◌, length, map, drop, get_or, parameter_view}
+use Rattle.jt_bind.specs.internal.{Template, macro_view, Macro, default_value, defaults_of}
+use Rattle.jt_bind.proofs.Vocabulary.{sym, ap, ◌∙◌, append_assoc, drop_more, map-map}
 
 -- A part that was appended no longer remains.
 pub part_put : {A : Type 0} (at part left all new : List A) → new ≡ at ++ part → at ++ (part ++ left) ≡ all

@@ -1,16 +1,11 @@
 //! Resolves block tags and includes: the text of another body or chain stands at the tag.
 
-ghost use Rattle.std.specs.Prelude.{if◌then◌else◌, ◌≡◌, Bool, IfOk, List, [], ℕ};
-ghost use Rattle.jt_ast.specs.StatementView.{is_ignored, passes_context};
-ghost use Rattle.jt_ast.specs.Texts.{texts};
-ghost use Rattle.jt_bind.specs.internal.Chains.{Chains};
-ghost use Rattle.jt_bind.specs.internal.Resolving.{line_of, stmt_of, table_of, templates_of};
-ghost use Rattle.jt_bind.specs.internal.Scoped.{PutsNone, globals_in, senv_in, templates_in};
-ghost use Rattle.jt_bind.specs.internal.Stated.{Emits};
-ghost use Rattle.jt_semantics.specs.Layout.{slot_in};
-ghost use Rattle.jt_value.specs.Tree.{Tree};
 ghost use Rattle.jt_semantics.specs.Resolve as resolve;
 ghost use Rattle.jt_ast.specs.Statements as trees;
+ghost use Rattle.jt_bind.specs.internal.{if◌then◌else◌, ◌≡◌, Bool, IfOk, List, [], ℕ, is_ignored};
+ghost use Rattle.jt_bind.specs.internal.{passes_context, texts, Chains, line_of, stmt_of, table_of};
+ghost use Rattle.jt_bind.specs.internal.{templates_of, PutsNone, globals_in, senv_in, templates_in};
+ghost use Rattle.jt_bind.specs.internal.{Emits, slot_in, Tree};
 
 use crate::Result;
 use crate::emission::{SlotBody, put_assign, put_print, put_run};
