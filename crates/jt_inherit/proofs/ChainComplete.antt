@@ -1,6 +1,7 @@
 -- The chains and libraries that an entry reaches: all of them are followed and checked, and each
 -- comes before those that it leads to.
 use Rattle.std.proofs.Common.{◌≡◌, ◌≢◌, ◌↔◌, ℕ, zero, suc, ◌+◌, ◌*◌, ◌<◌, ◌≤◌, ◌==◌, true, false, not, ◌&&◌, nat_lt}
+use Rattle.jt_inherit.proofs.Vocabulary.{names}
 use Rattle.std.proofs.Common.{List, [], ◌∷◌, length, map, refl, sym, ap, subst, ◌∙◌, arith, inl, inr, ◌⊎◌, ⊎_elim, Some}
 use Rattle.std.proofs.Common.{None, Vec, Global, get_or, rules}
 use Rattle.jt_graph.specs.Graph as graph
@@ -22,7 +23,7 @@ use Rattle.jt_inherit.proofs.Vocabulary.{KeepAll, BreakOne, their_blocks, their_
 use Rattle.jt_inherit.proofs.Vocabulary.{IsName, Need, needed, namespace_at, IsFinding, Breaks, ChainFinding, Asks}
 use Rattle.jt_inherit.proofs.Vocabulary.{Reaches, asked, extends_path, is_whole, KeepsRules, templates_weight}
 use Rattle.jt_inherit.proofs.Vocabulary.{chains_weight, templates_len, chains_len, Seen, AreKnown, IsExtendsPath}
-use Rattle.jt_inherit.proofs.Vocabulary.{names_view, Discovery, ChainError, map_at, of_texts, same, chain_among}
+use Rattle.jt_inherit.proofs.Vocabulary.{Discovery, ChainError, map_at, of_texts, same, chain_among}
 use Rattle.jt_inherit.proofs.Vocabulary.{of_namespaces, among_cases, no_more, indexed_among, and_from, and_right}
 use Rattle.jt_inherit.proofs.Vocabulary.{both_ways, list_any-append, not-true, or_from, or_right}
 use Rattle.jt_inherit.proofs.FindingsHold.{rule_bare, rule_said}
@@ -33,7 +34,8 @@ use Rattle.jt_inherit.proofs.TreeWeights.{few_chains, all_weigh}
 use Rattle.jt_inherit.proofs.DiscoveryInvariant.{none_read, few_way, way_names, asked_way, indexed_templates}
 use Rattle.jt_inherit.proofs.DiscoveryInvariant.{included_is, whole_path, some_source}
 use Rattle.jt_inherit.proofs.ImportCollection.{all_imported, none_given, none_lacking}
-use Rattle.jt_inherit.proofs.PathsGrow.{shows, names, few_templates, all_at_indices}
+use Rattle.jt_inherit.proofs.Vocabulary.{names}
+use Rattle.jt_inherit.proofs.PathsGrow.{shows, few_templates, all_at_indices}
 use Rattle.jt_inherit.proofs.PathTemplates.{too_few, few_names, all_named, have_sources, all_among, repeated_up, weigh}
 use Rattle.jt_inherit.proofs.PathTemplates.{names_indexed}
 use Rattle.jt_inherit.proofs.TopologicalOrder.{namespace_among, number_of, names_in_order, reached_in_order, no_cycle}
@@ -102,8 +104,8 @@ module _ (given : SourceTexts) (ts : List Template) where
 
 -- ---- a chain that was followed
 
-module _ (given : SourceTexts) (options : Options) (ts : List Template) {ks : List Text}
-    (known : AreKnown given options ts ks) (h : Namespace) (is : List ℕ) (w : IsExtendsPath ts h is None) where
+module _ (given : SourceTexts) (options : Options) (ts : List Template)
+    (known : AreKnown given options ts) (h : Namespace) (is : List ℕ) (w : IsExtendsPath ts h is None) where
   held : AllByRecursion (λ t. sources_in ts t.name ≡ Some t.body) (templates_at ts is)
   held = search (arith, rules, sources_in, whole_path, given_templates)
 
@@ -177,8 +179,8 @@ module _ (given : SourceTexts) (options : Options) (ts : List Template) {ks : Li
 
 -- ---- all chains and libraries
 
-module _ {given : SourceTexts} {options : Options} {entry : Text} {ts : List Template} {ks : List Text}
-    {hs : List Namespace} {ws ns : Graph} (f : AreFound given options entry ts ks hs ws ns)
+module _ {given : SourceTexts} {options : Options} {entry : Text} {ts : List Template}
+    {hs : List Namespace} {ws ns : Graph} (f : AreFound given options entry ts hs ws ns)
     (all : length ws ≡ length hs) where
   pub number : (i : ℕ) → i < length hs → IsFollowed given ts hs (namespace_at hs i) (next_of ws i) (next_of ns i)
   number i lt = f.followed.each i (omega (arith, all))
@@ -442,12 +444,11 @@ module _ {given : SourceTexts} {options : Options} {entry : Text} {ts : List Tem
 pub search_done : {given : SourceTexts} {options : Options} {entry : Text} (f : Discovery) → root_of f ≡ entry
     → IsFound given options f → length (found_paths f) ≡ length (found_namespaces f) → IsDone given options entry f
 search_done {given} {options} {entry} f root is all =
-    let found : AreFound given options entry (found_templates f) (names_view f.names) (found_namespaces f)
-    (found_paths f) (graph_of f.next.items) = subst (λ z. AreFound given options z (found_templates f)
-    (names_view f.names) (found_namespaces f) (found_paths f) (graph_of f.next.items)) root is in
+    let found : AreFound given options entry (found_templates f) (found_namespaces f) (found_paths f)
+    (graph_of f.next.items) = subst (λ z. AreFound given options z (found_templates f) (found_namespaces f)
+    (found_paths f) (graph_of f.next.items)) root is in
     record {
       found = found;
-      named = (is.known.named, ap repeated is.known.named ∙ is.known.read.once);
       indices =
           ways_indexed given (found_templates f) (found_namespaces f) (found_paths f)
           (graph_of f.next.items) is.followed;

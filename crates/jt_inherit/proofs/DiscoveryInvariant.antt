@@ -1,5 +1,9 @@
 -- The facts about followed chains and libraries stay true when more is found.
 use Rattle.std.proofs.Common.{◌≡◌, ℕ, zero, suc, ◌<◌, ◌≤◌, Bool, true, false, List, [], ◌∷◌, ◌++◌, length, map, refl}
+use Rattle.jt_inherit.proofs.PathsGrow.{read_on, indices_grow}
+use Rattle.jt_inherit.proofs.Vocabulary.{HasPath, HasRead, FollowedPath, HasNeeds, names}
+use Rattle.jt_inherit.proofs.Vocabulary.{HasPath}
+use Rattle.jt_inherit.proofs.Vocabulary.{FollowedPath}
 use Rattle.std.proofs.Common.{sym, ap, subst, ◌∙◌, arith, ◌⊎◌, ⊎_elim, inl, inr, Option, Some, None, Vec, Global}
 use Rattle.std.proofs.Common.{length-append, rules}
 use Rattle.jt_inherit.specs.internal.Found.{IsLedTo}
@@ -18,7 +22,8 @@ use Rattle.jt_inherit.proofs.ImportCollection.{all_imports, imports_needed, impo
 use Rattle.jt_inherit.proofs.ImportCollection.{includes_chosen, none_imported}
 use Rattle.jt_inherit.proofs.FollowStep.{at_front, met_grows, numbers_grow, chosen-append}
 use Rattle.jt_inherit.proofs.SourcesGrow.{reach_more, ask_more, reaches_next}
-use Rattle.jt_inherit.proofs.PathsGrow.{names, names_to_root, templates_grow, way_grows, few_templates, last_at}
+use Rattle.jt_inherit.proofs.Vocabulary.{names}
+use Rattle.jt_inherit.proofs.PathsGrow.{names_to_root, templates_grow, way_grows, few_templates, last_at}
 use Rattle.jt_inherit.proofs.PathsGrow.{templates_to_root}
 
 -- ---- templates at indices
@@ -114,13 +119,7 @@ module _ (ts : List Template) (e : Bool) (h : Namespace) (is : List ℕ) (w : Is
         includes_told,
       )
 
-  -- Each template on the path, and each included or imported one, is requested.
-  pub asks_way : (n : Text) → among n (names (templates_at ts is)) ≡ true
-      → among n (asked (sources_in ts) e true h) ≡ true
-  asks_way n a =
-      ap (among n) (asked_way true)
-      ∙ among_front of_texts n (names (templates_at ts is)) (needed true (needs_along ts is)) a
-
+  -- Each included or imported template is requested.
   pub asks_needed : (all : Bool) (n : Text) → among n (needed all (needs_along ts is)) ≡ true
       → among n (asked (sources_in ts) e all h) ≡ true
   asks_needed all n a =
@@ -216,100 +215,89 @@ followed_more given options ts us hs ms read {ws} {ns} f {h} at w n g = record {
 }
 
 -- One more namespace is followed.
-module _ {given : SourceTexts} {options : Options} {root : Text} {ts0 : List Template} {ks0 : List Text}
-    {hs : List Namespace} {ws ns : List (List ℕ)} (f : AreFound given options root ts0 ks0 hs ws ns) {h : Namespace}
-    (at : slice_get hs (length ws) ≡ Some h)
-    {ts1 : List Template} (more : (m1 : List Template) × (ts1 ≡ ts0 ++ m1)) {is : List ℕ}
-    (w : IsExtendsPath ts1 h is None) where
+module _ {given : SourceTexts} {options : Options} {root : Text} {ts0 : List Template} {hs : List Namespace}
+    {ws ns : List (List ℕ)} (f : AreFound given options root ts0 hs ws ns) {h : Namespace}
+    (at : slice_get hs (length ws) ≡ Some h) {ts1 : List Template} {is : List ℕ}
+    (p : HasPath given options ts0 ts1 h is) where
   pub reached_here : Reaches (sources_in ts1) options.autoescape (a_chain root) h
   reached_here =
-      reach_more ts0 ts1 more.0 options.autoescape (a_chain root) h more.1
+      reach_more ts0 ts1 p.read.more options.autoescape (a_chain root) h p.read.grown
       (f.reached h (indexed_among of_namespaces hs (length ws) h at))
 
-  module _ {ts2 : List Template} (m2 : List Template) (e2 : ts2 ≡ ts1 ++ m2) {ks2 : List Text}
-      (known : AreKnown given options ts2 ks2) where
+  module _ {ts2 : List Template} {needs : List Need} (same_needs : needs ≡ needs_along ts1 is)
+      (r : HasRead given options ts1 ts2 (needed true needs)) where
     pub way_there : IsExtendsPath ts2 h is None
-    way_there = subst (λ vs. IsExtendsPath vs h is None) (sym e2) (way_grows ts1 m2 h is None w)
+    way_there = subst (λ vs. IsExtendsPath vs h is None) (sym r.grown) (way_grows ts1 r.more h is None p.led)
 
-    needs_there : needs_along ts2 is ≡ needs_along ts1 is
+    pub needs_there : needs ≡ needs_along ts2 is
     needs_there = search (arith, rules, needs_along, includes_grow, way_there)
 
-    pub chosen_there : included (sources_in ts2) h ≡ chosen ks2 (needs_along ts2 is)
-    chosen_there = included_is ts2 h is way_there ∙ ap (λ ks. chosen ks (needs_along ts2 is)) (sym known.named)
+    pub chosen_there : included (sources_in ts2) h ≡ chosen (names ts2) needs
+    chosen_there = included_is ts2 h is way_there ∙ ap (chosen (names ts2)) (sym needs_there)
 
-    all_more : ts2 ≡ ts0 ++ (more.0 ++ m2)
-    all_more = e2 ∙ ap (λ l. l ++ m2) more.1 ∙ append_assoc ts0 more.0 m2
+    -- The templates of the path, and then the included and imported ones, are the requested ones.
+    all_read : HasRead given options ts0 ts2 (asked (sources_in ts2) options.autoescape true h)
+    all_read =
+        let told = asked_way ts2 options.autoescape h is way_there true in
+        let same_path = ap (λ vs. names (templates_at vs is)) r.grown
+        ∙ ap names (templates_grow ts1 r.more is p.led.indices) in
+        read_on p.read r
+        (λ n a. ap (among n) told ∙ among_front of_texts n (names (templates_at ts2 is)) (needed true (needs_along ts2 is))
+        (ap (among n) same_path ∙ a))
+        (λ n a. ap (among n) told
+        ∙ among_behind of_texts n (names (templates_at ts2 is)) (needed true (needs_along ts2 is))
+        (ap (λ l. among n (needed true l)) (sym needs_there) ∙ a))
 
     pub reached_there : Reaches (sources_in ts2) options.autoescape (a_chain root) h
-    reached_there = reach_more ts1 ts2 m2 options.autoescape (a_chain root) h e2 reached_here
+    reached_there = reach_more ts1 ts2 r.more options.autoescape (a_chain root) h r.grown reached_here
 
-    pub reached_from : (x : Namespace) → (listed x hs ≡ true) ⊎ (listed x (chosen ks2 (needs_along ts2 is)) ≡ true)
+    pub reached_from : (x : Namespace) → (listed x hs ≡ true) ⊎ (listed x (chosen (names ts2) needs) ≡ true)
         → Reaches (sources_in ts2) options.autoescape (a_chain root) x
-    reached_from x c = search (arith, rules, reach_more, all_more, reaches_next, reached_there, chosen_there)
-
-    -- Each known name is requested.
-    asks_more : (ks1 : List Text)
-        → ((n : Text) → among n ks1 ≡ true → (among n ks0 ≡ true) ⊎ (among n (names (templates_at ts1 is)) ≡ true))
-        → ((n : Text) → among n ks2 ≡ true → (among n ks1 ≡ true) ⊎ (among n (needed true (needs_along ts1 is)) ≡ true))
-        → (n : Text) → among n ks2 ≡ true → Asks (sources_in ts2) options.autoescape (a_chain root) n
-    asks_more ks1 on_path needs n a = ⊎_elim
-        (λ p. ⊎_elim
-        (λ q. ask_more ts0 ts2 (more.0 ++ m2) options.autoescape (a_chain root) n all_more (f.asked n q))
-        (λ q. ask_more ts1 ts2 m2 options.autoescape (a_chain root) n e2
-        (h, reached_here, asks_way ts1 options.autoescape h is w n q))
-        (on_path n p))
-        (λ p. ask_more ts1 ts2 m2 options.autoescape (a_chain root) n e2
-        (h, reached_here, asks_needed ts1 options.autoescape h is w true n p))
-        (needs n a)
+    reached_from x c = search (arith, rules, reach_more, all_read, reaches_next, reached_there, chosen_there)
 
     -- Each new namespace is one that the followed one leads to.
-    led_more : {hs2 : List Namespace} {next : List ℕ} → AreNext hs hs2 (chosen ks2 (needs_along ts2 is)) next
+    led_more : {hs2 : List Namespace} {next : List ℕ} → AreNext hs hs2 (chosen (names ts2) needs) next
         → (x : Namespace) → listed x hs2 ≡ true → (x ≡ a_chain root) ⊎ IsLedTo ts2 (ws ++ is ∷ []) x
     led_more n x a =
         ⊎_elim (λ q. ⊎_elim (λ e. inl e) (λ l. inr (old l)) (f.led x q)) (λ q. inr (new q)) (n.from x a)
       where
         old : IsLedTo ts0 ws x → IsLedTo ts2 (ws ++ is ∷ []) x
         old l =
-            let read = subst (AllByRecursion (IsRead given options)) all_more known.read.each in
+            let read = subst (AllByRecursion (IsRead given options)) all_read.grown r.known.read.each in
             let i = l.0 in
             let lt : i < length ws = l.1 in
-            let theirs = same_chosen given options ts0 (more.0 ++ m2) hs [] read
-            (f.followed.each i lt) in (
+            let theirs = same_chosen given options ts0 all_read.more hs [] read (f.followed.each i lt) in (
               i,
               omega (arith, lt, length-append ws (is ∷ [])),
               subst (λ v. listed x (chosen (names ts2) (needs_along ts2 v)) ≡ true) (sym (next_front ws is i lt))
-                  (subst (λ vs. listed x (chosen (names vs) (needs_along vs (next_of ws i))) ≡ true) (sym all_more)
-                  (ap (listed x) theirs ∙ l.2)),
+                  (subst (λ vs. listed x (chosen (names vs) (needs_along vs (next_of ws i))) ≡ true)
+                  (sym all_read.grown) (ap (listed x) theirs ∙ l.2)),
             )
 
-        new : listed x (chosen ks2 (needs_along ts2 is)) ≡ true → IsLedTo ts2 (ws ++ is ∷ []) x
+        new : listed x (chosen (names ts2) needs) ≡ true → IsLedTo ts2 (ws ++ is ∷ []) x
         new q = (
           length ws,
           omega (arith, length-append ws (is ∷ [])),
           subst (λ v. listed x (chosen (names ts2) (needs_along ts2 v)) ≡ true)
               (sym (ap (λ o. unwrap_or o []) (last_at ws is)))
-              (subst (λ ks. listed x (chosen ks (needs_along ts2 is)) ≡ true) known.named q),
+              (subst (λ l. listed x (chosen (names ts2) l) ≡ true) needs_there q),
         )
 
-    pub found_more : (ks1 : List Text)
-        → ((n : Text) → among n ks1 ≡ true → (among n ks0 ≡ true) ⊎ (among n (names (templates_at ts1 is)) ≡ true))
-        → ((n : Text) → among n ks2 ≡ true → (among n ks1 ≡ true) ⊎ (among n (needed true (needs_along ts1 is)) ≡ true))
-        → AllByRecursion (IsMet given ks2) (needs_along ts1 is) → {hs2 : List Namespace} {next : List ℕ}
-        → AreNext hs hs2 (chosen ks2 (needs_along ts2 is)) next
-        → AreFound given options root ts2 ks2 hs2 (ws ++ is ∷ []) (ns ++ next ∷ [])
-    found_more ks1 on_path needs met {hs2} {next} n =
-        let read = subst (AllByRecursion (IsRead given options)) all_more known.read.each in
+    pub found_more : AllByRecursion (IsMet given (names ts2)) needs → {hs2 : List Namespace} {next : List ℕ}
+        → AreNext hs hs2 (chosen (names ts2) needs) next
+        → AreFound given options root ts2 hs2 (ws ++ is ∷ []) (ns ++ next ∷ [])
+    found_more met {hs2} {next} n =
+        let read = subst (AllByRecursion (IsRead given options)) all_read.grown r.known.read.each in
         let here_followed : IsFollowed given ts2 hs2 h is next = (record {
           led = way_there;
-          met =
-              subst (λ l. AllByRecursion (IsMet given (names ts2)) l) (sym needs_there)
-              (subst (λ ks. AllByRecursion (IsMet given ks) (needs_along ts1 is)) known.named met);
-          numbered =
-              subst (λ ks. map (slice_get hs2) next ≡ map Some (chosen ks (needs_along ts2 is))) known.named n.numbered;
+          met = subst (AllByRecursion (IsMet given (names ts2))) needs_there met;
+          numbered = subst (λ l. map (slice_get hs2) next ≡ map Some (chosen (names ts2) l)) needs_there n.numbered;
         }) in
         record {
-          known = known;
-          asked = asks_more ks1 on_path needs;
+          known = r.known;
+          asked = λ x a. ⊎_elim
+              (λ q. ask_more ts0 ts2 all_read.more options.autoescape (a_chain root) x all_read.grown (f.asked x q))
+              (λ q. (h, reached_there, q)) (all_read.from x a);
           first =
               subst (λ l. slice_get l 0 ≡ Some (a_chain root)) (sym n.grown)
               (at_front hs n.more 0 (a_chain root) f.first);
@@ -318,21 +306,21 @@ module _ {given : SourceTexts} {options : Options} {root : Text} {ts0 : List Tem
           reached = λ x a. reached_from x (n.from x a);
           led = led_more n;
           followed =
-              rw (all_more, n.grown)
-              (followed_more given options ts0 (more.0 ++ m2) hs n.more read f.followed at is next
-              (rw (all_more, n.grown) at here_followed));
+              rw (all_read.grown, n.grown)
+              (followed_more given options ts0 all_read.more hs n.more read f.followed at is next
+              (rw (all_read.grown, n.grown) at here_followed));
         }
 
-    pub first_same : {hs2 : List Namespace} {next : List ℕ} → AreNext hs hs2 (chosen ks2 (needs_along ts2 is)) next
+    pub first_same : {hs2 : List Namespace} {next : List ℕ} → AreNext hs hs2 (chosen (names ts2) needs) next
         → namespace_name (namespace_at hs2 0) ≡ root
     first_same n = search (arith, rules, namespace_name, unwrap_or, a_chain, slice_get, at_front)
 
 -- Only the entry's chain was found.
-pub found_first : (given : SourceTexts) (options : Options) (entry root : Text) (ts : List Template) (ks : List Text)
+pub found_first : (given : SourceTexts) (options : Options) (entry root : Text) (ts : List Template)
     (hs : List Namespace) (ws ns : List (List ℕ))
-    → hs ≡ a_chain entry ∷ [] → root ≡ entry → ts ≡ [] → ks ≡ [] → ws ≡ [] → ns ≡ []
-    → AreFound given options root ts ks hs ws ns
-found_first given options entry root ts ks hs ws ns eh er et ek ew en =
+    → hs ≡ a_chain entry ∷ [] → root ≡ entry → ts ≡ [] → ws ≡ [] → ns ≡ []
+    → AreFound given options root ts hs ws ns
+found_first given options entry root ts hs ws ns eh er et ew en =
     search (arith, rules, a_chain, asked, sources_in, only_among, of_namespaces, here, none_followed)
 
 -- The next namespace to follow.
@@ -340,18 +328,11 @@ pub namespace_number : (hs : List Namespace) (ws : List (Vec ℕ Global)) (o : O
     → slice_get hs i ≡ o → slice_get hs (length (graph_of ws)) ≡ o
 namespace_number hs ws o i at e = ap (slice_get hs) (length-map ws (λ (v : Vec ℕ Global). v.items) ∙ sym at) ∙ e
 
--- Templates with more appended, all of them known.
-module _ {given : SourceTexts} {options : Options} {ks : List Text} (ps qs : List TemplateFile)
-    {rs ds : List TemplateFile} (same_files : ds ≡ ps) (more : rs ≡ ps ++ qs)
-    (known : AreKnown given options (files_view ds ++ files_view qs) ks) where
-  pub both_files : files_view rs ≡ files_view ps ++ files_view qs
-  both_files = ap files_view more ∙ map-append file_view ps qs
-
-  pub both_known : AreKnown given options (files_view rs) ks
-  both_known = search (arith, rules, files_view, both_files)
-
--- The includes and imports of the same templates at the same indices are equal.
-pub same_needs : (ps qs : List TemplateFile) (is js : List ℕ) → qs ≡ ps → js ≡ is
-    → needs_along (files_view qs) js ≡ needs_along (files_view ps) is
-same_needs ps qs is js e f =
-    ap (λ (z : List TemplateFile). needs_along (files_view z) js) e ∙ ap (needs_along (files_view ps)) f
+-- The includes and imports of a path stay what they are when more is read.
+pub has_needs : {given : SourceTexts} {options : Options} {ts us : List Template} {xs : List Text} {p : FollowedPath}
+    → HasNeeds ts p → HasRead given options ts us xs → HasNeeds us p
+has_needs {ts = ts} {us} {p = p} h r =
+    let is = p.extends_path.items in
+    let grown : AreIndices us is = subst (λ l. AreIndices l is) (sym r.grown) (indices_grow ts r.more is h.indices) in
+    record { indices = grown; told = h.told ∙ sym (ap (λ l. needs_along l is) r.grown
+        ∙ includes_grow ts r.more is h.indices (indices_grow ts r.more is h.indices)) }

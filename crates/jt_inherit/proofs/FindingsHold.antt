@@ -1,6 +1,8 @@
 -- The findings of the search hold: those of one rule, of an included or imported template, of a chain that is one too
 -- many, and of a library that holds something other than macros.
 use Rattle.std.proofs.Common.{arith, rules, ◌≡◌, Bool, true, false, ℕ, List, refl, sym, subst, ⊎_elim, Option, Some}
+use Rattle.jt_inherit.proofs.Vocabulary.{Need, names}
+use Rattle.jt_inherit.proofs.Vocabulary.{Need}
 use Rattle.std.proofs.Common.{None, ◌⊎◌, not, ap, inr, ◌∙◌, ◌<◌, length}
 use Rattle.jt_inherit.specs.internal.Breaking.{BrokenIn}
 use Rattle.jt_inherit.specs.internal.Found.{IsUnmetNeed}
@@ -26,34 +28,32 @@ use Rattle.jt_inherit.specs.internal.Imported.{IsItsName, IsNoLibrary, IsOfImpor
 use Rattle.jt_inherit.proofs.TopologicalOrder.{namespace_among}
 
 -- The tag that asks for an unmet template.
-need_used : {given : SourceTexts} {options : Options} {ps : List TemplateFile} {is : List ℕ} {f : ChainFinding}
-    → AreIndices (files_view ps) is → (n : IsUnmetNeed given options ps is f)
-    → HasUse (need_test n.name f.error) (all_uses (templates_at (files_view ps) is))
-need_used {given} {options} {ps} {is} {f} w n = by f.error refl
+need_used : {given : SourceTexts} {options : Options} {ts : List Template} {is : List ℕ} {f : ChainFinding}
+    → AreIndices ts is → (n : IsUnmetNeed given options ts is f)
+    → HasUse (need_test n.name f.error) (all_uses (templates_at ts is))
+need_used {given} {options} {ts} {is} {f} w n = by f.error refl
   where
-    by : (e : ChainError) → f.error ≡ e → HasUse (need_test n.name e) (all_uses (templates_at (files_view ps) is))
-    by error.Missing q = asked_used false n.name (files_view ps) is w (n.must q)
-    by e q = asked_used true n.name (files_view ps) is w n.asked
+    by : (e : ChainError) → f.error ≡ e → HasUse (need_test n.name e) (all_uses (templates_at ts is))
+    by error.Missing q = asked_used false n.name ts is w (n.must q)
+    by e q = asked_used true n.name ts is w n.asked
 
 module _ {given : SourceTexts} {root : Text} {options : Options} where
   pub no_memory : (f : ChainFinding) → IsNoMemory f → IsFinding given root options f
   no_memory f is = subst (IsFinding given root options) (sym is) (record { broken = tt; says = refl })
 
   -- An error of an included or imported template.
-  pub need_finds : {ps : List TemplateFile} {ks : List Text} {h : Namespace} {is : List ℕ}
-      → AreKnown given options (files_view ps) ks
-      → Reaches (sources_in (files_view ps)) options.autoescape (a_chain root) h
-      → IsExtendsPath (files_view ps) h is None → (f : ChainFinding) → IsUnmet given options ps is f
-      → IsFinding given root options f
-  need_finds {ps} {ks} {h} {is} known r w f unmet = ⊎_elim
+  pub need_finds : {ts : List Template} {h : Namespace} {is : List ℕ} → AreKnown given options ts
+      → Reaches (sources_in ts) options.autoescape (a_chain root) h → IsExtendsPath ts h is None → (f : ChainFinding)
+      → IsUnmet given options ts is f → IsFinding given root options f
+  need_finds {ts} {h} {is} known r w f unmet = ⊎_elim
       (λ m. no_memory f m)
       (λ n. record {
         broken =
             asked_breaks known r n.name f.error
-            (asks_needed (files_view ps) options.autoescape h is w true n.name n.asked)
-            (λ q. asks_needed (files_view ps) options.autoescape h is w false n.name (n.must q)) n.fault;
+            (asks_needed ts options.autoescape h is w true n.name n.asked)
+            (λ q. asks_needed ts options.autoescape h is w false n.name (n.must q)) n.fault;
         says =
-            need_said known r (whole_path (files_view ps) h is w) n.name f.error n.fault
+            need_said known r (whole_path ts h is w) n.name f.error n.fault
             (need_used w.indices n) n.placed.1.0 n.placed.1.1 f.place f.subject n.placed.1.2;
       })
       unmet
@@ -68,8 +68,8 @@ pub memory_broken : {s : Sources} {escaping : Bool} {ts : List Template} {f : Ch
 memory_broken {s} {escaping} {ts} m = subst (IsBroken s escaping ts) (sym m) (record { broken = tt; said = tt })
 
 -- A broken rule on the blocks, macros and imports of a chain or library.
-module _ {given : SourceTexts} {root : Text} {options : Options} {ts : List Template} {ks : List Text}
-    (known : AreKnown given options ts ks) {h : Namespace}
+module _ {given : SourceTexts} {root : Text} {options : Options} {ts : List Template}
+    (known : AreKnown given options ts) {h : Namespace}
     (r : Reaches (sources_in ts) options.autoescape (a_chain root) h) {is : List ℕ}
     (w : IsExtendsPath ts h is None) (whole : is_whole (sources_in ts) options.autoescape h ≡ true) where
   broken_said : (e : ChainError) (p : TagPlace) (x : ChainSubject)
@@ -99,18 +99,18 @@ rule_bare s escaping ts error.NotALibrary b = absurd b
 rule_bare s escaping ts e b = refl
 
 -- A chain or library leads to more chains than an entry may reach.
-module _ {given : SourceTexts} {options : Options} {root : Text} {ts : List Template} {ks : List Text}
-    (known : AreKnown given options ts ks) {h : Namespace}
+module _ {given : SourceTexts} {options : Options} {root : Text} {ts : List Template}
+    (known : AreKnown given options ts) {h : Namespace}
     (here : Reaches (sources_in ts) options.autoescape (a_chain root) h) {is : List ℕ} (w : IsExtendsPath ts h is None)
-    {old : List Namespace}
-    (reached : (x : Namespace) → (listed x old ≡ true) ⊎ (listed x (chosen ks (needs_along ts is)) ≡ true)
+    {old : List Namespace} (needs : List Need)
+    (reached : (x : Namespace) → (listed x old ≡ true) ⊎ (listed x (chosen (names ts) needs) ≡ true)
     → Reaches (sources_in ts) options.autoescape (a_chain root) x) where
-  many_broken : {n : Text} → TooMany old (chosen ks (needs_along ts is)) n
+  many_broken : {n : Text} → TooMany old (chosen (names ts) needs) n
       → Breaks error.ChainTooLong given root options
   many_broken t =
       shows known (inr (t.chains, t.many, ap not t.once, λ m a. reached (a_chain m) (t.from m a)))
 
-  many_said : {n : Text} → TooMany old (chosen ks (needs_along ts is)) n
+  many_said : {n : Text} → TooMany old (chosen (names ts) needs) n
       → HasUse (is_include n) (all_uses (templates_at ts is)) → (f : ChainFinding)
       → IsIncludedMore (templates_at ts is) n f → Says given root options f.place f.subject error.ChainTooLong
   many_said {n} t used f told = by f.subject told.subject
@@ -133,8 +133,8 @@ module _ {given : SourceTexts} {options : Options} {root : Text} {ts : List Temp
           )))
       by x q = absurd q
 
-  pub next_finds : included (sources_in ts) h ≡ chosen ks (needs_along ts is) → (f : ChainFinding)
-      → IsNextFinding old (chosen ks (needs_along ts is)) (templates_at ts is) f → IsFinding given root options f
+  pub next_finds : included (sources_in ts) h ≡ chosen (names ts) needs → (f : ChainFinding)
+      → IsNextFinding old (chosen (names ts) needs) (templates_at ts is) f → IsFinding given root options f
   next_finds same_chosen f q = ⊎_elim (λ m. no_memory f m)
       (λ t.
       let used = subst (λ l. HasUse (is_include t.0) (all_uses l)) (whole_path ts h is w)
@@ -146,8 +146,8 @@ module _ {given : SourceTexts} {options : Options} {root : Text} {ts : List Temp
       })
       q
 
-module _ {given : SourceTexts} {options : Options} {entry : Text} {ts : List Template} {ks : List Text}
-    {hs : List Namespace} {ws ns : Graph} (f : AreFound given options entry ts ks hs ws ns) where
+module _ {given : SourceTexts} {options : Options} {entry : Text} {ts : List Template}
+    {hs : List Namespace} {ws ns : Graph} (f : AreFound given options entry ts hs ws ns) where
   -- A followed chain or library leads to the library.
   led_there : (n : Text) → listed (a_library n) hs ≡ true → (i : ℕ) × (i < length ws)
       × HasUse (leads_to (a_library n)) (all_uses (templates_at ts (next_of ws i)))

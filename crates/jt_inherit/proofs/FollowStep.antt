@@ -1,5 +1,8 @@
 -- One step of the search: the numbers of the namespaces that a followed one leads to.
 use Rattle.std.proofs.Common.{◌≡◌, ℕ, zero, suc, ◌+◌, ◌<◌, ◌≤◌, Bool, true, false, not, cond, ◌||◌, List, [], ◌∷◌, ◌++◌}
+use Rattle.jt_inherit.proofs.Vocabulary.{Template, HasRead, names, KeyedNeed, keyed_needs, keyed_view, Options, needed-append}
+use Rattle.jt_inherit.proofs.Vocabulary.{needed-append}
+use Rattle.jt_inherit.proofs.Vocabulary.{Options}
 use Rattle.std.proofs.Common.{length, map, take, drop, get_or, refl, sym, ap, subst, ◌∙◌, arith, inl, inr, ◌⊎◌, ⊎_elim}
 use Rattle.std.proofs.Common.{Some, length-append, rules}
 use Rattle.jt_inherit.specs.internal.Found.{AddsNext, known_of}
@@ -105,28 +108,28 @@ pub chosen-append : (ks : List Text) (ns ms : List Need) → chosen ks (ns ++ ms
 chosen-append ks ns ms =
     ap (map need_namespace) (known-append ks ns ms) ∙ map-append need_namespace (known_of ks ns) (known_of ks ms)
 
-views-append : (ns ms : List NeededTemplate) → needs_view (ns ++ ms) ≡ needs_view ns ++ needs_view ms
-views-append ns ms = map-append need_view ns ms
+views-append : (ns ms : List KeyedNeed) → keyed_needs (ns ++ ms) ≡ keyed_needs ns ++ keyed_needs ms
+views-append ns ms = map-append keyed_view ns ms
 
-pub chosen_turn : (ks : List Text) (ns : List NeededTemplate) (k : ℕ) (d : NeededTemplate) → k < length ns
-    → chosen ks (needs_view (take (k + 1) ns))
-    ≡ chosen ks (needs_view (take k ns)) ++ chosen ks (need_view (get_or ns k d) ∷ [])
+pub chosen_turn : (ks : List Text) (ns : List KeyedNeed) (k : ℕ) (d : KeyedNeed) → k < length ns
+    → chosen ks (keyed_needs (take (k + 1) ns))
+    ≡ chosen ks (keyed_needs (take k ns)) ++ chosen ks (keyed_view (get_or ns k d) ∷ [])
 chosen_turn ks ns k d lt =
-    ap (λ (l : List NeededTemplate). chosen ks (needs_view l)) (take_more ns k d lt)
+    ap (λ (l : List KeyedNeed). chosen ks (keyed_needs l)) (take_more ns k d lt)
     ∙ ap (chosen ks) (views-append (take k ns) (get_or ns k d ∷ []))
-    ∙ chosen-append ks (needs_view (take k ns)) (need_view (get_or ns k d) ∷ [])
+    ∙ chosen-append ks (keyed_needs (take k ns)) (keyed_view (get_or ns k d) ∷ [])
 
-pub chosen_all : (ks : List Text) (ns : List NeededTemplate) (k : ℕ) (d : NeededTemplate) → k < length ns
-    → chosen ks (needs_view ns) ≡ chosen ks (needs_view (take k ns))
-    ++ (chosen ks (need_view (get_or ns k d) ∷ []) ++ chosen ks (needs_view (drop (k + 1) ns)))
+pub chosen_all : (ks : List Text) (ns : List KeyedNeed) (k : ℕ) (d : KeyedNeed) → k < length ns
+    → chosen ks (keyed_needs ns) ≡ chosen ks (keyed_needs (take k ns))
+    ++ (chosen ks (keyed_view (get_or ns k d) ∷ []) ++ chosen ks (keyed_needs (drop (k + 1) ns)))
 chosen_all ks ns k d lt =
     let n = get_or ns k d in
-    ap (λ (l : List NeededTemplate). chosen ks (needs_view l)) (sym (take-append-drop k ns))
+    ap (λ (l : List KeyedNeed). chosen ks (keyed_needs l)) (sym (take-append-drop k ns))
     ∙ ap (chosen ks) (views-append (take k ns) (drop k ns))
-    ∙ chosen-append ks (needs_view (take k ns)) (needs_view (drop k ns))
-    ∙ ap (λ l. chosen ks (needs_view (take k ns)) ++ l)
-    (ap (λ (l : List NeededTemplate). chosen ks (needs_view l)) (drop_more ns k d lt)
-    ∙ chosen-append ks (need_view n ∷ []) (needs_view (drop (k + 1) ns)))
+    ∙ chosen-append ks (keyed_needs (take k ns)) (keyed_needs (drop k ns))
+    ∙ ap (λ l. chosen ks (keyed_needs (take k ns)) ++ l)
+    (ap (λ (l : List KeyedNeed). chosen ks (keyed_needs l)) (drop_more ns k d lt)
+    ∙ chosen-append ks (keyed_view n ∷ []) (keyed_needs (drop (k + 1) ns)))
 
 -- ---- templates that are met
 
@@ -136,43 +139,61 @@ met_grows given ks ms [] a = tt
 met_grows given ks ms (n ∷ ns) a =
     (⊎_elim (λ p. inl (among_front of_texts n.name ks ms p)) (λ q. inr q) a.0, met_grows given ks ms ns a.1)
 
-pub met_turn : (P : Need → Type 0) (ns : List NeededTemplate) (k : ℕ) (d : NeededTemplate) → k < length ns
-    → AllByRecursion P (needs_view (take k ns)) → P (need_view (get_or ns k d))
-    → AllByRecursion P (needs_view (take (k + 1) ns))
+-- A template that is met stays so when more is read.
+pub met_read : {given : SourceTexts} {options : Options} {ts us : List Template} {xs : List Text}
+    → HasRead given options ts us xs → (ns : List Need) → AllByRecursion (IsMet given (names ts)) ns
+    → AllByRecursion (IsMet given (names us)) ns
+met_read {given} {ts = ts} r ns a =
+    subst (λ l. AllByRecursion (IsMet given l) ns)
+    (sym (ap names r.grown ∙ map-append (λ (t : Template). t.name) ts r.more))
+    (met_grows given (names ts) (names r.more) ns a)
+
+-- One include or import more.
+pub needed_turn : (ns : List KeyedNeed) (k : ℕ) (d : KeyedNeed) → k < length ns
+    → needed true (keyed_needs (take (k + 1) ns))
+    ≡ needed true (keyed_needs (take k ns)) ++ (keyed_view (get_or ns k d)).name ∷ []
+needed_turn ns k d lt =
+    ap (λ (l : List KeyedNeed). needed true (keyed_needs l)) (take_more ns k d lt)
+    ∙ ap (needed true) (views-append (take k ns) (get_or ns k d ∷ []))
+    ∙ needed-append true (keyed_needs (take k ns)) (keyed_view (get_or ns k d) ∷ [])
+
+pub met_turn : (P : Need → Type 0) (ns : List KeyedNeed) (k : ℕ) (d : KeyedNeed) → k < length ns
+    → AllByRecursion P (keyed_needs (take k ns)) → P (keyed_view (get_or ns k d))
+    → AllByRecursion P (keyed_needs (take (k + 1) ns))
 met_turn P ns k d lt a p =
-    subst (λ (l : List NeededTemplate). AllByRecursion P (needs_view l)) (sym (take_more ns k d lt))
+    subst (λ (l : List KeyedNeed). AllByRecursion P (keyed_needs l)) (sym (take_more ns k d lt))
     (more (take k ns) a)
   where
-    more : (ms : List NeededTemplate) → AllByRecursion P (needs_view ms)
-        → AllByRecursion P (needs_view (ms ++ get_or ns k d ∷ []))
+    more : (ms : List KeyedNeed) → AllByRecursion P (keyed_needs ms)
+        → AllByRecursion P (keyed_needs (ms ++ get_or ns k d ∷ []))
     more [] b = (p, tt)
     more (m ∷ ms) b = (b.0, more ms b.1)
 
-pub next_turn : (old mid new : List Namespace) (ks : List Text) (ns : List NeededTemplate) (k : ℕ) (d : NeededTemplate)
+pub next_turn : (old mid new : List Namespace) (ks : List Text) (ns : List KeyedNeed) (k : ℕ) (d : KeyedNeed)
     (is js : List ℕ)
-    → k < length ns → AreNext old mid (chosen ks (needs_view (take k ns))) is
-    → AddsNext mid new (chosen ks (need_view (get_or ns k d) ∷ [])) is js
-    → AreNext old new (chosen ks (needs_view (take (k + 1) ns))) js
+    → k < length ns → AreNext old mid (chosen ks (keyed_needs (take k ns))) is
+    → AddsNext mid new (chosen ks (keyed_view (get_or ns k d) ∷ [])) is js
+    → AreNext old new (chosen ks (keyed_needs (take (k + 1) ns))) js
 next_turn old mid new ks ns k d is js lt p q =
-    subst (AreNext old new (chosen ks (needs_view (take (k + 1) ns)))) (sym q.1)
+    subst (AreNext old new (chosen ks (keyed_needs (take (k + 1) ns)))) (sym q.1)
     (subst (λ l. AreNext old new l (is ++ q.0)) (sym (chosen_turn ks ns k d lt))
-    (next_both old mid new (chosen ks (needs_view (take k ns))) (chosen ks (need_view (get_or ns k d) ∷ [])) is q.0 p
+    (next_both old mid new (chosen ks (keyed_needs (take k ns))) (chosen ks (keyed_view (get_or ns k d) ∷ [])) is q.0 p
     q.2))
 
-pub many_turn : (old mid : List Namespace) (ks : List Text) (ns : List NeededTemplate) (k : ℕ) (d : NeededTemplate)
+pub many_turn : (old mid : List Namespace) (ks : List Text) (ns : List KeyedNeed) (k : ℕ) (d : KeyedNeed)
     (is : List ℕ) (n : Text)
-    → k < length ns → AreNext old mid (chosen ks (needs_view (take k ns))) is
-    → TooMany mid (chosen ks (need_view (get_or ns k d) ∷ [])) n → TooMany old (chosen ks (needs_view ns)) n
+    → k < length ns → AreNext old mid (chosen ks (keyed_needs (take k ns))) is
+    → TooMany mid (chosen ks (keyed_view (get_or ns k d) ∷ [])) n → TooMany old (chosen ks (keyed_needs ns)) n
 many_turn old mid ks ns k d is n lt p f =
     subst (λ l. TooMany old l n) (sym (chosen_all ks ns k d lt))
-    (many_later old mid (chosen ks (needs_view (take k ns))) (chosen ks (need_view (get_or ns k d) ∷ []))
-    (chosen ks (needs_view (drop (k + 1) ns))) is n p f)
+    (many_later old mid (chosen ks (keyed_needs (take k ns))) (chosen ks (keyed_view (get_or ns k d) ∷ []))
+    (chosen ks (keyed_needs (drop (k + 1) ns))) is n p f)
 
 -- ---- an error of an included template
 
-pub asked_at : (all : Bool) (ns : List NeededTemplate) (k : ℕ) (d : NeededTemplate) → k < length ns
-    → (all || not (get_or ns k d).ignoring) ≡ true → among (get_or ns k d).name.now (needed all (needs_view ns)) ≡ true
+pub asked_at : (all : Bool) (ns : List KeyedNeed) (k : ℕ) (d : KeyedNeed) → k < length ns
+    → (all || not (get_or ns k d).ignoring) ≡ true → among (keyed_view (get_or ns k d)).name (needed all (keyed_needs ns)) ≡ true
 asked_at all [] k d lt e = absurd (omega arith)
-asked_at all (n ∷ ns) zero d lt e = search (arith, rules, among, needed, needs_view, reflexive)
+asked_at all (n ∷ ns) zero d lt e = search (arith, rules, among, needed, keyed_needs, reflexive)
 asked_at all (n ∷ ns) (suc k) d lt e =
-    search (arith, rules, among_behind, of_texts, get_or, needed, needs_view, asked_at all ns k d)
+    search (arith, rules, among_behind, of_texts, get_or, needed, keyed_needs, asked_at all ns k d)

@@ -32,13 +32,6 @@ of_texts =
       again_more = λ x xs. refl;
     }
 
--- A name in a list with one name appended is an old name or the appended one.
-pub among_last : (old new : List Text) (x y : Text) → new ≡ old ++ x ∷ [] → x ≡ y → (n : Text) → among n new ≡ true
-    → (among n old ≡ true) ⊎ (n ≡ y)
-among_last old new x y e is n a =
-    ⊎_elim (λ p. inl p) (λ q. inr (sym (only_among of_texts x n q) ∙ is))
-    (among_cases of_texts n old (x ∷ []) (sym (ap (among n) e) ∙ a))
-
 pub all_more : {X : Type 0} (P : X → Type 0) (xs : List X) (x : X) → AllByRecursion P xs → P x
     → AllByRecursion P (xs ++ x ∷ [])
 all_more P [] x a p = (p, tt)

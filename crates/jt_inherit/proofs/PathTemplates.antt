@@ -8,7 +8,7 @@ use Rattle.jt_inherit.proofs.Vocabulary.{slice_get, AllByRecursion, list_any, is
 use Rattle.jt_inherit.proofs.Vocabulary.{repeated, Text, Sources, Template, extends_of, parent_of, names_up}
 use Rattle.jt_inherit.proofs.Vocabulary.{SourceTexts, IsRead, IsName, templates_weight, templates_len, Leads, IsWithin}
 use Rattle.jt_inherit.proofs.Vocabulary.{same, or_from, or_right}
-use Rattle.jt_inherit.proofs.PathsGrow.{names}
+use Rattle.jt_inherit.proofs.Vocabulary.{names}
 
 -- ---- names on the path
 

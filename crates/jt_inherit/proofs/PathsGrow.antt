@@ -1,9 +1,12 @@
 -- Paths that are extended, and the facts about them that stay true.
 use Rattle.std.proofs.Common.{◌≡◌, ℕ, zero, suc, ◌+◌, ◌-◌, ◌<◌, ◌≤◌, ◌==◌, Bool, true, false, not, ◌&&◌, List, [], ◌∷◌}
+use Rattle.jt_inherit.proofs.Vocabulary.{HasRead, among_behind, among_cases, names}
+use Rattle.jt_inherit.proofs.Vocabulary.{names}
+use Rattle.jt_inherit.proofs.Vocabulary.{HasRead}
 use Rattle.std.proofs.Common.{◌++◌, length, map, drop, get_or, refl, sym, ap, subst, ◌∙◌, arith, inl, inr, ◌⊎◌, ⊎_elim}
 use Rattle.std.proofs.Common.{Option, Some, None, length-append, string_bytes, rules}
 use Rattle.jt_inherit.specs.internal.Faults.{HasFaulty}
-use Rattle.jt_inherit.specs.internal.ExtendsPaths.{LeadsFrom, AddsName}
+use Rattle.jt_inherit.specs.internal.ExtendsPaths.{LeadsFrom}
 use Rattle.jt_inherit.specs.declared.error.ChainError.TheVariants as error
 use Rattle.jt_inherit.proofs.Vocabulary.{flat_map, slice_get, bytes_eq, option_to_list, slice_get_within}
 use Rattle.jt_inherit.proofs.Vocabulary.{slice_get-get_or, AllByRecursion, append-nil, append_assoc, drop_more}
@@ -11,14 +14,11 @@ use Rattle.jt_inherit.proofs.Vocabulary.{length-map, Options, among, repeated, T
 use Rattle.jt_inherit.proofs.Vocabulary.{templates_at, Sources, Namespace, a_chain, a_library, Template, template}
 use Rattle.jt_inherit.proofs.Vocabulary.{templates, libraries, extends_of, parent_of, names_up, sources_in, SourceTexts}
 use Rattle.jt_inherit.proofs.Vocabulary.{IsRead, IsOnly, IsFaultOf, needs_in, file_view, files_view, TemplateFile}
-use Rattle.jt_inherit.proofs.Vocabulary.{Breaks, HasFault, Shows, names_view, Names, Reaches, asked, extends_path}
-use Rattle.jt_inherit.proofs.Vocabulary.{Leads, AreKnown, IsExtendsPath, IsWithin, Grow, ChainError, only_one, map_at}
+use Rattle.jt_inherit.proofs.Vocabulary.{Breaks, HasFault, Shows, Reaches, asked, extends_path}
+use Rattle.jt_inherit.proofs.Vocabulary.{Leads, AreKnown, IsExtendsPath, IsWithin, ChainError, only_one, map_at}
 use Rattle.jt_inherit.proofs.Vocabulary.{IsNamedOn, of_texts, same, among_front, among_next, once_more, map_push}
 use Rattle.jt_inherit.proofs.NameMembership.{all_more}
 use Rattle.jt_inherit.proofs.Membership.{comes_again}
-
-abbrev pub names : List Template → List Text
-names = map (λ t. t.name)
 
 -- ---- sources that grow
 
@@ -159,13 +159,34 @@ all_at_indices P ts (i ∷ is) a = by (slice_get ts i) refl (all_at_indices P ts
     by None e r = subst (λ o. AllByRecursion P (option_to_list o ++ templates_at ts is)) (sym e) r
     by (Some t) e r = subst (λ o. AllByRecursion P (option_to_list o ++ templates_at ts is)) (sym e) (at ts i t e a, r)
 
--- ---- known templates when one more is read
+-- ---- templates that are read
 
-pub known_more : (given : SourceTexts) (options : Options) (ts : List Template) (ks : List Text) (t : Template)
-    → AreKnown given options ts ks → among t.name ks ≡ false → IsRead given options t → IsOnly given options t
-    → IsWithin given t
-    → AreKnown given options (ts ++ t ∷ []) (ks ++ t.name ∷ [])
-known_more given options ts ks t k new r only i = search (arith, rules, all_more, map_push, once_more of_texts)
+-- One template more was read.
+pub one_read : {given : SourceTexts} {options : Options} {ts us : List Template} {t : Template} {n : Text}
+    → AreKnown given options ts → among t.name (names ts) ≡ false → IsRead given options t → IsOnly given options t
+    → IsWithin given t → us ≡ ts ++ t ∷ [] → t.name ≡ n → HasRead given options ts us (n ∷ [])
+one_read {given} {options} {ts} {us} {t} {n} k new r only i grown named = record {
+  known = rw grown (search (arith, rules, all_more, map_push, once_more of_texts));
+  more = t ∷ [];
+  grown = grown;
+  from = λ x a. search (arith, rules, among_cases of_texts, map_push);
+}
+
+-- Nothing more was read.
+pub nothing_read : {given : SourceTexts} {options : Options} {ts : List Template} {xs : List Text}
+    → AreKnown given options ts → HasRead given options ts ts xs
+nothing_read {ts = ts} k = record { known = k; more = []; grown = sym (append-nil ts); from = λ n a. inl a }
+
+pub read_on : {given : SourceTexts} {options : Options} {ts us vs : List Template} {xs ys zs : List Text}
+    → HasRead given options ts us xs → HasRead given options us vs ys
+    → ((n : Text) → among n xs ≡ true → among n zs ≡ true) → ((n : Text) → among n ys ≡ true → among n zs ≡ true)
+    → HasRead given options ts vs zs
+read_on {ts = ts} p q f g = record {
+  known = q.known;
+  more = p.more ++ q.more;
+  grown = q.grown ∙ ap (λ l. l ++ q.more) p.grown ∙ append_assoc ts p.more q.more;
+  from = λ n a. ⊎_elim (λ b. ⊎_elim (λ c. inl c) (λ c. inr (f n c)) (p.from n b)) (λ b. inr (g n b)) (q.from n a);
+}
 
 pub last_at : {X : Type 0} (xs : List X) (x : X) → slice_get (xs ++ x ∷ []) (length xs) ≡ Some x
 last_at [] x = refl
@@ -203,12 +224,12 @@ way_next ts h is i t n w at is_named new once lt =
 -- ---- a reached chain, and the errors on its path
 
 -- What holds of the templates that were read is shown.
-pub shows : {given : SourceTexts} {options : Options} {ts : List Template} {ks : List Text} {P : Sources → Type 0}
-    → AreKnown given options ts ks → P (sources_in ts) → Shows given options P
+pub shows : {given : SourceTexts} {options : Options} {ts : List Template} {P : Sources → Type 0}
+    → AreKnown given options ts → P (sources_in ts) → Shows given options P
 shows {ts = ts} known holds = record { templates = ts; read = known.read; only = known.only; holds = holds }
 
-module _ {given : SourceTexts} {options : Options} {root : Text} {ts : List Template} {ks : List Text}
-    (known : AreKnown given options ts ks) {h : Namespace}
+module _ {given : SourceTexts} {options : Options} {root : Text} {ts : List Template}
+    (known : AreKnown given options ts) {h : Namespace}
     (r : Reaches (sources_in ts) options.autoescape (a_chain root) h) where
   fault_asked : {m : Text} {P : Text → Type 0} (n : Text)
       → among n (asked (sources_in ts) options.autoescape true h) ≡ true → HasFaulty m given n options P
@@ -226,8 +247,8 @@ module _ {given : SourceTexts} {options : Options} {root : Text} {ts : List Temp
   asked_breaks n error.NoMemory a must f = tt
   asked_breaks n e a must f = absurd f
 
-module _ {given : SourceTexts} {options : Options} {root : Text} {ts : List Template} {ks : List Text}
-    (known : AreKnown given options ts ks) {h : Text}
+module _ {given : SourceTexts} {options : Options} {root : Text} {ts : List Template}
+    (known : AreKnown given options ts) {h : Text}
     (r : Reaches (sources_in ts) options.autoescape (a_chain root) (a_chain h)) where
   pub cycle_breaks : {is : List ℕ} {n : Text} → IsExtendsPath ts (a_chain h) is (Some n)
       → among n (names (templates_at ts is)) ≡ true → Breaks error.ExtendsCycle given root options
@@ -267,18 +288,6 @@ module _ {given : SourceTexts} {options : Options} {root : Text} {ts : List Temp
       asked_breaks known r n e (next_asked (sources_in ts) options.autoescape true h (templates_at ts is) n few w.leads)
       (λ q. next_asked (sources_in ts) options.autoescape false h (templates_at ts is) n few w.leads) f
 
--- ---- one template file more
-
-pub files_more : (ps qs : List TemplateFile) (p : TemplateFile) → qs ≡ ps ++ p ∷ []
-    → files_view qs ≡ files_view ps ++ file_view p ∷ []
-files_more ps qs p e = ap files_view e ∙ map_push file_view ps p
-
--- The name of the last template file is at its index.
-pub file_last : (ps qs : List TemplateFile) (p : TemplateFile) (n : Text) (k : ℕ) → qs ≡ ps ++ p ∷ []
-    → string_bytes p.name ≡ n → k ≡ length ps → slice_get (names (files_view qs)) k ≡ Some n
-file_last ps qs p n k e is at =
-    search (arith, rules, length-map, files_more, map_push, string_bytes, last_at)
-
 -- ---- one step of a path
 
 pub name_of_slice : (ts : List Template) (i : ℕ) (t : Template) → slice_get ts i ≡ Some t
@@ -287,68 +296,42 @@ name_of_slice [] i t e = absurd (cc)
 name_of_slice (u ∷ ts) zero t e = search (arith, rules)
 name_of_slice (u ∷ ts) (suc i) t e = name_of_slice ts i t e
 
--- A template at the index of its name, appended to a path.
-module _ (ps qs : List TemplateFile) (more : Grow ps qs) (is : List ℕ) {js : List ℕ} (i : ℕ) {n m : Text}
-    {p : TemplateFile} (at : slice_get (names (files_view qs)) i ≡ Some m) (same_name : m ≡ n)
-    (longer : js ≡ is ++ i ∷ []) (there : p ≡ get_or qs i p) where
-  abbrev ts : List Template
-  ts = files_view ps
+-- The template file at the index of a name.
+pub file_there : (ps : List TemplateFile) (i : ℕ) {n : Text} {p : TemplateFile}
+    → slice_get (names (files_view ps)) i ≡ Some n → p ≡ get_or ps i p
+    → (slice_get (files_view ps) i ≡ Some (file_view p)) × (string_bytes p.name ≡ n)
+file_there ps i {n} {p} at there =
+    let held : slice_get (files_view ps) i ≡ Some (file_view p) = search (arith, rules, map_at, file_view, slice_get_within,
+    length-map) in
+    (held, search (arith, rules, string_bytes, name_of_slice, file_view))
 
-  abbrev us : List Template
-  us = files_view qs
+-- The template of the next name was read and is appended to a path: the path goes on to the parent.
+module _ {given : SourceTexts} {options : Options} {vs ts us : List Template} {is js : List ℕ} {n : Text}
+    (before : HasRead given options vs ts (names (templates_at ts is))) (r : HasRead given options ts us (n ∷ []))
+    {h : Text} (w : IsExtendsPath ts (a_chain h) is (Some n)) (i : ℕ) {t : Template} (held : slice_get us i ≡ Some t)
+    (named : t.name ≡ n) (longer : js ≡ is ++ i ∷ []) where
+  pub path_turn : templates_at us js ≡ templates_at ts is ++ t ∷ []
+  path_turn =
+      ap (templates_at us) longer ∙ templates_more us is i t held
+      ∙ ap (λ l. templates_at l is ++ t ∷ []) r.grown ∙ ap (λ l. l ++ t ∷ []) (templates_grow ts r.more is w.indices)
 
-  held : slice_get us i ≡ Some (file_view p)
-  held = search (arith, rules, map_at, file_view, slice_get_within, length-map)
+  pub read_step : HasRead given options vs us (names (templates_at us js))
+  read_step =
+      let theirs : names (templates_at us js) ≡ names (templates_at ts is) ++ n ∷ [] =
+      ap names path_turn ∙ map_push (λ (u : Template). u.name) (templates_at ts is) t
+      ∙ ap (λ x. names (templates_at ts is) ++ x ∷ []) named in
+      read_on before r
+      (λ x a. ap (among x) theirs ∙ among_front of_texts x (names (templates_at ts is)) (n ∷ []) a)
+      (λ x a. ap (among x) theirs ∙ among_behind of_texts x (names (templates_at ts is)) (n ∷ []) a)
 
-  named : string_bytes p.name ≡ m
-  named = search (arith, rules, string_bytes, name_of_slice, file_view, held)
-
-  -- The path goes on to the parent.
-  way_turn : {h : Text} {o : Option Text} → IsExtendsPath ts (a_chain h) is (Some n)
-      → among n (names (templates_at ts is)) ≡ false → length is < 64 → repeated (names us) ≡ false
-      → o ≡ extends_of (body_of p.template) → IsExtendsPath us (a_chain h) js o
-  way_turn {h} {o} w new lt once ext =
-      let grown : IsExtendsPath us (a_chain h) is (Some n) = subst (λ vs. IsExtendsPath vs (a_chain h) is (Some n))
-      (sym more.1) (way_grows ts more.0 (a_chain h) is (Some n) w) in
-      let newly_read : among n (names (templates_at us is)) ≡ false = ap (λ vs. among n (names (templates_at vs is)))
-      more.1
-      ∙ ap (λ vs. among n (names vs)) (templates_grow ts more.0 is w.indices) ∙ new in
-      let next = way_next us h is i (file_view p) n grown held (named ∙ same_name) newly_read once lt in
+  pub way_step : {o : Option Text} → among n (names (templates_at ts is)) ≡ false → length is < 64
+      → o ≡ extends_of t.body → IsExtendsPath us (a_chain h) js o
+  way_step {o} new lt ext =
+      let grown : IsExtendsPath us (a_chain h) is (Some n) = subst (λ l. IsExtendsPath l (a_chain h) is (Some n))
+      (sym r.grown) (way_grows ts r.more (a_chain h) is (Some n) w) in
+      let newly_read : among n (names (templates_at us is)) ≡ false =
+      ap (λ l. among n (names (templates_at l is))) r.grown
+      ∙ ap (λ l. among n (names l)) (templates_grow ts r.more is w.indices) ∙ new in
       subst (λ z. IsExtendsPath us (a_chain h) z o) (sym longer)
-      (subst (IsExtendsPath us (a_chain h) (is ++ i ∷ [])) (sym ext) next)
-
-  pub path_turn : templates_at us js ≡ templates_at us is ++ file_view p ∷ []
-  path_turn = ap (λ l. templates_at us l) longer ∙ templates_more us is i (file_view p) held
-
-  -- Each new name was on the path before or is that of the appended template.
-  way_from : AreIndices ts is → (k0 k1 k2 : List Text)
-      → ((x : Text) → among x k1 ≡ true → (among x k0 ≡ true) ⊎ (among x (names (templates_at ts is)) ≡ true))
-      → ((x : Text) → among x k2 ≡ true → (among x k1 ≡ true) ⊎ (x ≡ m))
-      → (x : Text) → among x k2 ≡ true → (among x k0 ≡ true) ⊎ (among x (names (templates_at us js)) ≡ true)
-  way_from indices k0 k1 k2 before last x a =
-      let theirs : names (templates_at us js) ≡ names (templates_at ts is) ++ string_bytes p.name ∷ [] =
-      ap names path_turn
-      ∙ map_push (λ (u : Template). u.name) (templates_at us is) (file_view p)
-      ∙ ap (λ l. names l ++ string_bytes p.name ∷ [])
-      (ap (λ l. templates_at l is) more.1 ∙ templates_grow ts more.0 is indices) in
-      ⊎_elim
-      (λ q. ⊎_elim (λ r. inl r) (λ r.
-      inr (ap (among x) theirs ∙ among_front of_texts x (names (templates_at ts is)) (string_bytes p.name ∷ []) r))
-      (before x q))
-      (λ q. inr (ap (among x) theirs ∙ ap (λ y. among x (names (templates_at ts is) ++ y ∷ [])) (named ∙ sym q)
-      ∙ among_next of_texts x (names (templates_at ts is)) []))
-      (last x a)
-
-  pub way_step : {h : Text} {o : Option Text} → IsExtendsPath ts (a_chain h) is (Some n)
-      → among n (names (templates_at ts is)) ≡ false → length is < 64 → repeated (names us) ≡ false
-      → o ≡ extends_of (body_of p.template) → (k0 k1 k2 : Names)
-      → ((x : Text) → among x (names_view k1) ≡ true
-      → (among x (names_view k0) ≡ true) ⊎ (among x (names (templates_at ts is)) ≡ true))
-      → AddsName k1 k2 m
-      → IsExtendsPath us (a_chain h) js o × ((x : Text) → among x (names_view k2) ≡ true
-      → (among x (names_view k0) ≡ true) ⊎ (among x (names (templates_at us js)) ≡ true))
-  way_step w new lt once ext k0 k1 k2 before last =
-      (way_turn w new lt once ext, way_from w.indices (names_view k0) (names_view k1) (names_view k2) before last)
-
-pub grow_on : (ps qs rs : List TemplateFile) → Grow ps qs → Grow qs rs → Grow ps rs
-grow_on ps qs rs p q = (p.0 ++ q.0, q.1 ∙ ap (λ l. l ++ q.0) p.1 ∙ append_assoc (files_view ps) p.0 q.0)
+      (subst (IsExtendsPath us (a_chain h) (is ++ i ∷ [])) (sym ext)
+      (way_next us h is i t n grown held named newly_read r.known.read.once lt))

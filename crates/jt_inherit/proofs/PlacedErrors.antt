@@ -1,12 +1,15 @@
 -- What the place of an error at the name of a template shows in each chain that reaches the tag.
 use Rattle.std.proofs.Common.{rules, ◌≡◌, ℕ, suc, ◌+◌, ◌-◌, ◌<◌, ◌≤◌, Bool, true, false, List, [], ◌∷◌, ◌++◌, length}
+use Rattle.jt_inherit.proofs.Vocabulary.{HasRead, KeyedNeed, keyed_needs, keyed_view, needs_along, names}
+use Rattle.jt_inherit.proofs.Vocabulary.{KeyedNeed}
+use Rattle.jt_inherit.proofs.Vocabulary.{HasRead}
 use Rattle.std.proofs.Common.{String, Global, drop, get_or, map, zero, refl, sym, ap, subst, ◌∙◌, arith, inl, ◌⊎◌}
 use Rattle.std.proofs.Common.{Option, Some, None, string_bytes}
 use Rattle.jt_inherit.specs.Findings.{IsBrokenAt, last_of}
 use Rattle.jt_inherit.specs.internal.ExtendsPaths.{SaysAll}
 use Rattle.jt_inherit.specs.internal.Placing.{IsAsked, IsFirst, IsNameless, IsOfName, IsOfNeed, IsParentAt, IsOneMore}
 use Rattle.jt_inherit.specs.internal.Placing.{IsRingOf, NamedAt}
-use Rattle.jt_inherit.specs.internal.Found.{needs_of, IsFaultAt}
+use Rattle.jt_inherit.specs.internal.Found.{IsFaultAt}
 use Rattle.jt_inherit.specs.declared.error.ChainError.TheVariants as error
 use Rattle.jt_inherit.specs.declared.finding.ChainSubject.TheVariants as v
 use Rattle.jt_inherit.proofs.Vocabulary.{flat_map, slice_get, option_map, is_some, option_to_list, append_assoc}
@@ -15,14 +18,15 @@ use Rattle.jt_inherit.proofs.Vocabulary.{templates_at, Sources, Namespace, names
 use Rattle.jt_inherit.proofs.Vocabulary.{Template, template, templates, extends_of, names_up, sources_in, included}
 use Rattle.jt_inherit.proofs.Vocabulary.{IsName, Reaches, here, through, extends_path, files_view, TemplateFile}
 use Rattle.jt_inherit.proofs.Vocabulary.{SourceTexts, ForSome, IsAt, HasTag, all_uses, asks, is_extends, Says}
-use Rattle.jt_inherit.proofs.Vocabulary.{may_be_bare, AreKnown, BreaksAll, Grow, IsExtendsPath, Leads, IsFaultOf}
+use Rattle.jt_inherit.proofs.Vocabulary.{may_be_bare, AreKnown, BreaksAll, IsExtendsPath, Leads, IsFaultOf}
 use Rattle.jt_inherit.proofs.Vocabulary.{IsNamedOn, need_test, need_view, needs_view, NeededTemplate, IsUnmet, tags}
 use Rattle.jt_inherit.proofs.Vocabulary.{place_in, place_view, ChainError, ChainSubject, TagPlace, among_next}
 use Rattle.jt_inherit.proofs.Vocabulary.{once_more, of_texts, key_view, ChainFinding, NamespaceKey, both_ways}
 use Rattle.jt_inherit.proofs.Vocabulary.{flat_map-append}
 use Rattle.jt_inherit.proofs.DiscoveryInvariant.{some_source, none_read}
 use Rattle.jt_inherit.proofs.PathTemplates.{all_among, all_named}
-use Rattle.jt_inherit.proofs.PathsGrow.{shows, names, names_lead, templates_lead, few_templates, all_templates, last_at}
+use Rattle.jt_inherit.proofs.Vocabulary.{names}
+use Rattle.jt_inherit.proofs.PathsGrow.{shows, names_lead, templates_lead, few_templates, all_templates, last_at}
 use Rattle.jt_inherit.proofs.FollowStep.{asked_at}
 use Rattle.jt_inherit.proofs.NumberTables.{is_chain}
 use Rattle.jt_inherit.proofs.SourcesGrow.{among_passes, chains_listed, chain_breaks, libraries_listed, reach_more}
@@ -117,8 +121,8 @@ extends_need n e u h = extends_asks true n u h
 
 -- ---- what is said in a chain that reaches a chain or library
 
-module _ {given : SourceTexts} {options : Options} {root : Text} {ts : List Template} {ks : List Text}
-    (known : AreKnown given options ts ks) {h : Namespace}
+module _ {given : SourceTexts} {options : Options} {root : Text} {ts : List Template}
+    (known : AreKnown given options ts) {h : Namespace}
     (r : Reaches (sources_in ts) options.autoescape (a_chain root) h) where
   pub shown : (e : ChainError) (p : TagPlace) (x : ChainSubject)
       → IsBrokenAt given (sources_in ts) options.autoescape (a_chain root) h e p x
@@ -200,8 +204,8 @@ module _ {given : SourceTexts} {options : Options} {root : Text} {ts : List Temp
 
 -- ---- an error at the end of a path
 
-module _ {given : SourceTexts} {options : Options} {root : Text} {ts : List Template} {ks : List Text}
-    (known : AreKnown given options ts ks) {h : Text}
+module _ {given : SourceTexts} {options : Options} {root : Text} {ts : List Template}
+    (known : AreKnown given options ts) {h : Text}
     (r : Reaches (sources_in ts) options.autoescape (a_chain root) (a_chain h)) {is : List ℕ} {n : Text}
     (w : IsExtendsPath ts (a_chain h) is (Some n)) where
   -- A tag on the path is one of the chain.
@@ -313,14 +317,16 @@ module _ {given : SourceTexts} {options : Options} {root : Text} {ts : List Temp
       by x q = absurd q
 
 -- The finding of an error of a chain, for each chain that reaches it, before more was read.
-pub refused_all : (given : SourceTexts) (options : Options) (ps qs : List TemplateFile) → Grow ps qs
+pub refused_all : {given : SourceTexts} {options : Options} {ts us : List Template} {xs : List Text}
+    → HasRead given options ts us xs
     → (k : NamespaceKey) → k.is_library ≡ false → (e : ChainError) (f : ChainFinding) → f.error ≡ e
-    → BreaksAll given options qs (a_chain (string_bytes k.name)) e
+    → BreaksAll given options us (a_chain (string_bytes k.name)) e
     → ((root : Text)
-    → Reaches (sources_in (files_view qs)) options.autoescape (a_chain root) (a_chain (string_bytes k.name))
+    → Reaches (sources_in us) options.autoescape (a_chain root) (a_chain (string_bytes k.name))
     → Says given root options f.place f.subject e)
-    → BreaksAll given options ps (key_view k) f.error × SaysAll given options ps (key_view k) f
-refused_all given options ps qs more k is e f told b s = search (arith, rules, chain_breaks, reach_more, is_chain)
+    → BreaksAll given options ts (key_view k) f.error × SaysAll given options ts (key_view k) f
+refused_all {given} {options} {ts} {us} r k is e f told b s =
+    search (arith, rules, chain_breaks, reach_more, is_chain)
 
 pub extends_told : (t : Template) (n : Text) (o : Option TagPlace) → IsParentAt t n o → extends_of t.body ≡ Some n
 extends_told t n None a = absurd a
@@ -333,15 +339,13 @@ asked_turn vs ws t n None e a = absurd a
 asked_turn vs ws t n (Some p) e a =
     (ws, t, e, a.1, subst (λ l. HasTag (is_extends n) l p) (sym e) (tag_last (is_extends n) p ws t a.2))
 
--- A fact about the templates of a path and a name, by equal templates, path and name.
-pub same_path : (P : List TemplateFile → List ℕ → Text → Type 0) {ps qs : List TemplateFile} {is js : List ℕ}
-    {n m : Text}
-    → qs ≡ ps → js ≡ is → m ≡ n → P qs js m → P ps is n
-same_path P {ps} {qs} {is} {js} {n} {m} a b d h = search (arith, rules)
+-- A fact about a path and a name, by an equal path and name.
+pub same_path : (P : List ℕ → Text → Type 0) {is js : List ℕ} {n m : Text} → js ≡ is → m ≡ n → P js m → P is n
+same_path P {is} {js} {n} {m} a b h = search (arith, rules)
 
 -- The finding of an included or imported template, by its index among them.
-pub unmet_need : (given : SourceTexts) (options : Options) (ps : List TemplateFile) (is : List ℕ)
-    (ns : List NeededTemplate) (k : ℕ) (d : NeededTemplate) (e : ChainError) (f : ChainFinding)
-    → needs_view ns ≡ needs_of ps is → k < length ns → IsFaultAt given options (need_view (get_or ns k d)) e
-    → IsOfNeed (templates_at (files_view ps) is) (get_or ns k d).name.now e f → IsUnmet given options ps is f
-unmet_need given options ps is ns k d e f same_needs lt fault told = search (arith, rules, asked_at, placed)
+pub unmet_need : (given : SourceTexts) (options : Options) (ts : List Template) (is : List ℕ) (ns : List KeyedNeed)
+    (k : ℕ) (d : KeyedNeed) (e : ChainError) (f : ChainFinding)
+    → keyed_needs ns ≡ needs_along ts is → k < length ns → IsFaultAt given options (keyed_view (get_or ns k d)) e
+    → IsOfNeed (templates_at ts is) (keyed_view (get_or ns k d)).name e f → IsUnmet given options ts is f
+unmet_need given options ts is ns k d e f same_needs lt fault told = search (arith, rules, asked_at, placed)

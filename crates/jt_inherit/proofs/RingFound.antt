@@ -32,8 +32,8 @@ last_leads : (g : Graph) (i : ℕ) (is : List ℕ) (t : ℕ) → Leads g i is t
 last_leads g i [] t a = a
 last_leads g i (k ∷ is) t a = last_leads g k is t a.1
 
-module _ {given : SourceTexts} {options : Options} {entry : Text} {ts : List Template} {ks : List Text}
-    {hs : List Namespace} {ws ns : Graph} (f : AreFound given options entry ts ks hs ws ns)
+module _ {given : SourceTexts} {options : Options} {entry : Text} {ts : List Template}
+    {hs : List Namespace} {ws ns : Graph} (f : AreFound given options entry ts hs ws ns)
     (all : length ws ≡ length hs) where
   leads_namespaces : (i : ℕ) (is : List ℕ) (t : ℕ) → Leads ns i is t
       → LeadsTo (sources_in ts) (namespace_at hs i) (map (namespace_at hs) is) (namespace_at hs (last_number i is))

@@ -6,7 +6,7 @@ use Rattle.jt_inherit.proofs.Vocabulary.{Namespace, a_chain, a_library, listed, 
 use Rattle.jt_inherit.proofs.Vocabulary.{library_template, libraries, libraries_in, extends_of, parent_of, names_up}
 use Rattle.jt_inherit.proofs.Vocabulary.{sources_in, included, needs_in, with_source, Asks, Reaches, here, through}
 use Rattle.jt_inherit.proofs.Vocabulary.{asked, extends_path, files_view, TemplateFile, Options, SourceTexts, BreaksAll}
-use Rattle.jt_inherit.proofs.Vocabulary.{Grow, key_view, ChainError, NamespaceKey, of_texts, reflexive, same}
+use Rattle.jt_inherit.proofs.Vocabulary.{key_view, ChainError, NamespaceKey, of_texts, reflexive, same}
 use Rattle.jt_inherit.proofs.Vocabulary.{among_behind, among_cases, among_front, flat_map-append, or_right}
 use Rattle.jt_inherit.proofs.PathsGrow.{more_sources, none_up}
 use Rattle.jt_inherit.proofs.NumberTables.{is_chain}
@@ -267,15 +267,9 @@ ask_more ts us more e h n grown i =
 
 -- An error that breaks each chain that reaches a namespace when more is read breaks each chain that
 -- reached it before.
-pub breaks_more : (given : SourceTexts) (options : Options) (ps qs : List TemplateFile) → Grow ps qs
-    → (h : Namespace) (e : ChainError) → BreaksAll given options qs h e → BreaksAll given options ps h e
-breaks_more given options ps qs more h e b root r =
-    b root (reach_more (files_view ps) (files_view qs) more.0 options.autoescape (a_chain root) h more.1 r)
-
-pub chain_breaks : (given : SourceTexts) (options : Options) (ps qs : List TemplateFile) → Grow ps qs
+pub chain_breaks : (given : SourceTexts) (options : Options) (ts us more : List Template) → us ≡ ts ++ more
     → (k : NamespaceKey) → k.is_library ≡ false → (e : ChainError)
-    → BreaksAll given options qs (a_chain (string_bytes k.name)) e
-    → BreaksAll given options ps (key_view k) e
-chain_breaks given options ps qs more k is e b =
-    subst (λ h. BreaksAll given options ps h e) (sym (is_chain k is))
-    (breaks_more given options ps qs more (a_chain (string_bytes k.name)) e b)
+    → BreaksAll given options us (a_chain (string_bytes k.name)) e → BreaksAll given options ts (key_view k) e
+chain_breaks given options ts us more grown k is e b =
+    subst (λ h. BreaksAll given options ts h e) (sym (is_chain k is))
+    (λ root r. b root (reach_more ts us more options.autoescape (a_chain root) (a_chain (string_bytes k.name)) grown r))

@@ -15,6 +15,7 @@ pub use Rattle.std.proofs.lemmas.Result.{err_from_is_err_and}
 pub use Rattle.std.proofs.lemmas.Simd.{map-map}
 pub use Rattle.std.proofs.lemmas.Str.{length-le-encodes}
 pub use Rattle.std.specs.BTreeMap.{get_by_text}
+pub use Rattle.jt_inherit.specs.declared.store.TemplateStore.{TemplateStore}
 pub use Rattle.std.specs.List.{AllByRecursion, AllWithin, HoldsAt, list_any, position_from}
 pub use Rattle.std.specs.Option.{is_none, is_some, option_to_list}
 pub use Rattle.std.specs.Prelude.{IfOk, filter, flat_map, option_map, slice_get, unwrap_or}
@@ -66,7 +67,7 @@ pub use Rattle.jt_scan.specs.declared.segment.TagKind.{TagKind}
 pub use Rattle.jt_uses.specs.Uses.{Site, Use, body_uses, outside}
 pub use Rattle.jt_inherit.proofs.Membership.{among_behind, among_cases, among_front, among_next}
 pub use Rattle.jt_inherit.proofs.Membership.{indexed_among, no_more, once_more, only_among}
-pub use Rattle.jt_inherit.proofs.NameMembership.{among_last, of_texts, reflexive, same, symmetric}
+pub use Rattle.jt_inherit.proofs.NameMembership.{of_texts, reflexive, same, symmetric}
 pub use Rattle.jt_inherit.proofs.NamespaceMembership.{chain_among, of_namespaces}
 pub use Rattle.jt_inherit.specs.Chains.{IsChain, IsOnly, IsRead, IsTree, SourceTexts}
 pub use Rattle.jt_inherit.specs.Findings.{ForSome, HasNoSuper, HasTag, HasTwoTags, InTurn, IsAt, IsFinding, IsNoMemory}
@@ -81,28 +82,29 @@ pub use Rattle.jt_inherit.specs.declared.error.ChainError.{ChainError}
 pub use Rattle.jt_inherit.specs.declared.finding.ChainFinding.{ChainFinding}
 pub use Rattle.jt_inherit.specs.declared.finding.ChainSubject.{ChainSubject}
 pub use Rattle.jt_inherit.specs.declared.finding.TagPlace.{TagPlace}
-pub use Rattle.jt_inherit.specs.declared.sets.Names.{Names}
+pub use Rattle.jt_inherit.specs.declared.including.FollowedPath.{FollowedPath}
+pub use Rattle.jt_inherit.specs.declared.including.KeyedNeed.{KeyedNeed}
 pub use Rattle.jt_inherit.specs.declared.sets.NamespaceKey.{NamespaceKey}
 pub use Rattle.jt_inherit.specs.declared.tags.FoundTag.{FoundTag}
 pub use Rattle.jt_inherit.specs.internal.Found.{imports_along, needs_along}
 pub use Rattle.jt_inherit.specs.internal.Breaking.{IsOfRule, IsTwiceIn, RuleAt}
 pub use Rattle.jt_inherit.specs.internal.RuleTests.{block_names, lacks_body, lacks_next}
-pub use Rattle.jt_inherit.specs.internal.ExtendsPaths.{AreKnown, AreNamed, BreaksAll, Grow, HasRead, IsExtendsPath}
-pub use Rattle.jt_inherit.specs.internal.ExtendsPaths.{IsWithin, Leads}
+pub use Rattle.jt_inherit.specs.internal.ExtendsPaths.{AreKnown, BreaksAll, HasPath, HasRead, IsExtendsPath, IsWithin}
+pub use Rattle.jt_inherit.specs.internal.ExtendsPaths.{Leads, names}
 pub use Rattle.jt_inherit.specs.internal.Faults.{IsFaultOf}
 pub use Rattle.jt_inherit.specs.internal.Breaking.{IsBroken}
 pub use Rattle.jt_inherit.specs.internal.Found.{AreFollowed, AreFound, AreNext, IsFollowed, IsFound, IsMet, IsNextFault}
 pub use Rattle.jt_inherit.specs.internal.Found.{IsNextFinding, TooMany, chains_of, chosen, found_namespaces}
 pub use Rattle.jt_inherit.specs.internal.Found.{found_paths, found_templates, listed_at, listed_view, root_of, twice}
-pub use Rattle.jt_inherit.specs.internal.Given.{its_sources, its_templates, macros_held}
+pub use Rattle.jt_inherit.specs.internal.Given.{its_files, its_sources, its_templates, macros_held}
 pub use Rattle.jt_inherit.specs.internal.Imported.{is_no_library, leading_at}
-pub use Rattle.jt_inherit.specs.internal.Numbers.{AreNumbers, is_text}
+pub use Rattle.jt_inherit.specs.internal.Numbers.{AreNumbers, is_named}
 pub use Rattle.jt_inherit.specs.internal.Placing.{IsCycle, IsIncludedMore, IsLong, IsNamedOn, need_test}
 pub use Rattle.jt_inherit.specs.internal.Rings.{last_number, name_at}
 pub use Rattle.jt_inherit.specs.internal.RuleTests.{BreakOne, KeepAll, any_double, any_lacks_macros}
 pub use Rattle.jt_inherit.specs.internal.RuleTests.{imported_names, names_from, their_blocks, their_macros, their_names}
-pub use Rattle.jt_inherit.specs.internal.SetView.{key_view, keys_view, strings}
-pub use Rattle.jt_inherit.specs.internal.Sets.{names_view, namespaces_view}
+pub use Rattle.jt_inherit.specs.internal.SetView.{key_view, keys_view}
+pub use Rattle.jt_inherit.specs.internal.Sets.{namespaces_view}
 pub use Rattle.jt_inherit.specs.internal.SuperLines.{first_in, first_under}
 pub use Rattle.jt_inherit.specs.internal.Tags.{IsLastCall, place_in, place_view, tag_view, tags, tags_view, test_of}
-pub use Rattle.jt_inherit.specs.internal.Found.{IsUnmet}
+pub use Rattle.jt_inherit.specs.internal.Found.{HasNeeds, IsUnmet, keyed_needs, keyed_view}
