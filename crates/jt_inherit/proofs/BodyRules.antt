@@ -2,7 +2,6 @@
 use Rattle.std.proofs.Common.{◌≡◌, ℕ, zero, suc, ◌+◌, ◌<◌, Bool, true, false, not, cond, ◌&&◌, ◌||◌, List, [], ◌∷◌}
 use Rattle.std.proofs.Common.{◌++◌, length, map, take, drop, get_or, refl, sym, ap, subst, ◌∙◌, arith, rules, Some}
 use Rattle.std.proofs.Math.Bool.{or-false, or_assoc, or_comm}
-use Rattle.std.specs.BTreeSet as set
 use Rattle.std.specs.BTreeSet.{BTreeSet}
 use Rattle.std.specs.Cmp.Lexicographic.{slice_cmp}
 use Rattle.std.specs.Ordering.{nat_cmp, is_eq}
@@ -20,6 +19,7 @@ use Rattle.jt_inherit.proofs.Vocabulary.{same, symmetric, among_next, once_more,
 use Rattle.jt_inherit.proofs.Vocabulary.{their_blocks, their_macros, their_names, imported_names, along_templates}
 use Rattle.jt_inherit.proofs.Vocabulary.{or_from, or_parts, or_right, take_more}
 use Rattle.jt_chains.specs.declared.parts.Macro.{Macro}
+use Rattle.std.specs.BTreeSet as set
 
 -- ---- a set of texts
 
@@ -75,12 +75,12 @@ given_more bs b g h x = search (arith, rules, same, named_old, named_new)
 
 any_none : {X : Type 0} (p : X → Bool) → ((x : X) → p x ≡ false) → (xs : List X) → list_any p xs ≡ false
 any_none p h [] = refl
-any_none p h (x ∷ xs) = or_from (p x) (list_any p xs) (h x) (any_none p h xs)
+any_none p h (x ∷ xs) = or_from _ _ (h x) (any_none p h xs)
 
 any_here : {X : Type 0} (p : X → Bool) (xs : List X) (x : X) (ys : List X) → p x ≡ true
     → list_any p (xs ++ x ∷ ys) ≡ true
 any_here p [] x ys h = ap (λ b. b || list_any p ys) h
-any_here p (y ∷ xs) x ys h = or_right (p y) (list_any p (xs ++ x ∷ ys)) (any_here p xs x ys h)
+any_here p (y ∷ xs) x ys h = or_right _ _ (any_here p xs x ys h)
 
 pub all_given : (bs : List BlockBody) → AreGiven bs → lacks_body bs ≡ false
 all_given bs g = any_none (λ b. is_required (named b.name bs)) (λ b. g b.name) bs

@@ -2,15 +2,19 @@
 use Rattle.std.proofs.Common.{◌≡◌, ◌≢◌, ◌↔◌, Bool, true, false, List, [], ◌∷◌, refl, sym, ap, subst, ◌∙◌, ⊎_elim}
 use Rattle.std.proofs.Common.{Option, Some, None, string_bytes, arith, rules}
 use Rattle.jt_chains.specs.View.{sources_of}
-use Rattle.jt_inherit.specs.declared.error.ChainError.TheVariants as error
 use Rattle.jt_inherit.proofs.Vocabulary.{AllByRecursion, list_any, is_some, is_none, Options, among, Text, Body}
 use Rattle.jt_inherit.proofs.Vocabulary.{Sources, a_chain, Template, sources_in, SourceTexts, IsTree, IsRead, IsOnly}
 use Rattle.jt_inherit.proofs.Vocabulary.{IsChain, Breaks, Shows, HasFault, IsUncut, IsUnspelled, Asks, here, asked}
-use Rattle.jt_inherit.proofs.Vocabulary.{KeepsRules, Seen, ChainError, same, or_right}
-use Rattle.jt_inherit.proofs.RulesCarryOver as carried
+use Rattle.jt_inherit.proofs.Vocabulary.{KeepsRules, Seen, ChainError, same, or_right, names, repeated, Namespace}
+use Rattle.jt_inherit.proofs.Vocabulary.{names_up}
 use Rattle.jt_inherit.proofs.DiscoveryInvariant.{some_source}
-use Rattle.jt_inherit.proofs.SourcesGrow.{asks_more, asked_more, reaches_more}
-use Rattle.jt_inherit.proofs.Vocabulary.{names}
+use Rattle.jt_inherit.proofs.PathsGrow.{asks_more, asked_more, reaches_more, names_more}
+use Rattle.jt_inherit.specs.Refusals.{IsMissing}
+use Rattle.jt_inherit.specs.Laws.{IsReading, IsLasting, RefusalLaws}
+use Rattle.jt_inherit.proofs.RulesCarryOver.{repeated_front}
+use Rattle.jt_inherit.specs.declared.error.ChainError.TheVariants as error
+use Rattle.jt_inherit.proofs.RulesCarryOver as carried
+use Rattle.jt_chains.specs.Rules as rules
 
 pub any_at : (p : Text → Bool) (x : Text) (xs : List Text) → among x xs ≡ true → p x ≡ true → list_any p xs ≡ true
 any_at p x [] a t = absurd (cc)
@@ -148,3 +152,69 @@ module _ (given : SourceTexts) (options : Options) where
             let no : None ≡ Some b = sym e ∙ back n b i f in
             absurd (cc)
         by None e None f = e ∙ sym f
+
+-- A template that was read in the only way has the same tree in each reading.
+same_tree : (given : SourceTexts) (options : Options) (s : Sources) → IsReading given options s → (ts : List Template)
+    → AllByRecursion (IsRead given options) ts → AllByRecursion (IsOnly given options) ts
+    → (n : Text) (b : Body) → sources_in ts n ≡ Some b → s n ≡ Some b
+same_tree given options s is ts read only n b e =
+    let other = is.each n b (source_read (IsRead given options) ts n b read e) in
+    let one : other.0 ≡ b = source_read (IsOnly given options) ts n b only e other.0 (is.read n other.0 other.1) in
+    other.1 ∙ ap (λ (x : Body). Some x) one
+
+abbrev IsCarried : (Sources → Bool → Namespace → Type 0) → Type 0
+IsCarried Breaks =
+    (s r : Sources) (e : Bool) (entry : Namespace) → ((n : Text) (b : Body) → s n ≡ Some b → r n ≡ Some b)
+    → Breaks s e entry → Breaks r e entry
+
+lasting : (Breaks : Sources → Bool → Namespace → Type 0) → IsCarried Breaks → IsLasting Breaks
+lasting Breaks carry given options entry s is x =
+    carry (sources_in x.templates) s options.autoescape (a_chain entry)
+    (same_tree given options s is x.templates x.read.each x.only) x.holds
+
+-- A name that occurs twice on the path does so when more is read.
+cycle_carried : IsCarried rules.ExtendsCycle
+cycle_carried s r e entry g x =
+    let y = x.2 in
+    let more = names_more s r y.2 (Some y.0) (λ n a. g n) in (
+      x.0,
+      reaches_more s r e entry (λ n b i. g n b) here x.1,
+      (y.0, y.1, y.2, ap repeated more.1 ∙ repeated_front (names_up s y.2 (Some y.0)) more.0 y.3),
+    )
+
+missing_lasts : (given : SourceTexts) (options : Options) (entry : Text) (s : Sources) → IsReading given options s
+    → IsMissing given entry options → rules.Missing s options.autoescape (a_chain entry)
+missing_lasts given options entry s is x =
+    let r = sources_in x.reached.templates in
+    let g = same_tree given options s is x.reached.templates x.reached.read.each x.reached.only in
+    let h = x.reached.holds in
+    let p = reaches_more r s options.autoescape (a_chain entry) (λ n b i. g n b) here h.1 in (
+      h.0,
+      p,
+      any_at (λ n. is_none (s n)) x.name (asked s options.autoescape false h.0)
+          (asked_more r s options.autoescape (a_chain entry) (λ n b i. g n b) false h.0 p x.name h.2)
+          (unread (s x.name) refl),
+    )
+  where
+    unread : (o : Option Body) → s x.name ≡ o → is_none (s x.name) ≡ true
+    unread None e = ap is_none e
+    unread (Some b) e =
+        let r = is.read x.name b e in
+        let no : None ≡ Some r.source = sym x.found ∙ r.found in
+        absurd (cc)
+
+pub laws_hold : RefusalLaws
+laws_hold = record {
+  missing = missing_lasts;
+  bad_name = lasting rules.BadName (λ s r e entry g. carried.bad_name s r e entry (λ n b i. g n b));
+  extends_cycle = lasting rules.ExtendsCycle cycle_carried;
+  too_long = lasting rules.ChainTooLong (λ s r e entry g. carried.too_long s r e entry (λ n b i. g n b));
+  double_block = lasting rules.DoubleBlock (λ s r e entry g. carried.double_block s r e entry (λ n b i. g n b));
+  required_not_given =
+      lasting rules.RequiredNotGiven (λ s r e entry g. carried.required_not_given s r e entry (λ n b i. g n b));
+  no_super = lasting rules.NoSuper (λ s r e entry g. carried.no_super s r e entry (λ n b i. g n b));
+  include_cycle = lasting rules.IncludeCycle (λ s r e entry g. carried.include_cycle s r e entry (λ n b i. g n b));
+  macro_twice = lasting rules.MacroTwice (λ s r e entry g. carried.macro_twice s r e entry (λ n b i. g n b));
+  no_macro = lasting rules.NoMacro (λ s r e entry g. carried.no_macro s r e entry (λ n b i. g n b));
+  not_a_library = lasting rules.NotALibrary (λ s r e entry g. carried.not_a_library s r e entry (λ n b i. g n b));
+}

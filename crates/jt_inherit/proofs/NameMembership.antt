@@ -1,12 +1,12 @@
 -- Membership of names in lists.
-use Rattle.std.proofs.Common.{◌≡◌, true, List, [], ◌∷◌, ◌++◌, refl, sym, ap, ◌∙◌, ◌⊎◌, ⊎_elim, inl, inr}
+use Rattle.std.proofs.Common.{◌≡◌, true, List, [], ◌∷◌, ◌++◌, refl, ◌∙◌, ◌⊎◌}
 use Rattle.std.proofs.lemmas.Cmp.{nat_list_eq_equiv}
 use Rattle.std.proofs.lemmas.Slice.Eq.{bytes_eq-Decides}
 use Rattle.std.specs.List.{AllByRecursion}
 use Rattle.std.specs.Str.{bytes_eq}
 use Rattle.jt_ast.specs.Texts.{among, repeated}
 use Rattle.jt_ast.specs.Expressions.{Text}
-use Rattle.jt_inherit.proofs.Membership.{Members, among_cases, only_among}
+use Rattle.jt_inherit.proofs.Membership.{Members}
 
 pub same : (x y : Text) → bytes_eq x y ≡ true → x ≡ y
 same x y = (bytes_eq-Decides x y).0

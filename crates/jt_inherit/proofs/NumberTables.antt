@@ -1,21 +1,19 @@
 -- Tables of numbers, and the sets of names and of namespaces over them: lookup, and the effect of an insertion.
 use Rattle.std.proofs.Common.{◌≡◌, ℕ, suc, ◌+◌, Bool, true, false, cond, if◌then◌else◌, List, [], ◌∷◌, ◌++◌, length}
+use Rattle.std.proofs.Common.{refl, sym, ap, ◌∙◌, arith, Some, None, rules, Option, string_bytes, MatchOption, not}
+use Rattle.std.proofs.Common.{length-append, ◌||◌}
 use Rattle.jt_chains.specs.Tables.{AreAt}
 use Rattle.jt_chains.specs.Indices.{index_of}
-use Rattle.jt_inherit.proofs.Vocabulary.{TemplateFile, files_view, names, is_named, unwrap_or, length-map}
-use Rattle.jt_inherit.proofs.Vocabulary.{TemplateFile}
-use Rattle.std.proofs.Common.{refl, sym, ap, ◌∙◌, arith, Some, None, rules, Option, String, Global, string_bytes}
-use Rattle.std.proofs.Common.{MatchOption, not, length-append, ◌||◌}
+use Rattle.jt_inherit.proofs.Vocabulary.{TemplateFile, files_view, names, is_named, unwrap_or, length-map, slice_get}
+use Rattle.jt_inherit.proofs.Vocabulary.{get_by_text, list_any, position_from, bytes_eq, Text, Table, AreNumbers, same}
+use Rattle.jt_inherit.proofs.Vocabulary.{slice_get-map, among, symmetric, append-nil, Namespace, a_chain, a_library}
+use Rattle.jt_inherit.proofs.Vocabulary.{same_namespace, listed, chains_of, key_view, keys_view, NamespaceKey}
 use Rattle.std.specs.Result.{is_ok, IsOk}
 use Rattle.std.specs.declared.result.Result.{Result}
-use Rattle.jt_inherit.proofs.Vocabulary.{slice_get, get_by_text, list_any, position_from, bytes_eq, Text, Table}
-use Rattle.jt_inherit.proofs.Vocabulary.{AreNumbers, same, slice_get-map, among, symmetric}
-use Rattle.jt_inherit.proofs.Vocabulary.{append-nil, Namespace, a_chain, a_library, same_namespace, listed, chains_of}
-use Rattle.jt_inherit.proofs.Vocabulary.{key_view, keys_view, NamespaceKey}
 use Rattle.jt_inherit.specs.internal.Numbers.{is_kind}
 use Rattle.jt_inherit.specs.internal.SetView.{keyed}
-use Rattle.jt_inherit.proofs.NamespaceMembership as namespaces
 use Rattle.jt_inherit.proofs.NamespaceMembership.{chains_both}
+use Rattle.jt_inherit.proofs.NamespaceMembership as namespaces
 
 -- A push that succeeds appends the item.
 pub pushed : {A T E : Type 0} (r : Result T E) (now xs new : List A) (x : A)

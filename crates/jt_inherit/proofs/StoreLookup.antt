@@ -1,20 +1,16 @@
 -- The library of a name in a store: its macros, its path, and the names that are imported from it.
 use Rattle.std.proofs.Common.{◌≡◌, ℕ, ◌<◌, length, get_or, arith, string_bytes, Bool, false, ◌&&◌, ◌||◌, List, [], ◌∷◌}
-use Rattle.jt_inherit.proofs.PathsGrow.{file_there, nothing_read}
-use Rattle.jt_inherit.proofs.Vocabulary.{HasPath, names}
-use Rattle.jt_inherit.proofs.Vocabulary.{HasPath}
 use Rattle.std.proofs.Common.{refl, sym, ap, ◌∙◌, Option, Some, None, rules, zero, suc, true, not}
-use Rattle.jt_chains.specs.Tables.{library_macros}
-use Rattle.jt_chains.specs.Rules.{lacks_one}
-use Rattle.jt_inherit.proofs.Vocabulary.{slice_get, flat_map, is_some, is_none, length-map, append-nil}
+use Rattle.jt_inherit.proofs.PathsGrow.{file_there, nothing_read}
+use Rattle.jt_inherit.proofs.Vocabulary.{HasPath, names, slice_get, flat_map, is_some, is_none, length-map, append-nil}
 use Rattle.jt_inherit.proofs.Vocabulary.{slice_get_within, Text, Body, body_of, among, repeated, Sources, a_library}
 use Rattle.jt_inherit.proofs.Vocabulary.{Template, library_template, holds_macros, is_a_library, MacroBody, macros}
 use Rattle.jt_inherit.proofs.Vocabulary.{macros_in, public_macro, sources_in, file_view, files_view, TemplateFile}
-use Rattle.jt_inherit.proofs.Vocabulary.{map_at, only_one, macros_held, names_from, Options, SourceTexts}
-use Rattle.jt_inherit.proofs.Vocabulary.{AreKnown, HasRead, is_no_library, not-false}
+use Rattle.jt_inherit.proofs.Vocabulary.{only_one, macros_held, names_from, Options, SourceTexts, AreKnown}
+use Rattle.jt_inherit.proofs.Vocabulary.{is_no_library, not-false}
+use Rattle.jt_chains.specs.Tables.{library_macros}
+use Rattle.jt_chains.specs.Rules.{lacks_one}
 use Rattle.jt_inherit.proofs.DiscoveryInvariant.{some_source}
-use Rattle.jt_inherit.proofs.Vocabulary.{names}
-use Rattle.jt_inherit.proofs.PathsGrow.{name_of_slice}
 
 pub unread : (ts : List Template) (n : Text) → among n (names ts) ≡ false → is_a_library (sources_in ts n) ≡ false
 unread ts n h = by (sources_in ts n) (some_source ts n ∙ h)

@@ -1,7 +1,7 @@
-use Rattle.std.proofs.Common.{arith, rules, List, subst}
+use Rattle.std.proofs.Common.{arith, rules}
 use Rattle.jt_inherit.proofs.NumberTables.{files_at}
-use Rattle.jt_inherit.proofs.Vocabulary.{err_from_is_err_and, files_view, TemplateFile, found_templates}
-use Rattle.jt_inherit.proofs.PathTemplates.{all_short}
+use Rattle.jt_inherit.proofs.Vocabulary.{err_from_is_err_and, found_templates}
+use Rattle.jt_inherit.proofs.PathsGrow.{all_short}
 use Rattle.jt_inherit.proofs.RingFound.{order_finds}
 use Rattle.jt_inherit.proofs.ChainIsUnique.{no_chain, one_chain}
 use Rattle.jt_inherit.proofs.ChainComplete.{its_findings, its_some, its_begins, its_order, its_whole, its_chain}

@@ -1,6 +1,6 @@
-use Rattle.std.proofs.Common.{arith, rules, List, sym, subst}
-use Rattle.jt_inherit.proofs.Vocabulary.{err_from_is_err_and, graph_of, AreIndices, templates_at, sources_in}
-use Rattle.jt_inherit.proofs.Vocabulary.{files_view, TemplateFile, IsBroken, found_templates}
+use Rattle.std.proofs.Common.{sym, subst}
+use Rattle.jt_inherit.proofs.Vocabulary.{err_from_is_err_and, graph_of, AreIndices, templates_at, sources_in, IsBroken}
+use Rattle.jt_inherit.proofs.Vocabulary.{found_templates}
 use Rattle.jt_inherit.proofs.ChainComplete.{at_number, way_at}
 use Rattle.jt_inherit.proofs.chaining.check_chains.Goals as goal
 

@@ -1,6 +1,6 @@
 use Rattle.std.proofs.Common.{rules, ◌≡◌, ◌<◌, ◌++◌, ◌∷◌, [], List, ℕ, sym, ap, subst, ◌∙◌, arith, length, Vec, Global}
 use Rattle.jt_inherit.proofs.Vocabulary.{length-map, err_from_is_err_and, graph_of, files_view, AreFound, HasPath}
-use Rattle.jt_inherit.proofs.Vocabulary.{IsUnmet, found_namespaces, root_of, key_view, namespaces_view, of_namespaces}
+use Rattle.jt_inherit.proofs.Vocabulary.{found_namespaces, root_of, key_view, namespaces_view, of_namespaces}
 use Rattle.jt_inherit.proofs.Vocabulary.{indexed_among, map_push, SourceTexts, Options, Template, Namespace}
 use Rattle.jt_inherit.proofs.FindingsHold.{need_finds, next_finds, library_finds}
 use Rattle.jt_inherit.proofs.DiscoveryInvariant.{namespace_number, reached_here, reached_there, found_more, has_needs}

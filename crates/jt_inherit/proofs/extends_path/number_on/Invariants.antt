@@ -1,6 +1,5 @@
 use Rattle.std.proofs.Common.{◌≡◌, drop}
-use Rattle.jt_inherit.proofs.Vocabulary.{among, templates_at, files_view}
-use Rattle.jt_inherit.proofs.Vocabulary.{names}
+use Rattle.jt_inherit.proofs.Vocabulary.{among, templates_at, files_view, names}
 use Rattle.jt_inherit.proofs.extends_path.number_on.Given as goal
 
 abbrev pub invariant-loop-number : goal.invariant-loop-number

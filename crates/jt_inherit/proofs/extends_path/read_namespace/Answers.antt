@@ -1,16 +1,17 @@
-use Rattle.std.proofs.Common.{rules, ◌≡◌, ◌+◌, ◌<◌, ◌∷◌, [], false, drop, length, sym, ap, subst, ◌∙◌, arith, string_bytes, None}
+use Rattle.std.proofs.Common.{rules, ◌≡◌, ◌+◌, ◌<◌, ◌∷◌, [], false, drop, length, sym, ap, subst, ◌∙◌, arith}
+use Rattle.std.proofs.Common.{string_bytes, None}
 use Rattle.jt_inherit.specs.internal.ExtendsPaths.{IsAt}
 use Rattle.jt_inherit.specs.internal.Placing.{IsParent}
-use Rattle.jt_inherit.specs.declared.error.ChainError.TheVariants as error
 use Rattle.jt_inherit.proofs.Vocabulary.{length-map, slice_get_within, IsFaultOf, files_view, Text, among, templates_at}
-use Rattle.jt_inherit.proofs.Vocabulary.{HasRead, HasPath, IsExtendsPath, is_no_library, IsCycle, IsNamedOn}
-use Rattle.jt_inherit.proofs.Vocabulary.{file_view, names}
-use Rattle.jt_inherit.proofs.PlacedErrors.{asked_turn, cycle_placed, extends_told, fault_placed, long_placed}
-use Rattle.jt_inherit.proofs.PlacedErrors.{refused_all, same_path, there_on}
+use Rattle.jt_inherit.proofs.Vocabulary.{HasRead, HasPath, IsExtendsPath, is_no_library, IsCycle, IsNamedOn, file_view}
+use Rattle.jt_inherit.proofs.Vocabulary.{names}
+use Rattle.jt_inherit.proofs.FindingsHold.{asked_turn, cycle_placed, extends_told, fault_placed, long_placed}
+use Rattle.jt_inherit.proofs.FindingsHold.{refused_all, same_path, there_on}
 use Rattle.jt_inherit.proofs.StoreLookup.{library_known, library_read}
 use Rattle.jt_inherit.proofs.NumberTables.{is_chain, is_library}
-use Rattle.jt_inherit.proofs.PathsGrow.{cycle_breaks, long_breaks, fault_breaks, file_there, nothing_read, path_turn}
-use Rattle.jt_inherit.proofs.PathsGrow.{read_step, way_step}
+use Rattle.jt_inherit.proofs.PathsGrow.{cycle_breaks, long_breaks, fault_breaks, file_there, path_turn, read_step}
+use Rattle.jt_inherit.proofs.PathsGrow.{way_step}
+use Rattle.jt_inherit.specs.declared.error.ChainError.TheVariants as error
 use Rattle.jt_inherit.proofs.extends_path.read_namespace.Goals as goal
 
 pub library_path-requires : goal.library_path-requires

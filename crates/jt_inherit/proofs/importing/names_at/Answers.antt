@@ -1,4 +1,4 @@
-use Rattle.std.proofs.Common.{◌++◌, List, ℕ, get_or, sym, ap, ◌∙◌}
+use Rattle.std.proofs.Common.{◌++◌, List, ℕ, get_or, sym, ◌∙◌}
 use Rattle.std.proofs.lemmas.List.{at_drop_all}
 use Rattle.jt_inherit.proofs.Vocabulary.{append-nil, body_view, along, templates_at, sources_in, files_view}
 use Rattle.jt_inherit.proofs.Vocabulary.{imported_names, texts, along_turn, file_at, index_within}

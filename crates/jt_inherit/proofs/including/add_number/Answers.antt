@@ -1,8 +1,8 @@
-use Rattle.std.proofs.Common.{◌≡◌, ◌∷◌, [], true, Some, string_bytes, ap, sym, subst, ◌∙◌}
+use Rattle.std.proofs.Common.{◌≡◌, ◌∷◌, [], Some, string_bytes, ap, sym, subst, ◌∙◌}
 use Rattle.jt_inherit.specs.internal.SetView.{keyed}
 use Rattle.jt_inherit.proofs.Vocabulary.{err_from_is_err_and, AreNext, IsNextFault, key_view, NamespaceKey, Text}
 use Rattle.jt_inherit.proofs.Vocabulary.{keyed_view, names, files_view, namespaces_view, of_texts, indexed_among}
-use Rattle.jt_inherit.proofs.FollowStep.{one_known}
+use Rattle.jt_inherit.proofs.DiscoveryInvariant.{one_known}
 use Rattle.jt_inherit.proofs.including.add_number.Goals as goal
 
 same_key : (k m : NamespaceKey) → string_bytes k.name ≡ string_bytes m.name → k.is_library ≡ m.is_library

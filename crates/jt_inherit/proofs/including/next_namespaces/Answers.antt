@@ -1,9 +1,9 @@
 use Rattle.std.proofs.Common.{◌≡◌, ◌∷◌, [], List, sym, subst, ◌∙◌, inr, ⊎_elim, string_bytes}
 use Rattle.jt_inherit.specs.internal.Found.{AddsNext}
-use Rattle.jt_inherit.specs.declared.error.ChainError.TheVariants as error
 use Rattle.jt_inherit.proofs.Vocabulary.{Text, Namespace, IsNextFault, TooMany, names, files_view, namespaces_view}
 use Rattle.jt_inherit.proofs.Vocabulary.{ChainError, KeyedNeed, chosen, keyed_needs, keyed_view}
-use Rattle.jt_inherit.proofs.FollowStep.{many_turn, next_turn}
+use Rattle.jt_inherit.proofs.DiscoveryInvariant.{many_turn, next_turn}
+use Rattle.jt_inherit.specs.declared.error.ChainError.TheVariants as error
 use Rattle.jt_inherit.proofs.including.next_namespaces.Goals as goal
 
 -- The chain that is one too many, of the two errors that a number has.

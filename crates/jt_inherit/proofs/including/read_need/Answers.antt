@@ -1,6 +1,5 @@
-use Rattle.std.proofs.Common.{◌≡◌, ◌∷◌, [], List, Some, inl, inr, sym, ap, subst, ◌∙◌, arith, rules, string_bytes}
-use Rattle.jt_inherit.proofs.Vocabulary.{Text, HasRead, names, files_view, of_texts, indexed_among}
-use Rattle.jt_inherit.proofs.PathsGrow.{nothing_read}
+use Rattle.std.proofs.Common.{◌≡◌, ◌∷◌, [], Some, inl, ap, ◌∙◌, string_bytes}
+use Rattle.jt_inherit.proofs.Vocabulary.{Text, names, files_view, of_texts, indexed_among}
 use Rattle.jt_inherit.proofs.including.read_need.Goals as goal
 
 pub returns-in-Ok-clause-met : goal.returns-in-Ok-clause-met

@@ -1,12 +1,11 @@
-use Rattle.std.proofs.Common.{◌≡◌, ◌+◌, ◌++◌, ◌∷◌, [], true, List, take, sym, ap, subst, ◌∙◌, string_bytes}
-use Rattle.jt_inherit.proofs.Vocabulary.{AllByRecursion, IsMet, among, keyed_needs, keyed_view, needed, names, HasRead}
-use Rattle.jt_inherit.proofs.Vocabulary.{files_view, among_front, among_behind, of_texts, templates_at, KeyedNeed, AreIndices}
+use Rattle.std.proofs.Common.{◌≡◌, ◌+◌, ◌++◌, ◌∷◌, [], true, take, sym, ap, subst, ◌∙◌, string_bytes}
+use Rattle.jt_inherit.proofs.Vocabulary.{IsMet, among, keyed_needs, keyed_view, needed, names, files_view, among_front}
+use Rattle.jt_inherit.proofs.Vocabulary.{among_behind, of_texts, templates_at, KeyedNeed, AreIndices}
 use Rattle.jt_inherit.specs.internal.Found.{IsFaultAt}
 use Rattle.jt_inherit.specs.internal.Placing.{IsOfNeed}
-use Rattle.jt_inherit.proofs.FollowStep.{met_turn, met_read, needed_turn}
+use Rattle.jt_inherit.proofs.DiscoveryInvariant.{met_turn, met_read, needed_turn, has_needs}
 use Rattle.jt_inherit.proofs.PathsGrow.{read_on, templates_grow}
-use Rattle.jt_inherit.proofs.DiscoveryInvariant.{has_needs}
-use Rattle.jt_inherit.proofs.PlacedErrors.{unmet_need}
+use Rattle.jt_inherit.proofs.FindingsHold.{unmet_need}
 use Rattle.jt_inherit.proofs.including.read_needs.Goals as goal
 
 pub need_finding-requires : goal.need_finding-requires

@@ -1,5 +1,4 @@
 use Rattle.std.proofs.Common.{take, true}
-use Rattle.std.proofs.Common.{true}
 use Rattle.jt_inherit.proofs.Vocabulary.{AllByRecursion, HasRead, IsMet, files_view, keyed_needs, names, needed}
 use Rattle.jt_inherit.proofs.including.read_needs.Given as goal
 

@@ -1,8 +1,7 @@
 use Rattle.std.proofs.Common.{ℕ, ◌≡◌, [], List, refl, sym, ap, subst, ◌∙◌, Option, Bool}
 use Rattle.jt_inherit.proofs.Vocabulary.{IfOk, option_map, unwrap_or, next_of, graph_of, AreIndices, templates_at}
-use Rattle.jt_inherit.proofs.Vocabulary.{Namespace, Template, a_chain, namespace_at, files_view, TemplateFile, Use}
-use Rattle.jt_inherit.proofs.Vocabulary.{all_uses, leads_to, found_namespaces, found_templates, place_in, place_view}
-use Rattle.jt_inherit.proofs.Vocabulary.{tags, test_of}
+use Rattle.jt_inherit.proofs.Vocabulary.{Namespace, a_chain, namespace_at, Use, all_uses, leads_to, found_namespaces}
+use Rattle.jt_inherit.proofs.Vocabulary.{found_templates, place_in, place_view, tags, test_of}
 use Rattle.jt_inherit.proofs.ChainComplete.{at_number, way_at}
 use Rattle.jt_inherit.proofs.leading.leading_tag.Goals as goal
 

@@ -1,6 +1,5 @@
 use Rattle.std.proofs.Common.{◌≡◌, ◌++◌, drop, map, string_bytes}
-use Rattle.jt_inherit.proofs.Vocabulary.{templates_at, files_view}
-use Rattle.jt_inherit.proofs.Vocabulary.{names}
+use Rattle.jt_inherit.proofs.Vocabulary.{templates_at, files_view, names}
 use Rattle.jt_inherit.proofs.placing.names_along.Given as goal
 
 abbrev pub invariant-loop-index : goal.invariant-loop-index

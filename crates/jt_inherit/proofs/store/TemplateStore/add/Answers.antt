@@ -1,7 +1,7 @@
 use Rattle.std.proofs.Common.{◌≡◌, ◌++◌, ◌∷◌, [], Some, List, length, string_bytes, cond, sym, ap, subst, ◌∙◌, arith}
 use Rattle.jt_inherit.proofs.Vocabulary.{get_by_text, bytes_eq, btree_map_updates_text, Text, AreNumbers, names}
-use Rattle.jt_inherit.proofs.Vocabulary.{files_view, TemplateFile, repeated, once_more, of_texts, file_view, map_push, Template}
-use Rattle.jt_inherit.proofs.Vocabulary.{is_named}
+use Rattle.jt_inherit.proofs.Vocabulary.{files_view, TemplateFile, repeated, once_more, of_texts, file_view, map_push}
+use Rattle.jt_inherit.proofs.Vocabulary.{Template, is_named}
 use Rattle.jt_inherit.proofs.NumberTables.{file_put, pushed}
 use Rattle.jt_inherit.proofs.store.TemplateStore.add.Goals as goal
 
