@@ -56,7 +56,7 @@ all_rows P (w ∷ ws) f = (f 0 (omega arith), all_rows P ws (λ i lt. f (suc i) 
 
 pub ways_indexed : (given : SourceTexts) (ts : List Template) (hs : List Namespace) (ws ns : Graph)
     → AreFollowed given ts hs ws ns → AllByRecursion (AreIndices ts) ws
-ways_indexed given ts hs ws ns f = all_rows (AreIndices ts) ws (λ i lt. (f.each i lt).led.indices)
+ways_indexed given ts hs ws ns f = all_rows _ ws (λ i lt. (f.each i lt).led.indices)
 
 numbers_within : (hs : List Namespace) (js : List ℕ) (ns : List Namespace) → map (slice_get hs) js ≡ map Some ns
     → AllByRecursion (λ j. j < length hs) js
@@ -67,8 +67,8 @@ numbers_within hs (j ∷ js) (n ∷ ns) e = search (arith, rules, slice_get_with
 next_within : (given : SourceTexts) (ts : List Template) (hs : List Namespace) (ws ns : Graph)
     → AreFollowed given ts hs ws ns → AllByRecursion (λ js. AllByRecursion (λ j. j < length hs) js) ns
 next_within given ts hs ws ns f =
-    all_rows (λ js. AllByRecursion (λ j. j < length hs) js) ns
-    (λ i lt. numbers_within hs (next_of ns i) _ (f.each i (omega (arith, f.lens))).numbered)
+    all_rows _ ns
+    (λ i lt. numbers_within hs _ _ (f.each i (omega (arith, f.lens))).numbered)
 
 numbered_among : (hs : List Namespace) (j : ℕ) (js : List ℕ) (ns : List Namespace) → map (slice_get hs) js ≡ map Some ns
     → graph.among j js ≡ true → listed (namespace_at hs j) ns ≡ true
@@ -111,10 +111,9 @@ module _ {given : SourceTexts} {options : Options} {ts : List Template}
       let s = sources_in ts in
       subst (λ xs. (not (repeated xs) && (nat_lt (length xs) 65 && not (list_any (λ n. is_none (s n)) xs))) ≡ true)
       (sym (way_names options.autoescape w))
-      (and_from _
-      _ (ap not w.once)
+      (and_from _ _ (ap not w.once)
       (and_from _ _
-      (few_names (length (names us))
+      (few_names _
       (omega (arith, few_way options.autoescape w, length-map us (λ (t : Template). t.name))))
       (ap not (have_sources s us held))))
 
@@ -135,16 +134,14 @@ module _ {given : SourceTexts} {options : Options} {ts : List Template}
       shows known (
         h,
         r,
-        and_from (is_whole (sources_in ts) options.autoescape h)
-            (lacks_body (all_bodies (sources_in ts) options.autoescape h)) is_one
+        and_from _ _ is_one
             (subst (λ us. lacks_body (their_blocks options.autoescape us) ≡ true) (sym (whole_path w)) b),
       )
   one_breaks root r error.NoSuper b =
       shows known (
         h,
         r,
-        and_from (is_whole (sources_in ts) options.autoescape h)
-            (lacks_next (all_bodies (sources_in ts) options.autoescape h)) is_one
+        and_from _ _ is_one
             (subst (λ us. lacks_next (their_blocks options.autoescape us) ≡ true) (sym (whole_path w)) b),
       )
   one_breaks root r error.MacroTwice b =
@@ -161,14 +158,14 @@ module _ {given : SourceTexts} {options : Options} {ts : List Template}
         ap (list_any (λ n. is_none (sources_in ts n))) (asked_way options.autoescape w false)
         ∙ list_any-append (λ n. is_none (sources_in ts n)) (names (templates_at ts is))
         (needed false (needs_along ts is))
-        ∙ or_from _ _ (have_sources (sources_in ts) (templates_at ts is) held)
+        ∙ or_from _ _ (have_sources _ _ held)
         (needs_sources given ts (needs_along ts is) met)
 
     pub all_asked : (P : Text → Type 0) → AllByRecursion (λ t. P t.name) (templates_at ts is)
         → ((n : Need) → IsMet given (names ts) n → P n.name) → (x : Text)
         → among x (asked (sources_in ts) options.autoescape true h) ≡ true → P x
     all_asked P a f x i = ⊎_elim
-        (λ p. all_among P (templates_at ts is) x a p)
+        (λ p. all_among P _ x a p)
         (λ q. needs_met given ts P f (needs_along ts is) met x q)
         (among_cases of_texts x _ _
         (sym (ap (among x) (asked_way options.autoescape w true)) ∙ i))
@@ -230,7 +227,7 @@ module _ {given : SourceTexts} {options : Options} {entry : Text} {ts : List Tem
     within = subst (λ n. AllByRecursion (λ i. i < n) is) lens o.within
 
     pub in_order : InOrder (sources_in ts) (map (namespace_at hs) is)
-    in_order = names_in_order (sources_in ts) hs ns is f.once within includes_next o.ordered
+    in_order = names_in_order _ hs ns is f.once within includes_next o.ordered
 
     entry_in : listed (a_chain entry) (map (namespace_at hs) is) ≡ true
     entry_in = search (arith, rules, listed, namespace_at, first_namespace, named_among, lens, some)
@@ -245,7 +242,7 @@ module _ {given : SourceTexts} {options : Options} {entry : Text} {ts : List Tem
 
     ordered : {h : Namespace} → Reaches (sources_in ts) options.autoescape (a_chain entry) h
         → listed h (map (namespace_at hs) is) ≡ true
-    ordered r = reached_in_order (sources_in ts) options.autoescape (map (namespace_at hs) is) in_order r entry_in
+    ordered r = reached_in_order _ _ _ in_order r entry_in
 
     -- The path of a namespace.
     way_of : (h : Namespace) → listed h hs ≡ true
@@ -256,7 +253,7 @@ module _ {given : SourceTexts} {options : Options} {entry : Text} {ts : List Tem
         let n = number k.0 k.1 in (
           next_of ws k.0,
           subst (λ x. IsExtendsPath ts x (next_of ws k.0) None) k.2 n.led,
-          at_number (λ w. KeepAll (sources_in ts) options.autoescape (templates_at ts w)) ws k.0
+          at_number _ ws k.0
               (omega (arith, k.1, all)) kept,
           n.met,
         )
@@ -274,26 +271,23 @@ module _ {given : SourceTexts} {options : Options} {entry : Text} {ts : List Tem
     keeps = record {
       missing = λ x.
           let k = way_reached x.1 in
-          both_ways (list_any (λ n. is_none (sources_in ts n)) (asked (sources_in ts) options.autoescape false x.0))
-          (none_missing f.known k.1 k.3) x.2;
+          both_ways _ (none_missing f.known k.1 k.3) x.2;
       bad_name = λ x.
           let k = way_reached x.1 in
           x.2.2 (all_asked f.known k.1 k.3 IsName
-          (all_at_indices (λ t. IsName t.name) ts k.0 (all_named given options ts f.known.read.each)) named_met x.2.0
+          (all_at_indices _ ts k.0 (all_named given options ts f.known.read.each)) named_met x.2.0
           x.2.1);
       extends_cycle = λ x.
           let k = way_reached x.1 in
-          both_ways (repeated (names (templates_at ts k.0))) k.1.once
-          (repeated_up (sources_in ts) x.2.2 (Some x.2.0) (templates_at ts k.0)
+          both_ways _ k.1.once
+          (repeated_up _ x.2.2 _ _
           (subst (λ h. IsExtendsPath ts h k.0 None) x.2.1 k.1).leads x.2.3);
       too_long = λ x. ⊎_elim
           (λ y.
           let k = way_reached y.1 in
           let us = templates_at ts k.0 in
           let le : length us ≤ 64 = omega (arith, few_templates ts k.0, k.1.few) in
-          both_ways ((length (extends_path (sources_in ts) options.autoescape y.0) == 65)
-          && not (repeated (extends_path (sources_in ts) options.autoescape y.0)))
-          (ap (λ xs. (length xs == 65) && not (repeated xs)) (way_names options.autoescape k.1)
+          both_ways _ (ap (λ xs. (length xs == 65) && not (repeated xs)) (way_names options.autoescape k.1)
           ∙ too_few (length (names us)) (not (repeated (names us)))
           (omega (arith, le, length-map us (λ (t : Template). t.name)))) y.2)
           (λ y.
@@ -305,41 +299,28 @@ module _ {given : SourceTexts} {options : Options} {entry : Text} {ts : List Tem
           x;
       double_block = λ x.
           let k = way_reached x.1 in
-          both_ways (any_double options.autoescape (templates (sources_in ts) x.0))
-          (ap (any_double options.autoescape) (whole_path k.1) ∙ k.2.doubles) x.2;
+          both_ways _ (ap (any_double options.autoescape) (whole_path k.1) ∙ k.2.doubles) x.2;
       required_not_given = λ x.
           let k = way_reached x.1 in
-          both_ways (is_whole (sources_in ts) options.autoescape x.0
-          && lacks_body (all_bodies (sources_in ts) options.autoescape x.0))
-          (and_right _
-          _
-          (ap (λ us. lacks_body (their_blocks options.autoescape us)) (whole_path k.1) ∙ k.2.bodies)) x.2;
+          both_ways _ (and_right _ _ (ap (λ us. lacks_body (their_blocks options.autoescape us)) (whole_path k.1)
+          ∙ k.2.bodies)) x.2;
       no_super = λ x.
           let k = way_reached x.1 in
-          both_ways (is_whole (sources_in ts) options.autoescape x.0
-          && lacks_next (all_bodies (sources_in ts) options.autoescape x.0))
-          (and_right _
-          _
-          (ap (λ us. lacks_next (their_blocks options.autoescape us)) (whole_path k.1) ∙ k.2.next)) x.2;
+          both_ways _ (and_right _ _ (ap (λ us. lacks_next (their_blocks options.autoescape us)) (whole_path k.1)
+          ∙ k.2.next)) x.2;
       include_cycle =
-          λ x. no_cycle (sources_in ts) options.autoescape (map (namespace_at hs) is) in_order x.0 x.2.0 (ordered x.1)
+          λ x. no_cycle _ _ _ in_order x.0 x.2.0 (ordered x.1)
           x.2.1 x.2.2;
       macro_twice = λ x.
           let k = way_reached x.1 in
-          both_ways
-          (is_whole (sources_in ts) options.autoescape x.0 && repeated (map (λ g. g.0) (given_in (sources_in ts) x.0)))
-          (and_right _
-          _
-          (ap repeated (names_told f.known k.1) ∙ k.2.names)) x.2;
+          both_ways _ (and_right _ _ (ap repeated (names_told f.known k.1) ∙ k.2.names)) x.2;
       no_macro = λ x.
           let k = way_reached x.1 in
-          both_ways (any_lacks_macros (sources_in ts) (templates (sources_in ts) x.0))
-          (ap (any_lacks_macros (sources_in ts)) (whole_path k.1) ∙ k.2.macros_there) x.2.2;
+          both_ways _ (ap (any_lacks_macros (sources_in ts)) (whole_path k.1) ∙ k.2.macros_there) x.2.2;
       not_a_library = λ x.
           let k = way_reached x.1 in
           let l = (subst (λ h. IsExtendsPath ts h k.0 None) x.2.1 k.1).leads in
-          both_ways (is_some (sources_in ts x.2.0) && not (is_a_library (sources_in ts x.2.0)))
-          (and_right _ _
+          both_ways _ (and_right _ _
           (ap not (ap is_a_library l.source ∙ l.holds))) x.2.2;
     }
 
@@ -352,7 +333,7 @@ module _ {given : SourceTexts} {options : Options} {entry : Text} {ts : List Tem
     complete n x =
         let k = way_reached x.1 in
         all_asked f.known k.1 k.3 (λ x. (among x (names ts) ≡ true) ⊎ (given x ≡ None))
-        (all_at_indices (λ t. (among t.name (names ts) ≡ true) ⊎ (given t.name ≡ None)) ts k.0
+        (all_at_indices _ ts k.0
         (each_known ts (λ x p. p)))
         (λ m p. ⊎_elim (λ q. inl q) (λ q. inr q.2) p) n x.2
       where
@@ -377,8 +358,8 @@ module _ {given : SourceTexts} {options : Options} {entry : Text} {ts : List Tem
             → (rest : List Namespace) × (map (namespace_at hs) js ≡ a_chain entry ∷ rest)
         from [] p a w = absurd (cc)
         from (j ∷ js) p a w =
-            let e = first_in_order (sources_in ts) options.autoescape (namespace_at hs j) (map (namespace_at hs) js)
-            (a_chain entry) p a (reached (namespace_at hs j) (namespace_among hs j w.0)) in
+            let e = first_in_order _ _ _ _
+            _ p a (reached (namespace_at hs j) (namespace_among hs j w.0)) in
             (map (namespace_at hs) js, ap (λ x. x ∷ map (namespace_at hs) js) e)
 
     all_reached : (js : List ℕ) → AllByRecursion (λ i. i < length hs) js
@@ -417,7 +398,7 @@ module _ {given : SourceTexts} {options : Options} {entry : Text} {ts : List Tem
     few_namespaces =
         let b = begins in
         subst (λ os. 7 * length os ≤ chains_weight (sources_in ts) os + 7) (sym b.1)
-        (few_chains (sources_in ts) options.autoescape (a_chain entry) b.0
+        (few_chains _ _ _ b.0
         (subst (InOrder (sources_in ts)) b.1 in_order)
         (λ h a. reached h (in_namespaces h (subst (λ os. listed h os ≡ true) (sym b.1) a))))
 
@@ -446,8 +427,8 @@ search_done {given} {options} {entry} f root is all =
     record {
       found = found;
       indices =
-          ways_indexed given (found_templates f) (found_namespaces f) (found_paths f)
-          (graph_of f.next.items) is.followed;
+          ways_indexed given _ _ _
+          _ is.followed;
       paths = sym (length-map f.extends_paths.items (λ (v : Vec ℕ Global). v.items)) ∙ all;
       next = sym (length-map f.next.items (λ (v : Vec ℕ Global). v.items)) ∙ lens found all;
       closed = closed found all;

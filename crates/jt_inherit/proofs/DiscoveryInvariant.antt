@@ -54,9 +54,9 @@ both (n ∷ ns) ms a b = (a.0, both ns ms a.1 b)
 mutual
   by_statement : (s : trees.Stmt) → AreIncludes (includes_by include_need s)
   by_statement (trees.choose bs other) =
-      both (includes_under include_need bs) (includes_in include_need other) (by_branches bs) (by_body other)
+      both _ _ (by_branches bs) (by_body other)
   by_statement (trees.for_each line xs e c body other) =
-      both (includes_in include_need body) (includes_in include_need other) (by_body body) (by_body other)
+      both _ _ (by_body body) (by_body other)
   by_statement (trees.set_block line x body) = by_body body
   by_statement (trees.with_values line ps body) = by_body body
   by_statement (trees.filter_block line fs body) = by_body body
@@ -68,12 +68,12 @@ mutual
   by_body : (b : Body) → AreIncludes (includes_in include_need b)
   by_body trees.end = tt
   by_body (trees.stmt s rest) =
-      both (includes_by include_need s) (includes_in include_need rest) (by_statement s) (by_body rest)
+      both _ _ (by_statement s) (by_body rest)
 
   by_branches : (bs : Branches) → AreIncludes (includes_under include_need bs)
   by_branches trees.no_branches = tt
   by_branches (trees.branch line c body rest) =
-      both (includes_in include_need body) (includes_under include_need rest) (by_body body) (by_branches rest)
+      both _ _ (by_body body) (by_branches rest)
 
 pub all_includes : (ts : List Template) → AreIncludes (flat_map (λ t. includes_in include_need t.body) ts)
 all_includes [] = tt
@@ -227,8 +227,8 @@ pub chosen_turn : (ks : List Text) (ns : List KeyedNeed) (k : ℕ) (d : KeyedNee
     ≡ chosen ks (keyed_needs (take k ns)) ++ chosen ks (keyed_view (get_or ns k d) ∷ [])
 chosen_turn ks ns k d lt =
     ap (λ (l : List KeyedNeed). chosen ks (keyed_needs l)) (take_more ns k d lt)
-    ∙ ap (chosen ks) (views-append (take k ns) (get_or ns k d ∷ []))
-    ∙ chosen-append ks (keyed_needs (take k ns)) (keyed_view (get_or ns k d) ∷ [])
+    ∙ ap (chosen ks) (views-append _ _)
+    ∙ chosen-append ks _ _
 
 pub chosen_all : (ks : List Text) (ns : List KeyedNeed) (k : ℕ) (d : KeyedNeed) → k < length ns
     → chosen ks (keyed_needs ns) ≡ chosen ks (keyed_needs (take k ns))
@@ -236,8 +236,8 @@ pub chosen_all : (ks : List Text) (ns : List KeyedNeed) (k : ℕ) (d : KeyedNeed
 chosen_all ks ns k d lt =
     let n = get_or ns k d in
     ap (λ (l : List KeyedNeed). chosen ks (keyed_needs l)) (sym (take-append-drop k ns))
-    ∙ ap (chosen ks) (views-append (take k ns) (drop k ns))
-    ∙ chosen-append ks (keyed_needs (take k ns)) (keyed_needs (drop k ns))
+    ∙ ap (chosen ks) (views-append _ _)
+    ∙ chosen-append ks _ _
     ∙ ap (λ l. chosen ks (keyed_needs (take k ns)) ++ l)
     (ap (λ (l : List KeyedNeed). chosen ks (keyed_needs l)) (drop_more ns k d lt)
     ∙ chosen-append ks (keyed_view n ∷ []) (keyed_needs (drop (k + 1) ns)))
@@ -257,7 +257,7 @@ pub met_read : {given : SourceTexts} {options : Options} {ts us : List Template}
 met_read {given} {ts = ts} r ns a =
     subst (λ l. AllByRecursion (IsMet given l) ns)
     (sym (ap names r.grown ∙ map-append (λ (t : Template). t.name) ts r.more))
-    (met_grows given (names ts) (names r.more) ns a)
+    (met_grows given _ _ ns a)
 
 -- One include or import more.
 pub needed_turn : (ns : List KeyedNeed) (k : ℕ) (d : KeyedNeed) → k < length ns
@@ -265,7 +265,7 @@ pub needed_turn : (ns : List KeyedNeed) (k : ℕ) (d : KeyedNeed) → k < length
     ≡ needed true (keyed_needs (take k ns)) ++ (keyed_view (get_or ns k d)).name ∷ []
 needed_turn ns k d lt =
     ap (λ (l : List KeyedNeed). needed true (keyed_needs l)) (take_more ns k d lt)
-    ∙ ap (needed true) (views-append (take k ns) (get_or ns k d ∷ []))
+    ∙ ap (needed true) (views-append _ _)
     ∙ needed-append true (keyed_needs (take k ns)) (keyed_view (get_or ns k d) ∷ [])
 
 pub met_turn : (P : Need → Type 0) (ns : List KeyedNeed) (k : ℕ) (d : KeyedNeed) → k < length ns
@@ -288,7 +288,7 @@ pub next_turn : (old mid new : List Namespace) (ks : List Text) (ns : List Keyed
 next_turn old mid new ks ns k d is js lt p q =
     subst (AreNext old new (chosen ks (keyed_needs (take (k + 1) ns)))) (sym q.1)
     (subst (λ l. AreNext old new l (is ++ q.0)) (sym (chosen_turn ks ns k d lt))
-    (next_both old mid new (chosen ks (keyed_needs (take k ns))) (chosen ks (keyed_view (get_or ns k d) ∷ [])) is q.0 p
+    (next_both old mid new _ _ is q.0 p
     q.2))
 
 pub many_turn : (old mid : List Namespace) (ks : List Text) (ns : List KeyedNeed) (k : ℕ) (d : KeyedNeed)
@@ -297,13 +297,14 @@ pub many_turn : (old mid : List Namespace) (ks : List Text) (ns : List KeyedNeed
     → TooMany mid (chosen ks (keyed_view (get_or ns k d) ∷ [])) n → TooMany old (chosen ks (keyed_needs ns)) n
 many_turn old mid ks ns k d is n lt p f =
     subst (λ l. TooMany old l n) (sym (chosen_all ks ns k d lt))
-    (many_later old mid (chosen ks (keyed_needs (take k ns))) (chosen ks (keyed_view (get_or ns k d) ∷ []))
-    (chosen ks (keyed_needs (drop (k + 1) ns))) is n p f)
+    (many_later old mid _ _
+    _ is n p f)
 
 -- ---- an error of an included template
 
 pub asked_at : (all : Bool) (ns : List KeyedNeed) (k : ℕ) (d : KeyedNeed) → k < length ns
-    → (all || not (get_or ns k d).ignoring) ≡ true → among (keyed_view (get_or ns k d)).name (needed all (keyed_needs ns)) ≡ true
+    → (all || not (get_or ns k d).ignoring) ≡ true → among (keyed_view (get_or ns k d)).name (needed all
+    (keyed_needs ns)) ≡ true
 asked_at all [] k d lt e = absurd (omega arith)
 asked_at all (n ∷ ns) zero d lt e = search (arith, rules, among, needed, keyed_needs, reflexive)
 asked_at all (n ∷ ns) (suc k) d lt e =
@@ -383,7 +384,7 @@ module _ {ts : List Template} (e : Bool) {h : Namespace} {is : List ℕ} (w : Is
   way_names = by h w
     where
       by : (k : Namespace) → IsExtendsPath ts k is None → extends_path (sources_in ts) e k ≡ names (templates_at ts is)
-      by (a_chain n) v = names_to_root (sources_in ts) 65 (Some n) (templates_at ts is) (omega (arith, few_way)) v.leads
+      by (a_chain n) v = names_to_root _ 65 _ _ (omega (arith, few_way)) v.leads
       by (a_library n) v = ap (λ m. m ∷ []) (sym v.leads.named) ∙ sym (ap names v.leads.only)
 
   pub asked_way : (all : Bool)
@@ -439,8 +440,8 @@ module _ (given : SourceTexts) (options : Options) (ts us : List Template) (hs m
       ap (λ ks. chosen ks (needs_along (ts ++ us) w)) more_names
       ∙ ap (chosen (names ts ++ names us))
       (includes_grow ts us w f.led.indices (way_grows _ us _ _ _ f.led).indices)
-      ∙ chosen_same given (names ts) (names us)
-      (λ x e. sym (ap (among x) more_names) ∙ none_read given options (ts ++ us) x read e) (needs_along ts w) f.met
+      ∙ chosen_same given _ _
+      (λ x e. sym (ap (among x) more_names) ∙ none_read given options _ x read e) _ f.met
 
   followed_grows : (h : Namespace) (w n : List ℕ) → IsFollowed given ts hs h w n
       → IsFollowed given (ts ++ us) (hs ++ ms) h w n
@@ -451,10 +452,10 @@ module _ (given : SourceTexts) (options : Options) (ts us : List Template) (hs m
         led = grown;
         met = subst (λ l. AllByRecursion (IsMet given (names (ts ++ us))) l) (sym needs)
             (subst (λ ks. AllByRecursion (IsMet given ks) (needs_along ts w)) (sym more_names)
-            (met_grows given (names ts) (names us) (needs_along ts w) f.met));
+            (met_grows given _ _ _ f.met));
         numbered =
             subst (λ l. map (slice_get (hs ++ ms)) n ≡ map Some l) (sym (same_chosen f))
-            (numbers_grow hs ms n (chosen (names ts) (needs_along ts w)) f.numbered);
+            (numbers_grow hs ms n _ f.numbered);
       }
 
 next_front : (ws : List (List ℕ)) (w : List ℕ) (i : ℕ) → i < length ws → next_of (ws ++ w ∷ []) i ≡ next_of ws i
@@ -492,7 +493,7 @@ followed_more given options ts us hs ms read {ws} {ns} f {h} at w n g = record {
       (λ (l : length ws ≤ i).
       let e : i ≡ length ws = omega (arith, lt, length-append ws (w ∷ [])) in
       let there : namespace_at (hs ++ ms) i ≡ h = ap (namespace_at (hs ++ ms)) e
-      ∙ ap (λ o. unwrap_or o (a_chain [])) (at_front hs ms (length ws) h at) in
+      ∙ ap (λ o. unwrap_or o (a_chain [])) (at_front hs ms _ h at) in
       rw (there, next_last ws w i e, next_last ns n i (omega (arith, e, f.lens))) g)
       (cases_lt i (length ws));
 }
@@ -583,14 +584,14 @@ module _ {given : SourceTexts} {options : Options} {root : Text} {ts0 : List Tem
               (λ q. (h, reached_there, q)) (all_read.from x a);
           first =
               subst (λ l. slice_get l 0 ≡ Some (a_chain root)) (sym n.grown)
-              (at_front hs n.more 0 (a_chain root) f.first);
+              (at_front hs n.more 0 _ f.first);
           once = n.once;
           few = n.few;
           reached = λ x a. reached_from x (n.from x a);
           led = led_more n;
           followed =
               rw (all_read.grown, n.grown)
-              (followed_more given options ts0 all_read.more hs n.more read f.followed at is next
+              (followed_more given options ts0 _ hs n.more read f.followed at is next
               (rw (all_read.grown, n.grown) at here_followed));
         }
 

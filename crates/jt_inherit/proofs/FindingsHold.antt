@@ -57,7 +57,7 @@ pub chain_front : (s : Sources) (n : Text) (us : List Template) (o : Option Text
 chain_front s n us o le l =
     let k = 64 - length us in (
       flat_map (λ m. template m (s m)) (names_up s k o),
-      ap (flat_map (λ m. template m (s m))) (names_lead s 64 k (Some n) us o (omega arith) l)
+      ap (flat_map (λ m. template m (s m))) (names_lead s 64 k _ us o (omega arith) l)
           ∙ flat_map-append (λ m. template m (s m)) (names us) (names_up s k o)
           ∙ ap (λ z. z ++ flat_map (λ m. template m (s m)) (names_up s k o)) (templates_lead s (Some n) us o l),
     )
@@ -70,7 +70,7 @@ leads_on : (s : Sources) (o : Option Text) (us : List Template) (t : Template) (
 leads_on s None [] t vs p l = absurd l
 leads_on s (Some n) [] t vs p l = (refl, ap s l.0 ∙ l.1, l.2)
 leads_on s None (u ∷ us) t vs p l = absurd l
-leads_on s (Some n) (u ∷ us) t vs p l = leads_on s (extends_of u.body) us t vs p l.2
+leads_on s (Some n) (u ∷ us) t vs p l = leads_on s _ us t vs p l.2
 
 last_name : (x : Text) (us : List Template) (t : Template) → last_of x (names (us ++ t ∷ [])) ≡ t.name
 last_name x [] t = refl
@@ -202,7 +202,7 @@ module _ {given : SourceTexts} {options : Options} {root : Text} {ts : List Temp
       → HasUse (need_test n e) (all_uses us) → (o : Option TagPlace) → IsFirst (need_test n e) us o
       → (p : Option TagPlace) (x : Option ChainSubject) → NamedAt o n e x p → Says given root options p x e
   need_said {us} whole n e f used o first p x q =
-      let k = placed (need_test n e) (all_uses us) used o first in
+      let k = placed _ _ used o first in
       named_said n e f o (subst (AskedFor n e) (sym k.1) (subst (λ l. HasTag (need_test n e) l k.0) (sym whole) k.2))
       p x q
 
@@ -216,7 +216,7 @@ module _ {given : SourceTexts} {options : Options} {root : Text} {ts : List Temp
   tagged : (q : TagPlace) → HasTag (is_extends n) (templates_at ts is) q
       → HasTag (is_extends n) (templates (sources_in ts) (a_chain h)) q
   tagged q t =
-      let on = chain_front (sources_in ts) h (templates_at ts is) (Some n)
+      let on = chain_front _ h _ _
       (omega (arith, few_templates ts is, w.few)) w.leads in
       subst (λ l. HasTag (is_extends n) l q) (sym on.1) (tag_front (is_extends n) q (templates_at ts is) on.0 t)
 
@@ -265,7 +265,7 @@ module _ {given : SourceTexts} {options : Options} {root : Text} {ts : List Temp
       ring =
           let vs = templates_at ts (drop (k + 1) is) in
           let cut = split_at ts is k n on in
-          let leads = leads_on s (Some h) cut.0 cut.1 vs (Some n)
+          let leads = leads_on s _ cut.0 cut.1 vs _
           (subst (λ us. Leads s (Some h) us (Some n)) cut.3 w.leads) in (
             subst (λ z. names_up s (length vs + 1) (Some z) ≡ z ∷ names vs) cut.2
                 (names_lead s (length vs + 1) 0 (Some cut.1.name) (cut.1 ∷ vs) (Some n) (omega arith) leads
@@ -305,7 +305,7 @@ module _ {given : SourceTexts} {options : Options} {root : Text} {ts : List Temp
           let us = templates_at ts is in
           let len : length us ≡ 64 = all_templates ts is w.indices ∙ full in
           let up : extends_path s options.autoescape (a_chain h) ≡ names us ++ n ∷ [] =
-          names_lead s 65 1 (Some h) us (Some n) (omega (arith, len)) w.leads in
+          names_lead s 65 1 _ us _ (omega (arith, len)) w.leads in
           let count : length (names us) ≡ 64 = length-map us (λ (u : Template). u.name) ∙ len in
           parent_said error.ChainTooLong (v.Templates m) (λ e. absurd (omega (arith, len, ap length e)))
           (λ front_templates t last z tag named.
@@ -341,7 +341,7 @@ pub asked_turn : (vs ws : List Template) (t : Template) (n : Text) (o : Option T
     → IsParentAt t n o → IsAsked vs n o
 asked_turn vs ws t n None e a = absurd a
 asked_turn vs ws t n (Some p) e a =
-    (ws, t, e, a.1, subst (λ l. HasTag (is_extends n) l p) (sym e) (tag_last (is_extends n) p ws t a.2))
+    (ws, t, e, a.1, subst (λ l. HasTag (is_extends n) l p) (sym e) (tag_last _ p ws t a.2))
 
 -- A fact about a path and a name, by an equal path and name.
 pub same_path : (P : List ℕ → Text → Type 0) {is js : List ℕ} {n m : Text} → js ≡ is → m ≡ n → P js m → P is n
@@ -465,7 +465,7 @@ module _ {given : SourceTexts} {options : Options} {root : Text} {ts : List Temp
   next_finds same_chosen f q = ⊎_elim (λ m. no_memory f m)
       (λ t.
       let used = subst (λ l. HasUse (is_include t.0) (all_uses l)) (whole_path w)
-      (leads_used (sources_in ts) h (a_chain t.0) (ap (listed (a_chain t.0)) same_chosen ∙ t.1.led)) in
+      (leads_used _ h _ (ap (listed (a_chain t.0)) same_chosen ∙ t.1.led)) in
       record {
         broken = subst (λ z. Breaks z given root options) (sym t.2.error) (many_broken t.1);
         says =
@@ -487,7 +487,7 @@ module _ {given : SourceTexts} {options : Options} {entry : Text} {ts : List Tem
         i,
         lt,
         subst (λ vs. HasUse (leads_to (a_library n)) (all_uses vs)) (whole_path w)
-            (leads_used (sources_in ts) h (a_library n)
+            (leads_used _ h _
             (ap (listed (a_library n)) (included_is w) ∙ l.2)),
       ))
       (f.led (a_library n) a)
@@ -498,7 +498,7 @@ module _ {given : SourceTexts} {options : Options} {entry : Text} {ts : List Tem
       → Says given entry options p x error.NotALibrary
   import_said n a other None none x q =
       let l = led_there n a in
-      let found = placed (leads_to (a_library n)) (all_uses (templates_at ts (next_of ws l.0))) l.2 None
+      let found = placed _ _ l.2 None
       (sym (none l.0 l.1)) in
       let no = found.1 in
       absurd (cc)

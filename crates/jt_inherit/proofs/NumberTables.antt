@@ -81,7 +81,7 @@ pub file_put : (ps : List TemplateFile) (p : TemplateFile) (m n : Table) → Are
     → ((x : Text) → get_by_text n x ≡ cond (bytes_eq (string_bytes p.name) x) (Some (length ps)) (get_by_text m x))
     → AreNumbers is_named (ps ++ p ∷ []) n
 file_put ps p m n told new more =
-    numbers_more is_named ps m n (string_bytes p.name) p told (λ z. refl) (any_file (string_bytes p.name) ps ∙ new) more
+    numbers_more is_named ps m n (string_bytes p.name) p told (λ z. refl) (any_file _ ps ∙ new) more
 
 file_at : (x : Text) (i : ℕ) (ps : List TemplateFile)
     → unwrap_or (position_from (is_named x) i ps) (i + length ps) ≡ i + index_of (files_view ps) x
@@ -129,14 +129,14 @@ pub namespace_put : (b : Bool) (ks : List NamespaceKey) (k : NamespaceKey) (m n 
 namespace_put b ks k m n told is new more =
     let same_key : keyed b (string_bytes k.name) ≡ key_view k = ap (λ d. keyed d (string_bytes k.name)) (sym is) in
     numbers_more (is_kind b) ks m n (string_bytes k.name) k told
-    (λ z. ap (same_namespace (keyed b z)) (sym same_key) ∙ kind_same b z (string_bytes k.name))
-    (any_namespace (keyed b (string_bytes k.name)) ks ∙ ap (λ h. listed h (keys_view ks)) same_key ∙ new) more
+    (λ z. ap (same_namespace (keyed b z)) (sym same_key) ∙ kind_same b z _)
+    (any_namespace _ ks ∙ ap (λ h. listed h (keys_view ks)) same_key ∙ new) more
 
 pub namespace_kept : (b : Bool) (ks : List NamespaceKey) (k : NamespaceKey) (m : Table) → AreNumbers (is_kind b) ks m
     → k.is_library ≡ not b → AreNumbers (is_kind b) (ks ++ k ∷ []) m
 namespace_kept b ks k m told is =
     numbers_same (is_kind b) ks m k told (λ z.
-    ap (λ d. same_namespace (keyed b z) (keyed d (string_bytes k.name))) is ∙ kind_apart b z (string_bytes k.name))
+    ap (λ d. same_namespace (keyed b z) (keyed d (string_bytes k.name))) is ∙ kind_apart b z _)
 
 -- The number of chains after the insertion of a library or a chain.
 pub library_more : (old new : List Namespace) (k : NamespaceKey) → new ≡ old ++ key_view k ∷ [] → k.is_library ≡ true

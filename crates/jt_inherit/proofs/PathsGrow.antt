@@ -38,7 +38,7 @@ pub leads_grow : (s r : Sources) → Grows s r → (o : Option Text) (ts : List 
     → Leads r o ts p
 leads_grow s r g o [] p l = l
 leads_grow s r g None (t ∷ ts) p l = absurd l
-leads_grow s r g (Some n) (t ∷ ts) p l = (l.0, g n t.body l.1, leads_grow s r g (extends_of t.body) ts p l.2)
+leads_grow s r g (Some n) (t ∷ ts) p l = (l.0, g n t.body l.1, leads_grow s r g _ ts p l.2)
 
 -- A path with one template more.
 pub leads_more : (s : Sources) (o : Option Text) (ts : List Template) (t : Template) → Leads s o ts (Some t.name)
@@ -46,7 +46,7 @@ pub leads_more : (s : Sources) (o : Option Text) (ts : List Template) (t : Templ
 leads_more s None [] t l e = absurd (cc)
 leads_more s (Some n) [] t l e = search (arith, rules)
 leads_more s None (u ∷ ts) t l e = absurd l
-leads_more s (Some n) (u ∷ ts) t l e = (l.0, l.1, leads_more s (extends_of u.body) ts t l.2 e)
+leads_more s (Some n) (u ∷ ts) t l e = (l.0, l.1, leads_more s _ ts t l.2 e)
 
 -- ---- the names on a path
 
@@ -79,7 +79,7 @@ templates_lead s (Some n) (t ∷ ts) p l =
 pub templates_to_root : (s : Sources) (h : Text) (ts : List Template) → length ts ≤ 64 → Leads s (Some h) ts None
     → templates s (a_chain h) ≡ ts
 templates_to_root s h ts le l =
-    ap (flat_map (λ n. template n (s n))) (names_to_root s 64 (Some h) ts le l) ∙ templates_lead s (Some h) ts None l
+    ap (flat_map (λ n. template n (s n))) (names_to_root s 64 _ ts le l) ∙ templates_lead s (Some h) ts None l
 
 -- The next name is requested.
 pub next_asked : (s : Sources) (e all : Bool) (h : Text) (ts : List Template) (n : Text) → length ts ≤ 64
@@ -87,7 +87,7 @@ pub next_asked : (s : Sources) (e all : Bool) (h : Text) (ts : List Template) (n
 next_asked s e all h ts n le l =
     let k = 64 - length ts in
     let up : extends_path s e (a_chain h) ≡ names ts ++ names_up s (suc k) (Some n) =
-    names_lead s 65 (suc k) (Some h) ts (Some n) (omega arith) l in
+    names_lead s 65 (suc k) _ ts _ (omega arith) l in
     among_front of_texts n (extends_path s e (a_chain h))
     (flat_map (λ t. needs_in all t.body) (templates s (a_chain h)) ++ libraries s (a_chain h))
     (subst (λ xs. among n xs ≡ true) (sym up) (among_next of_texts n (names ts) (names_up s k (parent_of (s n)))))
@@ -201,7 +201,7 @@ last_at (y ∷ xs) x = last_at xs x
 
 from_grows : (s r : Sources) → Grows s r → (h : Namespace) (ts : List Template) (p : Option Text) → LeadsFrom s h ts p
     → LeadsFrom r h ts p
-from_grows s r g (a_chain n) ts p l = leads_grow s r g (Some n) ts p l
+from_grows s r g (a_chain n) ts p l = leads_grow s r g _ ts p l
 from_grows s r g (a_library n) ts p l = search (arith, rules)
 
 pub way_grows : (ts us : List Template) (h : Namespace) (is : List ℕ) (p : Option Text) → IsExtendsPath ts h is p
@@ -261,7 +261,7 @@ module _ {given : SourceTexts} {options : Options} {root : Text} {ts : List Temp
       let s = sources_in ts in
       let us = templates_at ts is in
       let up : names_up s (length us + 1) (Some h) ≡ names us ++ n ∷ [] =
-      names_lead s (length us + 1) 1 (Some h) us (Some n) refl w.leads in
+      names_lead s _ 1 _ us _ refl w.leads in
       shows known (a_chain h, r, (h, refl, length us + 1, ap repeated up ∙ comes_again of_texts n (names us) there))
 
   pub long_breaks : {is : List ℕ} {n : Text} → IsExtendsPath ts (a_chain h) is (Some n) → length is ≡ 64
@@ -271,7 +271,7 @@ module _ {given : SourceTexts} {options : Options} {root : Text} {ts : List Temp
       let us = templates_at ts is in
       let len : length us ≡ 64 = all_templates ts is w.indices ∙ full in
       let up : extends_path s options.autoescape (a_chain h) ≡ names us ++ n ∷ [] =
-      names_lead s 65 1 (Some h) us (Some n) (omega (arith, len)) w.leads in
+      names_lead s 65 1 _ us _ (omega (arith, len)) w.leads in
       shows known (inl (
         a_chain h,
         r,
@@ -306,7 +306,8 @@ pub file_there : (ps : List TemplateFile) (i : ℕ) {n : Text} {p : TemplateFile
     → slice_get (names (files_view ps)) i ≡ Some n → p ≡ get_or ps i p
     → (slice_get (files_view ps) i ≡ Some (file_view p)) × (string_bytes p.name ≡ n)
 file_there ps i {n} {p} at there =
-    let held : slice_get (files_view ps) i ≡ Some (file_view p) = search (arith, rules, map_at, file_view, slice_get_within,
+    let held : slice_get (files_view ps) i ≡ Some (file_view p) = search
+    (arith, rules, map_at, file_view, slice_get_within,
     length-map) in
     (held, search (arith, rules, string_bytes, name_of_slice, file_view))
 
@@ -446,7 +447,7 @@ pub names_more : (s r : Sources) (k : ℕ) (o : Option Text) → Carries s r (na
 names_more s r zero o g = ([], refl)
 names_more s r (suc k) None g = ([], refl)
 names_more s r (suc k) (Some n) g =
-    by (s n) refl (λ b e. names_more s r k (extends_of b) (carries_up s r k n b (front_carried s r k n g b e) g))
+    by (s n) refl (λ b e. names_more s r k _ (carries_up s r k n b (front_carried s r k n g b e) g))
   where
     by : (o : Option Body) → s n ≡ o → ((b : Body) → s n ≡ Some b
         → (rest : List Text) × (names_up r k (extends_of b) ≡ names_up s k (extends_of b) ++ rest))
@@ -464,7 +465,7 @@ pub templates_begin : (s r : Sources) (k : ℕ) (o : Option Text) → Carries s 
 templates_begin s r zero o g = ([], refl)
 templates_begin s r (suc k) None g = ([], refl)
 templates_begin s r (suc k) (Some n) g =
-    by (s n) refl (λ b e. templates_begin s r k (extends_of b) (carries_up s r k n b (front_carried s r k n g b e) g))
+    by (s n) refl (λ b e. templates_begin s r k _ (carries_up s r k n b (front_carried s r k n g b e) g))
   where
     by : (o : Option Body) → s n ≡ o
         → ((b : Body) → s n ≡ Some b → (rest : List Template)
@@ -485,7 +486,7 @@ up_more s m zero o le = (names_up s m o, refl)
 up_more s zero (suc k) o le = absurd (omega arith)
 up_more s (suc m) (suc k) None le = ([], refl)
 up_more s (suc m) (suc k) (Some n) le =
-    let more = up_more s m k (parent_of (s n)) (omega (arith, le)) in
+    let more = up_more s m k _ (omega (arith, le)) in
     (more.0, ap (λ l. n ∷ l) more.1)
 
 -- ---- namespaces of some names
@@ -610,8 +611,8 @@ module _ (s r : Sources) (e : Bool) (entry : Namespace)
       → ((n : Text) → among n xs ≡ true → among n ys ≡ true) → ((n : Text) → among n ys ≡ true → Asks r e entry n)
       → (n : Text) → among n (with_source s xs) ≡ true → among n (with_source r ys) ≡ true
   sourced h p xs ys f asks n a =
-      let k = among_passes (λ m. is_some (s m)) n xs a in
-      passes_among (λ m. is_some (r m)) n ys (f n k.0) (by (s n) refl k.1 (asks n (f n k.0)))
+      let k = among_passes _ n xs a in
+      passes_among _ n ys (f n k.0) (by (s n) refl k.1 (asks n (f n k.0)))
     where
       by : (o : Option Body) → s n ≡ o → is_some o ≡ true → Asks r e entry n → is_some (r n) ≡ true
       by None q t i = absurd (cc)
@@ -622,8 +623,8 @@ module _ (s r : Sources) (e : Bool) (entry : Namespace)
   included_more h p m a =
       let mine = flat_map (λ t. needs_in true t.body) (templates s h) in
       let ours = flat_map (λ t. needs_in true t.body) (templates r h) in
-      namespaces_among m (with_source s mine) (with_source s (libraries s h)) (with_source r ours)
-      (with_source r (libraries r h))
+      namespaces_among m _ _ _
+      _
       (sourced h p mine ours (needs_more true h p)
       (λ n q. (
         h,

@@ -50,17 +50,17 @@ module _ {given : SourceTexts} {options : Options} {entry : Text} {ts : List Tem
           let h = namespace_at hs last in
           let front = whole_path (number f all last e.0).led in
           let next = namespace_at hs first in
-          let used = subst (λ l. HasUse (leads_to next) (all_uses l)) front (leads_used (sources_in ts) h next e.1) in
+          let used = subst (λ l. HasUse (leads_to next) (all_uses l)) front (leads_used _ h next e.1) in
           let there = reached f all h (namespace_among hs last e.0) in
           let back = leads_namespaces first r.1 first r.2 in
           record {
             broken =
                 subst (λ z. Breaks z given entry options) (sym r.3.error)
-                (shows f.known (h, there, (next, e.1, led_reaches (sources_in ts) options.autoescape next _ h back)));
+                (shows f.known (h, there, (next, e.1, led_reaches _ _ next _ h back)));
             says =
                 subst (λ z. Says given entry options x.place x.subject z) (sym r.3.error)
                 (by x.subject r.3.subject
-                (λ n rest q. said_at f.known there error.IncludeCycle (v.Ring n rest) (leads_to next)
+                (λ n rest q. said_at f.known there _ _ _
                 (all_uses (templates_at ts (next_of ws last))) used x.place r.3.place
                 (λ z tag. shown f.known there error.IncludeCycle z (v.Ring n rest) (record {
                   next = next;

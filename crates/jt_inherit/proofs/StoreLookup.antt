@@ -92,7 +92,8 @@ library_known ts n e = sym (some_source ts n) ∙ by (sources_in ts n) refl
 
 pub library_read : {given : SourceTexts} {options : Options} {ts : List Template} → AreKnown given options ts
     → (n : Text) → is_no_library ts (a_library n) ≡ false
-    → {is : List ℕ} (i : ℕ) → is ≡ i ∷ [] → slice_get (names ts) i ≡ Some n → HasPath given options ts ts (a_library n) is
+    → {is : List ℕ} (i : ℕ) → is ≡ i ∷ [] → slice_get (names ts) i ≡ Some n → HasPath given options ts ts
+    (a_library n) is
 library_read {given} {options} {ts} known n library {is} i e at = record {
   read = nothing_read known;
   led = search (arith, rules, of_name, only_one, append-nil, slice_get_within, not-false, names);

@@ -149,7 +149,7 @@ tag_last test p ts t h = search (arith, rules, uses-append, some_behind, all_use
 pub tag_weaker : (test weak : Use → Bool) → ((u : Use) → test u ≡ true → weak u ≡ true) → (p : TagPlace)
     (ts : List Template) → HasTag test ts p → HasTag weak ts p
 tag_weaker test weak f p ts h =
-    some_weaker (IsAt test p) (IsAt weak p) (λ x q. (q.0, q.1, f x.1.made q.2)) (all_uses ts) h
+    some_weaker _ _ (λ x q. (q.0, q.1, f x.1.made q.2)) _ h
 
 -- The `extends` tag asks for its parent.
 pub extends_asks : (all : Bool) (n : Text) (u : Use) → is_extends n u ≡ true → asks all n u ≡ true
@@ -172,7 +172,7 @@ some_template P ps [] k p lt within at h = absurd (omega arith)
 some_template P ps (i ∷ is) zero p lt within at h =
     search (arith, rules, option_to_list, templates_at, files_view, map_at, file_view)
 some_template P ps (i ∷ is) (suc k) p lt within at h =
-    some_behind P (option_to_list (slice_get (files_view ps) i)) (templates_at (files_view ps) is)
+    some_behind P _ _
     (some_template P ps is k p (omega arith) within at h)
 
 pub twice_rule : (s : Sources) (ps : List TemplateFile) (is : List ℕ) (k : ℕ) (p : TemplateFile) (f : ChainFinding)
@@ -206,14 +206,14 @@ module _ (all : Bool) (n : Text) (test : Use → Bool)
     by_statement : (s : Stmt) (w : Enclosing) → among n (needs_by all s) ≡ true → ForSome (Passes test) (stmt_uses s w)
     by_statement (trees.include line m i c) w a = inl (passes m i c a)
     by_statement (trees.choose bs other) w a =
-        either test n (needs_under all bs) (needs_in all other) (branch_uses bs w) (body_uses other w) a
+        either test n _ _ _ _ a
         (λ p. by_branches bs w p) (λ q. by_body other w q)
     by_statement (trees.for_each line xs e c body other) w a =
-        some_behind (Passes test)
+        some_behind _
         (expr_uses e (place_at line w)
         ++ (bound xs (place_at line (inside_scope w)) ++ condition_uses c (place_at line w)))
-        (body_uses body (inside_loop w) ++ body_uses other w)
-        (either test n (needs_in all body) (needs_in all other) (body_uses body (inside_loop w)) (body_uses other w) a
+        _
+        (either test n _ _ _ _ a
         (λ p. by_body body (inside_loop w) p) (λ q. by_body other w q))
     by_statement (trees.set_block line x body) w a = inr (by_body body (inside_scope w) a)
     by_statement (trees.with_values line ps body) w a =
@@ -234,15 +234,15 @@ module _ (all : Bool) (n : Text) (test : Use → Bool)
     by_body : (b : Body) (w : Enclosing) → among n (needs_in all b) ≡ true → ForSome (Passes test) (body_uses b w)
     by_body trees.end w a = absurd (cc)
     by_body (trees.stmt s rest) w a =
-        either test n (needs_by all s) (needs_in all rest) (stmt_uses s w) (body_uses rest w) a
+        either test n _ _ _ _ a
         (λ p. by_statement s w p) (λ q. by_body rest w q)
 
     by_branches : (bs : Branches) (w : Enclosing) → among n (needs_under all bs) ≡ true
         → ForSome (Passes test) (branch_uses bs w)
     by_branches trees.no_branches w a = absurd (cc)
     by_branches (trees.branch line c body rest) w a =
-        either test n (needs_in all body) (needs_under all rest) (expr_uses c (place_at line w) ++ body_uses body w)
-        (branch_uses rest w) a
+        either test n _ _ _
+        _ a
         (λ p. some_behind _ _ _ (by_body body w p))
         (λ q. by_branches rest w q)
 
@@ -311,10 +311,10 @@ in_templates test n g f [] a = absurd (cc)
 in_templates test n g f (t ∷ ts) a =
     ⊎_elim
     (λ p.
-    some_front (λ (x : Text × Site). test x.1.made ≡ true) (uses_in t) (all_uses ts)
-    (with_name test t.name (body_uses t.body outside) (f t.body p)))
+    some_front _ _ _
+    (with_name test t.name _ (f t.body p)))
     (λ q.
-    some_behind (λ (x : Text × Site). test x.1.made ≡ true) (uses_in t) (all_uses ts)
+    some_behind _ _ _
     (in_templates test n g f ts q))
     (among_cases of_texts n _ _ a)
 
@@ -338,9 +338,9 @@ asked_used all n ts is w a =
     ∙ ap (λ l. flat_map (λ (t : Template). needs_in all t.body) us ++ l) (imports_needed all libs) in
     ⊎_elim
     (λ p.
-    in_templates (asks all n) n (needs_in all)
+    in_templates _ n _
     (λ b q. by_body all n (asks all n) (asks_include all n) b outside q) us p)
-    (λ p. in_templates (asks all n) n libraries_in
+    (λ p. in_templates _ n _
     (λ b q. libraries_by n (asks all n) (reflexive n) b outside q) us p)
     (among_cases of_texts n _ _ (sym (ap (among n) told) ∙ a))
 

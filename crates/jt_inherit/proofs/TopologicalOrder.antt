@@ -83,7 +83,7 @@ names_in_order s hs g [] once w n o = tt
 names_in_order s hs g (i ∷ is) once w n o = (
   ap not (named_apart hs i is once w.0 w.1 (not-true _ o.0)),
   (
-    all_in hs is (next_of g i) (included s (namespace_at hs i)) (n i w.0) o.1.0,
+    all_in hs is _ _ (n i w.0) o.1.0,
     names_in_order s hs g is once w.1 n o.1.1,
   ),
 )
@@ -102,7 +102,7 @@ next_in_order s (x ∷ os) k m o a i = by (same_namespace x k) refl (λ h. next_
     by : (b : Bool) → same_namespace x k ≡ b → (listed k os ≡ true → listed m os ≡ true) → listed m (x ∷ os) ≡ true
     by true e r =
         or_right (same_namespace x m) (listed m os)
-        (all_in_among (included s x) os m o.1.0 (ap (λ y. listed m (included s y)) (same x k e) ∙ i))
+        (all_in_among _ os m o.1.0 (ap (λ y. listed m (included s y)) (same x k e) ∙ i))
     by false e r = or_right _ _ (r (sym (ap (λ b. b || listed k os) e) ∙ a))
 
 -- A namespace that a member reaches is a member.

@@ -26,7 +26,8 @@ returns-then-namespace g c =
     c.in_ok-library_path.ensures in
     subst (λ h. HasPath (g.L.Library.sources c.args.loader.now.library.now) c.args.loader.now.options ts ts h
     c.in_ok-library_path.field-0.items) (sym key)
-    (library_read c.requires.known (string_bytes k.name) (sym (ap (is_no_library ts) key) ∙ c.requires.library) at.0 at.1
+    (library_read c.requires.known (string_bytes k.name) (sym (ap (is_no_library ts) key)
+    ∙ c.requires.library) at.0 at.1
     at.2)
 
 pub cycle_finding-requires-clause-start : goal.cycle_finding-requires-clause-start

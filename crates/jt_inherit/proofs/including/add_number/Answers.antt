@@ -20,7 +20,8 @@ returns-in_err-number-clause-refused c =
     let p = err_from_is_err_and c.from_residual-in_err-number.result c.from_residual-in_err-number.ensures.1 in
     rw (p.1, p.2)
     (subst (λ l. IsNextFault old l n.name e) (sym (one_known ks n
-    (indexed_among of_texts ks c.in-Some._index n.name (c.in-Some.ensures ∙ ap (λ (x : Text). Some x) c.deref.ensures))))
+    (indexed_among of_texts ks c.in-Some._index n.name (c.in-Some.ensures ∙ ap (λ
+    (x : Text). Some x) c.deref.ensures))))
     (subst (λ h. IsNextFault old (h ∷ []) n.name e) (same_key k c.args.need.now.namespace same.name same.kind)
     (subst (λ x. IsNextFault old (key_view k ∷ []) x e) same.name c.in_err-number.ensures.refused)))
 

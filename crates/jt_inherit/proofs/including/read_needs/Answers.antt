@@ -28,7 +28,8 @@ returns-in-Err-clause-refused g c =
     c.in-Err.ensures.refused)
     (subst (λ n. IsOfNeed (templates_at ts is) (keyed_view n).name c.in-Err.error f) c.need-item.is
     (subst (λ us. IsOfNeed us (string_bytes need.namespace.name) c.in-Err.error f)
-    (ap (λ us. templates_at us is) (c.in-Err.ensures.same ∙ r.grown) ∙ templates_grow ts r.more is c.requires.path.indices)
+    (ap (λ us. templates_at us is) (c.in-Err.ensures.same ∙ r.grown)
+    ∙ templates_grow ts r.more is c.requires.path.indices)
     c.in_ok-need_finding-in-Err.ensures))
 
 pub loop-need-preserved : goal.loop-need-preserved

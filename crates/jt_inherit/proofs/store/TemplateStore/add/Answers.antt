@@ -23,7 +23,8 @@ invariant_of-self-2 c =
     ∙ ap (λ n. cond (bytes_eq (string_bytes p.name) x) (Some n) (get_by_text s.indices x)) number in
     record {
       once =
-          ap (λ (l : List TemplateFile). repeated (names (files_view l))) all ∙ ap (λ (ts : List Template). repeated (names ts)) (map_push file_view ps p)
+          ap (λ (l : List TemplateFile). repeated (names (files_view l))) all ∙ ap (λ (ts : List Template). repeated
+          (names ts)) (map_push file_view ps p)
           ∙ ap repeated (map_push (λ (t : Template). t.name) (files_view ps) (file_view p))
           ∙ once_more of_texts (string_bytes p.name) (names (files_view ps)) s.once c.requires;
       indexed = subst (λ (l : List TemplateFile). AreNumbers is_named l c.insert.new.self) (sym all)
