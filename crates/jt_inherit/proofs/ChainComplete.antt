@@ -4,21 +4,21 @@ use Rattle.std.proofs.Common.{◌≡◌, ◌≢◌, ◌↔◌, ℕ, zero, suc, �
 use Rattle.std.proofs.Common.{List, [], ◌∷◌, length, map, refl, sym, ap, subst, ◌∙◌, arith, inl, inr, ◌⊎◌, ⊎_elim, Some}
 use Rattle.std.proofs.Common.{None, Vec, Global, get_or, rules}
 use Rattle.jt_inherit.proofs.Vocabulary.{names, slice_get_within, length-map, append-nil, map-map, slice_get, unwrap_or}
-use Rattle.jt_inherit.proofs.Vocabulary.{AllByRecursion, list_any, is_some, is_none, bytes_eq, cases_lt, nat_tests}
-use Rattle.jt_inherit.proofs.Vocabulary.{Graph, next_of, graph_of, Options, among, repeated, Text, AreIndices}
-use Rattle.jt_inherit.proofs.Vocabulary.{templates_at, needs_along, Namespace, a_chain, listed, is_a_library, Template}
-use Rattle.jt_inherit.proofs.Vocabulary.{templates, sources_in, SourceTexts, IsChain, lacks_body, lacks_next, chains_of}
-use Rattle.jt_inherit.proofs.Vocabulary.{AreFound, IsFound, found_templates, found_namespaces, root_of, IsFollowed}
-use Rattle.jt_inherit.proofs.Vocabulary.{AreFollowed, IsMet, found_paths, listed_at, listed_view, included, InOrder}
-use Rattle.jt_inherit.proofs.Vocabulary.{KeepAll, BreakOne, their_blocks, their_names, any_double, any_lacks_macros}
-use Rattle.jt_inherit.proofs.Vocabulary.{IsName, Need, needed, namespace_at, IsFinding, Breaks, ChainFinding, Asks}
-use Rattle.jt_inherit.proofs.Vocabulary.{Reaches, asked, extends_path, is_whole, KeepsRules, templates_weight}
-use Rattle.jt_inherit.proofs.Vocabulary.{chains_weight, templates_len, chains_len, Seen, AreKnown, IsExtendsPath}
-use Rattle.jt_inherit.proofs.Vocabulary.{Discovery, ChainError, map_at, of_texts, same, chain_among, of_namespaces}
-use Rattle.jt_inherit.proofs.Vocabulary.{among_cases, no_more, indexed_among, and_from, and_right, both_ways}
-use Rattle.jt_inherit.proofs.Vocabulary.{list_any-append, not-true, or_from, or_right}
+use Rattle.jt_inherit.proofs.Vocabulary.{AllByRecursion, list_any, is_none, cases_lt, nat_tests, Graph, next_of}
+use Rattle.jt_inherit.proofs.Vocabulary.{graph_of, Options, among, repeated, Text, AreIndices, templates_at}
+use Rattle.jt_inherit.proofs.Vocabulary.{needs_along, Namespace, a_chain, listed, is_a_library, Template, templates}
+use Rattle.jt_inherit.proofs.Vocabulary.{sources_in, SourceTexts, IsChain, lacks_body, lacks_next, chains_of, AreFound}
+use Rattle.jt_inherit.proofs.Vocabulary.{IsFound, found_templates, found_namespaces, root_of, IsFollowed, AreFollowed}
+use Rattle.jt_inherit.proofs.Vocabulary.{IsMet, found_paths, listed_at, listed_view, included, InOrder, KeepAll}
+use Rattle.jt_inherit.proofs.Vocabulary.{BreakOne, their_blocks, their_names, any_double, any_lacks_macros, IsName}
+use Rattle.jt_inherit.proofs.Vocabulary.{Need, needed, namespace_at, IsFinding, Breaks, ChainFinding, Asks, Reaches}
+use Rattle.jt_inherit.proofs.Vocabulary.{asked, is_whole, KeepsRules, templates_weight, chains_weight, templates_len}
+use Rattle.jt_inherit.proofs.Vocabulary.{chains_len, Seen, AreKnown, IsExtendsPath, Discovery, ChainError, map_at}
+use Rattle.jt_inherit.proofs.Vocabulary.{of_texts, same, chain_among, of_namespaces, among_cases, no_more}
+use Rattle.jt_inherit.proofs.Vocabulary.{indexed_among, and_from, and_right, both_ways, list_any-append, not-true}
+use Rattle.jt_inherit.proofs.Vocabulary.{or_from, or_right}
 use Rattle.jt_graph.specs.Graph.{IsClosed, IsOrder}
-use Rattle.jt_chains.specs.Chain.{all_bodies, given as given_in}
+use Rattle.jt_chains.specs.Chain.{given as given_in}
 use Rattle.jt_inherit.specs.internal.Found.{AllKeep, IsDone}
 use Rattle.jt_chains.specs.Includes.{begins_with_chain}
 use Rattle.jt_chains.specs.TemplateFiles.{namespace_view, AreWhole}

@@ -1,4 +1,5 @@
--- An entry has one chain, up to the order of its parts, and none if a rule is broken.
+-- An entry has one chain, up to the order of its parts, and none if a rule is broken. The rule is broken in each
+-- reading.
 use Rattle.std.proofs.Common.{◌≡◌, ◌≢◌, ◌↔◌, Bool, true, false, List, [], ◌∷◌, refl, sym, ap, subst, ◌∙◌, ⊎_elim}
 use Rattle.std.proofs.Common.{Option, Some, None, string_bytes, arith, rules}
 use Rattle.jt_chains.specs.View.{sources_of}

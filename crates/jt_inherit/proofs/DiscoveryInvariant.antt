@@ -1,8 +1,8 @@
--- The facts about followed chains and libraries stay true when more is found.
+-- One step of the search, and what stays true of followed chains and libraries when more is found.
 use Rattle.std.proofs.Common.{◌≡◌, Bool, true, false, List, [], ◌∷◌, ◌++◌, map, refl, ap, arith, rules, ℕ, zero, suc}
 use Rattle.std.proofs.Common.{◌+◌, ◌<◌, ◌≤◌, not, cond, ◌||◌, length, take, drop, get_or, sym, subst, ◌∙◌, inl, inr}
 use Rattle.std.proofs.Common.{◌⊎◌, ⊎_elim, Some, length-append, Option, None, Vec, Global}
-use Rattle.jt_chains.specs.Chain.{of_a_library, imports_in, all_given_from}
+use Rattle.jt_chains.specs.Chain.{imports_in, all_given_from}
 use Rattle.jt_chains.specs.Includes.{includes_by, includes_under}
 use Rattle.jt_inherit.proofs.Vocabulary.{flat_map, filter, AllByRecursion, map-append, Text, Body, Branches, among}
 use Rattle.jt_inherit.proofs.Vocabulary.{Sources, Namespace, a_chain, a_library, Template, holds_macros, libraries_in}
@@ -618,5 +618,8 @@ pub has_needs : {given : SourceTexts} {options : Options} {ts us : List Template
 has_needs {ts = ts} {us} {p = p} h r =
     let is = p.extends_path.items in
     let grown : AreIndices us is = subst (λ l. AreIndices l is) (sym r.grown) (indices_grow ts r.more is h.indices) in
-    record { indices = grown; told = h.told ∙ sym (ap (λ l. needs_along l is) r.grown
-        ∙ includes_grow ts r.more is h.indices (indices_grow ts r.more is h.indices)) }
+    record {
+      indices = grown;
+      told = h.told ∙ sym (ap (λ l. needs_along l is) r.grown
+          ∙ includes_grow ts r.more is h.indices (indices_grow ts r.more is h.indices));
+    }

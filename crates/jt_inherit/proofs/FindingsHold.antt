@@ -1,5 +1,5 @@
--- The findings of the search hold: those of one rule, of an included or imported template, of a chain that is one too
--- many, and of a library that holds something other than macros.
+-- What a finding says holds in each chain that reaches the tag: findings of the name of a template, of a rule, of a
+-- chain that is one too many, and of a library that holds something other than macros.
 use Rattle.std.proofs.Common.{rules, ◌≡◌, ℕ, suc, ◌+◌, ◌-◌, ◌<◌, ◌≤◌, Bool, true, false, List, [], ◌∷◌, ◌++◌, length}
 use Rattle.std.proofs.Common.{String, Global, drop, get_or, map, zero, refl, sym, ap, subst, ◌∙◌, arith, inl, ◌⊎◌}
 use Rattle.std.proofs.Common.{Option, Some, None, string_bytes, ⊎_elim, not, inr}

@@ -1,4 +1,4 @@
--- Tables of numbers, and the sets of names and of namespaces over them: lookup, and the effect of an insertion.
+-- Tables of the numbers of templates and of namespaces: lookup, and the effect of an insertion.
 use Rattle.std.proofs.Common.{◌≡◌, ℕ, suc, ◌+◌, Bool, true, false, cond, if◌then◌else◌, List, [], ◌∷◌, ◌++◌, length}
 use Rattle.std.proofs.Common.{refl, sym, ap, ◌∙◌, arith, Some, None, rules, Option, string_bytes, MatchOption, not}
 use Rattle.std.proofs.Common.{length-append, ◌||◌}

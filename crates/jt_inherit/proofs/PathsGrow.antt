@@ -1,4 +1,4 @@
--- Paths that are extended, and the facts about them that stay true.
+-- Paths that are extended: their names, sources and weights, and what stays true of them when more is read.
 use Rattle.std.proofs.Common.{◌≡◌, ℕ, zero, suc, ◌+◌, ◌-◌, ◌<◌, ◌≤◌, ◌==◌, Bool, true, false, not, ◌&&◌, List, [], ◌∷◌}
 use Rattle.std.proofs.Common.{◌++◌, length, drop, get_or, refl, sym, ap, subst, ◌∙◌, arith, inl, inr, ◌⊎◌, ⊎_elim}
 use Rattle.std.proofs.Common.{Option, Some, None, length-append, string_bytes, rules, nat_lt, map, ◌||◌}
@@ -306,9 +306,14 @@ pub file_there : (ps : List TemplateFile) (i : ℕ) {n : Text} {p : TemplateFile
     → slice_get (names (files_view ps)) i ≡ Some n → p ≡ get_or ps i p
     → (slice_get (files_view ps) i ≡ Some (file_view p)) × (string_bytes p.name ≡ n)
 file_there ps i {n} {p} at there =
-    let held : slice_get (files_view ps) i ≡ Some (file_view p) = search
-    (arith, rules, map_at, file_view, slice_get_within,
-    length-map) in
+    let held : slice_get (files_view ps) i ≡ Some (file_view p) = search (
+      arith,
+      rules,
+      map_at,
+      file_view,
+      slice_get_within,
+      length-map,
+    ) in
     (held, search (arith, rules, string_bytes, name_of_slice, file_view))
 
 -- The template of the next name was read and is appended to a path: the path goes on to the parent.

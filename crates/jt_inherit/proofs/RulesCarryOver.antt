@@ -5,15 +5,15 @@ use Rattle.std.proofs.Common.{Some, None, length-append, rules}
 use Rattle.jt_chains.specs.Chain.{given, imports}
 use Rattle.jt_chains.specs.Rules.{InSomeChain, BadName, ExtendsCycle, ChainTooLong, DoubleBlock, RequiredNotGiven}
 use Rattle.jt_chains.specs.Rules.{NoSuper, IncludeCycle, MacroTwice, NoMacro, NotALibrary}
-use Rattle.jt_inherit.proofs.Vocabulary.{flat_map, list_any, is_none, bytes_eq, append-nil, map-append, cases_lt}
-use Rattle.jt_inherit.proofs.Vocabulary.{nat_tests, among, repeated, Text, Body, Sources, Namespace, a_chain, a_library}
-use Rattle.jt_inherit.proofs.Vocabulary.{Template, template, templates, library_template, is_a_library, extends_of}
-use Rattle.jt_inherit.proofs.Vocabulary.{parent_of, names_up, blocks_in, MacroBody, macros, own, libraries_in}
-use Rattle.jt_inherit.proofs.Vocabulary.{lacks_body, lacks_next, their_blocks, their_macros, any_double}
-use Rattle.jt_inherit.proofs.Vocabulary.{any_lacks_macros, names_from, imported_names, Asks, Reaches, here, is_whole}
-use Rattle.jt_inherit.proofs.Vocabulary.{extends_path, of_texts, reflexive, among_behind, among_front, and_from}
-use Rattle.jt_inherit.proofs.Vocabulary.{and_parts, flat_map-append, list_any-append, not-true, or_from, or_left}
-use Rattle.jt_inherit.proofs.Vocabulary.{or_parts, or_right}
+use Rattle.jt_inherit.proofs.Vocabulary.{flat_map, list_any, is_none, append-nil, map-append, cases_lt, nat_tests}
+use Rattle.jt_inherit.proofs.Vocabulary.{among, repeated, Text, Body, Sources, Namespace, a_chain, a_library, Template}
+use Rattle.jt_inherit.proofs.Vocabulary.{template, templates, library_template, is_a_library, extends_of, parent_of}
+use Rattle.jt_inherit.proofs.Vocabulary.{names_up, blocks_in, MacroBody, macros, own, libraries_in, lacks_body}
+use Rattle.jt_inherit.proofs.Vocabulary.{lacks_next, their_blocks, their_macros, any_double, any_lacks_macros}
+use Rattle.jt_inherit.proofs.Vocabulary.{names_from, imported_names, Asks, Reaches, here, is_whole, extends_path}
+use Rattle.jt_inherit.proofs.Vocabulary.{of_texts, reflexive, among_behind, among_front, and_from, and_parts}
+use Rattle.jt_inherit.proofs.Vocabulary.{flat_map-append, list_any-append, not-true, or_from, or_left, or_parts}
+use Rattle.jt_inherit.proofs.Vocabulary.{or_right}
 use Rattle.jt_inherit.proofs.PathsGrow.{Carries, carries_up, front_carried, up_more, up_some, on_path, on_first}
 use Rattle.jt_inherit.proofs.PathsGrow.{on_libraries, way_more, namespace_more, included_more, reaches_more}
 use Rattle.jt_inherit.proofs.PathsGrow.{reaches_next, asked_more}

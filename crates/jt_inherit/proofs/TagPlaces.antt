@@ -1,4 +1,4 @@
--- The places of tags: what the first ones show.
+-- The places of tags: what the first ones show, and that whatever statements name has a use.
 use Rattle.std.proofs.Common.{rules, ◌≡◌, ℕ, zero, suc, ◌+◌, ◌<◌, Bool, true, false, cond, List, [], ◌∷◌, ◌++◌, length}
 use Rattle.std.proofs.Common.{drop, get_or, refl, sym, ap, subst, ◌∙◌, arith, inl, inr, ⊎_elim, Option, Some, not, ◌||◌}
 use Rattle.std.proofs.Common.{◌&&◌, map, None, if◌then◌else◌, string_bytes, add-one}
@@ -20,8 +20,7 @@ use Rattle.jt_inherit.proofs.Vocabulary.{of_texts, reflexive, AllByRecursion, ca
 use Rattle.jt_inherit.proofs.PathsGrow.{templates_turn, among_passes, chains_listed, libraries_listed}
 use Rattle.jt_inherit.specs.internal.Placing.{IsParentAt, extends_at}
 use Rattle.jt_uses.specs.Uses.{branch_uses, stmt_uses, expr_uses, pair_uses, keys_bound, bound, filter_call_uses}
-use Rattle.jt_uses.specs.Uses.{parameters_bound, macros_bound, condition_uses, place_at, inside_scope, inside_loop}
-use Rattle.jt_uses.specs.Uses.{inside_block, inside_macro}
+use Rattle.jt_uses.specs.Uses.{condition_uses, place_at, inside_scope, inside_loop, inside_block, inside_macro}
 use Rattle.jt_uses.specs.declared.site.Enclosing.{Enclosing}
 use Rattle.jt_chains.specs.Includes.{need}
 use Rattle.jt_inherit.proofs.DiscoveryInvariant.{includes_told, imports_needed}

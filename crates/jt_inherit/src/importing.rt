@@ -8,7 +8,8 @@ ghost use Rattle.jt_chains.specs.Rules as rules;
 ghost use Rattle.jt_inherit.specs.internal.RuleTests as spec;
 ghost use Rattle.jt_inherit.specs.internal.RuleTests.{names_from, imported_names, their_names};
 ghost use Rattle.jt_inherit.specs.internal.Breaking.{Misses, lacks};
-ghost use Rattle.jt_inherit.specs.internal.Given.{IsGiven, macros_held, its_files, its_sources, its_templates};
+ghost use Rattle.jt_inherit.specs.internal.Given.{IsGiven, macros_held, its_files, its_sources};
+ghost use Rattle.jt_inherit.specs.internal.Given.{its_templates};
 ghost use Rattle.jt_ast.specs.Texts.{texts};
 ghost use Rattle.jt_inherit.specs.internal.SetView.{AddsTexts};
 

@@ -1,6 +1,6 @@
 //! Defines a set of namespaces that keeps the order of insertion. The names come from untrusted
-//! templates, so the set uses ordered maps. No choice of names makes an ordered map slow, as it could
-//! a hash table.
+//! templates, so the set uses ordered maps. No choice of names makes an ordered map slow, as it
+//! could a hash table.
 
 ghost use Rattle.std.specs.Prelude.{◌≡◌, ◌^◌, ◌<◌, ◌++◌, ◌∷◌, [], false, true, length, slice_get};
 ghost use Rattle.std.specs.Prelude.{Some, OnOk};

@@ -25,7 +25,8 @@ pub(crate) struct TemplateStore {
 }
 
 impl TemplateStore {
-    ghost use Rattle.std.specs.Prelude.{◌++◌, ◌∷◌, [], slice_get, string_bytes, Some, OnErr, OnOk, IfOk, IfErr};
+    ghost use Rattle.std.specs.Prelude.{◌++◌, ◌∷◌, [], slice_get, string_bytes, Some};
+    ghost use Rattle.std.specs.Prelude.{OnErr, OnOk, IfOk, IfErr};
     ghost use Rattle.jt_ast.specs.Texts.{among};
     ghost use Rattle.jt_chains.specs.Along.{blocks_along, body_at, macros_along};
     ghost use Rattle.jt_chains.specs.Chain.{blocks_in};

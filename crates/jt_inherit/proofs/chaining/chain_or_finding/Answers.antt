@@ -30,7 +30,8 @@ invariant_of-result g c =
       begins = its_begins d kept o ks made;
       order = its_order d kept o ks made;
       whole = its_whole d kept o ks made;
-      indexed = files_at c.in_ok-found.found.store.files.items c.in_ok-found.found.store.indices c.in_ok-found.found.store.indexed;
+      indexed = files_at c.in_ok-found.found.store.files.items c.in_ok-found.found.store.indices
+          c.in_ok-found.found.store.indexed;
     }
 
 pub returns-clause-chained : goal.returns-clause-chained
