@@ -17,7 +17,7 @@ use Rattle.jt_bind.specs.internal.{unit_of, cenv_in, order_in, namespace_in, cal
 use Rattle.jt_bind.specs.internal.{row_in, asides_in, Bor, exprs_view, Expr, texts, count, keywords, Constant, SlotExpr}
 use Rattle.jt_bind.specs.internal.{absent, invoke, SRow, item, variable, local, slot_view, Table, slot_in, of_body}
 use Rattle.jt_bind.specs.internal.{unit, read_from, invoked, invoked_body, locals_from, reads, first_locals, StaticEnv}
-use Rattle.jt_bind.proofs.Vocabulary.{ap, ◌∙◌, arith, inl, inr, rules, add-one, sym, drop_more}
+use Rattle.jt_bind.proofs.Vocabulary.{ap, ◌∙◌, arith, inl, inr, rules, add-one, drop_more}
 
 -- ---- the namespace of a called macro
 
@@ -115,6 +115,4 @@ reads_next table ks i d s lt e = search (arith, rules, drop_more)
 -- One more local is read.
 pub locals_next : (xs : List Text) (i : ℕ) → i < length xs
     → item (variable (local i)) (first_locals (i + 1) (drop (i + 1) xs)) ≡ first_locals i (drop i xs)
-locals_next xs i lt =
-    ap (λ (n : ℕ). item (variable (local i)) (first_locals n (drop (i + 1) xs))) (add-one i)
-    ∙ sym (ap (first_locals i) (drop_more xs i [] lt))
+locals_next xs i lt = rw (drop_more xs i [] lt, add-one) refl

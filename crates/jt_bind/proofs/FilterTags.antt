@@ -46,10 +46,8 @@ pub filters_next : (s : Chains) (senv : StaticEnv) (fs : List FilterCall) (i : �
     → filters_in s (filter_call_view f ∷ []) senv (filters_in s (filter_calls_view (take i fs)) senv e)
     ≡ filters_in s (filter_calls_view (take (i + 1) fs)) senv e
 filters_next s senv fs i f e lt is =
-    sym (filters_push s senv (filter_calls_view (take i fs)) (filter_call_view f) e)
-    ∙ ap (λ l. filters_in s l senv e) (sym (map-append filter_call_view (take i fs) (f ∷ [])))
-    ∙ ap (λ (g : FilterCall). filters_in s (filter_calls_view (take i fs ++ g ∷ [])) senv e) is
-    ∙ ap (λ (l : List FilterCall). filters_in s (filter_calls_view l) senv e) (sym (take_more fs i f lt))
+    rw (take_more fs i f lt, ← is, map-append)
+    (sym (filters_push s senv (filter_calls_view (take i fs)) (filter_call_view f) e))
 
 -- One more filter of a resolved value.
 pub filter_placed : (k : NaryOp) (c : SlotExpr Constant) (es : SRow Constant) (x : SlotExpr ℕ) (row : List Entry)

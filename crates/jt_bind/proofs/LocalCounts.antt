@@ -4,9 +4,7 @@ use Rattle.jt_ir.specs.View.{body_view}
 use Rattle.jt_ir.proofs.ExpressionViews.{row_left}
 use Rattle.jt_ir.specs.Slots as slots
 use Rattle.jt_ir.specs.declared.program.Slot as code_slot
-use Rattle.jt_ir.specs.declared.program.SlotExpr as code
 use Rattle.jt_ir.specs.declared.program.SlotStmt as code_stmt
-use Rattle.jt_ir.specs.declared.program.SlotStmt.TheVariants as s
 use Rattle.jt_bind.specs.internal.{entry_front, up_to, Reaches, ◌≡◌, ℕ, ◌+◌, ◌<◌, List, [], ◌∷◌, length, map, drop}
 use Rattle.jt_bind.specs.internal.{get_or, refl, max, Option, Some, None, option_map, Text, slots_locals, expr_locals}
 use Rattle.jt_bind.specs.internal.{row_locals, condition_locals, stmt_locals, body_locals, Constant, placed_expr}

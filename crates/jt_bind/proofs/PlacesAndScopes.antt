@@ -83,10 +83,7 @@ framed_more : (rs : List (Rc NameScope Global)) (i : ℕ) (r : Rc NameScope Glob
     → framed (map (λ f. f.value) (take (i + 1) rs)) t
     ≡ bound_table (texts (get_or rs i r).value.names.items) (get_or rs i r).value.first
     (framed (map (λ f. f.value) (take i rs)) t)
-framed_more rs i r t lt =
-    ap (λ (l : List (Rc NameScope Global)). framed (map (λ f. f.value) l) t) (take_more rs i r lt)
-    ∙ ap (λ l. framed l t) (map-append (λ (f : Rc NameScope Global). f.value) (take i rs) (get_or rs i r ∷ []))
-    ∙ framed_push (map (λ f. f.value) (take i rs)) (get_or rs i r).value t
+framed_more rs i r t lt = rw (take_more rs i r lt, map-append, framed_push) refl
 
 -- A name that the innermost scope has, or does not have.
 pub framed_found : (x : Text) (rs : List (Rc NameScope Global)) (i : ℕ) (f : NameScope) (r : Rc NameScope Global)

@@ -3,7 +3,6 @@ use Rattle.jt_semantics.specs.Resolve.{StaticEnv}
 use Rattle.jt_ast.specs.Expressions as expressions
 use Rattle.jt_ast.specs.Statements as trees
 use Rattle.jt_ir.specs.Slots as slots
-use Rattle.jt_ir.specs.declared.program.Slot as code_slot
 use Rattle.jt_bind.specs.declared.senv.StaticEnv as code_senv
 use Rattle.jt_bind.specs.internal.{filters_in, alone, Place, ◌≡◌, ℕ, suc, ◌+◌, ◌<◌, List, [], ◌∷◌, length, drop, get_or}
 use Rattle.jt_bind.specs.internal.{refl, Option, Bor, Tree, Pairs, no_pairs, pair, Text, Namespace, set_in, CompileEnv}

@@ -36,9 +36,7 @@ one_filled p ps xs ks e = cc
 -- The remaining parameters.
 pub parameters_left : (ps : List Parameter) (i : ℕ) (p : Parameter) → i < length ps → p ≡ get_or ps i p
     → parameters_view (drop i ps) ≡ parameter_view p ∷ parameters_view (drop (i + 1) ps)
-parameters_left ps i p lt is =
-    ap parameters_view (drop_more ps i p lt)
-    ∙ ap (λ (z : Parameter). parameter_view z ∷ parameters_view (drop (i + 1) ps)) (sym is)
+parameters_left ps i p lt is = rw (drop_more ps i p lt, ← is) refl
 
 -- The parameters after the first g ones.
 pub parameters_behind : (ps qs : List Parameter) (g : ℕ) → qs ≡ drop g ps

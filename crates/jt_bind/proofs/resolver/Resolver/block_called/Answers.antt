@@ -1,4 +1,3 @@
-use Rattle.jt_ir.specs.Slots as slots
 use Rattle.jt_semantics.specs.Resolve as resolve
 use Rattle.jt_bind.specs.internal.{parameters_in, numbered_of, cenv_in, order_in, namespace_in, globals_in}
 use Rattle.jt_bind.proofs.{sym, ◌∙◌, arith, rules, body_called, none_called, invoked_placed, view_Invoke}

@@ -1,4 +1,4 @@
-use Rattle.jt_bind.specs.internal.{◌≡◌, ◌+◌, ◌-◌, ◌∷◌, drop, pairs_view, keywords, parameter_view, parameters_view}
+use Rattle.jt_bind.specs.internal.{◌≡◌, ◌+◌, ◌∷◌, drop, pairs_view, keywords, parameter_view, parameters_view}
 use Rattle.jt_bind.specs.internal.{locals_from, values}
 use Rattle.jt_bind.proofs.{sym, ap, ◌∙◌, arith, drop_all, row_both, row_item, filled_some_behind, none_filled}
 use Rattle.jt_bind.proofs.{one_filled, parameters_behind, parameters_left}

@@ -1,6 +1,3 @@
-use Rattle.jt_ast.specs.Expressions as trees
-use Rattle.jt_eval.specs.TheFilters as the
-use Rattle.jt_ir.specs.Slots as slots
 use Rattle.jt_bind.specs.internal.{◌≡◌, map, take, view, expr_values, values}
 use Rattle.jt_bind.proofs.{sym, ap, ◌∙◌, take_at, take-map, filters_push, named_is, filter_placed}
 use Rattle.jt_bind.proofs.resolver.Resolver.resolve_filter_call.Goals as goal

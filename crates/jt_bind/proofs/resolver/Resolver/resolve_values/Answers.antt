@@ -1,4 +1,3 @@
-use Rattle.jt_ir.specs.Slots as slots
 use Rattle.jt_bind.specs.internal.{◌+◌, drop, pairs_view, templates_in, values_in}
 use Rattle.jt_bind.proofs.{drop_all, ◌∙◌, arith, add-one, lead_both, assign_emitted, values_followed, pairs_left}
 use Rattle.jt_bind.proofs.resolver.Resolver.resolve_values.Goals as goal

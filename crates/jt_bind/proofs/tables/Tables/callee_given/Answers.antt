@@ -1,5 +1,4 @@
 use Rattle.jt_ast.specs.Expressions as trees
-use Rattle.jt_chains.specs.Chain as chain
 use Rattle.jt_bind.specs.internal.{refl, files_in, ◌≡◌, a_library, a_macro, macro_view, namespace_in, callee_in}
 use Rattle.jt_bind.proofs.{IfOk-weaker, called_there}
 use Rattle.jt_bind.proofs.tables.Tables.callee_given.Goals as goal

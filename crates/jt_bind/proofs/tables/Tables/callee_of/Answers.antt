@@ -1,4 +1,3 @@
-use Rattle.jt_ast.specs.Expressions as trees
 use Rattle.jt_ast.proofs.ExpressionViews.{view_Attribute}
 use Rattle.jt_bind.proofs.tables.Tables.callee_of.Goals as goal
 

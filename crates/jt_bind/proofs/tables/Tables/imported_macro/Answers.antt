@@ -1,5 +1,4 @@
 use Rattle.jt_ast.specs.Expressions as trees
-use Rattle.jt_chains.specs.Chain as chain
 use Rattle.jt_bind.specs.internal.{◌≡◌, Some, option_map, Bor, Text, a_library, macros, macro_of, given_to, library_of}
 use Rattle.jt_bind.specs.internal.{of_namespace, cenv_in, given_in, callee_in}
 use Rattle.jt_bind.proofs.{sym, ap, ◌∙◌, arith, rules, IfOk-weaker, called_there, member_is, no_library, private_is}
