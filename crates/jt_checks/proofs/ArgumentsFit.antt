@@ -51,14 +51,6 @@ module _ (ks : List Text) where
   last_reached (q ∷ ps) zero p lt is e none = search (arith, rules, given_at, none_reached)
   last_reached (q ∷ ps) (suc i) p lt is e none = search (arith, rules, given_at, last_reached ps i p)
 
-  -- One more parameter that is not named.
-  pub none_more : (ps : List Parameter) (i : ℕ) (p : Parameter) → i < length ps → p ≡ get_or ps i p
-      → among (string_bytes p.name) ks ≡ false
-      → some_given (parameters_view (drop (suc i) ps)) ks ≡ false → some_given (parameters_view (drop i ps)) ks ≡ false
-  none_more [] i p lt is e none = absurd (omega arith)
-  none_more (q ∷ ps) zero p lt is e none = search (arith, rules, string_bytes)
-  none_more (q ∷ ps) (suc i) p lt is e none = none_more ps i p (omega arith) is e none
-
   mapped : {A B : Type 0} → (f : A → B) (o : Option A) → is_some (option_map f o) ≡ is_some o
   mapped f (Some a) = refl
   mapped f None = refl

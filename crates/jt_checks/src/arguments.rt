@@ -5,12 +5,11 @@ ghost use Rattle.std.specs.List.{list_any};
 ghost use Rattle.jt_ast.specs.ExpressionView.{exprs_view, pairs_view};
 ghost use Rattle.jt_ast.specs.Texts.{among, repeated, texts};
 ghost use Rattle.jt_ast.specs.StatementView.{names_view, parameter_view, parameters_view};
-ghost use Rattle.jt_chains.specs.Chain.{a_range};
 ghost use Rattle.jt_chains.specs.Uses.{count, keywords};
 ghost use Rattle.jt_eval.specs.TheFilters.{the_filters, filter_parameters};
 ghost use Rattle.jt_eval.specs.Inside.{names_well};
 ghost use Rattle.jt_eval.specs.Tests.{test_named};
-ghost use Rattle.jt_rules.specs.Arguments.{callee_takes, test_takes};
+ghost use Rattle.jt_rules.specs.Arguments.{test_takes};
 ghost use Rattle.jt_checks.specs.internal.RuleTests as rules;
 ghost use Rattle.jt_checks.specs.internal.Fitting.{filter_takes};
 
@@ -18,7 +17,7 @@ use crate::nested_calls::are_names_well;
 use jt_ast::{Expr, Parameter};
 use jt_eval::{filter_of, filter_parameters, test_of};
 use jt_ids::FilterId;
-use jt_names::{NameIndex, keyword_names, parameter_names};
+use jt_names::{NameIndex, add_names, keyword_names, parameter_names};
 use jt_rules::ScopeError;
 use std::alloc::{AllocError, Global};
 use std::collections::BTreeSet;
@@ -34,13 +33,9 @@ pub(crate) fn unless(right: bool) -> Option<ScopeError>
 pub(crate) fn any_repeated(alloc: Global, names: &[&str]) -> Result<bool, AllocError>
     ensures { IfOk result (λ b. b ≡ repeated (texts names.now)) }
 {
-    let mut seen = BTreeSet::new(alloc);
-    for name in names {
-        if !seen.insert(*name)? {
-            return Ok(true);
-        }
-    }
-    Ok(false)
+    let mut distinct = BTreeSet::new(alloc);
+    add_names(&mut distinct, names)?;
+    Ok(distinct.len() < names.len())
 }
 
 /// Returns whether each name is in `known`.
@@ -86,16 +81,6 @@ pub(crate) fn fits(
     }
     let names = keyword_names(alloc, pairs)?;
     names_fit(alloc, parameters, row.len(), &names)
-}
-
-/// Returns the rule that the arguments of `range` break.
-#[tactic(auto, using(crate::proofs::ArgumentsFit::counted, crate::proofs::ArgumentsFit::keyless))]
-pub(crate) fn range_broken(row: &[Expr], pairs: &[(String, Expr)]) -> Option<ScopeError>
-    ensures { result
-        ≡ rules.unless (callee_takes a_range (exprs_view row.now) (pairs_view pairs.now)) }
-{
-    let given = row.len();
-    unless(0 < given && given < 4 && pairs.is_empty())
 }
 
 /// Returns the rule that the arguments of a test break.

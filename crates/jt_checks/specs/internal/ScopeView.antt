@@ -1,18 +1,17 @@
 -- The view of a scope in contracts, and the rules in it. Only private clauses cite this module.
-use Rattle.std.specs.Prelude.{◌==◌, ◌&&◌, ℕ, ◌+◌, ◌-◌, ◌^◌, min, length, nat_lt, not, Bool, List, Option, Some, None}
-use Rattle.jt_ast.specs.Expressions.{Expr, Exprs, Pairs, name, Text}
+use Rattle.std.specs.Prelude.{ℕ, ◌+◌, ◌-◌, ◌^◌, min, length, nat_lt, not, Bool, List, Option, Some, None}
+use Rattle.jt_ast.specs.Expressions.{Expr, name, Text}
 use Rattle.jt_ast.specs.Texts.{ascending}
 use Rattle.jt_chains.specs.Chain.{Namespace, a_chain, a_library, Sources, Definition, given, given_to, bodies}
 use Rattle.jt_chains.specs.Chain.{libraries}
 use Rattle.jt_chains.specs.Named.{given_view}
-use Rattle.jt_chains.specs.Uses.{count, own_names}
+use Rattle.jt_chains.specs.Uses.{own_names}
 use Rattle.jt_chains.specs.View.{chain_view, namespace_in}
 use Rattle.jt_chains.specs.declared.chain.Chain.{Chain}
 use Rattle.jt_chains.specs.declared.definitions.Definition as found
 use Rattle.jt_names.specs.FactsOfChains.{AllKnown}
 use Rattle.jt_rules.specs.CompileEnv.{CompileEnv, cenv_of}
 use Rattle.jt_rules.specs.Rules.{libraries_counted}
-use Rattle.jt_checks.specs.internal.RuleTests as rules
 use Rattle.jt_checks.specs.declared.scope.Scope.{Scope}
 
 -- The chain of a scope.
@@ -63,7 +62,3 @@ capped n = min n (2 ^ 64 - 1)
 abbrev pub name_in : Expr → Option Text
 name_in (name x) = Some x
 name_in e = None
-
--- There are no arguments.
-abbrev pub is_bare : Exprs → Pairs → Bool
-is_bare ts ps = (count ts == 0) && rules.no_keywords ps
