@@ -96,9 +96,7 @@ module _ (cenv : CompileEnv) (h : Namespace) where
   pub macro_key : (x : Text) (j : ℕ) (rest : List Key)
       → ((ks : List Key) → index_of (of_macro h x) (macro_keys ++ ks) ≡ j)
       → index_of (of_macro h x) (chain_keys cenv h ++ rest) ≡ length (entry_keys cenv h) + j
-  macro_key x j rest f =
-      let entries = entries_past cenv h (of_macro h x) (λ n q. refl) (macro_keys ++ (body_keys ++ rest)) in
-      ap (index_of (of_macro h x)) (in_parts rest) ∙ omega (arith, entries, f (body_keys ++ rest))
+  macro_key x j rest f = search (arith, rules, entries_past, of_macro, index_of, in_parts)
 
   pub body_key : (i : ℕ) (rest : List Key) → i < length bs
       → index_of (of_body h i) (chain_keys cenv h ++ rest) ≡ length (entry_keys cenv h) + (length ms + i)
@@ -163,9 +161,7 @@ module _ (cenv : CompileEnv) (order : List Namespace) (h : Namespace) (rest : Li
       → u ≡ f.unit + (length (entry_keys cenv h) + length (macros cenv.sources h)) → k < length bs
       → u + k ≡ unit cenv order (of_body h k)
   body_units ts bs all u k e lt =
-      let there : k < length (all_bodies cenv.sources cenv.escaping h) =
-      omega (arith, length-map bs (block_view ts), ap length all) in
-      omega (arith, e, s.units (of_body h k) here, body_key cenv h k behind there)
+      search (arith, rules, length, all_bodies, length-map, block_view, of_body, here, body_key)
 
   pub scoped_laid : listed h order ≡ true → (x : Text) (p : Option ℕ) (ns : List Text) → is_some p ≡ is_scoped cenv h x
       → ns ≡ uses.scope_names cenv.sources h → block_parameters cenv order h x ≡ (if is_some p then ns else [])
@@ -178,9 +174,7 @@ module _ (cenv : CompileEnv) (order : List Namespace) (h : Namespace) (rest : Li
       + (length (macros cenv.sources h) + length (all_bodies cenv.sources cenv.escaping h)))
       → g.default ≡ f.default + length (defaults_of (macros cenv.sources h))
       → Stands cenv order rest g
-  front_turn new g p q r =
-      let all : g.unit ≡ f.unit + length (chain_keys cenv h) = omega (arith, q, count_keys cenv h) in
-      search (arith, rules, apart, or_right, others, length-append)
+  front_turn new g p q r = search (arith, rules, length, count_keys, apart, or_right, others, length-append)
 
 -- ---- one namespace at a time
 
@@ -188,8 +182,7 @@ module _ (cenv : CompileEnv) (order : List Namespace) (h : Namespace) (rest : Li
 listed_at : (hs : List Namespace) (i : ℕ) → i < length hs → listed (namespace_at hs i) hs ≡ true
 listed_at [] i lt = absurd (omega arith)
 listed_at (h ∷ hs) zero lt = ap (λ b. b || listed h hs) (namespace_is h)
-listed_at (h ∷ hs) (suc i) lt =
-    or_right (same_namespace h (namespace_at hs i)) (listed (namespace_at hs i) hs) (listed_at hs i (omega arith))
+listed_at (h ∷ hs) (suc i) lt = search (arith, rules, or_right, same_namespace, namespace_at, listed, listed_at hs i)
 
 new_at : (s : Sources) (hs : List Namespace) (i : ℕ) → i < length hs → InOrder s hs
     → not (listed (namespace_at hs i) (drop (suc i) hs)) ≡ true
@@ -214,8 +207,7 @@ module _ (c : Chain) (i : ℕ) (lt : i < length c.namespaces.items) where
   first_here f s = subst (λ hs. Stands (its_cenv c) (its_order c) hs f) (namespaces_left (its_order c) i inside) s
 
   pub new_here : not (listed h rest) ≡ true
-  new_here = ap (λ k. not (listed h (drop k (its_order c)))) (add-one i)
-      ∙ new_at (its_cenv c).sources (its_order c) i inside c.order
+  new_here = search (arith, rules, listed, drop, its_order, add-one, new_at, its_cenv, inside)
 
   pub listed_left : listed h (drop i (its_order c)) ≡ true
   listed_left = search (arith, rules, namespaces_left, inside, namespace_is)
