@@ -1,11 +1,11 @@
 use Rattle.jt_chains.specs.Parts.{blocks_view}
 use Rattle.jt_chains.specs.View.{its_templates}
-use Rattle.jt_layout.proofs.Vocabulary.{ap, arith, length, map, string_bytes, sym, ◌&&◌, ◌+◌, ◌∙◌, ◌≡◌, length-map}
-use Rattle.jt_layout.proofs.Vocabulary.{list_any, option_map, slice_get, bytes_eq, texts, name_of_namespace, all_bodies}
-use Rattle.jt_layout.proofs.Vocabulary.{macros, block_view, macro_view, namespace_view, namespace_in, global, first_of}
-use Rattle.jt_layout.proofs.Vocabulary.{is_library, FirstFree, NamespaceLayout, nexts, its_cenv, its_order}
+use Rattle.jt_layout.proofs.Vocabulary.{ap, arith, length, map, rules, sym, ◌&&◌, ◌+◌, ◌∙◌, ◌≡◌, length-map, list_any}
+use Rattle.jt_layout.proofs.Vocabulary.{option_map, slice_get, bytes_eq, texts, name_of_namespace, all_bodies, macros}
+use Rattle.jt_layout.proofs.Vocabulary.{block_view, macro_view, namespace_view, namespace_in, global, first_of, unit}
+use Rattle.jt_layout.proofs.Vocabulary.{nexts, its_cenv, its_order}
 use Rattle.jt_layout.proofs.FirstOccurrences.{first_bodies, in_slots, length-counted, length-nexts, next_at}
-use Rattle.jt_layout.proofs.LayoutCorrect.{body_units, chain_unit, first_here, front_turn, is_called, kind_named}
+use Rattle.jt_layout.proofs.LayoutCorrect.{body_units, chain_unit, first_here, front_turn, is_called}
 use Rattle.jt_layout.proofs.LayoutCorrect.{known_here, new_here, rest, scoped_laid, slot_here}
 use Rattle.jt_semantics.specs.Layout as layout
 use Rattle.jt_layout.proofs.layout.lay_chain.Goals as goal
@@ -41,28 +41,9 @@ returns c =
     let nexts_are : c.in_ok-next_bodies.next_bodies.items ≡ nexts (layout.numbered_bodies W h) =
     c.in_ok-next_bodies.ensures ts
     ∙ ap (λ z. nexts (layout.counted_from 0 z)) (ap (blocks_view ts) c.deref-5.ensures.value ∙ facts.all_blocks) in
-    let l : NamespaceLayout = record {
-      is_library = k.is_library;
-      known = c.at-known.result;
-      names = c.args.names;
-      slots = c.in_ok-slots.slots;
-      first_slot = f.slot;
-      unit = f.unit;
-      macro_unit = c.in_ok-macro_unit.macro_unit;
-      body_unit = c.in_ok-body_unit.body_unit;
-      called = c.in_ok-called.called;
-      defaults = c.in_ok-defaults.defaults.indices;
-      next_bodies = c.in_ok-next_bodies.next_bodies;
-      scoped = c.in_ok-scoped.scoped;
-    } in
-    let g : FirstFree = record {
-      slot = c.in_ok-behind_slot.behind_slot;
-      unit = c.in_ok-behind_unit.behind_unit;
-      default = c.in_ok-defaults.defaults.end;
-    } in
     record {
       namespace_layout = record {
-        kind = kind_named k.is_library (string_bytes k.name) ∙ ap is_library (sym is);
+        kind = search (arith, rules, is);
         named = c.requires.named;
         in_slots =
             λ x. ap (option_map global) (c.in_ok-slots.ensures x) ∙ in_slots x f.slot (texts c.deref.result.now)
@@ -73,7 +54,7 @@ returns c =
         chain_unit = λ n e. chain_unit W O h after f s n e;
         all_macros = facts.all_macros;
         by_names =
-            λ x. is_called W O h after f s ts l facts.all_macros defaults macro_unit x _
+            λ x. is_called W O h after f s ts _ facts.all_macros defaults macro_unit x _
             (c.in_ok-called.ensures x
             ∙ ap (first_of x 0) (ap texts c.deref-3.ensures.value ∙ c.in_ok-macros.ensures
             ∙ ap (map (λ m. m.name.now)) c.deref-2.ensures.value));
@@ -94,7 +75,7 @@ returns c =
             facts.scope_names;
       };
       behind =
-          front_turn W O h after f s (new_here a i lt) g
+          front_turn W O h after f s (new_here a i lt) _
           (omega (
             arith,
             c.in_ok-behind_slot.ensures,

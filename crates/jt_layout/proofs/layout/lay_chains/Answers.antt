@@ -3,7 +3,7 @@ use Rattle.jt_layout.proofs.Vocabulary.{[], ap, arith, drop, length, length-appe
 use Rattle.jt_layout.proofs.Vocabulary.{◌+◌, ◌<◌, ◌∙◌, ◌∷◌, ◌≡◌, ◌≤◌, at_drop_all, length-map, flat_map}
 use Rattle.jt_layout.proofs.Vocabulary.{name_of_namespace, a_chain, listed, same_namespace, namespace_view}
 use Rattle.jt_layout.proofs.Vocabulary.{namespace_in, AreLaid, IsLaidAt, names_at, its_cenv, its_order}
-use Rattle.jt_layout.proofs.LayoutCorrect.{first_front, left_turn, listed_left, names_handed}
+use Rattle.jt_layout.proofs.LayoutCorrect.{left_turn, listed_left, names_handed}
 use Rattle.jt_semantics.specs.Layout as layout
 use Rattle.jt_layout.proofs.layout.lay_chains.Goals as goal
 
@@ -28,7 +28,7 @@ lay_chain-requires c =
     }
 
 pub loop-namespace-init : goal.loop-namespace-init
-loop-namespace-init c = search (arith, rules, first_front)
+loop-namespace-init c = search (arith, rules)
 
 pub loop-namespace-preserved : goal.loop-namespace-preserved
 loop-namespace-preserved c =
