@@ -11,13 +11,13 @@ use Rattle.jt_layout.specs.NamespaceLayout.{IsCalled}
 use Rattle.jt_layout.proofs.Vocabulary.{Bool, List, None, Option, Some, [], ap, append_assoc, arith, drop, false}
 use Rattle.jt_layout.proofs.Vocabulary.{if◌then◌else◌, length, length-append, map, not, refl, rules, subst, suc, sym}
 use Rattle.jt_layout.proofs.Vocabulary.{true, zero, ℕ, ◌++◌, ◌+◌, ◌<◌, ◌||◌, ◌∙◌, ◌∷◌, ◌≡◌, length-map, is_some}
-use Rattle.jt_layout.proofs.Vocabulary.{flat_map, slice_get, Text, BlockBody, MacroBody, Namespace, Sources, Template}
-use Rattle.jt_layout.proofs.Vocabulary.{a_chain, a_library, all_bodies, listed, macro_of, macros, same_namespace}
-use Rattle.jt_layout.proofs.Vocabulary.{block_view, macro_view, namespace_view, namespace_in, Block, first_of}
-use Rattle.jt_layout.proofs.Vocabulary.{CompileEnv, namespace_is, namespace_same, same_is, Key, counted_from}
-use Rattle.jt_layout.proofs.Vocabulary.{default_index, defaults_of, entry_keys, first_default, in_globals, index_of}
-use Rattle.jt_layout.proofs.Vocabulary.{names, of_body, of_macro, unit, FirstFree, NamespaceLayout, Stands, StandsAt}
-use Rattle.jt_layout.proofs.Vocabulary.{defaults_from, namespace_named, its_cenv, its_order}
+use Rattle.jt_layout.proofs.Vocabulary.{flat_map, Text, BlockBody, MacroBody, Namespace, Sources, Template, a_chain}
+use Rattle.jt_layout.proofs.Vocabulary.{a_library, all_bodies, listed, macro_of, macros, same_namespace, block_view}
+use Rattle.jt_layout.proofs.Vocabulary.{macro_view, namespace_view, namespace_in, Block, first_of, CompileEnv}
+use Rattle.jt_layout.proofs.Vocabulary.{namespace_is, namespace_same, same_is, Key, counted_from, default_index}
+use Rattle.jt_layout.proofs.Vocabulary.{defaults_of, entry_keys, first_default, in_globals, index_of, names, of_body}
+use Rattle.jt_layout.proofs.Vocabulary.{of_macro, unit, FirstFree, NamespaceLayout, Stands, StandsAt, defaults_from}
+use Rattle.jt_layout.proofs.Vocabulary.{namespace_named, its_cenv, its_order}
 use Rattle.jt_layout.proofs.FirstOccurrences.{first_macro, length-counted, namespaces_left, no_macro}
 use Rattle.jt_layout.proofs.NamesInOrder.{no_names}
 use Rattle.jt_chains.specs.Uses as uses
@@ -134,17 +134,12 @@ module _ (cenv : CompileEnv) (order : List Namespace) (h : Namespace) (rest : Li
   is_called ts l all defaults units x None e = ap (macro_of x) (sym all) ∙ no_macro ts x l.known.now.macros.items 0 e
   is_called ts l all defaults units x (Some k) e =
       let a = first_macro ts x l.known.now.macros.items k e in
-      let key = macro_key cenv h x k behind
-      (λ ks. ap (λ ns. index_of (of_macro h x) (map (λ (m : MacroBody). of_macro h m.name) ns ++ ks)) (sym all)
-      ∙ a.unit h ks) in
+      let key = macro_key cenv h x k behind (λ ks. rw (← all) (a.unit h ks)) in
       record {
         code = a.code;
         found = a.found;
         meant = ap (macro_of x) (sym all) ∙ a.meant;
-        first_default =
-            rw a.named
-            (ap (λ ds. slice_get ds k) defaults ∙ a.default f.default
-            ∙ ap (λ ns. Some (f.default + first_default x ns)) all ∙ ap Some (sym (default_here x)));
+        first_default = rw (a.named, defaults, a.default f.default, all) (ap Some (sym (default_here x)));
         macro_unit = rw a.named (omega (arith, units, s.units (of_macro h x) here, key));
       }
 
@@ -185,7 +180,7 @@ module _ (c : Chain) (i : ℕ) (lt : i < length c.namespaces.items) where
   abbrev h : Namespace
   h = namespace_in c i
 
-  abbrev pub rest : List Namespace
+  abbrev rest : List Namespace
   rest = drop (i + 1) (its_order c)
 
   inside : i < length (its_order c)

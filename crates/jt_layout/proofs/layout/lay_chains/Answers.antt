@@ -1,8 +1,8 @@
 use Rattle.jt_names.proofs.EachItem.{each_more}
 use Rattle.jt_layout.proofs.Vocabulary.{[], ap, arith, drop, length, length-append, rules, string_bytes, subst, sym}
-use Rattle.jt_layout.proofs.Vocabulary.{◌+◌, ◌<◌, ◌∙◌, ◌∷◌, ◌≡◌, ◌≤◌, at_drop_all, length-map, flat_map}
-use Rattle.jt_layout.proofs.Vocabulary.{name_of_namespace, a_chain, listed, same_namespace, namespace_view}
-use Rattle.jt_layout.proofs.Vocabulary.{namespace_in, AreLaid, IsLaidAt, names_at, its_cenv, its_order}
+use Rattle.jt_layout.proofs.Vocabulary.{◌+◌, ◌<◌, ◌∙◌, ◌∷◌, ◌≡◌, at_drop_all, length-map, flat_map, name_of_namespace}
+use Rattle.jt_layout.proofs.Vocabulary.{a_chain, listed, same_namespace, namespace_view, namespace_in, AreLaid}
+use Rattle.jt_layout.proofs.Vocabulary.{IsLaidAt, names_at, its_cenv, its_order}
 use Rattle.jt_layout.proofs.LayoutCorrect.{left_turn, listed_left, names_handed}
 use Rattle.jt_semantics.specs.Layout as layout
 use Rattle.jt_layout.proofs.layout.lay_chains.Goals as goal
@@ -58,13 +58,14 @@ pub returns-clause-units : goal.returns-clause-units
 returns-clause-units c =
     let a = c.args.facts.now.chain.now in
     let l = c.loop-namespace in
-    let W = its_cenv a in
-    let le : length (its_order a) ≤ l.namespace = omega (
+    omega (
       arith,
-      c.loop-namespace-test.false,
-      c.len-namespace-end.ensures,
-      a.namespaces.ok.0,
-      length-map a.namespaces.items namespace_view,
-    ) in
-    let none = at_drop_all (λ hs. length (flat_map (layout.chain_keys W) hs)) (its_order a) l.namespace le in
-    omega (arith, l.invariant.stands.all, none)
+      l.invariant.stands.all,
+      at_drop_all (λ hs. length (flat_map (layout.chain_keys (its_cenv a)) hs)) (its_order a) l.namespace (omega (
+        arith,
+        c.loop-namespace-test.false,
+        c.len-namespace-end.ensures,
+        a.namespaces.ok.0,
+        length-map a.namespaces.items namespace_view,
+      )),
+    )
