@@ -2,8 +2,8 @@ use Rattle.jt_chains.specs.Parts.{blocks_view}
 use Rattle.jt_chains.specs.View.{its_templates}
 use Rattle.jt_layout.proofs.Vocabulary.{ap, arith, length, map, rules, sym, ◌&&◌, ◌+◌, ◌∙◌, ◌≡◌, length-map, list_any}
 use Rattle.jt_layout.proofs.Vocabulary.{option_map, slice_get, bytes_eq, texts, name_of_namespace, all_bodies, macros}
-use Rattle.jt_layout.proofs.Vocabulary.{block_view, macro_view, namespace_view, namespace_in, global, first_of}
-use Rattle.jt_layout.proofs.Vocabulary.{nexts, its_cenv, its_order}
+use Rattle.jt_layout.proofs.Vocabulary.{block_view, macro_view, namespace_in, global, first_of, unit, nexts, its_cenv}
+use Rattle.jt_layout.proofs.Vocabulary.{its_order}
 use Rattle.jt_layout.proofs.FirstOccurrences.{first_bodies, in_slots, length-counted, length-nexts, next_at}
 use Rattle.jt_layout.proofs.LayoutCorrect.{body_units, chain_unit, first_here, front_turn, is_called}
 use Rattle.jt_layout.proofs.LayoutCorrect.{known_here, new_here, scoped_laid, slot_here}
@@ -29,7 +29,7 @@ returns c =
     omega (arith, length-map known.blocks.items (block_view ts), ap length facts.all_blocks) in
     let defaults = rw c.deref-4.ensures.value at c.in_ok-defaults.ensures.indexed ts in
     let k = c.index-itself.result.now in
-    let is : h ≡ namespace_view k = name_of_namespace a.namespaces.items i k lt c.index-itself.ensures in
+    let is = name_of_namespace a.namespaces.items i k lt c.index-itself.ensures in
     let macro_unit : c.in_ok-macro_unit.macro_unit ≡ f.unit + length (layout.entry_keys W h) =
     omega
     (arith, c.in_ok-macro_unit.ensures, c.entries_of.ensures W, ap (λ z. length (layout.entry_keys W z)) is) in

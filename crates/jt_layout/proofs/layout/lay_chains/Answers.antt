@@ -1,6 +1,6 @@
 use Rattle.jt_names.proofs.EachItem.{each_more}
 use Rattle.jt_layout.proofs.Vocabulary.{[], ap, arith, drop, length, length-append, rules, string_bytes, subst, sym}
-use Rattle.jt_layout.proofs.Vocabulary.{◌+◌, ◌<◌, ◌∙◌, ◌∷◌, ◌≡◌, at_drop_all, length-map, flat_map, name_of_namespace}
+use Rattle.jt_layout.proofs.Vocabulary.{◌+◌, ◌<◌, ◌∙◌, ◌∷◌, at_drop_all, length-map, flat_map, name_of_namespace}
 use Rattle.jt_layout.proofs.Vocabulary.{a_chain, listed, same_namespace, namespace_view, namespace_in, AreLaid}
 use Rattle.jt_layout.proofs.Vocabulary.{IsLaidAt, names_at, its_cenv, its_order}
 use Rattle.jt_layout.proofs.LayoutCorrect.{left_turn, listed_left, names_handed}
@@ -14,8 +14,7 @@ lay_chain-requires c =
     let lt : l.namespace < length a.namespaces.items =
     omega (arith, c.loop-namespace-test.true, c.len-namespace-end.ensures, a.namespaces.ok.0) in
     let k = c.index.result.now in
-    let is : namespace_in a l.namespace ≡ namespace_view k =
-    name_of_namespace a.namespaces.items l.namespace k lt c.index.ensures in
+    let is = name_of_namespace a.namespaces.items l.namespace k lt c.index.ensures in
     record {
       known = c.requires.known;
       stands = lt;
@@ -36,8 +35,7 @@ loop-namespace-preserved c =
     let l = c.loop-namespace in
     let lt : l.namespace < length a.namespaces.items =
     omega (arith, c.loop-namespace-test.true, c.len-namespace-end.ensures, a.namespaces.ok.0) in
-    let is : namespace_in a l.namespace ≡ namespace_view c.index.result.now =
-    name_of_namespace a.namespaces.items l.namespace c.index.result.now lt c.index.ensures in
+    let is = name_of_namespace a.namespaces.items l.namespace c.index.result.now lt c.index.ensures in
     let laid = c.in_ok-indexed.indexed.namespace_layout in
     record {
       stands = c.in_ok-indexed.ensures.behind;
