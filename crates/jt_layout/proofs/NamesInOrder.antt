@@ -9,20 +9,12 @@ use Rattle.jt_chains.specs.Needs.{include_need}
 use Rattle.jt_chains.proofs.IncludeCollection.{by_templates}
 use Rattle.jt_layout.specs.internal.Indices.{all_names}
 use Rattle.jt_names.proofs.SortedNames.{ascending_inserted, inserted_both}
-use Rattle.jt_layout.proofs.Vocabulary.{Bool, Global, List, Option, Some, Vec, [], ap, arith, drop, false}
-use Rattle.jt_layout.proofs.Vocabulary.{if◌then◌else◌, length, map, refl, rules, true, ℕ, ◌+◌, ◌<◌, ◌∙◌, ◌∷◌, ◌≡◌}
-use Rattle.jt_layout.proofs.Vocabulary.{is_some, flat_map, bytes_eq, Bor, Text, all_inserted, ascending, texts}
-use Rattle.jt_layout.proofs.Vocabulary.{Namespace, Sources, a_chain, a_library, templates, namespace_at, needed}
-use Rattle.jt_layout.proofs.Vocabulary.{needs_view, CompileEnv, same_text, names_in, names_at, texts_of}
+use Rattle.jt_layout.proofs.Vocabulary.{Bool, Global, List, Vec, [], ap, arith, drop, false, if◌then◌else◌, length, map}
+use Rattle.jt_layout.proofs.Vocabulary.{refl, rules, true, ℕ, ◌+◌, ◌<◌, ◌∙◌, ◌∷◌, ◌≡◌, is_some, flat_map, bytes_eq, Bor}
+use Rattle.jt_layout.proofs.Vocabulary.{Text, all_inserted, ascending, Namespace, Sources, a_chain, a_library}
+use Rattle.jt_layout.proofs.Vocabulary.{templates, namespace_at, needed, needs_view, CompileEnv, same_text, names_in}
+use Rattle.jt_layout.proofs.Vocabulary.{names_at}
 use Rattle.jt_layout.proofs.FirstOccurrences.{namespaces_left}
-
--- ---- the names of a map
-
-pub names_put : (b : Bool) (v : Vec (Bor Text) Global) (o : Option (Vec (Bor Text) Global))
-    → texts_of (if b then Some v else o) ≡ (if b then texts v.items else texts_of o)
-names_put b v o = search (arith, rules)
-
--- ---- the names of a chain and of the chains that it leads to
 
 -- A missing chain has no templates, and so no names. A library has no globals.
 no_templates : (s : Sources) (n : Text) → is_some (s n) ≡ false → templates s (a_chain n) ≡ []

@@ -34,5 +34,4 @@ pub use Rattle.jt_layout.specs.declared.front.FirstFree.{FirstFree}
 pub use Rattle.jt_layout.specs.declared.namespace_layout.NamespaceLayout.{NamespaceLayout}
 pub use Rattle.jt_layout.specs.internal.Front.{AreLaid, IsLaidAt, Stands, StandsAt}
 pub use Rattle.jt_layout.specs.internal.Indices.{defaults_from, first_namespace, names_at, namespace_named, nexts}
-pub use Rattle.jt_layout.specs.internal.Indices.{texts_of}
-pub use Rattle.jt_layout.specs.internal.Namespaces.{AreNames, its_cenv, its_order}
+pub use Rattle.jt_layout.specs.internal.Indices.{texts_of, AreNames, its_cenv, its_order}

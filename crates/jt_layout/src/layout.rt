@@ -6,7 +6,7 @@ ghost use Rattle.jt_rules.specs.CompileEnv.{CompileEnv};
 ghost use Rattle.jt_semantics.specs.Layout as layout;
 ghost use Rattle.jt_ast.specs.Texts.{texts};
 ghost use Rattle.jt_layout.specs.internal.Front.{StandsAt, IsLaidAt, AreLaid};
-ghost use Rattle.jt_layout.specs.internal.Namespaces.{its_cenv, its_order, its_names, AreNames};
+ghost use Rattle.jt_layout.specs.internal.Indices.{AreNames, its_cenv, its_names, its_order};
 ghost use Rattle.jt_layout.specs.NamespaceLayout.{IsLaidOut};
 ghost use Rattle.jt_names.specs.FactsOfChains.{AllKnown};
 

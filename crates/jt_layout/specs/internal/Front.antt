@@ -7,7 +7,7 @@ use Rattle.jt_chains.specs.declared.chain.Chain.{Chain}
 use Rattle.jt_rules.specs.CompileEnv.{CompileEnv}
 use Rattle.jt_semantics.specs.Layout.{Key, of_chain, of_macro, of_body, chain_keys, index_of, keys, unit, first_in}
 use Rattle.jt_semantics.specs.Layout.{first_slot, default_in, default_index}
-use Rattle.jt_layout.specs.internal.Namespaces.{its_cenv, its_order}
+use Rattle.jt_layout.specs.internal.Indices.{its_cenv, its_order}
 use Rattle.jt_layout.specs.NamespaceLayout.{IsLaid}
 use Rattle.jt_layout.specs.declared.front.FirstFree.{FirstFree}
 use Rattle.jt_layout.specs.declared.namespace_layout.NamespaceLayout.{NamespaceLayout}

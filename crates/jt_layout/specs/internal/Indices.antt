@@ -1,6 +1,6 @@
--- The indices of names and namespaces in lists, and the names of chains. Only private clauses cite
--- this module.
-use Rattle.std.specs.Prelude.{ℕ, suc, ◌+◌, Bool, List, [], ◌∷◌, ◌++◌, length, flat_map, Option, Some, None}
+-- The indices of names and namespaces in lists, and the names of the chains and libraries of a chain. Only
+-- private clauses cite this module.
+use Rattle.std.specs.Prelude.{◌≡◌, ℕ, suc, ◌+◌, Bool, List, [], ◌∷◌, ◌++◌, length, flat_map, Option, Some, None}
 use Rattle.std.specs.Prelude.{if◌then◌else◌, filter, Vec}
 use Rattle.std.specs.declared.alloc.Global.{Global}
 use Rattle.std.specs.BTreeMap.{BTreeMap}
@@ -11,8 +11,10 @@ use Rattle.jt_ast.specs.Texts.{ascending, texts}
 use Rattle.jt_chains.specs.Chain.{Namespace, a_chain, a_library, same_namespace, BlockBody, MacroBody}
 use Rattle.jt_chains.specs.Includes.{included}
 use Rattle.jt_chains.specs.Uses.{own_names}
-use Rattle.jt_rules.specs.CompileEnv.{CompileEnv}
-use Rattle.jt_semantics.specs.Layout.{names_in}
+use Rattle.jt_chains.specs.View.{chain_view, namespace_in}
+use Rattle.jt_chains.specs.declared.chain.Chain.{Chain}
+use Rattle.jt_rules.specs.CompileEnv.{CompileEnv, cenv_of}
+use Rattle.jt_semantics.specs.Layout.{names, names_in}
 use Rattle.jt_semantics.specs.Resolve.{next_given}
 use Rattle.jt_names.specs.Names.{value_in}
 
@@ -48,3 +50,19 @@ defaults_from n (m ∷ ms) = n ∷ defaults_from (n + length m.parameters) ms
 abbrev pub nexts : List (ℕ × BlockBody) → List (Option ℕ)
 nexts [] = []
 nexts (b ∷ bs) = next_given (filter (λ c. bytes_eq c.1.name b.1.name) bs) ∷ nexts bs
+
+module _ (c : Chain) where
+  abbrev pub its_cenv : CompileEnv
+  its_cenv = cenv_of (chain_view c)
+
+  -- The chains and libraries.
+  abbrev pub its_order : List Namespace
+  its_order = (chain_view c).order
+
+  -- The names of the chain or library at an index.
+  abbrev pub its_names : ℕ → List Text
+  its_names i = names its_cenv its_order (namespace_in c i)
+
+  -- The map has the names of each remaining chain, and no other entries.
+  abbrev pub AreNames : List Namespace → BTreeMap (Bor Text) (Vec (Bor Text) Global) → Type 0
+  AreNames left m = (x : Text) → names_at m x ≡ names_in its_cenv left (a_chain x)

@@ -1,12 +1,12 @@
 use Rattle.jt_chains.specs.Parts.{blocks_view}
 use Rattle.jt_chains.specs.View.{its_templates}
-use Rattle.jt_layout.proofs.Vocabulary.{ap, arith, length, map, string_bytes, sym, ◌&&◌, ◌+◌, ◌∙◌, ◌≡◌, length-map}
-use Rattle.jt_layout.proofs.Vocabulary.{list_any, option_map, slice_get, bytes_eq, texts, name_of_namespace, all_bodies}
-use Rattle.jt_layout.proofs.Vocabulary.{macros, block_view, macro_view, namespace_view, namespace_in, global, first_of}
-use Rattle.jt_layout.proofs.Vocabulary.{is_library, FirstFree, NamespaceLayout, nexts, its_cenv, its_order}
+use Rattle.jt_layout.proofs.Vocabulary.{ap, arith, length, map, rules, sym, ◌&&◌, ◌+◌, ◌∙◌, ◌≡◌, length-map, list_any}
+use Rattle.jt_layout.proofs.Vocabulary.{option_map, slice_get, bytes_eq, texts, name_of_namespace, all_bodies, macros}
+use Rattle.jt_layout.proofs.Vocabulary.{block_view, macro_view, namespace_in, global, first_of, unit, nexts, its_cenv}
+use Rattle.jt_layout.proofs.Vocabulary.{its_order}
 use Rattle.jt_layout.proofs.FirstOccurrences.{first_bodies, in_slots, length-counted, length-nexts, next_at}
-use Rattle.jt_layout.proofs.LayoutCorrect.{body_units, chain_unit, first_here, front_turn, is_called, kind_named}
-use Rattle.jt_layout.proofs.LayoutCorrect.{known_here, new_here, rest, scoped_laid, slot_here}
+use Rattle.jt_layout.proofs.LayoutCorrect.{body_units, chain_unit, first_here, front_turn, is_called}
+use Rattle.jt_layout.proofs.LayoutCorrect.{known_here, new_here, scoped_laid, slot_here}
 use Rattle.jt_semantics.specs.Layout as layout
 use Rattle.jt_layout.proofs.layout.lay_chain.Goals as goal
 
@@ -22,7 +22,6 @@ returns c =
     let O = its_order a in
     let h = namespace_in a i in
     let lt = c.requires.stands in
-    let after = rest a i lt in
     let s = first_here a i lt f c.requires.front in
     let macro_count : length known.macros.items ≡ length (macros W.sources h) =
     omega (arith, length-map known.macros.items (macro_view ts), ap length facts.all_macros) in
@@ -30,56 +29,36 @@ returns c =
     omega (arith, length-map known.blocks.items (block_view ts), ap length facts.all_blocks) in
     let defaults = rw c.deref-4.ensures.value at c.in_ok-defaults.ensures.indexed ts in
     let k = c.index-itself.result.now in
-    let is : h ≡ namespace_view k = name_of_namespace a.namespaces.items i k lt c.index-itself.ensures in
-    let entries : c.entries_of.result ≡ length (layout.entry_keys W h) =
-    c.entries_of.ensures W ∙ ap (λ z. length (layout.entry_keys W z)) (sym is) in
+    let is = name_of_namespace a.namespaces.items i k lt c.index-itself.ensures in
     let macro_unit : c.in_ok-macro_unit.macro_unit ≡ f.unit + length (layout.entry_keys W h) =
-    omega (arith, c.in_ok-macro_unit.ensures, entries) in
+    omega
+    (arith, c.in_ok-macro_unit.ensures, c.entries_of.ensures W, ap (λ z. length (layout.entry_keys W z)) is) in
     let unit : c.in_ok-body_unit.body_unit
     ≡ f.unit + (length (layout.entry_keys W h) + length (macros W.sources h)) =
     omega (arith, c.in_ok-body_unit.ensures, c.len.ensures, known.macros.ok.0, macro_count) in
     let nexts_are : c.in_ok-next_bodies.next_bodies.items ≡ nexts (layout.numbered_bodies W h) =
     c.in_ok-next_bodies.ensures ts
     ∙ ap (λ z. nexts (layout.counted_from 0 z)) (ap (blocks_view ts) c.deref-5.ensures.value ∙ facts.all_blocks) in
-    let l : NamespaceLayout = record {
-      is_library = k.is_library;
-      known = c.at-known.result;
-      names = c.args.names;
-      slots = c.in_ok-slots.slots;
-      first_slot = f.slot;
-      unit = f.unit;
-      macro_unit = c.in_ok-macro_unit.macro_unit;
-      body_unit = c.in_ok-body_unit.body_unit;
-      called = c.in_ok-called.called;
-      defaults = c.in_ok-defaults.defaults.indices;
-      next_bodies = c.in_ok-next_bodies.next_bodies;
-      scoped = c.in_ok-scoped.scoped;
-    } in
-    let g : FirstFree = record {
-      slot = c.in_ok-behind_slot.behind_slot;
-      unit = c.in_ok-behind_unit.behind_unit;
-      default = c.in_ok-defaults.defaults.end;
-    } in
     record {
       namespace_layout = record {
-        kind = kind_named k.is_library (string_bytes k.name) ∙ ap is_library (sym is);
+        kind = search (arith, rules, is);
         named = c.requires.named;
         in_slots =
             λ x. ap (option_map global) (c.in_ok-slots.ensures x) ∙ in_slots x f.slot (texts c.deref.result.now)
             ∙ ap (λ ns. layout.slot_in x (layout.globals_from f.slot ns))
             (ap texts c.deref.ensures.value ∙ c.requires.named)
-            ∙ ap (λ n. layout.slot_in x (layout.globals_from n (layout.names W O h))) (sym (slot_here W O h after f s));
-        from = sym (slot_here W O h after f s);
-        chain_unit = λ n e. chain_unit W O h after f s n e;
+            ∙ ap (λ n. layout.slot_in x (layout.globals_from n (layout.names W O h))) (sym (slot_here _ _ _ _ _ s));
+        from = sym (slot_here _ _ _ _ _ s);
+        chain_unit = λ n e. chain_unit _ _ _ _ _ s n e;
         all_macros = facts.all_macros;
         by_names =
-            λ x. is_called W O h after f s ts l facts.all_macros defaults macro_unit x _
+            λ x. is_called _ _ _ _ _ s ts _ facts.all_macros defaults macro_unit x _
             (c.in_ok-called.ensures x
             ∙ ap (first_of x 0) (ap texts c.deref-3.ensures.value ∙ c.in_ok-macros.ensures
             ∙ ap (map (λ m. m.name.now)) c.deref-2.ensures.value));
         all_given = facts.all_given;
         all_blocks = facts.all_blocks;
-        body_units = λ k under. body_units W O h after f s ts known.blocks.items facts.all_blocks _ k unit under;
+        body_units = λ k under. body_units _ _ _ _ _ s ts known.blocks.items facts.all_blocks _ k unit under;
         firsts = λ x. facts.first_bodies x ∙ first_bodies x 0 (all_bodies W.sources W.escaping h);
         nexts =
             λ k n e b cs d. next_at (layout.numbered_bodies W h) k n
@@ -87,14 +66,14 @@ returns c =
         all_next =
             ap length nexts_are ∙ length-nexts (layout.numbered_bodies W h)
             ∙ length-counted 0 (all_bodies W.sources W.escaping h) ∙ sym body_count;
-        scoped = λ x. scoped_laid W O h after f s (known_here a i lt) x _ _
+        scoped = λ x. scoped_laid _ _ _ _ _ s (known_here a i lt) x _ _
             (c.in_ok-scoped.ensures ts x
             ∙ ap (list_any (λ k. k.scoped && bytes_eq k.name x))
             (ap (blocks_view ts) c.deref-6.ensures.value ∙ facts.all_blocks))
             facts.scope_names;
       };
       behind =
-          front_turn W O h after f s (new_here a i lt) g
+          front_turn _ _ _ _ _ s (new_here a i lt) _
           (omega (
             arith,
             c.in_ok-behind_slot.ensures,

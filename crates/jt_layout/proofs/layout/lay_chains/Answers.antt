@@ -1,9 +1,9 @@
 use Rattle.jt_names.proofs.EachItem.{each_more}
 use Rattle.jt_layout.proofs.Vocabulary.{[], ap, arith, drop, length, length-append, rules, string_bytes, subst, sym}
-use Rattle.jt_layout.proofs.Vocabulary.{◌+◌, ◌<◌, ◌∙◌, ◌∷◌, ◌≡◌, ◌≤◌, at_drop_all, length-map, flat_map}
-use Rattle.jt_layout.proofs.Vocabulary.{name_of_namespace, a_chain, listed, same_namespace, namespace_view}
-use Rattle.jt_layout.proofs.Vocabulary.{namespace_in, AreLaid, IsLaidAt, names_at, its_cenv, its_order}
-use Rattle.jt_layout.proofs.LayoutCorrect.{first_front, left_turn, listed_left, names_handed}
+use Rattle.jt_layout.proofs.Vocabulary.{◌+◌, ◌<◌, ◌∙◌, ◌∷◌, at_drop_all, length-map, flat_map, name_of_namespace}
+use Rattle.jt_layout.proofs.Vocabulary.{a_chain, listed, same_namespace, namespace_view, namespace_in, AreLaid}
+use Rattle.jt_layout.proofs.Vocabulary.{IsLaidAt, names_at, its_cenv, its_order}
+use Rattle.jt_layout.proofs.LayoutCorrect.{left_turn, listed_left, names_handed}
 use Rattle.jt_semantics.specs.Layout as layout
 use Rattle.jt_layout.proofs.layout.lay_chains.Goals as goal
 
@@ -14,8 +14,7 @@ lay_chain-requires c =
     let lt : l.namespace < length a.namespaces.items =
     omega (arith, c.loop-namespace-test.true, c.len-namespace-end.ensures, a.namespaces.ok.0) in
     let k = c.index.result.now in
-    let is : namespace_in a l.namespace ≡ namespace_view k =
-    name_of_namespace a.namespaces.items l.namespace k lt c.index.ensures in
+    let is = name_of_namespace a.namespaces.items l.namespace k lt c.index.ensures in
     record {
       known = c.requires.known;
       stands = lt;
@@ -28,7 +27,7 @@ lay_chain-requires c =
     }
 
 pub loop-namespace-init : goal.loop-namespace-init
-loop-namespace-init c = search (arith, rules, first_front)
+loop-namespace-init c = search (arith, rules)
 
 pub loop-namespace-preserved : goal.loop-namespace-preserved
 loop-namespace-preserved c =
@@ -36,8 +35,7 @@ loop-namespace-preserved c =
     let l = c.loop-namespace in
     let lt : l.namespace < length a.namespaces.items =
     omega (arith, c.loop-namespace-test.true, c.len-namespace-end.ensures, a.namespaces.ok.0) in
-    let is : namespace_in a l.namespace ≡ namespace_view c.index.result.now =
-    name_of_namespace a.namespaces.items l.namespace c.index.result.now lt c.index.ensures in
+    let is = name_of_namespace a.namespaces.items l.namespace c.index.result.now lt c.index.ensures in
     let laid = c.in_ok-indexed.indexed.namespace_layout in
     record {
       stands = c.in_ok-indexed.ensures.behind;
@@ -58,13 +56,14 @@ pub returns-clause-units : goal.returns-clause-units
 returns-clause-units c =
     let a = c.args.facts.now.chain.now in
     let l = c.loop-namespace in
-    let W = its_cenv a in
-    let le : length (its_order a) ≤ l.namespace = omega (
+    omega (
       arith,
-      c.loop-namespace-test.false,
-      c.len-namespace-end.ensures,
-      a.namespaces.ok.0,
-      length-map a.namespaces.items namespace_view,
-    ) in
-    let none = at_drop_all (λ hs. length (flat_map (layout.chain_keys W) hs)) (its_order a) l.namespace le in
-    omega (arith, l.invariant.stands.all, none)
+      l.invariant.stands.all,
+      at_drop_all (λ hs. length (flat_map (layout.chain_keys (its_cenv a)) hs)) (its_order a) l.namespace (omega (
+        arith,
+        c.loop-namespace-test.false,
+        c.len-namespace-end.ensures,
+        a.namespaces.ok.0,
+        length-map a.namespaces.items namespace_view,
+      )),
+    )
