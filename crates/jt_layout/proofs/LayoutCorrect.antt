@@ -3,7 +3,7 @@ use Rattle.std.proofs.Common.{◌==◌}
 use Rattle.std.proofs.lemmas.Bool.Decides.{nat_tests}
 use Rattle.jt_semantics.specs.Layout.{of_chain, same_key, chain_keys, numbered_bodies, block_parameters, first_slot}
 use Rattle.jt_semantics.specs.Layout.{is_scoped}
-use Rattle.jt_layout.specs.internal.Front.{namespace_of}
+use Rattle.jt_layout.specs.internal.Layouts.{namespace_of}
 use Rattle.std.proofs.lemmas.Bool.{or_right}
 use Rattle.jt_chains.specs.Includes.{InOrder}
 use Rattle.jt_chains.specs.declared.chain.Chain.{Chain}

@@ -7,7 +7,7 @@ use Rattle.jt_chains.specs.Uses.{own_names}
 use Rattle.jt_chains.specs.declared.include_tags.NeededTemplate.{NeededTemplate}
 use Rattle.jt_chains.specs.Needs.{include_need}
 use Rattle.jt_chains.proofs.IncludeCollection.{by_templates}
-use Rattle.jt_layout.specs.internal.Indices.{all_names}
+use Rattle.jt_layout.specs.internal.Layouts.{all_names}
 use Rattle.jt_names.proofs.SortedNames.{ascending_inserted, inserted_both}
 use Rattle.jt_layout.proofs.Vocabulary.{Bool, Global, List, Vec, [], ap, arith, drop, false, if◌then◌else◌, length, map}
 use Rattle.jt_layout.proofs.Vocabulary.{refl, rules, true, ℕ, ◌+◌, ◌<◌, ◌∙◌, ◌∷◌, ◌≡◌, is_some, flat_map, bytes_eq, Bor}

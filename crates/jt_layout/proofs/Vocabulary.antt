@@ -32,6 +32,6 @@ pub use Rattle.jt_semantics.specs.Resolve.{next_given}
 pub use Rattle.jt_layout.specs.NamespaceLayout.{is_library}
 pub use Rattle.jt_layout.specs.declared.front.FirstFree.{FirstFree}
 pub use Rattle.jt_layout.specs.declared.namespace_layout.NamespaceLayout.{NamespaceLayout}
-pub use Rattle.jt_layout.specs.internal.Front.{AreLaid, IsLaidAt, Stands, StandsAt}
-pub use Rattle.jt_layout.specs.internal.Indices.{defaults_from, first_namespace, names_at, namespace_named, nexts}
-pub use Rattle.jt_layout.specs.internal.Indices.{texts_of, AreNames, its_cenv, its_order}
+pub use Rattle.jt_layout.specs.internal.Layouts.{AreLaid, IsLaidAt, Stands, StandsAt, defaults_from, first_namespace}
+pub use Rattle.jt_layout.specs.internal.Layouts.{names_at, namespace_named, nexts, texts_of, AreNames, its_cenv}
+pub use Rattle.jt_layout.specs.internal.Layouts.{its_order}

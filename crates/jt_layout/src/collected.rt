@@ -9,8 +9,8 @@ ghost use Rattle.jt_chains.specs.Chain.{a_chain, same_namespace};
 ghost use Rattle.jt_chains.specs.TemplateFiles.{namespace_view};
 ghost use Rattle.jt_semantics.specs.Layout.{in_globals};
 ghost use Rattle.jt_chains.specs.View.{namespace_in};
-ghost use Rattle.jt_layout.specs.internal.Indices.{AreNames, all_names, its_cenv, its_order};
-ghost use Rattle.jt_layout.specs.internal.Indices.{names_at};
+ghost use Rattle.jt_layout.specs.internal.Layouts.{AreNames, all_names, its_cenv, its_order};
+ghost use Rattle.jt_layout.specs.internal.Layouts.{names_at};
 ghost use Rattle.jt_names.specs.FactsOfChains.{AllKnown};
 ghost use Rattle.jt_names.specs.Names.{Puts};
 

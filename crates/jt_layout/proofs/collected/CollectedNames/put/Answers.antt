@@ -7,9 +7,9 @@ returns c =
       arith,
       rules,
       btree_map_updates_str
-        c.args.chain.now
-        c.args.self.now.names
-        c.insert.new.self
-        (Some c.args.names)
-        c.in_ok-insert.ensures.updates,
+          c.args.chain.now
+          c.args.self.now.names
+          c.insert.new.self
+          (Some c.args.names)
+          c.in_ok-insert.ensures.updates,
     )
