@@ -3,7 +3,8 @@
 ghost use Rattle.jt_semantics.specs.Resolve as resolve;
 ghost use Rattle.jt_eval.specs.TheFilters as the;
 ghost use Rattle.jt_ir.specs.Slots as slots;
-ghost use Rattle.jt_bind.specs.internal.{◌≡◌, IfOk, List, drop, length, pairs_view, parameter_view};
+ghost use Rattle.std.specs.Prelude.{◌≡◌};
+ghost use Rattle.jt_bind.specs.internal.{IfOk, List, drop, length, pairs_view, parameter_view};
 ghost use Rattle.jt_bind.specs.internal.{parameters_view, among, RowAdds, by_name, filled_of};
 ghost use Rattle.jt_bind.specs.internal.{kept_of, IsAdded, RowLeads, keywords, default_value};
 ghost use Rattle.jt_bind.specs.internal.{some_given, own, slot_in, Tree};

@@ -3,9 +3,10 @@
 ghost use Rattle.jt_value.specs.Tree as tree;
 ghost use Rattle.jt_ir.specs.Slots as slots;
 ghost use Rattle.jt_ir.specs.declared.program.SlotStmt.TheVariants as s;
-ghost use Rattle.jt_bind.specs.internal.{alone, ◌++◌, ◌∷◌, ◌≡◌, IfOk, List, [], Text, Chains};
-ghost use Rattle.jt_bind.specs.internal.{IsShown, templates_in, values, Emits, line_in, place_of};
-ghost use Rattle.jt_bind.specs.internal.{Constant, own};
+ghost use Rattle.std.specs.Prelude.{◌++◌, ◌∷◌, ◌≡◌};
+ghost use Rattle.jt_bind.specs.internal.{alone, IfOk, List, [], Text, Chains, IsShown};
+ghost use Rattle.jt_bind.specs.internal.{templates_in, values, Emits, line_in, place_of, Constant};
+ghost use Rattle.jt_bind.specs.internal.{own};
 
 use crate::Result;
 use crate::held::Held;

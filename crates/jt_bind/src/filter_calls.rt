@@ -1,9 +1,10 @@
 //! Resolves the filters of a filter tag.
 
 ghost use Rattle.jt_ir.specs.Slots as slots;
-ghost use Rattle.jt_bind.specs.internal.{◌∷◌, [], filters_in, ◌≡◌, IfOk, List, length};
-ghost use Rattle.jt_bind.specs.internal.{filter_call_view, filter_calls_view, IsPlaced, values};
-ghost use Rattle.jt_bind.specs.internal.{Constant, filtered_view, slot_view, Tree};
+ghost use Rattle.std.specs.Prelude.{◌∷◌, ◌≡◌};
+ghost use Rattle.jt_bind.specs.internal.{[], filters_in, IfOk, List, length, filter_call_view};
+ghost use Rattle.jt_bind.specs.internal.{filter_calls_view, IsPlaced, values, Constant};
+ghost use Rattle.jt_bind.specs.internal.{filtered_view, slot_view, Tree};
 
 use crate::Result;
 use crate::lookup::absent;

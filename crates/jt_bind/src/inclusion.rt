@@ -2,10 +2,11 @@
 
 ghost use Rattle.jt_semantics.specs.Resolve as resolve;
 ghost use Rattle.jt_ast.specs.Statements as trees;
-ghost use Rattle.jt_bind.specs.internal.{if◌then◌else◌, ◌≡◌, Bool, IfOk, List, [], ℕ, is_ignored};
-ghost use Rattle.jt_bind.specs.internal.{passes_context, texts, Chains, line_of, stmt_of, table_of};
-ghost use Rattle.jt_bind.specs.internal.{templates_of, PutsNone, globals_in, senv_in, templates_in};
-ghost use Rattle.jt_bind.specs.internal.{Emits, slot_in, Tree};
+ghost use Rattle.std.specs.Prelude.{if◌then◌else◌, ◌≡◌};
+ghost use Rattle.jt_bind.specs.internal.{Bool, IfOk, List, [], ℕ, is_ignored, passes_context};
+ghost use Rattle.jt_bind.specs.internal.{texts, Chains, line_of, stmt_of, table_of, templates_of};
+ghost use Rattle.jt_bind.specs.internal.{PutsNone, globals_in, senv_in, templates_in, Emits};
+ghost use Rattle.jt_bind.specs.internal.{slot_in, Tree};
 
 use crate::Result;
 use crate::emission::{SlotBody, put_assign, put_print, put_run};

@@ -5,7 +5,8 @@ ghost use Rattle.jt_bind.specs.internal.Counts as counts;
 ghost use Rattle.jt_ir.specs.Locals as locals;
 ghost use Rattle.jt_ir.specs.Slots as slots;
 ghost use Rattle.jt_ir.specs.View.{body_view};
-ghost use Rattle.jt_bind.specs.internal.{◌≡◌, IfOk, List, map, max, option_map, Text, expr_view};
+ghost use Rattle.std.specs.Prelude.{◌≡◌};
+ghost use Rattle.jt_bind.specs.internal.{IfOk, List, map, max, option_map, Text, expr_view};
 ghost use Rattle.jt_bind.specs.internal.{filtered_view, row_view, slot_view, targets_view};
 ghost use Rattle.jt_bind.specs.internal.{stmt_view};
 

@@ -2,8 +2,9 @@
 
 ghost use Rattle.jt_semantics.specs.Resolve as resolve;
 ghost use Rattle.jt_ir.specs.Slots as slots;
-ghost use Rattle.jt_bind.specs.internal.{◌≡◌, IfOk, option_map, pairs_view, kept_of, table_of};
-ghost use Rattle.jt_bind.specs.internal.{PutsNone, globals_in, known, slot_view, slot_in};
+ghost use Rattle.std.specs.Prelude.{◌≡◌};
+ghost use Rattle.jt_bind.specs.internal.{IfOk, option_map, pairs_view, kept_of, table_of, PutsNone};
+ghost use Rattle.jt_bind.specs.internal.{globals_in, known, slot_view, slot_in};
 
 use crate::Result;
 use crate::resolver::Resolver;

@@ -2,7 +2,8 @@
 
 ghost use Rattle.jt_semantics.specs.Layout as layout;
 ghost use Rattle.jt_semantics.specs.Programs as programs;
-ghost use Rattle.jt_bind.specs.internal.{◌≡◌, IfOk, map, string_bytes, texts, cenv_in, order_in};
+ghost use Rattle.std.specs.Prelude.{◌≡◌};
+ghost use Rattle.jt_bind.specs.internal.{IfOk, map, string_bytes, texts, cenv_in, order_in};
 ghost use Rattle.jt_bind.specs.internal.{namespace_at, files_view};
 
 use crate::Result;

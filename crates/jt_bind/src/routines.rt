@@ -2,11 +2,12 @@
 //! its blocks.
 
 ghost use Rattle.jt_semantics.specs.Resolve as resolve;
-ghost use Rattle.jt_bind.specs.internal.{senv_of, layer_at, ◌≡◌, IfOk, Text, body_view, texts};
-ghost use Rattle.jt_bind.specs.internal.{Puts, routine_of, sets_of, AreRoutines, RoutineIs};
-ghost use Rattle.jt_bind.specs.internal.{blocks_in, entry_in, macros_in, routines_in, cenv_in};
-ghost use Rattle.jt_bind.specs.internal.{namespace_in, order_in, senv_in, templates_in, top_in};
-ghost use Rattle.jt_bind.specs.internal.{values, Emits, layers_in, a_chain};
+ghost use Rattle.std.specs.Prelude.{◌≡◌};
+ghost use Rattle.jt_bind.specs.internal.{senv_of, layer_at, IfOk, Text, body_view, texts, Puts};
+ghost use Rattle.jt_bind.specs.internal.{routine_of, sets_of, AreRoutines, RoutineIs, blocks_in};
+ghost use Rattle.jt_bind.specs.internal.{entry_in, macros_in, routines_in, cenv_in, namespace_in};
+ghost use Rattle.jt_bind.specs.internal.{order_in, senv_in, templates_in, top_in, values, Emits};
+ghost use Rattle.jt_bind.specs.internal.{layers_in, a_chain};
 
 use crate::Result;
 use crate::emission::SlotBody;

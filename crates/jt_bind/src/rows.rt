@@ -1,8 +1,8 @@
 //! Builds lists of resolved expressions.
 
 ghost use Rattle.jt_semantics.specs.Resolve as resolve;
-ghost use Rattle.jt_bind.specs.internal.{◌++◌, ◌∷◌, ◌≡◌, IfOk, List, [], length, Text, texts};
-ghost use Rattle.jt_bind.specs.internal.{table_of, IsRow};
+ghost use Rattle.std.specs.Prelude.{◌++◌, ◌∷◌, ◌≡◌};
+ghost use Rattle.jt_bind.specs.internal.{IfOk, List, [], length, Text, texts, table_of, IsRow};
 
 use crate::Result;
 use crate::lookup::reading;

@@ -22,8 +22,9 @@ pub(crate) struct StaticEnv<'s, 'a> {
 }
 
 impl<'s, 'a> StaticEnv<'s, 'a> {
-    ghost use Rattle.jt_bind.specs.internal.{◌≡◌, List, Text, bound_all, Chains, Enters};
-    ghost use Rattle.jt_bind.specs.internal.{globals_in, senv_in, place_of};
+    ghost use Rattle.std.specs.Prelude.{◌≡◌};
+    ghost use Rattle.jt_bind.specs.internal.{List, Text, bound_all, Chains, Enters, globals_in};
+    ghost use Rattle.jt_bind.specs.internal.{senv_in, place_of};
 
     /// Returns the environment without scopes, so that names are globals.
     pub(crate) fn outside(self) -> StaticEnv<'s, 'a>

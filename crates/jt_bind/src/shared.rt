@@ -1,8 +1,9 @@
 //! Builds the values at the beginning of the pool.
 
 ghost use Rattle.jt_semantics.specs.Layout as layout;
-ghost use Rattle.jt_bind.specs.internal.{◌++◌, ◌≡◌, IfOk, List, map, parameter_view, cenv_in};
-ghost use Rattle.jt_bind.specs.internal.{order_in, values, Template, macro_view, default_value};
+ghost use Rattle.std.specs.Prelude.{◌++◌, ◌≡◌};
+ghost use Rattle.jt_bind.specs.internal.{IfOk, List, map, parameter_view, cenv_in, order_in};
+ghost use Rattle.jt_bind.specs.internal.{values, Template, macro_view, default_value};
 
 use crate::Result;
 use crate::operator_forms::default_of;

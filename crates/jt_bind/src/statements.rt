@@ -6,12 +6,12 @@ ghost use Rattle.jt_semantics.specs.Meaning.{is_set};
 ghost use Rattle.jt_semantics.specs.Resolve as resolve;
 ghost use Rattle.jt_ast.specs.Statements as trees;
 ghost use Rattle.jt_ir.specs.Slots as slots;
-ghost use Rattle.jt_bind.specs.internal.{values_in, condition_in, if◌then◌else◌, IfOk, []};
-ghost use Rattle.jt_bind.specs.internal.{option_map, ℕ, pairs_view, body_view, branches_view};
-ghost use Rattle.jt_bind.specs.internal.{filter_calls_view, names_view, texts, BranchIs, Puts};
-ghost use Rattle.jt_bind.specs.internal.{PutsStmt, TurnsAre, body_of, expr_of, inside_of};
-ghost use Rattle.jt_bind.specs.internal.{scoped_of, senv_of, stmt_of, templates_of, values, Emits};
-ghost use Rattle.jt_bind.specs.internal.{IsAsked, IsHead, slot_view};
+ghost use Rattle.std.specs.Prelude.{if◌then◌else◌};
+ghost use Rattle.jt_bind.specs.internal.{values_in, condition_in, IfOk, [], option_map, ℕ};
+ghost use Rattle.jt_bind.specs.internal.{pairs_view, body_view, branches_view, filter_calls_view};
+ghost use Rattle.jt_bind.specs.internal.{names_view, texts, BranchIs, Puts, PutsStmt, TurnsAre};
+ghost use Rattle.jt_bind.specs.internal.{body_of, expr_of, inside_of, scoped_of, senv_of, stmt_of};
+ghost use Rattle.jt_bind.specs.internal.{templates_of, values, Emits, IsAsked, IsHead, slot_view};
 
 use crate::Result;
 use crate::emission::{

@@ -2,9 +2,10 @@
 
 ghost use Rattle.jt_names.specs.FactsOfChains.{AllKnown};
 ghost use Rattle.jt_layout.specs.NamespaceLayout.{IsNamespaceAt};
-ghost use Rattle.jt_bind.specs.internal.{is_none, ◌<◌, ◌≡◌, IfOk, length, AreTables, IsTable};
-ghost use Rattle.jt_bind.specs.internal.{cenv_in, namespace_in, order_in, a_chain, a_library};
-ghost use Rattle.jt_bind.specs.internal.{namespace_at, keys};
+ghost use Rattle.std.specs.Prelude.{◌<◌, ◌≡◌};
+ghost use Rattle.jt_bind.specs.internal.{is_none, IfOk, length, AreTables, IsTable, cenv_in};
+ghost use Rattle.jt_bind.specs.internal.{namespace_in, order_in, a_chain, a_library, namespace_at};
+ghost use Rattle.jt_bind.specs.internal.{keys};
 
 use crate::Result;
 use jt_chains::Chain;

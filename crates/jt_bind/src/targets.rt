@@ -1,9 +1,9 @@
 //! Resolves the targets of assignments and loops.
 
 ghost use Rattle.jt_semantics.specs.Resolve as resolve;
-ghost use Rattle.jt_bind.specs.internal.{is_some, if◌then◌else◌, ◌≡◌, IfOk, None, map, option_map};
-ghost use Rattle.jt_bind.specs.internal.{names_view, table_of, slot_in, slot_view, targets_view};
-ghost use Rattle.jt_bind.specs.internal.{value_in};
+ghost use Rattle.std.specs.Prelude.{if◌then◌else◌, ◌≡◌};
+ghost use Rattle.jt_bind.specs.internal.{is_some, IfOk, None, map, option_map, names_view};
+ghost use Rattle.jt_bind.specs.internal.{table_of, slot_in, slot_view, targets_view, value_in};
 
 use crate::Result;
 use crate::resolver::Resolver;

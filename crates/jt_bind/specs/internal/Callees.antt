@@ -1,7 +1,8 @@
 -- The callee of a call, and its representation in the code. Only private clauses cite this module.
 use Rattle.jt_chains.specs.Chain as chain
 use Rattle.jt_bind.specs.declared.callee.Callee.TheVariants as c
-use Rattle.jt_bind.specs.internal.Vocabulary.{◌≡◌, ℕ, true, List, Option, Some, None, option_map, Text, parameters_view}
+use Rattle.std.specs.Prelude.{◌≡◌}
+use Rattle.jt_bind.specs.internal.Vocabulary.{ℕ, true, List, Option, Some, None, option_map, Text, parameters_view}
 use Rattle.jt_bind.specs.internal.Vocabulary.{Namespace, listed, MacroBody, macros, macro_of, Definition, one_macro}
 use Rattle.jt_bind.specs.internal.Vocabulary.{library, CompileEnv, of_macro, of_body, unit, default_index, Signature}
 use Rattle.jt_bind.specs.internal.Vocabulary.{Callee}

@@ -1,8 +1,9 @@
 -- The number of locals that parts of resolved statements use. Only private clauses
 -- cite this module.
 use Rattle.jt_ir.specs.View.{body_view}
-use Rattle.jt_bind.specs.internal.Vocabulary.{◌≡◌, ℕ, suc, max, List, [], ◌∷◌, Option, Some, None, Text, slot_locals}
-use Rattle.jt_bind.specs.internal.Vocabulary.{Front, SBody, expr_locals, body_locals, Slot, end, expr_view, SlotBranch}
+use Rattle.std.specs.Prelude.{◌≡◌, ◌∷◌}
+use Rattle.jt_bind.specs.internal.Vocabulary.{ℕ, suc, max, List, [], Option, Some, None, Text, slot_locals, Front}
+use Rattle.jt_bind.specs.internal.Vocabulary.{SBody, expr_locals, body_locals, Slot, end, expr_view, SlotBranch}
 use Rattle.jt_bind.specs.internal.Vocabulary.{SlotStmt}
 
 -- The number of locals up to one, if there is one.

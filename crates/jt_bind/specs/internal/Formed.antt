@@ -2,7 +2,8 @@
 use Rattle.jt_value.specs.Tree as tree
 use Rattle.jt_semantics.specs.Operators as operators
 use Rattle.jt_bind.specs.declared.operator_forms.OperatorForm.TheVariants as f
-use Rattle.jt_bind.specs.internal.Vocabulary.{◌≡◌, ℕ, ◌≤◌, ◌^◌, Result, Ok, Err, pos, view, Value}
+use Rattle.std.specs.Prelude.{◌≡◌, ◌≤◌, ◌^◌}
+use Rattle.jt_bind.specs.internal.Vocabulary.{ℕ, Result, Ok, Err, pos, view, Value}
 use Rattle.jt_bind.specs.declared.operator_forms.OperatorForm.{OperatorForm}
 
 abbrev pub form_view : OperatorForm → operators.OperatorForm

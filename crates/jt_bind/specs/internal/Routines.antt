@@ -4,8 +4,9 @@ use Rattle.std.specs.declared.alloc.Global.{Global}
 use Rattle.jt_semantics.specs.Programs as programs
 use Rattle.jt_semantics.specs.Resolve as resolve
 use Rattle.jt_ir.specs.Slots as slots
-use Rattle.jt_bind.specs.internal.Vocabulary.{MacroBody, BlockBody, ℕ, ◌≡◌, List, ◌++◌, length, map, Vec, Value, Tree}
-use Rattle.jt_bind.specs.internal.Vocabulary.{Text, macros, Constant, body_values, routines_values, placed_routine}
+use Rattle.std.specs.Prelude.{◌≡◌, ◌++◌}
+use Rattle.jt_bind.specs.internal.Vocabulary.{MacroBody, BlockBody, ℕ, List, length, map, Vec, Value, Tree, Text}
+use Rattle.jt_bind.specs.internal.Vocabulary.{macros, Constant, body_values, routines_values, placed_routine}
 use Rattle.jt_bind.specs.internal.Vocabulary.{placed_routines, routine_view, Routine}
 use Rattle.jt_bind.specs.internal.Scoped.{numbered_in, values, cenv_in, order_in, namespace_in, templates_in}
 use Rattle.jt_bind.specs.internal.Selected.{Chains}

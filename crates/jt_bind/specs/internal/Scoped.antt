@@ -14,15 +14,16 @@ use Rattle.jt_chains.specs.declared.definitions.Definition as found
 use Rattle.jt_ast.specs.Expressions as trees
 use Rattle.jt_ir.specs.Slots as slots
 use Rattle.jt_semantics.specs.Resolve as resolve
-use Rattle.jt_bind.specs.internal.Vocabulary.{given, Template, ◌≡◌, ℕ, pos, ◌<◌, List, [], ◌∷◌, ◌++◌, map, drop, length}
-use Rattle.jt_bind.specs.internal.Vocabulary.{get_or, filter, Option, Some, None, Vec, Rc, bytes_eq, Bor, Tree, number}
-use Rattle.jt_bind.specs.internal.Vocabulary.{Index0, view, Value, Text, Namespace, BlockBody, Definition, callee}
-use Rattle.jt_bind.specs.internal.Vocabulary.{macros, macro_of, name_at, count, keywords, namespace_at, CompileEnv}
-use Rattle.jt_bind.specs.internal.Vocabulary.{cenv_of, Constant, own, expr_values, row_values, body_values, placed_expr}
-use Rattle.jt_bind.specs.internal.Vocabulary.{placed_row, placed_body, SRow, SBody, expr_view, row_view, SlotStmt}
-use Rattle.jt_bind.specs.internal.Vocabulary.{Table, globals, numbered_bodies, numbered_of, block_parameters, Part}
-use Rattle.jt_bind.specs.internal.Vocabulary.{bound_table, bound_all, filled_some, locals_from, texts, NameScope}
-use Rattle.jt_bind.specs.internal.Vocabulary.{StaticEnv, NamespaceLayout, Callee}
+use Rattle.std.specs.Prelude.{◌≡◌, ◌<◌, ◌∷◌, ◌++◌}
+use Rattle.jt_bind.specs.internal.Vocabulary.{given, Template, ℕ, pos, List, [], map, drop, length, get_or, filter}
+use Rattle.jt_bind.specs.internal.Vocabulary.{Option, Some, None, Vec, Rc, bytes_eq, Bor, Tree, number, Index0, view}
+use Rattle.jt_bind.specs.internal.Vocabulary.{Value, Text, Namespace, BlockBody, Definition, callee, macros, macro_of}
+use Rattle.jt_bind.specs.internal.Vocabulary.{name_at, count, keywords, namespace_at, CompileEnv, cenv_of, Constant}
+use Rattle.jt_bind.specs.internal.Vocabulary.{own, expr_values, row_values, body_values, placed_expr, placed_row}
+use Rattle.jt_bind.specs.internal.Vocabulary.{placed_body, SRow, SBody, expr_view, row_view, SlotStmt, Table, globals}
+use Rattle.jt_bind.specs.internal.Vocabulary.{numbered_bodies, numbered_of, block_parameters, Part, bound_table}
+use Rattle.jt_bind.specs.internal.Vocabulary.{bound_all, filled_some, locals_from, texts, NameScope, StaticEnv}
+use Rattle.jt_bind.specs.internal.Vocabulary.{NamespaceLayout, Callee}
 use Rattle.jt_bind.specs.declared.scope_entry.EnteredScope.{EnteredScope}
 use Rattle.jt_bind.specs.internal.Selected.{Chains}
 use Rattle.jt_bind.specs.internal.Callees.{IsCallee, of_namespace, unit_of}

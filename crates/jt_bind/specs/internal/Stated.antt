@@ -8,11 +8,11 @@ use Rattle.jt_ast.specs.Expressions as expressions
 use Rattle.jt_value.specs.Place as place
 use Rattle.jt_ir.specs.Slots as slots
 use Rattle.jt_semantics.specs.Resolve as resolve
-use Rattle.jt_bind.specs.internal.Vocabulary.{◌≡◌, ℕ, Bool, ◌+◌, List, [], ◌++◌, map, length, Option, option_map}
-use Rattle.jt_bind.specs.internal.Vocabulary.{if◌then◌else◌, Tree, Text, Template, layer_view, set_in, Layer, Constant}
-use Rattle.jt_bind.specs.internal.Vocabulary.{condition_values, body_values, placed_condition, placed_body, SBody}
-use Rattle.jt_bind.specs.internal.Vocabulary.{Front, place_view, targets_view, expr_view, choice_view, SlotBranch}
-use Rattle.jt_bind.specs.internal.Vocabulary.{SlotStmt, followed, Turns, StaticEnv}
+use Rattle.std.specs.Prelude.{◌≡◌, ◌+◌, ◌++◌, if◌then◌else◌}
+use Rattle.jt_bind.specs.internal.Vocabulary.{ℕ, Bool, List, [], map, length, Option, option_map, Tree, Text, Template}
+use Rattle.jt_bind.specs.internal.Vocabulary.{layer_view, set_in, Layer, Constant, condition_values, body_values}
+use Rattle.jt_bind.specs.internal.Vocabulary.{placed_condition, placed_body, SBody, Front, place_view, targets_view}
+use Rattle.jt_bind.specs.internal.Vocabulary.{expr_view, choice_view, SlotBranch, SlotStmt, followed, Turns, StaticEnv}
 use Rattle.jt_bind.specs.internal.Scoped.{files_in, IsPlaced, BodyLeads, cenv_in, order_in, namespace_in, senv_in}
 use Rattle.jt_bind.specs.internal.Scoped.{templates_in}
 use Rattle.jt_bind.specs.internal.Selected.{Chains}
