@@ -45,7 +45,8 @@ weight_last q x (y ∷ ys) = omega (arith, weight_last q x ys)
 counted_again : (x : Text) (xs : List Text) → among x xs ≡ true → ascending (x ∷ xs) ≡ ascending xs
 counted_again x xs e =
     as_often (x ∷ xs) (x ∷ x ∷ without x xs) [] (λ q. omega (arith, taken q x xs e))
-    ∙ ap (λ b. all_inserted (without x xs) (if b then x ∷ [] else if is_lt (slice_cmp nat_cmp x x) then x ∷ x ∷ [] else x ∷ x ∷ []))
+    ∙ ap (λ b. all_inserted (without x xs)
+    (if b then x ∷ [] else if is_lt (slice_cmp nat_cmp x x) then x ∷ x ∷ [] else x ∷ x ∷ []))
     ((bytes_eq-Decides x x).1 refl)
     ∙ sym (as_often xs (x ∷ without x xs) [] (λ q. taken q x xs e))
 
