@@ -1,23 +1,15 @@
 -- Blocks at their tags, and includes.
-use Rattle.std.proofs.Common.{◌≡◌, ℕ, suc, ◌+◌, List, [], ◌∷◌, ◌++◌, length, map, flat_map, refl, ◌∙◌}
-use Rattle.std.proofs.Common.{Bool, true, false, Option, Some, None, length-append, append_assoc, arith, rules}
-use Rattle.std.specs.Prelude.{if◌then◌else◌, option_map, ◌||◌}
-use Rattle.std.specs.Option.{is_none}
-use Rattle.std.specs.Str.{bytes_eq}
-use Rattle.jt_value.specs.Tree.{Tree}
+use Rattle.jt_semantics.specs.Resolve.{StaticEnv, placed_body}
 use Rattle.jt_ast.specs.Statements as trees
-use Rattle.jt_ast.specs.Expressions.{Text}
-use Rattle.jt_chains.specs.Chain.{Namespace, a_chain, a_library, same_namespace, listed}
-use Rattle.jt_rules.specs.CompileEnv.{CompileEnv}
 use Rattle.jt_ir.specs.Slots as slots
-use Rattle.jt_semantics.specs.Layout.{Key, of_chain, of_body, same_key, index_of, entry_keys, chain_keys, names}
-use Rattle.jt_semantics.specs.Layout.{names_in, first_slot, unit, block_parameters, Table}
-use Rattle.jt_semantics.specs.Resolve.{StaticEnv, place, left_out, followed, alone, handed_on, reads, placed_body}
-use Rattle.jt_bind.specs.internal.Chains.{Chains}
-use Rattle.jt_bind.specs.internal.Scoped.{RowLeads, cenv_in, order_in, senv_in}
 use Rattle.jt_bind.specs.declared.senv.StaticEnv as code_senv
-use Rattle.jt_bind.specs.internal.Stated.{line_in, stmt_in}
-use Rattle.jt_ir.proofs.ExpressionViews.{Entry}
+use Rattle.jt_bind.specs.internal.{alone, ◌≡◌, ℕ, suc, ◌+◌, List, [], ◌∷◌, ◌++◌, length, map, flat_map, refl, Bool}
+use Rattle.jt_bind.specs.internal.{true, false, Option, Some, None, if◌then◌else◌, option_map, ◌||◌, is_none, bytes_eq}
+use Rattle.jt_bind.specs.internal.{Tree, Text, Namespace, a_chain, a_library, same_namespace, listed, CompileEnv, Key}
+use Rattle.jt_bind.specs.internal.{of_chain, of_body, same_key, index_of, entry_keys, chain_keys, names, names_in}
+use Rattle.jt_bind.specs.internal.{first_slot, unit, block_parameters, Table, place, left_out, followed, handed_on}
+use Rattle.jt_bind.specs.internal.{reads, Chains, RowLeads, cenv_in, order_in, senv_in, line_in, stmt_in}
+use Rattle.jt_bind.proofs.Vocabulary.{◌∙◌, length-append, append_assoc, arith, rules, Entry}
 
 pub no_row : (es : List Entry) → es ≡ [] → (p : List Tree) → RowLeads slots.none slots.none [] es p p
 no_row es e p = search (arith, rules)
@@ -69,7 +61,7 @@ pub include_shown : (s : Chains) (senv : code_senv.StaticEnv) (line : ℕ) (x : 
     → followed (handed_on (line_in s senv line) (if context then (senv_in s senv).table else []) n xs)
     (alone (slots.run u slots.none))
     ≡ stmt_in s (trees.include line x missing context) senv
-include_shown s senv line x missing context n xs u there e f g = search (arith, rules, if_false)
+include_shown s senv line x missing context n xs u there e f g = search (arith, rules)
 
 -- An include of a name without a source.
 pub include_missing : (s : Chains) (senv : code_senv.StaticEnv) (line : ℕ) (x : Text) (missing context : Bool)

@@ -1,36 +1,24 @@
 -- Concatenation of resolved statements.
-use Rattle.std.proofs.Common.{◌≡◌, ℕ, ◌+◌, List, [], ◌∷◌, ◌++◌, length, map, refl, sym, ap, ◌∙◌, subst, Bool, Option}
-use Rattle.std.proofs.Common.{Vec, Global, append_assoc, append-nil, length-append, arith, rules}
-use Rattle.std.proofs.lemmas.List.{map-append}
-use Rattle.jt_value.specs.Tree.{Tree}
-use Rattle.jt_value.specs.View.{view}
-use Rattle.jt_value.specs.declared.value.Value.{Value}
-use Rattle.jt_ast.specs.Expressions.{Text}
-use Rattle.jt_value.specs.Place.{Place}
-use Rattle.jt_ir.specs.Pool.{Constant, own, expr_values, condition_values, stmt_values, body_values, placed_expr}
-use Rattle.jt_ir.specs.Pool.{placed_condition, placed_stmt, placed_body}
+use Rattle.jt_ir.specs.View.{body_view}
+use Rattle.jt_ir.specs.declared.program.Filtered.{Filtered}
+use Rattle.jt_ir.proofs.StatementViews.{view_Print}
 use Rattle.jt_ir.specs.Slots as slots
-use Rattle.jt_ir.specs.Slots.{SlotExpr, SRow, SBody}
-use Rattle.jt_ir.specs.View.{Front, slot_view, targets_view, place_view, expr_view, stmt_view, body_view, choice_view}
-use Rattle.jt_ir.specs.View.{filtered_view}
 use Rattle.jt_ir.specs.declared.program.Slot as code_slot
 use Rattle.jt_ir.specs.declared.program.Targets as code_targets
 use Rattle.jt_ir.specs.declared.program.SlotExpr as code
-use Rattle.jt_ir.specs.declared.program.Filtered.{Filtered}
 use Rattle.jt_ir.specs.declared.program.SlotStmt as code_stmt
 use Rattle.jt_ir.specs.declared.program.SlotStmt.TheVariants as v
-use Rattle.jt_semantics.specs.Resolve.{followed, alone}
-use Rattle.jt_chains.specs.View.{chain_view}
-use Rattle.jt_bind.specs.declared.emission.Turns.{Turns}
-use Rattle.jt_bind.specs.declared.senv.StaticEnv.{StaticEnv}
-use Rattle.jt_bind.specs.internal.Chains.{Chains}
-use Rattle.jt_bind.specs.internal.Scoped.{IsPlaced, RowLeads, BodyLeads, templates_in}
+use Rattle.jt_bind.specs.internal.{alone, Place, files_in, ◌≡◌, ℕ, ◌+◌, List, [], ◌∷◌, ◌++◌, length, map, refl, Bool}
+use Rattle.jt_bind.specs.internal.{Option, Vec, Tree, view, Value, Text, Constant, own, expr_values, condition_values}
+use Rattle.jt_bind.specs.internal.{stmt_values, body_values, placed_condition, placed_stmt, placed_body, SlotExpr, SRow}
+use Rattle.jt_bind.specs.internal.{SBody, Front, slot_view, targets_view, place_view, expr_view, stmt_view, choice_view}
+use Rattle.jt_bind.specs.internal.{filtered_view, followed, Turns, StaticEnv, Chains, IsPlaced, RowLeads, BodyLeads}
+use Rattle.jt_bind.specs.internal.{templates_in, Emits, IsBranch, AreTurns, StandsFor, ChoiceLeads, line_in, place_of}
+use Rattle.jt_bind.proofs.Vocabulary.{sym, ap, ◌∙◌, subst, Global, append_assoc, append-nil, length-append, arith}
+use Rattle.jt_bind.proofs.Vocabulary.{rules, map-append, SBranch, view_PutPooled, view_Assign, view_If, view_For}
+use Rattle.jt_bind.proofs.Vocabulary.{view_Capture, view_Run, body_push, joined, choice_push, Entry}
 use Rattle.jt_bind.proofs.PlacesAndScopes.{place_shown}
-use Rattle.jt_ir.proofs.StatementViews.{SBranch, view_PutPooled, view_Print, view_Assign, view_If, view_For}
-use Rattle.jt_ir.proofs.StatementViews.{view_Capture, view_Run, body_push, joined, choice_push}
-use Rattle.jt_bind.specs.internal.Stated.{Emits, IsBranch, AreTurns, StandsFor, ChoiceLeads, line_in, place_of}
 use Rattle.jt_bind.proofs.RowConcatenation.{grown_by}
-use Rattle.jt_ir.proofs.ExpressionViews.{Entry}
 
 -- ---- bodies
 
@@ -62,16 +50,10 @@ module _ (templates : List Text) where
       → Leads a b es fs p q → Leads b c fs gs q r → Leads a c es gs p r
   lead_both a b c es fs gs p q r h g = record { shown = g.shown ∙ h.shown; pooled = g.pooled ∙ h.pooled }
 
-  -- The whole, or the remaining part, may be replaced by an equal one.
+  -- The whole may be replaced by an equal one.
   pub lead_of : (a b left : SBody Constant) (es fs : List code_stmt.SlotStmt) (p q : List Tree) → a ≡ b
       → Leads a left es fs p q → Leads b left es fs p q
-  lead_of a b left es fs p q h =
-      let P : SBody Constant → Type 0 = λ z. BodyLeads templates z left es fs p q in subst P h
-
-  pub lead_left : (whole a b : SBody Constant) (es fs : List code_stmt.SlotStmt) (p q : List Tree) → a ≡ b
-      → Leads whole a es fs p q → Leads whole b es fs p q
-  lead_left whole a b es fs p q h =
-      let P : SBody Constant → Type 0 = λ z. BodyLeads templates whole z es fs p q in subst P h
+  lead_of a b left es fs p q e h = rw (← e) h
 
   pub emits_nothing : (es : List code_stmt.SlotStmt) (p : List Tree) → Emits templates slots.end es es p p
   emits_nothing es p = λ left. record { shown = refl; pooled = refl }
@@ -83,13 +65,7 @@ module _ (templates : List Text) where
 
   pub emits_of : (a b : SBody Constant) (es fs : List code_stmt.SlotStmt) (p q : List Tree) → a ≡ b
       → Emits templates a es fs p q → Emits templates b es fs p q
-  emits_of a b es fs p q e h =
-      λ left. lead_of (followed a left) (followed b left) left es fs p q (ap (λ z. followed z left) e) (h left)
-
-  -- The body begins with no statements.
-  pub emits_begun : (whole : SBody Constant) (es fs gs : List code_stmt.SlotStmt) (p q : List Tree) → es ≡ gs
-      → Emits templates whole es fs p q → Emits templates whole gs fs p q
-  emits_begun whole es fs gs p q e h = search (arith, rules)
+  emits_of a b es fs p q e h = rw (← e) h
 
   -- ---- a whole body
 
@@ -139,11 +115,6 @@ module _ (templates : List Text) where
 
   -- ---- `if` statements
 
-  -- The `else` part may be replaced by an equal one.
-  pub choice_other : (whole a b : SBody Constant) (bs : List SBranch) (p q : List Tree) → a ≡ b
-      → ChoiceLeads templates whole a bs p q → ChoiceLeads templates whole b bs p q
-  choice_other whole a b bs p q = let P : SBody Constant → Type 0 = λ z. ChoiceLeads templates whole z bs p q in subst P
-
   -- No branch is resolved yet.
   pub choice_same : (whole : SBody Constant) (bs : List SBranch) (p : List Tree) → bs ≡ []
       → ChoiceLeads templates whole whole bs p p
@@ -178,15 +149,8 @@ module _ (templates : List Text) where
       same : (z behind : SBody ℕ) → z ≡ placed_body rest (length t)
           → joined templates x z behind ≡ slots.stmt (placed_stmt (slots.if_else pl c b rest) (length q)) behind
       same z behind k =
-          ap (λ y.
-          slots.stmt (slots.if_else y (expr_view x.condition) (body_view templates x.body.items slots.end) z) behind)
-          is.stands
-          ∙ ap (λ y. slots.stmt (slots.if_else pl y (body_view templates x.body.items slots.end) z) behind) h.shown
-          ∙ ap (λ y. slots.stmt (slots.if_else pl (placed_expr c (length q)) y z) behind)
-          (body_shown b x.body.items r t g ∙ ap (placed_body b) first)
-          ∙ ap (λ y. slots.stmt
-          (slots.if_else pl (placed_expr c (length q)) (placed_body b (length q + length (expr_values c))) y) behind)
-          (k ∙ ap (placed_body rest) second)
+          let body = body_shown b x.body.items r t g ∙ ap (placed_body b) first in
+          let last = k ∙ ap (placed_body rest) second in cc (is.stands, h.shown, body, last)
 
       -- The branch comes before the function for the `else` part.
       stands : (o : Front) (left : SBody Constant) (last : ℕ) → StandsFor rest left o (length t) last
@@ -205,9 +169,7 @@ module _ (templates : List Text) where
         where
           three_long : (n : ℕ) (xs ys zs : List Tree)
               → n + length xs + length ys + length zs ≡ n + length (xs ++ (ys ++ zs))
-          three_long n xs ys zs =
-              let g : length (xs ++ (ys ++ zs)) ≡ length xs + length (ys ++ zs) = length-append xs (ys ++ zs) in
-              let k : length (ys ++ zs) ≡ length ys + length zs = length-append ys zs in omega arith
+          three_long n xs ys zs = omega (arith, length-append xs (ys ++ zs), length-append ys zs)
 
       shown : (o : Front) (left : SBody Constant) (last : ℕ) → StandsFor rest left o (length t) last
           → StandsFor whole left (choice_view templates (bs ++ x ∷ []) o) (length p) last
@@ -221,10 +183,8 @@ module _ (templates : List Text) where
 
       pooled : t ++ body_values rest ≡ p ++ body_values whole
       pooled =
-          ap (λ l. l ++ body_values rest) (body_pooled b x.body.items r t g ∙ ap (λ l. l ++ body_values b) h.pooled)
-          ∙ append_assoc (q ++ expr_values c) (body_values b) (body_values rest)
-          ∙ append_assoc q (expr_values c) (body_values b ++ body_values rest)
-          ∙ ap (λ l. q ++ l) (sym (append-nil (expr_values c ++ (body_values b ++ body_values rest)))) ∙ so.pooled
+          rw (body_pooled b x.body.items r t g, h.pooled, append_assoc, append_assoc)
+          (simp append-nil at so.pooled)
 
   -- All branches, and the `else` part.
   pub choice_emitted : (whole last : SBody Constant) (bs : Vec SBranch Global) (other : Vec code_stmt.SlotStmt Global)
@@ -259,7 +219,7 @@ module _ (scope : Chains) (senv : StaticEnv) (line : ℕ) where
   tag = line_in scope senv line
 
   pub place_is : place_view T (place_of senv line) ≡ tag
-  place_is = place_shown (chain_view scope.chain.now).templates senv.template line
+  place_is = place_shown (files_in scope) senv.template line
 
   pub print_emitted : (c : SlotExpr Constant) (x : Filtered) (ss ts : List code_stmt.SlotStmt) (p q : List Tree)
       → IsPlaced c (filtered_view x) p q → ts ≡ ss ++ v.Print (place_of senv line) senv.escaping x ∷ []

@@ -1,40 +1,23 @@
 -- The resolution of callees.
-use Rattle.std.proofs.Common.{◌≡◌, ℕ, zero, suc, ◌<◌, Bool, true, false, List, [], ◌∷◌, length, refl, ap}
-use Rattle.std.proofs.Common.{◌∙◌, arith, Option, Some, None, inl, inr, rules, ◌+◌, drop, get_or, add-one, sym}
-use Rattle.std.specs.Prelude.{codes, ◌||◌, option_map}
-use Rattle.std.specs.Str.{bytes_eq}
-use Rattle.jt_ast.specs.Expressions.{Text, name, attribute}
-use Rattle.jt_chains.specs.Chain.{Sources, Namespace, a_library, listed, MacroBody, macros, macro_of}
-use Rattle.jt_chains.specs.Chain.{is_private, public_macro, Definition, given_to, a_macro, no_callee, of_library}
-use Rattle.jt_chains.specs.Chain.{in_library, callee, Callee}
+use Rattle.jt_chains.specs.Chain.{Callee}
 use Rattle.jt_chains.specs.Includes.{InOrder}
-use Rattle.jt_chains.specs.Indices.{namespace_at}
-use Rattle.jt_rules.specs.CompileEnv.{CompileEnv}
 use Rattle.jt_semantics.proofs.RoutineLookup.{macro_named}
 use Rattle.jt_semantics.proofs.DefinedNames.{LeadsTo, called_macro}
 use Rattle.jt_semantics.proofs.ChainOrder.{libraries_stand}
 use Rattle.jt_semantics.proofs.EnvLookup.{namespace_is, no_both}
-use Rattle.jt_bind.specs.internal.Chains.{Chains}
-use Rattle.jt_bind.specs.internal.Callees.{IsLaidThere, library_of, of_namespace, IsSignature, unit_of}
-use Rattle.jt_bind.specs.internal.Scoped.{cenv_in, order_in, namespace_in, callee_in, IsPlaced, senv_in, expr_in}
-use Rattle.jt_bind.specs.internal.Scoped.{row_in, asides_in}
-use Rattle.std.proofs.lemmas.List.{drop_more}
-use denote.Ref.{Bor}
+use Rattle.jt_ir.specs.declared.program.Slot.{Slot}
 use Rattle.jt_value.specs.Tree as tree
 use Rattle.jt_ast.specs.Expressions as trees
-use Rattle.jt_ast.specs.ExpressionView.{exprs_view}
-use Rattle.jt_ast.specs.declared.expression.Expr.{Expr}
-use Rattle.jt_ast.specs.StatementView.{parameters_view}
-use Rattle.jt_ast.specs.Texts.{texts}
-use Rattle.jt_chains.specs.Uses.{count, keywords}
-use Rattle.jt_ir.specs.Pool.{Constant}
-use Rattle.jt_ir.specs.Slots.{SlotExpr, absent, invoke, SRow, item, variable, local}
-use Rattle.jt_ir.specs.View.{slot_view}
-use Rattle.jt_ir.specs.declared.program.Slot.{Slot}
-use Rattle.jt_semantics.specs.Layout.{Table, slot_in, of_macro, of_body, unit, default_index}
-use Rattle.jt_semantics.specs.Resolve.{read_from, filled, invoked, invoked_body, locals_from, reads, first_locals}
-use Rattle.jt_bind.specs.declared.callee.Signature.{Signature}
-use Rattle.jt_bind.specs.declared.senv.StaticEnv.{StaticEnv}
+use Rattle.jt_bind.specs.internal.{◌≡◌, ℕ, zero, suc, ◌<◌, Bool, true, false, List, [], ◌∷◌, length, refl, Option, Some}
+use Rattle.jt_bind.specs.internal.{None, ◌+◌, drop, get_or, codes, ◌||◌, option_map, bytes_eq, Text, name, attribute}
+use Rattle.jt_bind.specs.internal.{Sources, Namespace, a_library, listed, MacroBody, macros, macro_of, is_private}
+use Rattle.jt_bind.specs.internal.{public_macro, Definition, given_to, a_macro, no_callee, of_library, in_library}
+use Rattle.jt_bind.specs.internal.{callee, namespace_at, CompileEnv, Chains, IsLaidThere, library_of, of_namespace}
+use Rattle.jt_bind.specs.internal.{unit_of, cenv_in, order_in, namespace_in, callee_in, IsPlaced, senv_in, expr_in}
+use Rattle.jt_bind.specs.internal.{row_in, asides_in, Bor, exprs_view, Expr, texts, count, keywords, Constant, SlotExpr}
+use Rattle.jt_bind.specs.internal.{absent, invoke, SRow, item, variable, local, slot_view, Table, slot_in, of_body}
+use Rattle.jt_bind.specs.internal.{unit, read_from, invoked, invoked_body, locals_from, reads, first_locals, StaticEnv}
+use Rattle.jt_bind.proofs.Vocabulary.{ap, ◌∙◌, arith, inl, inr, rules, add-one, drop_more}
 
 -- ---- the namespace of a called macro
 
@@ -108,14 +91,6 @@ pub called_placed : (s : Chains) (senv : StaticEnv) (f : trees.Expr) (k : Callee
     → IsPlaced (expr_in s (trees.call f (exprs_view ts) ps) senv) e p q
 called_placed s senv f k ts ps e p q is h = search (arith, rules, count_length)
 
--- The call of a macro, by its signature in the code.
-pub macro_called : (cenv : CompileEnv) (order : List Namespace) (h : Namespace) (s : Signature) (m : MacroBody)
-    → IsSignature cenv order h s m → (escaping : Bool) (front : SRow Constant → SRow Constant) (n : ℕ) (ks : Table)
-    → invoke s.unit escaping (front (filled (parameters_view s.parameters.now) n s.first_default ks))
-    ≡ invoke (unit cenv order (of_macro h m.name)) escaping
-    (front (filled m.parameters n (default_index cenv order h m.name) ks))
-macro_called cenv order h s m is escaping front n ks = search (arith, rules)
-
 -- The call of a block, by the unit of its first body.
 pub body_called : (cenv : CompileEnv) (order : List Namespace) (h : Namespace) (escaping : Bool) (i : Option ℕ) (u : ℕ)
     (es : SRow Constant)
@@ -140,6 +115,4 @@ reads_next table ks i d s lt e = search (arith, rules, drop_more)
 -- One more local is read.
 pub locals_next : (xs : List Text) (i : ℕ) → i < length xs
     → item (variable (local i)) (first_locals (i + 1) (drop (i + 1) xs)) ≡ first_locals i (drop i xs)
-locals_next xs i lt =
-    ap (λ (n : ℕ). item (variable (local i)) (first_locals n (drop (i + 1) xs))) (add-one i)
-    ∙ sym (ap (first_locals i) (drop_more xs i [] lt))
+locals_next xs i lt = rw (drop_more xs i [] lt, add-one) refl

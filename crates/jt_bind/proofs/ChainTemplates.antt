@@ -1,19 +1,10 @@
 -- The templates of a chain, in order.
-use Rattle.std.proofs.Common.{◌≡◌, ℕ, suc, ◌+◌, ◌<◌, Bool, true, false, List, [], ◌∷◌, length, map, drop, get_or, refl}
-use Rattle.std.proofs.Common.{sym, ap, ◌∙◌, arith, rules, length-drop}
-use Rattle.std.specs.Prelude.{if◌then◌else◌, ◌==◌}
 use Rattle.std.proofs.lemmas.Bool.Decides.{nat_tests}
-use Rattle.std.proofs.lemmas.List.{drop_more}
-use Rattle.jt_chains.specs.Chain.{Template}
-use Rattle.jt_chains.specs.Layers.{layer_view}
-use Rattle.jt_chains.specs.declared.layers.Layer.{Layer}
-use Rattle.jt_ir.specs.Pool.{Constant}
 use Rattle.jt_ir.specs.Slots as slots
-use Rattle.jt_ir.specs.Slots.{SBody}
-use Rattle.jt_semantics.specs.Resolve.{followed, resolved_chain}
-use Rattle.jt_bind.specs.internal.Chains.{Chains}
-use Rattle.jt_bind.specs.internal.Scoped.{cenv_in, order_in, namespace_in}
-use Rattle.jt_bind.specs.internal.Stated.{layer_in}
+use Rattle.jt_bind.specs.internal.{chained_in, ◌≡◌, ℕ, suc, ◌+◌, ◌<◌, Bool, true, false, List, [], ◌∷◌, length, map}
+use Rattle.jt_bind.specs.internal.{drop, get_or, refl, if◌then◌else◌, ◌==◌, Template, layer_view, Layer, Constant}
+use Rattle.jt_bind.specs.internal.{SBody, followed, Chains, layer_in}
+use Rattle.jt_bind.proofs.Vocabulary.{sym, ap, ◌∙◌, arith, rules, length-drop, drop_more}
 use Rattle.jt_bind.proofs.BodyConcatenation.{followed_end, followed_again}
 
 -- A statement that is kept if it sets names.
@@ -28,11 +19,11 @@ is_nil (x ∷ xs) = false
 
 -- A template before the remaining ones of its chain.
 chain_next : (s : Chains) (t : Template) (ts : List Template) (root : Bool) → root ≡ is_nil ts
-    → followed (layer_in s t root) (resolved_chain (cenv_in s) (order_in s) (namespace_in s) ts)
-    ≡ resolved_chain (cenv_in s) (order_in s) (namespace_in s) (t ∷ ts)
+    → followed (layer_in s t root) (chained_in s ts)
+    ≡ chained_in s (t ∷ ts)
 chain_next s t [] root e = ap (λ b. followed (layer_in s t b) slots.end) e ∙ followed_end (layer_in s t true)
 chain_next s t (u ∷ us) root e =
-    ap (λ b. followed (layer_in s t b) (resolved_chain (cenv_in s) (order_in s) (namespace_in s) (u ∷ us))) e
+    ap (λ b. followed (layer_in s t b) (chained_in s (u ∷ us))) e
 
 nil_same : {A B : Type 0} (f : A → B) (xs : List A) → is_nil (map f xs) ≡ is_nil xs
 nil_same f [] = refl
@@ -52,14 +43,14 @@ layers_next : (s : Chains) (ts : List Template) (ls : List Layer) (i : ℕ) (d :
     (left : SBody Constant)
     → i < length ls → root ≡ is_nil (map (layer_view ts) (drop (i + 1) ls))
     → followed (layer_in s (layer_view ts (get_or ls i d)) root)
-    (followed (resolved_chain (cenv_in s) (order_in s) (namespace_in s) (map (layer_view ts) (drop (i + 1) ls))) left)
-    ≡ followed (resolved_chain (cenv_in s) (order_in s) (namespace_in s) (map (layer_view ts) (drop i ls))) left
+    (followed (chained_in s (map (layer_view ts) (drop (i + 1) ls))) left)
+    ≡ followed (chained_in s (map (layer_view ts) (drop i ls))) left
 layers_next s ts ls i d root left lt e = search (arith, rules, followed_again, get_or, chain_next, drop_more)
 
 pub layers_turn : (s : Chains) (ts : List Template) (ls : List Layer) (i : ℕ) (x : Layer) (root : Bool)
     (left : SBody Constant)
     → i < length ls → x ≡ get_or ls i x → root ≡ is_nil (map (layer_view ts) (drop (i + 1) ls))
     → followed (layer_in s (layer_view ts x) root)
-    (followed (resolved_chain (cenv_in s) (order_in s) (namespace_in s) (map (layer_view ts) (drop (i + 1) ls))) left)
-    ≡ followed (resolved_chain (cenv_in s) (order_in s) (namespace_in s) (map (layer_view ts) (drop i ls))) left
+    (followed (chained_in s (map (layer_view ts) (drop (i + 1) ls))) left)
+    ≡ followed (chained_in s (map (layer_view ts) (drop i ls))) left
 layers_turn s ts ls i x root left lt is e = search (arith, rules, layers_next)

@@ -1,11 +1,9 @@
 -- The parts of an expression are less deep than the expression.
-use Rattle.std.proofs.Common.{◌≡◌, ◌<◌, List, rules, Vec, Box, String, Global}
-use Rattle.std.specs.Prelude.{max}
-use denote.Param.Weighed.{most}
 use Rattle.jt_ast.specs.declared.expression.Polarity.{Polarity}
-use Rattle.jt_ast.specs.declared.expression.Expr.{Expr, size-Expr}
-use Rattle.jt_ast.specs.declared.expression.Expr.TheVariants as e
 use Rattle.jt_ast.specs.declared.expression.Expr.TheViews.{the_lemmas}
+use Rattle.jt_ast.specs.declared.expression.Expr.TheVariants as e
+use Rattle.jt_bind.specs.internal.{◌≡◌, ◌<◌, List, Vec, Box, String, max, most, Expr, size-Expr}
+use Rattle.jt_bind.proofs.Vocabulary.{rules, Global}
 
 below_call : (p : Box Expr Global) (ts : Vec Expr Global) (ps : Vec (String Global × Expr) Global)
     → max (most (λ y. size-Expr y) ts.items) (most (λ y. size-Expr y.1) ps.items) < size-Expr (e.Call p ts ps)

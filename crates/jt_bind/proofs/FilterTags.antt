@@ -1,28 +1,18 @@
 -- The filters by their ids, and the filters of a filter tag.
-use Rattle.std.proofs.Common.{◌≡◌, refl, ap, Some, ℕ, ◌+◌, ◌<◌, List, [], ◌∷◌, ◌++◌, length, take, get_or, sym, ◌∙◌}
-use Rattle.std.proofs.Common.{append-nil}
-use Rattle.std.specs.Prelude.{option_map}
-use Rattle.jt_ids.specs.FilterTable.{filter_id}
 use Rattle.jt_filter_semantics.specs.FilterIds.{filter_of}
 use Rattle.jt_ids.specs.declared.filter_id.FilterId.{FilterId}
-use Rattle.jt_ids.specs.declared.filter_id.FilterId.TheVariants as filter
-use Rattle.jt_ast.specs.Expressions.{Exprs, Pairs, Text}
-use Rattle.jt_semantics.specs.Expressions as meant
-use Rattle.jt_eval.specs.TheFilters.{the_filters, filter_written, filter_parameters, parameters_of}
-use Rattle.jt_value.specs.Tree.{Tree}
-use Rattle.std.proofs.lemmas.List.{take_more, map-append}
-use Rattle.jt_ast.specs.Statements as trees
-use Rattle.jt_ast.specs.StatementView.{filter_call_view, filter_calls_view}
 use Rattle.jt_ast.specs.declared.statement.FilterCall.{FilterCall}
-use Rattle.jt_ir.specs.Pool.{Constant, expr_values, row_values, placed_expr, placed_row}
+use Rattle.jt_eval.specs.TheFilters.{the_filters}
+use Rattle.jt_ids.specs.declared.filter_id.FilterId.TheVariants as filter
+use Rattle.jt_semantics.specs.Expressions as meant
+use Rattle.jt_ast.specs.Statements as trees
 use Rattle.jt_ir.specs.Slots as slots
-use Rattle.jt_ir.specs.Slots.{SlotExpr, SRow, NaryOp}
-use Rattle.jt_ir.specs.View.{row_view}
-use Rattle.jt_ir.proofs.ExpressionViews.{Entry}
-use Rattle.jt_semantics.specs.Resolve.{resolved_filters}
-use Rattle.jt_bind.specs.internal.Chains.{Chains}
-use Rattle.jt_bind.specs.declared.senv.StaticEnv.{StaticEnv}
-use Rattle.jt_bind.specs.internal.Scoped.{IsPlaced, RowLeads, cenv_in, order_in, senv_in, filtered_in}
+use Rattle.jt_bind.specs.internal.{filters_in, ◌≡◌, refl, Some, ℕ, ◌+◌, ◌<◌, List, [], ◌∷◌, ◌++◌, length, take, get_or}
+use Rattle.jt_bind.specs.internal.{option_map, filter_id, Exprs, Pairs, Text, filter_written, filter_parameters}
+use Rattle.jt_bind.specs.internal.{parameters_of, Tree, filter_call_view, filter_calls_view, Constant, expr_values}
+use Rattle.jt_bind.specs.internal.{row_values, placed_expr, placed_row, SlotExpr, SRow, NaryOp, row_view, Chains}
+use Rattle.jt_bind.specs.internal.{StaticEnv, IsPlaced, RowLeads}
+use Rattle.jt_bind.proofs.Vocabulary.{ap, sym, ◌∙◌, append-nil, take_more, map-append, Entry}
 use Rattle.jt_bind.proofs.RowConcatenation.{grown_by, both_pooled}
 
 -- ---- the filters by their ids
@@ -45,31 +35,19 @@ parameters_are f = ap parameters_of (has_filter f)
 
 filters_push : (s : Chains) (senv : StaticEnv) (fs : List trees.FilterCall) (f : trees.FilterCall)
     (e : SlotExpr Constant)
-    → resolved_filters (cenv_in s) (order_in s) (fs ++ f ∷ []) (senv_in s senv) e
-    ≡ filtered_in s ((cenv_in s).filters.named f.name f.arguments f.keywords)
-    (resolved_filters (cenv_in s) (order_in s) fs (senv_in s senv) e) f.arguments f.keywords senv
+    → filters_in s (fs ++ f ∷ []) senv e ≡ filters_in s (f ∷ []) senv (filters_in s fs senv e)
 filters_push s senv [] f e = refl
-filters_push s senv (g ∷ gs) f e =
-    filters_push s senv gs f
-    (filtered_in s ((cenv_in s).filters.named g.name g.arguments g.keywords) e g.arguments g.keywords senv)
+filters_push s senv (g ∷ gs) f e = filters_push s senv gs f (filters_in s (g ∷ []) senv e)
 
 -- One more filter.
 pub filters_next : (s : Chains) (senv : StaticEnv) (fs : List FilterCall) (i : ℕ) (f : FilterCall)
     (e : SlotExpr Constant)
     → i < length fs → f ≡ get_or fs i f
-    → filtered_in s
-    ((cenv_in s).filters.named (filter_call_view f).name (filter_call_view f).arguments (filter_call_view f).keywords)
-    (resolved_filters (cenv_in s) (order_in s) (filter_calls_view (take i fs)) (senv_in s senv) e)
-    (filter_call_view f).arguments (filter_call_view f).keywords senv
-    ≡ resolved_filters (cenv_in s) (order_in s) (filter_calls_view (take (i + 1) fs)) (senv_in s senv) e
+    → filters_in s (filter_call_view f ∷ []) senv (filters_in s (filter_calls_view (take i fs)) senv e)
+    ≡ filters_in s (filter_calls_view (take (i + 1) fs)) senv e
 filters_next s senv fs i f e lt is =
-    sym (filters_push s senv (filter_calls_view (take i fs)) (filter_call_view f) e)
-    ∙ ap (λ l. resolved_filters (cenv_in s) (order_in s) l (senv_in s senv) e)
-    (sym (map-append filter_call_view (take i fs) (f ∷ [])))
-    ∙ ap (λ (g : FilterCall).
-    resolved_filters (cenv_in s) (order_in s) (filter_calls_view (take i fs ++ g ∷ [])) (senv_in s senv) e) is
-    ∙ ap (λ (l : List FilterCall). resolved_filters (cenv_in s) (order_in s) (filter_calls_view l) (senv_in s senv) e)
-    (sym (take_more fs i f lt))
+    rw (take_more fs i f lt, ← is, map-append)
+    (sym (filters_push s senv (filter_calls_view (take i fs)) (filter_call_view f) e))
 
 -- One more filter of a resolved value.
 pub filter_placed : (k : NaryOp) (c : SlotExpr Constant) (es : SRow Constant) (x : SlotExpr ℕ) (row : List Entry)

@@ -1,26 +1,17 @@
 -- The number of locals that resolved statements use.
-use Rattle.std.proofs.Common.{◌≡◌, ℕ, ◌+◌, ◌<◌, List, [], ◌∷◌, length, map, drop, get_or, refl, sym, ap, ◌∙◌, max, Bool}
-use Rattle.std.proofs.Common.{Option, Some, None, Vec, Global, arith, rules}
-use Rattle.std.specs.Prelude.{option_map}
-use Rattle.std.proofs.lemmas.List.{drop_more}
-use Rattle.jt_ast.specs.Expressions.{Text}
-use Rattle.jt_ir.specs.Locals.{slot_locals, slots_locals, targets_locals, expr_locals, row_locals, condition_locals}
-use Rattle.jt_ir.specs.Locals.{stmt_locals, body_locals}
-use Rattle.jt_ir.specs.Pool.{Constant, placed_expr, placed_row, placed_condition, placed_stmt, placed_body}
+use Rattle.jt_ir.specs.Slots.{SlotStmt}
+use Rattle.jt_ir.specs.View.{body_view}
+use Rattle.jt_ir.proofs.ExpressionViews.{row_left}
 use Rattle.jt_ir.specs.Slots as slots
-use Rattle.jt_ir.specs.Slots.{SlotExpr, SRow, SlotStmt, SBody}
-use Rattle.jt_ir.specs.View.{Front, slot_view, targets_view, expr_view, row_view, stmt_view, body_view, choice_view}
-use Rattle.jt_ir.specs.View.{filters_after}
 use Rattle.jt_ir.specs.declared.program.Slot as code_slot
-use Rattle.jt_ir.specs.declared.program.Place.{Place}
-use Rattle.jt_ir.specs.declared.program.Targets.{Targets}
-use Rattle.jt_ir.specs.declared.program.SlotFilter.{SlotFilter}
-use Rattle.jt_ir.specs.declared.program.SlotExpr as code
 use Rattle.jt_ir.specs.declared.program.SlotStmt as code_stmt
-use Rattle.jt_ir.specs.declared.program.SlotStmt.TheVariants as s
-use Rattle.jt_bind.specs.internal.Counts.{aside_locals, target_locals, branches_locals}
-use Rattle.jt_ir.proofs.StatementViews.{SBranch, view_If, view_For, view_Capture}
-use Rattle.jt_ir.proofs.ExpressionViews.{Entry}
+use Rattle.jt_bind.specs.internal.{entry_front, up_to, Reaches, ◌≡◌, ℕ, ◌+◌, ◌<◌, List, [], ◌∷◌, length, map, drop}
+use Rattle.jt_bind.specs.internal.{get_or, refl, max, Option, Some, None, option_map, Text, slots_locals, expr_locals}
+use Rattle.jt_bind.specs.internal.{row_locals, condition_locals, stmt_locals, body_locals, Constant, placed_expr}
+use Rattle.jt_bind.specs.internal.{placed_row, placed_condition, placed_stmt, placed_body, SlotExpr, SRow, SBody, Front}
+use Rattle.jt_bind.specs.internal.{slot_view, expr_view, row_view, stmt_view, choice_view, filters_after, SlotFilter}
+use Rattle.jt_bind.specs.internal.{target_locals, branches_locals}
+use Rattle.jt_bind.proofs.Vocabulary.{sym, ap, ◌∙◌, arith, rules, drop_more, SBranch, Entry}
 
 -- ---- the count does not depend on pool indices
 
@@ -63,24 +54,37 @@ mutual
 
 -- ---- numbers
 
-zero_max : (n : ℕ) → max 0 n ≡ n
-zero_max n = omega arith
-
 pub max_zero : (n : ℕ) → max n 0 ≡ n
 max_zero n = omega arith
 
-counted_on : (m m' n rest whole r : ℕ) → m' ≡ max m n → whole ≡ max n rest → max m whole ≡ r → max m' rest ≡ r
-counted_on m m' n rest whole r e f g = omega arith
+max_again : (a b c : ℕ) → max (max a b) c ≡ max a (max b c)
+max_again a b c = omega arith
+
+else_max : (l m r c t b f k rest : ℕ) → m ≡ max l (max (max c t) b) → max r 0 ≡ max m f → rest ≡ max b f
+    → max r k ≡ max l (max (max c (max t rest)) k)
+else_max l m r c t b f k rest e g h = rw (sym (max_zero r) ∙ g, e, h) (simp max_again)
+
+-- The numbers of a loop: of its targets, its items, its condition, its body and its `else` part.
+pub loop_max : (l m g k t r x e c b o z : ℕ) → m ≡ max l x → g ≡ max m e → k ≡ max g c → max t 0 ≡ max k b
+    → max r 0 ≡ max t o → max r z ≡ max l (max (max x (max (max e c) (max b o))) z)
+loop_max l m g k t r x e c b o z f p q u v =
+    rw (sym (max_zero r) ∙ v, sym (max_zero t) ∙ u, q, p, f) (simp max_again)
 
 -- ---- branches
 
--- The count of an `if`, given the count of its `else` part.
-pub choice_counted : (templates : List Text) (bs : List SBranch) (f : Front) (n : ℕ)
-    → ((behind : SBody ℕ) → body_locals (f behind) ≡ max n (body_locals behind))
-    → (behind : SBody ℕ)
-    → body_locals (choice_view templates bs f behind) ≡ max (max (branches_locals templates bs) n) (body_locals behind)
-choice_counted templates [] f n h behind = h behind ∙ grind arith
-choice_counted templates (b ∷ bs) f n h behind = search (arith, rules, choice_counted templates bs f n h)
+else_counted : (templates : List Text) (bs : List SBranch) (f : Front)
+    → body_locals (choice_view templates bs f slots.end)
+    ≡ max (branches_locals templates bs) (body_locals (f slots.end))
+else_counted templates [] f = omega arith
+else_counted templates (b ∷ bs) f = (let rest = else_counted templates bs f in omega arith)
+
+-- The last local after an `if`, from the one after its branches and the one after its `else` part.
+pub choice_reaches : (templates : List Text) (bs : List SBranch) (f : Front) (l m r : Option ℕ)
+    → up_to m ≡ max (up_to l) (branches_locals templates bs) → Reaches f m r
+    → Reaches (choice_view templates bs f) l r
+choice_reaches templates [] f l m r e h behind = (let here = h behind in omega arith)
+choice_reaches templates (b ∷ bs) f l m r e h behind =
+    else_max _ _ _ _ _ _ _ _ _ e (h slots.end) (else_counted templates bs f)
 
 -- ---- loops that count
 
@@ -88,68 +92,62 @@ pub slots_step : (ss : List (Option code_slot.Slot)) (i : ℕ) (d : Option code_
     → n ≡ target_locals (option_map slot_view (get_or ss i d)) → m' ≡ max m n
     → max m (slots_locals (map (option_map slot_view) (drop i ss))) ≡ r
     → max m' (slots_locals (map (option_map slot_view) (drop (i + 1) ss))) ≡ r
-slots_step ss i d n m m' r lt is checked_sum so = search (arith, rules, drop_more, get_or, counted_on, zero_max)
+slots_step ss i d n m m' r lt is e so =
+    let left = ap (λ l. slots_locals (map (option_map slot_view) l)) (drop_more ss i d lt)
+    ∙ targets_first (option_map slot_view (get_or ss i d)) (map (option_map slot_view) (drop (i + 1) ss)) in omega arith
+  where
+    targets_first : (s : Option slots.Slot) (rest : List (Option slots.Slot))
+        → slots_locals (s ∷ rest) ≡ max (target_locals s) (slots_locals rest)
+    targets_first None rest = omega arith
+    targets_first (Some s) rest = refl
 
-pub row_step : (es : List Entry) (i : ℕ) (b : Entry) (n k m m' r : ℕ) → i < length es → b ≡ get_or es i b
-    → n ≡ expr_locals (expr_view b.1) → k ≡ aside_locals b.0 → m' ≡ max m (max n k)
+pub row_step : (es : List Entry) (i : ℕ) (b : Entry) (n m m' r : ℕ) → i < length es → b ≡ get_or es i b
+    → n ≡ max m (expr_locals (expr_view b.1)) → m' ≡ max n (up_to b.0)
     → max m (row_locals (row_view (drop i es) slots.none)) ≡ r
     → max m' (row_locals (row_view (drop (i + 1) es) slots.none)) ≡ r
-row_step es i b n k m m' r lt is given kept checked_sum so = search (arith, rules, drop_more, counted_on)
+row_step es i b n m m' r lt is e f so =
+    let left = ap row_locals (row_left es i b lt is)
+    ∙ entry_first b.0 (expr_view b.1) (row_view (drop (i + 1) es) slots.none) in omega arith
+  where
+    entry_first : (o : Option ℕ) (x : SlotExpr ℕ) (rest : SRow ℕ)
+        → row_locals (entry_front o x rest) ≡ max (up_to o) (max (expr_locals x) (row_locals rest))
+    entry_first None x rest = omega arith
+    entry_first (Some i) x rest = refl
 
 -- The locals of the arguments of filters.
 abbrev pub filters_locals : List SlotFilter → ℕ
 filters_locals [] = 0
 filters_locals (f ∷ fs) = max (row_locals (row_view f.row.items slots.none)) (filters_locals fs)
 
-max_again : (a b c : ℕ) → max (max a b) c ≡ max a (max b c)
-max_again a b c = omega arith
-
 pub filters_counted : (fs : List SlotFilter) (x : SlotExpr ℕ)
     → expr_locals (filters_after fs x) ≡ max (expr_locals x) (filters_locals fs)
 filters_counted [] x = sym (max_zero (expr_locals x))
 filters_counted (f ∷ fs) x = search (arith, rules, filters_counted fs, max_again)
 
-pub body_step : (templates : List Text) (ss : List code_stmt.SlotStmt) (i : ℕ) (x : code_stmt.SlotStmt) (n m m' : ℕ)
-    (behind : SBody ℕ) (r : ℕ)
-    → i < length ss → x ≡ get_or ss i x
-    → ((b : SBody ℕ) → body_locals (stmt_view templates x b) ≡ max n (body_locals b)) → m' ≡ max m n
-    → max m (body_locals (body_view templates (drop i ss) behind)) ≡ r
-    → max m' (body_locals (body_view templates (drop (i + 1) ss) behind)) ≡ r
-body_step templates ss i x n m m' behind r lt is counted checked_sum so = search (arith, rules, counted_on, drop_more)
+pub body_step : (templates : List Text) (ss : List code_stmt.SlotStmt) (i : ℕ) (x : code_stmt.SlotStmt)
+    (m m' : Option ℕ) (behind : SBody ℕ) (r : ℕ)
+    → i < length ss → x ≡ get_or ss i x → Reaches (stmt_view templates x) m m'
+    → max (up_to m) (body_locals (body_view templates (drop i ss) behind)) ≡ r
+    → max (up_to m') (body_locals (body_view templates (drop (i + 1) ss) behind)) ≡ r
+body_step templates ss i x m m' behind r lt is h so =
+    h (body_view templates (drop (i + 1) ss) behind)
+    ∙ ap (λ (y : code_stmt.SlotStmt).
+    max (up_to m) (body_locals (stmt_view templates y (body_view templates (drop (i + 1) ss) behind)))) is
+    ∙ sym (ap (λ (l : List code_stmt.SlotStmt). max (up_to m) (body_locals (body_view templates l behind)))
+    (drop_more ss i x lt)) ∙ so
 
 pub branch_step : (templates : List Text) (bs : List SBranch) (i : ℕ) (b : SBranch) (us : List code_stmt.SlotStmt)
-    (n k m m' r : ℕ)
-    → i < length bs → b ≡ get_or bs i b → us ≡ b.body.items → n ≡ expr_locals (expr_view b.condition)
-    → ((z : SBody ℕ) → body_locals (body_view templates us z) ≡ max k (body_locals z)) → m' ≡ max m (max n k)
-    → max m (branches_locals templates (drop i bs)) ≡ r → max m' (branches_locals templates (drop (i + 1) bs)) ≡ r
-branch_step templates bs i b us n k m m' r lt is body asked taken checked_sum so =
-    search (arith, rules, max_zero, counted_on, drop_more)
-
--- ---- forms of statements
-
-module _ (templates : List Text) (x : code_stmt.SlotStmt) (behind : SBody ℕ) where
-  pub choice_done : (bs : Vec SBranch Global) (other : Vec code_stmt.SlotStmt Global) (m n k : ℕ) → x ≡ s.If bs other
-      → m ≡ branches_locals templates bs.items
-      → ((b : SBody ℕ) → body_locals (body_view templates other.items b) ≡ max n (body_locals b)) → k ≡ max m n
-      → body_locals (stmt_view templates x behind) ≡ max k (body_locals behind)
-  choice_done bs other m n k is f g h =
-      rw is (ap body_locals (view_If templates bs other behind)
-      ∙ choice_counted templates bs.items (body_view templates other.items) n g behind ∙ rw (h, f) refl)
-
-  pub loop_counted : (p : Place) (xs : Targets) (e : code.SlotExpr) (c : Option code.SlotExpr)
-      (body other : Vec code_stmt.SlotStmt Global) (m n k t l r : ℕ)
-      → x ≡ s.For p xs e c body other → m ≡ targets_locals (targets_view xs) → n ≡ expr_locals (expr_view e)
-      → k ≡ condition_locals (option_map expr_view c)
-      → ((b : SBody ℕ) → body_locals (body_view templates body.items b) ≡ max t (body_locals b))
-      → ((b : SBody ℕ) → body_locals (body_view templates other.items b) ≡ max l (body_locals b))
-      → r ≡ max m (max (max n k) (max t l)) → body_locals (stmt_view templates x behind) ≡ max r (body_locals behind)
-  loop_counted p xs e c body other m n k t l r is f g h a b z =
-      rw is (ap body_locals (view_For templates p xs e c body other behind)
-      ∙ rw (z, f, g, h, a slots.end, b slots.end, max_zero t, max_zero l) refl)
-
-  pub capture_counted : (escaping : Bool) (y : code_slot.Slot) (body : Vec code_stmt.SlotStmt Global) (m n k : ℕ)
-      → x ≡ s.Capture escaping y body → m ≡ slot_locals (slot_view y)
-      → ((b : SBody ℕ) → body_locals (body_view templates body.items b) ≡ max n (body_locals b)) → k ≡ max m n
-      → body_locals (stmt_view templates x behind) ≡ max k (body_locals behind)
-  capture_counted escaping y body m n k is f g h =
-      rw is (ap body_locals (view_Capture templates escaping y body behind) ∙ rw (h, f, g slots.end, max_zero n) refl)
+    (m k m' : Option ℕ) (r : ℕ)
+    → i < length bs → b ≡ get_or bs i b → us ≡ b.body.items
+    → up_to k ≡ max (up_to m) (expr_locals (expr_view b.condition)) → Reaches (body_view templates us) k m'
+    → max (up_to m) (branches_locals templates (drop i bs)) ≡ r
+    → max (up_to m') (branches_locals templates (drop (i + 1) bs)) ≡ r
+branch_step templates bs i b us m k m' r lt is body e h so =
+    let left : branches_locals templates (drop i bs)
+    ≡ max (max (expr_locals (expr_view b.condition)) (body_locals (body_view templates us slots.end)))
+    (branches_locals templates (drop (i + 1) bs)) =
+    ap (branches_locals templates) (drop_more bs i b lt)
+    ∙ ap (λ (z : SBranch). branches_locals templates (z ∷ drop (i + 1) bs)) (sym is)
+    ∙ ap (λ (l : List code_stmt.SlotStmt). max (max (expr_locals (expr_view b.condition))
+    (body_locals (body_view templates l slots.end))) (branches_locals templates (drop (i + 1) bs))) (sym body) in
+    let here = h slots.end in omega arith

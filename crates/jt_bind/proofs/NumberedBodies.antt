@@ -1,31 +1,19 @@
 -- The bodies of a chain's blocks, by their indices, and the routines of macros and bodies.
-use Rattle.std.proofs.Common.{◌≡◌, ℕ, zero, suc, ◌+◌, ◌<◌, ◌≤◌, Bool, true, false, List, [], ◌∷◌, length, drop, get_or}
-use Rattle.std.proofs.Common.{refl, ap, ◌∙◌, arith, Option, Some, if◌then◌else◌, rules, ◌++◌, map, sym, zero-add}
-use Rattle.std.proofs.Common.{add-zero, add-one}
-use Rattle.std.specs.Prelude.{filter}
-use Rattle.std.proofs.lemmas.List.{drop_more, at_drop_all, length-map}
-use Rattle.jt_chains.specs.Chain.{BlockBody, all_bodies, Template}
-use Rattle.jt_semantics.specs.Layout.{counted_from, numbered_bodies, block_parameters}
-use Rattle.jt_semantics.specs.Resolve.{first_body, next_given, resolved_routine, macro_routine, top_senv}
-use Rattle.jt_value.specs.Tree.{Tree}
-use Rattle.jt_ast.specs.Expressions.{Text}
-use Rattle.jt_ast.specs.StatementView.{body_view, parameters_view}
-use Rattle.jt_chains.specs.Parts.{block_view, macro_view, name_at}
-use Rattle.jt_chains.specs.View.{chain_view}
-use Rattle.jt_chains.specs.declared.parts.Block.{Block}
-use Rattle.jt_chains.specs.declared.parts.Macro.{Macro}
-use Rattle.jt_ir.specs.declared.program.Routine.{Routine}
-use Rattle.jt_semantics.specs.Programs.{body_routines}
 use Rattle.jt_semantics.specs.Resolve as resolve
-use Rattle.jt_bind.specs.internal.Chains.{Chains}
-use Rattle.jt_bind.specs.internal.Scoped.{cenv_in, order_in, namespace_in, templates_in, globals_in, part_at, part_from}
-use Rattle.jt_bind.specs.internal.Routines.{IsRoutine, RoutinesLead}
-use Rattle.jt_bind.proofs.RoutineConcatenation.{Planned, lead_push, routine_as, routines_left}
+use Rattle.jt_bind.specs.internal.{bodies_in, files_in, macro_in, numbered_in, parameters_in, top_in, ◌≡◌, ℕ, zero, suc}
+use Rattle.jt_bind.specs.internal.{◌+◌, ◌<◌, ◌≤◌, Bool, true, false, List, [], ◌∷◌, length, drop, get_or, refl, Option}
+use Rattle.jt_bind.specs.internal.{Some, if◌then◌else◌, ◌++◌, map, filter, BlockBody, all_bodies, Template}
+use Rattle.jt_bind.specs.internal.{counted_from, first_body, next_given, resolved_routine, Tree, Text, body_view}
+use Rattle.jt_bind.specs.internal.{parameters_view, block_view, macro_view, Block, Macro, Routine, Chains, cenv_in}
+use Rattle.jt_bind.specs.internal.{order_in, namespace_in, templates_in, part_at, part_from, IsRoutine, RoutinesLead}
+use Rattle.jt_bind.proofs.Vocabulary.{length-drop, ap, ◌∙◌, arith, rules, sym, zero-add, add-zero, add-one, drop_more}
+use Rattle.jt_bind.proofs.Vocabulary.{at_drop_all, length-map}
+use Rattle.jt_bind.proofs.RoutineConcatenation.{Planned, lead_push, routine_as}
 
 -- ---- items of a list by their indices
 
 -- The remaining items from an index on.
-pub drop_counted : {A : Type 0} (i k : ℕ) (xs : List A) → drop i (counted_from k xs) ≡ counted_from (k + i) (drop i xs)
+drop_counted : {A : Type 0} (i k : ℕ) (xs : List A) → drop i (counted_from k xs) ≡ counted_from (k + i) (drop i xs)
 drop_counted zero k xs = ap (λ n. counted_from n xs) (omega arith)
 drop_counted (suc i) k [] = refl
 drop_counted (suc i) k (x ∷ xs) = drop_counted i (suc k) xs ∙ ap (λ n. counted_from n (drop i xs)) (omega arith)
@@ -36,14 +24,8 @@ pub first_within : (p : ℕ × BlockBody → Bool) (k i : ℕ) (bs : List BlockB
 first_within p k i [] e = absurd (cc)
 first_within p k i (b ∷ bs) e = search (arith, rules, first_within p (suc k) i bs)
 
--- The remaining items from one of them on.
-pub counted_left : {A : Type 0} (i : ℕ) (xs : List A) (d : A) → i < length xs
-    → drop i (counted_from 0 xs) ≡ (i, get_or xs i d) ∷ counted_from (suc i) (drop (i + 1) xs)
-counted_left i xs d lt =
-    drop_counted i 0 xs ∙ ap (λ n. counted_from n (drop i xs)) (omega arith) ∙ ap (counted_from i) (drop_more xs i d lt)
-
 -- No item remains after the last one.
-pub counted_end : {A : Type 0} (i : ℕ) (xs : List A) → length xs ≤ i → drop i (counted_from 0 xs) ≡ []
+counted_end : {A : Type 0} (i : ℕ) (xs : List A) → length xs ≤ i → drop i (counted_from 0 xs) ≡ []
 counted_end i xs le = drop_counted i 0 xs ∙ at_drop_all (counted_from (0 + i)) xs i le
 
 next_of : (r : Bool) (k n m : ℕ) (o : Option ℕ) → (if r then o else Some k) ≡ Some n → k < m → (o ≡ Some n → n < m)
@@ -52,7 +34,7 @@ next_of true k n m o e lt f = f e
 next_of false k n m o e lt f = (let same : k ≡ n = (cc) in omega arith)
 
 -- The next body of a block that is not required is an item of the list.
-pub next_within : (p : ℕ × BlockBody → Bool) (k n : ℕ) (bs : List BlockBody)
+next_within : (p : ℕ × BlockBody → Bool) (k n : ℕ) (bs : List BlockBody)
     → next_given (filter p (counted_from k bs)) ≡ Some n → n < k + length bs
 next_within p k n [] e = absurd (cc)
 next_within p k n (b ∷ bs) e = search (arith, rules, next_within p (suc k) n bs, next_of)
@@ -67,79 +49,68 @@ counted_next ts n (b ∷ bs) zero d lt =
     ap (λ (m : ℕ). (m, block_view ts b) ∷ counted_from (suc n) (map (block_view ts) bs)) (sym (add-zero n))
 counted_next ts n (b ∷ bs) (suc i) d lt = search (arith, rules, counted_next ts (suc n) bs i d, get_or)
 
-module _ (s : Chains) (us : List Block) (all : map (block_view (chain_view s.chain.now).templates) us
+module _ (s : Chains) (us : List Block) (all : map (block_view (files_in s)) us
     ≡ all_bodies (cenv_in s).sources (cenv_in s).escaping (namespace_in s)) where
   abbrev shown : Block → BlockBody
-  shown = block_view (chain_view s.chain.now).templates
+  shown = block_view (files_in s)
 
   abbrev numbered : List (ℕ × BlockBody)
-  numbered = numbered_bodies (cenv_in s) (namespace_in s)
+  numbered = numbered_in s
 
-  numbered_next : (i : ℕ) (d : Block) → i < length us
+  pub numbered_next : (i : ℕ) (d : Block) → i < length us
       → drop i numbered ≡ (i, shown (get_or us i d)) ∷ drop (i + 1) numbered
   numbered_next i d lt = search (arith, rules, counted_next, get_or, zero-add, add-one)
 
   pub numbered_end : (i : ℕ) → length us ≤ i → drop i numbered ≡ []
   numbered_end i h = search (arith, rules, length-map, counted_end)
 
+  -- The next body of a block has a number.
+  pub next_numbered : (p : ℕ × BlockBody → Bool) (i k : ℕ) → i < length us
+      → next_given (filter p (drop (i + 1) numbered)) ≡ Some k → k < length us
+  next_numbered p i k lt e =
+      let bs = all_bodies (cenv_in s).sources (cenv_in s).escaping (namespace_in s) in
+      let found : k < 0 + (i + 1) + length (drop (i + 1) bs) = next_within p (0 + (i + 1)) k (drop (i + 1) bs)
+      (ap (λ (z : List (ℕ × BlockBody)). next_given (filter p z)) (sym (drop_counted (i + 1) 0 bs)) ∙ e) in
+      let long : length us ≡ length bs = sym (length-map us shown) ∙ ap length all in
+      omega (arith, length-drop (i + 1) bs)
+
   -- The routine of a body.
   pub block_routine : (i : ℕ) (x : Block) (xs : List Text) (sp : resolve.StaticEnv) (whole : List Planned) (r : Routine)
       (before rs ss : List Routine) (old p q : List Tree)
-      → i < length us → x ≡ get_or us i x → xs ≡ block_parameters (cenv_in s) (order_in s) (namespace_in s) x.name.now
-      → sp ≡ record {
-        namespace = namespace_in s;
-        template = name_at (chain_view s.chain.now).templates x.template;
-        escaping = x.escaping;
-        part = part_at numbered (Some i);
-        table = globals_in s;
-        free = 0;
-      }
-      → RoutinesLead (templates_in s) whole (body_routines (cenv_in s) (order_in s) (namespace_in s) (drop i numbered))
+      → i < length us → x ≡ get_or us i x → xs ≡ parameters_in s x.name.now
+      → sp ≡ record (top_in s x.template) { escaping = x.escaping; part = part_at numbered (Some i) }
+      → RoutinesLead (templates_in s) whole (bodies_in s (drop i numbered))
       before rs old p
       → IsRoutine (templates_in s) (resolved_routine (cenv_in s) (order_in s) xs (body_view x.body.now) sp) r p q
       → ss ≡ rs ++ r ∷ [] → RoutinesLead (templates_in s) whole
-      (body_routines (cenv_in s) (order_in s) (namespace_in s) (drop (i + 1) numbered)) before ss old q
+      (bodies_in s (drop (i + 1) numbered)) before ss old q
   block_routine i x xs sp whole r before rs ss old p q lt is same e lead made pushed =
-      let at = λ (z : List (ℕ × BlockBody)). (let sp : resolve.StaticEnv = record {
-        namespace = namespace_in s;
-        template = name_at (chain_view s.chain.now).templates x.template;
-        escaping = x.escaping;
-        part = part_from z;
-        table = globals_in s;
-        free = 0;
-      } in
-      sp) in
+      let at = λ (z : List (ℕ × BlockBody)). (let inside : resolve.StaticEnv =
+      record (top_in s x.template) { escaping = x.escaping; part = part_from z } in inside) in
       let next = numbered_next i x lt ∙ ap (λ (z : Block). (i, shown z) ∷ drop (i + 1) numbered) (sym is) in
       lead_push (templates_in s) whole before old _
-      (body_routines (cenv_in s) (order_in s) (namespace_in s) (drop (i + 1) numbered)) r rs ss p q
-      (routines_left (templates_in s) whole _ _ before rs old p
-      (ap (body_routines (cenv_in s) (order_in s) (namespace_in s)) next) lead)
+      (bodies_in s (drop (i + 1) numbered)) r rs ss p q
+      (rw next at lead)
       (routine_as (templates_in s) (cenv_in s) (order_in s) xs
-      (block_parameters (cenv_in s) (order_in s) (namespace_in s) x.name.now) (body_view x.body.now)
+      (parameters_in s x.name.now) (body_view x.body.now)
       sp (at ((i, shown x) ∷ drop (i + 1) numbered)) r p q made same (e ∙ ap at next)) pushed
 
 -- The routine of a macro.
 module _ (s : Chains) (ms : List Macro) where
   abbrev pub remaining : ℕ → List Planned
-  remaining i = map (λ m.
-      macro_routine (cenv_in s) (order_in s) (namespace_in s) (macro_view (chain_view s.chain.now).templates m))
-      (drop i ms)
+  remaining i = map (λ m. macro_in s (macro_view (files_in s) m)) (drop i ms)
 
   pub macro_lead : (i : ℕ) (x : Macro) (xs : List Text) (sp : resolve.StaticEnv) (whole : List Planned) (r : Routine)
       (before rs ss : List Routine) (old p q : List Tree)
       → i < length ms → x ≡ get_or ms i x
       → xs ≡ map (λ z. z.name) (parameters_view x.parameters.now)
-      → sp ≡ top_senv (cenv_in s) (order_in s) (namespace_in s) (name_at (chain_view s.chain.now).templates x.template)
+      → sp ≡ top_in s x.template
       → RoutinesLead (templates_in s) whole (remaining i) before rs old p
       → IsRoutine (templates_in s) (resolved_routine (cenv_in s) (order_in s) xs (body_view x.body.now) sp) r p q
       → ss ≡ rs ++ r ∷ [] → RoutinesLead (templates_in s) whole (remaining (i + 1)) before ss old q
   macro_lead i x xs sp whole r before rs ss old p q lt is same at lead made pushed =
-      let F = λ (m : Macro).
-      macro_routine (cenv_in s) (order_in s) (namespace_in s) (macro_view (chain_view s.chain.now).templates m) in
-      lead_push (templates_in s) whole before old (F x) (remaining (i + 1)) r rs ss p q
-      (routines_left (templates_in s) whole _ _ before rs old p
-      (ap (map F) (drop_more ms i x lt ∙ ap (λ (z : Macro). z ∷ drop (i + 1) ms) (sym is))) lead)
+      lead_push (templates_in s) whole before old (macro_in s (macro_view (files_in s) x)) (remaining (i + 1)) r rs ss
+      p q
+      (rw (drop_more ms i x lt, ← is) at lead)
       (routine_as (templates_in s) (cenv_in s) (order_in s) xs (map (λ z. z.name) (parameters_view x.parameters.now))
-      (body_view x.body.now) sp
-      (top_senv (cenv_in s) (order_in s) (namespace_in s) (name_at (chain_view s.chain.now).templates x.template)) r p q
-      made same at) pushed
+      (body_view x.body.now) sp (top_in s x.template) r p q made same at) pushed

@@ -1,28 +1,15 @@
 -- The places of tags, and the scopes around them with the slots of their names.
-use Rattle.std.proofs.Common.{◌≡◌, ℕ, suc, ◌+◌, ◌<◌, false, List, [], ◌∷◌, length, drop, get_or, refl, sym, ap, ◌∙◌}
-use Rattle.std.proofs.Common.{Option, Some, None, if◌then◌else◌, add-one, arith, rules, ◌++◌, map, Bool, true, Global}
-use Rattle.std.proofs.Common.{take}
-use Rattle.std.proofs.lemmas.List.{drop_more, map-append, take_more}
-use Rattle.std.specs.Str.{bytes_eq}
-use denote.Ref.{Bor}
-use Rattle.jt_ast.specs.Expressions.{Text}
-use Rattle.jt_ir.specs.Slots.{Slot, local}
-use Rattle.jt_semantics.specs.Layout.{Table, slot_in}
-use Rattle.jt_semantics.specs.Resolve.{bound_table, StaticEnv, slot_of, bound_all}
-use Rattle.jt_ast.specs.Texts.{texts}
-use Rattle.jt_bind.specs.internal.Names.{last_among}
-use Rattle.std.specs.Prelude.{option_map, unwrap_or, slice_get}
-use Rattle.std.specs.declared.rc.Rc.{Rc}
+use Rattle.jt_semantics.specs.Resolve.{StaticEnv}
 use Rattle.std.proofs.lemmas.Option.{slice_get-map}
-use Rattle.jt_chains.specs.Chain.{Template}
-use Rattle.jt_chains.specs.Parts.{name_at}
 use Rattle.jt_value.specs.Place as place
-use Rattle.jt_ir.specs.View.{place_view, slot_view}
 use Rattle.jt_ir.specs.declared.program.Slot as code_slot
 use Rattle.jt_ir.specs.declared.program.Slot.TheVariants as s
-use Rattle.jt_bind.specs.internal.Scoped.{framed}
-use Rattle.jt_bind.specs.declared.name_scope.NameScope.{NameScope}
-use Rattle.jt_names.specs.Names.{value_in}
+use Rattle.jt_bind.specs.internal.{◌≡◌, ℕ, suc, ◌+◌, ◌<◌, false, List, [], ◌∷◌, length, drop, get_or, refl, Option}
+use Rattle.jt_bind.specs.internal.{Some, None, if◌then◌else◌, ◌++◌, map, Bool, true, take, bytes_eq, Bor, Text, Slot}
+use Rattle.jt_bind.specs.internal.{local, Table, slot_in, bound_table, slot_of, bound_all, texts, last_among}
+use Rattle.jt_bind.specs.internal.{option_map, unwrap_or, slice_get, Rc, Template, name_at, place_view, slot_view}
+use Rattle.jt_bind.specs.internal.{framed, NameScope, value_in}
+use Rattle.jt_bind.proofs.Vocabulary.{sym, ap, ◌∙◌, add-one, arith, rules, Global, drop_more, map-append, take_more}
 
 -- ---- names with numbers
 
@@ -96,10 +83,7 @@ framed_more : (rs : List (Rc NameScope Global)) (i : ℕ) (r : Rc NameScope Glob
     → framed (map (λ f. f.value) (take (i + 1) rs)) t
     ≡ bound_table (texts (get_or rs i r).value.names.items) (get_or rs i r).value.first
     (framed (map (λ f. f.value) (take i rs)) t)
-framed_more rs i r t lt =
-    ap (λ (l : List (Rc NameScope Global)). framed (map (λ f. f.value) l) t) (take_more rs i r lt)
-    ∙ ap (λ l. framed l t) (map-append (λ (f : Rc NameScope Global). f.value) (take i rs) (get_or rs i r ∷ []))
-    ∙ framed_push (map (λ f. f.value) (take i rs)) (get_or rs i r).value t
+framed_more rs i r t lt = rw (take_more rs i r lt, map-append, framed_push) refl
 
 -- A name that the innermost scope has, or does not have.
 pub framed_found : (x : Text) (rs : List (Rc NameScope Global)) (i : ℕ) (f : NameScope) (r : Rc NameScope Global)

@@ -1,16 +1,12 @@
 -- A program by its parts.
-use Rattle.std.proofs.Common.{◌≡◌, ℕ, List, [], map, string_bytes, arith, rules}
-use Rattle.jt_value.specs.Tree.{Tree}
-use Rattle.jt_ast.specs.Expressions.{Text}
-use Rattle.jt_chains.specs.Chain.{Namespace}
-use Rattle.jt_rules.specs.CompileEnv.{CompileEnv}
+use Rattle.jt_ir.specs.View.{templates_of}
+use Rattle.jt_ir.specs.declared.program.Program.{Program}
 use Rattle.jt_semantics.specs.Layout as layout
 use Rattle.jt_semantics.specs.Programs as programs
 use Rattle.jt_ir.specs.Slots as slots
-use Rattle.jt_ir.specs.View.{program_of, templates_of}
-use Rattle.jt_ir.specs.declared.program.Program.{Program}
-use Rattle.jt_bind.specs.internal.Scoped.{values}
-use Rattle.jt_bind.specs.internal.Routines.{AreRoutines}
+use Rattle.jt_bind.specs.internal.{◌≡◌, ℕ, List, [], map, string_bytes, Tree, Text, Namespace, CompileEnv, program_of}
+use Rattle.jt_bind.specs.internal.{values, AreRoutines}
+use Rattle.jt_bind.proofs.Vocabulary.{arith, rules}
 
 abbrev made : List Text → ℕ → List Tree → List (slots.Routine ℕ) → slots.Program
 made names globals pool routines = record { names = names; globals = globals; pool = pool; routines = routines }

@@ -1,25 +1,17 @@
 -- Concatenation of routines.
-use Rattle.std.proofs.Common.{◌≡◌, ℕ, ◌+◌, true, false, List, [], ◌∷◌, ◌++◌, length, map, refl, sym, ap, ◌∙◌, arith}
-use Rattle.std.proofs.Common.{subst, max, Vec, Global, append_assoc, append-nil, length-append, rules}
-use Rattle.std.proofs.lemmas.List.{map-append}
-use Rattle.jt_value.specs.Tree.{Tree}
-use Rattle.jt_ast.specs.Expressions.{Text}
 use Rattle.jt_ast.specs.Statements.{Body}
-use Rattle.jt_chains.specs.Chain.{Namespace, a_chain, a_library}
-use Rattle.jt_rules.specs.CompileEnv.{CompileEnv}
+use Rattle.jt_semantics.specs.Resolve.{StaticEnv}
+use Rattle.jt_ir.specs.View.{body_view}
 use Rattle.jt_semantics.specs.Programs.{entry_routines}
-use Rattle.jt_semantics.specs.Resolve.{StaticEnv, resolved_routine, chain_routine}
-use Rattle.jt_ir.specs.Locals.{body_locals}
-use Rattle.jt_ir.specs.Pool.{Constant, body_values, routines_values, placed_body, placed_routines}
-use Rattle.jt_ir.specs.Slots as slots
-use Rattle.jt_ir.specs.Slots.{SBody}
-use Rattle.jt_ir.specs.View.{body_view, routine_view}
-use Rattle.jt_ir.specs.declared.program.SlotStmt.{SlotStmt}
-use Rattle.jt_ir.specs.declared.program.Routine.{Routine}
 use Rattle.jt_layout.specs.NamespaceLayout.{is_library}
-use Rattle.jt_bind.specs.internal.Routines.{IsRoutine, AreRoutines, RoutinesLead}
-use Rattle.jt_bind.specs.internal.Stated.{Emits}
-use Rattle.jt_bind.proofs.LocalCounts.{body_counted, max_zero}
+use Rattle.jt_ir.specs.Slots as slots
+use Rattle.jt_bind.specs.internal.{◌≡◌, ℕ, ◌+◌, true, false, List, [], ◌∷◌, ◌++◌, length, map, refl, Vec, Tree, Text}
+use Rattle.jt_bind.specs.internal.{Namespace, a_chain, a_library, CompileEnv, resolved_routine, chain_routine}
+use Rattle.jt_bind.specs.internal.{body_locals, Constant, body_values, routines_values, placed_body, placed_routines}
+use Rattle.jt_bind.specs.internal.{SBody, routine_view, SlotStmt, Routine, IsRoutine, AreRoutines, RoutinesLead, Emits}
+use Rattle.jt_bind.proofs.Vocabulary.{sym, ap, ◌∙◌, arith, Global, append_assoc, append-nil, length-append, rules}
+use Rattle.jt_bind.proofs.Vocabulary.{map-append}
+use Rattle.jt_bind.proofs.LocalCounts.{body_counted}
 use Rattle.jt_bind.proofs.BodyConcatenation.{body_shown, body_pooled}
 use Rattle.jt_bind.proofs.RowConcatenation.{grown_by, both_pooled}
 
@@ -29,11 +21,9 @@ Planned = slots.Routine Constant
 module _ (templates : List Text) where
   -- The locals that were counted.
   pub locals_same : (w : SBody Constant) (ss : List SlotStmt) (p q : List Tree) (n : ℕ) → Emits templates w [] ss p q
-      → ((behind : SBody ℕ) → body_locals (body_view templates ss behind) ≡ max n (body_locals behind))
-      → n ≡ body_locals w
+      → n ≡ body_locals (body_view templates ss slots.end) → n ≡ body_locals w
   locals_same w ss p q n h counted =
-      sym (max_zero n) ∙ sym (counted slots.end) ∙ ap body_locals (body_shown templates w ss p q h)
-      ∙ body_counted w (length p)
+      counted ∙ ap body_locals (body_shown templates w ss p q h) ∙ body_counted w (length p)
 
   pub routine_made : (parameters count : ℕ) (w : SBody Constant) (body : Vec SlotStmt Global) (n m : ℕ)
       (p q : List Tree)
@@ -57,8 +47,7 @@ module _ (templates : List Text) where
   -- The remaining routines may be replaced by equal ones.
   pub routines_left : (whole a b : List Planned) (rs ss : List Routine) (p q : List Tree) → a ≡ b
       → RoutinesLead templates whole a rs ss p q → RoutinesLead templates whole b rs ss p q
-  routines_left whole a b rs ss p q =
-      let P : List Planned → Type 0 = λ z. RoutinesLead templates whole z rs ss p q in subst P
+  routines_left whole a b rs ss p q e h = rw (← e) h
 
   -- The names and the environment of a routine may be replaced by equal ones.
   pub routine_as : (cenv : CompileEnv) (order : List Namespace) (xs ys : List Text) (b : Body) (sp sq : StaticEnv)

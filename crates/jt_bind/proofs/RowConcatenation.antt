@@ -1,14 +1,9 @@
 -- Concatenation of resolved expressions and lists of them.
-use Rattle.std.proofs.Common.{◌≡◌, ℕ, ◌+◌, List, [], ◌∷◌, ◌++◌, length, ap, ◌∙◌, subst, Bool, Some, None}
-use Rattle.std.proofs.Common.{append_assoc, append-nil, length-append, arith, rules}
-use Rattle.jt_value.specs.Tree.{Tree}
-use Rattle.jt_ir.specs.Pool.{Constant}
 use Rattle.jt_ir.specs.Slots as slots
-use Rattle.jt_ir.specs.Slots.{SlotExpr, SRow, NaryOp}
-use Rattle.jt_ir.specs.View.{expr_view, row_view}
 use Rattle.jt_ir.specs.declared.program.SlotExpr as code
-use Rattle.jt_bind.specs.internal.Scoped.{IsPlaced, RowLeads}
-use Rattle.jt_ir.proofs.ExpressionViews.{Entry, row_push}
+use Rattle.jt_bind.specs.internal.{◌≡◌, ℕ, ◌+◌, List, [], ◌∷◌, ◌++◌, length, Bool, Some, None, Tree, Constant, SlotExpr}
+use Rattle.jt_bind.specs.internal.{SRow, NaryOp, expr_view, row_view, IsPlaced, RowLeads}
+use Rattle.jt_bind.proofs.Vocabulary.{ap, ◌∙◌, append_assoc, append-nil, length-append, arith, rules, Entry, row_push}
 
 -- ---- expressions
 
@@ -57,16 +52,7 @@ invoked_placed u escaping whole es z p q h e = search (arith, rules, append-nil)
 
 -- ---- equal parts
 
--- The list begins with no expressions.
-pub begun : (whole left : SRow Constant) (es fs gs : List Entry) (p q : List Tree) → es ≡ gs
-    → RowLeads whole left es fs p q → RowLeads whole left gs fs p q
-begun whole left es fs gs p q h = let P : List Entry → Type 0 = λ l. RowLeads whole left l fs p q in subst P h
-
--- The whole, or the remaining part, may be replaced by an equal one.
+-- The whole may be replaced by an equal one.
 pub of_whole : (a b left : SRow Constant) (es fs : List Entry) (p q : List Tree) → a ≡ b → RowLeads a left es fs p q
     → RowLeads b left es fs p q
-of_whole a b left es fs p q h = let P : SRow Constant → Type 0 = λ z. RowLeads z left es fs p q in subst P h
-
-pub of_left : (whole a b : SRow Constant) (es fs : List Entry) (p q : List Tree) → a ≡ b → RowLeads whole a es fs p q
-    → RowLeads whole b es fs p q
-of_left whole a b es fs p q h = let P : SRow Constant → Type 0 = λ z. RowLeads whole z es fs p q in subst P h
+of_whole a b left es fs p q e h = rw (← e) h

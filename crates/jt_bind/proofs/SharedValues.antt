@@ -1,14 +1,7 @@
 -- The values at the beginning of a pool, one more part.
-use Rattle.std.proofs.Common.{◌≡◌, ℕ, ◌+◌, ◌<◌, List, ◌∷◌, ◌++◌, length, map, drop, get_or, sym, ap, ◌∙◌}
-use Rattle.std.proofs.Common.{append_assoc}
-use Rattle.std.proofs.lemmas.List.{drop_more}
-use Rattle.std.proofs.lemmas.Simd.{map-map}
-use Rattle.jt_ast.specs.StatementView.{parameter_view}
-use Rattle.jt_chains.specs.Chain.{Template}
-use Rattle.jt_chains.specs.Parts.{macro_view}
-use Rattle.jt_chains.specs.declared.parts.Macro.{Macro}
-use Rattle.jt_eval.specs.Filters.{default_value}
-use Rattle.jt_semantics.specs.Layout.{defaults_of}
+use Rattle.jt_bind.specs.internal.{◌≡◌, ℕ, ◌+◌, ◌<◌, List, ◌++◌, length, map, drop, get_or, parameter_view, Template}
+use Rattle.jt_bind.specs.internal.{macro_view, Macro, default_value, defaults_of}
+use Rattle.jt_bind.proofs.Vocabulary.{ap, ◌∙◌, append_assoc, drop_more, map-map}
 
 -- A part that was appended no longer remains.
 pub part_put : {A : Type 0} (at part left all new : List A) → new ≡ at ++ part → at ++ (part ++ left) ≡ all
@@ -21,6 +14,5 @@ pub defaults_left : (ts : List Template) (ms : List Macro) (i : ℕ) (m : Macro)
     ≡ map (λ p. default_value (parameter_view p).default) m.parameters.now
     ++ defaults_of (map (macro_view ts) (drop (i + 1) ms))
 defaults_left ts ms i m lt is =
-    ap (λ ks. defaults_of (map (macro_view ts) ks)) (drop_more ms i m lt ∙ ap (λ k. k ∷ drop (i + 1) ms) (sym is))
-    ∙ ap (λ vs. vs ++ defaults_of (map (macro_view ts) (drop (i + 1) ms)))
-    (map-map (λ p. default_value p.default) parameter_view m.parameters.now)
+    rw (drop_more ms i m lt, ← is) (ap (λ vs. vs ++ defaults_of (map (macro_view ts) (drop (i + 1) ms)))
+    (map-map (λ p. default_value p.default) parameter_view m.parameters.now))

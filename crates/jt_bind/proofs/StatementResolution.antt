@@ -1,42 +1,18 @@
 -- The resolved statements, part by part.
-use Rattle.std.proofs.Common.{◌≡◌, ℕ, zero, suc, ◌+◌, ◌<◌, List, [], ◌∷◌, ◌++◌, length, map, drop, get_or, refl, sym}
-use Rattle.std.proofs.Common.{ap, ◌∙◌, Option, None, String, Global, string_bytes, add-one, append_assoc}
-use Rattle.std.proofs.Common.{arith, rules}
-use Rattle.std.proofs.lemmas.List.{drop_more, map-append}
-use Rattle.std.specs.Prelude.{if◌then◌else◌, option_map}
-use denote.Ref.{Bor}
-use Rattle.jt_value.specs.Tree.{Tree}
+use Rattle.jt_semantics.specs.Resolve.{StaticEnv}
 use Rattle.jt_ast.specs.Expressions as expressions
-use Rattle.jt_ast.specs.Expressions.{Pairs, no_pairs, pair, Text}
-use Rattle.jt_chains.specs.Chain.{Namespace}
-use Rattle.jt_chains.specs.Uses.{set_in}
-use Rattle.jt_rules.specs.CompileEnv.{CompileEnv}
 use Rattle.jt_ast.specs.Statements as trees
-use Rattle.jt_ast.specs.Texts.{among, texts}
-use Rattle.jt_ast.specs.StatementView.{names_view}
-use Rattle.jt_value.specs.Place.{Place}
-use Rattle.jt_ir.specs.Pool.{Constant}
 use Rattle.jt_ir.specs.Slots as slots
-use Rattle.jt_ir.specs.Slots.{Slot, SlotExpr, SBody, local, global, one, Targets}
-use Rattle.jt_ir.specs.View.{slot_view}
-use Rattle.jt_ir.specs.declared.program.Slot as code_slot
-use Rattle.jt_ir.specs.declared.program.SlotStmt.{SlotStmt}
-use Rattle.jt_semantics.specs.Layout.{Table, slot_in}
-use Rattle.jt_semantics.specs.Resolve.{StaticEnv, read_from, followed, alone, copied, handed_on}
-use Rattle.jt_semantics.specs.Resolve.{resolved_values, resolved_condition, resolved_filters}
-use Rattle.jt_semantics.specs.Resolve.{kept_slots}
-use Rattle.jt_semantics.specs.Resolve.{bound_all, place}
-use Rattle.jt_bind.specs.internal.Chains.{Chains}
-use Rattle.jt_bind.specs.internal.Names.{last_among}
-use Rattle.jt_bind.specs.declared.name_scope.NameScope.{NameScope}
-use Rattle.jt_bind.specs.declared.emission.Turns.{Turns}
 use Rattle.jt_bind.specs.declared.senv.StaticEnv as code_senv
-use Rattle.jt_bind.specs.internal.Scoped.{IsPlaced, BodyLeads, cenv_in, order_in, senv_in, templates_in}
-use Rattle.jt_bind.specs.internal.Stated.{Emits, IsHead, AreTurns, slot_if, line_in, stmt_in, body_in, scoped_in}
-use Rattle.jt_bind.specs.internal.Stated.{values_in}
+use Rattle.jt_bind.specs.internal.{filters_in, alone, Place, ◌≡◌, ℕ, suc, ◌+◌, ◌<◌, List, [], ◌∷◌, length, drop, get_or}
+use Rattle.jt_bind.specs.internal.{refl, Option, Bor, Tree, Pairs, no_pairs, pair, Text, Namespace, set_in, CompileEnv}
+use Rattle.jt_bind.specs.internal.{texts, Constant, Slot, SlotExpr, SBody, local, global, one, Targets, SlotStmt, Table}
+use Rattle.jt_bind.specs.internal.{slot_in, read_from, followed, copied, handed_on, resolved_values, resolved_condition}
+use Rattle.jt_bind.specs.internal.{bound_all, place, Chains, Turns, IsPlaced, BodyLeads, cenv_in, order_in, senv_in}
+use Rattle.jt_bind.specs.internal.{templates_in, Emits, IsHead, AreTurns, line_in, stmt_in, body_in, scoped_in}
+use Rattle.jt_bind.specs.internal.{values_in}
+use Rattle.jt_bind.proofs.Vocabulary.{ap, add-one, arith, rules, drop_more}
 use Rattle.jt_bind.proofs.BodyConcatenation.{emits_of, emits_both, lead_of}
-use Rattle.jt_ast.proofs.RemainingParts.{names_left}
-use Rattle.jt_bind.proofs.LastAssignedSlot.{slot_kept}
 
 -- ---- copies of names
 
@@ -88,7 +64,7 @@ pub filter_shown : (s : Chains) (senv : code_senv.StaticEnv) (line : ℕ) (fs : 
     → followed
     (alone (slots.capture senv.escaping (local senv.free) (scoped_in s b (senv_in s (record senv { free = n })))))
     (alone (slots.print (line_in s senv line) senv.escaping
-    (resolved_filters (cenv_in s) (order_in s) fs (senv_in s (record senv { free = n }))
+    (filters_in s fs (record senv { free = n })
     (slots.variable (local senv.free)))))
     ≡ stmt_in s (trees.filter_block line fs b) senv
 filter_shown s senv line fs b n e = search (arith, rules, add-one)
@@ -115,31 +91,3 @@ pub turns_as : (s : Chains) (b : trees.Body) (k : Option expressions.Expr) (sp s
     → Emits (templates_in s) (scoped_in s b sp) [] t.body.items r v
     → AreTurns s xs c (resolved_condition (cenv_in s) (order_in s) k sq) (scoped_in s b sq) t p v
 turns_as s b k sp sq xs c t p r v e h w = search (arith, rules, emits_of)
-
--- ---- slots of names that are set
-
-pub kept_step : (t : Table) (ks : List (String Global)) (i : ℕ) (k : String Global) (last : NameScope)
-    (ss ts : List (Option code_slot.Slot)) (o : Option code_slot.Slot) {x : Text}
-    → i < length ks → k ≡ get_or ks i k
-    → texts last.names.items ≡ names_view ks → last.first ≡ 0
-    → option_map slot_view o ≡ slot_if (last_among x (texts last.names.items) last.first None) i (slot_in x t)
-    → x ≡ string_bytes k → ts ≡ ss ++ o ∷ []
-    → map (option_map slot_view) ss ++ kept_slots t (names_view (drop i ks)) ≡ kept_slots t (names_view ks)
-    → map (option_map slot_view) ts ++ kept_slots t (names_view (drop (i + 1) ks)) ≡ kept_slots t (names_view ks)
-kept_step t ks i k last ss ts o {x} lt is all first has same pushed so =
-    let rest = names_view (drop (i + 1) ks) in
-    let left : names_view (drop i ks) ≡ string_bytes k ∷ rest = names_left ks i k lt is in
-    let whole : drop i (names_view ks) ≡ string_bytes k ∷ rest = drop_viewed ks i ∙ left in
-    let here : option_map slot_view o ≡ (if among (string_bytes k) rest then None else slot_in (string_bytes k) t) =
-    (rw (same, all, first) at has) ∙ slot_kept (string_bytes k) (names_view ks) rest i (slot_in (string_bytes k) t)
-    whole in
-    ap (λ l. map (option_map slot_view) l ++ kept_slots t rest) pushed
-    ∙ ap (λ l. l ++ kept_slots t rest) (map-append (option_map slot_view) ss (o ∷ []))
-    ∙ append_assoc (map (option_map slot_view) ss) (option_map slot_view o ∷ []) (kept_slots t rest)
-    ∙ ap (λ z. map (option_map slot_view) ss ++ z ∷ kept_slots t rest) here
-    ∙ ap (λ l. map (option_map slot_view) ss ++ kept_slots t l) (sym left) ∙ so
-  where
-    drop_viewed : (zs : List (String Global)) (n : ℕ) → drop n (names_view zs) ≡ names_view (drop n zs)
-    drop_viewed zs zero = refl
-    drop_viewed [] (suc n) = refl
-    drop_viewed (z ∷ zs) (suc n) = drop_viewed zs n

@@ -1,16 +1,11 @@
 -- Parameters that no positional argument fills.
-use Rattle.std.proofs.Common.{◌≡◌, ℕ, zero, suc, ◌+◌, List, [], ◌∷◌, drop, length, ◌<◌, get_or, refl, sym, ap, ◌∙◌}
-use Rattle.std.proofs.Common.{arith, true, false}
-use Rattle.std.proofs.lemmas.List.{drop-map, drop_more}
-use Rattle.jt_ast.specs.Expressions.{Text}
-use Rattle.jt_ast.specs.StatementView.{parameter_view, parameters_view}
-use Rattle.jt_ast.specs.declared.statement.Parameter.{Parameter}
 use Rattle.jt_ast.specs.Statements as trees
-use Rattle.jt_eval.specs.Filters.{some_given, default_value}
-use Rattle.jt_ir.specs.Pool.{own}
 use Rattle.jt_ir.specs.Slots as slots
-use Rattle.jt_semantics.specs.Layout.{Table, slot_in}
-use Rattle.jt_semantics.specs.Resolve.{value_or, filled, filled_some}
+use Rattle.jt_ast.specs.declared.statement.Parameter.{Parameter}
+use Rattle.jt_bind.specs.internal.{◌≡◌, ℕ, zero, suc, ◌+◌, List, [], ◌∷◌, drop, length, ◌<◌, get_or, refl, true, false}
+use Rattle.jt_bind.specs.internal.{Text, parameter_view, parameters_view, some_given, default_value, own, Table}
+use Rattle.jt_bind.specs.internal.{slot_in, value_or, filled, filled_some}
+use Rattle.jt_bind.proofs.Vocabulary.{sym, ap, ◌∙◌, arith, drop-map, drop_more}
 
 -- The parameters after those that positional arguments fill.
 pub filled_behind : (ps : List trees.Parameter) (g d : ℕ) (ks : Table)
@@ -41,9 +36,7 @@ one_filled p ps xs ks e = cc
 -- The remaining parameters.
 pub parameters_left : (ps : List Parameter) (i : ℕ) (p : Parameter) → i < length ps → p ≡ get_or ps i p
     → parameters_view (drop i ps) ≡ parameter_view p ∷ parameters_view (drop (i + 1) ps)
-parameters_left ps i p lt is =
-    ap parameters_view (drop_more ps i p lt)
-    ∙ ap (λ (z : Parameter). parameter_view z ∷ parameters_view (drop (i + 1) ps)) (sym is)
+parameters_left ps i p lt is = rw (drop_more ps i p lt, ← is) refl
 
 -- The parameters after the first g ones.
 pub parameters_behind : (ps qs : List Parameter) (g : ℕ) → qs ≡ drop g ps

@@ -1,19 +1,13 @@
 //! Fills the parameters that no positional argument fills.
 
-ghost use Rattle.std.specs.Prelude.{◌≡◌, IfOk, List, drop, length};
-ghost use Rattle.jt_ast.specs.ExpressionView.{pairs_view};
-ghost use Rattle.jt_ast.specs.StatementView.{parameter_view, parameters_view};
-ghost use Rattle.jt_ast.specs.Texts.{among};
-ghost use Rattle.jt_bind.specs.internal.Resolving.{RowAdds, by_name, filled_of, kept_of};
-ghost use Rattle.jt_bind.specs.internal.Scoped.{IsAdded, RowLeads};
-ghost use Rattle.jt_chains.specs.Uses.{keywords};
-ghost use Rattle.jt_eval.specs.Filters.{default_value, some_given};
-ghost use Rattle.jt_ir.specs.Pool.{own};
-ghost use Rattle.jt_semantics.specs.Layout.{slot_in};
-ghost use Rattle.jt_value.specs.Tree.{Tree};
 ghost use Rattle.jt_semantics.specs.Resolve as resolve;
 ghost use Rattle.jt_eval.specs.TheFilters as the;
 ghost use Rattle.jt_ir.specs.Slots as slots;
+ghost use Rattle.std.specs.Prelude.{◌≡◌};
+ghost use Rattle.jt_bind.specs.internal.{IfOk, List, drop, length, pairs_view, parameter_view};
+ghost use Rattle.jt_bind.specs.internal.{parameters_view, among, RowAdds, by_name, filled_of};
+ghost use Rattle.jt_bind.specs.internal.{kept_of, IsAdded, RowLeads, keywords, default_value};
+ghost use Rattle.jt_bind.specs.internal.{some_given, own, slot_in, Tree};
 
 use crate::Result;
 use crate::callee::Signature;
@@ -70,7 +64,7 @@ impl<'t, 'f, 's, 'a> Resolver<'t, 'f, 's, 'a> {
         let parameters = filter_parameters(self.alloc, filter)?;
         let rest = behind(&parameters, arguments.row.len());
         for (index, parameter) in rest.iter().enumerate() {
-            let left = &rest[index..];
+            let left = behind(rest, index);
             if !is_some_given(left, arguments.pairs) {
                 return Ok(());
             }

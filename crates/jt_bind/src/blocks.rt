@@ -1,10 +1,9 @@
 //! Resolves calls of the bodies of blocks.
 
-ghost use Rattle.std.specs.Prelude.{◌≡◌, IfOk};
-ghost use Rattle.jt_ast.specs.Texts.{texts};
-ghost use Rattle.jt_bind.specs.internal.Resolving.{IsBlock, super_of, table_of};
-ghost use Rattle.jt_bind.specs.internal.Scoped.{IsRow, PutsNone, first_unit_in, parameters_in};
 ghost use Rattle.jt_semantics.specs.Resolve as resolve;
+ghost use Rattle.std.specs.Prelude.{◌≡◌};
+ghost use Rattle.jt_bind.specs.internal.{IfOk, texts, IsBlock, super_of, table_of, IsRow, PutsNone};
+ghost use Rattle.jt_bind.specs.internal.{first_unit_in, parameters_in};
 
 use crate::Result;
 use crate::lookup::absent;

@@ -1,16 +1,13 @@
 //! Resolves the callee of a call.
 
-ghost use Rattle.std.specs.Prelude.{◌<◌, ◌≡◌, IfOk, List, None, Some, codes, false, length};
-ghost use Rattle.std.specs.Prelude.{option_map};
-ghost use Rattle.std.specs.Str.{bytes_eq};
 ghost use Rattle.jt_ast.specs.ExpressionView.{expr_view};
-ghost use Rattle.jt_bind.specs.internal.Callees.{IsCallee, IsLaidThere, library_of};
-ghost use Rattle.jt_bind.specs.internal.Scoped.{IsCalled, IsMacroOf, cenv_in, given_as, given_in};
-ghost use Rattle.jt_bind.specs.internal.Scoped.{order_in};
-ghost use Rattle.jt_chains.specs.Indices.{namespace_at};
-ghost use Rattle.jt_rules.specs.CompileEnv.{CompileEnv};
 ghost use Rattle.jt_ast.specs.Expressions as trees;
 ghost use Rattle.jt_chains.specs.Chain as chain;
+ghost use Rattle.std.specs.Prelude.{◌<◌, ◌≡◌};
+ghost use Rattle.jt_bind.specs.internal.{IfOk, List, None, Some, codes, false, length, option_map};
+ghost use Rattle.jt_bind.specs.internal.{bytes_eq, IsCallee, IsLaidThere, library_of, IsCalled};
+ghost use Rattle.jt_bind.specs.internal.{IsMacroOf, cenv_in, given_as, given_in, order_in};
+ghost use Rattle.jt_bind.specs.internal.{namespace_at, CompileEnv};
 
 use crate::Result;
 use crate::tables::Tables;

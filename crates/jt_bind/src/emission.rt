@@ -1,15 +1,12 @@
 //! Appends resolved statements to others.
 
-ghost use Rattle.std.specs.Prelude.{◌++◌, ◌∷◌, ◌≡◌, IfOk, List, []};
-ghost use Rattle.jt_ast.specs.Expressions.{Text};
-ghost use Rattle.jt_bind.specs.internal.Chains.{Chains};
-ghost use Rattle.jt_bind.specs.internal.Scoped.{IsShown, templates_in, values};
-ghost use Rattle.jt_bind.specs.internal.Stated.{Emits, line_in, place_of};
-ghost use Rattle.jt_ir.specs.Pool.{Constant, own};
-ghost use Rattle.jt_semantics.specs.Resolve.{alone};
 ghost use Rattle.jt_value.specs.Tree as tree;
 ghost use Rattle.jt_ir.specs.Slots as slots;
 ghost use Rattle.jt_ir.specs.declared.program.SlotStmt.TheVariants as s;
+ghost use Rattle.std.specs.Prelude.{◌++◌, ◌∷◌, ◌≡◌};
+ghost use Rattle.jt_bind.specs.internal.{alone, IfOk, List, [], Text, Chains, IsShown};
+ghost use Rattle.jt_bind.specs.internal.{templates_in, values, Emits, line_in, place_of, Constant};
+ghost use Rattle.jt_bind.specs.internal.{own};
 
 use crate::Result;
 use crate::held::Held;

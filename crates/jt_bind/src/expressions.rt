@@ -1,33 +1,28 @@
 //! Resolves expressions: names to slots, and literals and keys to indices of a pool.
 
-ghost use Rattle.std.specs.Prelude.{IfOk, Some, length};
-ghost use Rattle.jt_ast.specs.ExpressionView.{expr_view, exprs_view, is_negated, literal_view};
-ghost use Rattle.jt_ast.specs.ExpressionView.{pairs_view};
-ghost use Rattle.jt_bind.specs.internal.Resolving.{IsResolved, RowAdds, RowPuts, asides_of};
-ghost use Rattle.jt_bind.specs.internal.Resolving.{by_name, by_position, called_of, entries_of};
-ghost use Rattle.jt_bind.specs.internal.Resolving.{expr_of, filter_row_of, given_of, row_of};
-ghost use Rattle.jt_bind.specs.internal.Scoped.{IsAdded, turn_in};
-ghost use Rattle.jt_eval.specs.Values.{literal};
-ghost use Rattle.jt_ids.specs.FilterTable.{filter_id};
-ghost use Rattle.jt_ir.specs.Pool.{own};
-ghost use Rattle.jt_ir.specs.View.{nary_op_view};
+ghost use Rattle.jt_ast.specs.ExpressionView.{expr_view};
 ghost use Rattle.jt_ast.specs.Expressions as trees;
 ghost use Rattle.jt_semantics.specs.Resolve as resolve;
 ghost use Rattle.jt_ids.specs.declared.op_id.OpId.TheVariants as op;
 ghost use Rattle.jt_ir.specs.Slots as slots;
+ghost use Rattle.jt_bind.specs.internal.{filter_row_in, entries_in, IfOk, Some, length, exprs_view};
+ghost use Rattle.jt_bind.specs.internal.{is_negated, literal_view, pairs_view, IsResolved, RowAdds};
+ghost use Rattle.jt_bind.specs.internal.{RowPuts, asides_of, by_name, by_position, called_of};
+ghost use Rattle.jt_bind.specs.internal.{expr_of, given_of, row_of, IsAdded, turn_in, literal};
+ghost use Rattle.jt_bind.specs.internal.{filter_id, own, nary_op_view};
 
 use crate::Result;
 use crate::callee::{Callee, Signature};
 use crate::held::{Held, boxed};
 use crate::lookup::{absent, no_value, reading, told};
 use crate::operator_forms::{
-    OperatorForm, chosen, conjunction, disjunction, form_of, item_in_turn, literal_value, on_one,
-    range_of, turned, unary_operation,
+    OperatorForm, chosen, form_of, item_in_turn, literal_value, on_one, range_of, turned,
+    unary_operation,
 };
 use crate::pool::{Pool, add_text, add_value};
 use crate::resolver::{Arguments, Resolver};
 use crate::rows::{Row, put_argument};
-use jt_ast::{BinaryOperator, Expr, Literal, Polarity, UnaryOperator};
+use jt_ast::{BinaryOperator, Expr, Literal, Polarity};
 use jt_eval::{filter_of, test_of};
 use jt_ids::{FilterId, LoopField, OpId};
 use jt_ir::{NaryOp, SlotExpr};
@@ -37,7 +32,7 @@ use std::slice;
 
 impl<'t, 'f, 's, 'a> Resolver<'t, 'f, 's, 'a> {
     /// Resolves an expression.
-    #[tactic(auto, using(jt_ast::proofs::ExpressionViews::view_List, jt_ast::proofs::ExpressionViews::view_Map, jt_ast::proofs::ExpressionViews::view_Attribute))]
+    #[tactic(auto, using(jt_ast::proofs::ExpressionViews::view_List, jt_ast::proofs::ExpressionViews::view_Map, jt_ast::proofs::ExpressionViews::view_Attribute, jt_ast::proofs::ExpressionViews::view_Item, jt_ast::proofs::ExpressionViews::view_Unary, jt_ast::proofs::ExpressionViews::view_Binary, jt_ast::proofs::ExpressionViews::view_When, jt_ast::proofs::ExpressionViews::view_Choice))]
     #[cycle(expressions)]
     pub(crate) fn resolve_expression(&self, expr: &Expr, pool: &mut Pool) -> Result<SlotExpr>
         ensures { IfOk result (λ e. IsResolved self.now (expr_view expr.now) e pool.old pool.new) }
@@ -68,7 +63,10 @@ impl<'t, 'f, 's, 'a> Resolver<'t, 'f, 's, 'a> {
                 arguments: row,
                 ..
             } => self.resolve_test(value, *polarity, name, row, pool),
-            Expr::Unary(operator, operand) => self.resolve_unary(*operator, operand, pool),
+            Expr::Unary(operator, operand) => {
+                let op = NaryOp::Operator(unary_operation(*operator));
+                self.resolve_applied(op, operand, &[], pool)
+            }
             Expr::Binary {
                 operator,
                 left,
@@ -177,26 +175,6 @@ impl<'t, 'f, 's, 'a> Resolver<'t, 'f, 's, 'a> {
         self.resolve_applied(NaryOp::Operator(op), left, slice::from_ref(right), pool)
     }
 
-    /// Resolves a unary operator.
-    #[cycle(expressions)]
-    #[inline(never)]
-    fn resolve_unary(
-        &self,
-        operator: UnaryOperator,
-        operand: &Expr,
-        pool: &mut Pool,
-    ) -> Result<SlotExpr>
-        ensures { IfOk result (λ e. IsResolved self.now
-            (trees.unary operator (expr_view operand.now)) e pool.old pool.new) }
-    {
-        self.resolve_applied(
-            NaryOp::Operator(unary_operation(operator)),
-            operand,
-            &[],
-            pool,
-        )
-    }
-
     /// Resolves a binary operator.
     #[cycle(expressions)]
     #[inline(never)]
@@ -219,12 +197,12 @@ impl<'t, 'f, 's, 'a> Resolver<'t, 'f, 's, 'a> {
             OperatorForm::Conjunction => {
                 let first = self.resolve_boxed(left, pool)?;
                 let second = self.resolve_boxed(right, pool)?;
-                Ok(conjunction(first, second))
+                Ok(SlotExpr::Conjunction(first.into_part(), second.into_part()))
             }
             OperatorForm::Disjunction => {
                 let first = self.resolve_boxed(left, pool)?;
                 let second = self.resolve_boxed(right, pool)?;
-                Ok(disjunction(first, second))
+                Ok(SlotExpr::Disjunction(first.into_part(), second.into_part()))
             }
         }
     }
@@ -346,9 +324,9 @@ impl<'t, 'f, 's, 'a> Resolver<'t, 'f, 's, 'a> {
         done: &mut Row,
         pool: &mut Pool,
     ) -> Result<()>
-        ensures { IfOk result (λ u. RowAdds (filter_row_of self.now (Some (filter_id filter))
-            (by_position arguments.entry) (by_name arguments.entry)) slots.none done.old done.new
-            pool.old pool.new) }
+        ensures { IfOk result (λ u. RowAdds (filter_row_in self.now.tables.now
+            (Some (filter_id filter)) (by_position arguments.entry) (by_name arguments.entry)
+            self.now.senv) slots.none done.old done.new pool.old pool.new) }
     {
         self.resolve_given(arguments, done, pool)?;
         self.fill_filter(filter, arguments, done, pool)
@@ -472,8 +450,8 @@ impl<'t, 'f, 's, 'a> Resolver<'t, 'f, 's, 'a> {
         done: &mut Row,
         pool: &mut Pool,
     ) -> Result<()>
-        ensures { IfOk result (λ u. RowAdds (entries_of self.now (pairs_view pairs.now))
-            slots.none done.old done.new pool.old pool.new) }
+        ensures { IfOk result (λ u. RowAdds (entries_in self.now.tables.now (pairs_view pairs.now)
+            self.now.senv) slots.none done.old done.new pool.old pool.new) }
     {
         for (key, value) in pairs {
             let entry_key = add_text(self.alloc, key.as_str(), pool)?;

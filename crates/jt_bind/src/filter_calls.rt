@@ -1,13 +1,10 @@
 //! Resolves the filters of a filter tag.
 
-ghost use Rattle.std.specs.Prelude.{◌≡◌, IfOk, List, length};
-ghost use Rattle.jt_ast.specs.StatementView.{filter_call_view, filter_calls_view};
-ghost use Rattle.jt_bind.specs.internal.Resolving.{filter_call_of, filter_calls_of};
-ghost use Rattle.jt_bind.specs.internal.Scoped.{IsPlaced, values};
-ghost use Rattle.jt_ir.specs.Pool.{Constant};
-ghost use Rattle.jt_ir.specs.View.{filtered_view, slot_view};
-ghost use Rattle.jt_value.specs.Tree.{Tree};
 ghost use Rattle.jt_ir.specs.Slots as slots;
+ghost use Rattle.std.specs.Prelude.{◌∷◌, ◌≡◌};
+ghost use Rattle.jt_bind.specs.internal.{[], filters_in, IfOk, List, length, filter_call_view};
+ghost use Rattle.jt_bind.specs.internal.{filter_calls_view, IsPlaced, values, Constant};
+ghost use Rattle.jt_bind.specs.internal.{filtered_view, slot_view, Tree};
 
 use crate::Result;
 use crate::lookup::absent;
@@ -26,8 +23,8 @@ impl<'t, 'f, 's, 'a> Resolver<'t, 'f, 's, 'a> {
         value: Slot,
         pool: &mut Pool,
     ) -> Result<Filtered>
-        ensures { IfOk result (λ v. IsPlaced (filter_calls_of self.now
-            (filter_calls_view filter_calls.now) (slots.variable (slot_view value)))
+        ensures { IfOk result (λ v. IsPlaced (filters_in self.now.tables.now
+            (filter_calls_view filter_calls.now) self.now.senv (slots.variable (slot_view value)))
             (filtered_view v) (values pool.old) (values pool.new)) }
     {
         let start = pool.len();
@@ -52,8 +49,8 @@ impl<'t, 'f, 's, 'a> Resolver<'t, 'f, 's, 'a> {
     ) -> Result<()>
         ensures { IfOk result (λ u. (c : slots.SlotExpr Constant) (p : List Tree) → length p ≡ start
             → IsPlaced c (filtered_view done.old) p (values pool.old) → IsPlaced
-            (filter_call_of self.now (filter_call_view filter_call.now) c) (filtered_view done.new)
-            p (values pool.new)) }
+            (filters_in self.now.tables.now (filter_call_view filter_call.now ∷ []) self.now.senv c)
+            (filtered_view done.new) p (values pool.new)) }
     {
         let row = filter_call.arguments.as_slice();
         let pairs = filter_call.keywords.as_slice();

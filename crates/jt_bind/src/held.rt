@@ -1,7 +1,8 @@
 //! Holds a resolved part that is part of nothing else yet. Its drop is not inlined, so that the
 //! frames of nested parts are small.
 
-ghost use Rattle.std.specs.Prelude.{◌≡◌, IfOk};
+ghost use Rattle.std.specs.Prelude.{◌≡◌};
+ghost use Rattle.jt_bind.specs.internal.{IfOk};
 
 use crate::Result;
 use jt_ir::SlotExpr;

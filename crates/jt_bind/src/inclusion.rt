@@ -1,16 +1,12 @@
 //! Resolves block tags and includes: the text of another body or chain stands at the tag.
 
-ghost use Rattle.std.specs.Prelude.{if◌then◌else◌, ◌≡◌, Bool, IfOk, List, [], ℕ};
-ghost use Rattle.jt_ast.specs.StatementView.{is_ignored, passes_context};
-ghost use Rattle.jt_ast.specs.Texts.{texts};
-ghost use Rattle.jt_bind.specs.internal.Chains.{Chains};
-ghost use Rattle.jt_bind.specs.internal.Resolving.{line_of, stmt_of, table_of, templates_of};
-ghost use Rattle.jt_bind.specs.internal.Scoped.{PutsNone, globals_in, senv_in, templates_in};
-ghost use Rattle.jt_bind.specs.internal.Stated.{Emits};
-ghost use Rattle.jt_semantics.specs.Layout.{slot_in};
-ghost use Rattle.jt_value.specs.Tree.{Tree};
 ghost use Rattle.jt_semantics.specs.Resolve as resolve;
 ghost use Rattle.jt_ast.specs.Statements as trees;
+ghost use Rattle.std.specs.Prelude.{if◌then◌else◌, ◌≡◌};
+ghost use Rattle.jt_bind.specs.internal.{Bool, IfOk, List, [], ℕ, is_ignored, passes_context};
+ghost use Rattle.jt_bind.specs.internal.{texts, Chains, line_of, stmt_of, table_of, templates_of};
+ghost use Rattle.jt_bind.specs.internal.{PutsNone, globals_in, senv_in, templates_in, Emits};
+ghost use Rattle.jt_bind.specs.internal.{slot_in, Tree};
 
 use crate::Result;
 use crate::emission::{SlotBody, put_assign, put_print, put_run};

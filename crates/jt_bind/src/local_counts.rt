@@ -1,13 +1,14 @@
 //! Counts the locals that resolved statements use: one more than the last one that is stored or
-//! loaded.
+//! loaded. A function that takes `last`, the last local before, returns the last one after a part.
 
-ghost use Rattle.std.specs.Prelude.{◌≡◌, IfOk, List, map, max, option_map, ℕ};
-ghost use Rattle.jt_ast.specs.Expressions.{Text};
-ghost use Rattle.jt_ir.specs.View.{body_view, expr_view, filtered_view, row_view, slot_view};
-ghost use Rattle.jt_ir.specs.View.{stmt_view, targets_view};
 ghost use Rattle.jt_bind.specs.internal.Counts as counts;
 ghost use Rattle.jt_ir.specs.Locals as locals;
 ghost use Rattle.jt_ir.specs.Slots as slots;
+ghost use Rattle.jt_ir.specs.View.{body_view};
+ghost use Rattle.std.specs.Prelude.{◌≡◌};
+ghost use Rattle.jt_bind.specs.internal.{IfOk, List, map, max, option_map, Text, expr_view};
+ghost use Rattle.jt_bind.specs.internal.{filtered_view, row_view, slot_view, targets_view};
+ghost use Rattle.jt_bind.specs.internal.{stmt_view};
 
 use crate::Result;
 use jt_ir::{Filtered, Slot, SlotBranch, SlotExpr, SlotStmt, Targets};
@@ -20,161 +21,154 @@ pub(crate) fn larger(left: usize, right: usize) -> usize
     left.max(right)
 }
 
-/// Counts the locals of a slot.
-fn slot_locals(slot: Slot) -> Result<usize>
-    ensures { IfOk result (λ n. n ≡ locals.slot_locals (slot_view slot)) }
+/// Returns the later of two locals, if there are any.
+fn later(left: Option<usize>, right: Option<usize>) -> Option<usize>
+    ensures { counts.up_to result ≡ max (counts.up_to left) (counts.up_to right) }
 {
-    match slot {
-        Slot::Local(local) => checked_sum(local, 1),
-        Slot::Global(_) => Ok(0),
+    match (left, right) {
+        (Some(left), Some(right)) => Some(larger(left, right)),
+        (Some(left), None) => Some(left),
+        (None, right) => right,
     }
 }
 
-/// Counts the locals of a slot, if there is one.
-fn target_locals(slot: Option<Slot>) -> Result<usize>
-    ensures { IfOk result (λ n. n ≡ counts.target_locals (option_map slot_view slot)) }
+/// Counts the locals up to one, if there is one.
+fn count_of(last: Option<usize>) -> Result<usize>
+    ensures { IfOk result (λ n. n ≡ counts.up_to last) }
 {
-    match slot {
-        Some(slot) => slot_locals(slot),
-        None => Ok(0),
-    }
-}
-
-/// Counts the locals of an argument that may be kept aside in a local.
-fn aside_locals(kept: Option<usize>) -> Result<usize>
-    ensures { IfOk result (λ n. n ≡ counts.aside_locals kept) }
-{
-    match kept {
+    match last {
         Some(local) => checked_sum(local, 1),
         None => Ok(0),
     }
 }
 
-/// Counts the locals of slots.
-fn slots_locals(slots: &[Option<Slot>]) -> Result<usize>
-    ensures { IfOk result (λ n. n ≡ locals.slots_locals (map (option_map slot_view) slots.now)) }
+/// Returns the local of a slot, if there is a slot that is a local.
+fn local_of(slot: Option<Slot>) -> Option<usize>
+    ensures { counts.up_to result ≡ counts.target_locals (option_map slot_view slot) }
 {
-    let mut most = 0;
-    for slot in slots {
-        most = larger(most, target_locals(*slot)?);
+    match slot {
+        Some(Slot::Local(local)) => Some(local),
+        Some(Slot::Global(_)) => None,
+        None => None,
     }
-    Ok(most)
 }
 
-/// Counts the locals of targets.
-fn targets_locals(targets: &Targets) -> Result<usize>
-    ensures { IfOk result (λ n. n ≡ locals.targets_locals (targets_view targets.now)) }
+/// Returns the last local after slots.
+fn last_of_slots(slots: &[Option<Slot>], last: Option<usize>) -> Option<usize>
+    ensures { counts.up_to result ≡ max (counts.up_to last)
+        (locals.slots_locals (map (option_map slot_view) slots.now)) }
+{
+    let mut latest = last;
+    for slot in slots {
+        latest = later(latest, local_of(*slot));
+    }
+    latest
+}
+
+/// Returns the last local after targets.
+fn last_of_targets(targets: &Targets, last: Option<usize>) -> Option<usize>
+    ensures { counts.up_to result ≡ max (counts.up_to last)
+        (locals.targets_locals (targets_view targets.now)) }
 {
     match targets {
-        Targets::One(slot) => slot_locals(*slot),
-        Targets::Several(slots) => slots_locals(slots),
+        Targets::One(slot) => later(last, local_of(Some(*slot))),
+        Targets::Several(slots) => last_of_slots(slots, last),
     }
 }
 
-/// Counts the locals of an expression.
+/// Returns the last local after an expression.
 #[cycle(expressions)]
-fn expr_locals(expr: &SlotExpr) -> Result<usize>
-    ensures { IfOk result (λ n. n ≡ locals.expr_locals (expr_view expr.now)) }
+fn last_of_expr(expr: &SlotExpr, last: Option<usize>) -> Option<usize>
+    ensures { counts.up_to result ≡ max (counts.up_to last)
+        (locals.expr_locals (expr_view expr.now)) }
 {
     match expr {
-        SlotExpr::Pooled(_) => Ok(0),
-        SlotExpr::Variable(slot) => slot_locals(*slot),
-        SlotExpr::Field(_) => Ok(0),
-        SlotExpr::Absent => Ok(0),
-        SlotExpr::Made(_, row) => row_locals(row),
-        SlotExpr::Conjunction(left, right) => {
-            let first = expr_locals(left)?;
-            Ok(larger(first, expr_locals(right)?))
-        }
-        SlotExpr::Disjunction(left, right) => {
-            let first = expr_locals(left)?;
-            Ok(larger(first, expr_locals(right)?))
-        }
+        SlotExpr::Pooled(_) => last,
+        SlotExpr::Variable(slot) => later(last, local_of(Some(*slot))),
+        SlotExpr::Field(_) => last,
+        SlotExpr::Absent => last,
+        SlotExpr::Made(_, row) => last_of_row(row, last),
+        SlotExpr::Conjunction(left, right) => last_of_expr(right, last_of_expr(left, last)),
+        SlotExpr::Disjunction(left, right) => last_of_expr(right, last_of_expr(left, last)),
         SlotExpr::Choice {
             condition,
             value,
             other,
-        } => {
-            let asked = expr_locals(condition)?;
-            let first = expr_locals(value)?;
-            Ok(larger(asked, larger(first, expr_locals(other)?)))
-        }
-        SlotExpr::Invoke { row, .. } => row_locals(row),
+        } => last_of_expr(other, last_of_expr(value, last_of_expr(condition, last))),
+        SlotExpr::Invoke { row, .. } => last_of_row(row, last),
     }
 }
 
-/// Counts the locals of a list of expressions.
+/// Returns the last local after a list of expressions.
 #[cycle(expressions)]
-fn row_locals(row: &[(Option<usize>, SlotExpr)]) -> Result<usize>
-    ensures { IfOk result (λ n. n ≡ locals.row_locals (row_view row.now slots.none)) }
+fn last_of_row(row: &[(Option<usize>, SlotExpr)], last: Option<usize>) -> Option<usize>
+    ensures { counts.up_to result ≡ max (counts.up_to last)
+        (locals.row_locals (row_view row.now slots.none)) }
 {
-    let mut most = 0;
+    let mut latest = last;
     for (kept, expr) in row {
-        let given = expr_locals(expr)?;
-        most = larger(most, larger(given, aside_locals(*kept)?));
+        latest = later(last_of_expr(expr, latest), *kept);
     }
-    Ok(most)
+    latest
 }
 
-/// Counts the locals of a value and of the filters after it.
-fn filtered_locals(filtered: &Filtered) -> Result<usize>
-    ensures { IfOk result (λ n. n ≡ locals.expr_locals (filtered_view filtered.now)) }
+/// Returns the last local after a value and the filters after it.
+fn last_of_filtered(filtered: &Filtered, last: Option<usize>) -> Option<usize>
+    ensures { counts.up_to result ≡ max (counts.up_to last)
+        (locals.expr_locals (filtered_view filtered.now)) }
 {
-    let mut most = expr_locals(&filtered.value)?;
+    let mut latest = last_of_expr(&filtered.value, last);
     for filter in &filtered.filters {
-        most = larger(most, row_locals(&filter.row)?);
+        latest = last_of_row(&filter.row, latest);
     }
-    Ok(most)
+    latest
 }
 
-/// Counts the locals of a condition, if there is one.
-fn condition_locals(condition: &Option<SlotExpr>) -> Result<usize>
-    ensures { IfOk result (λ n. n ≡ locals.condition_locals (option_map expr_view condition.now)) }
+/// Returns the last local after a condition, if there is one.
+fn last_of_condition(condition: &Option<SlotExpr>, last: Option<usize>) -> Option<usize>
+    ensures { counts.up_to result ≡ max (counts.up_to last)
+        (locals.condition_locals (option_map expr_view condition.now)) }
 {
     match condition {
-        Some(condition) => expr_locals(condition),
-        None => Ok(0),
+        Some(condition) => last_of_expr(condition, last),
+        None => last,
     }
 }
 
-/// Counts the locals of the branches of an `if`.
+/// Returns the last local after the branches of an `if`.
 #[cycle(statements)]
-fn branches_locals(branches: &[SlotBranch<SlotStmt>]) -> Result<usize>
-    ensures { IfOk result
-        (λ n. (templates : List Text) → n ≡ counts.branches_locals templates branches.now) }
+fn last_of_branches(branches: &[SlotBranch<SlotStmt>], last: Option<usize>) -> Option<usize>
+    ensures { (templates : List Text) → counts.up_to result ≡ max (counts.up_to last)
+        (counts.branches_locals templates branches.now) }
 {
-    let mut most = 0;
+    let mut latest = last;
     for branch in branches {
-        let asked = expr_locals(&branch.condition)?;
-        most = larger(most, larger(asked, body_locals(&branch.body)?));
+        let asked = last_of_expr(&branch.condition, latest);
+        latest = last_of_body(&branch.body, asked);
     }
-    Ok(most)
+    latest
 }
 
-/// Counts the locals of a statement.
+/// Returns the last local after a statement.
 #[cycle(statements)]
-fn stmt_locals(statement: &SlotStmt) -> Result<usize>
-    ensures { IfOk result (λ n. (templates : List Text) (behind : slots.SBody ℕ)
-        → locals.body_locals (stmt_view templates statement.now behind)
-        ≡ max n (locals.body_locals behind)) }
+fn last_of_stmt(statement: &SlotStmt, last: Option<usize>) -> Option<usize>
+    ensures { (templates : List Text)
+        → counts.Reaches (stmt_view templates statement.now) last result }
 {
     match statement {
-        SlotStmt::PutPooled(_) => Ok(0),
+        SlotStmt::PutPooled(_) => last,
         SlotStmt::Print {
             value: filtered,
             ..
-        } => filtered_locals(filtered),
+        } => last_of_filtered(filtered, last),
         SlotStmt::Assign {
             targets,
             value: expr,
             ..
-        } => {
-            let taken = targets_locals(targets)?;
-            Ok(larger(taken, expr_locals(expr)?))
-        }
+        } => last_of_expr(expr, last_of_targets(targets, last)),
         SlotStmt::If(branches, other) => {
-            let first = branches_locals(branches)?;
-            Ok(larger(first, body_locals(other)?))
+            let first = last_of_branches(branches, last);
+            last_of_body(other, first)
         }
         SlotStmt::For {
             targets,
@@ -184,31 +178,36 @@ fn stmt_locals(statement: &SlotStmt) -> Result<usize>
             other,
             ..
         } => {
-            let taken = targets_locals(targets)?;
-            let given = expr_locals(items)?;
-            let asked = condition_locals(condition)?;
-            let turn = body_locals(body)?;
-            let last = body_locals(other)?;
-            Ok(larger(taken, larger(larger(given, asked), larger(turn, last))))
+            let given = last_of_expr(items, last_of_targets(targets, last));
+            let asked = last_of_condition(condition, given);
+            let turn = last_of_body(body, asked);
+            last_of_body(other, turn)
         }
         SlotStmt::Capture { slot, body, .. } => {
-            let kept = slot_locals(*slot)?;
-            Ok(larger(kept, body_locals(body)?))
+            let kept = later(last, local_of(Some(*slot)));
+            last_of_body(body, kept)
         }
-        SlotStmt::Run(_, row) => row_locals(row),
+        SlotStmt::Run(_, row) => last_of_row(row, last),
     }
 }
 
-/// Counts the locals of statements.
+/// Returns the last local after statements.
 #[cycle(statements)]
-pub(crate) fn body_locals(body: &[SlotStmt]) -> Result<usize>
-    ensures { IfOk result (λ n. (templates : List Text) (behind : slots.SBody ℕ)
-        → locals.body_locals (body_view templates body.now behind)
-        ≡ max n (locals.body_locals behind)) }
+fn last_of_body(body: &[SlotStmt], last: Option<usize>) -> Option<usize>
+    ensures { (templates : List Text)
+        → counts.Reaches (body_view templates body.now) last result }
 {
-    let mut most = 0;
+    let mut latest = last;
     for statement in body {
-        most = larger(most, stmt_locals(statement)?);
+        latest = last_of_stmt(statement, latest);
     }
-    Ok(most)
+    latest
+}
+
+/// Counts the locals of statements.
+pub(crate) fn body_locals(body: &[SlotStmt]) -> Result<usize>
+    ensures { IfOk result (λ n. (templates : List Text)
+        → n ≡ locals.body_locals (body_view templates body.now slots.end)) }
+{
+    count_of(last_of_body(body, None))
 }

@@ -1,14 +1,10 @@
 //! Looks up the slots of names and builds reads of them.
 
-ghost use Rattle.std.specs.Prelude.{◌≡◌, IfOk, option_map};
-ghost use Rattle.jt_ast.specs.ExpressionView.{pairs_view};
-ghost use Rattle.jt_bind.specs.internal.Resolving.{kept_of, table_of};
-ghost use Rattle.jt_bind.specs.internal.Scoped.{PutsNone, globals_in};
-ghost use Rattle.jt_ir.specs.Pool.{known};
-ghost use Rattle.jt_ir.specs.View.{slot_view};
-ghost use Rattle.jt_semantics.specs.Layout.{slot_in};
 ghost use Rattle.jt_semantics.specs.Resolve as resolve;
 ghost use Rattle.jt_ir.specs.Slots as slots;
+ghost use Rattle.std.specs.Prelude.{◌≡◌};
+ghost use Rattle.jt_bind.specs.internal.{IfOk, option_map, pairs_view, kept_of, table_of, PutsNone};
+ghost use Rattle.jt_bind.specs.internal.{globals_in, known, slot_view, slot_in};
 
 use crate::Result;
 use crate::resolver::Resolver;

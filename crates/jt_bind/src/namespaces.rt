@@ -1,9 +1,8 @@
 //! Resolves the routines of all chains and libraries.
 
-ghost use Rattle.std.specs.Prelude.{IfOk, []};
-ghost use Rattle.jt_bind.specs.internal.Routines.{AreRoutines};
-ghost use Rattle.jt_bind.specs.internal.Scoped.{cenv_in, order_in, templates_in, values};
 ghost use Rattle.jt_semantics.specs.Programs as programs;
+ghost use Rattle.jt_bind.specs.internal.{IfOk, [], AreRoutines, cenv_in, order_in, templates_in};
+ghost use Rattle.jt_bind.specs.internal.{values};
 
 use crate::Result;
 use crate::pool::Pool;

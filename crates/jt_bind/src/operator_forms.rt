@@ -1,20 +1,14 @@
 //! Resolves the operators of the language to operations.
 
-ghost use Rattle.std.specs.Prelude.{◌≡◌, IfOk, List};
-ghost use Rattle.jt_ast.specs.ExpressionView.{literal_view};
-ghost use Rattle.jt_ast.specs.StatementView.{parameter_view};
-ghost use Rattle.jt_bind.specs.internal.Formed.{IsNumber, form_view};
-ghost use Rattle.jt_bind.specs.internal.Scoped.{IsAdded, IsShown, MadeOfOne, MadeOfTwo, turn_in};
-ghost use Rattle.jt_bind.specs.internal.Scoped.{values};
-ghost use Rattle.jt_eval.specs.Filters.{default_value};
-ghost use Rattle.jt_eval.specs.Values.{literal};
-ghost use Rattle.jt_ir.specs.Pool.{Constant};
-ghost use Rattle.jt_value.specs.Tree.{Tree};
-ghost use Rattle.jt_value.specs.View.{view};
 ghost use Rattle.jt_semantics.specs.Operators as operators;
 ghost use Rattle.jt_semantics.specs.Resolve as resolve;
 ghost use Rattle.jt_ir.specs.Slots as slots;
 ghost use Rattle.jt_ids.specs.declared.op_id.OpId.TheVariants as op;
+ghost use Rattle.std.specs.Prelude.{◌≡◌};
+ghost use Rattle.jt_bind.specs.internal.{IfOk, List, literal_view, parameter_view, IsNumber};
+ghost use Rattle.jt_bind.specs.internal.{form_view, IsAdded, IsShown, MadeOfOne, MadeOfTwo};
+ghost use Rattle.jt_bind.specs.internal.{turn_in, values, default_value, literal, Constant, Tree};
+ghost use Rattle.jt_bind.specs.internal.{view};
 
 use crate::Result;
 use crate::held::Held;
@@ -151,20 +145,6 @@ pub(crate) fn turned(alloc: Global, negated: bool, inside: SlotExpr) -> Result<S
     } else {
         Ok(inside)
     }
-}
-
-/// Returns the expression for the left operand if it is false, else for the right one.
-pub(crate) fn conjunction(left: Held<Box<SlotExpr>>, right: Held<Box<SlotExpr>>) -> SlotExpr
-    ensures { MadeOfTwo slots.conjunction left.part.value right.part.value result }
-{
-    SlotExpr::Conjunction(left.into_part(), right.into_part())
-}
-
-/// Returns the expression for the left operand if it is true, else for the right one.
-pub(crate) fn disjunction(left: Held<Box<SlotExpr>>, right: Held<Box<SlotExpr>>) -> SlotExpr
-    ensures { MadeOfTwo slots.disjunction left.part.value right.part.value result }
-{
-    SlotExpr::Disjunction(left.into_part(), right.into_part())
 }
 
 /// Returns the conditional expression that chooses between two values.

@@ -1,11 +1,8 @@
 //! Appends values to the pool.
 
-ghost use Rattle.std.specs.Prelude.{IfOk};
-ghost use Rattle.jt_bind.specs.internal.Scoped.{IsAdded};
-ghost use Rattle.jt_ir.specs.Pool.{own};
-ghost use Rattle.jt_value.specs.View.{view};
 ghost use Rattle.jt_value.specs.Tree as tree;
 ghost use Rattle.jt_ir.specs.Slots as slots;
+ghost use Rattle.jt_bind.specs.internal.{IfOk, IsAdded, own, view};
 
 use crate::Result;
 use jt_ir::SlotExpr;

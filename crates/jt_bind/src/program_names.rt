@@ -1,12 +1,10 @@
 //! Collects the names of a program and counts its globals.
 
-ghost use Rattle.std.specs.Prelude.{◌≡◌, IfOk, map, string_bytes};
-ghost use Rattle.jt_ast.specs.Texts.{texts};
-ghost use Rattle.jt_bind.specs.internal.Scoped.{cenv_in, order_in};
-ghost use Rattle.jt_chains.specs.Indices.{namespace_at};
-ghost use Rattle.jt_chains.specs.TemplateFiles.{files_view};
 ghost use Rattle.jt_semantics.specs.Layout as layout;
 ghost use Rattle.jt_semantics.specs.Programs as programs;
+ghost use Rattle.std.specs.Prelude.{◌≡◌};
+ghost use Rattle.jt_bind.specs.internal.{IfOk, map, string_bytes, texts, cenv_in, order_in};
+ghost use Rattle.jt_bind.specs.internal.{namespace_at, files_view};
 
 use crate::Result;
 use crate::tables::Tables;

@@ -1,18 +1,13 @@
 //! Resolves the routines of a chain or a library: the chain itself, its macros, and the bodies of
 //! its blocks.
 
-ghost use Rattle.std.specs.Prelude.{◌≡◌, IfOk};
-ghost use Rattle.jt_ast.specs.Expressions.{Text};
-ghost use Rattle.jt_ast.specs.StatementView.{body_view};
-ghost use Rattle.jt_ast.specs.Texts.{texts};
-ghost use Rattle.jt_bind.specs.internal.Resolving.{Puts, layer_of, routine_of, sets_of};
-ghost use Rattle.jt_bind.specs.internal.Routines.{AreRoutines, RoutineIs, blocks_in, entry_in};
-ghost use Rattle.jt_bind.specs.internal.Routines.{macros_in, routines_in};
-ghost use Rattle.jt_bind.specs.internal.Scoped.{cenv_in, namespace_in, order_in, senv_in};
-ghost use Rattle.jt_bind.specs.internal.Scoped.{templates_in, top_in, values};
-ghost use Rattle.jt_bind.specs.internal.Stated.{Emits, layers_in};
-ghost use Rattle.jt_chains.specs.Chain.{a_chain};
 ghost use Rattle.jt_semantics.specs.Resolve as resolve;
+ghost use Rattle.std.specs.Prelude.{◌≡◌};
+ghost use Rattle.jt_bind.specs.internal.{senv_of, layer_at, IfOk, Text, body_view, texts, Puts};
+ghost use Rattle.jt_bind.specs.internal.{routine_of, sets_of, AreRoutines, RoutineIs, blocks_in};
+ghost use Rattle.jt_bind.specs.internal.{entry_in, macros_in, routines_in, cenv_in, namespace_in};
+ghost use Rattle.jt_bind.specs.internal.{order_in, senv_in, templates_in, top_in, values, Emits};
+ghost use Rattle.jt_bind.specs.internal.{layers_in, a_chain};
 
 use crate::Result;
 use crate::emission::SlotBody;
@@ -82,8 +77,8 @@ impl<'t, 'f, 's, 'a> Resolver<'t, 'f, 's, 'a> {
         done: &mut SlotBody,
         pool: &mut Pool,
     ) -> Result<()>
-        ensures { IfOk result (λ _. Puts self.now (layer_of self.now (body_view body.now) is_root)
-            done.old done.new pool.old pool.new) }
+        ensures { IfOk result (λ _. Puts self.now (layer_at self.now.tables.now (senv_of self.now)
+            (body_view body.now) is_root) done.old done.new pool.old pool.new) }
     {
         if is_root {
             return self.resolve_body(body, done, pool);

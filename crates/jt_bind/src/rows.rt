@@ -1,11 +1,8 @@
 //! Builds lists of resolved expressions.
 
-ghost use Rattle.std.specs.Prelude.{◌++◌, ◌∷◌, ◌≡◌, IfOk, List, [], length};
-ghost use Rattle.jt_ast.specs.Expressions.{Text};
-ghost use Rattle.jt_ast.specs.Texts.{texts};
-ghost use Rattle.jt_bind.specs.internal.Resolving.{table_of};
-ghost use Rattle.jt_bind.specs.internal.Scoped.{IsRow};
 ghost use Rattle.jt_semantics.specs.Resolve as resolve;
+ghost use Rattle.std.specs.Prelude.{◌++◌, ◌∷◌, ◌≡◌};
+ghost use Rattle.jt_bind.specs.internal.{IfOk, List, [], length, Text, texts, table_of, IsRow};
 
 use crate::Result;
 use crate::lookup::reading;

@@ -1,13 +1,7 @@
 //! Enters scopes, which keep names in locals of their own.
 
-ghost use Rattle.std.specs.Prelude.{IfOk, List};
-ghost use Rattle.jt_ast.specs.Texts.{texts};
-ghost use Rattle.jt_bind.specs.internal.Resolving.{line_of, table_of, templates_of};
-ghost use Rattle.jt_bind.specs.internal.Scoped.{Enters, HasInside};
-ghost use Rattle.jt_bind.specs.internal.Stated.{Emits};
-ghost use Rattle.jt_ir.specs.Slots.{end};
-ghost use Rattle.jt_semantics.specs.Resolve.{copied};
-ghost use Rattle.jt_value.specs.Tree.{Tree};
+ghost use Rattle.jt_bind.specs.internal.{IfOk, List, texts, line_of, table_of, templates_of};
+ghost use Rattle.jt_bind.specs.internal.{Enters, HasInside, Emits, end, copied, Tree};
 
 use crate::Result;
 use crate::emission::{SlotBody, put_assign};

@@ -22,12 +22,9 @@ pub(crate) struct StaticEnv<'s, 'a> {
 }
 
 impl<'s, 'a> StaticEnv<'s, 'a> {
-    ghost use Rattle.std.specs.Prelude.{◌≡◌, List};
-    ghost use Rattle.jt_ast.specs.Expressions.{Text};
-    ghost use Rattle.jt_semantics.specs.Resolve.{bound_all};
-    ghost use Rattle.jt_bind.specs.internal.Chains.{Chains};
-    ghost use Rattle.jt_bind.specs.internal.Scoped.{Enters, globals_in, senv_in};
-    ghost use Rattle.jt_bind.specs.internal.Stated.{place_of};
+    ghost use Rattle.std.specs.Prelude.{◌≡◌};
+    ghost use Rattle.jt_bind.specs.internal.{List, Text, bound_all, Chains, Enters, globals_in};
+    ghost use Rattle.jt_bind.specs.internal.{senv_in, place_of};
 
     /// Returns the environment without scopes, so that names are globals.
     pub(crate) fn outside(self) -> StaticEnv<'s, 'a>

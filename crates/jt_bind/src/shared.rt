@@ -1,12 +1,9 @@
 //! Builds the values at the beginning of the pool.
 
-ghost use Rattle.std.specs.Prelude.{◌++◌, ◌≡◌, IfOk, List, map};
-ghost use Rattle.jt_ast.specs.StatementView.{parameter_view};
-ghost use Rattle.jt_bind.specs.internal.Scoped.{cenv_in, order_in, values};
-ghost use Rattle.jt_chains.specs.Chain.{Template};
-ghost use Rattle.jt_chains.specs.Parts.{macro_view};
-ghost use Rattle.jt_eval.specs.Filters.{default_value};
 ghost use Rattle.jt_semantics.specs.Layout as layout;
+ghost use Rattle.std.specs.Prelude.{◌++◌, ◌≡◌};
+ghost use Rattle.jt_bind.specs.internal.{IfOk, List, map, parameter_view, cenv_in, order_in};
+ghost use Rattle.jt_bind.specs.internal.{values, Template, macro_view, default_value};
 
 use crate::Result;
 use crate::operator_forms::default_of;

@@ -1,20 +1,17 @@
 //! Resolves statements: names to slots, and literals and data to indices of a pool.
 
-ghost use Rattle.std.specs.Prelude.{if◌then◌else◌, IfOk, [], option_map, ℕ};
-ghost use Rattle.jt_ast.specs.ExpressionView.{expr_view, pairs_view};
-ghost use Rattle.jt_ast.specs.StatementView.{body_view, branches_view, filter_calls_view};
-ghost use Rattle.jt_ast.specs.StatementView.{names_view, stmt_view};
-ghost use Rattle.jt_ast.specs.Texts.{texts};
-ghost use Rattle.jt_bind.specs.internal.Resolving.{BranchIs, Puts, PutsStmt, TurnsAre, body_of};
-ghost use Rattle.jt_bind.specs.internal.Resolving.{condition_of, expr_of, inside_of, scoped_of};
-ghost use Rattle.jt_bind.specs.internal.Resolving.{senv_of, stmt_of, templates_of, values_of};
-ghost use Rattle.jt_bind.specs.internal.Scoped.{values};
-ghost use Rattle.jt_bind.specs.internal.Stated.{Emits, IsAsked, IsHead};
-ghost use Rattle.jt_ir.specs.View.{slot_view};
+ghost use Rattle.jt_ast.specs.ExpressionView.{expr_view};
+ghost use Rattle.jt_ast.specs.StatementView.{stmt_view};
 ghost use Rattle.jt_semantics.specs.Meaning.{is_set};
 ghost use Rattle.jt_semantics.specs.Resolve as resolve;
 ghost use Rattle.jt_ast.specs.Statements as trees;
 ghost use Rattle.jt_ir.specs.Slots as slots;
+ghost use Rattle.std.specs.Prelude.{if◌then◌else◌};
+ghost use Rattle.jt_bind.specs.internal.{values_in, condition_in, IfOk, [], option_map, ℕ};
+ghost use Rattle.jt_bind.specs.internal.{pairs_view, body_view, branches_view, filter_calls_view};
+ghost use Rattle.jt_bind.specs.internal.{names_view, texts, BranchIs, Puts, PutsStmt, TurnsAre};
+ghost use Rattle.jt_bind.specs.internal.{body_of, expr_of, inside_of, scoped_of, senv_of, stmt_of};
+ghost use Rattle.jt_bind.specs.internal.{templates_of, values, Emits, IsAsked, IsHead, slot_view};
 
 use crate::Result;
 use crate::emission::{
@@ -50,6 +47,7 @@ impl<'t, 'f, 's, 'a> Resolver<'t, 'f, 's, 'a> {
     }
 
     /// Resolves a statement and appends it to `done`.
+    #[tactic(auto, using(jt_ast::proofs::StatementViews::view_If, jt_ast::proofs::StatementViews::view_Print, jt_ast::proofs::StatementViews::view_For, jt_ast::proofs::StatementViews::view_With, jt_ast::proofs::StatementViews::view_FilterBlock, jt_ast::proofs::StatementViews::view_Macro, jt_ast::proofs::StatementViews::view_Import, jt_ast::proofs::StatementViews::view_From, jt_ast::proofs::StatementViews::view_Extends, crate::proofs::BodyConcatenation::emits_nothing))]
     #[cycle(statements)]
     #[inline(never)]
     pub(crate) fn resolve_statement(
@@ -250,7 +248,7 @@ impl<'t, 'f, 's, 'a> Resolver<'t, 'f, 's, 'a> {
     ) -> Result<Box<LoopHead>>
         ensures { IfOk result (λ h. IsHead (resolve.fresh_targets self.now.senv.free
             (names_view tag.entry.names.now)) (expr_of self.now (expr_view tag.entry.over.now))
-            (condition_of inside.now (option_map expr_view tag.entry.condition.now)
+            (condition_in inside.now.tables.now (option_map expr_view tag.entry.condition.now)
             (senv_of inside.now)) h.value (values pool.old) (values pool.new)) }
     {
         let items = self.resolve_expression(tag.over, pool)?;
@@ -421,7 +419,7 @@ impl<'t, 'f, 's, 'a> Resolver<'t, 'f, 's, 'a> {
         condition: &Option<Expr>,
         pool: &mut Pool,
     ) -> Result<Option<SlotExpr>>
-        ensures { IfOk result (λ k. IsAsked (condition_of self.now (option_map expr_view
+        ensures { IfOk result (λ k. IsAsked (condition_in self.now.tables.now (option_map expr_view
             condition.now) (senv_of self.now)) k (values pool.old) (values pool.new)) }
     {
         match condition {
@@ -440,8 +438,9 @@ impl<'t, 'f, 's, 'a> Resolver<'t, 'f, 's, 'a> {
         done: &mut SlotBody,
         pool: &mut Pool,
     ) -> Result<()>
-        ensures { IfOk result (λ _. Puts self.now (values_of self.now (pairs_view pairs.now) line
-            slots.end) done.old done.new pool.old pool.new) }
+        ensures { IfOk result (λ _. Puts self.now (values_in self.now.tables.now
+            (pairs_view pairs.now) self.now.senv line slots.end) done.old done.new pool.old
+            pool.new) }
     {
         let mut senv = self.senv;
         for (_, value) in pairs {

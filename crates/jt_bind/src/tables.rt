@@ -1,14 +1,11 @@
 //! Holds the layouts of the chains and libraries.
 
-ghost use Rattle.std.specs.Option.{is_none};
-ghost use Rattle.std.specs.Prelude.{◌<◌, ◌≡◌, IfOk, length};
-ghost use Rattle.jt_bind.specs.internal.Scoped.{AreTables, IsTable, cenv_in, namespace_in};
-ghost use Rattle.jt_bind.specs.internal.Scoped.{order_in};
-ghost use Rattle.jt_chains.specs.Chain.{a_chain, a_library};
-ghost use Rattle.jt_chains.specs.Indices.{namespace_at};
-ghost use Rattle.jt_layout.specs.NamespaceLayout.{IsNamespaceAt};
 ghost use Rattle.jt_names.specs.FactsOfChains.{AllKnown};
-ghost use Rattle.jt_semantics.specs.Layout.{keys};
+ghost use Rattle.jt_layout.specs.NamespaceLayout.{IsNamespaceAt};
+ghost use Rattle.std.specs.Prelude.{◌<◌, ◌≡◌};
+ghost use Rattle.jt_bind.specs.internal.{is_none, IfOk, length, AreTables, IsTable, cenv_in};
+ghost use Rattle.jt_bind.specs.internal.{namespace_in, order_in, a_chain, a_library, namespace_at};
+ghost use Rattle.jt_bind.specs.internal.{keys};
 
 use crate::Result;
 use jt_chains::Chain;
@@ -27,7 +24,7 @@ impl<'f, 'a> Model for Tables<'f, 'a> {
     ghost use Rattle.std.specs.Coded.{codes};
     ghost use Rattle.jt_chains.specs.contracts.chain.Chain as chain;
     ghost use Rattle.jt_layout.specs.NamespaceLayout.{IsLaidOut};
-    ghost use Rattle.jt_bind.specs.internal.Chains.{Chains};
+    ghost use Rattle.jt_bind.specs.internal.Selected.{Chains};
 
     ghost Value = { Chains };
 

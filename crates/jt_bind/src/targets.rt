@@ -1,21 +1,15 @@
 //! Resolves the targets of assignments and loops.
 
-ghost use Rattle.std.specs.Prelude.{◌≡◌, IfOk, None, map, option_map};
-ghost use Rattle.jt_ast.specs.StatementView.{names_view};
-ghost use Rattle.jt_ast.specs.Texts.{texts};
-ghost use Rattle.jt_bind.specs.internal.Names.{last_among};
-ghost use Rattle.jt_bind.specs.internal.Resolving.{table_of};
-ghost use Rattle.jt_bind.specs.internal.Stated.{slot_if};
-ghost use Rattle.jt_ir.specs.View.{slot_view, targets_view};
-ghost use Rattle.jt_semantics.specs.Layout.{slot_in};
 ghost use Rattle.jt_semantics.specs.Resolve as resolve;
+ghost use Rattle.std.specs.Prelude.{if◌then◌else◌, ◌≡◌};
+ghost use Rattle.jt_bind.specs.internal.{is_some, IfOk, None, map, option_map, names_view};
+ghost use Rattle.jt_bind.specs.internal.{table_of, slot_in, slot_view, targets_view, value_in};
 
 use crate::Result;
-use crate::name_scope::NameScope;
 use crate::resolver::Resolver;
 use jt_ir::{Slot, Targets};
 use jt_layout::checked_sum;
-use jt_names::names_of;
+use jt_names::NameIndex;
 use std::alloc::Global;
 
 impl<'t, 'f, 's, 'a> Resolver<'t, 'f, 's, 'a> {
@@ -26,16 +20,14 @@ impl<'t, 'f, 's, 'a> Resolver<'t, 'f, 's, 'a> {
         self.slot(name).unwrap_or(Slot::Local(0))
     }
 
-    /// Returns the slot of the name at index `index`, if this is its last occurrence.
-    fn kept_slot(&self, last: &NameScope<'_>, index: usize, name: &str) -> Option<Slot>
-        ensures { option_map slot_view result
-            ≡ slot_if (last_among name.now (texts last.now.names.items) last.now.first None) index
-            (slot_in name.now (table_of self.now)) }
+    /// Returns the slot of a name, unless the name is among those that are set after it.
+    fn kept_slot(&self, after: &NameIndex<'_>, name: &str) -> Option<Slot>
+        ensures { option_map slot_view result ≡ (if is_some (value_in after.now.indices name.now)
+            then None else slot_in name.now (table_of self.now)) }
     {
-        if last.index.index_of(name)? == index {
-            self.slot(name)
-        } else {
-            None
+        match after.index_of(name) {
+            Some(_) => None,
+            None => self.slot(name),
         }
     }
 
@@ -44,11 +36,16 @@ impl<'t, 'f, 's, 'a> Resolver<'t, 'f, 's, 'a> {
         ensures { IfOk result (λ ss. map (option_map slot_view) ss.items
             ≡ resolve.kept_slots (table_of self.now) (names_view names.now)) }
     {
-        let last = NameScope::new(self.alloc, names_of(self.alloc, names)?, 0)?;
         let mut slots = Vec::with_capacity(self.alloc, names.len())?;
-        for (index, name) in names.iter().enumerate() {
-            slots.push(self.kept_slot(&last, index, name.as_str()))?;
+        let mut after = NameIndex::new(self.alloc);
+        let mut left = names.len();
+        while left > 0 {
+            left -= 1;
+            let name = names[left].as_str();
+            slots.push(self.kept_slot(&after, name))?;
+            after.put(name, left)?;
         }
+        slots.reverse();
         Ok(slots)
     }
 

@@ -1,12 +1,10 @@
 -- Includes that are collected by one function, in terms of those collected by another one.
 use Rattle.jt_chains.proofs.Vocabulary.{◌≡◌, Bool, List, [], ◌∷◌, ◌++◌, refl, ap, ◌∙◌, arith, rules, flat_map}
-use Rattle.jt_chains.proofs.Vocabulary.{append-nil, Text, Stmt, macro, Body, end, stmt, Template, includes_by}
-use Rattle.jt_chains.proofs.Vocabulary.{includes_in, includes_under, include_need}
+use Rattle.jt_chains.proofs.Vocabulary.{append-nil, Text, Template, includes_by, includes_in, includes_under, need}
+use Rattle.jt_chains.proofs.Vocabulary.{needs_in, include_need, Need, needed}
+use Rattle.jt_ast.specs.Statements.{Stmt, macro, Body, end, stmt, choose, for_each, set_block, with_values}
+use Rattle.jt_ast.specs.Statements.{filter_block, autoescape, block, Branches, no_branches, branch}
 use Rattle.std.proofs.lemmas.Grind.{flat_map-append}
-use Rattle.jt_ast.specs.Statements.{choose, for_each, set_block, with_values, filter_block, autoescape}
-use Rattle.jt_ast.specs.Statements.{block, Branches, no_branches, branch}
-use Rattle.jt_chains.specs.Includes.{need, needs_in}
-use Rattle.jt_chains.specs.Needs.{Need, needed}
 
 -- The names of includes are the needed ones.
 module _ (all : Bool) where

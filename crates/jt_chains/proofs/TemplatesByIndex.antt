@@ -1,24 +1,21 @@
 -- Templates by their indices.
-use Rattle.jt_chains.proofs.Vocabulary.{◌≡◌, ℕ, suc, ◌+◌, ◌<◌, Bool, true, false, ◌||◌, if◌then◌else◌, List, [], ◌∷◌}
-use Rattle.jt_chains.proofs.Vocabulary.{◌++◌, length, map, drop, get_or, refl, sym, ap, subst, ◌∙◌, arith, Option, Some}
-use Rattle.jt_chains.proofs.Vocabulary.{None, rules, slice_get, flat_map, unwrap_or, option_map, length-map}
-use Rattle.jt_chains.proofs.Vocabulary.{bytes_eq-Decides, bytes_eq, Text, Body, end, body_of, body_at, along}
-use Rattle.jt_chains.proofs.Vocabulary.{macros_along, blocks_along, layers_along, Sources, Template, template}
-use Rattle.jt_chains.proofs.Vocabulary.{holds_macros, library_template, templates, sources_in, macros_in, blocks_in}
-use Rattle.jt_chains.proofs.Vocabulary.{includes_in, include_need, includes_along, repeated, file_view, files_view}
-use Rattle.jt_chains.proofs.Vocabulary.{namespace_view, AreWhole, name_at, namespace_at, TemplateFile}
-use Rattle.std.proofs.Common.{zero}
+use Rattle.jt_chains.proofs.Vocabulary.{◌≡◌, ℕ, suc, ◌+◌, ◌<◌, Bool, true, false, List, [], ◌∷◌, ◌++◌, length, map}
+use Rattle.jt_chains.proofs.Vocabulary.{drop, get_or, refl, ap, ◌∙◌, arith, Option, Some, rules, tests, zero}
+use Rattle.jt_chains.proofs.Vocabulary.{append_assoc, a_library, imports, imports_in, libraries, libraries_in, Sources}
+use Rattle.jt_chains.proofs.Vocabulary.{Template, template, holds_macros, library_template, templates, sources_in}
+use Rattle.jt_chains.proofs.Vocabulary.{macros_in, blocks_in, max_templates, names_up, slice_get, flat_map, unwrap_or}
+use Rattle.jt_chains.proofs.Vocabulary.{option_map, length-map, drop_more, bytes_eq-Decides, Text, body_of, body_at}
+use Rattle.jt_chains.proofs.Vocabulary.{along, macros_along, blocks_along, layers_along, AreIndices, includes_in}
+use Rattle.jt_chains.proofs.Vocabulary.{include_need, includes_along, file_view, files_view, namespace_view, AreWhole}
+use Rattle.jt_chains.proofs.Vocabulary.{names_at, name_at, namespace_at, TemplateFile, slice_get_within, slice_get-map}
+use Rattle.jt_chains.proofs.Vocabulary.{slice_get_read}
+use Rattle.jt_ast.specs.Statements.{stmt, macro, Body, end, data_of}
+use Rattle.jt_ast.specs.Texts.{repeated, among}
 use Rattle.std.specs.List.{AllByRecursion}
-use Rattle.std.proofs.lemmas.List.{drop_more, append_assoc}
-use Rattle.std.proofs.lemmas.Option.{slice_get_within, slice_get-map, slice_get_read}
 use Rattle.std.proofs.lemmas.Cmp.{nat_list_eq_equiv}
 use Rattle.std.proofs.lemmas.Bool.{or_parts}
-use Rattle.jt_chains.specs.Along.{AreIndices}
-use Rattle.jt_chains.specs.Chain.{max_templates}
-use Rattle.jt_chains.specs.Chain.{names_up}
-use Rattle.jt_ast.specs.Texts.{among}
-use Rattle.jt_chains.specs.TemplateFiles.{names_at}
 use Rattle.jt_chains.specs.declared.chain.Namespace.{Namespace}
+use Rattle.jt_chains.specs.internal.AreFrom.{AreFrom}
 use Rattle.jt_chains.specs.Chain as chain
 
 pub number_at : (P : ℕ → Type 0) (xs : List ℕ) (i : ℕ) → i < length xs → AllByRecursion P xs → P (get_or xs i 0)
@@ -47,36 +44,22 @@ module _ {A : Type 0} (g : Text → Body → List A) (ts : List Template) where
   pub along_turn : (is : List ℕ) (k : ℕ) (b : Body) (old new : List A) → k < length is → b ≡ body_at ts (get_or is k 0)
       → new ≡ old ++ g (name_at ts (get_or is k 0)) b
       → new ++ along ts g (drop (k + 1) is) ≡ old ++ along ts g (drop k is)
-  along_turn is k b old new lt tree e =
-      let i = get_or is k 0 in
-      let rest = along ts g (drop (k + 1) is) in
-      ap (λ l. l ++ rest) e ∙ append_assoc old (g (name_at ts i) b) rest
-      ∙ ap (λ l. old ++ l) (ap (λ z. g (name_at ts i) z ++ rest) tree ∙ sym (ap (along ts g) (drop_more is k 0 lt)))
-
-  one : (i : ℕ) (t : Template) → slice_get ts i ≡ Some t → g (name_at ts i) (body_at ts i) ≡ g t.name t.body
-  one i t e =
-      ap (λ o. g (unwrap_or (option_map (λ (u : Template). u.name) o) [])
-      (unwrap_or (option_map (λ (u : Template). u.body) o) end)) e
+  along_turn is k b old new lt tree e = rw (e, drop_more is k 0 lt, tree) (append_assoc old _ _)
 
   -- `along` over the indices of templates is `flat_map` over the templates.
-  pub along_templates : (is : List ℕ) (us : List Template) → map (slice_get ts) is ≡ map Some us
+  pub along_templates : (is : List ℕ) (us : List Template) → AreFrom ts is us
       → along ts g is ≡ flat_map (λ t. g t.name t.body) us
   along_templates [] [] e = refl
   along_templates [] (u ∷ us) e = absurd (cc)
   along_templates (i ∷ is) [] e = absurd (cc)
   along_templates (i ∷ is) (u ∷ us) e =
       let h : slice_get ts i ≡ Some u = cc in
-      let r : map (slice_get ts) is ≡ map Some us = cc in
-      ap (λ l. l ++ along ts g is) (one i u h) ∙ ap (λ l. g u.name u.body ++ l) (along_templates is us r)
+      rw (h, along_templates is us (cc))
 
-pub are_indices : (ts : List Template) (is : List ℕ) (us : List Template) → map (slice_get ts) is ≡ map Some us
-    → AreIndices ts is
+pub are_indices : (ts : List Template) (is : List ℕ) (us : List Template) → AreFrom ts is us → AreIndices ts is
 are_indices ts [] us e = tt
 are_indices ts (i ∷ is) [] e = absurd (cc)
-are_indices ts (i ∷ is) (u ∷ us) e =
-    let h : slice_get ts i ≡ Some u = cc in
-    let r : map (slice_get ts) is ≡ map Some us = cc in
-    (slice_get_within ts i u h, are_indices ts is us r)
+are_indices ts (i ∷ is) (u ∷ us) e = (slice_get_within ts i u (cc), are_indices ts is us (cc))
 
 -- The view of the namespace at an index.
 pub name_of_namespace : (hs : List Namespace) (i : ℕ) (h : Namespace) → i < length hs → h ≡ get_or hs i h
@@ -85,165 +68,140 @@ name_of_namespace hs i h lt is = ap (λ o. unwrap_or o (chain.a_chain [])) (map_
 
 -- ---- templates by their names
 
-same : (x y : Text) → bytes_eq x y ≡ true → x ≡ y
-same x y = (bytes_eq-Decides x y).0
-
-reflexive : (x : Text) → bytes_eq x x ≡ true
-reflexive x = nat_list_eq_equiv.refl x
-
-pub named_among : (ts : List Template) (i : ℕ) (t : Template) → slice_get ts i ≡ Some t
+named_among : (ts : List Template) (i : ℕ) (t : Template) → slice_get ts i ≡ Some t
     → among t.name (map (λ u. u.name) ts) ≡ true
 named_among [] i t e = absurd (cc)
-named_among (u ∷ us) zero t e =
-    let h : u ≡ t = cc in
-    ap (λ (z : Template). bytes_eq z.name t.name || among t.name (map (λ (v : Template). v.name) us)) h
-    ∙ ap (λ b. b || among t.name (map (λ (v : Template). v.name) us)) (reflexive t.name)
-named_among (u ∷ us) (suc i) t e = or_right (bytes_eq u.name t.name) (named_among us i t e)
-  where
-    or_right : (b : Bool) {c : Bool} → c ≡ true → (b || c) ≡ true
-    or_right true h = refl
-    or_right false h = h
+named_among (u ∷ us) zero t e = search (arith, rules, nat_list_eq_equiv.refl)
+named_among (u ∷ us) (suc i) t e = search (arith, rules, named_among us i t e)
 
 -- If names differ, the template at an index is the one of its name.
 pub only_one : (ts : List Template) (i : ℕ) (t : Template) → repeated (map (λ u. u.name) ts) ≡ false
     → slice_get ts i ≡ Some t → sources_in ts t.name ≡ Some t.body
 only_one [] i t once e = absurd (cc)
-only_one (u ∷ us) zero t once e =
-    let h : u ≡ t = cc in
-    subst (λ (z : Template). sources_in (u ∷ us) z.name ≡ Some z.body) h
-    (ap (λ b. if b then Some u.body else sources_in us u.name) (reflexive u.name))
-only_one (u ∷ us) (suc i) t once e = by (bytes_eq u.name t.name) refl (only_one us i t apart.1 e)
-  where
-    apart : (among u.name (map (λ (v : Template). v.name) us) ≡ false)
-        × (repeated (map (λ (v : Template). v.name) us) ≡ false)
-    apart =
-        or_parts (among u.name (map (λ (v : Template). v.name) us)) (repeated (map (λ (v : Template). v.name) us)) once
-
-    by : (b : Bool) → bytes_eq u.name t.name ≡ b → sources_in us t.name ≡ Some t.body
-        → sources_in (u ∷ us) t.name ≡ Some t.body
-    by true h r =
-        let k : among u.name (map (λ (v : Template). v.name) us) ≡ true =
-        ap (λ x. among x (map (λ (v : Template). v.name) us)) (same u.name t.name h) ∙ named_among us i t e in
-        let n = apart.0 in
-        absurd (cc)
-    by false h r = ap (λ b. if b then Some u.body else sources_in us t.name) h ∙ r
+only_one (u ∷ us) zero t once e = search (arith, rules, nat_list_eq_equiv.refl)
+only_one (u ∷ us) (suc i) t once e =
+    let apart = or_parts (among u.name (map (λ (v : Template). v.name) us)) _ once in
+    search (arith, rules, bytes_eq-Decides, named_among us i t e, apart.0, only_one us i t apart.1 e)
 
 abbrev pub Definition : Sources → List Template → Type 0
 Definition s = AllByRecursion (λ u. s u.name ≡ Some u.body)
 
 given_along : (s : Sources) (ns : List Text) → Definition s (flat_map (λ n. template n (s n)) ns)
 given_along s [] = tt
-given_along s (n ∷ ns) = by (s n) refl (given_along s ns)
-  where
-    by : (o : Option Body) → s n ≡ o → Definition s (flat_map (λ m. template m (s m)) ns)
-        → Definition s (template n o ++ flat_map (λ m. template m (s m)) ns)
-    by None e r = r
-    by (Some b) e r = (e, r)
+given_along s (n ∷ ns) = search (arith, rules, given_along s ns)
 
 -- The templates of a chain are those of their names.
 pub given_templates : (s : Sources) (h : chain.Namespace) → Definition s (templates s h)
 given_templates s (chain.a_chain n) = given_along s (names_up s max_templates (Some n))
-given_templates s (chain.a_library n) = alone (s n) refl
-  where
-    alone : (o : Option Body) → s n ≡ o → Definition s (library_template n o)
-    alone None e = tt
-    alone (Some b) e = by (holds_macros b)
-      where
-        by : (c : Bool) → Definition s (if c then template n (Some b) else [])
-        by true = (e, tt)
-        by false = tt
-
-alike : (t u : Template) → t.name ≡ u.name → t.body ≡ u.body → t ≡ u
-alike t u p q = search (arith, rules)
+given_templates s (chain.a_library n) = search (arith, rules)
 
 -- If names differ, the name at an index determines the template.
 template_named : (ts : List Template) (i : ℕ) (u : Template) → repeated (map (λ v. v.name) ts) ≡ false
     → sources_in ts u.name ≡ Some u.body → option_map (λ (t : Template). t.name) (slice_get ts i) ≡ Some u.name
     → slice_get ts i ≡ Some u
-template_named ts i u once g e = by (slice_get ts i) refl
-  where
-    by : (o : Option Template) → slice_get ts i ≡ o → slice_get ts i ≡ Some u
-    by None at =
-        let k : None ≡ Some u.name = sym (ap (option_map (λ (v : Template). v.name)) at) ∙ e in
-        absurd (cc)
-    by (Some t) at =
-        let k : Some t.name ≡ Some u.name = sym (ap (option_map (λ (v : Template). v.name)) at) ∙ e in
-        let p : t.name ≡ u.name = cc in
-        let q : Some t.body ≡ Some u.body = sym (only_one ts i t once at) ∙ ap (sources_in ts) p ∙ g in
-        at ∙ ap Some (alike t u p (cc))
+template_named ts i u once g e = search (arith, rules, only_one)
 
 indexed_by_names : (ts : List Template) (is : List ℕ) (us : List Template) → repeated (map (λ u. u.name) ts) ≡ false
-    → Definition (sources_in ts) us → names_at ts is ≡ map (λ t. Some t.name) us
-    → map (slice_get ts) is ≡ map Some us
+    → Definition (sources_in ts) us → names_at ts is ≡ map (λ t. Some t.name) us → AreFrom ts is us
 indexed_by_names ts [] [] once g e = refl
 indexed_by_names ts [] (u ∷ us) once g e = absurd (cc)
 indexed_by_names ts (i ∷ is) [] once g e = absurd (cc)
 indexed_by_names ts (i ∷ is) (u ∷ us) once g e =
-    let here : option_map (λ (t : Template). t.name) (slice_get ts i) ≡ Some u.name = cc in
-    let rest : names_at ts is ≡ map (λ (t : Template). Some t.name) us = cc in
-    ap (λ o. o ∷ map (slice_get ts) is) (template_named ts i u once g.0 here)
-    ∙ ap (λ l. Some u ∷ l) (indexed_by_names ts is us once g.1 rest)
+    let here = template_named ts i u once g.0 (cc) in
+    let rest = indexed_by_names ts is us once g.1 (cc) in
+    cc
 
--- The names at the indices of a chain are those of its templates.
-pub whole_at : (ts : List Template) (hs : List Namespace) (i : ℕ) (h : Namespace) → i < length hs → h ≡ get_or hs i h
+-- The names at the indices of a namespace are those of its templates.
+whole_at : (ts : List Template) (hs : List Namespace) (i : ℕ) (h : Namespace) → i < length hs → h ≡ get_or hs i h
     → AreWhole ts hs
-    → names_at ts h.templates.items ≡ map (λ t. Some t.name) (templates (sources_in ts) (namespace_view h))
+    → names_at ts h.templates.items
+    ≡ map (λ t. Some t.name) (templates (sources_in ts) (namespace_at (map namespace_view hs) i))
 whole_at ts [] i h lt is w = absurd (omega arith)
-whole_at ts (k ∷ hs) zero h lt is w =
-    subst (λ (z : Namespace).
-    names_at ts z.templates.items ≡ map (λ t. Some t.name) (templates (sources_in ts) (namespace_view z))) (sym is) w.0
+whole_at ts (k ∷ hs) zero h lt is w = ap (λ (z : Namespace). names_at ts z.templates.items) is ∙ w.0
 whole_at ts (k ∷ hs) (suc i) h lt is w = whole_at ts hs i h (omega arith) is w.1
 
-pub namespace_templates : (ts : List Template) (hs : List Namespace) (i : ℕ) (h : Namespace) → i < length hs
+pub indices_of_namespace : (ts : List Template) (hs : List Namespace) (i : ℕ) (h : Namespace) → i < length hs
     → h ≡ get_or hs i h → repeated (map (λ u. u.name) ts) ≡ false → AreWhole ts hs
-    → map (slice_get ts) h.templates.items ≡ map Some (templates (sources_in ts) (namespace_view h))
-namespace_templates ts hs i h lt is once w =
-    indexed_by_names ts h.templates.items (templates (sources_in ts) (namespace_view h)) once
-    (given_templates (sources_in ts) (namespace_view h)) (whole_at ts hs i h lt is w)
+    → AreFrom ts h.templates.items (templates (sources_in ts) (namespace_at (map namespace_view hs) i))
+indices_of_namespace ts hs i h lt is once w =
+    indexed_by_names ts h.templates.items _ once (given_templates (sources_in ts) _) (whole_at ts hs i h lt is w)
 
 each_alone : (ts : List Template) → flat_map (λ t. record { name = t.name; body = t.body } ∷ []) ts ≡ ts
 each_alone [] = refl
 each_alone (t ∷ ts) = ap (λ l. t ∷ l) (each_alone ts)
 
--- `along` over the indices of a chain is `flat_map` over its templates.
+-- ---- a library imports nothing
+
+no_imports : (s : Sources) (b : Body) → holds_macros b ≡ true → (imports_in s b ≡ []) × (libraries_in b ≡ [])
+no_imports s end h = (refl, refl)
+no_imports s (stmt (data_of text) rest) h = no_imports s rest (search (rules, tests))
+no_imports s (stmt (macro line x ps b) rest) h = no_imports s rest h
+no_imports s (stmt other rest) h = absurd (cc)
+
+nothing_in : {A : Type 0} (g : Body → List A) → ((b : Body) → holds_macros b ≡ true → g b ≡ []) → (n : Text)
+    (o : Option Body)
+    → flat_map (λ t. g t.body) (library_template n o) ≡ []
+nothing_in g none n o = search (arith, rules, none)
+
+-- What the templates of a namespace have, by their indices.
+module _ (ps qs : List TemplateFile) (is : List ℕ) (h : chain.Namespace) (same : qs ≡ ps)
+    (from : AreFrom (files_view ps) is (templates (sources_in (files_view ps)) h)) where
+  abbrev s : Sources
+  s = sources_in (files_view ps)
+
+  all_from : {A : Type 0} (g : Text → Body → List A)
+      → along (files_view qs) g is ≡ flat_map (λ t. g t.name t.body) (templates s h)
+  all_from g = rw same (along_templates g (files_view ps) is _ from)
+
+  pub macros_from : macros_along (files_view qs) is ≡ chain.macros s h
+  macros_from = all_from macros_in
+
+  pub blocks_from : (escaping : Bool) → blocks_along (files_view qs) escaping is ≡ chain.all_bodies s escaping h
+  blocks_from escaping = all_from (λ n b. blocks_in n b escaping)
+
+  pub includes_from : includes_along (files_view qs) is
+      ≡ flat_map (λ t. includes_in include_need t.body) (templates s h)
+  includes_from = all_from (λ n b. includes_in include_need b)
+
+  pub layers_from : layers_along (files_view qs) is ≡ templates s h
+  layers_from = all_from (λ n b. record { name = n; body = b } ∷ []) ∙ each_alone (templates s h)
+
+  pub imports_from : along (files_view qs) (λ n b. imports_in s b) is ≡ imports s h
+  imports_from = all_from (λ n b. imports_in s b) ∙ by h
+    where
+      by : (k : chain.Namespace) → flat_map (λ t. imports_in s t.body) (templates s k) ≡ imports s k
+      by (chain.a_chain n) = refl
+      by (a_library n) = nothing_in (imports_in s) (λ b e. (no_imports s b e).0) n (s n)
+
+  pub libraries_from : along (files_view qs) (λ n b. libraries_in b) is ≡ libraries s h
+  libraries_from = all_from (λ n b. libraries_in b) ∙ by h
+    where
+      by : (k : chain.Namespace) → flat_map (λ t. libraries_in t.body) (templates s k) ≡ libraries s k
+      by (chain.a_chain n) = refl
+      by (a_library n) = nothing_in libraries_in (λ b e. (no_imports s b e).1) n (s n)
+
+-- A list is empty if its view is collected at no index.
+pub nothing_along : {X A : Type 0} (f : X → A) (xs : List X) (g : Text → Body → List A) (ts : List Template)
+    (is : List ℕ)
+    → map f xs ≡ along ts g is → is ≡ [] → xs ≡ []
+nothing_along f [] g ts is e none = refl
+nothing_along f (x ∷ xs) g ts is e none = absurd (cc (ap (along ts g) none))
+
 module _ (ps qs : List TemplateFile) (hs : List Namespace) (i : ℕ) (h : Namespace) (is : List ℕ) (same_files : qs ≡ ps)
     (same_indices : is ≡ h.templates.items) (lt : i < length hs) (at : h ≡ get_or hs i h)
     (once : repeated (map (λ u. u.name) (files_view ps)) ≡ false) (whole : AreWhole (files_view ps) hs) where
-  there : map (slice_get (files_view ps)) h.templates.items
-      ≡ map Some (templates (sources_in (files_view ps)) (namespace_view h))
-  there = namespace_templates (files_view ps) hs i h lt at once whole
+  from : AreFrom (files_view ps) is (templates (sources_in (files_view ps)) (namespace_at (map namespace_view hs) i))
+  from = rw same_indices (indices_of_namespace (files_view ps) hs i h lt at once whole)
 
   pub namespace_indices : AreIndices (files_view qs) is
-  namespace_indices =
-      subst (λ (z : List TemplateFile). AreIndices (files_view z) is) (sym same_files)
-      (subst (AreIndices (files_view ps)) (sym same_indices)
-      (are_indices (files_view ps) h.templates.items (templates (sources_in (files_view ps)) (namespace_view h)) there))
+  namespace_indices = rw same_files (are_indices (files_view ps) is _ from)
 
   pub namespace_along : {A : Type 0} (g : Text → Body → List A)
-      → along (files_view qs) g is ≡ flat_map (λ t. g t.name t.body)
+      → along (files_view qs) g is
+      ≡ flat_map (λ t. g t.name t.body)
       (templates (sources_in (files_view ps)) (namespace_at (map namespace_view hs) i))
-  namespace_along g =
-      ap (λ (z : List TemplateFile). along (files_view z) g is) same_files ∙ ap (along (files_view ps) g) same_indices
-      ∙ along_templates g (files_view ps) h.templates.items (templates (sources_in (files_view ps)) (namespace_view h))
-      there
-      ∙ ap (λ n. flat_map (λ t. g t.name t.body) (templates (sources_in (files_view ps)) n))
-      (sym (name_of_namespace hs i h lt at))
-
-  -- The macros, the bodies of blocks, the includes and the templates of a chain.
-  pub namespace_macros : macros_along (files_view qs) is
-      ≡ chain.macros (sources_in (files_view ps)) (namespace_at (map namespace_view hs) i)
-  namespace_macros = namespace_along macros_in
-
-  pub namespace_blocks : (escaping : Bool) → blocks_along (files_view qs) escaping is
-      ≡ chain.all_bodies (sources_in (files_view ps)) escaping (namespace_at (map namespace_view hs) i)
-  namespace_blocks escaping = namespace_along (λ n b. blocks_in n b escaping)
-
-  pub namespace_includes : includes_along (files_view qs) is ≡ flat_map (λ t. includes_in include_need t.body)
-      (templates (sources_in (files_view ps)) (namespace_at (map namespace_view hs) i))
-  namespace_includes = namespace_along (λ n b. includes_in include_need b)
+  namespace_along = all_from ps qs is _ same_files from
 
   pub namespace_layers : layers_along (files_view qs) is
       ≡ templates (sources_in (files_view ps)) (namespace_at (map namespace_view hs) i)
-  namespace_layers =
-      namespace_along (λ n b. record { name = n; body = b } ∷ [])
-      ∙ each_alone (templates (sources_in (files_view ps)) (namespace_at (map namespace_view hs) i))
+  namespace_layers = layers_from ps qs is _ same_files from

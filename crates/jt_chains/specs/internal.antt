@@ -1,2 +1,2 @@
 pub mod AddsBlocks
-pub mod Importers
+pub mod AreFrom

@@ -1,23 +1,21 @@
 //! Collects the defined names of a chain: its own macros, imported macros, and libraries.
 
-ghost use Rattle.std.specs.Prelude.{◌≡◌, ◌<◌, ◌≤◌, ◌++◌, [], List, length, map, option_map, not};
-ghost use Rattle.std.specs.Prelude.{if◌then◌else◌, IfOk};
+ghost use Rattle.std.specs.Prelude.{◌≡◌, ◌<◌, ◌++◌, length, option_map, not, IfOk};
 ghost use Rattle.std.specs.List.{list_any};
 ghost use Rattle.jt_ast.specs.StatementView.{stmt_view, body_view, given_view};
 ghost use Rattle.jt_ast.specs.Texts.{texts};
 ghost use Rattle.jt_chains.specs.Chain as chains;
-ghost use Rattle.jt_chains.specs.Chain.{Template, templates, macros, own, all_given_from};
-ghost use Rattle.jt_chains.specs.Chain.{imports_in, libraries_in, libraries, given, a_library};
-ghost use Rattle.jt_chains.specs.Along.{along, first_body};
+ghost use Rattle.jt_chains.specs.Chain.{macros, all_given_from, imports_in, libraries_in};
+ghost use Rattle.jt_chains.specs.Chain.{libraries, given, a_library};
+ghost use Rattle.jt_chains.specs.Along.{along};
 ghost use Rattle.jt_chains.specs.TemplateFiles.{files_view};
-ghost use Rattle.jt_chains.specs.Parts.{macro_view, macros_view};
+ghost use Rattle.jt_chains.specs.Parts.{macro_view};
 ghost use Rattle.jt_chains.specs.Indices.{index_of};
 ghost use Rattle.jt_chains.specs.Named.{Adds, names_view};
-ghost use Rattle.jt_chains.specs.View.{NoneBeyond, namespace_in, imports_along, its_sources};
-ghost use Rattle.jt_chains.specs.View.{its_templates};
-ghost use Rattle.jt_chains.specs.internal.Importers.{AreFrom, importers};
+ghost use Rattle.jt_chains.specs.View.{NoneBeyond, namespace_in, its_sources, its_templates};
 
 use crate::chain::Chain;
+use crate::files::TemplateFile;
 use crate::parts::{Macro, body_of_file};
 use jt_ast::Stmt;
 use std::alloc::{AllocError, Global};
@@ -48,7 +46,7 @@ fn is_space(byte: u8) -> bool
 fn is_blank(text: &str) -> bool
     ensures { result ≡ not (list_any (λ c. not (chains.is_space c)) text.now) }
 {
-    text.bytes().all(is_space)
+    !text.bytes().any(|byte| !is_space(byte))
 }
 
 /// Returns whether a library may hold the statement.
@@ -77,16 +75,6 @@ fn file_named(chain: &Chain, name: &str) -> usize
         Some(index) => *index,
         None => chain.templates.as_slice().len(),
     }
-}
-
-/// Returns the statements of a library, or none if there is no library of this name.
-#[tactic(auto, using(crate::proofs::LibraryMacros::body_held, crate::proofs::LibraryMacros::no_body_held))]
-fn body_of_library<'a>(chain: &'a Chain, name: &str) -> &'a [Stmt]
-    ensures { body_view result.now
-        ≡ first_body (templates (its_sources chain.now) (a_library name.now)) }
-{
-    let body = body_of_file(&chain.templates, file_named(chain, name));
-    if holds_macros(body) { body } else { &[] }
 }
 
 /// Returns whether a name is private: it begins with `_`.
@@ -158,23 +146,24 @@ fn add_libraries<'a>(body: &'a [Stmt], found: &mut Vec<&'a str>) -> Result<(), A
     Ok(())
 }
 
-impl Chain {
-    /// Returns the indices of the templates of a chain, whose imports bind names. Returns none for
-    /// a library, which imports nothing, and if `namespace` is out of range.
-    #[tactic(auto, using(crate::proofs::ImportersByIndex::chain_importers, crate::proofs::ImportersByIndex::library_importers))]
-    fn importers(&self, namespace: usize) -> &[usize]
-        ensures there { namespace < length self.now.namespaces.items →
-            AreFrom (its_templates self.now) result.now
-            (importers (its_sources self.now) (namespace_in self.now namespace)) }
-        ensures nowhere { length self.now.namespaces.items ≤ namespace → result.now ≡ [] }
-    {
-        match self.namespaces.get(namespace) {
-            Some(found) if found.is_library => &[],
-            Some(found) => &found.templates,
-            None => &[],
-        }
+/// Returns the names of the libraries that the templates at `indices` import, once for each tag.
+#[tactic(auto, using(crate::proofs::TemplatesByIndex::along_turn))]
+fn libraries_at<'a>(
+    alloc: Global,
+    files: &'a [TemplateFile],
+    indices: &[usize],
+) -> Result<Vec<&'a str>, AllocError>
+    ensures { IfOk result (λ names. texts names.items
+        ≡ along (files_view files.now) (λ n b. libraries_in b) indices.now) }
+{
+    let mut found = Vec::new(alloc);
+    for index in indices {
+        add_libraries(body_of_file(files, *index), &mut found)?;
     }
+    Ok(found)
+}
 
+impl Chain {
     /// Returns all names of a chain that stand for a macro or a library, its own macros first.
     /// Returns none if `namespace` is out of range.
     pub fn given(&self, alloc: Global, namespace: usize) -> Result<Vec<DefinedName<'_>>, AllocError>
@@ -191,7 +180,7 @@ impl Chain {
                 given: Definition::Own(*one),
             })?;
         }
-        for index in self.importers(namespace) {
+        for index in self.indices_of(namespace) {
             add_imports(self, body_of_file(&self.templates, *index), &mut names)?;
         }
         Ok(names)
@@ -199,21 +188,18 @@ impl Chain {
 
     /// Returns the names of the libraries that a chain imports, once for each import tag. Returns
     /// none if `namespace` is out of range.
+    #[tactic(auto, using(crate::proofs::TemplatesByIndex::libraries_from, crate::proofs::TemplatesByIndex::nothing_along))]
     pub fn libraries(&self, alloc: Global, namespace: usize) -> Result<Vec<&str>, AllocError>
         ensures there { namespace < length self.now.namespaces.items → IfOk result (λ names.
             texts names.items
             ≡ libraries (its_sources self.now) (namespace_in self.now namespace)) }
         ensures nowhere { NoneBeyond self.now namespace result }
     {
-        let mut found = Vec::new(alloc);
-        for index in self.importers(namespace) {
-            add_libraries(body_of_file(&self.templates, *index), &mut found)?;
-        }
-        Ok(found)
+        libraries_at(alloc, &self.templates, self.indices_of(namespace))
     }
 
     /// Returns the macro of this name that the library offers to importers.
-    #[tactic(auto, using(crate::proofs::TemplatesByIndex::file_at, crate::proofs::LibraryMacros::library_at, crate::proofs::LibraryMacros::library_nowhere, crate::proofs::MacroTableLookup::no_public))]
+    #[tactic(auto, using(crate::proofs::TemplatesByIndex::file_at, crate::proofs::LibraryMacros::library_at, crate::proofs::LibraryMacros::library_nowhere, crate::proofs::LibraryMacros::no_public))]
     pub fn library_macro(&self, library: &str, name: &str) -> Option<Macro<'_>>
         ensures { option_map (macro_view (its_templates self.now)) result
             ≡ chains.public_macro name.now (macros (its_sources self.now) (a_library library.now)) }
@@ -223,13 +209,5 @@ impl Chain {
             Some(file) => file.public_macro(index, name),
             None => None,
         }
-    }
-
-    /// Returns the statements of a library, or none if there is no library of this name.
-    pub fn library_body(&self, name: &str) -> &[Stmt]
-        ensures { body_view result.now
-            ≡ first_body (templates (its_sources self.now) (a_library name.now)) }
-    {
-        body_of_library(self, name)
     }
 }

@@ -1,7 +1,6 @@
 //! Defines the templates that were read.
 
-ghost use Rattle.std.specs.Prelude.{◌≡◌, List, IfOk, map, option_map, option_and_then, slice_get};
-ghost use Rattle.std.specs.Prelude.{is_some, string_bytes};
+ghost use Rattle.std.specs.Prelude.{◌≡◌, List, IfOk, option_map, is_some, string_bytes};
 ghost use Rattle.jt_ast.specs.StatementView.{stmt_view, body_of};
 ghost use Rattle.jt_chains.specs.Chain as chain;
 ghost use Rattle.jt_chains.specs.Parts.{macro_view, name_at};
@@ -47,33 +46,21 @@ impl TemplateFile {
         self.macros.is_some()
     }
 
-    /// Returns the macro of this name if the template is a library. `index` is the index of the
-    /// template among all that were read.
-    fn macro_named(&self, index: usize, name: &str) -> Option<Macro<'_>>
+    /// Returns the macro of this name that the template offers to importers, if it is a library.
+    /// `index` is the index of the template among all that were read.
+    pub fn public_macro(&self, index: usize, name: &str) -> Option<Macro<'_>>
         ensures { (ts : List chain.Template) → option_map (macro_view ts) result
-            ≡ chain.macro_of name.now
+            ≡ chain.public_macro name.now
             (library_macros (name_at ts index) (body_of self.now.template)) }
     {
         let Some(macros) = &self.macros else {
             return None;
         };
-        match macros.get(name) {
-            Some(statement) => macro_at(index, self.template.body(), *statement),
-            None => None,
-        }
-    }
-
-    /// Returns the macro of this name that the template offers to importers, if it is a library.
-    /// `index` is the index of the template among all that were read.
-    pub fn public_macro(&self, index: usize, name: &str) -> Option<Macro<'_>>
-        ensures { (templates : List chain.Template) → option_map (macro_view templates) result
-            ≡ chain.public_macro name.now
-            (library_macros (name_at templates index) (body_of self.now.template)) }
-    {
         if is_private(name) {
             return None;
         }
-        self.macro_named(index, name)
+        let statement = macros.get(name)?;
+        as_macro(index, self.template.body().get(*statement)?)
     }
 
     /// Returns whether the template is a library that offers the macro to importers.
@@ -104,17 +91,5 @@ fn as_macro(index: usize, statement: &Stmt) -> Option<Macro<'_>>
             body: body.as_slice(),
         }),
         _ => None,
-    }
-}
-
-/// Returns the macro that the statement at index `index` of a template defines, if there is one.
-fn macro_at(template: usize, body: &[Stmt], index: usize) -> Option<Macro<'_>>
-    ensures { (ts : List chain.Template) → option_map (macro_view ts) result
-        ≡ option_and_then (spec.as_macro (name_at ts template))
-        (slice_get (map stmt_view body.now) index) }
-{
-    match body.get(index) {
-        Some(statement) => as_macro(template, statement),
-        None => None,
     }
 }

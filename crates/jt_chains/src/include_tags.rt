@@ -96,7 +96,7 @@ pub fn includes_at<'a>(
 impl Chain {
     /// Returns the includes of a chain, once for each tag, the entry template's first. Returns an
     /// empty list if `namespace` is out of range.
-    #[tactic(auto, using(crate::proofs::TemplatesByIndex::namespace_includes))]
+    #[tactic(auto, using(crate::proofs::TemplatesByIndex::includes_from, crate::proofs::TemplatesByIndex::nothing_along))]
     pub fn includes(
         &self,
         alloc: Global,
@@ -107,9 +107,6 @@ impl Chain {
             (templates (its_sources self.now) (namespace_in self.now namespace))) }
         ensures nowhere { NoneBeyond self.now namespace result }
     {
-        match self.namespaces.get(namespace) {
-            Some(found) => includes_at(alloc, &self.templates, &found.templates),
-            None => Ok(Vec::new(alloc)),
-        }
+        includes_at(alloc, &self.templates, self.indices_of(namespace))
     }
 }

@@ -5,7 +5,7 @@
 //! - Its macros and the bodies of its blocks: `parts`.
 //! - Includes and imports: `include_tags`.
 //! - The definitions of its names: `definitions`.
-//! - The tables that find templates and macros by name: `tables`.
+//! - The table that finds the macros of a library by name: `tables`.
 //!
 //! Read first: specs/Chain.antt; specs/Rules.antt has the rules C1 to C12.
 #![tactic(auto)]
@@ -24,4 +24,3 @@ pub use files::TemplateFile;
 pub use include_tags::{NeededTemplate, includes_at};
 pub use layers::Layer;
 pub use parts::{Block, Macro, blocks_at, blocks_of_file, macro_names, macros_at};
-pub use tables::indices_by_name;

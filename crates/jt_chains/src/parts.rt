@@ -223,22 +223,19 @@ pub fn blocks_at<'a>(
 impl Chain {
     /// Returns all macros of a chain, the entry template's first. Returns an empty list if
     /// `namespace` is out of range.
-    #[tactic(auto, using(crate::proofs::TemplatesByIndex::namespace_macros))]
+    #[tactic(auto, using(crate::proofs::TemplatesByIndex::macros_from, crate::proofs::TemplatesByIndex::nothing_along))]
     pub fn macros(&self, alloc: Global, namespace: usize) -> Result<Vec<Macro<'_>>, AllocError>
         ensures there { namespace < length self.now.namespaces.items → IfOk result (λ found.
             macros_view (its_templates self.now) found.items
             ≡ macros (its_sources self.now) (namespace_in self.now namespace)) }
         ensures nowhere { NoneBeyond self.now namespace result }
     {
-        match self.namespaces.get(namespace) {
-            Some(found) => macros_at(alloc, &self.templates, &found.templates),
-            None => Ok(Vec::new(alloc)),
-        }
+        macros_at(alloc, &self.templates, self.indices_of(namespace))
     }
 
     /// Returns the bodies of all blocks of a chain, the entry template's first. Returns an empty
     /// list if `namespace` is out of range.
-    #[tactic(auto, using(crate::proofs::TemplatesByIndex::namespace_blocks))]
+    #[tactic(auto, using(crate::proofs::TemplatesByIndex::blocks_from, crate::proofs::TemplatesByIndex::nothing_along))]
     pub fn blocks(&self, alloc: Global, namespace: usize) -> Result<Vec<Block<'_>>, AllocError>
         ensures there { namespace < length self.now.namespaces.items → IfOk result (λ bodies.
             blocks_view (its_templates self.now) bodies.items
@@ -246,9 +243,11 @@ impl Chain {
             (namespace_in self.now namespace)) }
         ensures nowhere { NoneBeyond self.now namespace result }
     {
-        match self.namespaces.get(namespace) {
-            Some(found) => blocks_at(alloc, &self.templates, &found.templates, self.autoescape),
-            None => Ok(Vec::new(alloc)),
-        }
+        blocks_at(
+            alloc,
+            &self.templates,
+            self.indices_of(namespace),
+            self.autoescape,
+        )
     }
 }

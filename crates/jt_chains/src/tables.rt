@@ -1,15 +1,13 @@
-//! Builds tables by name, which replace linear searches.
+//! Builds the table of the macros of a library, which replaces a linear search.
 
 ghost use Rattle.std.specs.Prelude.{◌≡◌, Some, if◌then◌else◌, IfOk, OnOk};
 ghost use Rattle.std.specs.BTreeMap.{get_by_text};
 ghost use Rattle.std.specs.Str.{bytes_eq};
 ghost use Rattle.jt_ast.specs.Expressions.{Text};
 ghost use Rattle.jt_ast.specs.StatementView.{body_view};
-ghost use Rattle.jt_chains.specs.TemplateFiles.{files_view};
-ghost use Rattle.jt_chains.specs.Tables.{IsTable, AreAt};
+ghost use Rattle.jt_chains.specs.Tables.{IsTable};
 
 use crate::definitions::holds_macros;
-use crate::files::TemplateFile;
 use jt_ast::Stmt;
 use std::alloc::{AllocError, Global};
 use std::collections::BTreeMap;
@@ -49,20 +47,4 @@ pub(crate) fn macro_table(
         }
     }
     Ok(Some(table))
-}
-
-/// Returns a map from each template name to the index of the first template of that name.
-pub fn indices_by_name(
-    alloc: Global,
-    files: &[TemplateFile],
-) -> Result<BTreeMap<String, usize>, AllocError>
-    ensures { IfOk result (λ table. AreAt (files_view files.now) table) }
-{
-    let mut table = BTreeMap::new(alloc);
-    let mut left = files.len();
-    while left > 0 {
-        left -= 1;
-        put(alloc, &mut table, &files[left].name, left)?;
-    }
-    Ok(table)
 }

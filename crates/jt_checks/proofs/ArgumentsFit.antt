@@ -1,36 +1,93 @@
--- Arguments that fit parameters.
-use Rattle.std.proofs.Common.{max, Result, Ok, Err, IfOk}
-use Rattle.jt_filter_semantics.specs.FilterIds.{accepts}
-use Rattle.jt_checks.proofs.Vocabulary.{◌≡◌, ℕ, zero, suc, ◌+◌, ◌<◌, ◌≤◌, ◌-◌, min, Some, take, length-drop, nat_lt}
-use Rattle.jt_checks.proofs.Vocabulary.{Bool, true, false, not, ◌&&◌, List, [], ◌∷◌, length, drop, refl, sym, ap, ◌∙◌}
-use Rattle.jt_checks.proofs.Vocabulary.{arith, rules, list_any, nat_tests, exprs_view, Expr, among, repeated, Text}
-use Rattle.jt_checks.proofs.Vocabulary.{parameters_view, Parameter, count, FilterId, filter_takes}
-use Rattle.jt_checks.proofs.FilledParameters.{filled_behind}
-use Rattle.jt_checks.proofs.RowLengths.{counted}
+-- Arguments that fit the parameters of macros and filters.
+use Rattle.jt_rules.specs.Arguments.{no_keywords}
+use Rattle.std.proofs.lemmas.Bool.{or_right}
+use Rattle.std.proofs.Common.{Result, Ok, Err, IfOk}
+use Rattle.std.proofs.lemmas.List.{take_rest, drop_min, drop-map, length-map}
+use Rattle.jt_ast.specs.StatementView.{parameter_view}
+use Rattle.jt_filter_semantics.specs.FilterIds.{filter_of}
+use Rattle.jt_ids.specs.FilterTable.{filter_id}
+use Rattle.jt_eval.specs.Inside.{names_well}
+use Rattle.jt_eval.specs.TheFilters.{the_filters, filter_written, filter_parameters}
+use Rattle.jt_checks.proofs.Vocabulary.{◌≡◌, suc, List, [], ◌∷◌, length, refl, ap, arith, nat_eq, rules, nat_tests}
+use Rattle.jt_checks.proofs.Vocabulary.{exprs_view, pairs_view, Expr, count, Entry, ℕ, zero, ◌<◌, Bool, true, false}
+use Rattle.jt_checks.proofs.Vocabulary.{◌||◌, if◌then◌else◌, take, drop, get_or, ◌∙◌, Option, Some, None, string_bytes}
+use Rattle.jt_checks.proofs.Vocabulary.{list_all, is_some, option_map, among, Text, parameters_view, Parameter}
+use Rattle.jt_checks.proofs.Vocabulary.{some_given, ◌≤◌, ◌-◌, min, sym, not, ◌&&◌, list_any, repeated, Exprs, FilterId}
+use Rattle.jt_checks.proofs.Vocabulary.{keywords, filter_takes, ScopeError}
+use Rattle.jt_ast.specs.Statements as statements
 use Rattle.jt_checks.specs.internal.RuleTests as rules
+use Rattle.jt_ast.specs.Expressions as trees
+use Rattle.jt_ids.specs.declared.filter_id.FilterId.TheVariants as filter
+
+pub counted : (ts : List Expr) → count (exprs_view ts) ≡ length ts
+counted [] = refl
+counted (t ∷ ts) = ap suc (counted ts)
+
+pub keyless : (ps : List Entry) → no_keywords (pairs_view ps) ≡ nat_eq (length ps) 0
+keyless [] = refl
+keyless (p ∷ ps) = search (arith, rules, nat_eq, nat_tests)
+
+abbrev pub is_filled : List Text → Parameter → Bool
+is_filled ks p = among (string_bytes p.name) ks || is_some p.default
+
+module _ (ks : List Text) where
+  -- A named parameter is among those that are named.
+  given_at : (ps : List Parameter) (i : ℕ) (p : Parameter) → i < length ps → p ≡ get_or ps i p
+      → among (string_bytes p.name) ks ≡ true → some_given (parameters_view ps) ks ≡ true
+  given_at [] i p lt is e = absurd (omega arith)
+  given_at (q ∷ ps) zero p lt is e = search (arith, rules, string_bytes)
+  given_at (q ∷ ps) (suc i) p lt is e = search (arith, rules, or_right, string_bytes, given_at ps i p)
+
+  -- If no parameter is named, none is reached.
+  pub none_reached : (ps : List statements.Parameter) → some_given ps ks ≡ false → rules.reached ps ks ≡ 0
+  none_reached [] e = refl
+  none_reached (p ∷ ps) e = ap (λ b. if b then suc (rules.reached ps ks) else 0) e
+
+  -- The last named parameter.
+  pub last_reached : (ps : List Parameter) (i : ℕ) (p : Parameter) → i < length ps → p ≡ get_or ps i p
+      → among (string_bytes p.name) ks ≡ true
+      → some_given (parameters_view (drop (suc i) ps)) ks ≡ false → rules.reached (parameters_view ps) ks ≡ suc i
+  last_reached [] i p lt is e none = absurd (omega arith)
+  last_reached (q ∷ ps) zero p lt is e none = search (arith, rules, given_at, none_reached)
+  last_reached (q ∷ ps) (suc i) p lt is e none = search (arith, rules, given_at, last_reached ps i p)
+
+  mapped : {A B : Type 0} → (f : A → B) (o : Option A) → is_some (option_map f o) ≡ is_some o
+  mapped f (Some a) = refl
+  mapped f None = refl
+
+  -- Each parameter up to the last named one is filled.
+  filled_up_to : (ps : List Parameter) → list_all (is_filled ks) (take (rules.reached (parameters_view ps) ks) ps)
+      ≡ rules.is_filled (parameters_view ps) 0 ks
+  filled_up_to [] = refl
+  filled_up_to (p ∷ ps) = search (arith, rules, filled_up_to ps, string_bytes, mapped)
+
+  pub filled_among : (ps : List Parameter) (r : ℕ) → r ≡ rules.reached (parameters_view ps) ks
+      → list_all (is_filled ks) (take r ps) ≡ rules.is_filled (parameters_view ps) 0 ks
+  filled_among ps r e = ap (λ n. list_all (is_filled ks) (take n ps)) e ∙ filled_up_to ps
+
+-- The parameters after the ones that positional arguments fill.
+pub filled_behind : (ps : List statements.Parameter) (n : ℕ) (ks : List Text)
+    → rules.is_filled ps n ks ≡ rules.is_filled (drop n ps) 0 ks
+filled_behind [] zero ks = refl
+filled_behind [] (suc n) ks = refl
+filled_behind (p ∷ ps) zero ks = refl
+filled_behind (p ∷ ps) (suc n) ks = filled_behind ps n ks
 
 pub equal_ok : {E : Type 0} → (r : Result Bool E) (u v : Bool) → u ≡ v → IfOk r (λ b. b ≡ u) → IfOk r (λ b. b ≡ v)
 equal_ok (Ok b) u v e h = h ∙ e
 equal_ok (Err x) u v e h = tt
 
+-- The parameters after the ones that positional arguments fill.
 pub dropped : (ps : List Parameter) (n m : ℕ) → m ≡ min n (length ps)
-    → parameters_view (drop m ps) ≡ drop n (parameters_view ps)
-dropped ps zero zero e = refl
-dropped ps zero (suc m) e = absurd (omega arith)
-dropped [] (suc n) zero e = refl
-dropped [] (suc n) (suc m) e = refl
-dropped (p ∷ ps) (suc n) zero e = absurd (omega arith)
-dropped (p ∷ ps) (suc n) (suc m) e = dropped ps n m (omega arith)
+    → parameters_view (take (length ps - m) (drop m ps)) ≡ drop n (parameters_view ps)
+dropped ps n m e =
+    ap parameters_view (take_rest ps m ∙ ap (λ k. drop k ps) e ∙ drop_min n ps) ∙ sym (drop-map parameter_view n ps)
 
-pub viewed_length : (ps : List Parameter) → length (parameters_view ps) ≡ length ps
-viewed_length [] = refl
-viewed_length (p ∷ ps) = ap suc (viewed_length ps)
-
-not_below : (m n : ℕ) → n ≤ m → nat_lt m n ≡ false
-not_below m n h = grind (arith, nat_tests)
-
-is_below : (m n : ℕ) → m < n → nat_lt m n ≡ true
-is_below m n h = grind (arith, nat_tests)
+pub filled_is : (ps : List Parameter) (n m : ℕ) (ks : List Text) → m ≡ min n (length ps)
+    → rules.is_filled (parameters_view (take (length ps - m) (drop m ps))) 0 ks
+    ≡ rules.is_filled (parameters_view ps) n ks
+filled_is ps n m ks e =
+    ap (λ l. rules.is_filled l 0 ks) (dropped ps n m e) ∙ sym (filled_behind (parameters_view ps) n ks)
 
 abbrev pub named_well : List Parameter → ℕ → List Text → Bool
 named_well ps n xs =
@@ -38,42 +95,44 @@ named_well ps n xs =
 
 pub fits_is : (ps : List Parameter) (row : List Expr) (ks ns : List Text) → length row ≤ length ps → ns ≡ ks
     → named_well ps (length row) ns ≡ rules.fits (parameters_view ps) (count (exprs_view row)) ks
-fits_is ps row ks ns le e = search (arith, rules, counted, viewed_length, not_below)
+fits_is ps row ks ns le e = search (arith, rules, counted, length-map, nat_tests)
 
 pub too_many : (ps : List Parameter) (row : List Expr) (ks : List Text) → length ps < length row
     → false ≡ rules.fits (parameters_view ps) (count (exprs_view row)) ks
-too_many ps row ks lt = search (arith, rules, counted, viewed_length, is_below)
+too_many ps row ks lt = search (arith, rules, counted, length-map, nat_tests)
 
-taken : {A : Type 0} → (xs : List A) (n : ℕ) → n ≡ length xs → take n xs ≡ xs
-taken (x ∷ xs) (suc n) e = ap (λ l. x ∷ l) (taken xs n (omega arith))
-taken a0 a1 e = search (arith, rules)
-
-pub well_named : (ps : List Parameter) (n m : ℕ) (left ns : List Text) (b : Bool) → m ≡ min n (length ps)
-    → left ≡ rules.parameter_names (parameters_view (take (length ps - m) (drop m ps))) → b ≡ repeated ns → b ≡ false
+pub well_named : (ps : List Parameter) (n m : ℕ) (left ns : List Text) → m ≡ min n (length ps)
+    → left ≡ rules.parameter_names (parameters_view (take (length ps - m) (drop m ps))) → false ≡ repeated ns
     → not (list_any (λ k. not (among k left)) ns) ≡ named_well ps n ns
-well_named ps n m left ns b e f g h = search (arith, rules, taken, length-drop, dropped)
+well_named ps n m left ns e f g = search (arith, rules, dropped)
 
--- ---- filters
+pub known_filter : (f : FilterId) → filter_of (filter_id f) ≡ Some f
+unfolding filter_of
+known_filter filter.Abs = refl
+known_filter f = refl
 
-module _ (f : FilterId) (ps : List Parameter) (n v : ℕ) (ks : List Text) (taken_so : Bool)
-    (most : v ≡ max n (rules.reached (parameters_view ps) ks)) (takes : taken_so ≡ accepts (Some f) (v + 1)) where
-  by_values : taken_so ≡ accepts (Some f) (suc (max n (rules.reached (parameters_view ps) ks)))
-  by_values = search (arith, rules)
+abbrev pub taken_rightly : FilterId → ℕ → Exprs → trees.Pairs → Bool
+taken_rightly f n ts ps = filter_takes f (filter_parameters f) n (keywords ps) && names_well f ts ps
 
-  pub not_taken : taken_so ≡ false → false ≡ filter_takes f (parameters_view ps) n ks
-  not_taken h = ap (λ b. b && (rules.is_filled (parameters_view ps) n ks && named_well ps n ks)) (sym h ∙ by_values)
+rule_of : Option FilterId → Exprs → trees.Pairs → Option ScopeError
+rule_of None ts ps = None
+rule_of (Some f) ts ps = rules.unless (taken_rightly f (count ts) ts ps)
 
-  module _ (m : ℕ) (left : List Parameter) (filled : Bool) (from : m ≡ min n (length ps))
-      (behind : left ≡ take (length ps - m) (drop m ps)) (is : filled ≡ rules.is_filled (parameters_view left) 0 ks)
-      (h : taken_so ≡ true) where
-    by_filled : filled ≡ rules.is_filled (parameters_view ps) n ks
-    by_filled = search (arith, rules, taken, length-drop, dropped, filled_behind)
+-- The rule that a filter breaks, by its id.
+by_id : (o : Option FilterId) (ts : Exprs) (ps : trees.Pairs)
+    → rules.unless (rules.filter_right the_filters (option_map filter_id o) ts ps) ≡ rule_of o ts ps
+unfolding the_filters rule_of
+by_id None ts ps = refl
+by_id (Some f) ts ps = search (arith, rules, known_filter)
 
-    both : (b : Bool) → filled ≡ b → (b && named_well ps n ks) ≡ filter_takes f (parameters_view ps) n ks
-    both b k = search (arith, rules, by_filled, by_values)
+pub filter_known : (x : Text) (f : FilterId) (n : ℕ) (ts : Exprs) (ps : trees.Pairs) (b : Bool) (r : Option ScopeError)
+    → Some f ≡ filter_written x ts ps → count ts ≡ n → b ≡ taken_rightly f n ts ps → r ≡ rules.unless b
+    → r ≡ rules.unless (rules.filter_right the_filters (the_filters.named x ts ps) ts ps)
+unfolding the_filters rule_of
+filter_known x f n ts ps b r is same e h = search (arith, rules, rule_of, by_id)
 
-    pub not_filled : filled ≡ false → false ≡ filter_takes f (parameters_view ps) n ks
-    not_filled k = both false k
-
-    pub filled_well : filled ≡ true → named_well ps n ks ≡ filter_takes f (parameters_view ps) n ks
-    filled_well k = both true k
+pub filter_unknown : (x : Text) (ts : Exprs) (ps : trees.Pairs) → None ≡ filter_written x ts ps
+    → None ≡ rules.unless (rules.filter_right the_filters (the_filters.named x ts ps) ts ps)
+unfolding the_filters rule_of
+filter_unknown x ts ps is =
+    ap (λ (o : Option FilterId). rule_of o ts ps) is ∙ sym (by_id (filter_written x ts ps) ts ps)

@@ -1,10 +1,10 @@
 -- A finding is true of the chains in which it is found, and chains without a finding break no rule.
 use Rattle.std.proofs.lemmas.Option.{slice_get_within, slice_get-get_or}
 use Rattle.jt_rules.specs.Rules.{BindsTooMany, BrokenIn, Broken, Breaks, KeepsRules, chain_uses}
-use Rattle.jt_checks.specs.Findings.{subject_of, IsFoundAt, IsFoundIn, PassesBindings}
+use Rattle.jt_checks.specs.Findings.{subject_of, IsFoundAt, IsFoundIn, PassesBindings, Holds}
 use Rattle.jt_checks.proofs.Vocabulary.{◌≡◌, ◌<◌, ◌≤◌, refl, sym, subst, ℕ, List, [], ◌∷◌, ◌++◌, Option, Some, None}
 use Rattle.jt_checks.proofs.Vocabulary.{arith, rules, ◌⊎◌, flat_map, option_map, option_or, inl, inr, Text, body_bound}
-use Rattle.jt_checks.proofs.Vocabulary.{Namespace, Template, templates, Use, Site, body_uses, CompileEnv, ForSome}
+use Rattle.jt_checks.proofs.Vocabulary.{Namespace, Template, templates, Site, body_uses, CompileEnv, ForSome}
 use Rattle.jt_checks.proofs.Vocabulary.{names_counted, ScopeError, Finding, Subject}
 use Rattle.jt_checks.proofs.Vocabulary.{lines_bound, BreaksAt}
 use Rattle.jt_checks.proofs.BindingCounts.{lines_counted}
@@ -19,21 +19,6 @@ record Same (A B : Type 0) : Type 0 where
   to : A → B
   back : B → A
 
-joined : {A B C : Type 0} → Same A B → Same B C → Same A C
-joined e f = record { to = λ a. f.to (e.to a); back = λ c. e.back (f.back c) }
-
-turned : {A B : Type 0} → Same A B → Same B A
-turned e = record { to = e.back; back = e.to }
-
-itself : {A : Type 0} → Same A A
-itself = record { to = λ a. a; back = λ a. a }
-
-or_same : {A B C D : Type 0} → Same A B → Same C D → Same (A ⊎ C) (B ⊎ D)
-or_same e f = record {
-  to = λ h. elim h [ inl a ↦ inl (e.to a) | inr c ↦ inr (f.to c) ];
-  back = λ h. elim h [ inl b ↦ inl (e.back b) | inr d ↦ inr (f.back d) ];
-}
-
 never : {A : Type 0} (xs : List A) → ForSome (λ x. ⊥) xs → ⊥
 never [] h = h
 never (x ∷ xs) (inl h) = h
@@ -45,23 +30,16 @@ module _ {A : Type 0} (P : A → Type 0) where
   some_as Q f (x ∷ xs) (inl p) = inl (f x p)
   some_as Q f (x ∷ xs) (inr h) = inr (some_as Q f xs h)
 
-  either_same : (Q : A → Type 0) (xs : List A) → Same (ForSome (λ x. P x ⊎ Q x) xs) (ForSome P xs ⊎ ForSome Q xs)
-  either_same Q [] = search (arith, rules)
-  either_same Q (x ∷ xs) = search (arith, rules, either_same Q xs)
-
   -- An item of a concatenation is an item of one of its lists.
   append_same : (xs ys : List A) → Same (ForSome P (xs ++ ys)) (ForSome P xs ⊎ ForSome P ys)
   append_same [] ys = search (arith, rules)
   append_same (x ∷ xs) ys = search (arith, rules, append_same xs ys)
 
-  flat_same : {B : Type 0} (g : B → List A) (xs : List B)
-      → Same (ForSome P (flat_map g xs)) (ForSome (λ x. ForSome P (g x)) xs)
-  flat_same g [] = itself
-  flat_same g (x ∷ xs) = joined (append_same (g x) (flat_map g xs)) (or_same itself (flat_same g xs))
-
-some_same : {A : Type 0} (P Q : A → Type 0) → ((x : A) → Same (P x) (Q x)) → (xs : List A)
-    → Same (ForSome P xs) (ForSome Q xs)
-some_same P Q e xs = record { to = some_as P Q (λ x. (e x).to) xs; back = some_as Q P (λ x. (e x).back) xs }
+  -- Some item of some list has the property, or some list has a property.
+  flat_same : {B : Type 0} (g : B → List A) (Q : B → Type 0) (xs : List B)
+      → Same (ForSome (λ x. ForSome P (g x) ⊎ Q x) xs) (ForSome P (flat_map g xs) ⊎ ForSome Q xs)
+  flat_same g Q [] = search (arith, rules)
+  flat_same g Q (x ∷ xs) = search (arith, rules, append_same (g x) (flat_map g xs), flat_same g Q xs)
 
 -- ---- The first finding of items
 
@@ -142,8 +120,7 @@ module _ (cenv : CompileEnv) (namespace : Namespace) where
   named : (n : Text) (f : Finding) (ss : List Site) → ForSome (IsNamed n f) ss
       → (n ≡ f.template) × ForSome (IsFoundAt cenv namespace f) ss
   named n f [] h = absurd h
-  named n f (s ∷ ss) (inl h) = (h.0, inl h.1)
-  named n f (s ∷ ss) (inr h) = let rest = named n f ss h in (rest.0, inr rest.1)
+  named n f (s ∷ ss) h = search (arith, rules, named n f ss)
 
   template_judged : (t : Template)
       → Judged (broken.template_broken cenv namespace t) (λ f. IsFoundIn cenv namespace f t)
@@ -156,10 +133,7 @@ module _ (cenv : CompileEnv) (namespace : Namespace) where
       let AtUses : ScopeError → Type 0 = (λ rule. ForSome (SiteBreaks rule) ss) in
       rejudged (broken.template_broken cenv namespace t) (λ f. Named f ⊎ Passes f) (λ f. IsFoundIn cenv namespace f t)
       (λ rule. TemplateBreaks rule t) (λ rule. TemplateBreaks rule t)
-      (λ f h. elim h [
-        | inl p ↦ let q = named t.name f ss p in record { template = q.0; found = inl q.1 }
-        | inr q ↦ record { template = q.0; found = inr q.1 }
-      ]) (λ rule h. h)
+      (λ f h. search (arith, rules, named t.name f ss)) (λ rule h. h)
       (or_judged (broken.uses_broken cenv namespace t.name ss) over Named Passes AtUses (λ rule. OfNumber rule t)
       (first_judged (broken.site_finding cenv namespace t.name) (λ s f. IsNamed t.name f s)
       (λ s rule. SiteBreaks rule s) (site_judged t.name) ss) (over_judged t))
@@ -169,41 +143,40 @@ module _ (cenv : CompileEnv) (namespace : Namespace) where
   abbrev ChainBreaks : ScopeError → Type 0
   ChainBreaks rule = ForSome (TemplateBreaks rule) (templates cenv.sources namespace)
 
-  -- A rule is broken in a chain at one of its uses or by the number of names of a template.
-  parts_same : (rule : ScopeError) → Same (ChainBreaks rule)
-      (ForSome (SiteBreaks rule) (chain_uses cenv.sources namespace)
-      ⊎ ForSome (OfNumber rule) (templates cenv.sources namespace))
-  parts_same rule =
-      let ts = templates cenv.sources namespace in
-      let uses_in : Template → List Site = (λ t. body_uses t.body uses.outside) in
-      joined (either_same (λ t. ForSome (SiteBreaks rule) (uses_in t)) (OfNumber rule) ts)
-      (or_same (turned (flat_same (SiteBreaks rule) uses_in ts)) itself)
+  abbrev InParts : ScopeError → Type 0
+  InParts rule =
+      ForSome (SiteBreaks rule) (chain_uses cenv.sources namespace)
+      ⊎ ForSome (OfNumber rule) (templates cenv.sources namespace)
 
+  -- A rule is broken in a chain at one of its uses or by the number of names of a template.
   broken_same : (rule : ScopeError) → Same (ChainBreaks rule) (BrokenIn cenv namespace rule)
-  broken_same rule = joined (parts_same rule) (by rule)
+  broken_same rule =
+      by rule
+      (flat_same (SiteBreaks rule) (λ t. body_uses t.body uses.outside) (OfNumber rule)
+      (templates cenv.sources namespace))
     where
-      by : (rule : ScopeError) → Same (ForSome (SiteBreaks rule) (chain_uses cenv.sources namespace)
-          ⊎ ForSome (OfNumber rule) (templates cenv.sources namespace)) (BrokenIn cenv namespace rule)
-      by error.TooManySlots = itself
-      by error.NoMemory = record {
-        to = λ h. elim h [
+      by : (rule : ScopeError) → Same (ChainBreaks rule) (InParts rule)
+          → Same (ChainBreaks rule) (BrokenIn cenv namespace rule)
+      by error.TooManySlots e = e
+      by error.NoMemory e = record {
+        to = λ h. elim (e.to h) [
           | inl p ↦ never (chain_uses cenv.sources namespace) p
           | inr q ↦ never (templates cenv.sources namespace) q
         ];
         back = λ h. absurd h;
       }
-      by rule = record {
-        to = λ h. elim h [ inl p ↦ p | inr q ↦ absurd (never (templates cenv.sources namespace) q) ];
-        back = inl;
+      by rule e = record {
+        to = λ h. elim (e.to h) [ inl p ↦ p | inr q ↦ absurd (never (templates cenv.sources namespace) q) ];
+        back = λ p. e.back (inl p);
       }
 
-  chain_judged : Judged (broken.templates_broken cenv namespace (templates cenv.sources namespace))
+  chain_judged : Judged (broken.chain_broken cenv namespace)
       (λ f. ForSome (IsFoundIn cenv namespace f) (templates cenv.sources namespace))
       (λ rule. BrokenIn cenv namespace rule)
   chain_judged =
       let ts = templates cenv.sources namespace in
       let In : Finding → Type 0 = (λ f. ForSome (IsFoundIn cenv namespace f) ts) in
-      rejudged (broken.templates_broken cenv namespace ts) In In ChainBreaks
+      rejudged (broken.chain_broken cenv namespace) In In ChainBreaks
       (λ rule. BrokenIn cenv namespace rule) (λ f p. p) (λ rule. (broken_same rule).back)
       (first_judged (broken.template_broken cenv namespace) (λ t f. IsFoundIn cenv namespace f t)
       (λ t rule. TemplateBreaks rule t) template_judged ts)
@@ -218,36 +191,34 @@ module _ (cenv : CompileEnv) (order : List Namespace) where
   abbrev FoundIn : Finding → Namespace → Type 0
   FoundIn f h = ForSome (IsFoundIn cenv h f) (templates cenv.sources h)
 
-  judged : Judged (broken.chains_broken cenv order) (λ f. ForSome (FoundIn f) order)
-      (λ rule. ForSome (λ h. BrokenIn cenv h rule) order)
-  judged = first_judged (λ h. broken.templates_broken cenv h (templates cenv.sources h)) (λ h f. FoundIn f h)
-      (λ h rule. BrokenIn cenv h rule) (chain_judged cenv) order
-
-  pub chains_hold : (f : Finding) → broken.chains_broken cenv order ≡ Some f → ForSome (FoundIn f) order
-  chains_hold f e = subst (λ o. Judged o (λ g. ForSome (FoundIn g) order)
-      (λ rule. ForSome (λ h. BrokenIn cenv h rule) order)) e judged
-
-  broken_of : (rule : ScopeError) → ForSome (λ h. BrokenIn cenv h rule) order → Breaks rule cenv order
-  broken_of error.LoopOutside h = h
-  broken_of rule h = search (arith, rules)
+  pub judged : (o : Option Finding) → o ≡ broken.chains_broken cenv order
+      → Judged o (λ f. Holds f cenv order) (λ rule. ForSome (λ h. BrokenIn cenv h rule) order)
+  judged o e = subst (λ o. Judged o (λ f. Holds f cenv order) (λ rule. ForSome (λ h. BrokenIn cenv h rule) order))
+      (sym e)
+      (rejudged (broken.chains_broken cenv order) (λ f. ForSome (FoundIn f) order) (λ f. Holds f cenv order)
+      (λ rule. ForSome (λ h. BrokenIn cenv h rule) order) (λ rule. ForSome (λ h. BrokenIn cenv h rule) order)
+      (λ f h. inl h) (λ rule h. h)
+      (first_judged (broken.chain_broken cenv) (λ h f. FoundIn f h) (λ h rule. BrokenIn cenv h rule) (chain_judged cenv)
+      order))
 
   -- The rule of a finding is broken.
-  pub found_is_broken : (f : Finding) → ForSome (FoundIn f) order → Breaks f.rule cenv order
-  found_is_broken f found = broken_of f.rule (some_as (FoundIn f) (λ h. BrokenIn cenv h f.rule)
+  pub found_is_broken : (f : Finding) → Holds f cenv order → Breaks f.rule cenv order
+  found_is_broken f (inr h) = search (arith, rules)
+  found_is_broken f (inl found) = by f.rule (some_as (FoundIn f) (λ h. BrokenIn cenv h f.rule)
       (λ h p. (broken_same cenv h f.rule).to
       (some_as (IsFoundIn cenv h f) (TemplateBreaks cenv h f.rule) (found_breaks cenv h f) (templates cenv.sources h)
       p))
       order found)
-
-  found_of : names_counted cenv order ≤ 65535 → (rule : ScopeError) → Broken rule cenv order
-      → ForSome (λ h. BrokenIn cenv h rule) order
-  found_of few error.LoopOutside h = h
-  found_of few rule h = search (arith, rules, few)
+    where
+      by : (rule : ScopeError) → ForSome (λ h. BrokenIn cenv h rule) order → Breaks rule cenv order
+      by error.LoopOutside h = h
+      by rule h = search (arith, rules)
 
   -- If no rule is found and the names are few, no rule is broken.
-  pub none_is_broken : broken.chains_broken cenv order ≡ None → names_counted cenv order ≤ 65535
+  pub none_is_broken : None ≡ broken.chains_broken cenv order → names_counted cenv order ≤ 65535
       → KeepsRules cenv order
-  none_is_broken e few = record {
-    none = λ rule h. (subst (λ o. Judged o (λ g. ForSome (FoundIn g) order)
-        (λ r. ForSome (λ k. BrokenIn cenv k r) order)) e judged) rule (found_of few rule h);
-  }
+  none_is_broken e few = record { none = λ rule h. judged None e rule (by rule h) }
+    where
+      by : (rule : ScopeError) → Broken rule cenv order → ForSome (λ h. BrokenIn cenv h rule) order
+      by error.LoopOutside h = h
+      by rule h = search (arith, rules)

@@ -1,83 +1,73 @@
--- Sets and lists of names.
-use Rattle.std.specs.Ordering.{nat_cmp, is_eq}
+-- Lists of names: whether one is repeated, and whether all are in another list.
+use Rattle.std.proofs.lemmas.Slice.Eq.{bytes_eq-Decides}
+use Rattle.jt_ast.specs.Texts.{inserted, all_inserted}
+use Rattle.jt_names.proofs.SortedNames.{as_often, inserted_both, one, weight}
+use Rattle.std.proofs.Common.{◌+◌, sym, if◌then◌else◌}
+use Rattle.std.specs.Ordering.{nat_cmp, is_lt}
 use Rattle.std.specs.Cmp.Lexicographic.{slice_cmp}
-use Rattle.std.specs.BTreeSet.{BTreeSet}
-use Rattle.std.proofs.lemmas.Map.Text.{is_eq-slice_cmp}
-use Rattle.jt_names.proofs.SortedNames.{symmetric, name_cmp}
-use Rattle.jt_checks.proofs.Vocabulary.{◌≡◌, ℕ, suc, ◌+◌, ◌<◌, Bool, true, false, cond, not, ◌||◌, List, [], ◌∷◌}
-use Rattle.jt_checks.proofs.Vocabulary.{length, drop, get_or, refl, sym, ap, ◌∙◌, arith, rules, list_any, list_all}
-use Rattle.jt_checks.proofs.Vocabulary.{is_some, bytes_eq, drop_more, Bor, Text, among, repeated, texts, first_of}
-use Rattle.std.specs.BTreeSet as set
+use Rattle.jt_checks.proofs.Vocabulary.{◌≡◌, ℕ, suc, ◌≤◌, nat_lt, Bool, true, false, not, ◌||◌, List, [], ◌∷◌, ◌++◌}
+use Rattle.jt_checks.proofs.Vocabulary.{length, refl, ap, ◌∙◌, arith, rules, nat_tests, list_any, list_all, is_some}
+use Rattle.jt_checks.proofs.Vocabulary.{bytes_eq, Bor, Text, among, ascending, repeated, texts, first_of}
 
-abbrev pub Names : Type 0
-Names = BTreeSet (Bor Text)
+among_inserted : (q x : Text) (ns : List Text) → among q (inserted x ns) ≡ (bytes_eq x q || among q ns)
+among_inserted q x [] = refl
+among_inserted q x (y ∷ ys) = search (arith, rules, bytes_eq-Decides, among_inserted q x ys)
 
-abbrev pub is_among : Names → Text → Bool
-is_among s x = set.contains_by (λ k. slice_cmp nat_cmp x k.now) s
+among_all : (q : Text) (xs ns : List Text) → among q (all_inserted xs ns) ≡ (among q xs || among q ns)
+among_all q [] ns = refl
+among_all q (x ∷ xs) ns = search (arith, rules, among_all q xs (inserted x ns), among_inserted)
 
--- One of these names is in the set or occurs twice.
-abbrev pub again : Names → List Text → Bool
-again s [] = false
-again s (x ∷ xs) = is_among s x || (among x xs || again s xs)
+inserted_new : (x : Text) (ns : List Text) → among x ns ≡ false → length (inserted x ns) ≡ suc (length ns)
+inserted_new x [] e = refl
+inserted_new x (y ∷ ys) e = search (arith, rules, inserted_new x ys)
 
-texts_left : (ks : List (Bor Text)) (i : ℕ) (d : Bor Text) → i < length ks
-    → texts (drop i ks) ≡ (get_or ks i d).now ∷ texts (drop (i + 1) ks)
-texts_left ks i d lt = ap texts (drop_more ks i d lt)
+-- A list without the first place of a name.
+abbrev without : Text → List Text → List Text
+without x [] = []
+without x (y ∷ ys) = if bytes_eq y x then ys else y ∷ without x ys
 
-abbrev pub nameless : Bor Text
-nameless = record { ref_ptr = (0, 0); now = [] }
+taken : (q x : Text) (xs : List Text) → among x xs ≡ true
+    → weight (one q) xs ≡ one q x + weight (one q) (without x xs)
+taken q x [] e = absurd (cc)
+taken q x (y ∷ ys) e = by (bytes_eq y x) refl e (taken q x ys)
+  where
+    by : (b : Bool) → bytes_eq y x ≡ b → (b || among x ys) ≡ true
+        → (among x ys ≡ true → weight (one q) ys ≡ one q x + weight (one q) (without x ys))
+        → one q y + weight (one q) ys ≡ one q x + weight (one q) (if b then ys else y ∷ without x ys)
+    by true r h later = ap (λ z. one q z + weight (one q) ys) ((bytes_eq-Decides y x).0 r)
+    by false r h later = omega (arith, later h)
 
--- ---- sets
+weight_last : (q x : Text) (xs : List Text) → weight (one q) (xs ++ x ∷ []) ≡ one q x + weight (one q) xs
+weight_last q x [] = refl
+weight_last q x (y ∷ ys) = omega (arith, weight_last q x ys)
 
-none_among : (s : Names) (x : Text) → s.keys ≡ [] → is_among s x ≡ false
-none_among s x e = ap (λ ks. list_any (λ (k : Bor Text). is_eq (slice_cmp nat_cmp x k.now)) ks) e
+-- A name that occurs again counts once.
+counted_again : (x : Text) (xs : List Text) → among x xs ≡ true → ascending (x ∷ xs) ≡ ascending xs
+counted_again x xs e =
+    as_often (x ∷ xs) (x ∷ x ∷ without x xs) [] (λ q. omega (arith, taken q x xs e))
+    ∙ ap (λ b. all_inserted (without x xs)
+    (if b then x ∷ [] else if is_lt (slice_cmp nat_cmp x x) then x ∷ x ∷ [] else x ∷ x ∷ []))
+    ((bytes_eq-Decides x x).1 refl)
+    ∙ sym (as_often xs (x ∷ without x xs) [] (λ q. taken q x xs e))
 
-either : (b c : Bool) → cond b true c ≡ (b || c)
-either true c = refl
-either false c = refl
+counted_new : (x : Text) (xs : List Text) → among x xs ≡ false
+    → length (ascending (x ∷ xs)) ≡ suc (length (ascending xs))
+counted_new x xs e =
+    ap length (as_often (x ∷ xs) (xs ++ x ∷ []) [] (λ q. sym (weight_last q x xs)) ∙ inserted_both xs (x ∷ []) [])
+    ∙ inserted_new x (ascending xs) (search (arith, rules, among_all))
 
--- A set after the insertion of a name.
-among_added : (m n : Names) (k : Bor Text) → set.Updates name_cmp m n k true → (y : Text)
-    → is_among n y ≡ (bytes_eq k.now y || is_among m y)
-among_added m n k u y =
-    u.0 (record { ref_ptr = (0, 0); now = y }) ∙ either (is_eq (slice_cmp nat_cmp k.now y)) (is_among m y)
-    ∙ ap (λ b. b || is_among m y) (is_eq-slice_cmp k.now y)
-
-shuffled : (a b c d e : Bool) → ((a || b) || (c || (d || e))) ≡ ((a || d) || (b || (c || e)))
-shuffled a0 a1 a2 a3 e = search (arith, rules)
-
-again_added : (m n : Names) (x : Text) → ((y : Text) → is_among n y ≡ (bytes_eq x y || is_among m y))
-    → (ys : List Text) → again n ys ≡ (among x ys || again m ys)
-again_added m n x h [] = refl
-again_added m n x h (y ∷ ys) = search (arith, rules, symmetric, again_added m n x h ys, shuffled)
-
-pub again_none : (s : Names) → s.keys ≡ [] → (xs : List Text) → again s xs ≡ repeated xs
-again_none s e [] = refl
-again_none s e (x ∷ xs) =
-    ap (λ b. b || (among x xs || again s xs)) (none_among s x e) ∙ ap (λ b. among x xs || b) (again_none s e xs)
-
--- A name that is not in the set is inserted.
-pub again_step : (m n : Names) (ks : List (Bor Text)) (i : ℕ) (d : Bor Text) → i < length ks
-    → is_among m (get_or ks i d).now ≡ false → set.Updates name_cmp m n (get_or ks i d) true
-    → again n (texts (drop (i + 1) ks)) ≡ again m (texts (drop i ks))
-again_step m n ks i d lt new u =
-    let k = get_or ks i d in
-    let rest = texts (drop (i + 1) ks) in
-    again_added m n k.now (among_added m n k u) rest ∙ ap (λ b. b || (among k.now rest || again m rest)) (sym new)
-    ∙ ap (again m) (sym (texts_left ks i d lt))
-
--- A name that is in the set occurs twice.
-pub again_here : (m : Names) (ks : List (Bor Text)) (i : ℕ) (d : Bor Text) → i < length ks
-    → is_among m (get_or ks i d).now ≡ true → again m (texts (drop i ks)) ≡ true
-again_here m ks i d lt old =
-    ap (again m) (texts_left ks i d lt)
-    ∙ ap (λ b. b || (among (get_or ks i d).now (texts (drop (i + 1) ks)) || again m (texts (drop (i + 1) ks)))) old
-
-pub from_not : (b c : Bool) → b ≡ not c → b ≡ true → c ≡ false
-from_not a0 a1 e f = search (arith, rules)
-
-pub from_not_false : (b c : Bool) → b ≡ not c → b ≡ false → c ≡ true
-from_not_false a0 a1 e f = search (arith, rules)
+-- A list has a duplicate exactly if it has fewer distinct names than items.
+pub few_distinct : (xs : List Text)
+    → (length (ascending xs) ≤ length xs) × (nat_lt (length (ascending xs)) (length xs) ≡ repeated xs)
+few_distinct [] = (omega arith, refl)
+few_distinct (x ∷ xs) = by (among x xs) refl (few_distinct xs)
+  where
+    by : (b : Bool) → among x xs ≡ b
+        → (length (ascending xs) ≤ length xs) × (nat_lt (length (ascending xs)) (length xs) ≡ repeated xs)
+        → (length (ascending (x ∷ xs)) ≤ suc (length xs))
+        × (nat_lt (length (ascending (x ∷ xs))) (suc (length xs)) ≡ (b || repeated xs))
+    by true e h = grind (arith, nat_tests, counted_again)
+    by false e h = grind (arith, nat_tests, counted_new)
 
 -- ---- names that are all in a list
 

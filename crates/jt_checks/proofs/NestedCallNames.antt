@@ -6,7 +6,7 @@ use Rattle.jt_checks.proofs.Vocabulary.{◌≡◌, ℕ, suc, ◌+◌, ◌<◌, �
 use Rattle.jt_checks.proofs.Vocabulary.{length-drop, get_or, sym, ap, ◌∙◌, arith, Option, None, rules, nat_tests}
 use Rattle.jt_checks.proofs.Vocabulary.{drop_more, literal_text, expr_view, exprs_view, Expr, named_at, FilterId}
 use Rattle.jt_checks.proofs.Vocabulary.{argument_well, row_well}
-use Rattle.jt_checks.proofs.RowLengths.{counted}
+use Rattle.jt_checks.proofs.ArgumentsFit.{counted}
 
 -- Without the name of an only argument, a name means the filter of that name.
 pub alone : (o : Option FilterId) → with_only o None ≡ o
@@ -25,21 +25,15 @@ behind ts i lt = let e = length-drop (i + 1) ts in omega (arith, lt, e)
 module _ (f : FilterId) (ts : List Expr) (i : ℕ) (t : Expr) (lt : i < length ts) (is : t ≡ get_or ts i t) where
   pub turn : row_well f (i + 1) (exprs_view (drop i ts))
       ≡ (argument_well (named_at f (i + 1)) (literal_text (expr_view t)) (length ts - i)
-      && row_well f (suc (i + 1)) (exprs_view (drop (i + 1) ts)))
+      && row_well f (i + 1 + 1) (exprs_view (drop (i + 1) ts)))
   turn = search (arith, rules, left, counted, behind)
 
   -- The argument at an index names something incorrectly, or the arguments after it remain.
   module _ (n : Option ArgumentRole) (b : Bool) (meant : n ≡ named_at f (i + 1))
       (found : b ≡ argument_well n (literal_text (expr_view t)) (length ts - i))
       (before : row_well f 1 (exprs_view ts) ≡ row_well f (i + 1) (exprs_view (drop i ts))) where
-    found_there : (v : Bool) → b ≡ v
-        → row_well f 1 (exprs_view ts) ≡ (v && row_well f (suc (i + 1)) (exprs_view (drop (i + 1) ts)))
-    found_there v e = search (arith, rules, turn)
-
     pub row_wrong : b ≡ false → false ≡ row_well f 1 (exprs_view ts)
-    row_wrong e = sym (found_there false e)
+    row_wrong e = search (arith, rules, turn)
 
     pub row_right : b ≡ true → row_well f 1 (exprs_view ts) ≡ row_well f (i + 1 + 1) (exprs_view (drop (i + 1) ts))
-    row_right e =
-        let q : suc (i + 1) ≡ i + 1 + 1 = omega arith in
-        found_there true e ∙ ap (λ k. row_well f k (exprs_view (drop (i + 1) ts))) q
+    row_right e = search (arith, rules, turn)

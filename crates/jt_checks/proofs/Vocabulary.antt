@@ -30,7 +30,6 @@ pub use Rattle.jt_chains.specs.View.{chain_view}
 pub use Rattle.jt_chains.specs.declared.chain.Chain.{Chain}
 pub use Rattle.jt_eval.specs.Filters.{some_given}
 pub use Rattle.jt_eval.specs.Inside.{argument_well, row_well}
-pub use Rattle.jt_eval.specs.TheFilters.{the_filters}
 pub use Rattle.jt_ids.specs.FilterTable.{named_at}
 pub use Rattle.jt_ids.specs.declared.filter_id.FilterId.{FilterId}
 pub use Rattle.jt_names.specs.Names.{first_of}
@@ -42,4 +41,4 @@ pub use Rattle.jt_uses.specs.Uses.{Site, Use, body_uses, outside}
 pub use Rattle.jt_uses.specs.declared.site.Enclosing.{Enclosing}
 pub use Rattle.jt_checks.specs.Findings.{BreaksAt, Finding, Subject, lines_bound}
 pub use Rattle.jt_checks.specs.internal.Fitting.{filter_takes}
-pub use Rattle.jt_checks.specs.internal.ScopeView.{its_cenv, its_namespace}
+pub use Rattle.jt_checks.specs.internal.ScopeView.{cenv_in, in_scope}

@@ -1,6 +1,5 @@
 pub mod CalleeView
 pub mod Fitting
 pub mod RuleTests
-pub mod ScopeLookup
 pub mod ScopeView
 pub mod UseRules

@@ -5,12 +5,11 @@ ghost use Rattle.std.specs.List.{list_any};
 ghost use Rattle.jt_ast.specs.ExpressionView.{exprs_view, pairs_view};
 ghost use Rattle.jt_ast.specs.Texts.{among, repeated, texts};
 ghost use Rattle.jt_ast.specs.StatementView.{names_view, parameter_view, parameters_view};
-ghost use Rattle.jt_chains.specs.Chain.{a_range};
 ghost use Rattle.jt_chains.specs.Uses.{count, keywords};
 ghost use Rattle.jt_eval.specs.TheFilters.{the_filters, filter_parameters};
 ghost use Rattle.jt_eval.specs.Inside.{names_well};
 ghost use Rattle.jt_eval.specs.Tests.{test_named};
-ghost use Rattle.jt_rules.specs.Arguments.{callee_takes, test_takes};
+ghost use Rattle.jt_rules.specs.Arguments.{test_takes};
 ghost use Rattle.jt_checks.specs.internal.RuleTests as rules;
 ghost use Rattle.jt_checks.specs.internal.Fitting.{filter_takes};
 
@@ -18,40 +17,25 @@ use crate::nested_calls::are_names_well;
 use jt_ast::{Expr, Parameter};
 use jt_eval::{filter_of, filter_parameters, test_of};
 use jt_ids::FilterId;
-use jt_names::{NameIndex, keyword_names, parameter_names};
+use jt_names::{NameIndex, add_names, keyword_names, parameter_names};
 use jt_rules::ScopeError;
 use std::alloc::{AllocError, Global};
 use std::collections::BTreeSet;
-
-/// Returns `rule` if `wrong` holds.
-pub(crate) fn refused(wrong: bool, rule: ScopeError) -> Option<ScopeError>
-    ensures { result ≡ rules.refused wrong rule }
-{
-    if wrong { Some(rule) } else { None }
-}
 
 /// Returns `BadArguments` unless the arguments are right.
 pub(crate) fn unless(right: bool) -> Option<ScopeError>
     ensures { result ≡ rules.unless right }
 {
-    if right {
-        None
-    } else {
-        Some(ScopeError::BadArguments)
-    }
+    (!right).then_some(ScopeError::BadArguments)
 }
 
 /// Returns whether a name occurs twice.
 pub(crate) fn any_repeated(alloc: Global, names: &[&str]) -> Result<bool, AllocError>
     ensures { IfOk result (λ b. b ≡ repeated (texts names.now)) }
 {
-    let mut seen = BTreeSet::new(alloc);
-    for name in names {
-        if !seen.insert(*name)? {
-            return Ok(true);
-        }
-    }
-    Ok(false)
+    let mut distinct = BTreeSet::new(alloc);
+    add_names(&mut distinct, names)?;
+    Ok(distinct.len() < names.len())
 }
 
 /// Returns whether each name is in `known`.
@@ -99,18 +83,8 @@ pub(crate) fn fits(
     names_fit(alloc, parameters, row.len(), &names)
 }
 
-/// Returns the rule that the arguments of `range` break.
-#[tactic(auto, using(crate::proofs::RowLengths::counted, crate::proofs::RowLengths::keyless))]
-pub(crate) fn range_broken(row: &[Expr], pairs: &[(String, Expr)]) -> Option<ScopeError>
-    ensures { result
-        ≡ rules.unless (callee_takes a_range (exprs_view row.now) (pairs_view pairs.now)) }
-{
-    let given = row.len();
-    unless(0 < given && given < 4 && pairs.is_empty())
-}
-
 /// Returns the rule that the arguments of a test break.
-#[tactic(auto, using(crate::proofs::RowLengths::counted, crate::proofs::RowLengths::keyless))]
+#[tactic(auto, using(crate::proofs::ArgumentsFit::counted, crate::proofs::ArgumentsFit::keyless))]
 pub(crate) fn test_broken(name: &str, row: &[Expr], pairs: &[(String, Expr)]) -> Option<ScopeError>
     ensures { result ≡ rules.unless
         (test_takes (test_named name.now) (exprs_view row.now) (pairs_view pairs.now)) }

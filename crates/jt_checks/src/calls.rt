@@ -1,17 +1,15 @@
 //! Finds what calls name, and checks the static rules of a call by its callee.
 
-ghost use Rattle.std.specs.Prelude.{◌≡◌, ◌==◌, ◌&&◌, IfOk, option_map, if◌then◌else◌};
-ghost use Rattle.std.specs.Prelude.{Some};
+ghost use Rattle.std.specs.Prelude.{◌≡◌, IfOk, option_map};
 ghost use Rattle.jt_ast.specs.ExpressionView.{expr_view, exprs_view, pairs_view};
 ghost use Rattle.jt_chains.specs.Chain as chain;
 ghost use Rattle.jt_chains.specs.Chain.{callee, named_form, named_alone, named_in, in_library};
 ghost use Rattle.jt_checks.specs.internal.RuleTests as rules;
 ghost use Rattle.jt_checks.specs.internal.CalleeView.{Means};
 ghost use Rattle.jt_checks.specs.internal.ScopeView.{its_sources, its_given, given_in, in_scope};
-ghost use Rattle.jt_checks.specs.internal.ScopeView.{HasFacts, is_bare, name_in};
-ghost use Rattle.jt_rules.specs.declared.error.ScopeError.TheVariants as error;
+ghost use Rattle.jt_checks.specs.internal.ScopeView.{HasFacts, name_in};
 
-use crate::arguments::{fits, range_broken, unless};
+use crate::arguments::{fits, unless};
 use crate::scope::Scope;
 use jt_ast::{Expr, Parameter};
 use jt_chains::Definition;
@@ -71,7 +69,7 @@ fn callee_in_library<'a>(scope: &Scope<'_, 'a>, of: &str, field: &str) -> Callee
     let Some(Definition::Library(library)) = scope.given(of) else {
         return Callee::Nothing;
     };
-    match scope.chain.library_macro(library, field) {
+    match scope.facts.chain.library_macro(library, field) {
         Some(found) => Callee::Macro(found.parameters),
         None => Callee::Nothing,
     }
@@ -92,7 +90,7 @@ fn callee_of_field<'a>(scope: &Scope<'_, 'a>, of: &str, field: &'a str) -> Calle
 }
 
 /// Returns what a callee names.
-#[tactic(auto, using(crate::proofs::AttributeForms::attribute_callee))]
+#[tactic(auto, using(crate::proofs::Lookups::attribute_callee))]
 pub(crate) fn callee_of<'a>(scope: &Scope<'_, 'a>, called: &'a Expr) -> Callee<'a>
     requires { HasFacts scope.now }
     ensures { Means result (callee (its_sources scope.now) (its_given scope.now)
@@ -108,22 +106,8 @@ pub(crate) fn callee_of<'a>(scope: &Scope<'_, 'a>, called: &'a Expr) -> Callee<'
     }
 }
 
-/// Returns the rule that a call without arguments breaks, if `callable` says whether its callee can
-/// be called.
-#[tactic(auto, using(crate::proofs::RowLengths::counted, crate::proofs::RowLengths::keyless))]
-fn bare_call_broken(callable: bool, row: &[Expr], pairs: &[(String, Expr)]) -> Option<ScopeError>
-    ensures { result ≡ (if callable then rules.unless (is_bare (exprs_view row.now)
-        (pairs_view pairs.now)) else Some error.NotCallable) }
-{
-    if callable {
-        unless(row.is_empty() && pairs.is_empty())
-    } else {
-        Some(ScopeError::NotCallable)
-    }
-}
-
 /// Returns the rule that a call breaks by its callee.
-#[tactic(auto, using(crate::proofs::RowLengths::counted, crate::proofs::RowLengths::keyless))]
+#[tactic(auto, using(crate::proofs::ArgumentsFit::counted, crate::proofs::ArgumentsFit::keyless))]
 pub(crate) fn call_broken(
     scope: &Scope<'_, '_>,
     around: Enclosing,
@@ -138,9 +122,10 @@ pub(crate) fn call_broken(
 {
     match called {
         Callee::Macro(parameters) => Ok(unless(fits(scope.alloc, parameters, row, pairs)?)),
-        Callee::Range => Ok(range_broken(row, pairs)),
-        Callee::Super => Ok(bare_call_broken(around.in_block, row, pairs)),
-        Callee::Block(name) => Ok(bare_call_broken(scope.is_block(name), row, pairs)),
+        Callee::Range => Ok(unless(0 < row.len() && row.len() < 4 && pairs.is_empty())),
+        Callee::Super if !around.in_block => Ok(Some(ScopeError::NotCallable)),
+        Callee::Block(name) if !scope.is_block(name) => Ok(Some(ScopeError::NotCallable)),
+        Callee::Super | Callee::Block(_) => Ok(unless(row.is_empty() && pairs.is_empty())),
         Callee::Cycle => Ok(unless(0 < row.len() && pairs.is_empty())),
         Callee::Nothing => Ok(Some(ScopeError::NotCallable)),
     }

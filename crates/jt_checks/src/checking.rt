@@ -3,18 +3,16 @@
 ghost use Rattle.std.specs.Prelude.{◌≡◌, ◌<◌, nat_le, length, IfOk, OnOk, IfErr};
 ghost use Rattle.std.specs.Prelude.{IfSome, IfNone, option_map};
 ghost use Rattle.jt_ast.specs.Texts.{ascending, texts};
-ghost use Rattle.jt_chains.specs.Chain.{templates, libraries, a_library};
+ghost use Rattle.jt_chains.specs.Chain.{templates, libraries};
 ghost use Rattle.jt_chains.specs.Parts.{name_at};
 ghost use Rattle.jt_chains.specs.View.{chain_view};
 ghost use Rattle.jt_rules.specs.Rules.{KeepsRules, Breaks, libraries_counted};
 ghost use Rattle.jt_rules.specs.Rules.{max_names, names_counted};
 ghost use Rattle.jt_checks.specs.Findings.{Holds};
 ghost use Rattle.jt_checks.specs.FindingView.{finding_view};
-ghost use Rattle.jt_checks.specs.internal.ScopeView.{capped, its_namespace, names_in, own_count};
-ghost use Rattle.jt_checks.specs.internal.ScopeView.{HasFacts, its_sources, in_scope};
-ghost use Rattle.jt_checks.specs.internal.ScopeLookup.{cenv_in, namespace_in};
+ghost use Rattle.jt_checks.specs.internal.ScopeView.{HasFacts, capped, cenv_in, in_scope};
+ghost use Rattle.jt_checks.specs.internal.ScopeView.{its_chain, names_of};
 ghost use Rattle.jt_checks.specs.internal.UseRules as broken;
-ghost use Rattle.jt_checks.specs.internal.UseRules.{template_at};
 ghost use Rattle.jt_names.specs.FactsOfChains.{AllKnown};
 ghost use Rattle.jt_rules.specs.CompileEnv.{cenv_of};
 
@@ -85,6 +83,7 @@ pub fn find_broken<'a>(
 }
 
 /// Returns the first finding in the templates of the chains.
+#[tactic(auto, using(crate::proofs::LoopSteps::chains_left))]
 fn chains_broken<'a>(
     alloc: Global,
     facts: &ChainFacts<'a>,
@@ -94,8 +93,7 @@ fn chains_broken<'a>(
         (cenv_in facts.now.chain.now) (chain_view facts.now.chain.now).order) }
 {
     for namespace in 0..facts.chain.namespaces.len() {
-        let scope = Scope::new(alloc, facts, namespace);
-        if let Some(finding) = templates_broken(&scope, facts)? {
+        if let Some(finding) = templates_broken(&Scope::new(alloc, facts, namespace))? {
             return Ok(Some(finding));
         }
     }
@@ -103,20 +101,14 @@ fn chains_broken<'a>(
 }
 
 /// Returns the first finding in the templates of a chain.
-fn templates_broken<'a>(
-    scope: &Scope<'_, 'a>,
-    facts: &ChainFacts<'a>,
-) -> Result<Option<Finding<'a>>, AllocError>
-    requires known { AllKnown facts.now }
-    requires same { facts.now.chain.now ≡ scope.now.chain.now }
-    requires scope { HasFacts scope.now }
-    ensures { IfOk result (λ o. option_map finding_view o
-        ≡ in_scope broken.templates_broken scope.now (templates
-        (its_sources scope.now) (its_namespace scope.now))) }
+fn templates_broken<'a>(scope: &Scope<'_, 'a>) -> Result<Option<Finding<'a>>, AllocError>
+    requires { HasFacts scope.now }
+    ensures { IfOk result
+        (λ o. option_map finding_view o ≡ in_scope broken.chain_broken scope.now) }
 {
-    let itself = &scope.chain.namespaces[scope.namespace];
+    let itself = &scope.facts.chain.namespaces[scope.namespace];
     for template in &itself.templates {
-        if let Some(finding) = template_broken(scope, facts, *template)? {
+        if let Some(finding) = template_broken(scope, *template)? {
             return Ok(Some(finding));
         }
     }
@@ -136,18 +128,15 @@ fn template_name(chain: &Chain, index: usize) -> &str
 /// Returns the first finding in the template at `index`.
 fn template_broken<'a>(
     scope: &Scope<'_, 'a>,
-    facts: &ChainFacts<'a>,
     index: usize,
 ) -> Result<Option<Finding<'a>>, AllocError>
-    requires known { AllKnown facts.now }
-    requires same { facts.now.chain.now ≡ scope.now.chain.now }
     requires scope { HasFacts scope.now }
-    requires within { index < length scope.now.chain.now.templates.items }
+    requires within { index < length (its_chain scope.now).templates.items }
     ensures { IfOk result (λ o. option_map finding_view o ≡ in_scope broken.template_broken
-        scope.now (template_at (chain_view scope.now.chain.now).templates index)) }
+        scope.now (broken.template_at (chain_view (its_chain scope.now)).templates index)) }
 {
-    let name = template_name(scope.chain, index);
-    let uses = facts.uses_at(index);
+    let name = template_name(scope.facts.chain, index);
+    let uses = scope.facts.uses_at(index);
     if let Some(finding) = uses_broken(scope, name, uses)? {
         return Ok(Some(finding));
     }
@@ -164,6 +153,7 @@ fn template_broken<'a>(
 
 /// Returns whether the chains read or bind at most `MAX_NAMES` names, each counted once for each
 /// chain.
+#[tactic(auto, using(crate::proofs::LoopSteps::names_left))]
 fn has_few_names(alloc: Global, facts: &ChainFacts<'_>) -> Result<bool, AllocError>
     requires { AllKnown facts.now }
     ensures { IfOk result (λ b. b ≡ nat_le (names_counted (cenv_in facts.now.chain.now)
@@ -171,22 +161,24 @@ fn has_few_names(alloc: Global, facts: &ChainFacts<'_>) -> Result<bool, AllocErr
 {
     let mut left = MAX_NAMES;
     for namespace in 0..facts.chain.namespaces.len() {
-        let Some(less) = left.checked_sub(count_names(alloc, facts, namespace)?) else {
+        let count = count_names(&Scope::new(alloc, facts, namespace))?;
+        if left < count {
             return Ok(false);
-        };
-        left = less;
+        }
+        left -= count;
     }
     Ok(true)
 }
 
 /// Returns the libraries that a chain imports, each once, in ascending order.
-fn libraries(alloc: Global, chain: &Chain, namespace: usize) -> Result<Vec<&str>, AllocError>
-    requires { namespace < length chain.now.namespaces.items }
-    ensures { IfOk result (λ ns. texts ns.items
-        ≡ ascending (libraries (cenv_in chain.now).sources (namespace_in chain.now namespace))) }
+fn libraries<'a>(scope: &Scope<'_, 'a>) -> Result<Vec<&'a str>, AllocError>
+    requires { HasFacts scope.now }
+    ensures { IfOk result
+        (λ ns. texts ns.items ≡ ascending (in_scope (λ cenv h. libraries cenv.sources h)
+        scope.now)) }
 {
-    let found = chain.libraries(alloc, namespace)?;
-    in_order(alloc, &found)
+    let found = scope.facts.chain.libraries(scope.alloc, scope.namespace)?;
+    in_order(scope.alloc, &found)
 }
 
 /// Returns the number of different names that the libraries read or bind, at most the greatest
@@ -198,42 +190,22 @@ fn count_in_libraries(facts: &ChainFacts<'_>, libraries: &[&str]) -> usize
 {
     let mut count = 0usize;
     for library in libraries {
-        count = count.saturating_add(count_in_library(facts, library));
+        count = count.saturating_add(facts.count_in_library(library));
     }
     count
-}
-
-/// Returns the number of different names that a library reads or binds.
-fn count_in_library(facts: &ChainFacts<'_>, library: &str) -> usize
-    requires { AllKnown facts.now }
-    ensures { result ≡ own_count facts.now.chain.now (a_library library.now) }
-{
-    facts.count_in_library(library)
-}
-
-/// Returns the number of different names that a chain reads or binds, without its libraries.
-fn count_own(facts: &ChainFacts<'_>, namespace: usize) -> usize
-    requires known { AllKnown facts.now }
-    requires stands { namespace < length facts.now.chain.now.namespaces.items }
-    ensures { result
-        ≡ own_count facts.now.chain.now (namespace_in facts.now.chain.now namespace) }
-{
-    facts.at(namespace).names.len()
 }
 
 /// Returns the number of different names that a chain and the libraries that it imports read or
 /// bind, at most the greatest `usize`. A library has none of its own: its names count in the chains
 /// that import it.
-fn count_names(alloc: Global, facts: &ChainFacts<'_>, namespace: usize) -> Result<usize, AllocError>
-    requires known { AllKnown facts.now }
-    requires stands { namespace < length facts.now.chain.now.namespaces.items }
-    ensures { IfOk result (λ n. n ≡ capped (names_in facts.now.chain.now namespace)) }
+fn count_names(scope: &Scope<'_, '_>) -> Result<usize, AllocError>
+    requires { HasFacts scope.now }
+    ensures { IfOk result (λ n. n ≡ capped (in_scope names_of scope.now)) }
 {
-    if facts.chain.namespaces[namespace].is_library {
+    if scope.facts.chain.namespaces[scope.namespace].is_library {
         return Ok(0);
     }
-    let own = count_own(facts, namespace);
-    let imported = libraries(alloc, facts.chain, namespace)?;
-    let others = count_in_libraries(facts, &imported);
-    Ok(own.saturating_add(others))
+    let imported = libraries(scope)?;
+    let others = count_in_libraries(scope.facts, &imported);
+    Ok(scope.known().names.len().saturating_add(others))
 }

@@ -47,7 +47,7 @@ pub struct Finding<'a> {
 }
 
 /// Returns the callee of a call as a subject.
-#[tactic(auto, using(crate::proofs::AttributeForms::attribute_called))]
+#[tactic(auto, using(crate::proofs::Lookups::attribute_called))]
 fn called(callee: &Expr) -> Subject<'_>
     ensures { subject_view result ≡ findings.called (expr_view callee.now) }
 {

@@ -3,39 +3,24 @@
 ghost use Rattle.std.specs.Prelude.{◌≡◌, option_and_then};
 ghost use Rattle.jt_ast.specs.Written.{literal_text};
 ghost use Rattle.jt_ast.specs.ExpressionView.{expr_view, exprs_view, pairs_view};
-ghost use Rattle.jt_ids.specs.FilterTable.{filter_of_name, named_at, position_of};
+ghost use Rattle.jt_ids.specs.FilterTable.{named_at, position_of};
 ghost use Rattle.jt_eval.specs.Inside as inside;
-ghost use Rattle.jt_eval.specs.Tests.{test_named};
 
 use jt_ast::{Expr, literal_text};
 use jt_eval::test_of;
 use jt_ids::{ArgumentRole, FilterId};
 
-/// Returns whether `map` may call the filter of this name with `values` values. An unknown name
-/// passes: the parser refuses it.
-#[tactic(auto, using(crate::proofs::NestedCallNames::alone))]
-fn is_filter_called(name: &str, values: usize) -> bool
-    ensures { result ≡ inside.filter_called (filter_of_name name.now) values }
-{
-    FilterId::named(name, None).is_none_or(|filter| filter.may_be_inner() && filter.takes(values))
-}
-
-/// Returns whether the test of this name takes `values` values. An unknown name passes: the parser
-/// refuses it.
-#[tactic(auto, using(crate::proofs::NestedCallNames::turned))]
-fn is_test_called(name: &str, values: usize) -> bool
-    ensures { result ≡ inside.test_called (test_named name.now) values }
-{
-    test_of(name).is_none_or(|test| test.takes(values))
-}
-
-/// Returns whether the named filter or test takes `values` values, the item included.
+/// Returns whether the named filter or test takes `values` values, the item included, and `map` may
+/// call the filter. An unknown name passes: the parser refuses it.
+#[tactic(auto, using(crate::proofs::NestedCallNames::alone, crate::proofs::NestedCallNames::turned))]
 fn is_called_well(naming: ArgumentRole, name: &str, values: usize) -> bool
     ensures { result ≡ inside.called_well naming name.now values }
 {
     match naming {
-        ArgumentRole::Filter => is_filter_called(name, values),
-        ArgumentRole::Test => is_test_called(name, values),
+        ArgumentRole::Filter => FilterId::named(name, None).is_none_or(
+            |filter| filter.may_be_inner() && filter.takes(values),
+        ),
+        ArgumentRole::Test => test_of(name).is_none_or(|test| test.takes(values)),
         ArgumentRole::Key => true,
     }
 }
@@ -53,7 +38,7 @@ fn is_argument_well(naming: Option<ArgumentRole>, argument: &Expr, values: usize
 
 /// Returns whether each positional argument that names something names it correctly. A named filter
 /// or test takes the item and the arguments after its name.
-#[tactic(auto, using(crate::proofs::NestedCallNames::turn))]
+#[tactic(auto, using(crate::proofs::NestedCallNames::row_wrong, crate::proofs::NestedCallNames::row_right))]
 fn is_row_well(filter: FilterId, row: &[Expr]) -> bool
     ensures { result ≡ inside.row_well filter 1 (exprs_view row.now) }
 {

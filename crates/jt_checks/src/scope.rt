@@ -2,40 +2,44 @@
 
 ghost use Rattle.std.specs.Prelude.{◌≡◌, ◌<◌, length, option_map};
 
-use jt_chains::{Chain, Definition};
+use jt_chains::Definition;
 use jt_names::{ChainFacts, NamespaceFacts};
 use std::alloc::Global;
 
-/// A chain or library, with what is known of it.
+/// A chain or library, with what is known of all chains.
 #[derive(Clone, Copy)]
 pub(crate) struct Scope<'f, 'a> {
     pub(crate) alloc: Global,
-    pub(crate) chain: &'a Chain,
+    pub(crate) facts: &'f ChainFacts<'a>,
     pub(crate) namespace: usize,
-    known: &'f NamespaceFacts<'a>,
-    ghost stands: { namespace < length chain.now.namespaces.items },
+    ghost stands: { namespace < length facts.now.chain.now.namespaces.items },
 }
 
 impl<'f, 'a> Scope<'f, 'a> {
     ghost use Rattle.jt_checks.specs.internal.RuleTests as rules;
-    ghost use Rattle.jt_checks.specs.internal.ScopeLookup.{is_block};
     ghost use Rattle.jt_checks.specs.internal.ScopeView.{HasFacts, given_as, given_in, in_scope};
-    ghost use Rattle.jt_names.specs.FactsOfChains.{AllKnown};
+    ghost use Rattle.jt_checks.specs.internal.ScopeView.{is_block, its_chain};
+    ghost use Rattle.jt_names.specs.FactsOfChains.{IsKnown};
 
     /// Creates the scope of the chain or library at index `namespace`.
     pub(crate) fn new(alloc: Global, facts: &'f ChainFacts<'a>, namespace: usize) -> Self
-        requires known { AllKnown facts.now }
-        requires stands { namespace < length facts.now.chain.now.namespaces.items }
-        ensures same_chain { result.chain.now ≡ facts.now.chain.now }
+        requires { namespace < length facts.now.chain.now.namespaces.items }
+        ensures same_facts { result.facts.now ≡ facts.now }
         ensures same_namespace { result.namespace ≡ namespace }
-        ensures known { HasFacts result }
     {
         Scope {
             alloc,
-            chain: facts.chain,
+            facts,
             namespace,
-            known: facts.at(namespace),
         }
+    }
+
+    /// Returns what is known of the chain or library.
+    pub(crate) fn known(&self) -> &'f NamespaceFacts<'a>
+        requires { HasFacts self.now }
+        ensures { IsKnown (its_chain self.now) self.now.namespace result.now }
+    {
+        self.facts.at(self.namespace)
     }
 
     /// Returns whether the name stands for a macro or a library.
@@ -43,7 +47,7 @@ impl<'f, 'a> Scope<'f, 'a> {
         requires { HasFacts self.now }
         ensures { result ≡ in_scope rules.is_macro self.now name.now }
     {
-        self.known.given.contains_key(name)
+        self.known().given.contains_key(name)
     }
 
     /// Returns the definition of the name, if it stands for a macro or a library.
@@ -51,14 +55,15 @@ impl<'f, 'a> Scope<'f, 'a> {
         requires { HasFacts self.now }
         ensures { option_map (given_as self.now) result ≡ given_in self.now name.now }
     {
-        self.known.given.get(name).copied()
+        self.known().given.get(name).copied()
     }
 
     /// Returns whether the chain has a block of this name.
+    #[tactic(auto, using(crate::proofs::Lookups::has_body))]
     pub(crate) fn is_block(&self, name: &str) -> bool
         requires { HasFacts self.now }
         ensures { result ≡ in_scope is_block self.now name.now }
     {
-        self.known.first_bodies.index_of(name).is_some()
+        self.known().first_bodies.index_of(name).is_some()
     }
 }

@@ -9,7 +9,7 @@ ghost use Rattle.jt_uses.specs.UseView.{site_view, sites_view};
 ghost use Rattle.jt_checks.specs.internal.ScopeView.{HasFacts, in_scope};
 ghost use Rattle.jt_checks.specs.internal.UseRules as broken;
 
-use crate::arguments::{any_repeated, filter_broken, refused, test_broken, unless};
+use crate::arguments::{any_repeated, filter_broken, test_broken, unless};
 use crate::calls::{call_broken, callee_of};
 use crate::finding::{Finding, subject_of};
 use crate::scope::Scope;
@@ -39,7 +39,7 @@ fn used(scope: &Scope<'_, '_>, name: &str) -> Option<ScopeError>
     requires { HasFacts scope.now }
     ensures { result ≡ in_scope rules.used scope.now name.now }
 {
-    read_alone(name).or(refused(scope.is_macro(name), ScopeError::MacroAsValue))
+    read_alone(name).or(scope.is_macro(name).then_some(ScopeError::MacroAsValue))
 }
 
 /// Returns the rule that a read of a field of `loop` breaks.
@@ -47,7 +47,7 @@ fn field_broken(field: &str, around: Enclosing) -> Option<ScopeError>
     ensures { result ≡ rules.field_broken field.now around }
 {
     let right = around.in_loop && LoopField::by_name(field).is_some();
-    refused(!right, ScopeError::LoopOutside)
+    (!right).then_some(ScopeError::LoopOutside)
 }
 
 /// Returns whether a callee is `loop` itself, a field of it other than `cycle`, or `cycle` outside
@@ -76,12 +76,11 @@ fn macro_broken(
 {
     let names = parameter_names(alloc, parameters)?;
     let again = unless(!any_repeated(alloc, &names)?);
-    let many = refused(MAX_PARAMETERS < parameters.len(), ScopeError::TooManySlots);
+    let many = (MAX_PARAMETERS < parameters.len()).then_some(ScopeError::TooManySlots);
     Ok(read_alone(name).or(again.or(many)))
 }
 
 /// Returns the rule that a use breaks.
-#[tactic(auto, using(crate::proofs::ScopeLookup::its_filters, crate::proofs::RuleTestsCorrect::macro_first))]
 fn site_broken<'a>(
     scope: &Scope<'_, 'a>,
     site: &UseSite<'a>,

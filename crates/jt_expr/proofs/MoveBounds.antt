@@ -88,7 +88,9 @@ entry_shorter (cut.sign k ∷ ts) = tt
 keyword_shorter : (ts : Tokens) → KeyAll (length ts) (keyword ts)
 unfolding keyword
 keyword_shorter [] = tt
-keyword_shorter (cut.name x ∷ ts) = search (arith, rules, key_if, drop_shorter)
+keyword_shorter (cut.name x ∷ ts) =
+    key_if (suc (length ts)) (is_reserved x) _ _ (λ h. tt) (λ h.
+    key_if (suc (length ts)) (sees s.Assign ts) _ _ (λ h2. omega (arith, drop_shorter ts)) (λ h2. tt))
 keyword_shorter (cut.number n ∷ ts) = tt
 keyword_shorter (cut.text v ∷ ts) = tt
 keyword_shorter (cut.sign k ∷ ts) = tt

@@ -107,18 +107,40 @@ not_in_sound : (op : BinaryOperator) (ts v : Tokens) → r.not_in ts ≡ Some (o
     → (ts ≡ operator_tokens op ++ v) × (level_of op ≡ comparison)
 not_in_sound op ts v e = search (arith, rules, by_test, some_pair, says_sound, none_some)
 
+-- A test for one token, and what follows it.
+test_or : {k : Level} {t : Token} {op : BinaryOperator} {ts v : Tokens} {b : Bool}
+    {other : Option (BinaryOperator × Tokens)} (made : BinaryOperator)
+    → (if b then Some (made, drop 1 ts) else other) ≡ Some (op, v) → (b ≡ true → ts ≡ t ∷ drop 1 ts)
+    → level_of made ≡ k → operator_tokens made ≡ t ∷ []
+    → (other ≡ Some (op, v) → (ts ≡ operator_tokens op ++ v) × (level_of op ≡ k))
+    → (ts ≡ operator_tokens op ++ v) × (level_of op ≡ k)
+test_or {b = true} made e is l same g = one_token _ made _ _ _ (is refl) e l same
+test_or {b = false} made e is l same g = g e
+
 pub operator_sound : (k : Level) (op : BinaryOperator) (ts v : Tokens) → operator k ts ≡ Some (op, v)
     → (ts ≡ operator_tokens op ++ v) × (level_of op ≡ k)
 unfolding operator
 operator_sound whole op ts v e = cc
-operator_sound disjunction op ts v e = search (arith, rules, by_test, one_token, says_sound, none_some)
-operator_sound conjunction op ts v e = search (arith, rules, by_test, one_token, says_sound, none_some)
+operator_sound disjunction op ts v e = test_or o.Or e (says_sound (codes "or") ts) refl refl (none_some (op, v))
+operator_sound conjunction op ts v e = test_or o.And e (says_sound (codes "and") ts) refl refl (none_some (op, v))
 operator_sound inversion op ts v e = cc
-operator_sound comparison op ts v e = search (arith, rules, by_test, one_token, sees_sound, says_sound, not_in_sound)
-operator_sound sum op ts v e = search (arith, rules, by_test, one_token, sees_sound, none_some)
-operator_sound concatenation op ts v e = search (arith, rules, by_test, one_token, sees_sound, none_some)
-operator_sound product op ts v e = search (arith, rules, by_test, one_token, sees_sound, none_some)
-operator_sound power op ts v e = search (arith, rules, by_test, one_token, sees_sound, none_some)
+operator_sound comparison op ts v e =
+    test_or o.Equal e (sees_sound s.Equal ts) refl refl (λ e.
+    test_or o.NotEqual e (sees_sound s.NotEqual ts) refl refl (λ e.
+    test_or o.Less e (sees_sound s.Less ts) refl refl (λ e.
+    test_or o.LessOrEqual e (sees_sound s.LessEqual ts) refl refl (λ e.
+    test_or o.Greater e (sees_sound s.Greater ts) refl refl (λ e.
+    test_or o.GreaterOrEqual e (sees_sound s.GreaterEqual ts) refl refl (λ e.
+    test_or o.In e (says_sound (codes "in") ts) refl refl (not_in_sound op ts v)))))))
+operator_sound sum op ts v e =
+    test_or o.Add e (sees_sound s.Plus ts) refl refl (λ e.
+    test_or o.Subtract e (sees_sound s.Minus ts) refl refl (none_some (op, v)))
+operator_sound concatenation op ts v e = test_or o.Concatenate e (sees_sound s.Tilde ts) refl refl (none_some (op, v))
+operator_sound product op ts v e =
+    test_or o.Multiply e (sees_sound s.Times ts) refl refl (λ e.
+    test_or o.FloorDivide e (sees_sound s.FloorDivide ts) refl refl (λ e.
+    test_or o.Remainder e (sees_sound s.Percent ts) refl refl (none_some (op, v))))
+operator_sound power op ts v e = test_or o.Power e (sees_sound s.Power ts) refl refl (none_some (op, v))
 operator_sound postscript op ts v e = cc
 operator_sound signed op ts v e = cc
 operator_sound postfix op ts v e = cc

@@ -2,7 +2,6 @@
 use Rattle.std.proofs.Common.{◌≡◌, ℕ, zero, suc, ◌+◌, ◌<◌, Bool, true, false, not, cond, ◌&&◌, ◌||◌, List, [], ◌∷◌}
 use Rattle.std.proofs.Common.{◌++◌, length, map, take, drop, get_or, refl, sym, ap, subst, ◌∙◌, arith, rules, Some}
 use Rattle.std.proofs.Math.Bool.{or-false, or_assoc, or_comm}
-use Rattle.std.specs.BTreeSet as set
 use Rattle.std.specs.BTreeSet.{BTreeSet}
 use Rattle.std.specs.Cmp.Lexicographic.{slice_cmp}
 use Rattle.std.specs.Ordering.{nat_cmp, is_eq}
@@ -20,6 +19,7 @@ use Rattle.jt_inherit.proofs.Vocabulary.{same, symmetric, among_next, once_more,
 use Rattle.jt_inherit.proofs.Vocabulary.{their_blocks, their_macros, their_names, imported_names, along_templates}
 use Rattle.jt_inherit.proofs.Vocabulary.{or_from, or_parts, or_right, take_more}
 use Rattle.jt_chains.specs.declared.parts.Macro.{Macro}
+use Rattle.std.specs.BTreeSet as set
 
 -- ---- a set of texts
 
@@ -75,15 +75,15 @@ given_more bs b g h x = search (arith, rules, same, named_old, named_new)
 
 any_none : {X : Type 0} (p : X → Bool) → ((x : X) → p x ≡ false) → (xs : List X) → list_any p xs ≡ false
 any_none p h [] = refl
-any_none p h (x ∷ xs) = or_from (p x) (list_any p xs) (h x) (any_none p h xs)
+any_none p h (x ∷ xs) = or_from _ _ (h x) (any_none p h xs)
 
 any_here : {X : Type 0} (p : X → Bool) (xs : List X) (x : X) (ys : List X) → p x ≡ true
     → list_any p (xs ++ x ∷ ys) ≡ true
 any_here p [] x ys h = ap (λ b. b || list_any p ys) h
-any_here p (y ∷ xs) x ys h = or_right (p y) (list_any p (xs ++ x ∷ ys)) (any_here p xs x ys h)
+any_here p (y ∷ xs) x ys h = or_right _ _ (any_here p xs x ys h)
 
 pub all_given : (bs : List BlockBody) → AreGiven bs → lacks_body bs ≡ false
-all_given bs g = any_none (λ b. is_required (named b.name bs)) (λ b. g b.name) bs
+all_given bs g = any_none _ (λ b. g b.name) bs
 
 pub none_given : (bs : List BlockBody) (b : BlockBody) (cs : List BlockBody) → among b.name (names_of bs) ≡ false
     → b.required ≡ true → lacks_body (bs ++ b ∷ cs) ≡ true
@@ -109,7 +109,7 @@ pub next_more : (b : BlockBody) (bs : List BlockBody) → HaveNext bs
 next_more b bs n h x = search (arith, rules, same, none_behind, or_from)
 
 pub all_next : (bs : List BlockBody) → HaveNext bs → lacks_next bs ≡ false
-all_next bs n = any_none (λ b. lacks_super (named b.name bs)) (λ b. n b.name) bs
+all_next bs n = any_none _ (λ b. n b.name) bs
 
 lacks_front : (x : Text) (bs cs : List BlockBody) → lacks_super (named x cs) ≡ true
     → lacks_super (named x (bs ++ cs)) ≡ true
@@ -156,7 +156,7 @@ module _ {X : Type 0} (f : X → Text) (xs : List X) (i : ℕ) (x : X) (lt : i <
   repeat_goes ks ms b e o k m off =
       let taken : map f (take (i + 1) xs) ≡ map f (take i xs) ++ f x ∷ [] =
       ap (map f) (take_next xs i x lt is) ∙ map-append f (take i xs) (x ∷ []) in (
-        λ y. among_set ks ms (map f (take i xs)) (f x) e m y ∙ ap (among y) (sym taken),
+        λ y. among_set ks ms _ (f x) e m y ∙ ap (among y) (sym taken),
         ap repeated taken ∙ once_more of_texts (f x) (map f (take i xs)) o (sym (e (f x)) ∙ sym k ∙ off),
       )
 
@@ -178,9 +178,9 @@ module _ (ts : List Template) (xs : List Block) (i : ℕ) (x : Block) (lt : i < 
       let e : blocks_view ts (take (i + 1) xs) ≡ blocks_view ts (take i xs) ++ block_view ts x ∷ [] =
       ap (blocks_view ts) (take_next xs i x lt is) ∙ map-append (block_view ts) (take i xs) (x ∷ []) in
       let n : among x.name.now (names_of (blocks_view ts (take i xs))) ≡ among x.name.now ks =
-      ap (among x.name.now) (names_seen ts (take i xs)) ∙ sym (h x.name.now) in
+      ap (among x.name.now) (names_seen ts _) ∙ sym (h x.name.now) in
       subst AreGiven (sym e)
-      (given_more (blocks_view ts (take i xs)) (block_view ts x) g (ap (λ c. not c && x.required) n ∙ off))
+      (given_more _ _ g (ap (λ c. not c && x.required) n ∙ off))
 
 pub not_not : (b : Bool) → not (not b) ≡ b
 not_not true = refl

@@ -3,42 +3,40 @@
 use Rattle.std.proofs.Common.{◌≡◌, ◌≢◌, ◌↔◌, ℕ, zero, suc, ◌+◌, ◌*◌, ◌<◌, ◌≤◌, ◌==◌, true, false, not, ◌&&◌, nat_lt}
 use Rattle.std.proofs.Common.{List, [], ◌∷◌, length, map, refl, sym, ap, subst, ◌∙◌, arith, inl, inr, ◌⊎◌, ⊎_elim, Some}
 use Rattle.std.proofs.Common.{None, Vec, Global, get_or, rules}
-use Rattle.jt_graph.specs.Graph as graph
+use Rattle.jt_inherit.proofs.Vocabulary.{names, slice_get_within, length-map, append-nil, map-map, slice_get, unwrap_or}
+use Rattle.jt_inherit.proofs.Vocabulary.{AllByRecursion, list_any, is_none, cases_lt, nat_tests, Graph, next_of}
+use Rattle.jt_inherit.proofs.Vocabulary.{graph_of, Options, among, repeated, Text, AreIndices, templates_at}
+use Rattle.jt_inherit.proofs.Vocabulary.{needs_along, Namespace, a_chain, listed, is_a_library, Template, templates}
+use Rattle.jt_inherit.proofs.Vocabulary.{sources_in, SourceTexts, IsChain, lacks_body, lacks_next, chains_of, AreFound}
+use Rattle.jt_inherit.proofs.Vocabulary.{IsFound, found_templates, found_namespaces, root_of, IsFollowed, AreFollowed}
+use Rattle.jt_inherit.proofs.Vocabulary.{IsMet, found_paths, listed_at, listed_view, included, InOrder, KeepAll}
+use Rattle.jt_inherit.proofs.Vocabulary.{BreakOne, their_blocks, their_names, any_double, any_lacks_macros, IsName}
+use Rattle.jt_inherit.proofs.Vocabulary.{Need, needed, namespace_at, IsFinding, Breaks, ChainFinding, Asks, Reaches}
+use Rattle.jt_inherit.proofs.Vocabulary.{asked, is_whole, KeepsRules, templates_weight, chains_weight, templates_len}
+use Rattle.jt_inherit.proofs.Vocabulary.{chains_len, Seen, AreKnown, IsExtendsPath, Discovery, ChainError, map_at}
+use Rattle.jt_inherit.proofs.Vocabulary.{of_texts, same, chain_among, of_namespaces, among_cases, no_more}
+use Rattle.jt_inherit.proofs.Vocabulary.{indexed_among, and_from, and_right, both_ways, list_any-append, not-true}
+use Rattle.jt_inherit.proofs.Vocabulary.{or_from, or_right}
 use Rattle.jt_graph.specs.Graph.{IsClosed, IsOrder}
-use Rattle.jt_chains.specs.Chain.{all_bodies}
 use Rattle.jt_chains.specs.Chain.{given as given_in}
 use Rattle.jt_inherit.specs.internal.Found.{AllKeep, IsDone}
 use Rattle.jt_chains.specs.Includes.{begins_with_chain}
 use Rattle.jt_chains.specs.TemplateFiles.{namespace_view, AreWhole}
 use Rattle.jt_inherit.specs.internal.Breaking.{FindsAt}
-use Rattle.jt_inherit.proofs.Vocabulary.{slice_get_within, length-map, append-nil, map-map, slice_get, unwrap_or}
-use Rattle.jt_inherit.proofs.Vocabulary.{AllByRecursion, list_any, is_some, is_none, bytes_eq, cases_lt, nat_tests}
-use Rattle.jt_inherit.proofs.Vocabulary.{Graph, next_of, graph_of, Options, among, repeated, Text, AreIndices}
-use Rattle.jt_inherit.proofs.Vocabulary.{templates_at, needs_along, Namespace, a_chain, listed, is_a_library, Template}
-use Rattle.jt_inherit.proofs.Vocabulary.{templates, sources_in, SourceTexts, IsChain, lacks_body, lacks_next, chains_of}
-use Rattle.jt_inherit.proofs.Vocabulary.{AreFound, IsFound, found_templates, found_namespaces, root_of, IsFollowed}
-use Rattle.jt_inherit.proofs.Vocabulary.{AreFollowed, IsMet, found_paths, listed_at, listed_view, included, InOrder}
-use Rattle.jt_inherit.proofs.Vocabulary.{KeepAll, BreakOne, their_blocks, their_names, any_double, any_lacks_macros}
-use Rattle.jt_inherit.proofs.Vocabulary.{IsName, Need, needed, namespace_at, IsFinding, Breaks, ChainFinding, Asks}
-use Rattle.jt_inherit.proofs.Vocabulary.{Reaches, asked, extends_path, is_whole, KeepsRules, templates_weight}
-use Rattle.jt_inherit.proofs.Vocabulary.{chains_weight, templates_len, chains_len, Seen, AreKnown, IsExtendsPath}
-use Rattle.jt_inherit.proofs.Vocabulary.{names_view, Discovery, ChainError, map_at, of_texts, same, chain_among}
-use Rattle.jt_inherit.proofs.Vocabulary.{of_namespaces, among_cases, no_more, indexed_among, and_from, and_right}
-use Rattle.jt_inherit.proofs.Vocabulary.{both_ways, list_any-append, not-true, or_from, or_right}
 use Rattle.jt_inherit.proofs.FindingsHold.{rule_bare, rule_said}
-use Rattle.jt_inherit.specs.declared.error.ChainError.TheVariants as error
-use Rattle.jt_chains.specs.declared.chain.Namespace as linked
 use Rattle.jt_inherit.proofs.RulesCarryOver.{given_names}
 use Rattle.jt_inherit.proofs.TreeWeights.{few_chains, all_weigh}
 use Rattle.jt_inherit.proofs.DiscoveryInvariant.{none_read, few_way, way_names, asked_way, indexed_templates}
-use Rattle.jt_inherit.proofs.DiscoveryInvariant.{included_is, whole_path, some_source}
-use Rattle.jt_inherit.proofs.ImportCollection.{all_imported, none_given, none_lacking}
-use Rattle.jt_inherit.proofs.PathsGrow.{shows, names, few_templates, all_at_indices}
-use Rattle.jt_inherit.proofs.PathTemplates.{too_few, few_names, all_named, have_sources, all_among, repeated_up, weigh}
-use Rattle.jt_inherit.proofs.PathTemplates.{names_indexed}
+use Rattle.jt_inherit.proofs.DiscoveryInvariant.{included_is, whole_path, some_source, all_imported, none_given}
+use Rattle.jt_inherit.proofs.DiscoveryInvariant.{none_lacking}
+use Rattle.jt_inherit.proofs.PathsGrow.{shows, few_templates, all_at_indices, too_few, few_names, all_named}
+use Rattle.jt_inherit.proofs.PathsGrow.{have_sources, all_among, repeated_up, weigh, names_indexed}
 use Rattle.jt_inherit.proofs.TopologicalOrder.{namespace_among, number_of, names_in_order, reached_in_order, no_cycle}
 use Rattle.jt_inherit.proofs.TopologicalOrder.{first_in_order, named_among}
 use Rattle.jt_chains.proofs.TemplatesByIndex.{given_templates}
+use Rattle.jt_graph.specs.Graph as graph
+use Rattle.jt_inherit.specs.declared.error.ChainError.TheVariants as error
+use Rattle.jt_chains.specs.declared.chain.Namespace as linked
 
 -- ---- chains by their numbers
 
@@ -58,7 +56,7 @@ all_rows P (w ∷ ws) f = (f 0 (omega arith), all_rows P ws (λ i lt. f (suc i) 
 
 pub ways_indexed : (given : SourceTexts) (ts : List Template) (hs : List Namespace) (ws ns : Graph)
     → AreFollowed given ts hs ws ns → AllByRecursion (AreIndices ts) ws
-ways_indexed given ts hs ws ns f = all_rows (AreIndices ts) ws (λ i lt. (f.each i lt).led.indices)
+ways_indexed given ts hs ws ns f = all_rows _ ws (λ i lt. (f.each i lt).led.indices)
 
 numbers_within : (hs : List Namespace) (js : List ℕ) (ns : List Namespace) → map (slice_get hs) js ≡ map Some ns
     → AllByRecursion (λ j. j < length hs) js
@@ -69,8 +67,8 @@ numbers_within hs (j ∷ js) (n ∷ ns) e = search (arith, rules, slice_get_with
 next_within : (given : SourceTexts) (ts : List Template) (hs : List Namespace) (ws ns : Graph)
     → AreFollowed given ts hs ws ns → AllByRecursion (λ js. AllByRecursion (λ j. j < length hs) js) ns
 next_within given ts hs ws ns f =
-    all_rows (λ js. AllByRecursion (λ j. j < length hs) js) ns
-    (λ i lt. numbers_within hs (next_of ns i) _ (f.each i (omega (arith, f.lens))).numbered)
+    all_rows _ ns
+    (λ i lt. numbers_within hs _ _ (f.each i (omega (arith, f.lens))).numbered)
 
 numbered_among : (hs : List Namespace) (j : ℕ) (js : List ℕ) (ns : List Namespace) → map (slice_get hs) js ≡ map Some ns
     → graph.among j js ≡ true → listed (namespace_at hs j) ns ≡ true
@@ -102,8 +100,8 @@ module _ (given : SourceTexts) (ts : List Template) where
 
 -- ---- a chain that was followed
 
-module _ (given : SourceTexts) (options : Options) (ts : List Template) {ks : List Text}
-    (known : AreKnown given options ts ks) (h : Namespace) (is : List ℕ) (w : IsExtendsPath ts h is None) where
+module _ {given : SourceTexts} {options : Options} {ts : List Template}
+    (known : AreKnown given options ts) {h : Namespace} {is : List ℕ} (w : IsExtendsPath ts h is None) where
   held : AllByRecursion (λ t. sources_in ts t.name ≡ Some t.body) (templates_at ts is)
   held = search (arith, rules, sources_in, whole_path, given_templates)
 
@@ -112,12 +110,11 @@ module _ (given : SourceTexts) (options : Options) (ts : List Template) {ks : Li
       let us = templates_at ts is in
       let s = sources_in ts in
       subst (λ xs. (not (repeated xs) && (nat_lt (length xs) 65 && not (list_any (λ n. is_none (s n)) xs))) ≡ true)
-      (sym (way_names ts options.autoescape h is w))
-      (and_from (not (repeated (names us)))
-      (nat_lt (length (names us)) 65 && not (list_any (λ n. is_none (s n)) (names us))) (ap not w.once)
-      (and_from (nat_lt (length (names us)) 65) (not (list_any (λ n. is_none (s n)) (names us)))
-      (few_names (length (names us))
-      (omega (arith, few_way ts options.autoescape h is w, length-map us (λ (t : Template). t.name))))
+      (sym (way_names options.autoescape w))
+      (and_from _ _ (ap not w.once)
+      (and_from _ _
+      (few_names _
+      (omega (arith, few_way options.autoescape w, length-map us (λ (t : Template). t.name))))
       (ap not (have_sources s us held))))
 
   -- The defined names of a namespace.
@@ -132,22 +129,20 @@ module _ (given : SourceTexts) (options : Options) (ts : List Template) {ks : Li
   pub one_breaks : (root : Text) → Reaches (sources_in ts) options.autoescape (a_chain root) h → (e : ChainError)
       → BreakOne (sources_in ts) options.autoescape (templates_at ts is) e → Breaks e given root options
   one_breaks root r error.DoubleBlock b =
-      shows known (h, r, subst (λ us. any_double options.autoescape us ≡ true) (sym (whole_path ts h is w)) b)
+      shows known (h, r, subst (λ us. any_double options.autoescape us ≡ true) (sym (whole_path w)) b)
   one_breaks root r error.RequiredNotGiven b =
       shows known (
         h,
         r,
-        and_from (is_whole (sources_in ts) options.autoescape h)
-            (lacks_body (all_bodies (sources_in ts) options.autoescape h)) is_one
-            (subst (λ us. lacks_body (their_blocks options.autoescape us) ≡ true) (sym (whole_path ts h is w)) b),
+        and_from _ _ is_one
+            (subst (λ us. lacks_body (their_blocks options.autoescape us) ≡ true) (sym (whole_path w)) b),
       )
   one_breaks root r error.NoSuper b =
       shows known (
         h,
         r,
-        and_from (is_whole (sources_in ts) options.autoescape h)
-            (lacks_next (all_bodies (sources_in ts) options.autoescape h)) is_one
-            (subst (λ us. lacks_next (their_blocks options.autoescape us) ≡ true) (sym (whole_path ts h is w)) b),
+        and_from _ _ is_one
+            (subst (λ us. lacks_next (their_blocks options.autoescape us) ≡ true) (sym (whole_path w)) b),
       )
   one_breaks root r error.MacroTwice b =
       search (arith, rules, shows, and_from, is_whole, sources_in, repeated, is_one, names_told)
@@ -160,25 +155,25 @@ module _ (given : SourceTexts) (options : Options) (ts : List Template) {ks : Li
     pub none_missing : list_any (λ n. is_none (sources_in ts n)) (asked (sources_in ts) options.autoescape false h)
         ≡ false
     none_missing =
-        ap (list_any (λ n. is_none (sources_in ts n))) (asked_way ts options.autoescape h is w false)
+        ap (list_any (λ n. is_none (sources_in ts n))) (asked_way options.autoescape w false)
         ∙ list_any-append (λ n. is_none (sources_in ts n)) (names (templates_at ts is))
         (needed false (needs_along ts is))
-        ∙ or_from _ _ (have_sources (sources_in ts) (templates_at ts is) held)
+        ∙ or_from _ _ (have_sources _ _ held)
         (needs_sources given ts (needs_along ts is) met)
 
     pub all_asked : (P : Text → Type 0) → AllByRecursion (λ t. P t.name) (templates_at ts is)
         → ((n : Need) → IsMet given (names ts) n → P n.name) → (x : Text)
         → among x (asked (sources_in ts) options.autoescape true h) ≡ true → P x
     all_asked P a f x i = ⊎_elim
-        (λ p. all_among P (templates_at ts is) x a p)
+        (λ p. all_among P _ x a p)
         (λ q. needs_met given ts P f (needs_along ts is) met x q)
-        (among_cases of_texts x (names (templates_at ts is)) (needed true (needs_along ts is))
-        (sym (ap (among x) (asked_way ts options.autoescape h is w true)) ∙ i))
+        (among_cases of_texts x _ _
+        (sym (ap (among x) (asked_way options.autoescape w true)) ∙ i))
 
 -- ---- all chains and libraries
 
-module _ {given : SourceTexts} {options : Options} {entry : Text} {ts : List Template} {ks : List Text}
-    {hs : List Namespace} {ws ns : Graph} (f : AreFound given options entry ts ks hs ws ns)
+module _ {given : SourceTexts} {options : Options} {entry : Text} {ts : List Template}
+    {hs : List Namespace} {ws ns : Graph} (f : AreFound given options entry ts hs ws ns)
     (all : length ws ≡ length hs) where
   pub number : (i : ℕ) → i < length hs → IsFollowed given ts hs (namespace_at hs i) (next_of ws i) (next_of ns i)
   number i lt = f.followed.each i (omega (arith, all))
@@ -201,7 +196,7 @@ module _ {given : SourceTexts} {options : Options} {entry : Text} {ts : List Tem
   includes_next : (i : ℕ) → i < length hs
       → map (slice_get hs) (next_of ns i) ≡ map Some (included (sources_in ts) (namespace_at hs i))
   includes_next i lt =
-      (number i lt).numbered ∙ ap (map Some) (sym (included_is ts (namespace_at hs i) (next_of ws i) (number i lt).led))
+      (number i lt).numbered ∙ ap (map Some) (sym (included_is (number i lt).led))
 
   pub chain_finds : (x : ChainFinding) → FindsAt options.autoescape ts ws x → IsFinding given entry options x
   chain_finds x b =
@@ -211,9 +206,9 @@ module _ {given : SourceTexts} {options : Options} {entry : Text} {ts : List Tem
       let w = next_of ws i in
       let here = reached h (namespace_among hs i lt) in
       record {
-        broken = one_breaks given options ts f.known h w (number i lt).led entry here x.error b.found.broken;
+        broken = one_breaks f.known (number i lt).led entry here x.error b.found.broken;
         says =
-            rule_said f.known here (number i lt).led (is_one given options ts f.known h w (number i lt).led) x.error
+            rule_said f.known here (number i lt).led (is_one f.known (number i lt).led) x.error
             (rule_bare (sources_in ts) options.autoescape (templates_at ts w) x.error b.found.broken) x.place x.subject
             b.found.said;
       }
@@ -232,7 +227,7 @@ module _ {given : SourceTexts} {options : Options} {entry : Text} {ts : List Tem
     within = subst (λ n. AllByRecursion (λ i. i < n) is) lens o.within
 
     pub in_order : InOrder (sources_in ts) (map (namespace_at hs) is)
-    in_order = names_in_order (sources_in ts) hs ns is f.once within includes_next o.ordered
+    in_order = names_in_order _ hs ns is f.once within includes_next o.ordered
 
     entry_in : listed (a_chain entry) (map (namespace_at hs) is) ≡ true
     entry_in = search (arith, rules, listed, namespace_at, first_namespace, named_among, lens, some)
@@ -247,7 +242,7 @@ module _ {given : SourceTexts} {options : Options} {entry : Text} {ts : List Tem
 
     ordered : {h : Namespace} → Reaches (sources_in ts) options.autoescape (a_chain entry) h
         → listed h (map (namespace_at hs) is) ≡ true
-    ordered r = reached_in_order (sources_in ts) options.autoescape (map (namespace_at hs) is) in_order r entry_in
+    ordered r = reached_in_order _ _ _ in_order r entry_in
 
     -- The path of a namespace.
     way_of : (h : Namespace) → listed h hs ≡ true
@@ -258,7 +253,7 @@ module _ {given : SourceTexts} {options : Options} {entry : Text} {ts : List Tem
         let n = number k.0 k.1 in (
           next_of ws k.0,
           subst (λ x. IsExtendsPath ts x (next_of ws k.0) None) k.2 n.led,
-          at_number (λ w. KeepAll (sources_in ts) options.autoescape (templates_at ts w)) ws k.0
+          at_number _ ws k.0
               (omega (arith, k.1, all)) kept,
           n.met,
         )
@@ -276,30 +271,27 @@ module _ {given : SourceTexts} {options : Options} {entry : Text} {ts : List Tem
     keeps = record {
       missing = λ x.
           let k = way_reached x.1 in
-          both_ways (list_any (λ n. is_none (sources_in ts n)) (asked (sources_in ts) options.autoescape false x.0))
-          (none_missing given options ts f.known x.0 k.0 k.1 k.3) x.2;
+          both_ways _ (none_missing f.known k.1 k.3) x.2;
       bad_name = λ x.
           let k = way_reached x.1 in
-          x.2.2 (all_asked given options ts f.known x.0 k.0 k.1 k.3 IsName
-          (all_at_indices (λ t. IsName t.name) ts k.0 (all_named given options ts f.known.read.each)) named_met x.2.0
+          x.2.2 (all_asked f.known k.1 k.3 IsName
+          (all_at_indices _ ts k.0 (all_named given options ts f.known.read.each)) named_met x.2.0
           x.2.1);
       extends_cycle = λ x.
           let k = way_reached x.1 in
-          both_ways (repeated (names (templates_at ts k.0))) k.1.once
-          (repeated_up (sources_in ts) x.2.2 (Some x.2.0) (templates_at ts k.0)
+          both_ways _ k.1.once
+          (repeated_up _ x.2.2 _ _
           (subst (λ h. IsExtendsPath ts h k.0 None) x.2.1 k.1).leads x.2.3);
       too_long = λ x. ⊎_elim
           (λ y.
           let k = way_reached y.1 in
           let us = templates_at ts k.0 in
           let le : length us ≤ 64 = omega (arith, few_templates ts k.0, k.1.few) in
-          both_ways ((length (extends_path (sources_in ts) options.autoescape y.0) == 65)
-          && not (repeated (extends_path (sources_in ts) options.autoescape y.0)))
-          (ap (λ xs. (length xs == 65) && not (repeated xs)) (way_names ts options.autoescape y.0 k.0 k.1)
+          both_ways _ (ap (λ xs. (length xs == 65) && not (repeated xs)) (way_names options.autoescape k.1)
           ∙ too_few (length (names us)) (not (repeated (names us)))
           (omega (arith, le, length-map us (λ (t : Template). t.name)))) y.2)
           (λ y.
-          let le = no_more of_texts y.0 (chains_of hs) (not-true (repeated y.0) y.2)
+          let le = no_more of_texts y.0 (chains_of hs) (not-true _ y.2)
           (λ n a. sym (chain_among n hs) ∙ in_namespaces (a_chain n) (ordered (y.3 n a))) in
           let gt : 1024 < length y.0 = y.1 in
           let most = f.few in
@@ -307,41 +299,28 @@ module _ {given : SourceTexts} {options : Options} {entry : Text} {ts : List Tem
           x;
       double_block = λ x.
           let k = way_reached x.1 in
-          both_ways (any_double options.autoescape (templates (sources_in ts) x.0))
-          (ap (any_double options.autoescape) (whole_path ts x.0 k.0 k.1) ∙ k.2.doubles) x.2;
+          both_ways _ (ap (any_double options.autoescape) (whole_path k.1) ∙ k.2.doubles) x.2;
       required_not_given = λ x.
           let k = way_reached x.1 in
-          both_ways (is_whole (sources_in ts) options.autoescape x.0
-          && lacks_body (all_bodies (sources_in ts) options.autoescape x.0))
-          (and_right (is_whole (sources_in ts) options.autoescape x.0)
-          (lacks_body (all_bodies (sources_in ts) options.autoescape x.0))
-          (ap (λ us. lacks_body (their_blocks options.autoescape us)) (whole_path ts x.0 k.0 k.1) ∙ k.2.bodies)) x.2;
+          both_ways _ (and_right _ _ (ap (λ us. lacks_body (their_blocks options.autoescape us)) (whole_path k.1)
+          ∙ k.2.bodies)) x.2;
       no_super = λ x.
           let k = way_reached x.1 in
-          both_ways (is_whole (sources_in ts) options.autoescape x.0
-          && lacks_next (all_bodies (sources_in ts) options.autoescape x.0))
-          (and_right (is_whole (sources_in ts) options.autoescape x.0)
-          (lacks_next (all_bodies (sources_in ts) options.autoescape x.0))
-          (ap (λ us. lacks_next (their_blocks options.autoescape us)) (whole_path ts x.0 k.0 k.1) ∙ k.2.next)) x.2;
+          both_ways _ (and_right _ _ (ap (λ us. lacks_next (their_blocks options.autoescape us)) (whole_path k.1)
+          ∙ k.2.next)) x.2;
       include_cycle =
-          λ x. no_cycle (sources_in ts) options.autoescape (map (namespace_at hs) is) in_order x.0 x.2.0 (ordered x.1)
+          λ x. no_cycle _ _ _ in_order x.0 x.2.0 (ordered x.1)
           x.2.1 x.2.2;
       macro_twice = λ x.
           let k = way_reached x.1 in
-          both_ways
-          (is_whole (sources_in ts) options.autoescape x.0 && repeated (map (λ g. g.0) (given_in (sources_in ts) x.0)))
-          (and_right (is_whole (sources_in ts) options.autoescape x.0)
-          (repeated (map (λ g. g.0) (given_in (sources_in ts) x.0)))
-          (ap repeated (names_told given options ts f.known x.0 k.0 k.1) ∙ k.2.names)) x.2;
+          both_ways _ (and_right _ _ (ap repeated (names_told f.known k.1) ∙ k.2.names)) x.2;
       no_macro = λ x.
           let k = way_reached x.1 in
-          both_ways (any_lacks_macros (sources_in ts) (templates (sources_in ts) x.0))
-          (ap (any_lacks_macros (sources_in ts)) (whole_path ts x.0 k.0 k.1) ∙ k.2.macros_there) x.2.2;
+          both_ways _ (ap (any_lacks_macros (sources_in ts)) (whole_path k.1) ∙ k.2.macros_there) x.2.2;
       not_a_library = λ x.
           let k = way_reached x.1 in
           let l = (subst (λ h. IsExtendsPath ts h k.0 None) x.2.1 k.1).leads in
-          both_ways (is_some (sources_in ts x.2.0) && not (is_a_library (sources_in ts x.2.0)))
-          (and_right (is_some (sources_in ts x.2.0)) (not (is_a_library (sources_in ts x.2.0)))
+          both_ways _ (and_right _ _
           (ap not (ap is_a_library l.source ∙ l.holds))) x.2.2;
     }
 
@@ -353,8 +332,8 @@ module _ {given : SourceTexts} {options : Options} {entry : Text} {ts : List Tem
         → (among n (names ts) ≡ true) ⊎ (given n ≡ None)
     complete n x =
         let k = way_reached x.1 in
-        all_asked given options ts f.known x.0 k.0 k.1 k.3 (λ x. (among x (names ts) ≡ true) ⊎ (given x ≡ None))
-        (all_at_indices (λ t. (among t.name (names ts) ≡ true) ⊎ (given t.name ≡ None)) ts k.0
+        all_asked f.known k.1 k.3 (λ x. (among x (names ts) ≡ true) ⊎ (given x ≡ None))
+        (all_at_indices _ ts k.0
         (each_known ts (λ x p. p)))
         (λ m p. ⊎_elim (λ q. inl q) (λ q. inr q.2) p) n x.2
       where
@@ -363,7 +342,7 @@ module _ {given : SourceTexts} {options : Options} {entry : Text} {ts : List Tem
         each_known [] g = tt
         each_known (u ∷ us) g = (
           inl (g u.name (indexed_among of_texts (names (u ∷ us)) 0 u.name refl)),
-          each_known us (λ x p. g x (or_right (bytes_eq u.name x) (among x (names us)) p)),
+          each_known us (λ x p. g x (or_right _ _ p)),
         )
 
     -- The templates are the requested ones that the library has.
@@ -379,8 +358,8 @@ module _ {given : SourceTexts} {options : Options} {entry : Text} {ts : List Tem
             → (rest : List Namespace) × (map (namespace_at hs) js ≡ a_chain entry ∷ rest)
         from [] p a w = absurd (cc)
         from (j ∷ js) p a w =
-            let e = first_in_order (sources_in ts) options.autoescape (namespace_at hs j) (map (namespace_at hs) js)
-            (a_chain entry) p a (reached (namespace_at hs j) (namespace_among hs j w.0)) in
+            let e = first_in_order _ _ _ _
+            _ p a (reached (namespace_at hs j) (namespace_among hs j w.0)) in
             (map (namespace_at hs) js, ap (λ x. x ∷ map (namespace_at hs) js) e)
 
     all_reached : (js : List ℕ) → AllByRecursion (λ i. i < length hs) js
@@ -419,7 +398,7 @@ module _ {given : SourceTexts} {options : Options} {entry : Text} {ts : List Tem
     few_namespaces =
         let b = begins in
         subst (λ os. 7 * length os ≤ chains_weight (sources_in ts) os + 7) (sym b.1)
-        (few_chains (sources_in ts) options.autoescape (a_chain entry) b.0
+        (few_chains _ _ _ b.0
         (subst (InOrder (sources_in ts)) b.1 in_order)
         (λ h a. reached h (in_namespaces h (subst (λ os. listed h os ≡ true) (sym b.1) a))))
 
@@ -442,15 +421,14 @@ module _ {given : SourceTexts} {options : Options} {entry : Text} {ts : List Tem
 pub search_done : {given : SourceTexts} {options : Options} {entry : Text} (f : Discovery) → root_of f ≡ entry
     → IsFound given options f → length (found_paths f) ≡ length (found_namespaces f) → IsDone given options entry f
 search_done {given} {options} {entry} f root is all =
-    let found : AreFound given options entry (found_templates f) (names_view f.names) (found_namespaces f)
-    (found_paths f) (graph_of f.next.items) = subst (λ z. AreFound given options z (found_templates f)
-    (names_view f.names) (found_namespaces f) (found_paths f) (graph_of f.next.items)) root is in
+    let found : AreFound given options entry (found_templates f) (found_namespaces f) (found_paths f)
+    (graph_of f.next.items) = subst (λ z. AreFound given options z (found_templates f) (found_namespaces f)
+    (found_paths f) (graph_of f.next.items)) root is in
     record {
       found = found;
-      named = (is.known.named, ap repeated is.known.named ∙ is.known.read.once);
       indices =
-          ways_indexed given (found_templates f) (found_namespaces f) (found_paths f)
-          (graph_of f.next.items) is.followed;
+          ways_indexed given _ _ _
+          _ is.followed;
       paths = sym (length-map f.extends_paths.items (λ (v : Vec ℕ Global). v.items)) ∙ all;
       next = sym (length-map f.next.items (λ (v : Vec ℕ Global). v.items)) ∙ lens found all;
       closed = closed found all;

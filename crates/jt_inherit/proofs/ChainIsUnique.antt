@@ -1,16 +1,21 @@
--- An entry has one chain, up to the order of its parts, and none if a rule is broken.
+-- An entry has one chain, up to the order of its parts, and none if a rule is broken. The rule is broken in each
+-- reading.
 use Rattle.std.proofs.Common.{◌≡◌, ◌≢◌, ◌↔◌, Bool, true, false, List, [], ◌∷◌, refl, sym, ap, subst, ◌∙◌, ⊎_elim}
 use Rattle.std.proofs.Common.{Option, Some, None, string_bytes, arith, rules}
 use Rattle.jt_chains.specs.View.{sources_of}
-use Rattle.jt_inherit.specs.declared.error.ChainError.TheVariants as error
 use Rattle.jt_inherit.proofs.Vocabulary.{AllByRecursion, list_any, is_some, is_none, Options, among, Text, Body}
 use Rattle.jt_inherit.proofs.Vocabulary.{Sources, a_chain, Template, sources_in, SourceTexts, IsTree, IsRead, IsOnly}
 use Rattle.jt_inherit.proofs.Vocabulary.{IsChain, Breaks, Shows, HasFault, IsUncut, IsUnspelled, Asks, here, asked}
-use Rattle.jt_inherit.proofs.Vocabulary.{KeepsRules, Seen, ChainError, same, or_right}
-use Rattle.jt_inherit.proofs.RulesCarryOver as carried
+use Rattle.jt_inherit.proofs.Vocabulary.{KeepsRules, Seen, ChainError, same, or_right, names, repeated, Namespace}
+use Rattle.jt_inherit.proofs.Vocabulary.{names_up}
 use Rattle.jt_inherit.proofs.DiscoveryInvariant.{some_source}
-use Rattle.jt_inherit.proofs.SourcesGrow.{asks_more, asked_more, reaches_more}
-use Rattle.jt_inherit.proofs.PathsGrow.{names}
+use Rattle.jt_inherit.proofs.PathsGrow.{asks_more, asked_more, reaches_more, names_more}
+use Rattle.jt_inherit.specs.Refusals.{IsMissing}
+use Rattle.jt_inherit.specs.Laws.{IsReading, IsLasting, RefusalLaws}
+use Rattle.jt_inherit.proofs.RulesCarryOver.{repeated_front}
+use Rattle.jt_inherit.specs.declared.error.ChainError.TheVariants as error
+use Rattle.jt_inherit.proofs.RulesCarryOver as carried
+use Rattle.jt_chains.specs.Rules as rules
 
 pub any_at : (p : Text → Bool) (x : Text) (xs : List Text) → among x xs ≡ true → p x ≡ true → list_any p xs ≡ true
 any_at p x [] a t = absurd (cc)
@@ -54,9 +59,9 @@ module _ (given : SourceTexts) (options : Options) where
       pub into : (n : Text) (b : Body) → Asks (sources_of d) options.autoescape (a_chain entry) n
           → sources_in ts n ≡ Some b → sources_of d n ≡ Some b
       into n b i e =
-          let c = named_source d.templates n ((d_asked n).1 (i, has_source ts n b read e)) in
-          let one = source_read (IsOnly given options) ts n b only e c.0
-          (source_read (IsRead given options) d.templates n c.0 is.read.each c.1) in
+          let c = named_source _ n ((d_asked n).1 (i, has_source ts n b read e)) in
+          let one = source_read _ ts n b only e c.0
+          (source_read _ _ n c.0 is.read.each c.1) in
           c.1 ∙ ap (λ (x : Body). Some x) one
 
     -- ---- a broken rule
@@ -74,9 +79,9 @@ module _ (given : SourceTexts) (options : Options) where
         let s = sources_in x.reached.templates in
         let i = asks_more s (sources_of d) options.autoescape (a_chain entry)
         (into x.reached.templates x.reached.read.each x.reached.only) n x.reached.holds in
-        let c = named_source d.templates n
+        let c = named_source _ n
         ((d_asked n).1 (i, λ none. let no : None ≡ Some x.source = sym none ∙ x.found in absurd (cc))) in
-        let r = source_read (IsRead given options) d.templates n c.0 is.read.each c.1 in
+        let r = source_read _ _ n c.0 is.read.each c.1 in
         let told : Some r.source ≡ Some x.source = sym r.found ∙ x.found in
         let source : r.source ≡ x.source = cc in
         x.none c.0 (subst (λ z. IsTree options z c.0) source r.tree)
@@ -90,7 +95,7 @@ module _ (given : SourceTexts) (options : Options) where
         absurd (d_keeps.missing (
           h.0,
           p,
-          any_at (λ n. is_none (sources_of d n)) x.name (asked (sources_of d) options.autoescape false h.0)
+          any_at _ x.name _
               (asked_more s (sources_of d) options.autoescape (a_chain entry) g false h.0 p x.name h.2)
               (unread x.name x.found),
         ))
@@ -127,9 +132,9 @@ module _ (given : SourceTexts) (options : Options) where
     back : (n : Text) (b : Body) → Asks (sources_of c) options.autoescape (a_chain entry) n → sources_of d n ≡ Some b
         → sources_of c n ≡ Some b
     back n b i e =
-        let f = named_source c.templates n ((d_asked entry c ic n).1 (i, has_source d.templates n b id.read.each e)) in
-        let one = source_read (IsOnly given options) c.templates n f.0 only f.1 b
-        (source_read (IsRead given options) d.templates n b id.read.each e) in
+        let f = named_source _ n ((d_asked entry c ic n).1 (i, has_source d.templates n b id.read.each e)) in
+        let one = source_read _ _ n f.0 only f.1 b
+        (source_read _ _ n b id.read.each e) in
         f.1 ∙ ap (λ (x : Body). Some x) (sym one)
 
     pub one_chain : (n : Text) → sources_of c n ≡ sources_of d n
@@ -140,11 +145,80 @@ module _ (given : SourceTexts) (options : Options) where
         by (Some b) e q f =
             let i = asks_more (sources_of c) (sources_of d) options.autoescape (a_chain entry)
             (into entry d id c.templates ic.read.each only) n
-            ((d_asked entry c ic n).0 (source_named c.templates n b e)).0 in
+            ((d_asked entry c ic n).0 (source_named _ n b e)).0 in
             e ∙ sym (into entry d id c.templates ic.read.each only n b i e)
         by None e (Some b) f =
             let i = asks_more (sources_of d) (sources_of c) options.autoescape (a_chain entry) back n
-            ((d_asked entry d id n).0 (source_named d.templates n b f)).0 in
+            ((d_asked entry d id n).0 (source_named _ n b f)).0 in
             let no : None ≡ Some b = sym e ∙ back n b i f in
             absurd (cc)
         by None e None f = e ∙ sym f
+
+-- A template that was read in the only way has the same tree in each reading.
+same_tree : (given : SourceTexts) (options : Options) (s : Sources) → IsReading given options s → (ts : List Template)
+    → AllByRecursion (IsRead given options) ts → AllByRecursion (IsOnly given options) ts
+    → (n : Text) (b : Body) → sources_in ts n ≡ Some b → s n ≡ Some b
+same_tree given options s is ts read only n b e =
+    let other = is.each n b (source_read _ ts n b read e) in
+    let one : other.0 ≡ b = source_read _ ts n b only e other.0 (is.read n other.0 other.1) in
+    other.1 ∙ ap (λ (x : Body). Some x) one
+
+abbrev IsCarried : (Sources → Bool → Namespace → Type 0) → Type 0
+IsCarried Breaks =
+    (s r : Sources) (e : Bool) (entry : Namespace)
+    → ((n : Text) (b : Body) → Asks r e entry n → s n ≡ Some b → r n ≡ Some b)
+    → Breaks s e entry → Breaks r e entry
+
+lasting : (Breaks : Sources → Bool → Namespace → Type 0) → IsCarried Breaks → IsLasting Breaks
+lasting Breaks carry given options entry s is x =
+    carry (sources_in x.templates) s options.autoescape (a_chain entry)
+    (λ n b i. same_tree given options s is x.templates x.read.each x.only n b) x.holds
+
+-- A name that occurs twice on the path does so when more is read.
+cycle_lasts : IsLasting rules.ExtendsCycle
+cycle_lasts given options entry s is x =
+    let r = sources_in x.templates in
+    let g = same_tree given options s is x.templates x.read.each x.only in
+    let h = x.holds in
+    let y = h.2 in
+    let more = names_more r s y.2 _ (λ n a. g n) in (
+      h.0,
+      reaches_more r s options.autoescape (a_chain entry) (λ n b i. g n b) here h.1,
+      (y.0, y.1, y.2, ap repeated more.1 ∙ repeated_front (names_up r y.2 (Some y.0)) more.0 y.3),
+    )
+
+missing_lasts : (given : SourceTexts) (options : Options) (entry : Text) (s : Sources) → IsReading given options s
+    → IsMissing given entry options → rules.Missing s options.autoescape (a_chain entry)
+missing_lasts given options entry s is x =
+    let r = sources_in x.reached.templates in
+    let g = same_tree given options s is x.reached.templates x.reached.read.each x.reached.only in
+    let h = x.reached.holds in
+    let p = reaches_more r s options.autoescape (a_chain entry) (λ n b i. g n b) here h.1 in (
+      h.0,
+      p,
+      any_at _ x.name _
+          (asked_more r s options.autoescape (a_chain entry) (λ n b i. g n b) false h.0 p x.name h.2)
+          (unread (s x.name) refl),
+    )
+  where
+    unread : (o : Option Body) → s x.name ≡ o → is_none (s x.name) ≡ true
+    unread None e = ap is_none e
+    unread (Some b) e =
+        let r = is.read x.name b e in
+        let no : None ≡ Some r.source = sym x.found ∙ r.found in
+        absurd (cc)
+
+pub laws_hold : RefusalLaws
+laws_hold = record {
+  missing = missing_lasts;
+  bad_name = lasting _ carried.bad_name;
+  extends_cycle = cycle_lasts;
+  too_long = lasting _ carried.too_long;
+  double_block = lasting _ carried.double_block;
+  required_not_given = lasting _ carried.required_not_given;
+  no_super = lasting _ carried.no_super;
+  include_cycle = lasting _ carried.include_cycle;
+  macro_twice = lasting _ carried.macro_twice;
+  no_macro = lasting _ carried.no_macro;
+  not_a_library = lasting _ carried.not_a_library;
+}

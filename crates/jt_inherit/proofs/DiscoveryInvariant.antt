@@ -1,25 +1,314 @@
--- The facts about followed chains and libraries stay true when more is found.
-use Rattle.std.proofs.Common.{◌≡◌, ℕ, zero, suc, ◌<◌, ◌≤◌, Bool, true, false, List, [], ◌∷◌, ◌++◌, length, map, refl}
-use Rattle.std.proofs.Common.{sym, ap, subst, ◌∙◌, arith, ◌⊎◌, ⊎_elim, inl, inr, Option, Some, None, Vec, Global}
-use Rattle.std.proofs.Common.{length-append, rules}
-use Rattle.jt_inherit.specs.internal.Found.{IsLedTo}
-use Rattle.jt_inherit.proofs.Vocabulary.{cases_lt, slice_get_within, slice_get, flat_map, unwrap_or, AllByRecursion}
-use Rattle.jt_inherit.proofs.Vocabulary.{is_some, option_to_list, append-nil, append_assoc, length-map, map-append}
-use Rattle.jt_inherit.proofs.Vocabulary.{Options, among, Text, AreIndices, templates_at, imports_along, needs_along}
-use Rattle.jt_inherit.proofs.Vocabulary.{Namespace, a_chain, a_library, namespace_name, listed, Template, templates}
-use Rattle.jt_inherit.proofs.Vocabulary.{libraries, libraries_in, sources_in, SourceTexts, IsRead, AreNext, IsMet}
-use Rattle.jt_inherit.proofs.Vocabulary.{IsFollowed, AreFollowed, AreFound, chosen, included, includes_in, Need}
-use Rattle.jt_inherit.proofs.Vocabulary.{include_need, library_need, needed, namespace_at, Asks, Reaches, here, asked}
-use Rattle.jt_inherit.proofs.Vocabulary.{extends_path, AreKnown, IsExtendsPath, by_templates, needed-append}
-use Rattle.jt_inherit.proofs.Vocabulary.{along_templates, next_of, graph_of, file_view, files_view, TemplateFile}
-use Rattle.jt_inherit.proofs.Vocabulary.{of_texts, same, of_namespaces, among_behind, among_front, only_among}
-use Rattle.jt_inherit.proofs.Vocabulary.{indexed_among, filter_agree, or_from}
-use Rattle.jt_inherit.proofs.ImportCollection.{all_imports, imports_needed, imports_chosen, all_includes}
-use Rattle.jt_inherit.proofs.ImportCollection.{includes_chosen, none_imported}
-use Rattle.jt_inherit.proofs.FollowStep.{at_front, met_grows, numbers_grow, chosen-append}
-use Rattle.jt_inherit.proofs.SourcesGrow.{reach_more, ask_more, reaches_next}
-use Rattle.jt_inherit.proofs.PathsGrow.{names, names_to_root, templates_grow, way_grows, few_templates, last_at}
-use Rattle.jt_inherit.proofs.PathsGrow.{templates_to_root}
+-- One step of the search, and what stays true of followed chains and libraries when more is found.
+use Rattle.std.proofs.Common.{◌≡◌, Bool, true, false, List, [], ◌∷◌, ◌++◌, map, refl, ap, arith, rules, ℕ, zero, suc}
+use Rattle.std.proofs.Common.{◌+◌, ◌<◌, ◌≤◌, not, cond, ◌||◌, length, take, drop, get_or, sym, subst, ◌∙◌, inl, inr}
+use Rattle.std.proofs.Common.{◌⊎◌, ⊎_elim, Some, length-append, Option, None, Vec, Global}
+use Rattle.jt_chains.specs.Chain.{imports_in, all_given_from}
+use Rattle.jt_chains.specs.Includes.{includes_by, includes_under}
+use Rattle.jt_inherit.proofs.Vocabulary.{flat_map, filter, AllByRecursion, map-append, Text, Body, Branches, among}
+use Rattle.jt_inherit.proofs.Vocabulary.{Sources, Namespace, a_chain, a_library, Template, holds_macros, libraries_in}
+use Rattle.jt_inherit.proofs.Vocabulary.{macros, MacroBody, own, lacks_macros, chosen, names_from, imported_names}
+use Rattle.jt_inherit.proofs.Vocabulary.{includes_in, Need, include_need, library_need, needed, and_parts, HasRead}
+use Rattle.jt_inherit.proofs.Vocabulary.{names, KeyedNeed, keyed_needs, keyed_view, Options, needed-append, slice_get}
+use Rattle.jt_inherit.proofs.Vocabulary.{bytes_eq, append-nil, append_assoc, drop_more, repeated, SourceTexts, listed}
+use Rattle.jt_inherit.proofs.Vocabulary.{AreNext, TooMany, IsNextFault, IsMet, chains_of, twice, need_namespace}
+use Rattle.jt_inherit.proofs.Vocabulary.{ChainError, of_texts, reflexive, chain_among, of_namespaces, among_behind}
+use Rattle.jt_inherit.proofs.Vocabulary.{among_cases, among_front, among_next, once_more, only_among, or_from, or_parts}
+use Rattle.jt_inherit.proofs.Vocabulary.{take-append-drop, take_more, HasPath, FollowedPath, HasNeeds, cases_lt}
+use Rattle.jt_inherit.proofs.Vocabulary.{slice_get_within, unwrap_or, is_some, option_to_list, length-map, AreIndices}
+use Rattle.jt_inherit.proofs.Vocabulary.{templates_at, imports_along, needs_along, namespace_name, templates, libraries}
+use Rattle.jt_inherit.proofs.Vocabulary.{sources_in, IsRead, IsFollowed, AreFollowed, AreFound, included, namespace_at}
+use Rattle.jt_inherit.proofs.Vocabulary.{Reaches, here, asked, extends_path, IsExtendsPath, by_templates}
+use Rattle.jt_inherit.proofs.Vocabulary.{along_templates, next_of, graph_of, same, indexed_among, filter_agree}
+use Rattle.jt_inherit.specs.internal.Found.{AddsNext, known_of, IsLedTo}
+use Rattle.jt_inherit.proofs.PathsGrow.{last_at, read_on, indices_grow, names_to_root, templates_grow, way_grows}
+use Rattle.jt_inherit.proofs.PathsGrow.{few_templates, templates_to_root, reach_more, ask_more, reaches_next}
+use Rattle.jt_ast.specs.Statements as trees
+use Rattle.jt_inherit.specs.declared.error.ChainError.TheVariants as error
+
+-- ---- the imports of a template
+
+pub all_imports : (ts : List Template) → flat_map (λ t. map library_need (libraries_in t.body)) ts
+    ≡ map library_need (flat_map (λ t. libraries_in t.body) ts)
+all_imports [] = refl
+all_imports (t ∷ ts) = search (arith, rules, library_need, libraries_in, all_imports ts, map-append, flat_map)
+
+-- Each import needs its library.
+pub imports_needed : (all : Bool) (ns : List Text) → needed all (map library_need ns) ≡ ns
+imports_needed all [] = refl
+imports_needed true (n ∷ ns) = ap (λ l. n ∷ l) (imports_needed true ns)
+imports_needed false (n ∷ ns) = ap (λ l. n ∷ l) (imports_needed false ns)
+
+pub imports_chosen : (ks ns : List Text) → chosen ks (map library_need ns) ≡ map a_library (filter (λ n. among n ks) ns)
+imports_chosen ks [] = refl
+imports_chosen ks (n ∷ ns) = search (arith, rules, imports_chosen ks ns)
+
+-- ---- includes lead to chains, not to libraries
+
+abbrev pub AreIncludes : List Need → Type 0
+AreIncludes = AllByRecursion (λ n. n.library ≡ false)
+
+both : (ns ms : List Need) → AreIncludes ns → AreIncludes ms → AreIncludes (ns ++ ms)
+both [] ms a b = b
+both (n ∷ ns) ms a b = (a.0, both ns ms a.1 b)
+
+mutual
+  by_statement : (s : trees.Stmt) → AreIncludes (includes_by include_need s)
+  by_statement (trees.choose bs other) =
+      both _ _ (by_branches bs) (by_body other)
+  by_statement (trees.for_each line xs e c body other) =
+      both _ _ (by_body body) (by_body other)
+  by_statement (trees.set_block line x body) = by_body body
+  by_statement (trees.with_values line ps body) = by_body body
+  by_statement (trees.filter_block line fs body) = by_body body
+  by_statement (trees.autoescape line on body) = by_body body
+  by_statement (trees.macro line x ps body) = by_body body
+  by_statement (trees.block line x scoped required body) = by_body body
+  by_statement a0 = search (arith, rules)
+
+  by_body : (b : Body) → AreIncludes (includes_in include_need b)
+  by_body trees.end = tt
+  by_body (trees.stmt s rest) =
+      both _ _ (by_statement s) (by_body rest)
+
+  by_branches : (bs : Branches) → AreIncludes (includes_under include_need bs)
+  by_branches trees.no_branches = tt
+  by_branches (trees.branch line c body rest) =
+      both _ _ (by_body body) (by_branches rest)
+
+pub all_includes : (ts : List Template) → AreIncludes (flat_map (λ t. includes_in include_need t.body) ts)
+all_includes [] = tt
+all_includes (t ∷ ts) = search (arith, rules, both, includes_in, include_need, flat_map, by_body, all_includes ts)
+
+pub includes_chosen : (ks : List Text) (ns : List Need) → AreIncludes ns
+    → chosen ks ns ≡ map a_chain (filter (λ n. among n ks) (needed true ns))
+includes_chosen ks [] a = refl
+includes_chosen ks (n ∷ ns) a = search (arith, rules, includes_chosen ks ns a.1)
+
+-- ---- libraries import nothing
+
+pub none_imported : (b : Body) → holds_macros b ≡ true → libraries_in b ≡ []
+none_imported (trees.stmt (trees.data_of t) rest) h =
+    none_imported rest (and_parts _ _ h).1
+none_imported (trees.stmt (trees.macro line x ps body) rest) h = none_imported rest h
+none_imported a0 h = search (arith, rules)
+
+pub none_given : (s : Sources) (b : Body) → holds_macros b ≡ true → imported_names s b ≡ []
+none_given s (trees.stmt (trees.data_of t) rest) h =
+    none_given s rest (and_parts _ _ h).1
+none_given s (trees.stmt (trees.macro line x ps body) rest) h = none_given s rest h
+none_given s a1 h = search (arith, rules)
+
+pub none_lacking : (s : Sources) (b : Body) → holds_macros b ≡ true → lacks_macros s b ≡ false
+none_lacking s (trees.stmt (trees.data_of t) rest) h =
+    none_lacking s rest (and_parts _ _ h).1
+none_lacking s (trees.stmt (trees.macro line x ps body) rest) h = none_lacking s rest h
+none_lacking s a1 h = search (arith, rules)
+
+-- ---- the names that imports bind
+
+from_named : (n : Text) (ms : List MacroBody) (xs : List (Text × Text)) (s : Sources) → macros s (a_library n) ≡ ms
+    → map (λ g. g.0) (all_given_from s n xs) ≡ names_from ms xs
+from_named n ms [] s e = refl
+from_named n ms (x ∷ xs) s e = search (arith, rules, map-append, from_named n ms xs s e)
+
+pub imports_named : (s : Sources) (b : Body) → map (λ g. g.0) (imports_in s b) ≡ imported_names s b
+imports_named s trees.end = refl
+imports_named s (trees.stmt (trees.import_as line n x) rest) = ap (λ l. x ∷ l) (imports_named s rest)
+imports_named s (trees.stmt (trees.import_from line n xs) rest) =
+    search (arith, rules, map-append, from_named, imports_named s rest)
+imports_named s (trees.stmt t rest) = imports_named s rest
+
+pub all_imported : (s : Sources) (ts : List Template)
+    → map (λ g. g.0) (flat_map (λ t. imports_in s t.body) ts) ≡ flat_map (λ t. imported_names s t.body) ts
+all_imported s [] = refl
+all_imported s (t ∷ ts) = search (arith, rules, map-append, imports_named, all_imported s ts)
+
+pub own_named : (h : Namespace) (ms : List MacroBody) → map (λ g. g.0) (own h ms) ≡ map (λ m. m.name) ms
+own_named h [] = refl
+own_named h (m ∷ ms) = ap (λ l. m.name ∷ l) (own_named h ms)
+
+-- ---- known includes and imports
+
+pub known-append : (ks : List Text) (ns ms : List Need) → known_of ks (ns ++ ms) ≡ known_of ks ns ++ known_of ks ms
+known-append ks [] ms = refl
+known-append ks (n ∷ ns) ms = search (arith, rules, known-append ks ns ms)
+
+pub one_known : (ks : List Text) (n : Need) → among n.name ks ≡ true → chosen ks (n ∷ []) ≡ need_namespace n ∷ []
+one_known ks n e = ap (λ b. map need_namespace (cond b (n ∷ []) [])) e
+
+-- ---- numbers of namespaces
+
+-- A namespace that has a number.
+pub next_there : (hs : List Namespace) (x : Namespace) (i : ℕ) → twice hs ≡ false → length (chains_of hs) ≤ 1024
+    → slice_get hs i ≡ Some x → AreNext hs hs (x ∷ []) (i ∷ [])
+next_there hs x i once few at = search (arith, rules, append-nil)
+
+-- A namespace that is new.
+pub next_new : (old new : List Namespace) (x : Namespace) (i : ℕ) → new ≡ old ++ x ∷ [] → twice old ≡ false
+    → listed x old ≡ false → length (chains_of new) ≤ 1024 → i ≡ length old → AreNext old new (x ∷ []) (i ∷ [])
+next_new old new x i is once h few at =
+    search (arith, rules, once_more of_namespaces, among_cases of_namespaces, last_at)
+
+pub at_front : (xs ys : List Namespace) (i : ℕ) (x : Namespace) → slice_get xs i ≡ Some x
+    → slice_get (xs ++ ys) i ≡ Some x
+at_front [] ys i x e = absurd (cc)
+at_front (y ∷ xs) ys zero x e = e
+at_front (y ∷ xs) ys (suc i) x e = at_front xs ys i x e
+
+pub numbers_grow : (xs ys : List Namespace) (is : List ℕ) (ns : List Namespace) → map (slice_get xs) is ≡ map Some ns
+    → map (slice_get (xs ++ ys)) is ≡ map Some ns
+numbers_grow xs ys [] [] e = refl
+numbers_grow xs ys [] (n ∷ ns) e = absurd (cc)
+numbers_grow xs ys (i ∷ is) [] e = absurd (cc)
+numbers_grow xs ys (i ∷ is) (n ∷ ns) e = search (arith, rules, at_front, numbers_grow xs ys is ns)
+
+pub next_both : (a b c xs ys : List Namespace) (is js : List ℕ) → AreNext a b xs is → AreNext b c ys js
+    → AreNext a c (xs ++ ys) (is ++ js)
+next_both a b c xs ys is js p q =
+    search (arith, rules, append_assoc, among_front of_namespaces, among_behind of_namespaces, map-append, numbers_grow)
+
+-- Too many chains at a later name are too many at all names.
+pub many_later : (a b xs ys zs : List Namespace) (is : List ℕ) (n : Text) → AreNext a b xs is → TooMany b ys n
+    → TooMany a (xs ++ (ys ++ zs)) n
+many_later a b xs ys zs is n p f =
+    let later = λ (h : Namespace) (q : listed h ys ≡ true). among_behind of_namespaces h xs _
+    (among_front of_namespaces h ys zs q) in
+    record {
+      chains = f.chains;
+      many = f.many;
+      once = f.once;
+      from = λ m k. ⊎_elim
+          (λ q. ⊎_elim (λ r. inl r) (λ r. inr (among_front of_namespaces _ xs _ r))
+          (p.from (a_chain m) q))
+          (λ q. inr (later (a_chain m) q))
+          (f.from m k);
+      this_one = f.this_one;
+      led = later (a_chain n) f.led;
+    }
+
+pub too_many : (old : List Namespace) (n : Text) → twice old ≡ false → length (chains_of old) ≡ 1024
+    → listed (a_chain n) old ≡ false → TooMany old (a_chain n ∷ []) n
+too_many old n once len new = record {
+  chains = chains_of old ++ n ∷ [];
+  many = omega (arith, length-append (chains_of old) (n ∷ []), len);
+  once = once_more of_texts n (chains_of old) (chains_once old once) (sym (chain_among n old) ∙ new);
+  from = λ m a. ⊎_elim (λ p. inl (chain_among m old ∙ p))
+      (λ q. inr (ap (λ b. b || false) (ap (λ z. bytes_eq z m) (only_among of_texts _ _ q) ∙ reflexive m)))
+      (among_cases of_texts m _ _ a);
+  this_one = among_next of_texts n (chains_of old) [];
+  led = ap (λ b. b || false) (reflexive n);
+}
+  where
+    chains_once : (hs : List Namespace) → twice hs ≡ false → repeated (chains_of hs) ≡ false
+    chains_once [] o = refl
+    chains_once (a_chain m ∷ hs) o =
+        let k = or_parts _ _ o in
+        or_from (among m (chains_of hs)) (repeated (chains_of hs)) (sym (chain_among m hs) ∙ k.0)
+        (chains_once hs k.1)
+    chains_once (a_library m ∷ hs) o = chains_once hs (or_parts _ _ o).1
+
+pub put_fault : (old : List Namespace) (x : Namespace) (n : Text) (e : ChainError) → twice old ≡ false
+    → listed x old ≡ false
+    → (e ≡ error.NoMemory) ⊎ ((e ≡ error.ChainTooLong) × (length (chains_of old) ≡ 1024) × (x ≡ a_chain n))
+    → IsNextFault old (x ∷ []) n e
+put_fault old x n e once new f = search (arith, rules, too_many)
+
+-- ---- includes and imports, in order
+
+pub chosen-append : (ks : List Text) (ns ms : List Need) → chosen ks (ns ++ ms) ≡ chosen ks ns ++ chosen ks ms
+chosen-append ks ns ms =
+    ap (map need_namespace) (known-append ks ns ms) ∙ map-append need_namespace (known_of ks ns) (known_of ks ms)
+
+views-append : (ns ms : List KeyedNeed) → keyed_needs (ns ++ ms) ≡ keyed_needs ns ++ keyed_needs ms
+views-append ns ms = map-append keyed_view ns ms
+
+pub chosen_turn : (ks : List Text) (ns : List KeyedNeed) (k : ℕ) (d : KeyedNeed) → k < length ns
+    → chosen ks (keyed_needs (take (k + 1) ns))
+    ≡ chosen ks (keyed_needs (take k ns)) ++ chosen ks (keyed_view (get_or ns k d) ∷ [])
+chosen_turn ks ns k d lt =
+    ap (λ (l : List KeyedNeed). chosen ks (keyed_needs l)) (take_more ns k d lt)
+    ∙ ap (chosen ks) (views-append _ _)
+    ∙ chosen-append ks _ _
+
+pub chosen_all : (ks : List Text) (ns : List KeyedNeed) (k : ℕ) (d : KeyedNeed) → k < length ns
+    → chosen ks (keyed_needs ns) ≡ chosen ks (keyed_needs (take k ns))
+    ++ (chosen ks (keyed_view (get_or ns k d) ∷ []) ++ chosen ks (keyed_needs (drop (k + 1) ns)))
+chosen_all ks ns k d lt =
+    let n = get_or ns k d in
+    ap (λ (l : List KeyedNeed). chosen ks (keyed_needs l)) (sym (take-append-drop k ns))
+    ∙ ap (chosen ks) (views-append _ _)
+    ∙ chosen-append ks _ _
+    ∙ ap (λ l. chosen ks (keyed_needs (take k ns)) ++ l)
+    (ap (λ (l : List KeyedNeed). chosen ks (keyed_needs l)) (drop_more ns k d lt)
+    ∙ chosen-append ks (keyed_view n ∷ []) (keyed_needs (drop (k + 1) ns)))
+
+-- ---- templates that are met
+
+pub met_grows : (given : SourceTexts) (ks ms : List Text) (ns : List Need) → AllByRecursion (IsMet given ks) ns
+    → AllByRecursion (IsMet given (ks ++ ms)) ns
+met_grows given ks ms [] a = tt
+met_grows given ks ms (n ∷ ns) a =
+    (⊎_elim (λ p. inl (among_front of_texts _ ks ms p)) (λ q. inr q) a.0, met_grows given ks ms ns a.1)
+
+-- A template that is met stays so when more is read.
+pub met_read : {given : SourceTexts} {options : Options} {ts us : List Template} {xs : List Text}
+    → HasRead given options ts us xs → (ns : List Need) → AllByRecursion (IsMet given (names ts)) ns
+    → AllByRecursion (IsMet given (names us)) ns
+met_read {given} {ts = ts} r ns a =
+    subst (λ l. AllByRecursion (IsMet given l) ns)
+    (sym (ap names r.grown ∙ map-append (λ (t : Template). t.name) ts r.more))
+    (met_grows given _ _ ns a)
+
+-- One include or import more.
+pub needed_turn : (ns : List KeyedNeed) (k : ℕ) (d : KeyedNeed) → k < length ns
+    → needed true (keyed_needs (take (k + 1) ns))
+    ≡ needed true (keyed_needs (take k ns)) ++ (keyed_view (get_or ns k d)).name ∷ []
+needed_turn ns k d lt =
+    ap (λ (l : List KeyedNeed). needed true (keyed_needs l)) (take_more ns k d lt)
+    ∙ ap (needed true) (views-append _ _)
+    ∙ needed-append true (keyed_needs (take k ns)) (keyed_view (get_or ns k d) ∷ [])
+
+pub met_turn : (P : Need → Type 0) (ns : List KeyedNeed) (k : ℕ) (d : KeyedNeed) → k < length ns
+    → AllByRecursion P (keyed_needs (take k ns)) → P (keyed_view (get_or ns k d))
+    → AllByRecursion P (keyed_needs (take (k + 1) ns))
+met_turn P ns k d lt a p =
+    subst (λ (l : List KeyedNeed). AllByRecursion P (keyed_needs l)) (sym (take_more ns k d lt))
+    (more (take k ns) a)
+  where
+    more : (ms : List KeyedNeed) → AllByRecursion P (keyed_needs ms)
+        → AllByRecursion P (keyed_needs (ms ++ get_or ns k d ∷ []))
+    more [] b = (p, tt)
+    more (m ∷ ms) b = (b.0, more ms b.1)
+
+pub next_turn : (old mid new : List Namespace) (ks : List Text) (ns : List KeyedNeed) (k : ℕ) (d : KeyedNeed)
+    (is js : List ℕ)
+    → k < length ns → AreNext old mid (chosen ks (keyed_needs (take k ns))) is
+    → AddsNext mid new (chosen ks (keyed_view (get_or ns k d) ∷ [])) is js
+    → AreNext old new (chosen ks (keyed_needs (take (k + 1) ns))) js
+next_turn old mid new ks ns k d is js lt p q =
+    subst (AreNext old new (chosen ks (keyed_needs (take (k + 1) ns)))) (sym q.1)
+    (subst (λ l. AreNext old new l (is ++ q.0)) (sym (chosen_turn ks ns k d lt))
+    (next_both old mid new _ _ is q.0 p
+    q.2))
+
+pub many_turn : (old mid : List Namespace) (ks : List Text) (ns : List KeyedNeed) (k : ℕ) (d : KeyedNeed)
+    (is : List ℕ) (n : Text)
+    → k < length ns → AreNext old mid (chosen ks (keyed_needs (take k ns))) is
+    → TooMany mid (chosen ks (keyed_view (get_or ns k d) ∷ [])) n → TooMany old (chosen ks (keyed_needs ns)) n
+many_turn old mid ks ns k d is n lt p f =
+    subst (λ l. TooMany old l n) (sym (chosen_all ks ns k d lt))
+    (many_later old mid _ _
+    _ is n p f)
+
+-- ---- an error of an included template
+
+pub asked_at : (all : Bool) (ns : List KeyedNeed) (k : ℕ) (d : KeyedNeed) → k < length ns
+    → (all || not (get_or ns k d).ignoring) ≡ true → among (keyed_view (get_or ns k d)).name (needed all
+    (keyed_needs ns)) ≡ true
+asked_at all [] k d lt e = absurd (omega arith)
+asked_at all (n ∷ ns) zero d lt e = search (arith, rules, among, needed, keyed_needs, reflexive)
+asked_at all (n ∷ ns) (suc k) d lt e =
+    search (arith, rules, among_behind, of_texts, get_or, needed, keyed_needs, asked_at all ns k d)
 
 -- ---- templates at indices
 
@@ -57,19 +346,19 @@ pub some_source : (ts : List Template) (m : Text) → is_some (sources_in ts m) 
 some_source [] m = refl
 some_source (t ∷ ts) m = search (arith, rules, some_source ts m, names)
 
-pub whole_path : (ts : List Template) (h : Namespace) (is : List ℕ) → IsExtendsPath ts h is None
+pub whole_path : {ts : List Template} {h : Namespace} {is : List ℕ} → IsExtendsPath ts h is None
     → templates (sources_in ts) h ≡ templates_at ts is
-whole_path ts a1 is w = search (arith, rules, templates_to_root, few_templates)
+whole_path {ts} {h} {is} w = search (arith, rules, templates_to_root, few_templates)
 
 -- The libraries that a namespace imports, by its path.
-pub libraries_way : (ts : List Template) (h : Namespace) (is : List ℕ) → IsExtendsPath ts h is None
+pub libraries_way : {ts : List Template} {h : Namespace} {is : List ℕ} → IsExtendsPath ts h is None
     → libraries (sources_in ts) h ≡ flat_map (λ t. libraries_in t.body) (templates_at ts is)
-libraries_way ts a1 is w = search (arith, rules, whole_path, append-nil, none_imported)
+libraries_way {ts} {h} {is} w = search (arith, rules, whole_path, append-nil, none_imported)
 
 -- The namespaces that a namespace leads to, by its path.
-pub included_is : (ts : List Template) (h : Namespace) (is : List ℕ) → IsExtendsPath ts h is None
+pub included_is : {ts : List Template} {h : Namespace} {is : List ℕ} → IsExtendsPath ts h is None
     → included (sources_in ts) h ≡ chosen (names ts) (needs_along ts is)
-included_is ts h is w =
+included_is {ts} {h} {is} w =
     search (
       arith,
       rules,
@@ -87,7 +376,7 @@ included_is ts h is w =
     )
 
 -- The path of a chain or a library, and the names that it requests.
-module _ (ts : List Template) (e : Bool) (h : Namespace) (is : List ℕ) (w : IsExtendsPath ts h is None) where
+module _ {ts : List Template} (e : Bool) {h : Namespace} {is : List ℕ} (w : IsExtendsPath ts h is None) where
   pub few_way : length (templates_at ts is) ≤ 64
   few_way = omega (arith, few_templates ts is, w.few)
 
@@ -95,7 +384,7 @@ module _ (ts : List Template) (e : Bool) (h : Namespace) (is : List ℕ) (w : Is
   way_names = by h w
     where
       by : (k : Namespace) → IsExtendsPath ts k is None → extends_path (sources_in ts) e k ≡ names (templates_at ts is)
-      by (a_chain n) v = names_to_root (sources_in ts) 65 (Some n) (templates_at ts is) (omega (arith, few_way)) v.leads
+      by (a_chain n) v = names_to_root _ 65 _ _ (omega (arith, few_way)) v.leads
       by (a_library n) v = ap (λ m. m ∷ []) (sym v.leads.named) ∙ sym (ap names v.leads.only)
 
   pub asked_way : (all : Bool)
@@ -114,18 +403,12 @@ module _ (ts : List Template) (e : Bool) (h : Namespace) (is : List ℕ) (w : Is
         includes_told,
       )
 
-  -- Each template on the path, and each included or imported one, is requested.
-  pub asks_way : (n : Text) → among n (names (templates_at ts is)) ≡ true
-      → among n (asked (sources_in ts) e true h) ≡ true
-  asks_way n a =
-      ap (among n) (asked_way true)
-      ∙ among_front of_texts n (names (templates_at ts is)) (needed true (needs_along ts is)) a
-
+  -- Each included or imported template is requested.
   pub asks_needed : (all : Bool) (n : Text) → among n (needed all (needs_along ts is)) ≡ true
       → among n (asked (sources_in ts) e all h) ≡ true
   asks_needed all n a =
       ap (among n) (asked_way all)
-      ∙ among_behind of_texts n (names (templates_at ts is)) (needed all (needs_along ts is)) a
+      ∙ among_behind of_texts n _ _ a
 
 pub none_read : (given : SourceTexts) (options : Options) (ts : List Template) (n : Text)
     → AllByRecursion (IsRead given options) ts → given n ≡ None → among n (names ts) ≡ false
@@ -156,23 +439,23 @@ module _ (given : SourceTexts) (options : Options) (ts us : List Template) (hs m
   same_chosen {h} {w} {n} f =
       ap (λ ks. chosen ks (needs_along (ts ++ us) w)) more_names
       ∙ ap (chosen (names ts ++ names us))
-      (includes_grow ts us w f.led.indices (way_grows ts us h w None f.led).indices)
-      ∙ chosen_same given (names ts) (names us)
-      (λ x e. sym (ap (among x) more_names) ∙ none_read given options (ts ++ us) x read e) (needs_along ts w) f.met
+      (includes_grow ts us w f.led.indices (way_grows _ us _ _ _ f.led).indices)
+      ∙ chosen_same given _ _
+      (λ x e. sym (ap (among x) more_names) ∙ none_read given options _ x read e) _ f.met
 
   followed_grows : (h : Namespace) (w n : List ℕ) → IsFollowed given ts hs h w n
       → IsFollowed given (ts ++ us) (hs ++ ms) h w n
   followed_grows h w n f =
-      let grown = way_grows ts us h w None f.led in
+      let grown = way_grows _ us _ _ _ f.led in
       let needs = includes_grow ts us w f.led.indices grown.indices in
       record {
         led = grown;
         met = subst (λ l. AllByRecursion (IsMet given (names (ts ++ us))) l) (sym needs)
             (subst (λ ks. AllByRecursion (IsMet given ks) (needs_along ts w)) (sym more_names)
-            (met_grows given (names ts) (names us) (needs_along ts w) f.met));
+            (met_grows given _ _ _ f.met));
         numbered =
             subst (λ l. map (slice_get (hs ++ ms)) n ≡ map Some l) (sym (same_chosen f))
-            (numbers_grow hs ms n (chosen (names ts) (needs_along ts w)) f.numbered);
+            (numbers_grow hs ms n _ f.numbered);
       }
 
 next_front : (ws : List (List ℕ)) (w : List ℕ) (i : ℕ) → i < length ws → next_of (ws ++ w ∷ []) i ≡ next_of ws i
@@ -210,129 +493,118 @@ followed_more given options ts us hs ms read {ws} {ns} f {h} at w n g = record {
       (λ (l : length ws ≤ i).
       let e : i ≡ length ws = omega (arith, lt, length-append ws (w ∷ [])) in
       let there : namespace_at (hs ++ ms) i ≡ h = ap (namespace_at (hs ++ ms)) e
-      ∙ ap (λ o. unwrap_or o (a_chain [])) (at_front hs ms (length ws) h at) in
+      ∙ ap (λ o. unwrap_or o (a_chain [])) (at_front hs ms _ h at) in
       rw (there, next_last ws w i e, next_last ns n i (omega (arith, e, f.lens))) g)
       (cases_lt i (length ws));
 }
 
 -- One more namespace is followed.
-module _ {given : SourceTexts} {options : Options} {root : Text} {ts0 : List Template} {ks0 : List Text}
-    {hs : List Namespace} {ws ns : List (List ℕ)} (f : AreFound given options root ts0 ks0 hs ws ns) {h : Namespace}
-    (at : slice_get hs (length ws) ≡ Some h)
-    {ts1 : List Template} (more : (m1 : List Template) × (ts1 ≡ ts0 ++ m1)) {is : List ℕ}
-    (w : IsExtendsPath ts1 h is None) where
+module _ {given : SourceTexts} {options : Options} {root : Text} {ts0 : List Template} {hs : List Namespace}
+    {ws ns : List (List ℕ)} (f : AreFound given options root ts0 hs ws ns) {h : Namespace}
+    (at : slice_get hs (length ws) ≡ Some h) {ts1 : List Template} {is : List ℕ}
+    (p : HasPath given options ts0 ts1 h is) where
   pub reached_here : Reaches (sources_in ts1) options.autoescape (a_chain root) h
   reached_here =
-      reach_more ts0 ts1 more.0 options.autoescape (a_chain root) h more.1
-      (f.reached h (indexed_among of_namespaces hs (length ws) h at))
+      reach_more _ _ _ _ _ _ p.read.grown
+      (f.reached h (indexed_among of_namespaces _ (length ws) h at))
 
-  module _ {ts2 : List Template} (m2 : List Template) (e2 : ts2 ≡ ts1 ++ m2) {ks2 : List Text}
-      (known : AreKnown given options ts2 ks2) where
+  module _ {ts2 : List Template} {needs : List Need} (same_needs : needs ≡ needs_along ts1 is)
+      (r : HasRead given options ts1 ts2 (needed true needs)) where
     pub way_there : IsExtendsPath ts2 h is None
-    way_there = subst (λ vs. IsExtendsPath vs h is None) (sym e2) (way_grows ts1 m2 h is None w)
+    way_there = subst (λ vs. IsExtendsPath vs h is None) (sym r.grown) (way_grows _ r.more _ _ _ p.led)
 
-    needs_there : needs_along ts2 is ≡ needs_along ts1 is
+    pub needs_there : needs ≡ needs_along ts2 is
     needs_there = search (arith, rules, needs_along, includes_grow, way_there)
 
-    pub chosen_there : included (sources_in ts2) h ≡ chosen ks2 (needs_along ts2 is)
-    chosen_there = included_is ts2 h is way_there ∙ ap (λ ks. chosen ks (needs_along ts2 is)) (sym known.named)
+    pub chosen_there : included (sources_in ts2) h ≡ chosen (names ts2) needs
+    chosen_there = included_is way_there ∙ ap (chosen (names ts2)) (sym needs_there)
 
-    all_more : ts2 ≡ ts0 ++ (more.0 ++ m2)
-    all_more = e2 ∙ ap (λ l. l ++ m2) more.1 ∙ append_assoc ts0 more.0 m2
+    -- The templates of the path, and then the included and imported ones, are the requested ones.
+    all_read : HasRead given options ts0 ts2 (asked (sources_in ts2) options.autoescape true h)
+    all_read =
+        let told = asked_way options.autoescape way_there true in
+        let same_path = ap (λ vs. names (templates_at vs is)) r.grown
+        ∙ ap names (templates_grow ts1 r.more is p.led.indices) in
+        read_on p.read r
+        (λ n a. ap (among n) told ∙ among_front of_texts n _ _
+        (ap (among n) same_path ∙ a))
+        (λ n a. ap (among n) told
+        ∙ among_behind of_texts n _ _
+        (ap (λ l. among n (needed true l)) (sym needs_there) ∙ a))
 
     pub reached_there : Reaches (sources_in ts2) options.autoescape (a_chain root) h
-    reached_there = reach_more ts1 ts2 m2 options.autoescape (a_chain root) h e2 reached_here
+    reached_there = reach_more _ _ _ _ _ _ r.grown reached_here
 
-    pub reached_from : (x : Namespace) → (listed x hs ≡ true) ⊎ (listed x (chosen ks2 (needs_along ts2 is)) ≡ true)
+    pub reached_from : (x : Namespace) → (listed x hs ≡ true) ⊎ (listed x (chosen (names ts2) needs) ≡ true)
         → Reaches (sources_in ts2) options.autoescape (a_chain root) x
-    reached_from x c = search (arith, rules, reach_more, all_more, reaches_next, reached_there, chosen_there)
-
-    -- Each known name is requested.
-    asks_more : (ks1 : List Text)
-        → ((n : Text) → among n ks1 ≡ true → (among n ks0 ≡ true) ⊎ (among n (names (templates_at ts1 is)) ≡ true))
-        → ((n : Text) → among n ks2 ≡ true → (among n ks1 ≡ true) ⊎ (among n (needed true (needs_along ts1 is)) ≡ true))
-        → (n : Text) → among n ks2 ≡ true → Asks (sources_in ts2) options.autoescape (a_chain root) n
-    asks_more ks1 on_path needs n a = ⊎_elim
-        (λ p. ⊎_elim
-        (λ q. ask_more ts0 ts2 (more.0 ++ m2) options.autoescape (a_chain root) n all_more (f.asked n q))
-        (λ q. ask_more ts1 ts2 m2 options.autoescape (a_chain root) n e2
-        (h, reached_here, asks_way ts1 options.autoescape h is w n q))
-        (on_path n p))
-        (λ p. ask_more ts1 ts2 m2 options.autoescape (a_chain root) n e2
-        (h, reached_here, asks_needed ts1 options.autoescape h is w true n p))
-        (needs n a)
+    reached_from x c = search (arith, rules, reach_more, all_read, reaches_next, reached_there, chosen_there)
 
     -- Each new namespace is one that the followed one leads to.
-    led_more : {hs2 : List Namespace} {next : List ℕ} → AreNext hs hs2 (chosen ks2 (needs_along ts2 is)) next
+    led_more : {hs2 : List Namespace} {next : List ℕ} → AreNext hs hs2 (chosen (names ts2) needs) next
         → (x : Namespace) → listed x hs2 ≡ true → (x ≡ a_chain root) ⊎ IsLedTo ts2 (ws ++ is ∷ []) x
     led_more n x a =
         ⊎_elim (λ q. ⊎_elim (λ e. inl e) (λ l. inr (old l)) (f.led x q)) (λ q. inr (new q)) (n.from x a)
       where
         old : IsLedTo ts0 ws x → IsLedTo ts2 (ws ++ is ∷ []) x
         old l =
-            let read = subst (AllByRecursion (IsRead given options)) all_more known.read.each in
+            let read = subst (AllByRecursion (IsRead given options)) all_read.grown r.known.read.each in
             let i = l.0 in
             let lt : i < length ws = l.1 in
-            let theirs = same_chosen given options ts0 (more.0 ++ m2) hs [] read
-            (f.followed.each i lt) in (
+            let theirs = same_chosen given options ts0 all_read.more hs [] read (f.followed.each i lt) in (
               i,
               omega (arith, lt, length-append ws (is ∷ [])),
               subst (λ v. listed x (chosen (names ts2) (needs_along ts2 v)) ≡ true) (sym (next_front ws is i lt))
-                  (subst (λ vs. listed x (chosen (names vs) (needs_along vs (next_of ws i))) ≡ true) (sym all_more)
-                  (ap (listed x) theirs ∙ l.2)),
+                  (subst (λ vs. listed x (chosen (names vs) (needs_along vs (next_of ws i))) ≡ true)
+                  (sym all_read.grown) (ap (listed x) theirs ∙ l.2)),
             )
 
-        new : listed x (chosen ks2 (needs_along ts2 is)) ≡ true → IsLedTo ts2 (ws ++ is ∷ []) x
+        new : listed x (chosen (names ts2) needs) ≡ true → IsLedTo ts2 (ws ++ is ∷ []) x
         new q = (
           length ws,
           omega (arith, length-append ws (is ∷ [])),
           subst (λ v. listed x (chosen (names ts2) (needs_along ts2 v)) ≡ true)
               (sym (ap (λ o. unwrap_or o []) (last_at ws is)))
-              (subst (λ ks. listed x (chosen ks (needs_along ts2 is)) ≡ true) known.named q),
+              (subst (λ l. listed x (chosen (names ts2) l) ≡ true) needs_there q),
         )
 
-    pub found_more : (ks1 : List Text)
-        → ((n : Text) → among n ks1 ≡ true → (among n ks0 ≡ true) ⊎ (among n (names (templates_at ts1 is)) ≡ true))
-        → ((n : Text) → among n ks2 ≡ true → (among n ks1 ≡ true) ⊎ (among n (needed true (needs_along ts1 is)) ≡ true))
-        → AllByRecursion (IsMet given ks2) (needs_along ts1 is) → {hs2 : List Namespace} {next : List ℕ}
-        → AreNext hs hs2 (chosen ks2 (needs_along ts2 is)) next
-        → AreFound given options root ts2 ks2 hs2 (ws ++ is ∷ []) (ns ++ next ∷ [])
-    found_more ks1 on_path needs met {hs2} {next} n =
-        let read = subst (AllByRecursion (IsRead given options)) all_more known.read.each in
+    pub found_more : AllByRecursion (IsMet given (names ts2)) needs → {hs2 : List Namespace} {next : List ℕ}
+        → AreNext hs hs2 (chosen (names ts2) needs) next
+        → AreFound given options root ts2 hs2 (ws ++ is ∷ []) (ns ++ next ∷ [])
+    found_more met {hs2} {next} n =
+        let read = subst (AllByRecursion (IsRead given options)) all_read.grown r.known.read.each in
         let here_followed : IsFollowed given ts2 hs2 h is next = (record {
           led = way_there;
-          met =
-              subst (λ l. AllByRecursion (IsMet given (names ts2)) l) (sym needs_there)
-              (subst (λ ks. AllByRecursion (IsMet given ks) (needs_along ts1 is)) known.named met);
-          numbered =
-              subst (λ ks. map (slice_get hs2) next ≡ map Some (chosen ks (needs_along ts2 is))) known.named n.numbered;
+          met = subst (AllByRecursion (IsMet given (names ts2))) needs_there met;
+          numbered = subst (λ l. map (slice_get hs2) next ≡ map Some (chosen (names ts2) l)) needs_there n.numbered;
         }) in
         record {
-          known = known;
-          asked = asks_more ks1 on_path needs;
+          known = r.known;
+          asked = λ x a. ⊎_elim
+              (λ q. ask_more _ _ _ _ _ _ all_read.grown (f.asked x q))
+              (λ q. (h, reached_there, q)) (all_read.from x a);
           first =
               subst (λ l. slice_get l 0 ≡ Some (a_chain root)) (sym n.grown)
-              (at_front hs n.more 0 (a_chain root) f.first);
+              (at_front hs n.more 0 _ f.first);
           once = n.once;
           few = n.few;
           reached = λ x a. reached_from x (n.from x a);
           led = led_more n;
           followed =
-              rw (all_more, n.grown)
-              (followed_more given options ts0 (more.0 ++ m2) hs n.more read f.followed at is next
-              (rw (all_more, n.grown) at here_followed));
+              rw (all_read.grown, n.grown)
+              (followed_more given options ts0 _ hs n.more read f.followed at is next
+              (rw (all_read.grown, n.grown) at here_followed));
         }
 
-    pub first_same : {hs2 : List Namespace} {next : List ℕ} → AreNext hs hs2 (chosen ks2 (needs_along ts2 is)) next
+    pub first_same : {hs2 : List Namespace} {next : List ℕ} → AreNext hs hs2 (chosen (names ts2) needs) next
         → namespace_name (namespace_at hs2 0) ≡ root
     first_same n = search (arith, rules, namespace_name, unwrap_or, a_chain, slice_get, at_front)
 
 -- Only the entry's chain was found.
-pub found_first : (given : SourceTexts) (options : Options) (entry root : Text) (ts : List Template) (ks : List Text)
+pub found_first : (given : SourceTexts) (options : Options) (entry root : Text) (ts : List Template)
     (hs : List Namespace) (ws ns : List (List ℕ))
-    → hs ≡ a_chain entry ∷ [] → root ≡ entry → ts ≡ [] → ks ≡ [] → ws ≡ [] → ns ≡ []
-    → AreFound given options root ts ks hs ws ns
-found_first given options entry root ts ks hs ws ns eh er et ek ew en =
+    → hs ≡ a_chain entry ∷ [] → root ≡ entry → ts ≡ [] → ws ≡ [] → ns ≡ []
+    → AreFound given options root ts hs ws ns
+found_first given options entry root ts hs ws ns eh er et ew en =
     search (arith, rules, a_chain, asked, sources_in, only_among, of_namespaces, here, none_followed)
 
 -- The next namespace to follow.
@@ -340,18 +612,14 @@ pub namespace_number : (hs : List Namespace) (ws : List (Vec ℕ Global)) (o : O
     → slice_get hs i ≡ o → slice_get hs (length (graph_of ws)) ≡ o
 namespace_number hs ws o i at e = ap (slice_get hs) (length-map ws (λ (v : Vec ℕ Global). v.items) ∙ sym at) ∙ e
 
--- Templates with more appended, all of them known.
-module _ {given : SourceTexts} {options : Options} {ks : List Text} (ps qs : List TemplateFile)
-    {rs ds : List TemplateFile} (same_files : ds ≡ ps) (more : rs ≡ ps ++ qs)
-    (known : AreKnown given options (files_view ds ++ files_view qs) ks) where
-  pub both_files : files_view rs ≡ files_view ps ++ files_view qs
-  both_files = ap files_view more ∙ map-append file_view ps qs
-
-  pub both_known : AreKnown given options (files_view rs) ks
-  both_known = search (arith, rules, files_view, both_files)
-
--- The includes and imports of the same templates at the same indices are equal.
-pub same_needs : (ps qs : List TemplateFile) (is js : List ℕ) → qs ≡ ps → js ≡ is
-    → needs_along (files_view qs) js ≡ needs_along (files_view ps) is
-same_needs ps qs is js e f =
-    ap (λ (z : List TemplateFile). needs_along (files_view z) js) e ∙ ap (needs_along (files_view ps)) f
+-- The includes and imports of a path stay what they are when more is read.
+pub has_needs : {given : SourceTexts} {options : Options} {ts us : List Template} {xs : List Text} {p : FollowedPath}
+    → HasNeeds ts p → HasRead given options ts us xs → HasNeeds us p
+has_needs {ts = ts} {us} {p = p} h r =
+    let is = p.extends_path.items in
+    let grown : AreIndices us is = subst (λ l. AreIndices l is) (sym r.grown) (indices_grow ts r.more is h.indices) in
+    record {
+      indices = grown;
+      told = h.told ∙ sym (ap (λ l. needs_along l is) r.grown
+          ∙ includes_grow ts r.more is h.indices (indices_grow ts r.more is h.indices));
+    }

@@ -1,12 +1,12 @@
 -- Membership of names in lists.
-use Rattle.std.proofs.Common.{◌≡◌, true, List, [], ◌∷◌, ◌++◌, refl, sym, ap, ◌∙◌, ◌⊎◌, ⊎_elim, inl, inr}
+use Rattle.std.proofs.Common.{◌≡◌, true, List, [], ◌∷◌, ◌++◌, refl, ◌∙◌, ◌⊎◌}
 use Rattle.std.proofs.lemmas.Cmp.{nat_list_eq_equiv}
 use Rattle.std.proofs.lemmas.Slice.Eq.{bytes_eq-Decides}
 use Rattle.std.specs.List.{AllByRecursion}
 use Rattle.std.specs.Str.{bytes_eq}
 use Rattle.jt_ast.specs.Texts.{among, repeated}
 use Rattle.jt_ast.specs.Expressions.{Text}
-use Rattle.jt_inherit.proofs.Membership.{Members, among_cases, only_among}
+use Rattle.jt_inherit.proofs.Membership.{Members}
 
 pub same : (x y : Text) → bytes_eq x y ≡ true → x ≡ y
 same x y = (bytes_eq-Decides x y).0
@@ -31,13 +31,6 @@ of_texts =
       again_none = refl;
       again_more = λ x xs. refl;
     }
-
--- A name in a list with one name appended is an old name or the appended one.
-pub among_last : (old new : List Text) (x y : Text) → new ≡ old ++ x ∷ [] → x ≡ y → (n : Text) → among n new ≡ true
-    → (among n old ≡ true) ⊎ (n ≡ y)
-among_last old new x y e is n a =
-    ⊎_elim (λ p. inl p) (λ q. inr (sym (only_among of_texts x n q) ∙ is))
-    (among_cases of_texts n old (x ∷ []) (sym (ap (among n) e) ∙ a))
 
 pub all_more : {X : Type 0} (P : X → Type 0) (xs : List X) (x : X) → AllByRecursion P xs → P x
     → AllByRecursion P (xs ++ x ∷ [])

@@ -1,17 +1,19 @@
--- Tables of numbers, and the sets of names and of namespaces over them: lookup, and the effect of an insertion.
+-- Tables of the numbers of templates and of namespaces: lookup, and the effect of an insertion.
 use Rattle.std.proofs.Common.{◌≡◌, ℕ, suc, ◌+◌, Bool, true, false, cond, if◌then◌else◌, List, [], ◌∷◌, ◌++◌, length}
-use Rattle.std.proofs.Common.{refl, sym, ap, ◌∙◌, arith, Some, None, rules, Option, String, Global, string_bytes}
-use Rattle.std.proofs.Common.{MatchOption, not, length-append}
+use Rattle.std.proofs.Common.{refl, sym, ap, ◌∙◌, arith, Some, None, rules, Option, string_bytes, MatchOption, not}
+use Rattle.std.proofs.Common.{length-append, ◌||◌}
+use Rattle.jt_chains.specs.Tables.{AreAt}
+use Rattle.jt_chains.specs.Indices.{index_of}
+use Rattle.jt_inherit.proofs.Vocabulary.{TemplateFile, files_view, names, is_named, unwrap_or, length-map, slice_get}
+use Rattle.jt_inherit.proofs.Vocabulary.{get_by_text, list_any, position_from, bytes_eq, Text, Table, AreNumbers, same}
+use Rattle.jt_inherit.proofs.Vocabulary.{slice_get-map, among, symmetric, append-nil, Namespace, a_chain, a_library}
+use Rattle.jt_inherit.proofs.Vocabulary.{same_namespace, listed, chains_of, key_view, keys_view, NamespaceKey}
 use Rattle.std.specs.Result.{is_ok, IsOk}
 use Rattle.std.specs.declared.result.Result.{Result}
-use Rattle.jt_inherit.proofs.Vocabulary.{slice_get, get_by_text, list_any, position_from, bytes_eq, Text, Table}
-use Rattle.jt_inherit.proofs.Vocabulary.{AreNumbers, same, slice_get-map, among, is_text, strings, symmetric}
-use Rattle.jt_inherit.proofs.Vocabulary.{append-nil, Namespace, a_chain, a_library, same_namespace, listed, chains_of}
-use Rattle.jt_inherit.proofs.Vocabulary.{key_view, keys_view, NamespaceKey}
 use Rattle.jt_inherit.specs.internal.Numbers.{is_kind}
 use Rattle.jt_inherit.specs.internal.SetView.{keyed}
-use Rattle.jt_inherit.proofs.NamespaceMembership as namespaces
 use Rattle.jt_inherit.proofs.NamespaceMembership.{chains_both}
+use Rattle.jt_inherit.proofs.NamespaceMembership as namespaces
 
 -- A push that succeeds appends the item.
 pub pushed : {A T E : Type 0} (r : Result T E) (now xs new : List A) (x : A)
@@ -65,22 +67,30 @@ module _ {A : Type 0} (is : Text → A → Bool) (xs : List A) where
       → AreNumbers is (xs ++ y ∷ []) m
   numbers_same m y k none z = k z ∙ sym (first_same (is z) 0 xs y (none z))
 
-any_string : (x : Text) (ks : List (String Global)) → list_any (is_text x) ks ≡ among x (strings ks)
-any_string x [] = refl
-any_string x (k ∷ ks) = search (arith, rules, list_any, is_text, symmetric, string_bytes, bytes_eq, any_string x ks)
+any_file : (x : Text) (ps : List TemplateFile) → list_any (is_named x) ps ≡ among x (names (files_view ps))
+any_file x [] = refl
+any_file x (p ∷ ps) = ap (λ b. bytes_eq (string_bytes p.name) x || b) (any_file x ps)
 
-pub name_found : (x : Text) (ks : List (String Global)) (m : Table) (r : Option ℕ) → AreNumbers is_text ks m
+pub file_found : (x : Text) (ps : List TemplateFile) (m : Table) (r : Option ℕ) → AreNumbers is_named ps m
     → r ≡ get_by_text m x
-    → MatchOption r (among x (strings ks) ≡ false) (λ i. slice_get (strings ks) i ≡ Some x)
-name_found x ks m a3 k e = search (arith, rules, any_string, first_none, first_found, slice_get-map, string_bytes, same)
+    → MatchOption r (among x (names (files_view ps)) ≡ false) (λ i. slice_get (names (files_view ps)) i ≡ Some x)
+file_found x ps m a3 k e = search (arith, rules, any_file, first_none, first_found, slice_get-map, string_bytes, same)
 
-pub name_put : (ks : List (String Global)) (k : String Global) (m n : Table) → AreNumbers is_text ks m
-    → among (string_bytes k) (strings ks) ≡ false
-    → ((x : Text) → get_by_text n x ≡ cond (bytes_eq (string_bytes k) x) (Some (length ks)) (get_by_text m x))
-    → AreNumbers is_text (ks ++ k ∷ []) n
-name_put ks k m n told new more =
-    numbers_more is_text ks m n (string_bytes k) k told (λ z. symmetric z (string_bytes k))
-    (any_string (string_bytes k) ks ∙ new) more
+pub file_put : (ps : List TemplateFile) (p : TemplateFile) (m n : Table) → AreNumbers is_named ps m
+    → among (string_bytes p.name) (names (files_view ps)) ≡ false
+    → ((x : Text) → get_by_text n x ≡ cond (bytes_eq (string_bytes p.name) x) (Some (length ps)) (get_by_text m x))
+    → AreNumbers is_named (ps ++ p ∷ []) n
+file_put ps p m n told new more =
+    numbers_more is_named ps m n (string_bytes p.name) p told (λ z. refl) (any_file _ ps ∙ new) more
+
+file_at : (x : Text) (i : ℕ) (ps : List TemplateFile)
+    → unwrap_or (position_from (is_named x) i ps) (i + length ps) ≡ i + index_of (files_view ps) x
+file_at x i [] = refl
+file_at x i (p ∷ ps) = search (arith, rules, file_at x (i + 1) ps)
+
+-- The table has the index of the first template of each name.
+pub files_at : (ps : List TemplateFile) (m : Table) → AreNumbers is_named ps m → AreAt (files_view ps) m
+files_at ps m told x = search (arith, rules, file_at x 0 ps, length-map)
 
 pub any_namespace : (h : Namespace) (ks : List NamespaceKey)
     → list_any (λ k. same_namespace h (key_view k)) ks ≡ listed h (keys_view ks)
@@ -119,14 +129,14 @@ pub namespace_put : (b : Bool) (ks : List NamespaceKey) (k : NamespaceKey) (m n 
 namespace_put b ks k m n told is new more =
     let same_key : keyed b (string_bytes k.name) ≡ key_view k = ap (λ d. keyed d (string_bytes k.name)) (sym is) in
     numbers_more (is_kind b) ks m n (string_bytes k.name) k told
-    (λ z. ap (same_namespace (keyed b z)) (sym same_key) ∙ kind_same b z (string_bytes k.name))
-    (any_namespace (keyed b (string_bytes k.name)) ks ∙ ap (λ h. listed h (keys_view ks)) same_key ∙ new) more
+    (λ z. ap (same_namespace (keyed b z)) (sym same_key) ∙ kind_same b z _)
+    (any_namespace _ ks ∙ ap (λ h. listed h (keys_view ks)) same_key ∙ new) more
 
 pub namespace_kept : (b : Bool) (ks : List NamespaceKey) (k : NamespaceKey) (m : Table) → AreNumbers (is_kind b) ks m
     → k.is_library ≡ not b → AreNumbers (is_kind b) (ks ++ k ∷ []) m
 namespace_kept b ks k m told is =
     numbers_same (is_kind b) ks m k told (λ z.
-    ap (λ d. same_namespace (keyed b z) (keyed d (string_bytes k.name))) is ∙ kind_apart b z (string_bytes k.name))
+    ap (λ d. same_namespace (keyed b z) (keyed d (string_bytes k.name))) is ∙ kind_apart b z _)
 
 -- The number of chains after the insertion of a library or a chain.
 pub library_more : (old new : List Namespace) (k : NamespaceKey) → new ≡ old ++ key_view k ∷ [] → k.is_library ≡ true

@@ -1,24 +1,29 @@
--- Paths that are extended, and the facts about them that stay true.
+-- Paths that are extended: their names, sources and weights, and what stays true of them when more is read.
 use Rattle.std.proofs.Common.{◌≡◌, ℕ, zero, suc, ◌+◌, ◌-◌, ◌<◌, ◌≤◌, ◌==◌, Bool, true, false, not, ◌&&◌, List, [], ◌∷◌}
-use Rattle.std.proofs.Common.{◌++◌, length, map, drop, get_or, refl, sym, ap, subst, ◌∙◌, arith, inl, inr, ◌⊎◌, ⊎_elim}
-use Rattle.std.proofs.Common.{Option, Some, None, length-append, string_bytes, rules}
+use Rattle.std.proofs.Common.{◌++◌, length, drop, get_or, refl, sym, ap, subst, ◌∙◌, arith, inl, inr, ◌⊎◌, ⊎_elim}
+use Rattle.std.proofs.Common.{Option, Some, None, length-append, string_bytes, rules, nat_lt, map, ◌||◌}
+use Rattle.jt_inherit.proofs.Vocabulary.{HasRead, among_behind, among_cases, names, flat_map, slice_get, bytes_eq}
+use Rattle.jt_inherit.proofs.Vocabulary.{option_to_list, slice_get_within, slice_get-get_or, AllByRecursion, append-nil}
+use Rattle.jt_inherit.proofs.Vocabulary.{append_assoc, drop_more, length-map, Options, among, repeated, Text, Body, end}
+use Rattle.jt_inherit.proofs.Vocabulary.{AreIndices, templates_at, Sources, Namespace, a_chain, a_library, Template}
+use Rattle.jt_inherit.proofs.Vocabulary.{template, templates, libraries, extends_of, parent_of, names_up, sources_in}
+use Rattle.jt_inherit.proofs.Vocabulary.{SourceTexts, IsRead, IsOnly, IsFaultOf, needs_in, file_view, files_view}
+use Rattle.jt_inherit.proofs.Vocabulary.{TemplateFile, Breaks, HasFault, Shows, Reaches, asked, extends_path, Leads}
+use Rattle.jt_inherit.proofs.Vocabulary.{AreKnown, IsExtendsPath, IsWithin, ChainError, only_one, map_at, IsNamedOn}
+use Rattle.jt_inherit.proofs.Vocabulary.{of_texts, same, among_front, among_next, once_more, map_push, list_any}
+use Rattle.jt_inherit.proofs.Vocabulary.{is_none, nat_tests, IsName, templates_weight, templates_len, or_from, or_right}
+use Rattle.jt_inherit.proofs.Vocabulary.{filter, is_some, listed, library_template, libraries_in, included, with_source}
+use Rattle.jt_inherit.proofs.Vocabulary.{Asks, here, through, BreaksAll, key_view, NamespaceKey, reflexive}
+use Rattle.jt_inherit.proofs.Vocabulary.{flat_map-append}
 use Rattle.jt_inherit.specs.internal.Faults.{HasFaulty}
-use Rattle.jt_inherit.specs.internal.ExtendsPaths.{LeadsFrom, AddsName}
-use Rattle.jt_inherit.specs.declared.error.ChainError.TheVariants as error
-use Rattle.jt_inherit.proofs.Vocabulary.{flat_map, slice_get, bytes_eq, option_to_list, slice_get_within}
-use Rattle.jt_inherit.proofs.Vocabulary.{slice_get-get_or, AllByRecursion, append-nil, append_assoc, drop_more}
-use Rattle.jt_inherit.proofs.Vocabulary.{length-map, Options, among, repeated, Text, Body, end, body_of, AreIndices}
-use Rattle.jt_inherit.proofs.Vocabulary.{templates_at, Sources, Namespace, a_chain, a_library, Template, template}
-use Rattle.jt_inherit.proofs.Vocabulary.{templates, libraries, extends_of, parent_of, names_up, sources_in, SourceTexts}
-use Rattle.jt_inherit.proofs.Vocabulary.{IsRead, IsOnly, IsFaultOf, needs_in, file_view, files_view, TemplateFile}
-use Rattle.jt_inherit.proofs.Vocabulary.{Breaks, HasFault, Shows, names_view, Names, Reaches, asked, extends_path}
-use Rattle.jt_inherit.proofs.Vocabulary.{Leads, AreKnown, IsExtendsPath, IsWithin, Grow, ChainError, only_one, map_at}
-use Rattle.jt_inherit.proofs.Vocabulary.{IsNamedOn, of_texts, same, among_front, among_next, once_more, map_push}
+use Rattle.jt_inherit.specs.internal.ExtendsPaths.{LeadsFrom}
 use Rattle.jt_inherit.proofs.NameMembership.{all_more}
 use Rattle.jt_inherit.proofs.Membership.{comes_again}
-
-abbrev pub names : List Template → List Text
-names = map (λ t. t.name)
+use Rattle.jt_ast.specs.Sizes.{body_bytes}
+use Rattle.jt_chains.specs.TemplateFiles.{names_at}
+use Rattle.jt_inherit.specs.Small.{source_len}
+use Rattle.jt_inherit.proofs.NumberTables.{is_chain}
+use Rattle.jt_inherit.specs.declared.error.ChainError.TheVariants as error
 
 -- ---- sources that grow
 
@@ -33,7 +38,7 @@ pub leads_grow : (s r : Sources) → Grows s r → (o : Option Text) (ts : List 
     → Leads r o ts p
 leads_grow s r g o [] p l = l
 leads_grow s r g None (t ∷ ts) p l = absurd l
-leads_grow s r g (Some n) (t ∷ ts) p l = (l.0, g n t.body l.1, leads_grow s r g (extends_of t.body) ts p l.2)
+leads_grow s r g (Some n) (t ∷ ts) p l = (l.0, g n t.body l.1, leads_grow s r g _ ts p l.2)
 
 -- A path with one template more.
 pub leads_more : (s : Sources) (o : Option Text) (ts : List Template) (t : Template) → Leads s o ts (Some t.name)
@@ -41,7 +46,7 @@ pub leads_more : (s : Sources) (o : Option Text) (ts : List Template) (t : Templ
 leads_more s None [] t l e = absurd (cc)
 leads_more s (Some n) [] t l e = search (arith, rules)
 leads_more s None (u ∷ ts) t l e = absurd l
-leads_more s (Some n) (u ∷ ts) t l e = (l.0, l.1, leads_more s (extends_of u.body) ts t l.2 e)
+leads_more s (Some n) (u ∷ ts) t l e = (l.0, l.1, leads_more s _ ts t l.2 e)
 
 -- ---- the names on a path
 
@@ -74,7 +79,7 @@ templates_lead s (Some n) (t ∷ ts) p l =
 pub templates_to_root : (s : Sources) (h : Text) (ts : List Template) → length ts ≤ 64 → Leads s (Some h) ts None
     → templates s (a_chain h) ≡ ts
 templates_to_root s h ts le l =
-    ap (flat_map (λ n. template n (s n))) (names_to_root s 64 (Some h) ts le l) ∙ templates_lead s (Some h) ts None l
+    ap (flat_map (λ n. template n (s n))) (names_to_root s 64 _ ts le l) ∙ templates_lead s (Some h) ts None l
 
 -- The next name is requested.
 pub next_asked : (s : Sources) (e all : Bool) (h : Text) (ts : List Template) (n : Text) → length ts ≤ 64
@@ -82,7 +87,7 @@ pub next_asked : (s : Sources) (e all : Bool) (h : Text) (ts : List Template) (n
 next_asked s e all h ts n le l =
     let k = 64 - length ts in
     let up : extends_path s e (a_chain h) ≡ names ts ++ names_up s (suc k) (Some n) =
-    names_lead s 65 (suc k) (Some h) ts (Some n) (omega arith) l in
+    names_lead s 65 (suc k) _ ts _ (omega arith) l in
     among_front of_texts n (extends_path s e (a_chain h))
     (flat_map (λ t. needs_in all t.body) (templates s (a_chain h)) ++ libraries s (a_chain h))
     (subst (λ xs. among n xs ≡ true) (sym up) (among_next of_texts n (names ts) (names_up s k (parent_of (s n)))))
@@ -159,13 +164,34 @@ all_at_indices P ts (i ∷ is) a = by (slice_get ts i) refl (all_at_indices P ts
     by None e r = subst (λ o. AllByRecursion P (option_to_list o ++ templates_at ts is)) (sym e) r
     by (Some t) e r = subst (λ o. AllByRecursion P (option_to_list o ++ templates_at ts is)) (sym e) (at ts i t e a, r)
 
--- ---- known templates when one more is read
+-- ---- templates that are read
 
-pub known_more : (given : SourceTexts) (options : Options) (ts : List Template) (ks : List Text) (t : Template)
-    → AreKnown given options ts ks → among t.name ks ≡ false → IsRead given options t → IsOnly given options t
-    → IsWithin given t
-    → AreKnown given options (ts ++ t ∷ []) (ks ++ t.name ∷ [])
-known_more given options ts ks t k new r only i = search (arith, rules, all_more, map_push, once_more of_texts)
+-- One template more was read.
+pub one_read : {given : SourceTexts} {options : Options} {ts us : List Template} {t : Template} {n : Text}
+    → AreKnown given options ts → among t.name (names ts) ≡ false → IsRead given options t → IsOnly given options t
+    → IsWithin given t → us ≡ ts ++ t ∷ [] → t.name ≡ n → HasRead given options ts us (n ∷ [])
+one_read {given} {options} {ts} {us} {t} {n} k new r only i grown named = record {
+  known = rw grown (search (arith, rules, all_more, map_push, once_more of_texts));
+  more = t ∷ [];
+  grown = grown;
+  from = λ x a. search (arith, rules, among_cases of_texts, map_push);
+}
+
+-- Nothing more was read.
+pub nothing_read : {given : SourceTexts} {options : Options} {ts : List Template} {xs : List Text}
+    → AreKnown given options ts → HasRead given options ts ts xs
+nothing_read {ts = ts} k = record { known = k; more = []; grown = sym (append-nil ts); from = λ n a. inl a }
+
+pub read_on : {given : SourceTexts} {options : Options} {ts us vs : List Template} {xs ys zs : List Text}
+    → HasRead given options ts us xs → HasRead given options us vs ys
+    → ((n : Text) → among n xs ≡ true → among n zs ≡ true) → ((n : Text) → among n ys ≡ true → among n zs ≡ true)
+    → HasRead given options ts vs zs
+read_on {ts = ts} p q f g = record {
+  known = q.known;
+  more = p.more ++ q.more;
+  grown = q.grown ∙ ap (λ l. l ++ q.more) p.grown ∙ append_assoc ts p.more q.more;
+  from = λ n a. ⊎_elim (λ b. ⊎_elim (λ c. inl c) (λ c. inr (f n c)) (p.from n b)) (λ b. inr (g n b)) (q.from n a);
+}
 
 pub last_at : {X : Type 0} (xs : List X) (x : X) → slice_get (xs ++ x ∷ []) (length xs) ≡ Some x
 last_at [] x = refl
@@ -175,7 +201,7 @@ last_at (y ∷ xs) x = last_at xs x
 
 from_grows : (s r : Sources) → Grows s r → (h : Namespace) (ts : List Template) (p : Option Text) → LeadsFrom s h ts p
     → LeadsFrom r h ts p
-from_grows s r g (a_chain n) ts p l = leads_grow s r g (Some n) ts p l
+from_grows s r g (a_chain n) ts p l = leads_grow s r g _ ts p l
 from_grows s r g (a_library n) ts p l = search (arith, rules)
 
 pub way_grows : (ts us : List Template) (h : Namespace) (is : List ℕ) (p : Option Text) → IsExtendsPath ts h is p
@@ -203,12 +229,12 @@ way_next ts h is i t n w at is_named new once lt =
 -- ---- a reached chain, and the errors on its path
 
 -- What holds of the templates that were read is shown.
-pub shows : {given : SourceTexts} {options : Options} {ts : List Template} {ks : List Text} {P : Sources → Type 0}
-    → AreKnown given options ts ks → P (sources_in ts) → Shows given options P
+pub shows : {given : SourceTexts} {options : Options} {ts : List Template} {P : Sources → Type 0}
+    → AreKnown given options ts → P (sources_in ts) → Shows given options P
 shows {ts = ts} known holds = record { templates = ts; read = known.read; only = known.only; holds = holds }
 
-module _ {given : SourceTexts} {options : Options} {root : Text} {ts : List Template} {ks : List Text}
-    (known : AreKnown given options ts ks) {h : Namespace}
+module _ {given : SourceTexts} {options : Options} {root : Text} {ts : List Template}
+    (known : AreKnown given options ts) {h : Namespace}
     (r : Reaches (sources_in ts) options.autoescape (a_chain root) h) where
   fault_asked : {m : Text} {P : Text → Type 0} (n : Text)
       → among n (asked (sources_in ts) options.autoescape true h) ≡ true → HasFaulty m given n options P
@@ -226,8 +252,8 @@ module _ {given : SourceTexts} {options : Options} {root : Text} {ts : List Temp
   asked_breaks n error.NoMemory a must f = tt
   asked_breaks n e a must f = absurd f
 
-module _ {given : SourceTexts} {options : Options} {root : Text} {ts : List Template} {ks : List Text}
-    (known : AreKnown given options ts ks) {h : Text}
+module _ {given : SourceTexts} {options : Options} {root : Text} {ts : List Template}
+    (known : AreKnown given options ts) {h : Text}
     (r : Reaches (sources_in ts) options.autoescape (a_chain root) (a_chain h)) where
   pub cycle_breaks : {is : List ℕ} {n : Text} → IsExtendsPath ts (a_chain h) is (Some n)
       → among n (names (templates_at ts is)) ≡ true → Breaks error.ExtendsCycle given root options
@@ -235,7 +261,7 @@ module _ {given : SourceTexts} {options : Options} {root : Text} {ts : List Temp
       let s = sources_in ts in
       let us = templates_at ts is in
       let up : names_up s (length us + 1) (Some h) ≡ names us ++ n ∷ [] =
-      names_lead s (length us + 1) 1 (Some h) us (Some n) refl w.leads in
+      names_lead s _ 1 _ us _ refl w.leads in
       shows known (a_chain h, r, (h, refl, length us + 1, ap repeated up ∙ comes_again of_texts n (names us) there))
 
   pub long_breaks : {is : List ℕ} {n : Text} → IsExtendsPath ts (a_chain h) is (Some n) → length is ≡ 64
@@ -245,7 +271,7 @@ module _ {given : SourceTexts} {options : Options} {root : Text} {ts : List Temp
       let us = templates_at ts is in
       let len : length us ≡ 64 = all_templates ts is w.indices ∙ full in
       let up : extends_path s options.autoescape (a_chain h) ≡ names us ++ n ∷ [] =
-      names_lead s 65 1 (Some h) us (Some n) (omega (arith, len)) w.leads in
+      names_lead s 65 1 _ us _ (omega (arith, len)) w.leads in
       shows known (inl (
         a_chain h,
         r,
@@ -267,18 +293,6 @@ module _ {given : SourceTexts} {options : Options} {root : Text} {ts : List Temp
       asked_breaks known r n e (next_asked (sources_in ts) options.autoescape true h (templates_at ts is) n few w.leads)
       (λ q. next_asked (sources_in ts) options.autoescape false h (templates_at ts is) n few w.leads) f
 
--- ---- one template file more
-
-pub files_more : (ps qs : List TemplateFile) (p : TemplateFile) → qs ≡ ps ++ p ∷ []
-    → files_view qs ≡ files_view ps ++ file_view p ∷ []
-files_more ps qs p e = ap files_view e ∙ map_push file_view ps p
-
--- The name of the last template file is at its index.
-pub file_last : (ps qs : List TemplateFile) (p : TemplateFile) (n : Text) (k : ℕ) → qs ≡ ps ++ p ∷ []
-    → string_bytes p.name ≡ n → k ≡ length ps → slice_get (names (files_view qs)) k ≡ Some n
-file_last ps qs p n k e is at =
-    search (arith, rules, length-map, files_more, map_push, string_bytes, last_at)
-
 -- ---- one step of a path
 
 pub name_of_slice : (ts : List Template) (i : ℕ) (t : Template) → slice_get ts i ≡ Some t
@@ -287,68 +301,375 @@ name_of_slice [] i t e = absurd (cc)
 name_of_slice (u ∷ ts) zero t e = search (arith, rules)
 name_of_slice (u ∷ ts) (suc i) t e = name_of_slice ts i t e
 
--- A template at the index of its name, appended to a path.
-module _ (ps qs : List TemplateFile) (more : Grow ps qs) (is : List ℕ) {js : List ℕ} (i : ℕ) {n m : Text}
-    {p : TemplateFile} (at : slice_get (names (files_view qs)) i ≡ Some m) (same_name : m ≡ n)
-    (longer : js ≡ is ++ i ∷ []) (there : p ≡ get_or qs i p) where
-  abbrev ts : List Template
-  ts = files_view ps
+-- The template file at the index of a name.
+pub file_there : (ps : List TemplateFile) (i : ℕ) {n : Text} {p : TemplateFile}
+    → slice_get (names (files_view ps)) i ≡ Some n → p ≡ get_or ps i p
+    → (slice_get (files_view ps) i ≡ Some (file_view p)) × (string_bytes p.name ≡ n)
+file_there ps i {n} {p} at there =
+    let held : slice_get (files_view ps) i ≡ Some (file_view p) = search (
+      arith,
+      rules,
+      map_at,
+      file_view,
+      slice_get_within,
+      length-map,
+    ) in
+    (held, search (arith, rules, string_bytes, name_of_slice, file_view))
 
-  abbrev us : List Template
-  us = files_view qs
+-- The template of the next name was read and is appended to a path: the path goes on to the parent.
+module _ {given : SourceTexts} {options : Options} {vs ts us : List Template} {is js : List ℕ} {n : Text}
+    (before : HasRead given options vs ts (names (templates_at ts is))) (r : HasRead given options ts us (n ∷ []))
+    {h : Text} (w : IsExtendsPath ts (a_chain h) is (Some n)) (i : ℕ) {t : Template} (held : slice_get us i ≡ Some t)
+    (named : t.name ≡ n) (longer : js ≡ is ++ i ∷ []) where
+  pub path_turn : templates_at us js ≡ templates_at ts is ++ t ∷ []
+  path_turn =
+      ap (templates_at us) longer ∙ templates_more us is i t held
+      ∙ ap (λ l. templates_at l is ++ t ∷ []) r.grown ∙ ap (λ l. l ++ t ∷ []) (templates_grow ts r.more is w.indices)
 
-  held : slice_get us i ≡ Some (file_view p)
-  held = search (arith, rules, map_at, file_view, slice_get_within, length-map)
+  pub read_step : HasRead given options vs us (names (templates_at us js))
+  read_step =
+      let theirs : names (templates_at us js) ≡ names (templates_at ts is) ++ n ∷ [] =
+      ap names path_turn ∙ map_push (λ (u : Template). u.name) (templates_at ts is) t
+      ∙ ap (λ x. names (templates_at ts is) ++ x ∷ []) named in
+      read_on before r
+      (λ x a. ap (among x) theirs ∙ among_front of_texts x _ _ a)
+      (λ x a. ap (among x) theirs ∙ among_behind of_texts x (names (templates_at ts is)) (n ∷ []) a)
 
-  named : string_bytes p.name ≡ m
-  named = search (arith, rules, string_bytes, name_of_slice, file_view, held)
-
-  -- The path goes on to the parent.
-  way_turn : {h : Text} {o : Option Text} → IsExtendsPath ts (a_chain h) is (Some n)
-      → among n (names (templates_at ts is)) ≡ false → length is < 64 → repeated (names us) ≡ false
-      → o ≡ extends_of (body_of p.template) → IsExtendsPath us (a_chain h) js o
-  way_turn {h} {o} w new lt once ext =
-      let grown : IsExtendsPath us (a_chain h) is (Some n) = subst (λ vs. IsExtendsPath vs (a_chain h) is (Some n))
-      (sym more.1) (way_grows ts more.0 (a_chain h) is (Some n) w) in
-      let newly_read : among n (names (templates_at us is)) ≡ false = ap (λ vs. among n (names (templates_at vs is)))
-      more.1
-      ∙ ap (λ vs. among n (names vs)) (templates_grow ts more.0 is w.indices) ∙ new in
-      let next = way_next us h is i (file_view p) n grown held (named ∙ same_name) newly_read once lt in
+  pub way_step : {o : Option Text} → among n (names (templates_at ts is)) ≡ false → length is < 64
+      → o ≡ extends_of t.body → IsExtendsPath us (a_chain h) js o
+  way_step {o} new lt ext =
+      let grown : IsExtendsPath us (a_chain h) is (Some n) = subst (λ l. IsExtendsPath l (a_chain h) is (Some n))
+      (sym r.grown) (way_grows _ r.more _ _ _ w) in
+      let newly_read : among n (names (templates_at us is)) ≡ false =
+      ap (λ l. among n (names (templates_at l is))) r.grown
+      ∙ ap (λ l. among n (names l)) (templates_grow ts r.more is w.indices) ∙ new in
       subst (λ z. IsExtendsPath us (a_chain h) z o) (sym longer)
-      (subst (IsExtendsPath us (a_chain h) (is ++ i ∷ [])) (sym ext) next)
+      (subst (IsExtendsPath us (a_chain h) (is ++ i ∷ [])) (sym ext)
+      (way_next us h is i t n grown held named newly_read r.known.read.once lt))
 
-  pub path_turn : templates_at us js ≡ templates_at us is ++ file_view p ∷ []
-  path_turn = ap (λ l. templates_at us l) longer ∙ templates_more us is i (file_view p) held
+-- ---- names on the path
 
-  -- Each new name was on the path before or is that of the appended template.
-  way_from : AreIndices ts is → (k0 k1 k2 : List Text)
-      → ((x : Text) → among x k1 ≡ true → (among x k0 ≡ true) ⊎ (among x (names (templates_at ts is)) ≡ true))
-      → ((x : Text) → among x k2 ≡ true → (among x k1 ≡ true) ⊎ (x ≡ m))
-      → (x : Text) → among x k2 ≡ true → (among x k0 ≡ true) ⊎ (among x (names (templates_at us js)) ≡ true)
-  way_from indices k0 k1 k2 before last x a =
-      let theirs : names (templates_at us js) ≡ names (templates_at ts is) ++ string_bytes p.name ∷ [] =
-      ap names path_turn
-      ∙ map_push (λ (u : Template). u.name) (templates_at us is) (file_view p)
-      ∙ ap (λ l. names l ++ string_bytes p.name ∷ [])
-      (ap (λ l. templates_at l is) more.1 ∙ templates_grow ts more.0 is indices) in
-      ⊎_elim
-      (λ q. ⊎_elim (λ r. inl r) (λ r.
-      inr (ap (among x) theirs ∙ among_front of_texts x (names (templates_at ts is)) (string_bytes p.name ∷ []) r))
-      (before x q))
-      (λ q. inr (ap (among x) theirs ∙ ap (λ y. among x (names (templates_at ts is) ++ y ∷ [])) (named ∙ sym q)
-      ∙ among_next of_texts x (names (templates_at ts is)) []))
-      (last x a)
+front_up : (s : Sources) (k : ℕ) (n : Text) (t : Template) → t.name ≡ n → s n ≡ Some t.body
+    → names_up s (suc k) (Some n) ≡ t.name ∷ names_up s k (extends_of t.body)
+front_up s k n t e f =
+    ap (λ o. n ∷ names_up s k (parent_of o)) f ∙ ap (λ x. x ∷ names_up s k (extends_of t.body)) (sym e)
 
-  pub way_step : {h : Text} {o : Option Text} → IsExtendsPath ts (a_chain h) is (Some n)
-      → among n (names (templates_at ts is)) ≡ false → length is < 64 → repeated (names us) ≡ false
-      → o ≡ extends_of (body_of p.template) → (k0 k1 k2 : Names)
-      → ((x : Text) → among x (names_view k1) ≡ true
-      → (among x (names_view k0) ≡ true) ⊎ (among x (names (templates_at ts is)) ≡ true))
-      → AddsName k1 k2 m
-      → IsExtendsPath us (a_chain h) js o × ((x : Text) → among x (names_view k2) ≡ true
-      → (among x (names_view k0) ≡ true) ⊎ (among x (names (templates_at us js)) ≡ true))
-  way_step w new lt once ext k0 k1 k2 before last =
-      (way_turn w new lt once ext, way_from w.indices (names_view k0) (names_view k1) (names_view k2) before last)
+among_up : (s : Sources) (k : ℕ) (o : Option Text) (ts : List Template) (x : Text) → Leads s o ts None
+    → among x (names_up s k o) ≡ true → among x (names ts) ≡ true
+among_up s zero o ts x l h = absurd (cc)
+among_up s (suc k) None ts x l h = absurd (cc)
+among_up s (suc k) (Some n) [] x l h = absurd (cc)
+among_up s (suc k) (Some n) (t ∷ ts) x l h =
+    search (arith, rules, front_up, among_up s k (extends_of t.body) ts x l.2, names, or_right)
 
-pub grow_on : (ps qs rs : List TemplateFile) → Grow ps qs → Grow qs rs → Grow ps rs
-grow_on ps qs rs p q = (p.0 ++ q.0, q.1 ∙ ap (λ l. l ++ q.0) p.1 ∙ append_assoc (files_view ps) p.0 q.0)
+pub repeated_up : (s : Sources) (k : ℕ) (o : Option Text) (ts : List Template) → Leads s o ts None
+    → repeated (names_up s k o) ≡ true → repeated (names ts) ≡ true
+repeated_up s zero o ts l h = absurd (cc)
+repeated_up s (suc k) None ts l h = absurd (cc)
+repeated_up s (suc k) (Some n) [] l h = absurd (cc)
+repeated_up s (suc k) (Some n) (t ∷ ts) l h =
+    search (arith, rules, front_up, repeated_up s k (extends_of t.body) ts l.2, names, among_up, or_right)
+
+pub all_among : (P : Text → Type 0) (ts : List Template) (n : Text) → AllByRecursion (λ t. P t.name) ts
+    → among n (names ts) ≡ true → P n
+all_among P [] n a h = absurd (cc)
+all_among P (t ∷ ts) n a h = search (arith, rules, all_among P ts n a.1, names, same)
+
+pub have_sources : (s : Sources) (ts : List Template) → AllByRecursion (λ t. s t.name ≡ Some t.body) ts
+    → list_any (λ n. is_none (s n)) (names ts) ≡ false
+have_sources s [] a = refl
+have_sources s (t ∷ ts) a =
+    or_from (is_none (s t.name)) (list_any (λ n. is_none (s n)) (names ts)) (ap is_none a.0) (have_sources s ts a.1)
+
+pub all_named : (given : SourceTexts) (options : Options) (ts : List Template)
+    → AllByRecursion (IsRead given options) ts → AllByRecursion (λ t. IsName t.name) ts
+all_named given options [] a = tt
+all_named given options (t ∷ ts) a = (a.0.named, all_named given options ts a.1)
+
+pub too_few : (n : ℕ) (b : Bool) → n ≤ 64 → ((n == 65) && b) ≡ false
+too_few n b le = search (arith, rules, nat_tests)
+
+pub few_names : (n : ℕ) → n ≤ 64 → nat_lt n 65 ≡ true
+few_names n le = grind (arith, nat_tests)
+
+-- ---- weights
+
+pub weigh : (given : SourceTexts) (ts : List Template) → AllByRecursion (IsWithin given) ts
+    → templates_weight ts ≤ templates_len given ts
+weigh given [] a = omega arith
+weigh given (t ∷ ts) a = omega (arith, a.0.weighs, weigh given ts a.1)
+
+pub all_short : (given : SourceTexts) (ts : List Template) → AllByRecursion (IsWithin given) ts
+    → AllByRecursion (λ t. body_bytes t.body ≤ source_len (given t.name)) ts
+all_short given [] a = tt
+all_short given (t ∷ ts) a = (a.0.short, all_short given ts a.1)
+
+pub names_indexed : (ts : List Template) (is : List ℕ) (us : List Template) → map (slice_get ts) is ≡ map Some us
+    → names_at ts is ≡ map (λ t. Some t.name) us
+names_indexed ts [] [] e = refl
+names_indexed ts [] (u ∷ us) e = absurd (cc)
+names_indexed ts (i ∷ is) [] e = absurd (cc)
+names_indexed ts (i ∷ is) (u ∷ us) e = search (arith, rules, names_indexed ts is us)
+
+-- ---- the members that pass a test
+
+pub among_passes : (p : Text → Bool) (x : Text) (xs : List Text) → among x (filter p xs) ≡ true
+    → (among x xs ≡ true) × (p x ≡ true)
+among_passes p x [] h = absurd (cc)
+among_passes p x (y ∷ xs) h = search (arith, rules, among_passes p x xs, same, or_right)
+
+pub passes_among : (p : Text → Bool) (x : Text) (xs : List Text) → among x xs ≡ true → p x ≡ true
+    → among x (filter p xs) ≡ true
+passes_among p x [] h t = absurd (cc)
+passes_among p x (y ∷ xs) h t = search (arith, rules, passes_among p x xs, or_right, same)
+
+-- ---- the templates of a chain when sources grow
+
+pub up_some : (s : Sources) (k : ℕ) (n : Text) (b : Body) → s n ≡ Some b
+    → flat_map (λ m. template m (s m)) (names_up s (suc k) (Some n))
+    ≡ template n (Some b) ++ flat_map (λ m. template m (s m)) (names_up s k (extends_of b))
+up_some s k n b e = ap (λ o. template n o ++ flat_map (λ m. template m (s m)) (names_up s k (parent_of o))) e
+
+up_none : (s : Sources) (k : ℕ) (n : Text) → s n ≡ None
+    → flat_map (λ m. template m (s m)) (names_up s (suc k) (Some n)) ≡ []
+up_none s k n e = search (arith, rules, template, flat_map, names_up, parent_of, none_up)
+
+-- Each of these names that has a tree in the first sources has the same tree in the second ones.
+abbrev pub Carries : Sources → Sources → List Text → Type 0
+Carries s r xs = (n : Text) → among n xs ≡ true → (b : Body) → s n ≡ Some b → r n ≡ Some b
+
+pub carries_up : (s r : Sources) (k : ℕ) (n : Text) (b : Body) → r n ≡ Some b
+    → Carries s r (names_up r (suc k) (Some n)) → Carries s r (names_up r k (extends_of b))
+carries_up s r k n b e g m a = search (arith, rules, or_right, bytes_eq, among, names_up, parent_of)
+
+pub front_carried : (s r : Sources) (k : ℕ) (n : Text) → Carries s r (names_up r (suc k) (Some n)) → (b : Body)
+    → s n ≡ Some b → r n ≡ Some b
+front_carried s r k n g b e = g n (ap (λ c. c || among n (names_up r k (parent_of (r n)))) (reflexive n)) b e
+
+-- The names on the path are the first of those on the path when more is read.
+pub names_more : (s r : Sources) (k : ℕ) (o : Option Text) → Carries s r (names_up r k o)
+    → (rest : List Text) × (names_up r k o ≡ names_up s k o ++ rest)
+names_more s r zero o g = ([], refl)
+names_more s r (suc k) None g = ([], refl)
+names_more s r (suc k) (Some n) g =
+    by (s n) refl (λ b e. names_more s r k _ (carries_up s r k n b (front_carried s r k n g b e) g))
+  where
+    by : (o : Option Body) → s n ≡ o → ((b : Body) → s n ≡ Some b
+        → (rest : List Text) × (names_up r k (extends_of b) ≡ names_up s k (extends_of b) ++ rest))
+        → (rest : List Text) × (names_up r (suc k) (Some n) ≡ names_up s (suc k) (Some n) ++ rest)
+    by None e f = (
+      names_up r k (parent_of (r n)),
+      sym (ap (λ o. n ∷ names_up s k (parent_of o) ++ names_up r k (parent_of (r n))) e
+          ∙ ap (λ l. n ∷ l ++ names_up r k (parent_of (r n))) (none_up s k)),
+    )
+    by (Some b) e f = search (arith, rules, front_carried)
+
+pub templates_begin : (s r : Sources) (k : ℕ) (o : Option Text) → Carries s r (names_up r k o)
+    → (rest : List Template)
+    × (flat_map (λ n. template n (r n)) (names_up r k o) ≡ flat_map (λ n. template n (s n)) (names_up s k o) ++ rest)
+templates_begin s r zero o g = ([], refl)
+templates_begin s r (suc k) None g = ([], refl)
+templates_begin s r (suc k) (Some n) g =
+    by (s n) refl (λ b e. templates_begin s r k _ (carries_up s r k n b (front_carried s r k n g b e) g))
+  where
+    by : (o : Option Body) → s n ≡ o
+        → ((b : Body) → s n ≡ Some b → (rest : List Template)
+        × (flat_map (λ m. template m (r m)) (names_up r k (extends_of b))
+        ≡ flat_map (λ m. template m (s m)) (names_up s k (extends_of b)) ++ rest))
+        → (rest : List Template) × (flat_map (λ m. template m (r m)) (names_up r (suc k) (Some n))
+        ≡ flat_map (λ m. template m (s m)) (names_up s (suc k) (Some n)) ++ rest)
+    by None e f = (
+      flat_map (λ m. template m (r m)) (names_up r (suc k) (Some n)),
+      sym (ap (λ l. l ++ flat_map (λ m. template m (r m)) (names_up r (suc k) (Some n))) (up_none s k n e)),
+    )
+    by (Some b) e f = search (arith, rules, up_some, front_carried)
+
+-- The first m names on the path begin with the first k.
+pub up_more : (s : Sources) (m k : ℕ) (o : Option Text) → k ≤ m
+    → (rest : List Text) × (names_up s m o ≡ names_up s k o ++ rest)
+up_more s m zero o le = (names_up s m o, refl)
+up_more s zero (suc k) o le = absurd (omega arith)
+up_more s (suc m) (suc k) None le = ([], refl)
+up_more s (suc m) (suc k) (Some n) le =
+    let more = up_more s m k _ (omega (arith, le)) in
+    (more.0, ap (λ l. n ∷ l) more.1)
+
+-- ---- namespaces of some names
+
+pub chains_listed : (n : Text) (xs ys : List Text)
+    → listed (a_chain n) (map a_chain xs ++ map a_library ys) ≡ among n xs
+chains_listed n [] ys = none ys
+  where
+    none : (zs : List Text) → listed (a_chain n) (map a_library zs) ≡ false
+    none [] = refl
+    none (z ∷ zs) = none zs
+chains_listed n (x ∷ xs) ys = ap (λ b. bytes_eq x n || b) (chains_listed n xs ys)
+
+pub libraries_listed : (n : Text) (xs ys : List Text)
+    → listed (a_library n) (map a_chain xs ++ map a_library ys) ≡ among n ys
+libraries_listed n [] ys = theirs ys
+  where
+    theirs : (zs : List Text) → listed (a_library n) (map a_library zs) ≡ among n zs
+    theirs [] = refl
+    theirs (z ∷ zs) = ap (λ b. bytes_eq z n || b) (theirs zs)
+libraries_listed n (x ∷ xs) ys = libraries_listed n xs ys
+
+-- Namespaces of names are members if the names are.
+pub namespaces_among : (m : Namespace) (xs ys us vs : List Text) → ((n : Text) → among n xs ≡ true → among n us ≡ true)
+    → ((n : Text) → among n ys ≡ true → among n vs ≡ true)
+    → listed m (map a_chain xs ++ map a_library ys) ≡ true → listed m (map a_chain us ++ map a_library vs) ≡ true
+namespaces_among (a_chain n) xs ys us vs f g a = chains_listed n us vs ∙ f n (sym (chains_listed n xs ys) ∙ a)
+namespaces_among (a_library n) xs ys us vs f g a = libraries_listed n us vs ∙ g n (sym (libraries_listed n xs ys) ∙ a)
+
+-- ---- concatenation of the paths of namespaces
+
+pub reaches_next : {s : Sources} {e : Bool} {h k m : Namespace} → Reaches s e h k → listed m (included s k) ≡ true
+    → Reaches s e h m
+reaches_next here a = through a here
+reaches_next (through b r) a = through b (reaches_next r a)
+
+-- ---- reachability and requests, if each requested name keeps its source
+
+library_more : (s r : Sources) (n : Text) → Carries s r (n ∷ [])
+    → (rest : List Template) × (library_template n (r n) ≡ library_template n (s n) ++ rest)
+library_more s r n g = by (s n) refl
+  where
+    by : (o : Option Body) → s n ≡ o
+        → (rest : List Template) × (library_template n (r n) ≡ library_template n (s n) ++ rest)
+    by None e = (library_template n (r n), sym (ap (λ o. library_template n o ++ library_template n (r n)) e))
+    by (Some b) e = search (arith, rules, reflexive, append-nil)
+
+module _ (s r : Sources) (e : Bool) (entry : Namespace)
+    (g : (n : Text) (b : Body) → Asks r e entry n → s n ≡ Some b → r n ≡ Some b) where
+  pub on_path : (h : Namespace) → Reaches r e entry h → Carries s r (extends_path r e h)
+  on_path h p n a b =
+      g n b (
+        h,
+        p,
+        among_front of_texts n (extends_path r e h)
+            (flat_map (λ t. needs_in true t.body) (templates r h) ++ libraries r h) a,
+      )
+
+  -- The first 64 names are among the first 65.
+  pub on_first : (h : Text) → Reaches r e entry (a_chain h) → Carries s r (names_up r 64 (Some h))
+  on_first h p n a b =
+      let more = up_more r 65 64 (Some h) (omega arith) in
+      on_path (a_chain h) p n (ap (among n) more.1 ∙ among_front of_texts n (names_up r 64 (Some h)) more.0 a) b
+
+  -- The libraries of a namespace keep their sources.
+  pub on_libraries : (h : Namespace) → Reaches r e entry h → Carries s r (libraries r h)
+  on_libraries h p n a b =
+      g n b (
+        h,
+        p,
+        among_behind of_texts n (extends_path r e h)
+            (flat_map (λ t. needs_in true t.body) (templates r h) ++ libraries r h)
+            (among_behind of_texts n _ _ a),
+      )
+
+  -- When more is read, the path of a namespace begins with its path before.
+  pub way_more : (h : Namespace) → Reaches r e entry h
+      → (rest : List Text) × (extends_path r e h ≡ extends_path s e h ++ rest)
+  way_more (a_chain n) p = names_more s r 65 (Some n) (on_path (a_chain n) p)
+  way_more (a_library n) p = ([], refl)
+
+  pub namespace_more : (h : Namespace) → Reaches r e entry h
+      → (rest : List Template) × (templates r h ≡ templates s h ++ rest)
+  namespace_more (a_chain n) p = templates_begin s r 64 (Some n) (on_first n p)
+  namespace_more (a_library n) p = library_more s r n (on_path (a_library n) p)
+
+  pub libraries_more : (h : Namespace) → Reaches r e entry h
+      → (rest : List Text) × (libraries r h ≡ libraries s h ++ rest)
+  libraries_more (a_chain n) p =
+      let f : Template → List Text = λ t. libraries_in t.body in
+      let more = namespace_more (a_chain n) p in
+      (flat_map f more.0, ap (flat_map f) more.1 ∙ flat_map-append f (templates s (a_chain n)) more.0)
+  libraries_more (a_library n) p = ([], refl)
+
+  pub needs_more : (all : Bool) (h : Namespace) → Reaches r e entry h → (n : Text)
+      → among n (flat_map (λ t. needs_in all t.body) (templates s h)) ≡ true
+      → among n (flat_map (λ t. needs_in all t.body) (templates r h)) ≡ true
+  needs_more all h p n a = search (arith, rules, namespace_more, flat_map-append, among_front of_texts)
+
+  pub imports_more : (h : Namespace) → Reaches r e entry h → (n : Text) → among n (libraries s h) ≡ true
+      → among n (libraries r h) ≡ true
+  imports_more h p n a =
+      let more = libraries_more h p in
+      ap (among n) more.1 ∙ among_front of_texts n _ _ a
+
+  pub asked_more : (all : Bool) (h : Namespace) → Reaches r e entry h → (n : Text) → among n (asked s e all h) ≡ true
+      → among n (asked r e all h) ≡ true
+  asked_more all h p n a =
+      search (
+        arith,
+        rules,
+        way_more,
+        among_front of_texts,
+        among_behind of_texts,
+        needs_more,
+        imports_more,
+        among_cases of_texts,
+      )
+
+  -- The names with a source stay names with a source.
+  sourced : (h : Namespace) → Reaches r e entry h → (xs ys : List Text)
+      → ((n : Text) → among n xs ≡ true → among n ys ≡ true) → ((n : Text) → among n ys ≡ true → Asks r e entry n)
+      → (n : Text) → among n (with_source s xs) ≡ true → among n (with_source r ys) ≡ true
+  sourced h p xs ys f asks n a =
+      let k = among_passes _ n xs a in
+      passes_among _ n ys (f n k.0) (by (s n) refl k.1 (asks n (f n k.0)))
+    where
+      by : (o : Option Body) → s n ≡ o → is_some o ≡ true → Asks r e entry n → is_some (r n) ≡ true
+      by None q t i = absurd (cc)
+      by (Some b) q t i = ap is_some (g n b i q)
+
+  pub included_more : (h : Namespace) → Reaches r e entry h → (m : Namespace) → listed m (included s h) ≡ true
+      → listed m (included r h) ≡ true
+  included_more h p m a =
+      let mine = flat_map (λ t. needs_in true t.body) (templates s h) in
+      let ours = flat_map (λ t. needs_in true t.body) (templates r h) in
+      namespaces_among m _ _ _
+      _
+      (sourced h p mine ours (needs_more true h p)
+      (λ n q. (
+        h,
+        p,
+        among_behind of_texts n (extends_path r e h) (ours ++ libraries r h)
+            (among_front of_texts n _ _ q),
+      )))
+      (sourced h p (libraries s h) (libraries r h) (imports_more h p)
+      (λ n q. (
+        h,
+        p,
+        among_behind of_texts n (extends_path r e h) (ours ++ libraries r h)
+            (among_behind of_texts n _ _ q),
+      ))) a
+
+  pub reaches_more : {h k : Namespace} → Reaches r e entry h → Reaches s e h k → Reaches r e h k
+  reaches_more p here = here
+  reaches_more p (through {namespace = h} {next = m} a rest) =
+      through (included_more h p m a) (reaches_more (reaches_next p (included_more h p m a)) rest)
+
+  pub asks_more : (n : Text) → Asks s e entry n → Asks r e entry n
+  asks_more n x = search (arith, rules, reaches_more, here, asked_more)
+
+pub reach_more : (ts us more : List Template) (e : Bool) (h k : Namespace) → us ≡ ts ++ more
+    → Reaches (sources_in ts) e h k → Reaches (sources_in us) e h k
+reach_more ts us more e h k grown r =
+    subst (λ vs. Reaches (sources_in vs) e h k) (sym grown)
+    (reaches_more (sources_in ts) (sources_in (ts ++ more)) e h (λ n b i. more_sources ts more n b) here r)
+
+pub ask_more : (ts us more : List Template) (e : Bool) (h : Namespace) (n : Text) → us ≡ ts ++ more
+    → Asks (sources_in ts) e h n → Asks (sources_in us) e h n
+ask_more ts us more e h n grown i =
+    subst (λ vs. Asks (sources_in vs) e h n) (sym grown)
+    (asks_more (sources_in ts) (sources_in (ts ++ more)) e h (λ m b k. more_sources ts more m b) n i)
+
+-- An error that breaks each chain that reaches a namespace when more is read breaks each chain that
+-- reached it before.
+pub chain_breaks : (given : SourceTexts) (options : Options) (ts us more : List Template) → us ≡ ts ++ more
+    → (k : NamespaceKey) → k.is_library ≡ false → (e : ChainError)
+    → BreaksAll given options us (a_chain (string_bytes k.name)) e → BreaksAll given options ts (key_view k) e
+chain_breaks given options ts us more grown k is e b =
+    subst (λ h. BreaksAll given options ts h e) (sym (is_chain k is))
+    (λ root r. b root (reach_more _ _ _ _ _ _ grown r))

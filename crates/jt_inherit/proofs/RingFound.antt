@@ -1,13 +1,10 @@
 -- A ring of the numbers of chains and libraries is one of the chains and libraries.
 use Rattle.std.proofs.Common.{◌≡◌, ◌⊎◌, ℕ, true, List, [], ◌∷◌, ◌<◌, ◌≤◌, ◌-◌, length, map, refl, sym, subst, ◌∙◌}
 use Rattle.std.proofs.Common.{⊎_elim, Option, Some, Bool, String, Vec, Global, arith, ap, suc}
-use Rattle.jt_graph.specs.Graph as graph
 use Rattle.jt_graph.specs.Graph.{Leads}
 use Rattle.jt_inherit.specs.Findings.{LeadsTo}
 use Rattle.jt_inherit.specs.internal.Placing.{IsRingOf}
 use Rattle.jt_inherit.specs.internal.Rings.{HasRing}
-use Rattle.jt_inherit.specs.declared.error.ChainError.TheVariants as error
-use Rattle.jt_inherit.specs.declared.finding.ChainSubject.TheVariants as v
 use Rattle.jt_inherit.proofs.Vocabulary.{cases_lt, map-map, slice_get, unwrap_or, AllByRecursion, Graph, next_of}
 use Rattle.jt_inherit.proofs.Vocabulary.{Options, Text, templates_at, Namespace, namespace_name, Template, Sources}
 use Rattle.jt_inherit.proofs.Vocabulary.{sources_in, namespace_at, SourceTexts, HasTag, IsFinding, IsNoMemory, Says}
@@ -15,12 +12,13 @@ use Rattle.jt_inherit.proofs.Vocabulary.{all_uses, leads_to, Breaks, AreFound, l
 use Rattle.jt_inherit.proofs.Vocabulary.{through, name_at, ChainSubject}
 use Rattle.jt_inherit.proofs.ChainComplete.{edge, none_next, number, reached}
 use Rattle.jt_inherit.proofs.DiscoveryInvariant.{whole_path}
-use Rattle.jt_inherit.proofs.FindingsHold.{no_memory}
+use Rattle.jt_inherit.proofs.FindingsHold.{no_memory, said_at, shown}
 use Rattle.jt_inherit.proofs.PathsGrow.{shows}
-use Rattle.jt_inherit.proofs.PlacedErrors.{said_at, shown}
-use Rattle.jt_inherit.proofs.TagPlaces.{HasUse}
+use Rattle.jt_inherit.proofs.TagPlaces.{HasUse, leads_used}
 use Rattle.jt_inherit.proofs.TopologicalOrder.{namespace_among}
-use Rattle.jt_inherit.proofs.UsesFound.{leads_used}
+use Rattle.jt_graph.specs.Graph as graph
+use Rattle.jt_inherit.specs.declared.error.ChainError.TheVariants as error
+use Rattle.jt_inherit.specs.declared.finding.ChainSubject.TheVariants as v
 
 led_reaches : (s : Sources) (e : Bool) (h : Namespace) (ks : List Namespace) (t : Namespace) → LeadsTo s h ks t
     → Reaches s e h t
@@ -32,8 +30,8 @@ last_leads : (g : Graph) (i : ℕ) (is : List ℕ) (t : ℕ) → Leads g i is t
 last_leads g i [] t a = a
 last_leads g i (k ∷ is) t a = last_leads g k is t a.1
 
-module _ {given : SourceTexts} {options : Options} {entry : Text} {ts : List Template} {ks : List Text}
-    {hs : List Namespace} {ws ns : Graph} (f : AreFound given options entry ts ks hs ws ns)
+module _ {given : SourceTexts} {options : Options} {entry : Text} {ts : List Template}
+    {hs : List Namespace} {ws ns : Graph} (f : AreFound given options entry ts hs ws ns)
     (all : length ws ≡ length hs) where
   leads_namespaces : (i : ℕ) (is : List ℕ) (t : ℕ) → Leads ns i is t
       → LeadsTo (sources_in ts) (namespace_at hs i) (map (namespace_at hs) is) (namespace_at hs (last_number i is))
@@ -50,19 +48,19 @@ module _ {given : SourceTexts} {options : Options} {entry : Text} {ts : List Tem
           let last = last_number first r.1 in
           let e = edge f all last first (last_leads ns first r.1 first r.2) in
           let h = namespace_at hs last in
-          let front = whole_path ts h (next_of ws last) (number f all last e.0).led in
+          let front = whole_path (number f all last e.0).led in
           let next = namespace_at hs first in
-          let used = subst (λ l. HasUse (leads_to next) (all_uses l)) front (leads_used (sources_in ts) h next e.1) in
+          let used = subst (λ l. HasUse (leads_to next) (all_uses l)) front (leads_used _ h next e.1) in
           let there = reached f all h (namespace_among hs last e.0) in
           let back = leads_namespaces first r.1 first r.2 in
           record {
             broken =
                 subst (λ z. Breaks z given entry options) (sym r.3.error)
-                (shows f.known (h, there, (next, e.1, led_reaches (sources_in ts) options.autoescape next _ h back)));
+                (shows f.known (h, there, (next, e.1, led_reaches _ _ next _ h back)));
             says =
                 subst (λ z. Says given entry options x.place x.subject z) (sym r.3.error)
                 (by x.subject r.3.subject
-                (λ n rest q. said_at f.known there error.IncludeCycle (v.Ring n rest) (leads_to next)
+                (λ n rest q. said_at f.known there _ _ _
                 (all_uses (templates_at ts (next_of ws last))) used x.place r.3.place
                 (λ z tag. shown f.known there error.IncludeCycle z (v.Ring n rest) (record {
                   next = next;

@@ -2,33 +2,33 @@
 use Rattle.std.proofs.Common.{◌≡◌, ℕ, zero, suc, ◌<◌, ◌≤◌, ◌==◌, Bool, true, false, not, ◌&&◌, ◌||◌, nat_lt, List, []}
 use Rattle.std.proofs.Common.{◌∷◌, ◌++◌, length, map, refl, sym, ap, subst, ◌∙◌, arith, inl, inr, ◌⊎◌, ⊎_elim, Option}
 use Rattle.std.proofs.Common.{Some, None, length-append, rules}
-use Rattle.jt_ast.specs.Statements as trees
 use Rattle.jt_chains.specs.Chain.{given, imports}
-use Rattle.jt_chains.specs.Rules as rules
 use Rattle.jt_chains.specs.Rules.{InSomeChain, BadName, ExtendsCycle, ChainTooLong, DoubleBlock, RequiredNotGiven}
 use Rattle.jt_chains.specs.Rules.{NoSuper, IncludeCycle, MacroTwice, NoMacro, NotALibrary}
-use Rattle.jt_inherit.proofs.Vocabulary.{flat_map, list_any, is_none, bytes_eq, append-nil, map-append, cases_lt}
-use Rattle.jt_inherit.proofs.Vocabulary.{nat_tests, among, repeated, Text, Body, Sources, Namespace, a_chain, a_library}
-use Rattle.jt_inherit.proofs.Vocabulary.{Template, template, templates, library_template, is_a_library, extends_of}
-use Rattle.jt_inherit.proofs.Vocabulary.{parent_of, names_up, blocks_in, MacroBody, macros, own, libraries_in}
-use Rattle.jt_inherit.proofs.Vocabulary.{lacks_body, lacks_next, their_blocks, their_macros, any_double}
-use Rattle.jt_inherit.proofs.Vocabulary.{any_lacks_macros, names_from, imported_names, Asks, Reaches, here, is_whole}
-use Rattle.jt_inherit.proofs.Vocabulary.{extends_path, of_texts, reflexive, among_behind, among_front, and_from}
-use Rattle.jt_inherit.proofs.Vocabulary.{and_parts, flat_map-append, list_any-append, not-true, or_from, or_left}
-use Rattle.jt_inherit.proofs.Vocabulary.{or_parts, or_right}
-use Rattle.jt_inherit.proofs.SourcesGrow.{Carries, carries_up, front_carried, up_more, up_some, on_path, on_first}
-use Rattle.jt_inherit.proofs.SourcesGrow.{on_libraries, way_more, namespace_more, included_more, reaches_more}
-use Rattle.jt_inherit.proofs.SourcesGrow.{reaches_next, asked_more}
-use Rattle.jt_inherit.proofs.ImportCollection.{all_imported, own_named}
+use Rattle.jt_inherit.proofs.Vocabulary.{flat_map, list_any, is_none, append-nil, map-append, cases_lt, nat_tests}
+use Rattle.jt_inherit.proofs.Vocabulary.{among, repeated, Text, Body, Sources, Namespace, a_chain, a_library, Template}
+use Rattle.jt_inherit.proofs.Vocabulary.{template, templates, library_template, is_a_library, extends_of, parent_of}
+use Rattle.jt_inherit.proofs.Vocabulary.{names_up, blocks_in, MacroBody, macros, own, libraries_in, lacks_body}
+use Rattle.jt_inherit.proofs.Vocabulary.{lacks_next, their_blocks, their_macros, any_double, any_lacks_macros}
+use Rattle.jt_inherit.proofs.Vocabulary.{names_from, imported_names, Asks, Reaches, here, is_whole, extends_path}
+use Rattle.jt_inherit.proofs.Vocabulary.{of_texts, reflexive, among_behind, among_front, and_from, and_parts}
+use Rattle.jt_inherit.proofs.Vocabulary.{flat_map-append, list_any-append, not-true, or_from, or_left, or_parts}
+use Rattle.jt_inherit.proofs.Vocabulary.{or_right}
+use Rattle.jt_inherit.proofs.PathsGrow.{Carries, carries_up, front_carried, up_more, up_some, on_path, on_first}
+use Rattle.jt_inherit.proofs.PathsGrow.{on_libraries, way_more, namespace_more, included_more, reaches_more}
+use Rattle.jt_inherit.proofs.PathsGrow.{reaches_next, asked_more}
+use Rattle.jt_inherit.proofs.DiscoveryInvariant.{all_imported, own_named}
 use Rattle.jt_inherit.proofs.StoreLookup.{none_from, nothing_lacks, lacks_same}
+use Rattle.jt_ast.specs.Statements as trees
+use Rattle.jt_chains.specs.Rules as rules
 
 -- ---- tests of the first elements
 
 any_front : {A : Type 0} (p : A → Bool) (xs ys : List A) → list_any p xs ≡ true → list_any p (xs ++ ys) ≡ true
-any_front p xs ys h = list_any-append p xs ys ∙ or_left (list_any p xs) (list_any p ys) h
+any_front p xs ys h = list_any-append p xs ys ∙ or_left _ _ h
 
 none_front : {A : Type 0} (p : A → Bool) (xs ys : List A) → list_any p (xs ++ ys) ≡ false → list_any p xs ≡ false
-none_front p xs ys h = (or_parts (list_any p xs) (list_any p ys) (sym (list_any-append p xs ys) ∙ h)).0
+none_front p xs ys h = (or_parts _ _ (sym (list_any-append p xs ys) ∙ h)).0
 
 pub repeated_front : (xs ys : List Text) → repeated xs ≡ true → repeated (xs ++ ys) ≡ true
 repeated_front [] ys h = absurd (cc)
@@ -76,6 +76,24 @@ up_same s r (suc k) (Some n) g h =
         ≡ flat_map (λ m. template m (s m)) (names_up s (suc k) (Some n)))
     by a0 e f = search (arith, rules, front_carried, up_some)
 
+either_true : (a b : Bool) → (a || b) ≡ true → (a ≡ true) ⊎ (b ≡ true)
+either_true true b h = inl refl
+either_true false b h = inr h
+
+-- Each name of a part of a list keeps its source.
+module _ {s r : Sources} where
+  carries_head : (n : Text) (xs : List Text) → Carries s r (n ∷ xs) → (b : Body) → s n ≡ Some b → r n ≡ Some b
+  carries_head n xs g = g n (ap (λ c. c || among n xs) (reflexive n))
+
+  carries_rest : (n : Text) (xs : List Text) → Carries s r (n ∷ xs) → Carries s r xs
+  carries_rest n xs g m a = g m (or_right _ _ a)
+
+  carries_front : (xs ys : List Text) → Carries s r (xs ++ ys) → Carries s r xs
+  carries_front xs ys g m a = g m (among_front of_texts m xs ys a)
+
+  carries_behind : (xs ys : List Text) → Carries s r (xs ++ ys) → Carries s r ys
+  carries_behind xs ys g m a = g m (among_behind of_texts m xs ys a)
+
 -- Names with a source keep one.
 still_none : (s r : Sources) (xs : List Text) → Carries s r xs → list_any (λ n. is_none (s n)) xs ≡ false
     → list_any (λ n. is_none (r n)) xs ≡ false
@@ -86,7 +104,7 @@ still_none s r (x ∷ xs) g h =
       rules,
       or_parts,
       or_from,
-      still_none s r xs (λ n a. g n (or_right (bytes_eq x n) (among n xs) a)),
+      still_none s r xs (carries_rest x xs g),
       or_right,
       reflexive,
     )
@@ -114,12 +132,12 @@ within_any (y ∷ ys) = skip (within_any ys)
 among_within : {xs ys : List Text} → Within xs ys → (z : Text) → among z xs ≡ true → among z ys ≡ true
 among_within none z a = a
 among_within (keep {x} {xs} {ys} r) z a = search (arith, rules, among_within r z, or_right)
-among_within (skip {y} {xs} {ys} r) z a = or_right (bytes_eq y z) (among z ys) (among_within r z a)
+among_within (skip {y} {xs} {ys} r) z a = or_right _ _ (among_within r z a)
 
 repeated_within : {xs ys : List Text} → Within xs ys → repeated xs ≡ true → repeated ys ≡ true
 repeated_within none h = h
 repeated_within (keep {x} {xs} {ys} r) h = search (arith, rules, repeated_within r, among_within, or_right)
-repeated_within (skip {y} {xs} {ys} r) h = or_right (among y ys) (repeated ys) (repeated_within r h)
+repeated_within (skip {y} {xs} {ys} r) h = or_right _ _ (repeated_within r h)
 
 -- ---- the macros of libraries, if the imported ones keep their source
 
@@ -141,55 +159,43 @@ module _ (s r : Sources) where
   in_imports : (b : Body) → Carries s r (libraries_in b) → Within (imported_names s b) (imported_names r b)
   in_imports trees.end g = none
   in_imports (trees.stmt (trees.import_as line n x) rest) g =
-      keep (in_imports rest (λ m a. g m (or_right (bytes_eq n m) (among m (libraries_in rest)) a)))
+      keep (in_imports rest (carries_rest n (libraries_in rest) g))
   in_imports (trees.stmt (trees.import_from line n xs) rest) g =
-      within_both (in_from n xs (g n (ap (λ c. c || among n (libraries_in rest)) (reflexive n))))
-      (in_imports rest (λ m a. g m (or_right (bytes_eq n m) (among m (libraries_in rest)) a)))
+      within_both (in_from n xs (carries_head n (libraries_in rest) g))
+      (in_imports rest (carries_rest n (libraries_in rest) g))
   in_imports (trees.stmt t rest) g = in_imports rest g
 
   lacking : (b : Body) → Carries s r (libraries_in b) → rules.lacks_macros s b ≡ true → rules.lacks_macros r b ≡ true
   lacking trees.end g h = h
   lacking (trees.stmt (trees.import_from line n xs) rest) g h =
-      by (rules.lacks_one s n xs) refl
-      (lacking rest (λ m a. g m (or_right (bytes_eq n m) (among m (libraries_in rest)) a)))
-    where
-      by : (c : Bool) → rules.lacks_one s n xs ≡ c
-          → (rules.lacks_macros s rest ≡ true → rules.lacks_macros r rest ≡ true)
-          → (rules.lacks_one r n xs || rules.lacks_macros r rest) ≡ true
-      by true e f =
-          ap (λ c. c || rules.lacks_macros r rest)
-          (lacking_from n xs (g n (ap (λ c. c || among n (libraries_in rest)) (reflexive n))) e)
-      by false e f =
-          or_right (rules.lacks_one r n xs) (rules.lacks_macros r rest)
-          (f (sym (ap (λ c. c || rules.lacks_macros s rest) e) ∙ h))
+      ⊎_elim
+      (λ p. or_left _ _
+      (lacking_from n xs (carries_head n (libraries_in rest) g) p))
+      (λ q. or_right _ _
+      (lacking rest (carries_rest n (libraries_in rest) g) q))
+      (either_true (rules.lacks_one s n xs) (rules.lacks_macros s rest) h)
   lacking (trees.stmt (trees.import_as line n x) rest) g h =
-      lacking rest (λ m a. g m (or_right (bytes_eq n m) (among m (libraries_in rest)) a)) h
+      lacking rest (carries_rest n (libraries_in rest) g) h
   lacking (trees.stmt t rest) g h = lacking rest g h
 
   all_imports : (ts : List Template) → Carries s r (flat_map (λ t. libraries_in t.body) ts)
       → Within (flat_map (λ t. imported_names s t.body) ts) (flat_map (λ t. imported_names r t.body) ts)
   all_imports [] g = none
   all_imports (t ∷ ts) g = within_both
-      (in_imports t.body
-      (λ m a. g m (among_front of_texts m (libraries_in t.body) (flat_map (λ u. libraries_in u.body) ts) a)))
-      (all_imports ts
-      (λ m a. g m (among_behind of_texts m (libraries_in t.body) (flat_map (λ u. libraries_in u.body) ts) a)))
+      (in_imports t.body (carries_front (libraries_in t.body) (flat_map (λ u. libraries_in u.body) ts) g))
+      (all_imports ts (carries_behind (libraries_in t.body) (flat_map (λ u. libraries_in u.body) ts) g))
 
   all_lacking : (ts : List Template) → Carries s r (flat_map (λ t. libraries_in t.body) ts)
       → any_lacks_macros s ts ≡ true → any_lacks_macros r ts ≡ true
   all_lacking [] g h = h
   all_lacking (t ∷ ts) g h =
-      by (rules.lacks_macros s t.body) refl (all_lacking ts
-      (λ m a. g m (among_behind of_texts m (libraries_in t.body) (flat_map (λ u. libraries_in u.body) ts) a)))
-    where
-      by : (c : Bool) → rules.lacks_macros s t.body ≡ c → (any_lacks_macros s ts ≡ true → any_lacks_macros r ts ≡ true)
-          → (rules.lacks_macros r t.body || any_lacks_macros r ts) ≡ true
-      by true e f =
-          ap (λ c. c || any_lacks_macros r ts) (lacking t.body
-          (λ m a. g m (among_front of_texts m (libraries_in t.body) (flat_map (λ u. libraries_in u.body) ts) a)) e)
-      by false e f =
-          or_right (rules.lacks_macros r t.body) (any_lacks_macros r ts)
-          (f (sym (ap (λ c. c || any_lacks_macros s ts) e) ∙ h))
+      let rest = flat_map (λ (u : Template). libraries_in u.body) ts in
+      ⊎_elim
+      (λ p. or_left _ _
+      (lacking t.body (carries_front (libraries_in t.body) rest g) p))
+      (λ q. or_right _ _
+      (all_lacking ts (carries_behind (libraries_in t.body) rest g) q))
+      (either_true (rules.lacks_macros s t.body) (any_lacks_macros s ts) h)
 
 -- The names that stand for macros and libraries.
 pub given_names : (s : Sources) (h : Namespace)
@@ -252,8 +258,8 @@ module _ (s r : Sources) (e : Bool) (entry : Namespace)
           inr (inl (
             a_chain h,
             p,
-            long (a_chain h) p (and_from (length (extends_path s e (a_chain h)) == 65)
-                (not (repeated (extends_path s e (a_chain h)))) f (ap not q)),
+            long (a_chain h) p (and_from _
+                _ f (ap not q)),
           ))
       by false q false f = search (arith, rules, first, below, extends_path, a_chain, up_len)
 
@@ -280,10 +286,10 @@ module _ (s r : Sources) (e : Bool) (entry : Namespace)
   whole_same : (h : Namespace) → Reaches r e entry h → is_whole s e h ≡ true
       → (templates r h ≡ templates s h) × (is_whole r e h ≡ true)
   whole_same h p w =
-      let w1 = and_parts (not (repeated (extends_path s e h)))
-      (nat_lt (length (extends_path s e h)) 65 && not (list_any (λ n. is_none (s n)) (extends_path s e h))) w in
-      let w2 = and_parts (nat_lt (length (extends_path s e h)) 65)
-      (not (list_any (λ n. is_none (s n)) (extends_path s e h))) w1.1 in
+      let w1 = and_parts _
+      _ w in
+      let w2 = and_parts _
+      _ w1.1 in
       let sources : list_any (λ n. is_none (s n)) (extends_path s e h) ≡ false =
       not-true (list_any (λ n. is_none (s n)) (extends_path s e h)) w2.1 in
       let one = same_namespace_way h p sources in
@@ -291,10 +297,10 @@ module _ (s r : Sources) (e : Bool) (entry : Namespace)
       still_none s r (extends_path s e h) (λ n a. on_path s r e entry g h p n (ap (among n) one.0 ∙ a)) sources in (
         one.1,
         ap (λ l. not (repeated l) && (nat_lt (length l) 65 && not (list_any (λ n. is_none (r n)) l))) one.0
-            ∙ and_from (not (repeated (extends_path s e h)))
-            (nat_lt (length (extends_path s e h)) 65 && not (list_any (λ n. is_none (r n)) (extends_path s e h))) w1.0
-            (and_from (nat_lt (length (extends_path s e h)) 65)
-            (not (list_any (λ n. is_none (r n)) (extends_path s e h))) w2.0 (ap not still)),
+            ∙ and_from _
+            _ w1.0
+            (and_from _
+            _ w2.0 (ap not still)),
       )
     where
       same_namespace_way : (k : Namespace) → Reaches r e entry k
@@ -351,7 +357,7 @@ module _ (s r : Sources) (e : Bool) (entry : Namespace)
   pub macro_twice : MacroTwice s e entry → MacroTwice r e entry
   macro_twice x =
       let p = there x.1 in
-      let k = and_parts (is_whole s e x.0) (repeated (map (λ y. y.0) (given s x.0))) x.2 in
+      let k = and_parts _ _ x.2 in
       let w = whole_same x.0 p k.0 in (
         x.0,
         p,
@@ -375,7 +381,7 @@ module _ (s r : Sources) (e : Bool) (entry : Namespace)
           ∙ any_front (λ u. rules.lacks_macros r u.body) (templates s h) more.0
           (all_lacking s r (templates s h) (λ k a. on_libraries s r e entry g h p k
           (ap (λ vs. among k (flat_map f vs)) more.1 ∙ ap (among k) (flat_map-append f (templates s h) more.0)
-          ∙ among_front of_texts k (flat_map f (templates s h)) (flat_map f more.0) a)) t)
+          ∙ among_front of_texts k _ _ a)) t)
 
   pub not_a_library : NotALibrary s e entry → NotALibrary r e entry
   not_a_library x = search (arith, rules, there, on_path, reflexive)

@@ -1,23 +1,23 @@
 -- Errors of a source: its segments with their options, and the trees that they spell.
 use Rattle.std.proofs.Common.{◌≡◌, ◌<◌, ◌≤◌, List, [], ◌∷◌, length, map, refl, sym, ap, subst, ◌∙◌, chars, Some, None}
 use Rattle.std.proofs.Common.{arith, rules}
-use Rattle.jt_scan.specs.Cut as cut
 use Rattle.jt_scan.specs.Cut.{Text, IsCut}
 use Rattle.jt_scan.specs.View.{segment_view, HaveOptions}
-use Rattle.jt_scan.specs.Refused as scanner
 use Rattle.jt_scan.specs.declared.error.ScanError.{ScanError}
-use Rattle.jt_scan.specs.declared.error.ScanError.TheVariants as scan_error
 use Rattle.jt_scan.specs.declared.segment.Segment.{Segment}
 use Rattle.jt_parse.specs.Kept.{Read}
 use Rattle.jt_parse.specs.declared.error.ParseError.{ParseError}
-use Rattle.jt_parse.specs.declared.error.ParseError.TheVariants as parse_error
 use Rattle.jt_ast.specs.declared.statement.Template.{Template}
 use Rattle.jt_inherit.specs.Chains.{HasNoTree}
 use Rattle.jt_inherit.specs.internal.Faults.{IsFault, IsScan, IsParse}
-use Rattle.jt_inherit.specs.declared.error.ChainError.TheVariants as error
 use Rattle.jt_inherit.proofs.Vocabulary.{cases_lt, normalized, Held, max_source_len, cut_of, Options, Spelled, pieces}
 use Rattle.jt_inherit.proofs.Vocabulary.{body_unknown, IsRefusal, Body, body_levels, body_of, reads_of, SourceTexts}
 use Rattle.jt_inherit.proofs.Vocabulary.{IsTree, IsOnly, IsUncut, IsUnspelled, ChainError}
+use Rattle.jt_scan.specs.Cut as cut
+use Rattle.jt_scan.specs.Refused as scanner
+use Rattle.jt_scan.specs.declared.error.ScanError.TheVariants as scan_error
+use Rattle.jt_parse.specs.declared.error.ParseError.TheVariants as parse_error
+use Rattle.jt_inherit.specs.declared.error.ChainError.TheVariants as error
 
 -- If each segment has the options, the segments as read are the cut with these options.
 pub read_cut : (options : Options) (ss : List Segment) → HaveOptions options ss

@@ -1,16 +1,16 @@
 -- The library of a name in a store: its macros, its path, and the names that are imported from it.
 use Rattle.std.proofs.Common.{◌≡◌, ℕ, ◌<◌, length, get_or, arith, string_bytes, Bool, false, ◌&&◌, ◌||◌, List, [], ◌∷◌}
 use Rattle.std.proofs.Common.{refl, sym, ap, ◌∙◌, Option, Some, None, rules, zero, suc, true, not}
-use Rattle.jt_chains.specs.Tables.{library_macros}
-use Rattle.jt_chains.specs.Rules.{lacks_one}
-use Rattle.jt_inherit.proofs.Vocabulary.{slice_get, flat_map, is_some, is_none, length-map, append-nil}
+use Rattle.jt_inherit.proofs.PathsGrow.{file_there, nothing_read}
+use Rattle.jt_inherit.proofs.Vocabulary.{HasPath, names, slice_get, flat_map, is_some, is_none, length-map, append-nil}
 use Rattle.jt_inherit.proofs.Vocabulary.{slice_get_within, Text, Body, body_of, among, repeated, Sources, a_library}
 use Rattle.jt_inherit.proofs.Vocabulary.{Template, library_template, holds_macros, is_a_library, MacroBody, macros}
 use Rattle.jt_inherit.proofs.Vocabulary.{macros_in, public_macro, sources_in, file_view, files_view, TemplateFile}
-use Rattle.jt_inherit.proofs.Vocabulary.{map_at, only_one, macros_held, names_from, AreNamed, Options, SourceTexts}
-use Rattle.jt_inherit.proofs.Vocabulary.{AreKnown, HasRead, is_no_library, names_view, Names, not-false}
+use Rattle.jt_inherit.proofs.Vocabulary.{only_one, macros_held, names_from, Options, SourceTexts, AreKnown}
+use Rattle.jt_inherit.proofs.Vocabulary.{is_no_library, not-false}
+use Rattle.jt_chains.specs.Tables.{library_macros}
+use Rattle.jt_chains.specs.Rules.{lacks_one}
 use Rattle.jt_inherit.proofs.DiscoveryInvariant.{some_source}
-use Rattle.jt_inherit.proofs.PathsGrow.{names, name_of_slice}
 
 pub unread : (ts : List Template) (n : Text) → among n (names ts) ≡ false → is_a_library (sources_in ts n) ≡ false
 unread ts n h = by (sources_in ts n) (some_source ts n ∙ h)
@@ -26,32 +26,25 @@ held_read : (n m : Text) (b : Body) → m ≡ n → library_macros m b ≡ own_m
 held_read n m b e = search (arith, rules, append-nil)
 
 -- The template of a name, at its index.
-module _ (ps : List TemplateFile) (ks : List Text) (k : AreNamed (files_view ps) ks) (n : Text) (i : ℕ)
-    (at : slice_get ks i ≡ Some n) where
-  named_at : slice_get (names (files_view ps)) i ≡ Some n
-  named_at = ap (λ l. slice_get l i) (sym k.0) ∙ at
-
+module _ (ps : List TemplateFile) (once : repeated (names (files_view ps)) ≡ false) (n : Text) (i : ℕ)
+    (at : slice_get (names (files_view ps)) i ≡ Some n) where
   pub index_read : i < length ps
-  index_read = search (arith, rules, slice_get_within, names, named_at, length-map)
+  index_read = search (arith, rules, slice_get_within, names, length-map)
 
   module _ (p : TemplateFile) (is : p ≡ get_or ps i p) where
-    there : slice_get (files_view ps) i ≡ Some (file_view p)
-    there = map_at file_view ps i p index_read is
-
-    name_is : string_bytes p.name ≡ n
-    name_is = search (arith, rules, name_of_slice, there, named_at)
+    there : (slice_get (files_view ps) i ≡ Some (file_view p)) × (string_bytes p.name ≡ n)
+    there = file_there ps i at is
 
     source_is : sources_in (files_view ps) n ≡ Some (body_of p.template)
     source_is =
-        ap (sources_in (files_view ps)) (sym name_is)
-        ∙ only_one (files_view ps) i (file_view p) (ap (λ l. repeated l) (sym k.0) ∙ k.1) there
+        ap (sources_in (files_view ps)) (sym there.1) ∙ only_one (files_view ps) i (file_view p) once there.0
 
     pub is_library_read : (b : Bool) → b ≡ holds_macros (body_of p.template)
         → is_a_library (sources_in (files_view ps) n) ≡ b
     is_library_read b e = ap is_a_library source_is ∙ sym e
 
     pub macros_there : macros_held p ≡ macros (sources_in (files_view ps)) (a_library n)
-    macros_there = search (arith, rules, held_read, string_bytes, body_of, name_is, library_template, source_is)
+    macros_there = search (arith, rules, held_read, string_bytes, body_of, there, library_template, source_is)
 
 no_macros : (s : Sources) (n : Text) → is_a_library (s n) ≡ false → macros s (a_library n) ≡ []
 no_macros s n e = search (arith, rules)
@@ -97,10 +90,11 @@ library_known ts n e = sym (some_source ts n) ∙ by (sources_in ts n) refl
         absurd (cc)
     by (Some b) h = refl
 
-pub library_read : {given : SourceTexts} {options : Options} (ps : List TemplateFile) (ks : Names)
-    → AreKnown given options (files_view ps) (names_view ks) → (n : Text)
-    → is_no_library (files_view ps) (a_library n) ≡ false
-    → {is : List ℕ} (i : ℕ) → is ≡ i ∷ [] → slice_get (names_view ks) i ≡ Some n
-    → HasRead given options ps ps ks ks (a_library n) is
-library_read {given} {options} ps ks known n library {is} i e at =
-    search (arith, rules, of_name, only_one, append-nil, slice_get_within, not-false, names)
+pub library_read : {given : SourceTexts} {options : Options} {ts : List Template} → AreKnown given options ts
+    → (n : Text) → is_no_library ts (a_library n) ≡ false
+    → {is : List ℕ} (i : ℕ) → is ≡ i ∷ [] → slice_get (names ts) i ≡ Some n → HasPath given options ts ts
+    (a_library n) is
+library_read {given} {options} {ts} known n library {is} i e at = record {
+  read = nothing_read known;
+  led = search (arith, rules, of_name, only_one, append-nil, slice_get_within, not-false, names);
+}

@@ -28,7 +28,7 @@ both : {o p : Option ℕ} {c d : Bool} {f g : ℕ → Bool} → Tells o c f → 
     → Tells (option_or o p) (c || d) (λ n. f n || g n)
 both {o = None} {p = None} {d = d} a b = record { there = b.there ∙ ap (λ x. x || d) a.there; shown = tt }
 both {o = None} {p = Some n} {d = d} {f = f} {g = g} a b =
-    record { there = b.there ∙ ap (λ x. x || d) a.there; shown = or_right (f n) (g n) b.shown }
+    record { there = b.there ∙ ap (λ x. x || d) a.there; shown = or_right _ _ b.shown }
 both {o = Some n} {d = d} {g = g} a b =
     record { there = ap (λ x. x || d) a.there; shown = ap (λ x. x || g n) a.shown }
 

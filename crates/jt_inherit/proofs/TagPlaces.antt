@@ -1,19 +1,33 @@
--- The places of tags: what the first ones show.
+-- The places of tags: what the first ones show, and that whatever statements name has a use.
 use Rattle.std.proofs.Common.{rules, ◌≡◌, ℕ, zero, suc, ◌+◌, ◌<◌, Bool, true, false, cond, List, [], ◌∷◌, ◌++◌, length}
-use Rattle.std.proofs.Common.{drop, get_or, refl, sym, ap, subst, ◌∙◌, arith, inl, inr, ⊎_elim, Option, Some}
+use Rattle.std.proofs.Common.{drop, get_or, refl, sym, ap, subst, ◌∙◌, arith, inl, inr, ⊎_elim, Option, Some, not, ◌||◌}
+use Rattle.std.proofs.Common.{◌&&◌, map, None, if◌then◌else◌, string_bytes, add-one}
 use Rattle.std.specs.Prelude.{None}
 use Rattle.std.proofs.lemmas.List.Elements.{filter-append}
-use Rattle.jt_uses.specs.Uses as uses
 use Rattle.jt_inherit.specs.internal.Breaking.{TwiceAt, lacks}
-use Rattle.jt_inherit.specs.declared.error.ChainError.TheVariants as error
-use Rattle.jt_inherit.specs.declared.finding.ChainSubject.TheVariants as v
 use Rattle.jt_inherit.specs.internal.Tags.{place_of}
 use Rattle.jt_inherit.proofs.Vocabulary.{option_map, slice_get, option_to_list, append_assoc, Text, Use, Site}
 use Rattle.jt_inherit.proofs.Vocabulary.{templates_at, Sources, Template, file_view, files_view, TemplateFile, map_at}
 use Rattle.jt_inherit.proofs.Vocabulary.{ForSome, InTurn, IsAt, HasTag, all_uses, uses_in, asks, binds_macro}
 use Rattle.jt_inherit.proofs.Vocabulary.{is_extends, IsOfRule, IsTwiceIn, RuleAt, ChainFinding, ChainSubject, tags}
-use Rattle.jt_inherit.proofs.Vocabulary.{place_in, place_view, tag_view, tags_view, FoundTag, TagPlace}
-use Rattle.jt_inherit.proofs.PathsGrow.{templates_turn}
+use Rattle.jt_inherit.proofs.Vocabulary.{place_in, place_view, tag_view, tags_view, FoundTag, TagPlace, flat_map}
+use Rattle.jt_inherit.proofs.Vocabulary.{is_some, bytes_eq, Stmt, Body, Branches, among, body_uses, outside, AreIndices}
+use Rattle.jt_inherit.proofs.Vocabulary.{Namespace, a_chain, a_library, listed, templates, extends_of, libraries}
+use Rattle.jt_inherit.proofs.Vocabulary.{libraries_in, included, includes_in, needs_by, needs_in, needs_under}
+use Rattle.jt_inherit.proofs.Vocabulary.{with_source, include_need, library_need, needed, by_templates, needed-append}
+use Rattle.jt_inherit.proofs.Vocabulary.{is_import, is_include, leads_to, needs_along, among_cases, only_among}
+use Rattle.jt_inherit.proofs.Vocabulary.{of_texts, reflexive, AllByRecursion, calls_super_at, is_required, IsLastCall}
+use Rattle.jt_inherit.proofs.PathsGrow.{templates_turn, among_passes, chains_listed, libraries_listed}
+use Rattle.jt_inherit.specs.internal.Placing.{IsParentAt, extends_at}
+use Rattle.jt_uses.specs.Uses.{branch_uses, stmt_uses, expr_uses, pair_uses, keys_bound, bound, filter_call_uses}
+use Rattle.jt_uses.specs.Uses.{condition_uses, place_at, inside_scope, inside_loop, inside_block, inside_macro}
+use Rattle.jt_uses.specs.declared.site.Enclosing.{Enclosing}
+use Rattle.jt_chains.specs.Includes.{need}
+use Rattle.jt_inherit.proofs.DiscoveryInvariant.{includes_told, imports_needed}
+use Rattle.jt_uses.specs.Uses as uses
+use Rattle.jt_inherit.specs.declared.error.ChainError.TheVariants as error
+use Rattle.jt_inherit.specs.declared.finding.ChainSubject.TheVariants as v
+use Rattle.jt_ast.specs.Statements as trees
 
 -- ---- tags of several templates
 
@@ -123,7 +137,7 @@ uses-append (t ∷ ts) us =
 pub tag_front : (test : Use → Bool) (p : TagPlace) (ts us : List Template) → HasTag test ts p
     → HasTag test (ts ++ us) p
 tag_front test p ts us h =
-    subst (ForSome (IsAt test p)) (sym (uses-append ts us)) (some_front (IsAt test p) (all_uses ts) (all_uses us) h)
+    subst (ForSome (IsAt test p)) (sym (uses-append ts us)) (some_front _ _ _ h)
 
 -- A tag of the last template is one of them all.
 pub tag_last : (test : Use → Bool) (p : TagPlace) (ts : List Template) (t : Template)
@@ -134,7 +148,7 @@ tag_last test p ts t h = search (arith, rules, uses-append, some_behind, all_use
 pub tag_weaker : (test weak : Use → Bool) → ((u : Use) → test u ≡ true → weak u ≡ true) → (p : TagPlace)
     (ts : List Template) → HasTag test ts p → HasTag weak ts p
 tag_weaker test weak f p ts h =
-    some_weaker (IsAt test p) (IsAt weak p) (λ x q. (q.0, q.1, f x.1.made q.2)) (all_uses ts) h
+    some_weaker _ _ (λ x q. (q.0, q.1, f x.1.made q.2)) _ h
 
 -- The `extends` tag asks for its parent.
 pub extends_asks : (all : Bool) (n : Text) (u : Use) → is_extends n u ≡ true → asks all n u ≡ true
@@ -157,7 +171,7 @@ some_template P ps [] k p lt within at h = absurd (omega arith)
 some_template P ps (i ∷ is) zero p lt within at h =
     search (arith, rules, option_to_list, templates_at, files_view, map_at, file_view)
 some_template P ps (i ∷ is) (suc k) p lt within at h =
-    some_behind P (option_to_list (slice_get (files_view ps) i)) (templates_at (files_view ps) is)
+    some_behind P _ _
     (some_template P ps is k p (omega arith) within at h)
 
 pub twice_rule : (s : Sources) (ps : List TemplateFile) (is : List ℕ) (k : ℕ) (p : TemplateFile) (f : ChainFinding)
@@ -170,3 +184,214 @@ twice_rule s ps is k p f lt within at told = (told.0, by f.place f.subject told.
     by None None h = tt
     by (Some q) (Some (v.BlockTwice x first)) h = search (arith, rules, some_template)
     by q x h = absurd h
+
+-- The use at a place passes the test.
+abbrev Passes : (Use → Bool) → Site → Type 0
+Passes test s = test s.made ≡ true
+
+-- A name among the names of one part or another.
+either : (test : Use → Bool) (n : Text) (xs ys : List Text) (ss us : List Site) → among n (xs ++ ys) ≡ true
+    → (among n xs ≡ true → ForSome (Passes test) ss) → (among n ys ≡ true → ForSome (Passes test) us)
+    → ForSome (Passes test) (ss ++ us)
+either test n xs ys ss us a f g =
+    ⊎_elim (λ p. some_front _ ss us (f p)) (λ q. some_behind _ ss us (g q))
+    (among_cases of_texts n xs ys a)
+
+-- ---- includes
+
+module _ (all : Bool) (n : Text) (test : Use → Bool)
+    (passes : (m : Text) (i c : Bool) → among n (need all m i) ≡ true → test (uses.includes m i c) ≡ true) where
+  mutual
+    by_statement : (s : Stmt) (w : Enclosing) → among n (needs_by all s) ≡ true → ForSome (Passes test) (stmt_uses s w)
+    by_statement (trees.include line m i c) w a = inl (passes m i c a)
+    by_statement (trees.choose bs other) w a =
+        either test n _ _ _ _ a
+        (λ p. by_branches bs w p) (λ q. by_body other w q)
+    by_statement (trees.for_each line xs e c body other) w a =
+        some_behind _
+        (expr_uses e (place_at line w)
+        ++ (bound xs (place_at line (inside_scope w)) ++ condition_uses c (place_at line w)))
+        _
+        (either test n _ _ _ _ a
+        (λ p. by_body body (inside_loop w) p) (λ q. by_body other w q))
+    by_statement (trees.set_block line x body) w a = inr (by_body body (inside_scope w) a)
+    by_statement (trees.with_values line ps body) w a =
+        some_behind (Passes test) (pair_uses ps (place_at line w))
+        (keys_bound ps (place_at line (inside_scope w)) ++ body_uses body (inside_scope w))
+        (some_behind _ _ _
+        (by_body body (inside_scope w) a))
+    by_statement (trees.filter_block line fs body) w a =
+        some_behind (Passes test) (filter_call_uses fs (place_at line w)) (body_uses body (inside_scope w))
+        (by_body body (inside_scope w) a)
+    by_statement (trees.autoescape line on body) w a = by_body body (inside_scope w) a
+    by_statement (trees.macro line x ps body) w a =
+        inr (some_behind _ _
+        _ (by_body body (inside_macro w) a))
+    by_statement (trees.block line x scoped required body) w a = inr (by_body body (inside_block w) a)
+    by_statement s w a = absurd (cc)
+
+    by_body : (b : Body) (w : Enclosing) → among n (needs_in all b) ≡ true → ForSome (Passes test) (body_uses b w)
+    by_body trees.end w a = absurd (cc)
+    by_body (trees.stmt s rest) w a =
+        either test n _ _ _ _ a
+        (λ p. by_statement s w p) (λ q. by_body rest w q)
+
+    by_branches : (bs : Branches) (w : Enclosing) → among n (needs_under all bs) ≡ true
+        → ForSome (Passes test) (branch_uses bs w)
+    by_branches trees.no_branches w a = absurd (cc)
+    by_branches (trees.branch line c body rest) w a =
+        either test n _ _ _
+        _ a
+        (λ p. some_behind _ _ _ (by_body body w p))
+        (λ q. by_branches rest w q)
+
+-- ---- imports and parents
+
+module _ (n : Text) (test : Use → Bool) (passes : test (uses.imports n) ≡ true) where
+  imports_by : (m : Text) → among n (m ∷ []) ≡ true → test (uses.imports m) ≡ true
+  imports_by m a = subst (λ z. test (uses.imports z) ≡ true) (sym (only_among of_texts _ _ a)) passes
+
+  libraries_by : (b : Body) (w : Enclosing) → among n (libraries_in b) ≡ true → ForSome (Passes test) (body_uses b w)
+  libraries_by trees.end w a = absurd (cc)
+  libraries_by (trees.stmt (trees.import_as line m x) rest) w a =
+      ⊎_elim (λ p. inl (imports_by m p)) (λ q. inr (inr (libraries_by rest w q)))
+      (among_cases of_texts n (m ∷ []) (libraries_in rest) a)
+  libraries_by (trees.stmt (trees.import_from line m xs) rest) w a =
+      ⊎_elim (λ p. inl (imports_by m p))
+      (λ q.
+      inr (some_behind _ _ _ (libraries_by rest w q)))
+      (among_cases of_texts n (m ∷ []) (libraries_in rest) a)
+  libraries_by (trees.stmt s rest) w a =
+      some_behind (Passes test) (stmt_uses s w) (body_uses rest w) (libraries_by rest w a)
+
+extends_is : (b : Body) → option_map (λ q. q.0) (extends_at b) ≡ extends_of b
+extends_is trees.end = refl
+extends_is (trees.stmt (trees.extends line m) rest) = refl
+extends_is (trees.stmt s rest) = extends_is rest
+
+extends_by : (n : Text) (line : ℕ) (b : Body) (w : Enclosing) → extends_at b ≡ Some (n, line)
+    → ForSome (λ (s : Site). (line ≡ s.place.line) × Passes (is_extends n) s) (body_uses b w)
+extends_by n line trees.end w e = absurd (cc)
+extends_by n line (trees.stmt (trees.extends at m) rest) w e =
+    let same : ◌≡◌ {A = Text × ℕ} (m, at) (n, line) = cc in
+    inl (sym (ap (λ (q : Text × ℕ). q.1) same), ap (λ (q : Text × ℕ). bytes_eq q.0 n) same ∙ reflexive n)
+extends_by n line (trees.stmt s rest) w e =
+    some_behind (λ (z : Site). (line ≡ z.place.line) × Passes (is_extends n) z) (stmt_uses s w) (body_uses rest w)
+    (extends_by n line rest w e)
+
+-- ---- the uses of templates
+
+with_name : (test : Use → Bool) (n : Text) (ss : List Site) → ForSome (Passes test) ss
+    → HasUse test (map (λ s. (n, s)) ss)
+with_name test n [] h = absurd h
+with_name test n (s ∷ ss) h = ⊎_elim (λ p. inl p) (λ q. inr (with_name test n ss q)) h
+
+-- The tag by which a template extends a name.
+pub extends_tag : (t : Template) (n : Text) (p : TagPlace) → extends_at t.body ≡ Some (n, p.line)
+    → string_bytes p.template ≡ t.name → IsParentAt t n (Some p)
+extends_tag t n p e named = (
+  sym (extends_is t.body) ∙ ap (option_map (λ (q : Text × ℕ). q.0)) e,
+  named,
+  at_tag (body_uses t.body outside) (extends_by n p.line t.body outside e),
+)
+  where
+    at_tag : (ss : List Site) → ForSome (λ (s : Site). (p.line ≡ s.place.line) × Passes (is_extends n) s) ss
+        → ForSome (IsAt (is_extends n) p) (map (λ s. (t.name, s)) ss)
+    at_tag [] h = absurd h
+    at_tag (s ∷ ss) h = ⊎_elim (λ q. inl (named, q.0, q.1)) (λ q. inr (at_tag ss q)) h
+
+pub extends_none : (b : Body) → extends_at b ≡ None → extends_of b ≡ None
+extends_none b e = sym (extends_is b) ∙ ap (option_map (λ (q : Text × ℕ). q.0)) e
+
+in_templates : (test : Use → Bool) (n : Text) (g : Body → List Text)
+    → ((b : Body) → among n (g b) ≡ true → ForSome (Passes test) (body_uses b outside)) → (ts : List Template)
+    → among n (flat_map (λ t. g t.body) ts) ≡ true → HasUse test (all_uses ts)
+in_templates test n g f [] a = absurd (cc)
+in_templates test n g f (t ∷ ts) a =
+    ⊎_elim
+    (λ p.
+    some_front _ _ _
+    (with_name test t.name _ (f t.body p)))
+    (λ q.
+    some_behind _ _ _
+    (in_templates test n g f ts q))
+    (among_cases of_texts n _ _ a)
+
+asks_include : (all : Bool) (n m : Text) (i c : Bool) → among n (need all m i) ≡ true
+    → asks all n (uses.includes m i c) ≡ true
+asks_include all n m i c a = by (all || not i) a
+  where
+    by : (b : Bool) → among n (if b then m ∷ [] else []) ≡ true → (b && bytes_eq m n) ≡ true
+    by true h = subst (λ z. bytes_eq z n ≡ true) (sym (only_among of_texts _ _ h)) (reflexive n)
+    by false h = absurd (cc)
+
+-- A template that is asked for has a tag that asks for it.
+pub asked_used : (all : Bool) (n : Text) (ts : List Template) (is : List ℕ) → AreIndices ts is
+    → among n (needed all (needs_along ts is)) ≡ true → HasUse (asks all n) (all_uses (templates_at ts is))
+asked_used all n ts is w a =
+    let us = templates_at ts is in
+    let libs = flat_map (λ (t : Template). libraries_in t.body) us in
+    let told = ap (needed all) (includes_told ts is w)
+    ∙ needed-append all (flat_map (λ (t : Template). includes_in include_need t.body) us) (map library_need libs)
+    ∙ ap (λ l. l ++ needed all (map library_need libs)) (by_templates all us)
+    ∙ ap (λ l. flat_map (λ (t : Template). needs_in all t.body) us ++ l) (imports_needed all libs) in
+    ⊎_elim
+    (λ p.
+    in_templates _ n _
+    (λ b q. by_body all n (asks all n) (asks_include all n) b outside q) us p)
+    (λ p. in_templates _ n _
+    (λ b q. libraries_by n (asks all n) (reflexive n) b outside q) us p)
+    (among_cases of_texts n _ _ (sym (ap (among n) told) ∙ a))
+
+-- A chain or library that another one leads to has a tag there that leads to it.
+pub leads_used : (s : Sources) (h m : Namespace) → listed m (included s h) ≡ true
+    → HasUse (leads_to m) (all_uses (templates s h))
+leads_used s h (a_chain n) a =
+    let xs = flat_map (λ (t : Template). needs_in true t.body) (templates s h) in
+    let there = (among_passes (λ m. is_some (s m)) n xs
+    (sym (chains_listed n (with_source s xs) (with_source s (libraries s h))) ∙ a)).0 in
+    in_templates (is_include n) n (needs_in true)
+    (λ b q. by_body true n (is_include n) (λ m i c p.
+    subst (λ z. bytes_eq z n ≡ true) (sym (only_among of_texts _ _ p)) (reflexive n)) b outside q) (templates s h) there
+leads_used s (a_chain k) (a_library n) a =
+    let xs = flat_map (λ (t : Template). needs_in true t.body) (templates s (a_chain k)) in
+    let there = (among_passes (λ m. is_some (s m)) n (libraries s (a_chain k))
+    (sym (libraries_listed n (with_source s xs) (with_source s (libraries s (a_chain k)))) ∙ a)).0 in
+    in_templates (is_import n) n libraries_in (λ b q. libraries_by n (is_import n) (reflexive n) b outside q)
+    (templates s (a_chain k)) there
+leads_used s (a_library k) (a_library n) a =
+    let xs = flat_map (λ (t : Template). needs_in true t.body) (templates s (a_library k)) in
+    let there : among n [] ≡ true = (among_passes (λ m. is_some (s m)) n []
+    (sym (libraries_listed n (with_source s xs) []) ∙ a)).0 in
+    absurd (cc)
+
+there : (qs : List FoundTag) (b : FoundTag) (rest : List FoundTag)
+    → slice_get (tags_view (qs ++ b ∷ rest)) (length qs) ≡ Some (tag_view b)
+there [] b rest = refl
+there (q ∷ qs) b rest = there qs b rest
+
+past : (qs : List FoundTag) (b : FoundTag) (rest : List FoundTag)
+    → drop (suc (length qs)) (tags_view (qs ++ b ∷ rest)) ≡ tags_view rest
+past [] b rest = refl
+past (q ∷ qs) b rest = past qs b rest
+
+behind : (qs : List FoundTag) (b : FoundTag) (rest : List FoundTag)
+    → drop (length qs + 1) (tags_view (qs ++ b ∷ rest)) ≡ tags_view rest
+behind qs b rest = ap (λ n. drop n (tags_view (qs ++ b ∷ rest))) (add-one (length qs)) ∙ past qs b rest
+
+required : (ts : List FoundTag) → AllByRecursion (λ t. is_required (tag_view t).1.made ≡ true) ts
+    → AllByRecursion (λ s. is_required s.1.made ≡ true) (tags_view ts)
+required [] a = tt
+required (t ∷ ts) a = (a.0, required ts a.1)
+
+pub call_found : (bs qs : List FoundTag) (b : FoundTag) (rest : List FoundTag) → bs ≡ qs ++ b ∷ rest → (line : ℕ)
+    → calls_super_at line (tag_view b).1.made ≡ true
+    → AllByRecursion (λ t. is_required (tag_view t).1.made ≡ true) rest → IsLastCall (tags_view bs) (tag_view b) line
+call_found bs qs b rest e line h a =
+    subst (λ (z : List FoundTag). IsLastCall (tags_view z) (tag_view b) line) (sym e) (record {
+      number = length qs;
+      there = there qs b rest;
+      calls = h;
+      last =
+          subst (AllByRecursion (λ s. is_required s.1.made ≡ true)) (sym (behind qs b rest)) (required rest a);
+    })

@@ -1,13 +1,13 @@
 -- An order of numbers determines an order of namespaces, each before those that it leads to.
 use Rattle.std.proofs.Common.{◌≡◌, ℕ, zero, suc, ◌<◌, ◌==◌, Bool, true, false, not, ◌||◌, List, [], ◌∷◌, length, map}
 use Rattle.std.proofs.Common.{refl, sym, ap, ◌∙◌, arith, Some, rules}
-use Rattle.jt_graph.specs.Graph as graph
 use Rattle.jt_graph.specs.Graph.{AreOrdered}
 use Rattle.jt_inherit.proofs.Vocabulary.{slice_get, unwrap_or, AllByRecursion, nat_tests, Graph, next_of, Sources}
 use Rattle.jt_inherit.proofs.Vocabulary.{Namespace, a_chain, same_namespace, listed, included, AllIn, InOrder}
 use Rattle.jt_inherit.proofs.Vocabulary.{namespace_at, Reaches, here, through, twice, both_ways, not-true, or_from}
 use Rattle.jt_inherit.proofs.Vocabulary.{or_parts, or_right}
 use Rattle.jt_inherit.proofs.NamespaceMembership.{reflexive, same}
+use Rattle.jt_graph.specs.Graph as graph
 
 equal : (i j : ℕ) → (i == j) ≡ true → i ≡ j
 equal i j e = grind (arith, nat_tests)
@@ -45,7 +45,7 @@ one_number (h ∷ hs) zero zero once p q e = refl
 one_number (h ∷ hs) zero (suc j) once p q e = search (arith, rules, namespace_among, or_parts)
 one_number (h ∷ hs) (suc i) zero once p q e = search (arith, rules, namespace_among, or_parts)
 one_number (h ∷ hs) (suc i) (suc j) once p q e =
-    ap suc (one_number hs i j (or_parts (listed h hs) (twice hs) once).1 (omega arith) (omega arith) e)
+    ap suc (one_number hs i j (or_parts _ _ once).1 (omega arith) (omega arith) e)
 
 pub named_among : (hs : List Namespace) (j : ℕ) (is : List ℕ) → graph.among j is ≡ true
     → listed (namespace_at hs j) (map (namespace_at hs) is) ≡ true
@@ -72,7 +72,7 @@ all_in hs is (j ∷ js) (n ∷ ns) e f =
     let name : namespace_at hs j ≡ n = ap (λ o. unwrap_or o (a_chain [])) h in
     let there : graph.among j is ≡ true = f j (ap (λ b. b || graph.among j js) (itself j)) in (
       ap (λ x. listed x (map (namespace_at hs) is)) (sym name) ∙ named_among hs j is there,
-      all_in hs is js ns r (λ k a. f k (or_right (j == k) (graph.among k js) a)),
+      all_in hs is js ns r (λ k a. f k (or_right _ _ a)),
     )
 
 pub names_in_order : (s : Sources) (hs : List Namespace) (g : Graph) (is : List ℕ) → twice hs ≡ false
@@ -81,9 +81,9 @@ pub names_in_order : (s : Sources) (hs : List Namespace) (g : Graph) (is : List 
     → AreOrdered g is → InOrder s (map (namespace_at hs) is)
 names_in_order s hs g [] once w n o = tt
 names_in_order s hs g (i ∷ is) once w n o = (
-  ap not (named_apart hs i is once w.0 w.1 (not-true (graph.among i is) o.0)),
+  ap not (named_apart hs i is once w.0 w.1 (not-true _ o.0)),
   (
-    all_in hs is (next_of g i) (included s (namespace_at hs i)) (n i w.0) o.1.0,
+    all_in hs is _ _ (n i w.0) o.1.0,
     names_in_order s hs g is once w.1 n o.1.1,
   ),
 )
@@ -102,8 +102,8 @@ next_in_order s (x ∷ os) k m o a i = by (same_namespace x k) refl (λ h. next_
     by : (b : Bool) → same_namespace x k ≡ b → (listed k os ≡ true → listed m os ≡ true) → listed m (x ∷ os) ≡ true
     by true e r =
         or_right (same_namespace x m) (listed m os)
-        (all_in_among (included s x) os m o.1.0 (ap (λ y. listed m (included s y)) (same x k e) ∙ i))
-    by false e r = or_right (same_namespace x m) (listed m os) (r (sym (ap (λ b. b || listed k os) e) ∙ a))
+        (all_in_among _ os m o.1.0 (ap (λ y. listed m (included s y)) (same x k e) ∙ i))
+    by false e r = or_right _ _ (r (sym (ap (λ b. b || listed k os) e) ∙ a))
 
 -- A namespace that a member reaches is a member.
 pub reached_in_order : (s : Sources) (e : Bool) (os : List Namespace) → InOrder s os → {k m : Namespace}

@@ -4,7 +4,6 @@ use Rattle.std.proofs.Common.{ap, subst, ◌∙◌, arith, encode_utf8_all, leng
 use Rattle.std.proofs.Common.{Some, None, List, chars, IsUtf8}
 use Rattle.std.proofs.lemmas.Str.{encodes-append, length-encode, len_utf8_bounds, len_utf8_ascii, encodes-chars}
 use lib.Utf8.{encode}
-use Rattle.jt_scan.specs.Literals as literal
 use Rattle.jt_scan.specs.Literals.{Text, digit_value, is_digit, AllDigits, number_of, Escape, drops, gives, octal}
 use Rattle.jt_scan.specs.Literals.{hexadecimal, refused, stays, escape, Means}
 use Rattle.jt_inherit.proofs.Vocabulary.{nat_tests, length-le-encodes, TagKind, Mark, cases_lt, normalized, Held}
@@ -13,13 +12,14 @@ use Rattle.jt_scan.specs.Cut.{closing_text, behind_mark, is_space, after_space, 
 use Rattle.jt_scan.specs.Cut.{marks, endraw_closed, endraw_named, endraw_at, begins, Token, Segment, Spelled, Inside}
 use Rattle.jt_scan.specs.Cut.{closed, space, token, Cuts, no_more, more, IsSegment, some_data, a_tag, a_comment, a_raw}
 use Rattle.jt_scan.specs.Cut.{second}
-use Rattle.jt_scan.specs.declared.segment.TagKind.TheVariants as kind
 use Rattle.jt_scan.specs.declared.segment.Marks.{Marks}
 use Rattle.jt_scan.proofs.ParseResultSteps.{by_test}
 use Rattle.jt_scan.proofs.Tables.{closer_says}
 use Rattle.jt_scan.proofs.EndsLaws.{never_longer}
 use Rattle.jt_expr.specs.Sizes.{token_bytes, tokens_bytes}
 use Rattle.jt_parse.specs.Bytes.{segment_bytes}
+use Rattle.jt_scan.specs.Literals as literal
+use Rattle.jt_scan.specs.declared.segment.TagKind.TheVariants as kind
 
 -- The number of bytes of the characters.
 abbrev pub bytes : Text → ℕ

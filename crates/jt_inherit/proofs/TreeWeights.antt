@@ -3,7 +3,6 @@
 use Rattle.std.proofs.Common.{◌≡◌, ◌+◌, ◌*◌, ◌≤◌, Bool, true, false, ◌||◌, ◌⊎◌, inl, inr, List, [], ◌∷◌, ◌++◌, length}
 use Rattle.std.proofs.Common.{refl, sym, ap, ◌∙◌, subst, arith, length-append, rules, ℕ}
 use Rattle.jt_ast.specs.Statements.{macro, import_as, import_from, block, stmt_weight, body_weight, branch_weight}
-use Rattle.jt_inherit.proofs.NamespaceMembership as namespaces
 use Rattle.jt_inherit.proofs.Vocabulary.{flat_map, filter, length-map, Text, Stmt, choose, for_each, set_block}
 use Rattle.jt_inherit.proofs.Vocabulary.{with_values, filter_block, autoescape, Body, end, stmt, Branches, no_branches}
 use Rattle.jt_inherit.proofs.Vocabulary.{branch, Sources, Namespace, a_chain, a_library, same_namespace, listed}
@@ -15,8 +14,9 @@ use Rattle.jt_inherit.proofs.Vocabulary.{reflexive, same, not-true, or_from, or_
 use Rattle.jt_inherit.proofs.TopologicalOrder.{next_in_order}
 use Rattle.jt_ast.specs.Texts.{inserted, all_inserted, ascending}
 use Rattle.jt_inherit.specs.Small.{libraries_len}
-use Rattle.jt_inherit.proofs.SourcesGrow.{among_passes, libraries_listed}
+use Rattle.jt_inherit.proofs.PathsGrow.{among_passes, libraries_listed}
 use Rattle.jt_inherit.proofs.Membership.{still_among, without}
+use Rattle.jt_inherit.proofs.NamespaceMembership as namespaces
 
 -- ---- tags
 
@@ -104,14 +104,14 @@ module _ (sources : Sources) where
       by true is f later =
           among_front of_namespaces h (included sources g) (flat_map (included sources) gs)
           (subst (λ x. listed h (included sources x) ≡ true) (sym (namespaces.same g k is)) i)
-      by false is f later = among_behind of_namespaces h (included sources g) (flat_map (included sources) gs) (later f)
+      by false is f later = among_behind of_namespaces h _ _ (later f)
 
 -- ---- the whole order
 
 once_in_order : (sources : Sources) (hs : List Namespace) → InOrder sources hs → twice hs ≡ false
 once_in_order sources [] o = refl
 once_in_order sources (h ∷ hs) o =
-    or_from (listed h hs) (twice hs) (not-true (listed h hs) o.0) (once_in_order sources hs o.1.1)
+    or_from (listed h hs) (twice hs) (not-true _ o.0) (once_in_order sources hs o.1.1)
 
 -- The bound holds if the entry reaches each namespace of the order.
 pub few_chains : (sources : Sources) (escaping : Bool) (entry : Namespace) (rest : List Namespace)
@@ -122,14 +122,14 @@ few_chains sources escaping entry rest o reached =
     let order = entry ∷ rest in
     let fewer = no_more of_namespaces rest (flat_map (included sources) order) (once_in_order sources rest o.1.1)
     (λ h e. indexed h e (tagged sources escaping order o
-    (reached h (or_right (same_namespace entry h) (listed h rest) e))
+    (reached h (or_right _ _ e))
     (ap (λ b. b || listed entry rest) (namespaces.reflexive entry)))) in
     omega (arith, fewer, includes_weigh sources order)
   where
     indexed : (h : Namespace) → listed h rest ≡ true → (h ≡ entry) ⊎ HasTag sources (entry ∷ rest) h
         → listed h (flat_map (included sources) (entry ∷ rest)) ≡ true
     indexed h e (inl is) =
-        (let no : true ≡ false = sym e ∙ ap (λ w. listed w rest) is ∙ not-true (listed entry rest) o.0 in absurd cc)
+        (let no : true ≡ false = sym e ∙ ap (λ w. listed w rest) is ∙ not-true _ o.0 in absurd cc)
     indexed h e (inr t) = listed_flat sources h t.0 (entry ∷ rest) t.1 t.2
 
 -- ---- the members of an ascending list
@@ -169,7 +169,7 @@ libraries_once s [] o = refl
 libraries_once s (a_chain m ∷ hs) o = libraries_once s hs o.1.1
 libraries_once s (a_library m ∷ hs) o =
     or_from (among m (libraries_of hs)) (repeated (libraries_of hs))
-    (sym (library_among m hs) ∙ not-true (listed (a_library m) hs) o.0) (libraries_once s hs o.1.1)
+    (sym (library_among m hs) ∙ not-true _ o.0) (libraries_once s hs o.1.1)
 
 module _ (given : SourceTexts) (s : Sources) where
   imported_by : List Namespace → List Text
@@ -244,13 +244,13 @@ module _ (given : SourceTexts) (s : Sources) where
       omega (
         arith,
         each (a_chain n) (ap (λ b. b || listed (a_chain n) hs) (reflexive n)),
-        split_weight hs (λ h a. each h (or_right (same_namespace (a_chain n) h) (listed h hs) a)),
+        split_weight hs (λ h a. each h (or_right _ _ a)),
       )
   split_weight (a_library n ∷ hs) each =
       omega (
         arith,
         each (a_library n) (ap (λ b. b || listed (a_library n) hs) (reflexive n)),
-        split_weight hs (λ h a. each h (or_right (same_namespace (a_library n) h) (listed h hs) a)),
+        split_weight hs (λ h a. each h (or_right _ _ a)),
       )
 
   -- Each library of the order is imported by a chain of the order.

@@ -3,7 +3,6 @@ pub use Rattle.std.proofs.lemmas.Bool.{and_from, and_parts, and_right, both_ways
 pub use Rattle.std.proofs.lemmas.Bool.{or_from, or_left, or_parts, or_right}
 pub use Rattle.std.proofs.lemmas.Bool.Decides.{nat_tests}
 pub use Rattle.std.proofs.lemmas.Iterator.{YieldsList-from_slice}
-pub use Rattle.std.proofs.lemmas.Iterator.Search.{any_from_yields_List}
 pub use Rattle.std.proofs.lemmas.Grind.{flat_map-append}
 pub use Rattle.std.proofs.lemmas.List.{append-nil, append_assoc, drop_more, length-map, map-append, map_push}
 pub use Rattle.std.proofs.lemmas.List.{nil_from_length, take-append-drop, take_all, take_more}
@@ -29,15 +28,15 @@ pub use Rattle.jt_ast.specs.Texts.{among, repeated, texts}
 pub use Rattle.jt_chains.proofs.IncludeCollection.{by_templates, needed-append}
 pub use Rattle.jt_chains.proofs.TemplatesByIndex.{along_templates, along_turn, file_at, index_within, map_at, only_one}
 pub use Rattle.jt_chains.specs.Along.{AreIndices, along, templates_at}
-pub use Rattle.jt_chains.specs.Chain.{Definition, MacroBody, Namespace, Sources, Template, a_chain, a_library}
-pub use Rattle.jt_chains.specs.Chain.{blocks_in, extends_of, holds_macros, is_a_library, libraries, libraries_in}
-pub use Rattle.jt_chains.specs.Chain.{library_template, listed, macros, macros_in, names_up, namespace_name, own}
-pub use Rattle.jt_chains.specs.Chain.{parent_of, public_macro, same_namespace, sources_in, template, templates}
+pub use Rattle.jt_chains.specs.Chain.{MacroBody, Namespace, Sources, Template, a_chain, a_library, blocks_in}
+pub use Rattle.jt_chains.specs.Chain.{extends_of, holds_macros, is_a_library, libraries, libraries_in, library_template}
+pub use Rattle.jt_chains.specs.Chain.{listed, macros, macros_in, names_up, namespace_name, own, parent_of, public_macro}
+pub use Rattle.jt_chains.specs.Chain.{same_namespace, sources_in, template, templates}
 pub use Rattle.jt_chains.specs.Includes.{AllIn, InOrder, included, includes_in, needs_by, needs_in, needs_under}
 pub use Rattle.jt_chains.specs.Includes.{with_source}
 pub use Rattle.jt_chains.specs.Indices.{namespace_at}
 pub use Rattle.jt_chains.specs.Names.{IsName, IsPart}
-pub use Rattle.jt_chains.specs.Needs.{Need, include_need, library_need, need_namespace, need_view, needed, needs_view}
+pub use Rattle.jt_chains.specs.Needs.{Need, include_need, library_need, need_namespace, needed, needs_view}
 pub use Rattle.jt_chains.specs.Parts.{block_view, blocks_view}
 pub use Rattle.jt_chains.specs.Rules.{Asks, KeepsRules, Reaches, asked, extends_path, here, is_whole, lacks_macros}
 pub use Rattle.jt_chains.specs.Rules.{through}
@@ -47,7 +46,6 @@ pub use Rattle.jt_chains.specs.TemplateFiles.{file_view, files_view}
 pub use Rattle.jt_chains.specs.View.{Seen}
 pub use Rattle.jt_chains.specs.Weights.{chains_weight, templates_weight}
 pub use Rattle.jt_chains.specs.declared.files.TemplateFile.{TemplateFile}
-pub use Rattle.jt_chains.specs.declared.include_tags.NeededTemplate.{NeededTemplate}
 pub use Rattle.jt_chains.specs.declared.parts.Block.{Block}
 pub use Rattle.jt_graph.specs.Graph.{Graph, next_of}
 pub use Rattle.jt_graph.specs.View.{graph_of}
@@ -64,9 +62,9 @@ pub use Rattle.jt_scan.specs.declared.options.Options.{Options}
 pub use Rattle.jt_scan.specs.declared.segment.Mark.{Mark}
 pub use Rattle.jt_scan.specs.declared.segment.TagKind.{TagKind}
 pub use Rattle.jt_uses.specs.Uses.{Site, Use, body_uses, outside}
-pub use Rattle.jt_inherit.proofs.Membership.{among_behind, among_cases, among_front, among_next}
-pub use Rattle.jt_inherit.proofs.Membership.{indexed_among, no_more, once_more, only_among}
-pub use Rattle.jt_inherit.proofs.NameMembership.{among_last, of_texts, reflexive, same, symmetric}
+pub use Rattle.jt_inherit.proofs.Membership.{among_behind, among_cases, among_front, among_next, indexed_among, no_more}
+pub use Rattle.jt_inherit.proofs.Membership.{once_more, only_among}
+pub use Rattle.jt_inherit.proofs.NameMembership.{of_texts, reflexive, same, symmetric}
 pub use Rattle.jt_inherit.proofs.NamespaceMembership.{chain_among, of_namespaces}
 pub use Rattle.jt_inherit.specs.Chains.{IsChain, IsOnly, IsRead, IsTree, SourceTexts}
 pub use Rattle.jt_inherit.specs.Findings.{ForSome, HasNoSuper, HasTag, HasTwoTags, InTurn, IsAt, IsFinding, IsNoMemory}
@@ -81,28 +79,27 @@ pub use Rattle.jt_inherit.specs.declared.error.ChainError.{ChainError}
 pub use Rattle.jt_inherit.specs.declared.finding.ChainFinding.{ChainFinding}
 pub use Rattle.jt_inherit.specs.declared.finding.ChainSubject.{ChainSubject}
 pub use Rattle.jt_inherit.specs.declared.finding.TagPlace.{TagPlace}
-pub use Rattle.jt_inherit.specs.declared.sets.Names.{Names}
+pub use Rattle.jt_inherit.specs.declared.including.FollowedPath.{FollowedPath}
+pub use Rattle.jt_inherit.specs.declared.including.KeyedNeed.{KeyedNeed}
 pub use Rattle.jt_inherit.specs.declared.sets.NamespaceKey.{NamespaceKey}
 pub use Rattle.jt_inherit.specs.declared.tags.FoundTag.{FoundTag}
-pub use Rattle.jt_inherit.specs.internal.Found.{imports_along, needs_along}
-pub use Rattle.jt_inherit.specs.internal.Breaking.{IsOfRule, IsTwiceIn, RuleAt}
-pub use Rattle.jt_inherit.specs.internal.RuleTests.{block_names, lacks_body, lacks_next}
-pub use Rattle.jt_inherit.specs.internal.ExtendsPaths.{AreKnown, AreNamed, BreaksAll, Grow, HasRead, IsExtendsPath}
-pub use Rattle.jt_inherit.specs.internal.ExtendsPaths.{IsWithin, Leads}
+pub use Rattle.jt_inherit.specs.internal.Found.{imports_along, needs_along, AreFollowed, AreFound, AreNext, IsFollowed}
+pub use Rattle.jt_inherit.specs.internal.Found.{IsFound, IsMet, IsNextFault, IsNextFinding, TooMany, chains_of, chosen}
+pub use Rattle.jt_inherit.specs.internal.Found.{found_namespaces, found_paths, found_templates, listed_at, listed_view}
+pub use Rattle.jt_inherit.specs.internal.Found.{root_of, twice, HasNeeds, IsUnmet, keyed_needs, keyed_view}
+pub use Rattle.jt_inherit.specs.internal.Breaking.{IsOfRule, IsTwiceIn, RuleAt, IsBroken}
+pub use Rattle.jt_inherit.specs.internal.RuleTests.{block_names, lacks_body, lacks_next, BreakOne, KeepAll, any_double}
+pub use Rattle.jt_inherit.specs.internal.RuleTests.{any_lacks_macros, imported_names, names_from, their_blocks}
+pub use Rattle.jt_inherit.specs.internal.RuleTests.{their_macros, their_names}
+pub use Rattle.jt_inherit.specs.internal.ExtendsPaths.{AreKnown, BreaksAll, HasPath, HasRead, IsExtendsPath, IsWithin}
+pub use Rattle.jt_inherit.specs.internal.ExtendsPaths.{Leads, names}
 pub use Rattle.jt_inherit.specs.internal.Faults.{IsFaultOf}
-pub use Rattle.jt_inherit.specs.internal.Breaking.{IsBroken}
-pub use Rattle.jt_inherit.specs.internal.Found.{AreFollowed, AreFound, AreNext, IsFollowed, IsFound, IsMet, IsNextFault}
-pub use Rattle.jt_inherit.specs.internal.Found.{IsNextFinding, TooMany, chains_of, chosen, found_namespaces}
-pub use Rattle.jt_inherit.specs.internal.Found.{found_paths, found_templates, listed_at, listed_view, root_of, twice}
 pub use Rattle.jt_inherit.specs.internal.Given.{its_sources, its_templates, macros_held}
 pub use Rattle.jt_inherit.specs.internal.Imported.{is_no_library, leading_at}
-pub use Rattle.jt_inherit.specs.internal.Numbers.{AreNumbers, is_text}
-pub use Rattle.jt_inherit.specs.internal.Placing.{IsCycle, IsIncludedMore, IsLong, IsNamedOn, need_test}
+pub use Rattle.jt_inherit.specs.internal.Numbers.{AreNumbers, is_named}
+pub use Rattle.jt_inherit.specs.internal.Placing.{IsCycle, IsIncludedMore, IsNamedOn, need_test}
 pub use Rattle.jt_inherit.specs.internal.Rings.{last_number, name_at}
-pub use Rattle.jt_inherit.specs.internal.RuleTests.{BreakOne, KeepAll, any_double, any_lacks_macros}
-pub use Rattle.jt_inherit.specs.internal.RuleTests.{imported_names, names_from, their_blocks, their_macros, their_names}
-pub use Rattle.jt_inherit.specs.internal.SetView.{key_view, keys_view, strings}
-pub use Rattle.jt_inherit.specs.internal.Sets.{names_view, namespaces_view}
+pub use Rattle.jt_inherit.specs.internal.SetView.{key_view, keys_view}
+pub use Rattle.jt_inherit.specs.internal.Sets.{namespaces_view}
 pub use Rattle.jt_inherit.specs.internal.SuperLines.{first_in, first_under}
 pub use Rattle.jt_inherit.specs.internal.Tags.{IsLastCall, place_in, place_view, tag_view, tags, tags_view, test_of}
-pub use Rattle.jt_inherit.specs.internal.Found.{IsUnmet}

@@ -2,9 +2,8 @@
 
 ghost use Rattle.std.specs.Prelude.{◌≡◌, IfOk, IfSome};
 ghost use Rattle.jt_chains.specs.Along.{AreIndices};
-ghost use Rattle.jt_chains.specs.TemplateFiles.{files_view};
 ghost use Rattle.jt_inherit.specs.internal.Breaking.{IsOfRule};
-ghost use Rattle.jt_inherit.specs.internal.Given.{its_sources, its_templates};
+ghost use Rattle.jt_inherit.specs.internal.Given.{its_files, its_sources, its_templates};
 ghost use Rattle.jt_inherit.specs.internal.Tags.{IsLastCall, tag_view, tags_view};
 
 use crate::error::ChainError;
@@ -16,15 +15,15 @@ use std::alloc::{AllocError, Global};
 /// Returns the finding of a block whose nearest body is a required one.
 pub(crate) fn not_given(
     alloc: Global,
-    store: TemplateStore<'_>,
+    store: &TemplateStore,
     indices: &[usize],
     name: &str,
 ) -> Result<ChainFinding, AllocError>
-    requires { AreIndices (files_view store.files.now) indices.now }
-    ensures { IfOk result (IsOfRule (its_sources store.entry)
-        (its_templates store.entry indices.now) ChainError.RequiredNotGiven) }
+    requires { AreIndices (its_files store.now) indices.now }
+    ensures { IfOk result (IsOfRule (its_sources store.now)
+        (its_templates store.now indices.now) ChainError.RequiredNotGiven) }
 {
-    let named = tags_at(alloc, store.files, indices, Wanted::Block(name))?;
+    let named = tags_at(alloc, store, indices, Wanted::Block(name))?;
     let Some(nearest) = named.first() else {
         return Ok(ChainFinding::without_place(ChainError::RequiredNotGiven));
     };
@@ -66,15 +65,15 @@ fn last_call(mut blocks: Vec<FoundTag<'_>>) -> Option<SuperCall<'_>>
 /// Returns the finding of a block that calls `super()` and has no next body.
 pub(crate) fn no_super(
     alloc: Global,
-    store: TemplateStore<'_>,
+    store: &TemplateStore,
     indices: &[usize],
     name: &str,
 ) -> Result<ChainFinding, AllocError>
-    requires { AreIndices (files_view store.files.now) indices.now }
-    ensures { IfOk result (IsOfRule (its_sources store.entry)
-        (its_templates store.entry indices.now) ChainError.NoSuper) }
+    requires { AreIndices (its_files store.now) indices.now }
+    ensures { IfOk result (IsOfRule (its_sources store.now)
+        (its_templates store.now indices.now) ChainError.NoSuper) }
 {
-    let named = tags_at(alloc, store.files, indices, Wanted::Block(name))?;
+    let named = tags_at(alloc, store, indices, Wanted::Block(name))?;
     let Some(call) = last_call(named) else {
         return Ok(ChainFinding::without_place(ChainError::NoSuper));
     };

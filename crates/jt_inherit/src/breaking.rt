@@ -2,9 +2,9 @@
 
 ghost use Rattle.std.specs.Prelude.{◌≡◌, true, IfOk};
 ghost use Rattle.jt_chains.specs.Along.{AreIndices};
-ghost use Rattle.jt_chains.specs.TemplateFiles.{file_view, files_view};
+ghost use Rattle.jt_chains.specs.TemplateFiles.{file_view};
 ghost use Rattle.jt_inherit.specs.internal.Breaking.{IsOfRule, IsTwiceIn, lacks};
-ghost use Rattle.jt_inherit.specs.internal.Given.{its_sources, its_templates};
+ghost use Rattle.jt_inherit.specs.internal.Given.{its_files, its_sources, its_templates};
 
 use crate::error::ChainError;
 use crate::finding::{ChainFinding, ChainSubject};
@@ -17,20 +17,20 @@ use std::alloc::{AllocError, Global};
 /// Returns the finding of an imported macro that its library does not offer.
 pub(crate) fn missing_finding(
     alloc: Global,
-    store: TemplateStore<'_>,
+    store: &TemplateStore,
     indices: &[usize],
     missing: MissingMacro<'_>,
 ) -> Result<ChainFinding, AllocError>
-    requires indices { AreIndices (files_view store.files.now) indices.now }
-    requires missing { lacks (its_sources store) missing.library.now missing.name.now ≡ true }
-    ensures { IfOk result (IsOfRule (its_sources store.entry)
-        (its_templates store.entry indices.now) ChainError.NoMacro) }
+    requires indices { AreIndices (its_files store.now) indices.now }
+    requires missing { lacks (its_sources store.now) missing.library.now missing.name.now ≡ true }
+    ensures { IfOk result (IsOfRule (its_sources store.now)
+        (its_templates store.now indices.now) ChainError.NoMacro) }
 {
     let wanted = Wanted::BindsMacro {
         library: missing.library,
         name: missing.name,
     };
-    let Some(place) = first_at(alloc, store.files, indices, wanted)? else {
+    let Some(place) = first_at(alloc, store, indices, wanted)? else {
         return Ok(ChainFinding::without_place(ChainError::NoMacro));
     };
     let library = String::from_str(alloc, missing.library)?;
@@ -45,15 +45,15 @@ pub(crate) fn missing_finding(
 /// Returns the finding of a name that two tags define.
 pub(crate) fn name_twice(
     alloc: Global,
-    store: TemplateStore<'_>,
+    store: &TemplateStore,
     indices: &[usize],
     name: &str,
 ) -> Result<ChainFinding, AllocError>
-    requires { AreIndices (files_view store.files.now) indices.now }
-    ensures { IfOk result (IsOfRule (its_sources store.entry)
-        (its_templates store.entry indices.now) ChainError.MacroTwice) }
+    requires { AreIndices (its_files store.now) indices.now }
+    ensures { IfOk result (IsOfRule (its_sources store.now)
+        (its_templates store.now indices.now) ChainError.MacroTwice) }
 {
-    let tags = tags_at(alloc, store.files, indices, Wanted::Defines(name))?;
+    let tags = tags_at(alloc, store, indices, Wanted::Defines(name))?;
     let Some(places) = two_places(alloc, &tags)? else {
         return Ok(ChainFinding::without_place(ChainError::MacroTwice));
     };

@@ -13,8 +13,6 @@ ghost use Rattle.jt_inherit.specs.internal.Breaking.{FindsAt};
 ghost use Rattle.jt_inherit.specs.Findings.{IsFinding};
 ghost use Rattle.jt_inherit.specs.Refusals.{Breaks};
 ghost use Rattle.jt_chains.specs.Weights.{chains_weight};
-ghost use Rattle.jt_inherit.specs.internal.Sets.{names_view};
-ghost use Rattle.jt_inherit.specs.internal.ExtendsPaths.{AreNamed};
 ghost use Rattle.jt_inherit.specs.Small.{chains_len, source_len};
 ghost use Rattle.jt_chains.specs.View.{Seen, chain_view, sources_of};
 
@@ -24,8 +22,7 @@ use crate::finding::ChainFinding;
 use crate::library::{Library, Loader};
 use crate::rings::order_of;
 use crate::rules::check_rules;
-use crate::store::TemplateStore;
-use jt_chains::{Chain, Namespace, indices_by_name};
+use jt_chains::{Chain, Namespace};
 use jt_scan::Options;
 use std::alloc::{AllocError, Global};
 
@@ -121,30 +118,24 @@ pub fn chain_or_finding<L: Library>(
     check_chains(alloc, &found, options.autoescape)?;
     let order = order_of(alloc, &found)?;
     let namespaces = namespaces_in(alloc, &found, order)?;
-    let indices = indices_by_name(alloc, &found.files)?;
     Ok(Chain {
-        templates: found.files,
+        templates: found.store.files,
         namespaces,
         autoescape: options.autoescape,
-        indices,
+        indices: found.store.indices,
     })
 }
 
 /// Refuses chains and libraries whose blocks, macros or imports break a rule.
 fn check_chains(alloc: Global, found: &Discovery, escaping: bool) -> Result<(), ChainFinding>
-    requires named { AreNamed (found_templates found.now) (names_view found.now.names) }
-    requires indices { AllByRecursion (AreIndices (found_templates found.now))
+    requires { AllByRecursion (AreIndices (found_templates found.now))
         (found_paths found.now) }
     ensures kept { OnOk result (AllKeep escaping found.now) }
     ensures broken { IfErr result
         (FindsAt escaping (found_templates found.now) (found_paths found.now)) }
 {
-    let store = TemplateStore {
-        names: &found.names,
-        files: &found.files,
-    };
     for extends_path in &found.extends_paths {
-        check_rules(alloc, store, extends_path, escaping)?;
+        check_rules(alloc, &found.store, extends_path, escaping)?;
     }
     Ok(())
 }

@@ -7,31 +7,26 @@ ghost use Rattle.jt_chains.specs.Indices.{namespace_at};
 ghost use Rattle.jt_inherit.specs.internal.Found.{IsDone, IsFirst, IsFound, found_namespaces};
 ghost use Rattle.jt_inherit.specs.internal.Found.{root_of, found_paths, found_templates};
 ghost use Rattle.jt_inherit.specs.Findings.{IsFinding};
-ghost use Rattle.jt_inherit.specs.internal.ExtendsPaths.{AreNamed};
 ghost use Rattle.jt_inherit.specs.internal.Imported as spec;
 ghost use Rattle.jt_inherit.specs.internal.Imported.{IsNoLibrary, IsOfImport, LeadsAt};
 ghost use Rattle.jt_inherit.specs.internal.SetView.{key_view};
-ghost use Rattle.jt_inherit.specs.internal.Sets.{names_view};
 
 use crate::error::ChainError;
 use crate::extends_path::read_namespace;
 use crate::finding::{ChainFinding, ChainSubject, TagPlace};
 use crate::importing::library_file;
-use crate::including::{next_namespaces, read_includes};
+use crate::including::{next_namespaces, read_needs, with_needs};
 use crate::leading::{leading_tag, name_of};
 use crate::library::{Library, Loader};
-use crate::sets::{Names, NamespaceKey, Namespaces};
+use crate::sets::{NamespaceKey, Namespaces};
 use crate::store::TemplateStore;
-use jt_chains::TemplateFile;
 use std::alloc::{AllocError, Global};
 
 /// The state of the search: the templates, chains and libraries that were found.
 #[derive(Drop)]
 pub(crate) struct Discovery {
-    /// The names of the templates that were read.
-    pub(crate) names: Names,
     /// The templates that were read, each once.
-    pub(crate) files: Vec<TemplateFile>,
+    pub(crate) store: TemplateStore,
     /// The chains and libraries that were found, each once.
     pub(crate) namespaces: Namespaces,
     /// The indices of the templates of each chain or library that was followed.
@@ -54,8 +49,7 @@ fn begin(alloc: Global, entry: &str) -> Result<Discovery, AllocError>
         },
     )?;
     Ok(Discovery {
-        names: Names::new(alloc),
-        files: Vec::new(alloc),
+        store: TemplateStore::new(alloc),
         namespaces,
         extends_paths: Vec::new(alloc),
         next: Vec::new(alloc),
@@ -102,17 +96,12 @@ fn import_finding(
 
 /// Returns whether a namespace is a library that was not read or holds something other than macros.
 fn is_no_library(found: &Discovery, namespace: &NamespaceKey) -> bool
-    requires { AreNamed (found_templates found.now) (names_view found.now.names) }
     ensures { result ≡ spec.is_no_library (found_templates found.now) (key_view namespace.now) }
 {
     if !namespace.is_library {
         return false;
     }
-    let store = TemplateStore {
-        names: &found.names,
-        files: &found.files,
-    };
-    match library_file(store, &namespace.name) {
+    match library_file(&found.store, &namespace.name) {
         Some(file) => !file.is_library(),
         None => true,
     }
@@ -121,7 +110,6 @@ fn is_no_library(found: &Discovery, namespace: &NamespaceKey) -> bool
 /// Refuses the library of a number if it holds something other than macros.
 fn check_library(alloc: Global, found: &Discovery, number: usize) -> Result<(), ChainFinding>
     requires number { number < length (found_namespaces found.now) }
-    requires named { AreNamed (found_templates found.now) (names_view found.now.names) }
     requires indices { AllByRecursion (AreIndices (found_templates found.now))
         (found_paths found.now) }
     ensures kept { OnOk result (spec.is_no_library (found_templates found.now)
@@ -155,29 +143,11 @@ fn follow<L: Library>(
     let number = found.extends_paths.len();
     check_library(alloc, found, number)?;
     let namespace = found.namespaces.get(number);
-    let extends_path = read_namespace(
-        alloc,
-        &mut found.names,
-        &mut found.files,
-        namespace,
-        loader,
-    )?;
-    let mut newly_read = read_includes(
-        alloc,
-        &mut found.names,
-        &found.files,
-        &extends_path,
-        loader,
-    )?;
-    found.files.append(&mut newly_read)?;
-    let next = next_namespaces(
-        alloc,
-        &found.names,
-        &mut found.namespaces,
-        &found.files,
-        &extends_path,
-    )?;
-    found.extends_paths.push(extends_path)?;
+    let extends_path = read_namespace(alloc, &mut found.store, namespace, loader)?;
+    let path = with_needs(alloc, &found.store, extends_path)?;
+    read_needs(alloc, &mut found.store, &path, loader)?;
+    let next = next_namespaces(alloc, &found.store, &mut found.namespaces, &path)?;
+    found.extends_paths.push(path.extends_path)?;
     found.next.push(next)?;
     Ok(())
 }

@@ -1,22 +1,22 @@
 //! Reads the path from a chain's entry to its root, and the template of a library.
 
-ghost use Rattle.std.specs.Prelude.{◌≡◌, false, true, map, IfOk, MatchOption};
+ghost use Rattle.std.specs.Prelude.{◌≡◌, false, true, IfOk, MatchOption};
 ghost use Rattle.jt_ast.specs.Texts.{among};
-ghost use Rattle.jt_chains.specs.Along.{AreIndices, templates_at};
-ghost use Rattle.jt_chains.specs.TemplateFiles.{file_view, files_view};
-ghost use Rattle.jt_inherit.specs.internal.ExtendsPaths.{IsAt, KnowTemplateFiles, Reads};
+ghost use Rattle.jt_chains.specs.Along.{AreIndices};
+ghost use Rattle.jt_chains.specs.TemplateFiles.{file_view};
+ghost use Rattle.jt_inherit.specs.internal.ExtendsPaths.{AreKnown, IsAt, Reads, names};
+ghost use Rattle.jt_inherit.specs.internal.Given.{its_files, its_templates};
 ghost use Rattle.jt_inherit.specs.internal.Imported.{is_no_library};
 ghost use Rattle.jt_inherit.specs.internal.Placing.{IsNamedOn, IsParent};
 ghost use Rattle.jt_inherit.specs.internal.SetView.{key_view};
-ghost use Rattle.jt_inherit.specs.internal.Sets.{names_view};
 
 use crate::error::ChainError;
 use crate::finding::{ChainFinding, TagPlace};
 use crate::library::{Library, Loader};
 use crate::placing::{AskedName, cycle_finding, long_finding, name_finding};
-use crate::sets::{Names, NamespaceKey};
+use crate::sets::NamespaceKey;
 use crate::statements::parent_of;
-use crate::store::read_index;
+use crate::store::TemplateStore;
 use jt_chains::TemplateFile;
 use std::alloc::{AllocError, Global};
 
@@ -24,16 +24,15 @@ use std::alloc::{AllocError, Global};
 const MAX_TEMPLATES: usize = 64;
 
 /// Returns the number on the path of the template of a name, or `None` if there is none.
-fn number_on(files: &[TemplateFile], extends_path: &[usize], name: &str) -> Option<usize>
-    requires { AreIndices (files_view files.now) extends_path.now }
+fn number_on(store: &TemplateStore, extends_path: &[usize], name: &str) -> Option<usize>
+    requires { AreIndices (its_files store.now) extends_path.now }
     ensures { MatchOption result
-        (among name.now (map (λ t. t.name) (templates_at (files_view files.now) extends_path.now))
-        ≡ false)
-        (IsNamedOn (files_view files.now) extends_path.now name.now) }
+        (among name.now (names (its_templates store.now extends_path.now)) ≡ false)
+        (IsNamedOn (its_files store.now) extends_path.now name.now) }
 {
     for number in 0..extends_path.len() {
         let index = extends_path[number];
-        if files[index].name.as_str() == name {
+        if store.files[index].name.as_str() == name {
             return Some(number);
         }
     }
@@ -59,11 +58,11 @@ fn parent_name(alloc: Global, file: &TemplateFile) -> Result<Option<AskedName>, 
 }
 
 /// Returns the index of the template of a library, which was read, as the only one of the path.
-fn library_path(alloc: Global, names: &Names, name: &str) -> Result<Vec<usize>, AllocError>
-    requires { among name.now (names_view names.now) ≡ true }
-    ensures { IfOk result (IsAt (names_view names.now) name.now) }
+fn library_path(alloc: Global, store: &TemplateStore, name: &str) -> Result<Vec<usize>, AllocError>
+    requires { among name.now (names (its_files store.now)) ≡ true }
+    ensures { IfOk result (IsAt (names (its_files store.now)) name.now) }
 {
-    let Some(index) = names.find(name) else {
+    let Some(index) = store.find(name) else {
         unreachable!();
     };
     let mut extends_path = Vec::new(alloc);
@@ -75,20 +74,18 @@ fn library_path(alloc: Global, names: &Names, name: &str) -> Result<Vec<usize>, 
 /// of the template of a library, which was read before.
 pub(crate) fn read_namespace<L: Library>(
     alloc: Global,
-    names: &mut Names,
-    files: &mut Vec<TemplateFile>,
+    store: &mut TemplateStore,
     namespace: &NamespaceKey,
     loader: &Loader<'_, L>,
 ) -> Result<Vec<usize>, ChainFinding>
-    requires known { KnowTemplateFiles (L.sources loader.now.library.now) loader.now.options
-        files.old.items names.old }
-    requires library { is_no_library (files_view files.old.items) (key_view namespace.now)
-        ≡ false }
-    ensures { Reads (L.sources loader.now.library.now) loader.now.options files.old.items
-        files.new.items names.old names.new (key_view namespace.now) result }
+    requires known { AreKnown (L.sources loader.now.library.now) loader.now.options
+        (its_files store.old) }
+    requires library { is_no_library (its_files store.old) (key_view namespace.now) ≡ false }
+    ensures { Reads (L.sources loader.now.library.now) loader.now.options
+        (its_files store.old) (its_files store.new) (key_view namespace.now) result }
 {
     if namespace.is_library {
-        return Ok(library_path(alloc, names, &namespace.name)?);
+        return Ok(library_path(alloc, store, &namespace.name)?);
     }
     let mut extends_path = Vec::new(alloc);
     let mut asked = AskedName {
@@ -96,18 +93,18 @@ pub(crate) fn read_namespace<L: Library>(
         place: None,
     };
     'path: loop {
-        if let Some(start) = number_on(files, &extends_path, &asked.name) {
-            return Err(cycle_finding(alloc, files, &extends_path, start, asked)?);
+        if let Some(start) = number_on(store, &extends_path, &asked.name) {
+            return Err(cycle_finding(alloc, store, &extends_path, start, asked)?);
         }
         if extends_path.len() == MAX_TEMPLATES {
             return Err(long_finding(asked));
         }
-        let index = match read_index(alloc, names, files, &asked.name, loader) {
+        let index = match store.read(alloc, &asked.name, loader) {
             Ok(index) => index,
             Err(error) => return Err(name_finding(asked, error)),
         };
         extends_path.push(index)?;
-        match parent_name(alloc, &files[index])? {
+        match parent_name(alloc, &store.files[index])? {
             Some(parent) => asked = parent,
             None => return Ok(extends_path),
         }

@@ -4,25 +4,25 @@ ghost use Rattle.std.specs.Prelude.{◌≡◌, IfOk};
 ghost use Rattle.jt_ast.specs.StatementView.{body_view, given_view};
 ghost use Rattle.jt_chains.specs.Along.{AreIndices};
 ghost use Rattle.jt_chains.specs.Chain.{a_library, macros};
-ghost use Rattle.jt_chains.specs.TemplateFiles.{files_view};
 ghost use Rattle.jt_chains.specs.Rules as rules;
 ghost use Rattle.jt_inherit.specs.internal.RuleTests as spec;
 ghost use Rattle.jt_inherit.specs.internal.RuleTests.{names_from, imported_names, their_names};
 ghost use Rattle.jt_inherit.specs.internal.Breaking.{Misses, lacks};
-ghost use Rattle.jt_inherit.specs.internal.Given.{IsGiven, macros_held, its_sources, its_templates};
+ghost use Rattle.jt_inherit.specs.internal.Given.{IsGiven, macros_held, its_files, its_sources};
+ghost use Rattle.jt_inherit.specs.internal.Given.{its_templates};
 ghost use Rattle.jt_ast.specs.Texts.{texts};
 ghost use Rattle.jt_inherit.specs.internal.SetView.{AddsTexts};
 
 use crate::store::TemplateStore;
 use jt_ast::Stmt;
-use jt_chains::{TemplateFile, macro_names, macros_at};
+use jt_chains::{TemplateFile, macro_names};
 use std::alloc::{AllocError, Global};
 
 /// Returns the template of a library, if it was read.
-pub(crate) fn library_file<'a>(store: TemplateStore<'a>, library: &str) -> Option<&'a TemplateFile>
-    ensures { IsGiven (files_view store.entry.files.now) library.now result }
+pub(crate) fn library_file<'a>(store: &'a TemplateStore, library: &str) -> Option<&'a TemplateFile>
+    ensures { IsGiven (its_files store.now) library.now result }
 {
-    let index = store.names.find(library)?;
+    let index = store.find(library)?;
     Some(&store.files[index])
 }
 
@@ -34,8 +34,8 @@ pub(crate) struct MissingMacro<'a> {
 }
 
 /// Returns whether the library was read and does not offer the macro to importers.
-fn lacks_macro(store: TemplateStore<'_>, library: &str, name: &str) -> bool
-    ensures { result ≡ lacks (its_sources store.entry) library.now name.now }
+fn lacks_macro(store: &TemplateStore, library: &str, name: &str) -> bool
+    ensures { result ≡ lacks (its_sources store.now) library.now name.now }
 {
     match library_file(store, library) {
         Some(file) => file.is_library() && !file.gives(name),
@@ -45,12 +45,12 @@ fn lacks_macro(store: TemplateStore<'_>, library: &str, name: &str) -> bool
 
 /// Returns the first of the macros that the library does not offer.
 fn missing_from<'a>(
-    store: TemplateStore<'_>,
+    store: &TemplateStore,
     library: &'a str,
     macros: &'a [(String, String)],
 ) -> Option<MissingMacro<'a>>
-    ensures { Misses (its_sources store.entry)
-        (rules.lacks_one (its_sources store.entry) library.now (given_view macros.now)) result }
+    ensures { Misses (its_sources store.now)
+        (rules.lacks_one (its_sources store.now) library.now (given_view macros.now)) result }
 {
     for (name, _) in macros {
         if lacks_macro(store, library, name) {
@@ -64,9 +64,9 @@ fn missing_from<'a>(
 }
 
 /// Returns the first macro that a template imports and the library does not offer.
-fn missing_in<'a>(store: TemplateStore<'_>, body: &'a [Stmt]) -> Option<MissingMacro<'a>>
-    ensures { Misses (its_sources store.entry)
-        (rules.lacks_macros (its_sources store.entry) (body_view body.now)) result }
+fn missing_in<'a>(store: &TemplateStore, body: &'a [Stmt]) -> Option<MissingMacro<'a>>
+    ensures { Misses (its_sources store.now)
+        (rules.lacks_macros (its_sources store.now) (body_view body.now)) result }
 {
     for statement in body {
         if let Stmt::From {
@@ -85,12 +85,12 @@ fn missing_in<'a>(store: TemplateStore<'_>, body: &'a [Stmt]) -> Option<MissingM
 
 /// Returns the first macro that the templates at `indices` import and the library does not offer.
 pub(crate) fn missing_at<'a>(
-    store: TemplateStore<'a>,
+    store: &'a TemplateStore,
     indices: &[usize],
 ) -> Option<MissingMacro<'a>>
-    requires { AreIndices (files_view store.files.now) indices.now }
-    ensures { Misses (its_sources store.entry) (spec.any_lacks_macros (its_sources store.entry)
-        (its_templates store.entry indices.now)) result }
+    requires { AreIndices (its_files store.now) indices.now }
+    ensures { Misses (its_sources store.now) (spec.any_lacks_macros (its_sources store.now)
+        (its_templates store.now indices.now)) result }
 {
     for index in indices {
         if let Some(found) = missing_in(store, store.files[*index].template.body()) {
@@ -119,13 +119,13 @@ fn add_from<'a>(
 
 /// Adds the names that a `from` tag binds to macros of the library `library`.
 fn add_given<'a>(
-    store: TemplateStore<'_>,
+    store: &TemplateStore,
     library: &str,
     names: &'a [(String, String)],
     given: &mut Vec<&'a str>,
 ) -> Result<(), AllocError>
     ensures { IfOk result (λ _. AddsTexts given.old.items given.new.items (names_from
-        (macros (its_sources store.entry) (a_library library.now)) (given_view names.now))) }
+        (macros (its_sources store.now) (a_library library.now)) (given_view names.now))) }
 {
     match library_file(store, library) {
         Some(file) => add_from(file, names, given),
@@ -135,12 +135,12 @@ fn add_given<'a>(
 
 /// Adds the names that the imports of a template bind.
 fn add_imported<'a>(
-    store: TemplateStore<'_>,
+    store: &TemplateStore,
     body: &'a [Stmt],
     given: &mut Vec<&'a str>,
 ) -> Result<(), AllocError>
     ensures { IfOk result (λ _. AddsTexts given.old.items given.new.items
-        (imported_names (its_sources store.entry) (body_view body.now))) }
+        (imported_names (its_sources store.now) (body_view body.now))) }
 {
     for statement in body {
         match statement {
@@ -160,14 +160,14 @@ fn add_imported<'a>(
 /// bind.
 pub(crate) fn names_at<'a>(
     alloc: Global,
-    store: TemplateStore<'a>,
+    store: &'a TemplateStore,
     indices: &[usize],
 ) -> Result<Vec<&'a str>, AllocError>
-    requires { AreIndices (files_view store.files.now) indices.now }
+    requires { AreIndices (its_files store.now) indices.now }
     ensures { IfOk result (λ ns. texts ns.items
-        ≡ their_names (its_sources store.entry) (its_templates store.entry indices.now)) }
+        ≡ their_names (its_sources store.now) (its_templates store.now indices.now)) }
 {
-    let macros = macros_at(alloc, store.files, indices)?;
+    let macros = store.macros_at(alloc, indices)?;
     let mut given = macro_names(alloc, &macros)?;
     for index in indices {
         add_imported(store, store.files[*index].template.body(), &mut given)?;

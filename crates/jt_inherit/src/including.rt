@@ -1,35 +1,50 @@
 //! Reads the templates that a chain includes and imports, and finds the chains and libraries that
 //! they begin.
 
-ghost use Rattle.std.specs.Prelude.{◌≡◌, ◌≤◌, ◌++◌, ◌∷◌, [], true, false, length, OnOk, IfOk};
-ghost use Rattle.std.specs.Prelude.{IfErr, string_bytes};
+ghost use Rattle.std.specs.Prelude.{◌≡◌, ◌≤◌, ◌++◌, ◌∷◌, [], true, false, length, OnErr, OnOk};
+ghost use Rattle.std.specs.Prelude.{IfOk, IfErr, string_bytes};
 ghost use Rattle.std.specs.List.{AllByRecursion};
-ghost use Rattle.jt_chains.specs.Along.{AreIndices, templates_at};
-ghost use Rattle.jt_inherit.specs.internal.Found.{imports_along, needs_of, IsMet, IsFaultAt};
+ghost use Rattle.jt_chains.specs.Along.{AreIndices};
+ghost use Rattle.jt_inherit.specs.internal.Found.{imports_along, needs_along, IsMet, IsFaultAt};
 ghost use Rattle.jt_inherit.specs.internal.Found.{IsPutFault, AreNamespaces, AreNext, AddsNext};
 ghost use Rattle.jt_inherit.specs.internal.Found.{IsNextFault, IsNextFinding, chains_of, lead_to};
-ghost use Rattle.jt_inherit.specs.internal.Found.{leads_to, IsUnmet};
+ghost use Rattle.jt_inherit.specs.internal.Found.{leads_to, IsUnmet, HasNeeds, keyed_view};
+ghost use Rattle.jt_inherit.specs.internal.Found.{keyed_needs};
+ghost use Rattle.jt_inherit.specs.internal.Given.{its_files, its_templates};
 ghost use Rattle.jt_chains.specs.Chain.{listed};
-ghost use Rattle.jt_chains.specs.Needs.{AddsNeeds, need_namespace, need_view, needed, needs_view};
+ghost use Rattle.jt_chains.specs.Needs.{AddsNeeds, need_view, needed};
 ghost use Rattle.jt_chains.specs.TemplateFiles.{files_view};
 ghost use Rattle.jt_inherit.specs.internal.SetView.{key_view};
-ghost use Rattle.jt_inherit.specs.internal.Sets.{namespaces_view, names_view};
-ghost use Rattle.jt_inherit.specs.internal.ExtendsPaths.{AreKnown, AddsName, HaveGrown};
-ghost use Rattle.jt_inherit.specs.internal.ExtendsPaths.{KnowTemplateFiles, AddsNames, StayKnown};
+ghost use Rattle.jt_inherit.specs.internal.Sets.{namespaces_view};
+ghost use Rattle.jt_inherit.specs.internal.ExtendsPaths.{AreKnown, HasRead, names};
 
 use crate::error::ChainError;
 use crate::finding::ChainFinding;
 use crate::library::{Library, Loader};
 use crate::placing::{included_finding, need_finding};
-use crate::reading::read_file;
-use crate::sets::{Names, NamespaceKey, Namespaces};
+use crate::sets::{NamespaceKey, Namespaces};
 use crate::statements::add_imports;
-use crate::store::add_file;
+use crate::store::TemplateStore;
 use jt_chains::{NeededTemplate, TemplateFile, includes_at};
 use std::alloc::{AllocError, Global};
 
 /// The greatest number of chains that an entry may reach, its own included.
 const MAX_CHAINS: usize = 1024;
+
+/// An include or an import: the chain or library that it leads to, and whether the template may be
+/// missing.
+#[derive(Drop)]
+pub(crate) struct KeyedNeed {
+    pub(crate) namespace: NamespaceKey,
+    pub(crate) ignoring: bool,
+}
+
+/// The indices of the templates of a chain or library, and their includes and imports.
+#[derive(Drop)]
+pub(crate) struct FollowedPath {
+    pub(crate) extends_path: Vec<usize>,
+    pub(crate) needs: Vec<KeyedNeed>,
+}
 
 /// Adds the imports of the templates at `indices`.
 fn add_imports_at<'a>(
@@ -47,96 +62,116 @@ fn add_imports_at<'a>(
     Ok(())
 }
 
+/// Returns an include or import with a name of its own.
+fn keyed(alloc: Global, need: NeededTemplate<'_>) -> Result<KeyedNeed, AllocError>
+    ensures { IfOk result (λ n. keyed_view n ≡ need_view need.entry) }
+{
+    Ok(KeyedNeed {
+        namespace: NamespaceKey {
+            name: String::from_str(alloc, need.name)?,
+            is_library: need.is_library,
+        },
+        ignoring: need.ignoring,
+    })
+}
+
 /// Returns the includes and imports of the templates at `indices`.
-fn needs_at<'a>(
+fn needs_at(
     alloc: Global,
-    files: &'a [TemplateFile],
+    files: &[TemplateFile],
     indices: &[usize],
-) -> Result<Vec<NeededTemplate<'a>>, AllocError>
+) -> Result<Vec<KeyedNeed>, AllocError>
     requires { AreIndices (files_view files.now) indices.now }
-    ensures { IfOk result (λ found. needs_view found.items ≡ needs_of files.now indices.now) }
+    ensures { IfOk result
+        (λ needs. keyed_needs needs.items ≡ needs_along (files_view files.now) indices.now) }
 {
     let mut found = includes_at(alloc, files, indices)?;
     add_imports_at(files, indices, &mut found)?;
-    Ok(found)
+    let mut needs = Vec::with_capacity(alloc, found.len())?;
+    for need in &found {
+        needs.push(keyed(alloc, *need)?)?;
+    }
+    Ok(needs)
+}
+
+/// Returns a path with the includes and imports of its templates.
+pub(crate) fn with_needs(
+    alloc: Global,
+    store: &TemplateStore,
+    extends_path: Vec<usize>,
+) -> Result<FollowedPath, AllocError>
+    requires { AreIndices (its_files store.now) extends_path.items }
+    ensures told { IfOk result (HasNeeds (its_files store.now)) }
+    ensures same { IfOk result (λ path. path.extends_path ≡ extends_path) }
+{
+    let needs = needs_at(alloc, &store.files, &extends_path)?;
+    Ok(FollowedPath {
+        extends_path,
+        needs,
+    })
 }
 
 /// Reads an included or imported template unless it was read before. A missing template is skipped
 /// if it may be missing.
-fn read_include<L: Library>(
+fn read_need<L: Library>(
     alloc: Global,
-    names: &mut Names,
-    newly_read: &mut Vec<TemplateFile>,
-    include: NeededTemplate<'_>,
+    store: &mut TemplateStore,
+    need: &KeyedNeed,
     loader: &Loader<'_, L>,
 ) -> Result<(), ChainError>
-    ensures known { OnOk result (StayKnown (L.sources loader.now.library.now) loader.now.options
-        newly_read.old.items newly_read.new.items names.old names.new) }
-    ensures grown { OnOk result (HaveGrown names.old names.new) }
-    ensures from { OnOk result (AddsName names.old names.new include.entry.name.now) }
+    requires { AreKnown (L.sources loader.now.library.now) loader.now.options
+        (its_files store.old) }
+    ensures read { OnOk result (HasRead (L.sources loader.now.library.now) loader.now.options
+        (its_files store.old) (its_files store.new) (string_bytes need.now.namespace.name ∷ [])) }
     ensures met { OnOk result (IsMet (L.sources loader.now.library.now)
-        (names_view names.new) (need_view include.entry)) }
+        (names (its_files store.new)) (keyed_view need.now)) }
+    ensures same { OnErr result (its_files store.new ≡ its_files store.old) }
     ensures refused { IfErr result (λ e.
-        IsFaultAt (L.sources loader.now.library.now) loader.now.options
-        (need_view include.entry) e) }
+        IsFaultAt (L.sources loader.now.library.now) loader.now.options (keyed_view need.now) e) }
 {
-    if let Some(_index) = names.find(include.name) {
-        return Ok(());
-    }
-    match read_file(alloc, include.name, loader) {
-        Ok(file) => {
-            add_file(alloc, names, newly_read, file)?;
-            Ok(())
-        }
-        Err(ChainError::Missing) if include.ignoring => Ok(()),
+    match store.read(alloc, &need.namespace.name, loader) {
+        Ok(_index) => Ok(()),
+        Err(ChainError::Missing) if need.ignoring => Ok(()),
         Err(refusal) => Err(refusal),
     }
 }
 
-/// Reads the included and imported templates that were not read before, and returns them.
-pub(crate) fn read_includes<L: Library>(
+/// Reads the included and imported templates of a path that were not read before.
+pub(crate) fn read_needs<L: Library>(
     alloc: Global,
-    names: &mut Names,
-    files: &[TemplateFile],
-    extends_path: &[usize],
+    store: &mut TemplateStore,
+    path: &FollowedPath,
     loader: &Loader<'_, L>,
-) -> Result<Vec<TemplateFile>, ChainFinding>
-    requires known { KnowTemplateFiles (L.sources loader.now.library.now) loader.now.options
-        files.now names.old }
-    requires indices { AreIndices (files_view files.now) extends_path.now }
-    ensures known { IfOk result (λ newly_read.
-        AreKnown (L.sources loader.now.library.now) loader.now.options
-        (files_view files.now ++ files_view newly_read.items) (names_view names.new)) }
+) -> Result<(), ChainFinding>
+    requires known { AreKnown (L.sources loader.now.library.now) loader.now.options
+        (its_files store.old) }
+    requires path { HasNeeds (its_files store.old) path.now }
     // Each new name is included or imported.
-    ensures from { OnOk result
-        (AddsNames names.old names.new (needed true (needs_of files.now extends_path.now))) }
-    ensures met { OnOk result (AllByRecursion
-        (IsMet (L.sources loader.now.library.now) (names_view names.new))
-        (needs_of files.now extends_path.now)) }
-    ensures refused { IfErr result
-        (IsUnmet (L.sources loader.now.library.now) loader.now.options
-        files.now extends_path.now) }
+    ensures read { OnOk result (HasRead (L.sources loader.now.library.now) loader.now.options
+        (its_files store.old) (its_files store.new)
+        (needed true (keyed_needs path.now.needs.items))) }
+    ensures met { OnOk result (AllByRecursion (IsMet (L.sources loader.now.library.now)
+        (names (its_files store.new))) (keyed_needs path.now.needs.items)) }
+    ensures refused { IfErr result (IsUnmet (L.sources loader.now.library.now) loader.now.options
+        (its_files store.old) path.now.extends_path.items) }
 {
-    let found = needs_at(alloc, files, extends_path)?;
-    let mut newly_read = Vec::new(alloc);
-    for include in &found {
-        match read_include(alloc, names, &mut newly_read, *include, loader) {
+    for need in &path.needs {
+        match read_need(alloc, store, need, loader) {
             Ok(()) => {}
-            Err(error) => {
-                return Err(need_finding(alloc, files, extends_path, include.name, error)?);
-            }
+            Err(error) => return Err(need_finding(alloc, store, path, need, error)?),
         }
     }
-    Ok(newly_read)
+    Ok(())
 }
 
-/// Returns the key of the chain that an included template begins, or of the imported library.
-fn namespace_of(alloc: Global, include: NeededTemplate<'_>) -> Result<NamespaceKey, AllocError>
-    ensures { IfOk result (λ k. key_view k ≡ need_namespace (need_view include.entry)) }
+/// Returns a copy of a key.
+fn copy_of(alloc: Global, namespace: &NamespaceKey) -> Result<NamespaceKey, AllocError>
+    ensures name { IfOk result (λ k. string_bytes k.name ≡ string_bytes namespace.now.name) }
+    ensures kind { IfOk result (λ k. k.is_library ≡ namespace.now.is_library) }
 {
     Ok(NamespaceKey {
-        name: String::from_str(alloc, include.name)?,
-        is_library: include.is_library,
+        name: String::from_str(alloc, &namespace.name)?,
+        is_library: namespace.is_library,
     })
 }
 
@@ -190,52 +225,50 @@ fn number_of(
 /// Adds the number of an included chain or an imported library, if its template was read.
 fn add_number(
     alloc: Global,
-    names: &Names,
+    store: &TemplateStore,
     namespaces: &mut Namespaces,
     numbers: &mut Vec<usize>,
-    include: NeededTemplate<'_>,
+    need: &KeyedNeed,
 ) -> Result<(), ChainError>
     requires { AreNamespaces (namespaces_view namespaces.old) }
     ensures next { OnOk result
         (AddsNext (namespaces_view namespaces.old) (namespaces_view namespaces.new)
-        (leads_to names.now include.entry) numbers.old.items numbers.new.items) }
+        (leads_to (its_files store.now) need.now) numbers.old.items numbers.new.items) }
     ensures refused { IfErr result (IsNextFault (namespaces_view namespaces.old)
-        (leads_to names.now include.entry) include.entry.name.now) }
+        (leads_to (its_files store.now) need.now) (string_bytes need.now.namespace.name)) }
 {
-    let Some(_index) = names.find(include.name) else {
+    let Some(_index) = store.find(&need.namespace.name) else {
         return Ok(());
     };
-    let namespace = namespace_of(alloc, include)?;
+    let namespace = copy_of(alloc, &need.namespace)?;
     let number = number_of(alloc, namespaces, namespace)?;
     numbers.push(number)?;
     Ok(())
 }
 
-/// Returns the numbers of the chains and libraries that the templates at `extends_path` lead to.
-/// New chains and libraries are appended to `namespaces`.
+/// Returns the numbers of the chains and libraries that the templates on a path lead to. New chains
+/// and libraries are appended to `namespaces`.
 pub(crate) fn next_namespaces(
     alloc: Global,
-    names: &Names,
+    store: &TemplateStore,
     namespaces: &mut Namespaces,
-    files: &[TemplateFile],
-    extends_path: &[usize],
+    path: &FollowedPath,
 ) -> Result<Vec<usize>, ChainFinding>
-    requires indices { AreIndices (files_view files.now) extends_path.now }
+    requires path { HasNeeds (its_files store.now) path.now }
     requires namespaces { AreNamespaces (namespaces_view namespaces.old) }
     ensures next { IfOk result
         (λ numbers. AreNext (namespaces_view namespaces.old) (namespaces_view namespaces.new)
-        (lead_to names.now files.now extends_path.now) numbers.items) }
+        (lead_to (its_files store.now) path.now) numbers.items) }
     ensures refused { IfErr result (IsNextFinding (namespaces_view namespaces.old)
-        (lead_to names.now files.now extends_path.now)
-        (templates_at (files_view files.now) extends_path.now)) }
+        (lead_to (its_files store.now) path.now)
+        (its_templates store.now path.now.extends_path.items)) }
 {
-    let found = needs_at(alloc, files, extends_path)?;
     let mut numbers = Vec::new(alloc);
-    for include in &found {
-        match add_number(alloc, names, namespaces, &mut numbers, *include) {
+    for need in &path.needs {
+        match add_number(alloc, store, namespaces, &mut numbers, need) {
             Ok(()) => {}
             Err(ChainError::ChainTooLong) => {
-                return Err(included_finding(alloc, files, extends_path, include.name)?);
+                return Err(included_finding(alloc, store, path, need)?);
             }
             Err(_) => return Err(ChainFinding::without_place(ChainError::NoMemory)),
         }

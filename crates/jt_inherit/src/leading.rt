@@ -52,5 +52,5 @@ pub(crate) fn leading_tag(
         (found_paths found.now) (namespace_at (found_namespaces found.now) to) from) }
 {
     let wanted = wanted_for(found.namespaces.get(to));
-    first_at(alloc, &found.files, &found.extends_paths[from], wanted)
+    first_at(alloc, &found.store, &found.extends_paths[from], wanted)
 }

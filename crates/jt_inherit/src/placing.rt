@@ -1,16 +1,18 @@
 //! Finds the place and the subject of an error at the name of a template.
 
 ghost use Rattle.std.specs.Prelude.{◌≡◌, ◌+◌, ◌<◌, map, drop, length, IfOk, string_bytes};
-ghost use Rattle.jt_chains.specs.Along.{AreIndices, templates_at};
-ghost use Rattle.jt_chains.specs.TemplateFiles.{files_view};
+ghost use Rattle.jt_chains.specs.Along.{AreIndices};
+ghost use Rattle.jt_inherit.specs.internal.ExtendsPaths.{names};
+ghost use Rattle.jt_inherit.specs.internal.Given.{its_files, its_templates};
 ghost use Rattle.jt_inherit.specs.internal.Placing.{IsCycle, IsIncludedMore, IsLong, IsNamed};
 ghost use Rattle.jt_inherit.specs.internal.Placing.{IsOfNeed, need_test};
 ghost use Rattle.jt_inherit.specs.internal.Tags.{test_of};
 
 use crate::error::ChainError;
 use crate::finding::{ChainFinding, ChainSubject, TagPlace};
+use crate::including::{FollowedPath, KeyedNeed};
+use crate::store::TemplateStore;
 use crate::tags::{Wanted, first_at};
-use jt_chains::TemplateFile;
 use std::alloc::{AllocError, Global};
 
 /// A name that is asked for, and the place of the tag that asks for it. The entry's name has no
@@ -50,16 +52,16 @@ pub(crate) fn long_finding(asked: AskedName) -> ChainFinding
 /// Returns the names of the templates at `indices`.
 fn names_along(
     alloc: Global,
-    files: &[TemplateFile],
+    store: &TemplateStore,
     indices: &[usize],
 ) -> Result<Vec<String>, AllocError>
-    requires { AreIndices (files_view files.now) indices.now }
-    ensures { IfOk result (λ names. map string_bytes names.items
-        ≡ map (λ t. t.name) (templates_at (files_view files.now) indices.now)) }
+    requires { AreIndices (its_files store.now) indices.now }
+    ensures { IfOk result (λ found. map string_bytes found.items
+        ≡ names (its_templates store.now indices.now)) }
 {
     let mut names = Vec::with_capacity(alloc, indices.len())?;
     for index in indices {
-        names.push(String::from_str(alloc, &files[*index].name)?)?;
+        names.push(String::from_str(alloc, &store.files[*index].name)?)?;
     }
     Ok(names)
 }
@@ -67,17 +69,17 @@ fn names_along(
 /// Returns the finding of a path that comes back to its template at `start`, which has the name.
 pub(crate) fn cycle_finding(
     alloc: Global,
-    files: &[TemplateFile],
+    store: &TemplateStore,
     extends_path: &[usize],
     start: usize,
     asked: AskedName,
 ) -> Result<ChainFinding, AllocError>
-    requires indices { AreIndices (files_view files.now) extends_path.now }
+    requires indices { AreIndices (its_files store.now) extends_path.now }
     requires start { start < length extends_path.now }
-    ensures { IfOk result (IsCycle asked (map (λ t. t.name)
-        (templates_at (files_view files.now) (drop (start + 1) extends_path.now)))) }
+    ensures { IfOk result (IsCycle asked
+        (names (its_templates store.now (drop (start + 1) extends_path.now)))) }
 {
-    let rest = names_along(alloc, files, &extends_path[start + 1..])?;
+    let rest = names_along(alloc, store, &extends_path[start + 1..])?;
     Ok(ChainFinding {
         error: ChainError::ExtendsCycle,
         place: asked.place,
@@ -99,35 +101,37 @@ fn wanted_need<'a>(name: &'a str, error: &ChainError) -> Wanted<'a>
     }
 }
 
-/// Returns the finding of an error at a template that the templates at `indices` ask for.
+/// Returns the finding of an error at a template that the templates on a path ask for.
 pub(crate) fn need_finding(
     alloc: Global,
-    files: &[TemplateFile],
-    indices: &[usize],
-    name: &str,
+    store: &TemplateStore,
+    path: &FollowedPath,
+    need: &KeyedNeed,
     error: ChainError,
 ) -> Result<ChainFinding, AllocError>
-    requires { AreIndices (files_view files.now) indices.now }
-    ensures { IfOk result (IsOfNeed (templates_at (files_view files.now) indices.now)
-        name.now error) }
+    requires { AreIndices (its_files store.now) path.now.extends_path.items }
+    ensures { IfOk result (IsOfNeed (its_templates store.now path.now.extends_path.items)
+        (string_bytes need.now.namespace.name) error) }
 {
-    let place = first_at(alloc, files, indices, wanted_need(name, &error))?;
+    let name = need.namespace.name.as_str();
+    let place = first_at(alloc, store, &path.extends_path, wanted_need(name, &error))?;
     let name = String::from_str(alloc, name)?;
     Ok(name_finding(AskedName { name, place }, error))
 }
 
-/// Returns the finding of a chain that is one too many, which the templates at `indices` include.
+/// Returns the finding of a chain that is one too many, which the templates on a path include.
 pub(crate) fn included_finding(
     alloc: Global,
-    files: &[TemplateFile],
-    indices: &[usize],
-    name: &str,
+    store: &TemplateStore,
+    path: &FollowedPath,
+    need: &KeyedNeed,
 ) -> Result<ChainFinding, AllocError>
-    requires { AreIndices (files_view files.now) indices.now }
-    ensures { IfOk result
-        (IsIncludedMore (templates_at (files_view files.now) indices.now) name.now) }
+    requires { AreIndices (its_files store.now) path.now.extends_path.items }
+    ensures { IfOk result (IsIncludedMore (its_templates store.now path.now.extends_path.items)
+        (string_bytes need.now.namespace.name)) }
 {
-    let place = first_at(alloc, files, indices, Wanted::Includes(name))?;
+    let name = need.namespace.name.as_str();
+    let place = first_at(alloc, store, &path.extends_path, Wanted::Includes(name))?;
     let name = String::from_str(alloc, name)?;
     Ok(ChainFinding {
         error: ChainError::ChainTooLong,

@@ -12,10 +12,9 @@ ghost use Rattle.jt_chains.specs.Along.{AreIndices};
 ghost use Rattle.jt_chains.specs.Chain.{Template};
 ghost use Rattle.jt_inherit.specs.internal.RuleTests.{lacks_body, lacks_next};
 ghost use Rattle.jt_inherit.specs.internal.RuleTests as spec;
-ghost use Rattle.jt_chains.specs.TemplateFiles.{files_view};
 ghost use Rattle.jt_chains.specs.Parts.{blocks_view};
 ghost use Rattle.jt_inherit.specs.internal.Breaking.{IsBroken};
-ghost use Rattle.jt_inherit.specs.internal.Given.{its_sources, its_templates};
+ghost use Rattle.jt_inherit.specs.internal.Given.{its_files, its_sources, its_templates};
 
 use crate::bodies::{no_super, not_given};
 use crate::breaking::{block_twice, missing_finding, name_twice};
@@ -23,7 +22,7 @@ use crate::finding::ChainFinding;
 use crate::importing::{missing_at, names_at};
 use crate::store::TemplateStore;
 use crate::supers::calls_super;
-use jt_chains::{Block, blocks_at, blocks_of_file};
+use jt_chains::Block;
 use std::alloc::{AllocError, Global};
 use std::collections::BTreeSet;
 
@@ -122,17 +121,17 @@ fn lacking_next<'a>(
 /// Returns the finding of a template at `indices` with two blocks of one name, if any.
 fn double_block(
     alloc: Global,
-    store: TemplateStore<'_>,
+    store: &TemplateStore,
     indices: &[usize],
     escaping: bool,
 ) -> Result<Option<ChainFinding>, AllocError>
-    requires { AreIndices (files_view store.files.now) indices.now }
+    requires { AreIndices (its_files store.now) indices.now }
     ensures { IfOk result (λ found. MatchOption found
-        (spec.any_double escaping (its_templates store.entry indices.now) ≡ false)
-        (IsBroken (its_sources store.entry) escaping (its_templates store.entry indices.now))) }
+        (spec.any_double escaping (its_templates store.now indices.now) ≡ false)
+        (IsBroken (its_sources store.now) escaping (its_templates store.now indices.now))) }
 {
     for index in indices {
-        let blocks = blocks_of_file(alloc, store.files, *index, escaping)?;
+        let blocks = store.blocks_of(alloc, *index, escaping)?;
         if let Some(name) = repeated_block(alloc, &blocks)? {
             return Ok(Some(block_twice(alloc, &store.files[*index], name)?));
         }
@@ -145,15 +144,15 @@ fn double_block(
 #[tactic(auto, using(crate::proofs::FindingsHold::memory_broken, crate::proofs::FindingsHold::rule_broken))]
 pub(crate) fn check_rules(
     alloc: Global,
-    store: TemplateStore<'_>,
+    store: &TemplateStore,
     indices: &[usize],
     escaping: bool,
 ) -> Result<(), ChainFinding>
-    requires { AreIndices (files_view store.files.now) indices.now }
-    ensures kept { OnOk result (spec.KeepAll (its_sources store.entry) escaping
-        (its_templates store.entry indices.now)) }
-    ensures broken { IfErr result (IsBroken (its_sources store.entry) escaping
-        (its_templates store.entry indices.now)) }
+    requires { AreIndices (its_files store.now) indices.now }
+    ensures kept { OnOk result (spec.KeepAll (its_sources store.now) escaping
+        (its_templates store.now indices.now)) }
+    ensures broken { IfErr result (IsBroken (its_sources store.now) escaping
+        (its_templates store.now indices.now)) }
 {
     if let Some(finding) = double_block(alloc, store, indices, escaping)? {
         return Err(finding);
@@ -165,7 +164,7 @@ pub(crate) fn check_rules(
     if let Some(name) = repeated(alloc, &names)? {
         return Err(name_twice(alloc, store, indices, name)?);
     }
-    let blocks = blocks_at(alloc, store.files, indices, escaping)?;
+    let blocks = store.blocks_at(alloc, indices, escaping)?;
     if let Some(name) = lacking_body(alloc, &blocks)? {
         return Err(not_given(alloc, store, indices, name)?);
     }

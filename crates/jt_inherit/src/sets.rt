@@ -1,13 +1,12 @@
-//! Defines sets of names and of namespaces that keep the order of insertion. The names come from
-//! untrusted templates, so the sets use ordered maps. No choice of names makes an ordered map slow,
-//! as it could a hash table.
+//! Defines a set of namespaces that keeps the order of insertion. The names come from untrusted
+//! templates, so the set uses ordered maps. No choice of names makes an ordered map slow, as it
+//! could a hash table.
 
 ghost use Rattle.std.specs.Prelude.{◌≡◌, ◌^◌, ◌<◌, ◌++◌, ◌∷◌, [], false, true, length, slice_get};
 ghost use Rattle.std.specs.Prelude.{Some, OnOk};
-ghost use Rattle.jt_ast.specs.Texts.{among};
 ghost use Rattle.jt_chains.specs.Chain.{listed};
-ghost use Rattle.jt_inherit.specs.internal.Numbers.{AreNumbers, AreNumbers-prop, is_text, is_kind};
-ghost use Rattle.jt_inherit.specs.internal.SetView.{FindsIn, strings, key_view, keys_view};
+ghost use Rattle.jt_inherit.specs.internal.Numbers.{AreNumbers, AreNumbers-prop, is_kind};
+ghost use Rattle.jt_inherit.specs.internal.SetView.{FindsIn, key_view, keys_view};
 
 use std::alloc::{AllocError, Global};
 use std::collections::BTreeMap;
@@ -17,52 +16,6 @@ use std::collections::BTreeMap;
 pub(crate) struct NamespaceKey {
     pub(crate) name: String,
     pub(crate) is_library: bool,
-}
-
-/// A set of names, numbered in the order of insertion.
-#[derive(Drop)]
-pub(crate) struct Names {
-    /// The names; the index of a name is its number.
-    items: Vec<String>,
-    /// The number of each name.
-    numbers: BTreeMap<String, usize>,
-    ghost numbered: { AreNumbers is_text items.items
-        numbers } by { AreNumbers-prop is_text items.items numbers },
-}
-
-impl Names {
-    ghost use Rattle.jt_inherit.specs.internal.Sets.{names_view};
-
-    /// Returns an empty set.
-    pub(crate) fn new(alloc: Global) -> Names
-        ensures { result.items.items ≡ [] }
-    {
-        Names {
-            items: Vec::new(alloc),
-            numbers: BTreeMap::new(alloc),
-        }
-    }
-
-    /// Returns the number of a name.
-    pub(crate) fn find(&self, name: &str) -> Option<usize>
-        ensures { FindsIn among (strings self.now.items.items) name.now result }
-    {
-        self.numbers.get(name).copied()
-    }
-
-    /// Appends a name that the set does not have.
-    pub(crate) fn put(&mut self, alloc: Global, name: &str) -> Result<(), AllocError>
-        requires { among name.now (names_view self.old) ≡ false }
-        ensures { OnOk result (names_view self.new ≡ names_view self.old ++ name.now ∷ []) }
-    {
-        let number = self.items.len();
-        let key = String::from_str(alloc, name)?;
-        let item = String::from_str(alloc, name)?;
-        self.items.reserve(1)?;
-        self.numbers.insert(key, number)?;
-        self.items.push(item)?;
-        Ok(())
-    }
 }
 
 /// A set of chains and libraries, numbered in the order of insertion.

@@ -1,72 +1,138 @@
 //! Stores the templates that were read: each one once, indexed by name.
 
-ghost use Rattle.std.specs.Prelude.{◌≡◌, ◌++◌, ◌∷◌, [], false, map, slice_get, Some, OnOk, IfOk};
-ghost use Rattle.std.specs.Prelude.{IfErr, string_bytes};
-ghost use Rattle.jt_ast.specs.Texts.{among};
-ghost use Rattle.jt_inherit.specs.internal.Faults.{IsFaultOf};
+ghost use Rattle.std.specs.Prelude.{◌≡◌, false, map};
+ghost use Rattle.jt_ast.specs.Texts.{repeated};
 ghost use Rattle.jt_chains.specs.TemplateFiles.{files_view};
-ghost use Rattle.jt_inherit.specs.internal.ExtendsPaths.{AddsName, Grow, KnowTemplateFiles};
-ghost use Rattle.jt_inherit.specs.internal.ExtendsPaths.{AreNamed, AreNamed-prop};
-ghost use Rattle.jt_inherit.specs.internal.Sets.{names_view};
+ghost use Rattle.jt_inherit.specs.internal.Numbers.{AreNumbers, AreNumbers-prop, is_named};
 
 use crate::error::ChainError;
 use crate::library::{Library, Loader};
 use crate::reading::read_file;
-use crate::sets::Names;
-use jt_chains::TemplateFile;
+use jt_chains::{Block, Macro, TemplateFile, blocks_at, blocks_of_file, macros_at};
 use std::alloc::{AllocError, Global};
+use std::collections::BTreeMap;
 
 /// The templates that were read, each one once, indexed by name.
-#[derive(Clone, Copy)]
-pub(crate) struct TemplateStore<'a> {
-    pub(crate) names: &'a Names,
-    pub(crate) files: &'a [TemplateFile],
-    ghost named: { AreNamed (files_view files.now)
-        (names_view names.now) } by { AreNamed-prop (files_view files.now) (names_view names.now) },
+#[derive(Drop)]
+pub(crate) struct TemplateStore {
+    /// The templates, in the order of reading.
+    pub(crate) files: Vec<TemplateFile>,
+    /// The index in `files` of each template, by its name.
+    pub(crate) indices: BTreeMap<String, usize>,
+    ghost once: { repeated (map (λ t. t.name) (files_view files.items)) ≡ false },
+    ghost indexed: { AreNumbers is_named files.items
+        indices } by { AreNumbers-prop is_named files.items indices },
 }
 
-/// Appends a template whose name is new.
-pub(crate) fn add_file(
-    alloc: Global,
-    names: &mut Names,
-    files: &mut Vec<TemplateFile>,
-    file: TemplateFile,
-) -> Result<(), AllocError>
-    requires { among (string_bytes file.name) (names_view names.old) ≡ false }
-    ensures files { OnOk result (files.new.items ≡ files.old.items ++ file ∷ []) }
-    ensures names { OnOk result
-        (names_view names.new ≡ names_view names.old ++ string_bytes file.name ∷ []) }
-{
-    names.put(alloc, &file.name)?;
-    files.push(file)?;
-    Ok(())
-}
+impl TemplateStore {
+    ghost use Rattle.std.specs.Prelude.{◌++◌, ◌∷◌, [], slice_get, string_bytes, Some};
+    ghost use Rattle.std.specs.Prelude.{OnErr, OnOk, IfOk, IfErr};
+    ghost use Rattle.jt_ast.specs.Texts.{among};
+    ghost use Rattle.jt_chains.specs.Along.{blocks_along, body_at, macros_along};
+    ghost use Rattle.jt_chains.specs.Chain.{blocks_in};
+    ghost use Rattle.jt_chains.specs.Parts.{blocks_view, macros_view, name_at};
+    ghost use Rattle.jt_chains.specs.TemplateFiles.{file_view};
+    ghost use Rattle.jt_inherit.specs.internal.ExtendsPaths.{AreKnown, HasRead, names};
+    ghost use Rattle.jt_inherit.specs.internal.Faults.{IsFaultOf};
+    ghost use Rattle.jt_inherit.specs.internal.Given.{its_files};
+    ghost use Rattle.jt_inherit.specs.internal.SetView.{FindsIn};
+    ghost use Rattle.jt_chains.specs.Names.{IsName};
 
-/// Returns the index of the template `name`, and reads the template if it was not read yet.
-pub(crate) fn read_index<L: Library>(
-    alloc: Global,
-    names: &mut Names,
-    files: &mut Vec<TemplateFile>,
-    name: &str,
-    loader: &Loader<'_, L>,
-) -> Result<usize, ChainError>
-    requires { KnowTemplateFiles (L.sources loader.now.library.now) loader.now.options
-        files.old.items names.old }
-    ensures known { OnOk result (KnowTemplateFiles
-        (L.sources loader.now.library.now) loader.now.options
-        files.new.items names.new) }
-    ensures grown { OnOk result (Grow files.old.items files.new.items) }
-    ensures from { OnOk result (AddsName names.old names.new name.now) }
-    ensures index { IfOk result
-        (λ i. slice_get (map (λ t. t.name) (files_view files.new.items)) i ≡ Some name.now) }
-    ensures refused { IfErr result (λ e.
-        IsFaultOf e (L.sources loader.now.library.now) name.now loader.now.options) }
-{
-    if let Some(index) = names.find(name) {
-        return Ok(index);
+    /// Returns a store without templates.
+    pub(crate) fn new(alloc: Global) -> TemplateStore
+        ensures { result.files.items ≡ [] }
+    {
+        TemplateStore {
+            files: Vec::new(alloc),
+            indices: BTreeMap::new(alloc),
+        }
     }
-    let index = files.len();
-    let file = read_file(alloc, name, loader)?;
-    add_file(alloc, names, files, file)?;
-    Ok(index)
+
+    /// Returns the index of the template of a name.
+    pub(crate) fn find(&self, name: &str) -> Option<usize>
+        ensures { FindsIn among (names (its_files self.now)) name.now result }
+    {
+        self.indices.get(name).copied()
+    }
+
+    /// Appends a template whose name is new.
+    fn add(&mut self, alloc: Global, file: TemplateFile) -> Result<(), AllocError>
+        requires { among (string_bytes file.name) (names (its_files self.old)) ≡ false }
+        ensures added { OnOk result
+            (its_files self.new ≡ its_files self.old ++ file_view file ∷ []) }
+        ensures same { OnErr result (its_files self.new ≡ its_files self.old) }
+    {
+        let index = self.files.len();
+        let name = String::from_str(alloc, &file.name)?;
+        self.files.reserve(1)?;
+        self.indices.insert(name, index)?;
+        self.files.push(file)?;
+        Ok(())
+    }
+
+    /// Returns the bodies of all blocks of the templates at `indices`.
+    pub(crate) fn blocks_at(
+        &self,
+        alloc: Global,
+        indices: &[usize],
+        escaping: bool,
+    ) -> Result<Vec<Block<'_>>, AllocError>
+        ensures { IfOk result (λ bodies. blocks_view (its_files self.now) bodies.items
+            ≡ blocks_along (its_files self.now) escaping indices.now) }
+    {
+        blocks_at(alloc, &self.files, indices, escaping)
+    }
+
+    /// Returns the bodies of all blocks of the template at `index`.
+    pub(crate) fn blocks_of(
+        &self,
+        alloc: Global,
+        index: usize,
+        escaping: bool,
+    ) -> Result<Vec<Block<'_>>, AllocError>
+        ensures { IfOk result (λ bodies. blocks_view (its_files self.now) bodies.items
+            ≡ blocks_in (name_at (its_files self.now) index) (body_at (its_files self.now) index)
+            escaping) }
+    {
+        blocks_of_file(alloc, &self.files, index, escaping)
+    }
+
+    /// Returns the macros of the templates at `indices`.
+    pub(crate) fn macros_at(
+        &self,
+        alloc: Global,
+        indices: &[usize],
+    ) -> Result<Vec<Macro<'_>>, AllocError>
+        ensures { IfOk result (λ found. macros_view (its_files self.now) found.items
+            ≡ macros_along (its_files self.now) indices.now) }
+    {
+        macros_at(alloc, &self.files, indices)
+    }
+
+    /// Returns the index of the template `name`, and reads the template if it was not read yet.
+    pub(crate) fn read<L: Library>(
+        &mut self,
+        alloc: Global,
+        name: &str,
+        loader: &Loader<'_, L>,
+    ) -> Result<usize, ChainError>
+        requires { AreKnown (L.sources loader.now.library.now) loader.now.options
+            (its_files self.old) }
+        ensures read { OnOk result (HasRead (L.sources loader.now.library.now) loader.now.options
+            (its_files self.old) (its_files self.new) (name.now ∷ [])) }
+        ensures index { IfOk result
+            (λ i. slice_get (names (its_files self.new)) i ≡ Some name.now) }
+        ensures refused { IfErr result (λ e.
+            IsFaultOf e (L.sources loader.now.library.now) name.now loader.now.options) }
+        ensures same { OnErr result (its_files self.new ≡ its_files self.old) }
+        ensures missing { result ≡ Err ChainError.Missing → IsName name.now }
+    {
+        if let Some(index) = self.find(name) {
+            return Ok(index);
+        }
+        let index = self.files.len();
+        let file = read_file(alloc, name, loader)?;
+        self.add(alloc, file)?;
+        Ok(index)
+    }
 }

@@ -1,8 +1,4 @@
 pub mod Vocabulary
-pub mod BodyIndices
-pub mod FirstMacro
 pub mod FirstOccurrences
-pub mod OffsetSteps
-pub mod NamespacesByName
 pub mod NamesInOrder
 pub mod LayoutCorrect

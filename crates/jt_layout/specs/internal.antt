@@ -1,3 +1,1 @@
-pub mod Front
-pub mod Namespaces
-pub mod Indices
+pub mod Layouts

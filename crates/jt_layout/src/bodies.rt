@@ -9,7 +9,7 @@ ghost use Rattle.jt_chains.specs.Chain.{Template};
 ghost use Rattle.jt_chains.specs.Parts.{block_view};
 ghost use Rattle.jt_semantics.specs.Layout.{counted_from};
 ghost use Rattle.jt_names.specs.Names.{value_in};
-ghost use Rattle.jt_layout.specs.internal.Indices.{nexts};
+ghost use Rattle.jt_layout.specs.internal.Layouts.{nexts};
 
 use jt_chains::Block;
 use jt_names::NameIndex;

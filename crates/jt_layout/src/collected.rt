@@ -1,20 +1,21 @@
 //! Collects the names of chains, from the last chain to the first.
 
-ghost use Rattle.std.specs.Prelude.{◌≡◌, ◌<◌, ◌+◌, false, [], length, drop, IfOk, if◌then◌else◌};
-ghost use Rattle.std.specs.Prelude.{string_bytes};
+ghost use Rattle.std.specs.Prelude.{◌≡◌, ◌<◌, ◌+◌, false, [], length, drop, flat_map};
+ghost use Rattle.std.specs.Prelude.{IfOk, if◌then◌else◌, string_bytes};
 ghost use Rattle.std.specs.Str.{bytes_eq};
-ghost use Rattle.jt_ast.specs.Texts.{all_inserted, texts};
+ghost use Rattle.jt_ast.specs.Texts.{texts};
 ghost use Rattle.jt_ast.specs.Expressions.{Text};
 ghost use Rattle.jt_chains.specs.Chain.{a_chain, same_namespace};
 ghost use Rattle.jt_chains.specs.TemplateFiles.{namespace_view};
 ghost use Rattle.jt_semantics.specs.Layout.{in_globals};
 ghost use Rattle.jt_chains.specs.View.{namespace_in};
-ghost use Rattle.jt_layout.specs.internal.Namespaces.{its_cenv, its_order, AreNames};
-ghost use Rattle.jt_layout.specs.internal.Indices.{all_names, names_at};
+ghost use Rattle.jt_layout.specs.internal.Layouts.{AreNames, all_names, its_cenv, its_order};
+ghost use Rattle.jt_layout.specs.internal.Layouts.{names_at};
 ghost use Rattle.jt_names.specs.FactsOfChains.{AllKnown};
+ghost use Rattle.jt_names.specs.Names.{Puts};
 
-use jt_chains::Namespace;
-use jt_names::{ChainFacts, add_names, is_missing, list_of};
+use jt_chains::{Namespace, NeededTemplate};
+use jt_names::{ChainFacts, add_names, list_of};
 use jt_value::NoMemory;
 use std::alloc::{AllocError, Global};
 use std::collections::{BTreeMap, BTreeSet};
@@ -48,13 +49,28 @@ impl<'a> CollectedNames<'a> {
 
     /// Adds the names of a chain to a set, if they are stored.
     fn add_to(&self, names: &mut BTreeSet<&'a str>, chain: &str) -> Result<(), AllocError>
-        ensures { IfOk result (λ u. texts names.new.keys
-            ≡ all_inserted (names_at self.now.names chain.now) (texts names.old.keys)) }
+        ensures { IfOk result
+            (λ u. Puts names.old names.new (names_at self.now.names chain.now)) }
     {
         match self.names.get(chain) {
             Some(others) => add_names(names, others),
             None => Ok(()),
         }
+    }
+
+    /// Adds the names of included chains to a set. No names are stored for a missing chain.
+    fn add_included(
+        &self,
+        names: &mut BTreeSet<&'a str>,
+        included: &[NeededTemplate<'_>],
+    ) -> Result<(), AllocError>
+        ensures { IfOk result (λ u. Puts names.old names.new
+            (flat_map (λ n. names_at self.now.names n.name.now) included.now)) }
+    {
+        for include in included {
+            self.add_to(names, include.name)?;
+        }
+        Ok(())
     }
 
     /// Removes and returns the names of a chain. Returns an empty list for a library, or if no
@@ -95,12 +111,7 @@ fn names_of_chain<'a>(
     let mut names = BTreeSet::new(alloc);
     add_names(&mut names, &facts.at(namespace).names)?;
     let included = facts.chain.includes(alloc, namespace)?;
-    for include in &included {
-        if is_missing(facts.chain, include.name) {
-            continue;
-        }
-        behind.add_to(&mut names, include.name)?;
-    }
+    behind.add_included(&mut names, &included)?;
     list_of(alloc, names)
 }
 

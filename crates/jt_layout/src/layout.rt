@@ -5,8 +5,8 @@ ghost use Rattle.jt_chains.specs.TemplateFiles.{namespace_view};
 ghost use Rattle.jt_rules.specs.CompileEnv.{CompileEnv};
 ghost use Rattle.jt_semantics.specs.Layout as layout;
 ghost use Rattle.jt_ast.specs.Texts.{texts};
-ghost use Rattle.jt_layout.specs.internal.Front.{StandsAt, IsLaidAt, AreLaid};
-ghost use Rattle.jt_layout.specs.internal.Namespaces.{its_cenv, its_order, its_names, AreNames};
+ghost use Rattle.jt_layout.specs.internal.Layouts.{StandsAt, IsLaidAt, AreLaid, AreNames, its_cenv};
+ghost use Rattle.jt_layout.specs.internal.Layouts.{its_names, its_order};
 ghost use Rattle.jt_layout.specs.NamespaceLayout.{IsLaidOut};
 ghost use Rattle.jt_names.specs.FactsOfChains.{AllKnown};
 

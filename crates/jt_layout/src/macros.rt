@@ -4,7 +4,7 @@ ghost use Rattle.std.specs.Prelude.{◌≡◌, ◌+◌, List, length, map, IfOk}
 ghost use Rattle.jt_chains.specs.Chain.{Template};
 ghost use Rattle.jt_chains.specs.Parts.{macro_view};
 ghost use Rattle.jt_semantics.specs.Layout.{defaults_of};
-ghost use Rattle.jt_layout.specs.internal.Indices.{defaults_from};
+ghost use Rattle.jt_layout.specs.internal.Layouts.{defaults_from};
 
 use crate::count::checked_sum;
 use jt_chains::Macro;

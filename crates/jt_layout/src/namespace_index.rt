@@ -4,7 +4,7 @@ ghost use Rattle.std.specs.Prelude.{◌≡◌, map, IfOk};
 ghost use Rattle.jt_ast.specs.Expressions.{Text};
 ghost use Rattle.jt_chains.specs.TemplateFiles.{namespace_view};
 ghost use Rattle.jt_names.specs.Names.{value_in};
-ghost use Rattle.jt_layout.specs.internal.Indices.{namespace_named, first_namespace};
+ghost use Rattle.jt_layout.specs.internal.Layouts.{namespace_named, first_namespace};
 
 use jt_chains::Namespace;
 use jt_names::NameIndex;

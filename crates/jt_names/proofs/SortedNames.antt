@@ -2,16 +2,16 @@
 use Rattle.std.specs.declared.cmp.Ordering.{Ordering}
 use Rattle.std.specs.declared.cmp.Ordering.TheVariants.{Less, Equal, Greater}
 use Rattle.std.specs.Ordering.{nat_cmp, is_lt, is_eq, match_ordering, ordering_reverse}
+use Rattle.std.specs.Cmp.{Equal-is}
 use Rattle.std.specs.Cmp.Lexicographic.{slice_cmp}
 use Rattle.std.specs.BTreeSet.{insert_key}
-use Rattle.std.proofs.lemmas.Bool.{or_right}
 use Rattle.std.proofs.lemmas.Cmp.{nat_list_eq_equiv, nat_list_cmp_total}
 use Rattle.std.proofs.lemmas.Map.Text.{is_eq-slice_cmp}
 use Rattle.std.proofs.lemmas.Slice.Eq.{bytes_eq-Decides}
 use Rattle.jt_ast.specs.Texts.{inserted}
-use Rattle.jt_names.proofs.Vocabulary.{◌≡◌, Bool, true, false, ◌||◌, if◌then◌else◌, List, [], ◌∷◌, ◌++◌, refl, sym, ap}
-use Rattle.jt_names.proofs.Vocabulary.{subst, ◌∙◌, arith, rules, bytes_eq, Bor, Text, among, all_inserted, ascending}
-use Rattle.jt_names.proofs.Vocabulary.{texts}
+use Rattle.jt_names.proofs.Vocabulary.{◌≡◌, ◌<◌, ◌≤◌, ◌+◌, ℕ, Bool, true, false, if◌then◌else◌, List, [], ◌∷◌, ◌++◌}
+use Rattle.jt_names.proofs.Vocabulary.{refl, sym, ap, subst, ◌∙◌, arith, rules, bytes_eq, Bor, Text, all_inserted}
+use Rattle.jt_names.proofs.Vocabulary.{ascending, texts}
 
 pub symmetric : (x y : Text) → bytes_eq x y ≡ bytes_eq y x
 symmetric x y = nat_list_eq_equiv.symm x y
@@ -24,21 +24,6 @@ inserted_both (x ∷ xs) ys ns = inserted_both xs ys (inserted x ns)
 
 abbrev pub name_cmp : Bor Text → Bor Text → Ordering
 name_cmp x y = slice_cmp nat_cmp x.now y.now
-
--- A name that is inserted into a set.
-pub key_inserted : (ks : List (Bor Text)) (x : Bor Text) → texts (insert_key name_cmp ks x) ≡ inserted x.now (texts ks)
-key_inserted [] x = refl
-key_inserted (y ∷ ys) x =
-    through (slice_cmp nat_cmp x.now y.now) (key_inserted ys x)
-    ∙ ap (λ b. if b then texts (y ∷ ys) else if is_lt (slice_cmp nat_cmp x.now y.now) then x.now ∷ texts (y ∷ ys)
-    else y.now ∷ inserted x.now (texts ys))
-    (is_eq-slice_cmp x.now y.now ∙ symmetric x.now y.now)
-  where
-    through : (o : Ordering) → texts (insert_key name_cmp ys x) ≡ inserted x.now (texts ys)
-        → texts (match_ordering o (x ∷ y ∷ ys) (y ∷ ys) (y ∷ insert_key name_cmp ys x))
-        ≡ (if is_eq o then texts (y ∷ ys) else if is_lt o then x.now ∷ texts (y ∷ ys)
-        else y.now ∷ inserted x.now (texts ys))
-    through a0 h = search (arith, rules)
 
 -- ---- The order of insertions does not matter, and a text that is inserted again changes nothing
 
@@ -60,6 +45,17 @@ at_head x y ys o e =
         → (if is_eq r then y ∷ ys else if is_lt r then x ∷ y ∷ ys else y ∷ inserted x ys) ≡ placed r x y ys
     by Less = refl
     by r = refl
+
+-- A name that is inserted into a set.
+pub key_inserted : (ks : List (Bor Text)) (x : Bor Text) → texts (insert_key name_cmp ks x) ≡ inserted x.now (texts ks)
+key_inserted [] x = refl
+key_inserted (y ∷ ys) x =
+    by (cmp x.now y.now) (key_inserted ys x) ∙ sym (at_head x.now y.now (texts ys) (cmp x.now y.now) refl)
+  where
+    by : (o : Ordering) → texts (insert_key name_cmp ys x) ≡ inserted x.now (texts ys)
+        → texts (match_ordering o (x ∷ y ∷ ys) (y ∷ ys) (y ∷ insert_key name_cmp ys x))
+        ≡ placed o x.now y.now (texts ys)
+    by o h = search (arith, rules)
 
 turned : (x y : Text) (o : Ordering) → cmp x y ≡ o → cmp y x ≡ ordering_reverse o
 turned x y o e = nat_list_cmp_total.antisymm y x ∙ ap ordering_reverse e
@@ -95,11 +91,7 @@ past y [] ns = refl
 past y (x ∷ xs) ns = past y xs (inserted x ns) ∙ ap (all_inserted xs) (swapped x y ns)
 
 itself : (x : Text) → cmp x x ≡ Equal
-itself x = by (cmp x x) (is_eq-slice_cmp x x ∙ nat_list_eq_equiv.refl x)
-  where
-    by : (o : Ordering) → is_eq o ≡ true → o ≡ Equal
-    by Equal e = refl
-    by o e = absurd (cc)
+itself x = (Equal-is (cmp x x)).0 (is_eq-slice_cmp x x ∙ nat_list_eq_equiv.refl x)
 
 again : (x : Text) (ns : List Text) → inserted x (inserted x ns) ≡ inserted x ns
 again x [] = at_head x x [] Equal (itself x)
@@ -110,49 +102,59 @@ again x (y ∷ ys) = by (again x ys) (cmp x y) refl
     by later Less e = search (arith, rules, at_head, itself)
     by later o e = search (arith, rules, at_head, itself)
 
--- ---- What is inserted depends only on which texts a list has
+-- The different texts of a list may be inserted in its place.
+one_inserted : (x : Text) (ns ms : List Text) → all_inserted (inserted x ns) ms ≡ inserted x (all_inserted ns ms)
+one_inserted x [] ms = refl
+one_inserted x (y ∷ ys) ms = by (bytes_eq y x) (is_lt (cmp x y)) refl (one_inserted x ys (inserted y ms))
+  where
+    by : (b c : Bool) → bytes_eq y x ≡ b
+        → all_inserted (inserted x ys) (inserted y ms) ≡ inserted x (all_inserted ys (inserted y ms))
+        → all_inserted (if b then y ∷ ys else if c then x ∷ y ∷ ys else y ∷ inserted x ys) ms
+        ≡ inserted x (all_inserted ys (inserted y ms))
+    by true c e h = search (arith, rules, past, again, bytes_eq-Decides)
+    by false true e h = sym (past x (y ∷ ys) ms)
+    by false false e h = h
+
+inserted_later : (xs ns ms : List Text) → all_inserted (all_inserted xs ns) ms ≡ all_inserted xs (all_inserted ns ms)
+inserted_later [] ns ms = refl
+inserted_later (x ∷ xs) ns ms = search (arith, rules, inserted_later xs, one_inserted)
+
+pub ascending_inserted : (xs ms : List Text) → all_inserted (ascending xs) ms ≡ all_inserted xs ms
+ascending_inserted xs ms = inserted_later xs [] ms
+
+-- ---- What is inserted depends only on how often each text is in a list
+
+-- The sum of the weights of items.
+abbrev pub weight : {A : Type 0} → (A → ℕ) → List A → ℕ
+weight f [] = 0
+weight f (x ∷ xs) = f x + weight f xs
+
+-- One for the text q, and nothing for another one.
+abbrev pub one : Text → Text → ℕ
+one q x = if bytes_eq x q then 1 else 0
 
 -- A text of the list is inserted with it.
-absorbed : (x : Text) (xs ns : List Text) → among x xs ≡ true → all_inserted xs (inserted x ns) ≡ all_inserted xs ns
-absorbed x [] ns h = absurd (cc)
+absorbed : (x : Text) (xs ns : List Text) → 0 < weight (one x) xs → all_inserted xs (inserted x ns) ≡ all_inserted xs ns
+absorbed x [] ns h = absurd (omega arith)
 absorbed x (y ∷ ys) ns h = by (bytes_eq y x) refl (absorbed x ys (inserted y ns)) h
   where
     by : (b : Bool) → bytes_eq y x ≡ b
-        → (among x ys ≡ true → all_inserted ys (inserted x (inserted y ns)) ≡ all_inserted ys (inserted y ns))
-        → (b || among x ys) ≡ true → all_inserted ys (inserted y (inserted x ns)) ≡ all_inserted ys (inserted y ns)
-    by true e later h =
-        subst (λ z. all_inserted ys (inserted y (inserted z ns)) ≡ all_inserted ys (inserted y ns))
-        ((bytes_eq-Decides y x).0 e) (ap (all_inserted ys) (again y ns))
-    by false e later h = ap (all_inserted ys) (swapped x y ns) ∙ later h
+        → (0 < weight (one x) ys → all_inserted ys (inserted x (inserted y ns)) ≡ all_inserted ys (inserted y ns))
+        → 0 < (if b then 1 else 0) + weight (one x) ys
+        → all_inserted ys (inserted y (inserted x ns)) ≡ all_inserted ys (inserted y ns)
+    by true e later h = search (arith, rules, again, bytes_eq-Decides)
+    by false e later h = ap (all_inserted ys) (swapped x y ns) ∙ later (omega arith)
 
-absorbs : (xs ys ns : List Text) → ((q : Text) → among q xs ≡ true → among q ys ≡ true)
+absorbs : (xs ys ns : List Text) → ((q : Text) → weight (one q) xs ≤ weight (one q) ys)
     → all_inserted ys (all_inserted xs ns) ≡ all_inserted ys ns
 absorbs [] ys ns h = refl
-absorbs (x ∷ xs) ys ns h =
-    absorbs xs ys (inserted x ns) (λ q k. h q (or_right (bytes_eq x q) (among q xs) k))
-    ∙ absorbed x ys ns (h x (ap (λ b. b || among x xs) (nat_list_eq_equiv.refl x)))
+absorbs (x ∷ xs) ys ns h = search (arith, rules, nat_list_eq_equiv, absorbs xs ys, absorbed)
 
 crossed : (xs ys ns : List Text) → all_inserted ys (all_inserted xs ns) ≡ all_inserted xs (all_inserted ys ns)
 crossed xs [] ns = refl
 crossed xs (y ∷ ys) ns = ap (all_inserted ys) (past y xs ns) ∙ crossed xs ys (inserted y ns)
 
-pub same_inserted : (xs ys ns : List Text) → ((q : Text) → among q xs ≡ among q ys)
+pub as_often : (xs ys ns : List Text) → ((q : Text) → weight (one q) xs ≡ weight (one q) ys)
     → all_inserted xs ns ≡ all_inserted ys ns
-same_inserted xs ys ns h =
-    sym (absorbs ys xs ns (λ q k. h q ∙ k)) ∙ crossed ys xs ns ∙ absorbs xs ys ns (λ q k. sym (h q) ∙ k)
-
-among_inserted : (q x : Text) (ns : List Text) → among q (inserted x ns) ≡ (bytes_eq x q || among q ns)
-among_inserted q x [] = refl
-among_inserted q x (y ∷ ys) = by (bytes_eq y x) refl (among_inserted q x ys)
-  where
-    by : (b : Bool) → bytes_eq y x ≡ b → among q (inserted x ys) ≡ (bytes_eq x q || among q ys)
-        → among q (inserted x (y ∷ ys)) ≡ (bytes_eq x q || among q (y ∷ ys))
-    by b e later = search (arith, rules, bytes_eq-Decides)
-
-among_all : (q : Text) (xs ns : List Text) → among q (all_inserted xs ns) ≡ (among q xs || among q ns)
-among_all q [] ns = refl
-among_all q (x ∷ xs) ns = search (arith, rules, among_all q xs (inserted x ns), among_inserted)
-
--- The different texts of a list may be inserted in its place.
-pub ascending_inserted : (xs ms : List Text) → all_inserted (ascending xs) ms ≡ all_inserted xs ms
-ascending_inserted xs ms = same_inserted (ascending xs) xs ms (λ q. search (arith, rules, among_all))
+as_often xs ys ns h =
+    sym (absorbs ys xs ns (λ q. omega (arith, h q))) ∙ crossed ys xs ns ∙ absorbs xs ys ns (λ q. omega (arith, h q))

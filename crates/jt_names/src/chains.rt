@@ -7,7 +7,8 @@ ghost use Rattle.jt_names.specs.FactsOfChains.{AllKnown, IsKnown, EachKnown};
 
 use crate::facts::{ChainFacts, NamespaceFacts};
 use crate::index::{definitions_of, first_bodies};
-use crate::templates::{TemplateFacts, facts_of_files, names_along};
+use crate::own::NamesOf;
+use crate::templates::{TemplateFacts, facts_of_templates, names_of_namespace};
 use jt_chains::Chain;
 use std::alloc::{AllocError, Global};
 
@@ -16,7 +17,7 @@ pub fn facts_of(alloc: Global, chain: &Chain) -> Result<ChainFacts<'_>, AllocErr
     ensures known { IfOk result (λ facts. AllKnown facts) }
     ensures chain { IfOk result (λ facts. facts.chain.now ≡ chain.now) }
 {
-    let templates = facts_of_files(alloc, &chain.templates)?;
+    let templates = facts_of_templates(alloc, chain)?;
     let namespaces = facts_of_namespaces(alloc, chain, &templates)?;
     Ok(ChainFacts {
         chain,
@@ -53,16 +54,16 @@ fn facts_of_namespace<'a>(
     requires known { AreKnown (its_templates chain.now) templates.now }
     ensures { IfOk result (λ f. IsKnown chain.now namespace f) }
 {
-    let indices = &chain.namespaces[namespace].templates;
-    let along = names_along(alloc, templates, indices)?;
+    let names = names_of_namespace(alloc, chain, templates, namespace, NamesOf::Template)?;
+    let scope_names = names_of_namespace(alloc, chain, templates, namespace, NamesOf::Scopes)?;
     let macros = chain.macros(alloc, namespace)?;
     let listed = chain.given(alloc, namespace)?;
     let given = definitions_of(alloc, &listed)?;
     let blocks = chain.blocks(alloc, namespace)?;
     let first_bodies = first_bodies(alloc, &blocks)?;
     Ok(NamespaceFacts {
-        names: along.names,
-        scope_names: along.scope_names,
+        names,
+        scope_names,
         macros,
         given,
         blocks,

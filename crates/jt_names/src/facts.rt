@@ -12,7 +12,7 @@ ghost use Rattle.jt_uses.specs.UseView.{sites_view};
 ghost use Rattle.jt_names.specs.FactsOfChains.{AllKnown, IsKnown};
 
 use crate::index::NameIndex;
-use crate::templates::{TemplateFacts, count_at, is_library_at};
+use crate::templates::{TemplateFacts, template_named};
 use jt_chains::{Block, Chain, Definition, Macro};
 use jt_uses::UseSite;
 use std::collections::BTreeMap;
@@ -70,12 +70,10 @@ impl<'a> ChainFacts<'a> {
         ensures { result ≡ length
             (ascending (own_names (its_sources self.now.chain.now) (a_library library.now))) }
     {
-        let Some(index) = self.chain.indices.get(library) else {
-            return 0;
-        };
-        if !is_library_at(&self.chain.templates, *index) {
-            return 0;
+        let index = template_named(self.chain, library);
+        match self.chain.templates.get(index) {
+            Some(file) if file.is_library() => self.templates[index].names.as_slice().len(),
+            _ => 0,
         }
-        count_at(&self.templates, *index)
     }
 }

@@ -14,6 +14,20 @@ use jt_chains::{Block, DefinedName, Definition};
 use std::alloc::{AllocError, Global};
 use std::collections::BTreeMap;
 
+/// Maps `name` to `value`, replacing its earlier entry.
+pub fn set_entry<'a, V: Drop>(
+    map: &mut BTreeMap<&'a str, V>,
+    name: &'a str,
+    value: V,
+) -> Result<(), AllocError>
+    ensures { IfOk result (λ _. (x : Text)
+        → value_in map.new x
+        ≡ (if bytes_eq name.now x then Some value else value_in map.old x)) }
+{
+    map.insert(name, value)?;
+    Ok(())
+}
+
 /// An index for each name of a set.
 #[derive(Drop)]
 pub struct NameIndex<'a> {
@@ -54,8 +68,7 @@ impl<'a> NameIndex<'a> {
             → value_in self.new.indices x
             ≡ (if bytes_eq name.now x then Some index else value_in self.old.indices x)) }
     {
-        self.indices.insert(name, index)?;
-        Ok(())
+        set_entry(&mut self.indices, name, index)
     }
 
     /// Returns the index of a name.
@@ -97,7 +110,7 @@ pub(crate) fn definitions_of<'a>(
     while left > 0 {
         left -= 1;
         let first = &given[left];
-        definitions.insert(first.name, first.given)?;
+        set_entry(&mut definitions, first.name, first.given)?;
     }
     Ok(definitions)
 }

@@ -19,7 +19,7 @@ mod templates;
 
 pub use chains::facts_of;
 pub use facts::{ChainFacts, NamespaceFacts};
-pub use index::NameIndex;
+pub use index::{NameIndex, set_entry};
 pub use lists::{keyword_names, names_of, parameter_names};
 pub use ordered::{add_names, in_order, list_of};
 pub use own::is_loop_name;

@@ -1,11 +1,11 @@
-//! Collects the different names that uses read or bind, and those that they bind in scopes.
+//! Collects the different names that uses read or bind.
 
 ghost use Rattle.std.specs.Prelude.{◌≡◌, filter_map, option_map, IfOk};
 ghost use Rattle.jt_ast.specs.ExpressionView.{expr_view};
 ghost use Rattle.jt_chains.specs.Chain.{is_loop};
 ghost use Rattle.jt_uses.specs.UseView.{site_view, sites_view};
 ghost use Rattle.jt_names.specs.Names.{Puts};
-ghost use Rattle.jt_names.specs.internal.UsedNames.{name_used, name_scoped};
+ghost use Rattle.jt_names.specs.internal.UsedNames.{name_used};
 
 use crate::ordered::add_name;
 use jt_ast::Expr;
@@ -23,65 +23,38 @@ pub fn is_loop_name(expr: &Expr) -> bool
     }
 }
 
-/// Returns the name that a use reads or binds.
-fn name_used<'a>(site: &UseSite<'a>) -> Option<&'a str>
-    ensures { option_map (λ x. x.now) result ≡ name_used (site_view site.now) }
+/// Which names of a template are collected.
+#[derive(Clone, Copy)]
+pub(crate) enum NamesOf {
+    /// The names that it reads or binds.
+    Template,
+    /// The names that its scopes bind.
+    Scopes,
+}
+
+/// Returns the name that a use reads or binds, if names of its kind are collected.
+fn name_used<'a>(of: NamesOf, site: &UseSite<'a>) -> Option<&'a str>
+    ensures { option_map (λ x. x.now) result ≡ name_used of (site_view site.now) }
 {
-    match site.made {
-        Use::Reads(name) => {
-            if site.place.around.in_callee {
-                None
-            } else {
-                Some(name)
-            }
-        }
-        Use::Binds(name) => Some(name),
+    match (of, site.made) {
+        (NamesOf::Template, Use::Reads(name)) if !site.place.around.in_callee => Some(name),
+        (NamesOf::Template, Use::Binds(name)) => Some(name),
+        (NamesOf::Scopes, Use::Binds(name)) if site.place.around.in_scope => Some(name),
         _ => None,
     }
 }
 
-/// Adds the names that uses read or bind.
+/// Adds the names that uses read or bind, or only those that they bind in scopes.
 pub(crate) fn add_used<'a>(
     names: &mut BTreeSet<&'a str>,
+    of: NamesOf,
     uses: &[UseSite<'a>],
 ) -> Result<(), AllocError>
     ensures { IfOk result
-        (λ _. Puts names.old names.new (filter_map name_used (sites_view uses.now))) }
+        (λ _. Puts names.old names.new (filter_map (name_used of) (sites_view uses.now))) }
 {
     for site in uses {
-        if let Some(name) = name_used(site) {
-            add_name(names, name)?;
-        }
-    }
-    Ok(())
-}
-
-/// Returns the name that a use binds in a scope within its template.
-fn name_scoped<'a>(site: &UseSite<'a>) -> Option<&'a str>
-    ensures { option_map (λ x. x.now) result ≡ name_scoped (site_view site.now) }
-{
-    match site.made {
-        Use::Binds(name) => {
-            if site.place.around.in_scope {
-                Some(name)
-            } else {
-                None
-            }
-        }
-        _ => None,
-    }
-}
-
-/// Adds the names that uses bind in scopes within their template.
-pub(crate) fn add_scoped<'a>(
-    names: &mut BTreeSet<&'a str>,
-    uses: &[UseSite<'a>],
-) -> Result<(), AllocError>
-    ensures { IfOk result
-        (λ _. Puts names.old names.new (filter_map name_scoped (sites_view uses.now))) }
-{
-    for site in uses {
-        if let Some(name) = name_scoped(site) {
+        if let Some(name) = name_used(of, site) {
             add_name(names, name)?;
         }
     }

@@ -2,22 +2,13 @@
 
 ghost use Rattle.std.specs.Prelude.{◌≡◌, IfOk};
 ghost use Rattle.jt_chains.specs.Uses.{set_by, set_in};
-ghost use Rattle.jt_ast.specs.StatementView.{stmt_view, body_view, names_view};
+ghost use Rattle.jt_ast.specs.StatementView.{stmt_view, body_view};
 ghost use Rattle.jt_ast.specs.Texts.{texts};
 ghost use Rattle.jt_names.specs.Names.{Adds};
 
+use crate::lists::add_names_of;
 use jt_ast::{Branch, Stmt};
 use std::alloc::{AllocError, Global};
-
-/// Adds the names of targets.
-fn add_targets<'a>(found: &mut Vec<&'a str>, targets: &'a [String]) -> Result<(), AllocError>
-    ensures { IfOk result (λ _. Adds found.old found.new (names_view targets.now)) }
-{
-    for target in targets {
-        found.push(target.as_str())?;
-    }
-    Ok(())
-}
 
 /// Adds the names that statements set in their scope.
 #[cycle(sets)]
@@ -36,7 +27,7 @@ fn add_set<'a>(found: &mut Vec<&'a str>, statement: &'a Stmt) -> Result<(), Allo
     ensures { IfOk result (λ _. Adds found.old found.new (set_by (stmt_view statement.now))) }
 {
     match statement {
-        Stmt::Set { targets, .. } => add_targets(found, targets),
+        Stmt::Set { targets, .. } => add_names_of(found, targets),
         Stmt::SetBlock { name, .. } => {
             found.push(name.as_str())?;
             Ok(())

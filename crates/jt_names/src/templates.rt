@@ -1,21 +1,21 @@
 //! Collects what is known of each template.
 
-ghost use Rattle.std.specs.Prelude.{◌≡◌, ◌<◌, List, length, IfOk};
-ghost use Rattle.std.specs.List.{AllByRecursion};
+ghost use Rattle.std.specs.Prelude.{◌≡◌, ◌<◌, length, flat_map, IfOk};
 ghost use Rattle.std.specs.Option.{is_none};
 ghost use Rattle.jt_ast.specs.Texts.{ascending, texts};
+ghost use Rattle.jt_ast.specs.Statements.{Body};
 ghost use Rattle.jt_ast.specs.StatementView.{body_view};
-ghost use Rattle.jt_chains.specs.Along.{along, body_at};
-ghost use Rattle.jt_chains.specs.Chain.{Template, holds_macros};
-ghost use Rattle.jt_chains.specs.TemplateFiles.{files_view};
-ghost use Rattle.jt_chains.specs.Uses.{body_names, scope_names_in};
-ghost use Rattle.jt_chains.specs.View.{its_sources};
+ghost use Rattle.jt_chains.specs.Chain as chains;
+ghost use Rattle.jt_chains.specs.Indices.{index_of};
+ghost use Rattle.jt_chains.specs.View.{its_sources, its_templates, namespace_in};
 ghost use Rattle.jt_names.specs.FactsOfTemplates.{known_of, facts_in, AreKnown};
+ghost use Rattle.jt_names.specs.Names.{Puts};
+ghost use Rattle.jt_names.specs.internal.UsedNames.{names_by};
 
 use crate::ordered::{add_names, list_of};
-use crate::own::{add_scoped, add_used};
+use crate::own::{NamesOf, add_used};
 use jt_ast::Stmt;
-use jt_chains::{Chain, TemplateFile};
+use jt_chains::Chain;
 use jt_uses::{UseSite, uses_of};
 use std::alloc::{AllocError, Global};
 use std::collections::BTreeSet;
@@ -36,88 +36,74 @@ fn facts_of_body(alloc: Global, body: &[Stmt]) -> Result<TemplateFacts<'_>, Allo
 {
     let uses = uses_of(alloc, body)?;
     let mut names = BTreeSet::new(alloc);
-    add_used(&mut names, &uses)?;
+    add_used(&mut names, NamesOf::Template, &uses)?;
     let names = list_of(alloc, names)?;
     Ok(TemplateFacts { uses, names })
 }
 
 /// Returns what is known of each template.
-pub(crate) fn facts_of_files(
+pub(crate) fn facts_of_templates(
     alloc: Global,
-    files: &[TemplateFile],
+    chain: &Chain,
 ) -> Result<Vec<TemplateFacts<'_>>, AllocError>
-    ensures { IfOk result (λ fs. AreKnown (files_view files.now) fs.items) }
+    ensures { IfOk result (λ fs. AreKnown (its_templates chain.now) fs.items) }
 {
-    let mut found = Vec::with_capacity(alloc, files.len())?;
-    for file in files {
+    let mut found = Vec::with_capacity(alloc, chain.templates.len())?;
+    for file in &chain.templates {
         found.push(facts_of_body(alloc, file.template.body())?)?;
     }
     Ok(found)
 }
 
+/// Returns the index of the template of a name, or the number of templates if it does not exist.
+pub(crate) fn template_named(chain: &Chain, name: &str) -> usize
+    ensures { result ≡ index_of (its_templates chain.now) name.now }
+{
+    match chain.indices.get(name) {
+        Some(index) => *index,
+        None => chain.templates.as_slice().len(),
+    }
+}
+
 /// Returns whether no template `name` was read.
+#[tactic(auto, using(crate::proofs::LibraryNames::missing))]
 pub fn is_missing(chain: &Chain, name: &str) -> bool
     ensures { result ≡ is_none (its_sources chain.now name.now) }
 {
-    match chain.indices.get(name) {
-        Some(index) => chain.templates.len() <= *index,
-        None => true,
-    }
+    chain.templates.as_slice().len() <= template_named(chain, name)
 }
 
-/// Returns whether the template at `index` is a library. An index out of range stands for a
-/// template without statements.
-pub(crate) fn is_library_at(files: &[TemplateFile], index: usize) -> bool
-    ensures { result ≡ holds_macros (body_at (files_view files.now) index) }
+/// Adds names of a template.
+fn add_known<'a>(
+    names: &mut BTreeSet<&'a str>,
+    of: NamesOf,
+    known: &TemplateFacts<'a>,
+) -> Result<(), AllocError>
+    ensures { IfOk result (λ _. (b : Body) → known_of known.now ≡ facts_in b
+        → Puts names.old names.new (names_by of b)) }
 {
-    match files.get(index) {
-        Some(file) => file.is_library(),
-        None => true,
+    match of {
+        NamesOf::Template => add_names(names, &known.names),
+        NamesOf::Scopes => add_used(names, of, &known.uses),
     }
 }
 
-/// Returns the number of different names of the template at `index`, or 0 if the index is out of
-/// range.
-pub(crate) fn count_at(templates: &[TemplateFacts<'_>], index: usize) -> usize
-    ensures { (ts : List Template) → AreKnown ts templates.now
-        → result ≡ length (ascending (body_names (body_at ts index))) }
-{
-    match templates.get(index) {
-        Some(known) => known.names.len(),
-        None => 0,
-    }
-}
-
-/// The different names of some templates, in ascending order.
-#[derive(Drop)]
-pub(crate) struct NamesAlong<'a> {
-    /// The names that they read or bind.
-    pub(crate) names: Vec<&'a str>,
-    /// The names that their scopes bind.
-    pub(crate) scope_names: Vec<&'a str>,
-}
-
-/// Returns the different names of the templates at `indices`.
-pub(crate) fn names_along<'a>(
+/// Returns the different names of the templates of a chain or a library, in ascending order.
+pub(crate) fn names_of_namespace<'a>(
     alloc: Global,
+    chain: &Chain,
     templates: &[TemplateFacts<'a>],
-    indices: &[usize],
-) -> Result<NamesAlong<'a>, AllocError>
-    requires { AllByRecursion (λ i. i < length templates.now) indices.now }
-    ensures names { IfOk result (λ n. (ts : List Template) → AreKnown ts templates.now
-        → texts n.names.items ≡ ascending (along ts (λ n b. body_names b) indices.now)) }
-    ensures scope_names { IfOk result (λ n. (ts : List Template) → AreKnown ts templates.now
-        → texts n.scope_names.items
-        ≡ ascending (along ts (λ n b. scope_names_in b) indices.now)) }
+    namespace: usize,
+    of: NamesOf,
+) -> Result<Vec<&'a str>, AllocError>
+    requires stands { namespace < length chain.now.namespaces.items }
+    requires known { AreKnown (its_templates chain.now) templates.now }
+    ensures { IfOk result (λ ns. texts ns.items ≡ ascending (flat_map (λ t. names_by of t.body)
+        (chains.templates (its_sources chain.now) (namespace_in chain.now namespace)))) }
 {
     let mut names = BTreeSet::new(alloc);
-    let mut scope_names = BTreeSet::new(alloc);
-    for index in indices {
-        let known = &templates[*index];
-        add_names(&mut names, &known.names)?;
-        add_scoped(&mut scope_names, &known.uses)?;
+    for index in &chain.namespaces[namespace].templates {
+        add_known(&mut names, of, &templates[*index])?;
     }
-    let names = list_of(alloc, names)?;
-    let scope_names = list_of(alloc, scope_names)?;
-    Ok(NamesAlong { names, scope_names })
+    list_of(alloc, names)
 }

@@ -1,14 +1,11 @@
 -- The callee of a call, and its representation in the code. Only private clauses cite this module.
-use Rattle.std.specs.Prelude.{◌≡◌, ℕ, true, List, Option, Some, None, option_map}
-use Rattle.jt_ast.specs.Expressions.{Text}
-use Rattle.jt_ast.specs.StatementView.{parameters_view}
 use Rattle.jt_chains.specs.Chain as chain
-use Rattle.jt_chains.specs.Chain.{Namespace, listed, MacroBody, macros, macro_of, Definition, one_macro, library}
-use Rattle.jt_rules.specs.CompileEnv.{CompileEnv}
-use Rattle.jt_semantics.specs.Layout.{of_macro, of_body, unit, default_index}
-use Rattle.jt_bind.specs.declared.callee.Signature.{Signature}
-use Rattle.jt_bind.specs.declared.callee.Callee.{Callee}
 use Rattle.jt_bind.specs.declared.callee.Callee.TheVariants as c
+use Rattle.std.specs.Prelude.{◌≡◌}
+use Rattle.jt_bind.specs.internal.Vocabulary.{ℕ, true, List, Option, Some, None, option_map, Text, parameters_view}
+use Rattle.jt_bind.specs.internal.Vocabulary.{Namespace, listed, MacroBody, macros, macro_of, Definition, one_macro}
+use Rattle.jt_bind.specs.internal.Vocabulary.{library, CompileEnv, of_macro, of_body, unit, default_index, Signature}
+use Rattle.jt_bind.specs.internal.Vocabulary.{Callee}
 
 -- The macro as a callee, if the chain or library has it.
 abbrev pub of_namespace : Namespace → Option MacroBody → chain.Callee

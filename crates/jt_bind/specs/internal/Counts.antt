@@ -1,17 +1,15 @@
--- The number of locals that parts of lists, targets and `if` statements use. Only private clauses
+-- The number of locals that parts of resolved statements use. Only private clauses
 -- cite this module.
-use Rattle.std.specs.Prelude.{ℕ, suc, max, List, [], ◌∷◌, Option, Some, None}
-use Rattle.jt_ast.specs.Expressions.{Text}
-use Rattle.jt_ir.specs.Locals.{slot_locals, expr_locals, body_locals}
-use Rattle.jt_ir.specs.Slots.{Slot, end}
-use Rattle.jt_ir.specs.View.{expr_view, body_view}
-use Rattle.jt_ir.specs.declared.program.SlotBranch.{SlotBranch}
-use Rattle.jt_ir.specs.declared.program.SlotStmt.{SlotStmt}
+use Rattle.jt_ir.specs.View.{body_view}
+use Rattle.std.specs.Prelude.{◌≡◌, ◌∷◌}
+use Rattle.jt_bind.specs.internal.Vocabulary.{ℕ, suc, max, List, [], Option, Some, None, Text, slot_locals, Front}
+use Rattle.jt_bind.specs.internal.Vocabulary.{SBody, expr_locals, body_locals, Slot, end, expr_view, SlotBranch}
+use Rattle.jt_bind.specs.internal.Vocabulary.{SlotStmt}
 
--- The locals of an argument that may be kept aside in a local.
-abbrev pub aside_locals : Option ℕ → ℕ
-aside_locals None = 0
-aside_locals (Some i) = suc i
+-- The number of locals up to one, if there is one.
+abbrev pub up_to : Option ℕ → ℕ
+up_to None = 0
+up_to (Some i) = suc i
 
 -- The locals of a slot, if there is one.
 abbrev pub target_locals : Option Slot → ℕ
@@ -24,3 +22,8 @@ branches_locals templates [] = 0
 branches_locals templates (b ∷ bs) =
     max (max (expr_locals (expr_view b.condition)) (body_locals (body_view templates b.body.items end)))
     (branches_locals templates bs)
+
+-- The last local before statements is `last`, and the last one after them is `result`.
+abbrev pub Reaches : Front → Option ℕ → Option ℕ → Type 0
+Reaches front last result =
+    (behind : SBody ℕ) → max (up_to result) (body_locals behind) ≡ max (up_to last) (body_locals (front behind))

@@ -1,11 +1,10 @@
 -- The form of an operator in the code, and counts as values. Only private clauses cite this module.
-use Rattle.std.specs.Prelude.{◌≡◌, ℕ, ◌≤◌, ◌^◌, Result, Ok, Err, pos}
 use Rattle.jt_value.specs.Tree as tree
-use Rattle.jt_value.specs.View.{view}
-use Rattle.jt_value.specs.declared.value.Value.{Value}
 use Rattle.jt_semantics.specs.Operators as operators
-use Rattle.jt_bind.specs.declared.operator_forms.OperatorForm.{OperatorForm}
 use Rattle.jt_bind.specs.declared.operator_forms.OperatorForm.TheVariants as f
+use Rattle.std.specs.Prelude.{◌≡◌, ◌≤◌, ◌^◌}
+use Rattle.jt_bind.specs.internal.Vocabulary.{ℕ, Result, Ok, Err, pos, view, Value}
+use Rattle.jt_bind.specs.declared.operator_forms.OperatorForm.{OperatorForm}
 
 abbrev pub form_view : OperatorForm → operators.OperatorForm
 form_view (f.Operation o) = operators.operation o

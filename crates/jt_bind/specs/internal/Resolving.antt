@@ -1,37 +1,22 @@
 -- The resolved parts of a chain in the environment of a resolver, and the parts that it appends.
 -- Only private clauses cite this module.
-use Rattle.std.specs.Prelude.{ℕ, Bool, List, length, Option, Vec}
 use Rattle.std.specs.declared.alloc.Global.{Global}
-use Rattle.jt_value.specs.Tree.{Tree}
-use Rattle.jt_value.specs.Place as place
-use Rattle.jt_value.specs.declared.value.Value.{Value}
-use Rattle.jt_ast.specs.Expressions as expressions
-use Rattle.jt_ast.specs.Expressions.{Text}
-use Rattle.jt_ast.specs.ExpressionView.{expr_view, exprs_view, pairs_view}
-use Rattle.jt_ast.specs.Statements as trees
-use Rattle.jt_ast.specs.StatementView.{parameters_view, body_view}
+use Rattle.jt_ast.specs.ExpressionView.{expr_view}
 use Rattle.jt_ast.specs.declared.statement.Branch.{Branch}
-use Rattle.jt_ast.specs.declared.statement.Parameter.{Parameter}
-use Rattle.jt_ast.specs.declared.statement.Stmt.{Stmt}
-use Rattle.jt_chains.specs.Chain as chain
-use Rattle.jt_chains.specs.Uses.{keywords}
-use Rattle.jt_ir.specs.Pool.{Constant}
-use Rattle.jt_ir.specs.Slots as slots
-use Rattle.jt_ir.specs.Slots.{SBody, SRow}
-use Rattle.jt_ir.specs.declared.program.SlotBranch.{SlotBranch}
 use Rattle.jt_ir.specs.declared.program.SlotExpr.{SlotExpr}
-use Rattle.jt_ir.specs.declared.program.SlotStmt.{SlotStmt}
-use Rattle.jt_semantics.specs.Layout.{Table}
+use Rattle.jt_value.specs.Place as place
+use Rattle.jt_ast.specs.Expressions as expressions
+use Rattle.jt_ast.specs.Statements as trees
+use Rattle.jt_chains.specs.Chain as chain
+use Rattle.jt_ir.specs.Slots as slots
 use Rattle.jt_semantics.specs.Resolve as resolve
-use Rattle.jt_semantics.specs.Resolve.{locals_from}
-use Rattle.jt_bind.specs.declared.callee.Signature.{Signature}
-use Rattle.jt_bind.specs.declared.emission.Turns.{Turns}
-use Rattle.jt_bind.specs.declared.resolver.Arguments.{Arguments}
+use Rattle.jt_bind.specs.internal.Vocabulary.{Stmt, ℕ, List, length, Option, Vec, Value, Text, exprs_view, pairs_view}
+use Rattle.jt_bind.specs.internal.Vocabulary.{parameters_view, body_view, keywords, Constant, SBody, SRow, SlotBranch}
+use Rattle.jt_bind.specs.internal.Vocabulary.{SlotStmt, Table, locals_from, Signature, Turns, Arguments}
 use Rattle.jt_bind.specs.declared.resolver.Resolver.{Resolver}
 use Rattle.jt_bind.specs.internal.Scoped.{values, IsAdded, PutsNone, RowLeads, cenv_in, order_in, senv_in, templates_in}
-use Rattle.jt_bind.specs.internal.Scoped.{expr_in, row_in, asides_in, entries_in, filter_row_in, filtered_in}
-use Rattle.jt_bind.specs.internal.Stated.{Emits, IsBranch, AreTurns, line_in, stmt_in, body_in}
-use Rattle.jt_bind.specs.internal.Stated.{scoped_in, layer_at, values_in, condition_in}
+use Rattle.jt_bind.specs.internal.Scoped.{expr_in, row_in, asides_in}
+use Rattle.jt_bind.specs.internal.Stated.{Emits, IsBranch, AreTurns, line_in, stmt_in, body_in, scoped_in, condition_in}
 
 -- A part of a list is appended, and its values to a pool; the part `left` remains.
 abbrev pub RowAdds : SRow Constant → SRow Constant → Vec (Option ℕ × SlotExpr) Global
@@ -92,9 +77,6 @@ module _ (r : Resolver) where
   abbrev pub given_of : Arguments → SRow Constant → SRow Constant
   given_of a left = row_of (by_position a) (asides_of (by_name a) left)
 
-  abbrev pub entries_of : expressions.Pairs → SRow Constant
-  entries_of ps = entries_in r.tables.now ps r.senv
-
   -- The values of a macro's parameters after the positional ones, and all arguments of its call.
   abbrev pub filled_of : Signature → Arguments → SRow Constant
   filled_of s a =
@@ -116,20 +98,6 @@ module _ (r : Resolver) where
   super_of =
       resolve.invoked_super (cenv_in r.tables.now) (order_in r.tables.now) senv_of senv_of.part
 
-  abbrev pub filter_row_of : Option ℕ → expressions.Exprs → expressions.Pairs → SRow Constant
-  filter_row_of f ts ps = filter_row_in r.tables.now f ts ps r.senv
-
-  -- One filter of a filter tag, and all of them.
-  abbrev pub filter_call_of : trees.FilterCall → slots.SlotExpr Constant → slots.SlotExpr Constant
-  filter_call_of f c =
-      filtered_in r.tables.now ((cenv_in r.tables.now).filters.named f.name f.arguments f.keywords) c
-      f.arguments f.keywords r.senv
-
-  abbrev pub filter_calls_of : List trees.FilterCall → slots.SlotExpr Constant
-      → slots.SlotExpr Constant
-  filter_calls_of fs c =
-      resolve.resolved_filters (cenv_in r.tables.now) (order_in r.tables.now) fs senv_of c
-
   -- ---- statements
 
   abbrev pub stmt_of : trees.Stmt → SBody Constant
@@ -150,13 +118,9 @@ module _ (r : Resolver) where
   abbrev pub scoped_of : trees.Body → resolve.StaticEnv → SBody Constant
   scoped_of b sp = scoped_in r.tables.now b sp
 
-  -- The environment inside a scope with these names, and the terms that are resolved there.
+  -- The environment inside a scope with these names.
   abbrev pub inside_of : List Text → resolve.StaticEnv
   inside_of xs = resolve.bound_all xs senv_of
-
-  abbrev pub condition_of : Option expressions.Expr → resolve.StaticEnv
-      → Option (slots.SlotExpr Constant)
-  condition_of k sp = condition_in r.tables.now k sp
 
   -- The statements of a body that set names.
   abbrev pub sets_of : trees.Body → SBody Constant
@@ -166,14 +130,6 @@ module _ (r : Resolver) where
   abbrev pub routine_of : List Text → trees.Body → slots.Routine Constant
   routine_of xs b =
       resolve.resolved_routine (cenv_in r.tables.now) (order_in r.tables.now) xs b senv_of
-
-  -- A template of a chain: all its statements if it is the root, or only the statements that set
-  -- names.
-  abbrev pub layer_of : trees.Body → Bool → SBody Constant
-  layer_of b is_root = layer_at r.tables.now senv_of b is_root
-
-  abbrev pub values_of : expressions.Pairs → ℕ → SBody Constant → SBody Constant
-  values_of ps line behind = values_in r.tables.now ps r.senv line behind
 
   -- A branch of an `if`.
   abbrev pub BranchIs : Branch Stmt → SlotBranch SlotStmt → Vec Value Global → Vec Value Global
@@ -187,4 +143,4 @@ module _ (r : Resolver) where
       → Vec Value Global → Vec Value Global → Type 0
   TurnsAre xs e k b made old new =
       AreTurns r.tables.now (resolve.fresh_targets r.senv.free xs) (expr_of e)
-      (condition_of k (inside_of xs)) (scoped_of b (inside_of xs)) made (values old) (values new)
+      (condition_in r.tables.now k (inside_of xs)) (scoped_of b (inside_of xs)) made (values old) (values new)

@@ -1,20 +1,15 @@
 -- The routines of chains, with the indices of the pool that they fill. Only private clauses cite
 -- this module.
-use Rattle.std.specs.Prelude.{◌≡◌, List, ◌++◌, length, map, Vec}
 use Rattle.std.specs.declared.alloc.Global.{Global}
-use Rattle.jt_value.specs.declared.value.Value.{Value}
-use Rattle.jt_value.specs.Tree.{Tree}
-use Rattle.jt_ast.specs.Expressions.{Text}
-use Rattle.jt_chains.specs.Chain.{macros}
-use Rattle.jt_semantics.specs.Layout.{numbered_bodies}
 use Rattle.jt_semantics.specs.Programs as programs
 use Rattle.jt_semantics.specs.Resolve as resolve
-use Rattle.jt_ir.specs.Pool.{Constant, body_values, routines_values, placed_routine, placed_routines}
 use Rattle.jt_ir.specs.Slots as slots
-use Rattle.jt_ir.specs.View.{routine_view}
-use Rattle.jt_ir.specs.declared.program.Routine.{Routine}
-use Rattle.jt_bind.specs.internal.Chains.{Chains}
-use Rattle.jt_bind.specs.internal.Scoped.{values, cenv_in, order_in, namespace_in, templates_in}
+use Rattle.std.specs.Prelude.{◌≡◌, ◌++◌}
+use Rattle.jt_bind.specs.internal.Vocabulary.{MacroBody, BlockBody, ℕ, List, length, map, Vec, Value, Tree, Text}
+use Rattle.jt_bind.specs.internal.Vocabulary.{macros, Constant, body_values, routines_values, placed_routine}
+use Rattle.jt_bind.specs.internal.Vocabulary.{placed_routines, routine_view, Routine}
+use Rattle.jt_bind.specs.internal.Scoped.{numbered_in, values, cenv_in, order_in, namespace_in, templates_in}
+use Rattle.jt_bind.specs.internal.Selected.{Chains}
 
 -- A routine, and the values that it appends to a pool.
 pub record IsRoutine (templates : List Text) (c : slots.Routine Constant) (r : Routine) (old new : List Tree) : Type
@@ -44,15 +39,17 @@ module _ (s : Chains) where
   abbrev pub entry_in : List (slots.Routine Constant)
   entry_in = programs.entry_routines (cenv_in s) (order_in s) (namespace_in s)
 
+  abbrev pub macro_in : MacroBody → slots.Routine Constant
+  macro_in = resolve.macro_routine (cenv_in s) (order_in s) (namespace_in s)
+
   abbrev pub macros_in : List (slots.Routine Constant)
-  macros_in =
-      map (resolve.macro_routine (cenv_in s) (order_in s) (namespace_in s))
-      (macros (cenv_in s).sources (namespace_in s))
+  macros_in = map macro_in (macros (cenv_in s).sources (namespace_in s))
+
+  abbrev pub bodies_in : List (ℕ × BlockBody) → List (slots.Routine Constant)
+  bodies_in = programs.body_routines (cenv_in s) (order_in s) (namespace_in s)
 
   abbrev pub blocks_in : List (slots.Routine Constant)
-  blocks_in =
-      programs.body_routines (cenv_in s) (order_in s) (namespace_in s)
-      (numbered_bodies (cenv_in s) (namespace_in s))
+  blocks_in = bodies_in (numbered_in s)
 
   abbrev pub routines_in : List (slots.Routine Constant)
   routines_in = programs.chain_routines (cenv_in s) (order_in s) (namespace_in s)

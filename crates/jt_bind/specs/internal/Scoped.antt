@@ -1,46 +1,32 @@
 -- The resolved parts of a chain, by the layouts in the code and with the indices of the pool that is
 -- filled. Only private clauses cite this module.
-use Rattle.std.specs.Prelude.{◌≡◌, ℕ, pos, ◌<◌, List, [], ◌∷◌, ◌++◌, map, drop, length, get_or, filter, Option, Some}
-use Rattle.std.specs.Prelude.{None, Vec}
 use Rattle.std.specs.declared.alloc.Global.{Global}
-use Rattle.std.specs.declared.rc.Rc.{Rc}
-use Rattle.std.specs.Str.{bytes_eq}
-use denote.Ref.{Bor}
-use Rattle.jt_value.specs.Tree.{Tree, number}
-use Rattle.jt_ids.specs.declared.loop_field.LoopField.TheVariants.{Index0}
-use Rattle.jt_ids.specs.declared.op_id.OpId.TheVariants as op
-use Rattle.jt_value.specs.View.{view}
-use Rattle.jt_value.specs.declared.value.Value.{Value}
-use Rattle.jt_ast.specs.Expressions.{Text}
-use Rattle.jt_chains.specs.Chain as chain
-use Rattle.jt_chains.specs.Chain.{Namespace, BlockBody, Definition, given, callee, macros, macro_of}
+use Rattle.jt_ir.specs.View.{body_view}
+use Rattle.jt_ir.specs.declared.program.SlotExpr.{SlotExpr}
+use Rattle.jt_semantics.specs.Expressions.{filter_parameters}
+use Rattle.jt_ast.specs.Statements.{FilterCall}
 use Rattle.jt_chains.specs.Named.{given_view}
-use Rattle.jt_chains.specs.declared.definitions.Definition as found
-use Rattle.jt_chains.specs.Parts.{name_at}
-use Rattle.jt_chains.specs.Uses.{count, keywords}
-use Rattle.jt_chains.specs.Indices.{namespace_at}
 use Rattle.jt_chains.specs.View.{chain_view}
-use Rattle.jt_rules.specs.CompileEnv.{CompileEnv, cenv_of}
-use Rattle.jt_ir.specs.Pool.{Constant, own, expr_values, row_values, body_values, placed_expr, placed_row, placed_body}
+use Rattle.jt_layout.specs.NamespaceLayout.{IsLaid}
+use Rattle.jt_ids.specs.declared.op_id.OpId.TheVariants as op
+use Rattle.jt_chains.specs.Chain as chain
+use Rattle.jt_chains.specs.declared.definitions.Definition as found
 use Rattle.jt_ast.specs.Expressions as trees
 use Rattle.jt_ir.specs.Slots as slots
-use Rattle.jt_ir.specs.Slots.{SRow, SBody}
-use Rattle.jt_ir.specs.View.{expr_view, row_view, body_view}
-use Rattle.jt_ir.specs.declared.program.SlotExpr.{SlotExpr}
-use Rattle.jt_ir.specs.declared.program.SlotStmt.{SlotStmt}
-use Rattle.jt_semantics.specs.Layout.{Table, globals, numbered_bodies, numbered_of, block_parameters}
 use Rattle.jt_semantics.specs.Resolve as resolve
-use Rattle.jt_semantics.specs.Resolve.{Part, bound_table, bound_all, filled_some, locals_from}
-use Rattle.jt_semantics.specs.Expressions.{filter_parameters}
-use Rattle.jt_ast.specs.Texts.{texts}
+use Rattle.std.specs.Prelude.{◌≡◌, ◌<◌, ◌∷◌, ◌++◌}
+use Rattle.jt_bind.specs.internal.Vocabulary.{given, Template, ℕ, pos, List, [], map, drop, length, get_or, filter}
+use Rattle.jt_bind.specs.internal.Vocabulary.{Option, Some, None, Vec, Rc, bytes_eq, Bor, Tree, number, Index0, view}
+use Rattle.jt_bind.specs.internal.Vocabulary.{Value, Text, Namespace, BlockBody, Definition, callee, macros, macro_of}
+use Rattle.jt_bind.specs.internal.Vocabulary.{name_at, count, keywords, namespace_at, CompileEnv, cenv_of, Constant}
+use Rattle.jt_bind.specs.internal.Vocabulary.{own, expr_values, row_values, body_values, placed_expr, placed_row}
+use Rattle.jt_bind.specs.internal.Vocabulary.{placed_body, SRow, SBody, expr_view, row_view, SlotStmt, Table, globals}
+use Rattle.jt_bind.specs.internal.Vocabulary.{numbered_bodies, numbered_of, block_parameters, Part, bound_table}
+use Rattle.jt_bind.specs.internal.Vocabulary.{bound_all, filled_some, locals_from, texts, NameScope, StaticEnv}
+use Rattle.jt_bind.specs.internal.Vocabulary.{NamespaceLayout, Callee}
 use Rattle.jt_bind.specs.declared.scope_entry.EnteredScope.{EnteredScope}
-use Rattle.jt_bind.specs.declared.name_scope.NameScope.{NameScope}
-use Rattle.jt_bind.specs.declared.senv.StaticEnv.{StaticEnv}
-use Rattle.jt_layout.specs.NamespaceLayout.{IsLaid}
-use Rattle.jt_layout.specs.declared.namespace_layout.NamespaceLayout.{NamespaceLayout}
-use Rattle.jt_bind.specs.internal.Chains.{Chains}
+use Rattle.jt_bind.specs.internal.Selected.{Chains}
 use Rattle.jt_bind.specs.internal.Callees.{IsCallee, of_namespace, unit_of}
-use Rattle.jt_bind.specs.declared.callee.Callee.{Callee}
 
 -- The values of a pool.
 abbrev pub values : Vec Value Global → List Tree
@@ -143,12 +129,16 @@ module _ (s : Chains) where
   abbrev pub namespace_in : Namespace
   namespace_in = namespace_at order_in s.namespace
 
+  -- The templates that were read.
+  abbrev pub files_in : List Template
+  files_in = (chain_view s.chain.now).templates
+
   abbrev pub templates_in : List Text
-  templates_in = map (λ t. t.name) (chain_view s.chain.now).templates
+  templates_in = map (λ t. t.name) files_in
 
   -- The layout of a chain or a library.
   abbrev pub IsTable : Namespace → NamespaceLayout → Type 0
-  IsTable h l = IsLaid cenv_in order_in (chain_view s.chain.now).templates h l
+  IsTable h l = IsLaid cenv_in order_in files_in h l
 
   -- The layouts of the first chains and libraries.
   abbrev pub AreTables : List NamespaceLayout → Type 0
@@ -161,21 +151,27 @@ module _ (s : Chains) where
 
   -- The view of a definition in the code.
   abbrev pub given_as : found.Definition → Definition
-  given_as g = given_view (chain_view s.chain.now).templates namespace_in g
+  given_as g = given_view files_in namespace_in g
 
   abbrev pub callee_in : trees.Expr → chain.Callee
   callee_in f = callee cenv_in.sources given_in f
 
-  -- The callee of an expression, and its representation in the code.
+  -- A callee by its representation in the code, and the callee of an expression.
+  abbrev pub Calls : Callee → chain.Callee → Type 0
+  Calls = IsCallee cenv_in order_in
+
   abbrev pub IsCalled : trees.Expr → Callee → Type 0
-  IsCalled f k = IsCallee cenv_in order_in k (callee_in f)
+  IsCalled f k = Calls k (callee_in f)
 
   -- The macro of a name in a chain or library, and its representation in the code.
   abbrev pub IsMacroOf : Namespace → Text → Callee → Type 0
   IsMacroOf h x k =
-      IsCallee cenv_in order_in k (of_namespace h (macro_of x (macros cenv_in.sources h)))
+      Calls k (of_namespace h (macro_of x (macros cenv_in.sources h)))
 
-  -- The parameters of the bodies of a block.
+  -- The bodies of the blocks with their numbers, and the parameters of the bodies of a block.
+  abbrev pub numbered_in : List (ℕ × BlockBody)
+  numbered_in = numbered_bodies cenv_in namespace_in
+
   abbrev pub parameters_in : Text → List Text
   parameters_in x = block_parameters cenv_in order_in namespace_in x
 
@@ -190,9 +186,9 @@ module _ (s : Chains) where
   abbrev pub senv_in : StaticEnv → resolve.StaticEnv
   senv_in p = record {
     namespace = namespace_in;
-    template = name_at (chain_view s.chain.now).templates p.template;
+    template = name_at files_in p.template;
     escaping = p.escaping;
-    part = part_at (numbered_bodies cenv_in namespace_in) p.body;
+    part = part_at numbered_in p.body;
     table = seen_through p.name_scopes.now globals_in;
     free = p.free;
   }
@@ -200,7 +196,7 @@ module _ (s : Chains) where
   -- The environment at the top of a template.
   abbrev pub top_in : ℕ → resolve.StaticEnv
   top_in i =
-      resolve.top_senv cenv_in order_in namespace_in (name_at (chain_view s.chain.now).templates i)
+      resolve.top_senv cenv_in order_in namespace_in (name_at files_in i)
 
   -- The parts of a tree after resolution.
   abbrev pub expr_in : trees.Expr → StaticEnv → slots.SlotExpr Constant
@@ -221,11 +217,9 @@ module _ (s : Chains) where
       row_in ts p (asides_in ps p (filled_some (filter_parameters cenv_in.filters f) (count ts)
       (keywords ps) (locals_from (senv_in p).free (keywords ps))))
 
-  -- The resolved call of a filter on a resolved value.
-  abbrev pub filtered_in : Option ℕ → slots.SlotExpr Constant → trees.Exprs → trees.Pairs → StaticEnv
-      → slots.SlotExpr Constant
-  filtered_in f c ts ps p =
-      resolve.filtered_by f (senv_in p).escaping (slots.item c (filter_row_in f ts ps p))
+  -- The filters of a filter tag on a resolved value, in order.
+  abbrev pub filters_in : List FilterCall → StaticEnv → slots.SlotExpr Constant → slots.SlotExpr Constant
+  filters_in fs p c = resolve.resolved_filters cenv_in order_in fs (senv_in p) c
 
 -- The environment inside an entered scope, whose names are in locals.
 abbrev pub Enters : StaticEnv → List Text → EnteredScope → Type 0

@@ -1,36 +1,22 @@
 -- The resolved statements of a chain, by the layouts in the code and with the indices of the pool
 -- that is filled. Only private clauses cite this module.
-use Rattle.std.specs.Prelude.{◌≡◌, ℕ, Bool, ◌+◌, List, [], ◌++◌, map, length, Option, Some, None, option_map, Vec}
-use Rattle.std.specs.Prelude.{if◌then◌else◌, ◌==◌}
-use Rattle.std.specs.declared.alloc.Global.{Global}
-use Rattle.jt_value.specs.Tree.{Tree}
-use Rattle.jt_value.specs.declared.value.Value.{Value}
-use Rattle.jt_ast.specs.Statements as trees
-use Rattle.jt_ast.specs.Expressions.{Text}
 use Rattle.jt_ast.specs.Statements.{Branches}
-use Rattle.jt_ast.specs.Expressions as expressions
-use Rattle.jt_chains.specs.Chain.{Template}
-use Rattle.jt_chains.specs.Layers.{layer_view}
-use Rattle.jt_chains.specs.Uses.{set_in}
-use Rattle.jt_chains.specs.View.{chain_view}
-use Rattle.jt_chains.specs.declared.layers.Layer.{Layer}
-use Rattle.jt_value.specs.Place as place
-use Rattle.jt_ir.specs.Pool.{Constant, condition_values, body_values, placed_condition, placed_body}
-use Rattle.jt_ir.specs.Slots as slots
-use Rattle.jt_ir.specs.Slots.{SBody}
-use Rattle.jt_ir.specs.View.{Front, place_view, targets_view, expr_view, choice_view}
-use Rattle.jt_ir.specs.declared.program.Place.{Place}
 use Rattle.jt_ir.specs.declared.program.SlotExpr.{SlotExpr}
-use Rattle.jt_ir.specs.declared.program.SlotBranch.{SlotBranch}
-use Rattle.jt_ir.specs.declared.program.SlotStmt.{SlotStmt}
+use Rattle.jt_ir.specs.declared.program.Place.{Place}
+use Rattle.jt_ast.specs.Statements as trees
+use Rattle.jt_ast.specs.Expressions as expressions
+use Rattle.jt_value.specs.Place as place
+use Rattle.jt_ir.specs.Slots as slots
 use Rattle.jt_semantics.specs.Resolve as resolve
-use Rattle.jt_semantics.specs.Resolve.{followed}
-use Rattle.jt_bind.specs.internal.Chains.{Chains}
-use Rattle.jt_bind.specs.declared.emission.LoopHead.{LoopHead}
-use Rattle.jt_bind.specs.declared.emission.Turns.{Turns}
-use Rattle.jt_bind.specs.declared.senv.StaticEnv.{StaticEnv}
-use Rattle.jt_bind.specs.internal.Scoped.{values, IsPlaced, BodyLeads, cenv_in, order_in, namespace_in, senv_in}
+use Rattle.std.specs.Prelude.{◌≡◌, ◌+◌, ◌++◌, if◌then◌else◌}
+use Rattle.jt_bind.specs.internal.Vocabulary.{ℕ, Bool, List, [], map, length, Option, option_map, Tree, Text, Template}
+use Rattle.jt_bind.specs.internal.Vocabulary.{layer_view, set_in, Layer, Constant, condition_values, body_values}
+use Rattle.jt_bind.specs.internal.Vocabulary.{placed_condition, placed_body, SBody, Front, place_view, targets_view}
+use Rattle.jt_bind.specs.internal.Vocabulary.{expr_view, choice_view, SlotBranch, SlotStmt, followed, Turns, StaticEnv}
+use Rattle.jt_bind.specs.internal.Scoped.{files_in, IsPlaced, BodyLeads, cenv_in, order_in, namespace_in, senv_in}
 use Rattle.jt_bind.specs.internal.Scoped.{templates_in}
+use Rattle.jt_bind.specs.internal.Selected.{Chains}
+use Rattle.jt_bind.specs.declared.emission.LoopHead.{LoopHead}
 
 -- ---- the values at the end of a pool that grows from one list of values to another
 
@@ -77,11 +63,6 @@ pub record ChoiceLeads (templates : List Text) (whole other : SBody Constant) (b
       → StandsFor whole left (choice_view templates branches f) (length old) last
   pub pooled : new ++ body_values other ≡ old ++ body_values whole
 
--- The slot of a name that is set at an index, if this is its last occurrence.
-abbrev pub slot_if : Option ℕ → ℕ → Option slots.Slot → Option slots.Slot
-slot_if None i s = None
-slot_if (Some j) i s = if j == i then s else None
-
 -- The place of a tag in the code.
 abbrev pub place_of : StaticEnv → ℕ → Place
 place_of p line = record { template = p.template; line = line }
@@ -122,10 +103,11 @@ module _ (s : Chains) where
       layer_at (resolve.top_senv (cenv_in s) (order_in s) (namespace_in s) t.name) t.body is_root
 
   -- The templates of a chain.
+  abbrev pub chained_in : List Template → SBody Constant
+  chained_in = resolve.resolved_chain (cenv_in s) (order_in s) (namespace_in s)
+
   abbrev pub layers_in : List Layer → SBody Constant
-  layers_in ls =
-      resolve.resolved_chain (cenv_in s) (order_in s) (namespace_in s)
-      (map (layer_view (chain_view s.chain.now).templates) ls)
+  layers_in ls = chained_in (map (layer_view (files_in s)) ls)
 
   abbrev pub values_in : expressions.Pairs → StaticEnv → ℕ → SBody Constant → SBody Constant
   values_in ps p line behind =

@@ -1,7 +1,7 @@
--- The tests of the rules, as the code makes them: one for each rule of jt_rules, and the first rule
--- that a use breaks. Only private clauses cite this module.
+-- The first rule that a use breaks, as the code tests it. Only private clauses cite this module.
 use Rattle.std.specs.Prelude.{ℕ, nat_lt, Bool, true, false, not, ◌&&◌, ◌||◌, List, length, codes, Option, Some, None}
 use Rattle.std.specs.Prelude.{if◌then◌else◌}
+use Rattle.std.specs.Bool.{then_some}
 use Rattle.std.specs.Option.{is_some, option_or}
 use Rattle.std.specs.Str.{bytes_eq}
 use Rattle.jt_ids.specs.LoopTable.{field_named}
@@ -25,12 +25,9 @@ use Rattle.jt_rules.specs.Arguments.{callee_takes, test_takes, filter_takes, nam
 use Rattle.jt_rules.specs.declared.error.ScopeError.{ScopeError}
 use Rattle.jt_rules.specs.declared.error.ScopeError.TheVariants as error
 
-abbrev pub refused : Bool → ScopeError → Option ScopeError
-refused wrong e = if wrong then Some e else None
-
 -- The rule that arguments break if they are not right.
 abbrev pub unless : Bool → Option ScopeError
-unless right = if right then None else Some error.BadArguments
+unless right = then_some (not right) error.BadArguments
 
 -- True if the name is a callee, or a part of one.
 abbrev pub is_only_called : Text → Bool
@@ -39,7 +36,7 @@ is_only_called x = bytes_eq x (codes "self") || (bytes_eq x (codes "super") || b
 -- The rule that a name breaks when it is read by itself.
 abbrev pub read_alone : Text → Option ScopeError
 read_alone x =
-    if bytes_eq x (codes "loop") then Some error.LoopOutside else refused (is_only_called x) error.NotCallable
+    if bytes_eq x (codes "loop") then Some error.LoopOutside else then_some (is_only_called x) error.NotCallable
 
 -- True if the callee is `loop` itself, a field of it other than `cycle`, or `cycle` outside a loop.
 abbrev pub misuses_loop : Expr → Enclosing → Bool
@@ -53,14 +50,14 @@ filter_right fs o arguments pairs =
 
 -- The rule that a read of a field of `loop` breaks.
 abbrev pub field_broken : Text → Enclosing → Option ScopeError
-field_broken k around = refused (not (around.in_loop && is_some (field_named k))) error.LoopOutside
+field_broken k around = then_some (not (around.in_loop && is_some (field_named k))) error.LoopOutside
 
 -- The rule that a macro breaks by its name and its parameters.
 abbrev pub macro_broken : Text → List Parameter → Option ScopeError
 macro_broken x parameters =
     option_or (read_alone x)
     (option_or (unless (not (repeated (parameter_names parameters))))
-    (refused (nat_lt max_parameters (length parameters)) error.TooManySlots))
+    (then_some (nat_lt max_parameters (length parameters)) error.TooManySlots))
 
 module _ (cenv : CompileEnv) (namespace : Namespace) where
   abbrev pub is_macro : Text → Bool
@@ -68,9 +65,7 @@ module _ (cenv : CompileEnv) (namespace : Namespace) where
 
   -- The rule that a name breaks when it is read as a value, or bound.
   abbrev pub used : Text → Option ScopeError
-  used x =
-      if bytes_eq x (codes "loop") then Some error.LoopOutside
-      else if is_only_called x then Some error.NotCallable else refused (is_macro x) error.MacroAsValue
+  used x = option_or (read_alone x) (then_some (is_macro x) error.MacroAsValue)
 
   abbrev pub cannot_be_called : Callee → Enclosing → Bool
   cannot_be_called no_callee around = true
@@ -83,54 +78,18 @@ module _ (cenv : CompileEnv) (namespace : Namespace) where
   call_broken c around arguments pairs =
       if cannot_be_called c around then Some error.NotCallable else unless (callee_takes c arguments pairs)
 
-  abbrev pub its_callee : Expr → Callee
-  its_callee f = callee cenv.sources (given cenv.sources namespace) f
-
-  -- ---- One test for each rule
-
-  abbrev pub loop_outside : Use → Enclosing → Bool
-  loop_outside (reads x) around = bytes_eq x (codes "loop")
-  loop_outside (binds x) around = bytes_eq x (codes "loop")
-  loop_outside (declares_macro x parameters body) around = bytes_eq x (codes "loop")
-  loop_outside (binds_library n x) around = bytes_eq x (codes "loop")
-  loop_outside (binds_macro n m x) around = bytes_eq x (codes "loop")
-  loop_outside (reads_loop_field k) around = not (around.in_loop && is_some (field_named k))
-  loop_outside (calls f arguments pairs) around = misuses_loop f around
-  loop_outside u around = false
-
-  abbrev pub not_callable : Use → Enclosing → Bool
-  not_callable (reads x) around = is_only_called x
-  not_callable (binds x) around = is_only_called x
-  not_callable (declares_macro x parameters body) around = is_only_called x
-  not_callable (binds_library n x) around = is_only_called x
-  not_callable (binds_macro n m x) around = is_only_called x
-  not_callable (calls f arguments pairs) around = cannot_be_called (its_callee f) around
-  not_callable u around = false
-
-  abbrev pub macro_as_value : Use → Bool
-  macro_as_value (reads x) = is_macro x
-  macro_as_value (binds x) = is_macro x
-  macro_as_value u = false
-
-  abbrev pub right_arguments : Use → Bool
-  right_arguments (calls f arguments pairs) = callee_takes (its_callee f) arguments pairs
-  right_arguments (filters x arguments pairs) =
-      filter_right cenv.filters (cenv.filters.named x arguments pairs) arguments pairs
-  right_arguments (tests x arguments pairs) = test_takes (test_named x) arguments pairs
-  right_arguments (declares_macro x parameters body) = not (repeated (parameter_names parameters))
-  right_arguments u = true
-
-  abbrev pub many_parameters : Use → Bool
-  many_parameters (declares_macro x parameters body) = nat_lt max_parameters (length parameters)
-  many_parameters u = false
-
   -- The first rule that a use breaks.
   abbrev pub use_broken : Use → Enclosing → Option ScopeError
-  use_broken u around =
-      if loop_outside u around then Some error.LoopOutside
-      else
-      if not_callable u around then Some error.NotCallable
-      else
-      if macro_as_value u then Some error.MacroAsValue
-      else
-      if right_arguments u then refused (many_parameters u) error.TooManySlots else Some error.BadArguments
+  use_broken (reads x) around = used x
+  use_broken (binds x) around = used x
+  use_broken (binds_library n x) around = read_alone x
+  use_broken (binds_macro n m x) around = read_alone x
+  use_broken (reads_loop_field k) around = field_broken k around
+  use_broken (calls f arguments pairs) around =
+      if misuses_loop f around then Some error.LoopOutside
+      else call_broken (callee cenv.sources (given cenv.sources namespace) f) around arguments pairs
+  use_broken (filters x arguments pairs) around =
+      unless (filter_right cenv.filters (cenv.filters.named x arguments pairs) arguments pairs)
+  use_broken (tests x arguments pairs) around = unless (test_takes (test_named x) arguments pairs)
+  use_broken (declares_macro x parameters body) around = macro_broken x parameters
+  use_broken u around = None

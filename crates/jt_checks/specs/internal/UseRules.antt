@@ -62,6 +62,10 @@ module _ (cenv : CompileEnv) (namespace : Namespace) where
   abbrev pub templates_broken : List Template → Option Finding
   templates_broken = first template_broken
 
+  -- The first finding in a chain.
+  abbrev pub chain_broken : Option Finding
+  chain_broken = templates_broken (templates cenv.sources namespace)
+
 -- The first finding in chains.
 abbrev pub chains_broken : CompileEnv → List Namespace → Option Finding
-chains_broken cenv = first (λ h. templates_broken cenv h (templates cenv.sources h))
+chains_broken cenv = first (chain_broken cenv)

@@ -1,7 +1,7 @@
 -- The invariants of the search for chains and libraries. They concern includes and imports, and the
 -- chains and libraries that were followed. Only private clauses cite this module.
 use Rattle.std.specs.Prelude.{◌≡◌, ℕ, ◌<◌, ◌≤◌, ◌⊎◌, false, Bool, IsTrue, List, [], ◌∷◌, ◌++◌, ◌||◌, length, map}
-use Rattle.std.specs.Prelude.{filter, slice_get, Some, None, true}
+use Rattle.std.specs.Prelude.{filter, slice_get, string_bytes, Some, None, true}
 use Rattle.std.specs.List.{AllByRecursion}
 use Rattle.jt_graph.specs.Graph.{IsClosed, next_of}
 use Rattle.jt_graph.specs.View.{graph_of}
@@ -16,17 +16,17 @@ use Rattle.jt_inherit.specs.Findings.{IsNoMemory}
 use Rattle.jt_inherit.specs.internal.Faults.{IsFaultOf}
 use Rattle.jt_inherit.specs.internal.RuleTests.{KeepAll}
 use Rattle.jt_chains.specs.Names.{IsName}
-use Rattle.jt_chains.specs.Needs.{Need, need_namespace, need_view, includes_along, library_need, needed}
-use Rattle.jt_chains.specs.TemplateFiles.{files_view, namespace_view}
+use Rattle.jt_chains.specs.Needs.{Need, need_namespace, includes_along, library_need, needed}
+use Rattle.jt_chains.specs.TemplateFiles.{namespace_view}
 use Rattle.jt_chains.specs.Indices.{namespace_at}
 use Rattle.jt_chains.specs.Rules.{max_chains, Asks, Reaches}
-use Rattle.jt_inherit.specs.internal.Sets.{names_view, namespaces_view}
-use Rattle.jt_inherit.specs.internal.ExtendsPaths.{AreKnown, AreNamed, IsExtendsPath}
+use Rattle.jt_inherit.specs.internal.Given.{its_files}
+use Rattle.jt_inherit.specs.internal.Sets.{namespaces_view}
+use Rattle.jt_inherit.specs.internal.ExtendsPaths.{AreKnown, IsExtendsPath, names}
 use Rattle.jt_inherit.specs.internal.Placing.{IsIncludedMore, IsOfNeed}
 use Rattle.jt_inherit.specs.declared.discovery.Discovery.{Discovery}
-use Rattle.jt_inherit.specs.declared.sets.Names.{Names}
-use Rattle.jt_chains.specs.declared.include_tags.NeededTemplate.{NeededTemplate}
-use Rattle.jt_chains.specs.declared.files.TemplateFile.{TemplateFile}
+use Rattle.jt_inherit.specs.declared.including.FollowedPath.{FollowedPath}
+use Rattle.jt_inherit.specs.declared.including.KeyedNeed.{KeyedNeed}
 use Rattle.jt_inherit.specs.declared.error.ChainError.{ChainError}
 use Rattle.jt_inherit.specs.declared.finding.ChainFinding.{ChainFinding}
 use Rattle.jt_chains.specs.declared.chain.Namespace.{Namespace}
@@ -39,8 +39,17 @@ imports_along ts = along ts (λ n b. map library_need (libraries_in b))
 abbrev pub needs_along : List Template → List ℕ → List Need
 needs_along ts is = includes_along ts is ++ imports_along ts is
 
-abbrev pub needs_of : List TemplateFile → List ℕ → List Need
-needs_of ps = needs_along (files_view ps)
+-- An include or import that was kept, and the includes and imports of the templates on a path.
+abbrev pub keyed_view : KeyedNeed → Need
+keyed_view n =
+    record { name = string_bytes n.namespace.name; ignoring = n.ignoring; library = n.namespace.is_library }
+
+abbrev pub keyed_needs : List KeyedNeed → List Need
+keyed_needs = map keyed_view
+
+pub record HasNeeds (ts : List Template) (p : FollowedPath) : Type 0 where
+  pub indices : AreIndices ts p.extends_path.items
+  pub told : keyed_needs p.needs.items ≡ needs_along ts p.extends_path.items
 
 -- An included or imported template is known, or it may be missing and is: its name is valid and has
 -- no source.
@@ -117,22 +126,21 @@ IsPutFault old h n e =
     (e ≡ error.NoMemory)
     ⊎ ((e ≡ error.ChainTooLong) × (length (chains_of old) ≡ max_chains) × (h ≡ a_chain n))
 
--- The namespaces that one include or import leads to, and the namespaces that the templates at some
--- indices lead to.
-abbrev pub leads_to : Names → NeededTemplate → List chain.Namespace
-leads_to ks n = chosen (names_view ks) (need_view n ∷ [])
+-- The namespaces that one include or import leads to, and those to which all on a path lead.
+abbrev pub leads_to : List Template → KeyedNeed → List chain.Namespace
+leads_to ts n = chosen (names ts) (keyed_view n ∷ [])
 
-abbrev pub lead_to : Names → List TemplateFile → List ℕ → List chain.Namespace
-lead_to ks ps is = chosen (names_view ks) (needs_of ps is)
+abbrev pub lead_to : List Template → FollowedPath → List chain.Namespace
+lead_to ts p = chosen (names ts) (keyed_needs p.needs.items)
 
 -- The path of a chain or library was read, and each template that it includes or imports was met;
 -- `next` has the numbers of the namespaces that it leads to.
 pub record IsFollowed (given : SourceTexts) (ts : List Template) (hs : List chain.Namespace) (h : chain.Namespace)
     (extends_path next : List ℕ) : Type 0 where
   pub led : IsExtendsPath ts h extends_path None
-  pub met : AllByRecursion (IsMet given (map (λ t. t.name) ts)) (needs_along ts extends_path)
+  pub met : AllByRecursion (IsMet given (names ts)) (needs_along ts extends_path)
   pub numbered :
-      map (slice_get hs) next ≡ map Some (chosen (map (λ t. t.name) ts) (needs_along ts extends_path))
+      map (slice_get hs) next ≡ map Some (chosen (names ts) (needs_along ts extends_path))
 
 -- The first namespaces were followed, one for each path.
 pub record AreFollowed (given : SourceTexts) (ts : List Template) (hs : List chain.Namespace)
@@ -146,14 +154,14 @@ pub record AreFollowed (given : SourceTexts) (ts : List Template) (hs : List cha
 abbrev pub IsLedTo : List Template → List (List ℕ) → chain.Namespace → Type 0
 IsLedTo ts extends_paths h =
     (i : ℕ) × (i < length extends_paths)
-    × IsTrue (listed h (chosen (map (λ t. t.name) ts) (needs_along ts (next_of extends_paths i))))
+    × IsTrue (listed h (chosen (names ts) (needs_along ts (next_of extends_paths i))))
 
 -- The templates that were read, and the chains and libraries that were found, the entry's chain
 -- first.
-pub record AreFound (given : SourceTexts) (options : Options) (root : Text) (ts : List Template) (names : List Text)
+pub record AreFound (given : SourceTexts) (options : Options) (root : Text) (ts : List Template)
     (hs : List chain.Namespace) (extends_paths next : List (List ℕ)) : Type 0 where
-  pub known : AreKnown given options ts names
-  pub asked : (n : Text) → IsTrue (among n names)
+  pub known : AreKnown given options ts
+  pub asked : (n : Text) → IsTrue (among n (names ts))
       → Asks (sources_in ts) options.autoescape (a_chain root) n
   pub first : slice_get hs 0 ≡ Some (a_chain root)
   pub once : twice hs ≡ false
@@ -164,7 +172,7 @@ pub record AreFound (given : SourceTexts) (options : Options) (root : Text) (ts 
   pub followed : AreFollowed given ts hs extends_paths next
 
 abbrev pub found_templates : Discovery → List Template
-found_templates f = files_view f.files.items
+found_templates f = its_files f.store
 
 abbrev pub found_namespaces : Discovery → List chain.Namespace
 found_namespaces f = namespaces_view f.namespaces
@@ -184,14 +192,13 @@ root_of f = namespace_name (namespace_at (found_namespaces f) 0)
 
 abbrev pub IsFound : SourceTexts → Options → Discovery → Type 0
 IsFound given options f =
-    AreFound given options (root_of f) (found_templates f) (names_view f.names) (found_namespaces f)
-    (graph_of f.extends_paths.items) (graph_of f.next.items)
+    AreFound given options (root_of f) (found_templates f) (found_namespaces f) (found_paths f)
+    (graph_of f.next.items)
 
 -- Only the entry's chain was found.
 pub record IsFirst (entry : Text) (f : Discovery) : Type 0 where
   pub namespaces : found_namespaces f ≡ a_chain entry ∷ []
-  pub names : f.names.items.items ≡ []
-  pub files : f.files.items ≡ []
+  pub files : f.store.files.items ≡ []
   pub extends_paths : f.extends_paths.items ≡ []
   pub next : f.next.items ≡ []
 
@@ -204,9 +211,8 @@ listed_at f i = (namespace_at (found_namespaces f) i, next_of (found_paths f) i)
 
 -- The search from an entry is done: each chain or library that was found was followed.
 pub record IsDone (given : SourceTexts) (options : Options) (entry : Text) (f : Discovery) : Type 0 where
-  pub found : AreFound given options entry (found_templates f) (names_view f.names) (found_namespaces f) (found_paths f)
+  pub found : AreFound given options entry (found_templates f) (found_namespaces f) (found_paths f)
       (graph_of f.next.items)
-  pub named : AreNamed (found_templates f) (names_view f.names)
   pub indices : AllByRecursion (AreIndices (found_templates f)) (found_paths f)
   pub paths : length f.extends_paths.items ≡ length (found_namespaces f)
   pub next : length f.next.items ≡ length (found_namespaces f)
@@ -214,13 +220,13 @@ pub record IsDone (given : SourceTexts) (options : Options) (entry : Text) (f : 
 
 -- The error is one of an included or imported template; it is `Missing` only for a template that
 -- may not be missing. The place is that of the tag that asks for the template.
-pub record IsUnmetNeed (given : SourceTexts) (options : Options) (ps : List TemplateFile) (is : List ℕ)
+pub record IsUnmetNeed (given : SourceTexts) (options : Options) (ts : List Template) (is : List ℕ)
     (f : ChainFinding) : Type 0 where
   pub name : Text
-  pub asked : IsTrue (among name (needed true (needs_of ps is)))
-  pub must : f.error ≡ error.Missing → IsTrue (among name (needed false (needs_of ps is)))
+  pub asked : IsTrue (among name (needed true (needs_along ts is)))
+  pub must : f.error ≡ error.Missing → IsTrue (among name (needed false (needs_along ts is)))
   pub fault : IsFaultOf f.error given name options
-  pub placed : IsOfNeed (templates_at (files_view ps) is) name f.error f
+  pub placed : IsOfNeed (templates_at ts is) name f.error f
 
-abbrev pub IsUnmet : SourceTexts → Options → List TemplateFile → List ℕ → ChainFinding → Type 0
-IsUnmet given options ps is f = IsNoMemory f ⊎ IsUnmetNeed given options ps is f
+abbrev pub IsUnmet : SourceTexts → Options → List Template → List ℕ → ChainFinding → Type 0
+IsUnmet given options ts is f = IsNoMemory f ⊎ IsUnmetNeed given options ts is f

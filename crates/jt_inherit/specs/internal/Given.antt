@@ -11,13 +11,16 @@ use Rattle.jt_chains.specs.Tables.{library_macros}
 use Rattle.jt_chains.specs.declared.files.TemplateFile.{TemplateFile}
 use Rattle.jt_inherit.specs.declared.store.TemplateStore.{TemplateStore}
 
--- ---- the sources of the templates in a store, and the templates at some indices
+-- ---- the templates in a store, their sources, and the templates at some indices
+
+abbrev pub its_files : TemplateStore → List Template
+its_files s = files_view s.files.items
 
 abbrev pub its_sources : TemplateStore → Sources
-its_sources s = sources_in (files_view s.files.now)
+its_sources s = sources_in (its_files s)
 
 abbrev pub its_templates : TemplateStore → List ℕ → List Template
-its_templates s is = templates_at (files_view s.files.now) is
+its_templates s is = templates_at (its_files s) is
 
 -- The macros of a template, if it is a library.
 abbrev pub macros_held : TemplateFile → List MacroBody

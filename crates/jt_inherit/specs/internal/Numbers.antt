@@ -1,23 +1,22 @@
--- Tables of the numbers of names, of chains and of libraries. Only private clauses cite this
+-- Tables of the numbers of templates, of chains and of libraries. Only private clauses cite this
 -- module.
 use Rattle.std.specs.Prelude.{◌≡◌, Bool, List, string_bytes}
 use Rattle.std.specs.List.{position_from}
-use Rattle.std.specs.declared.string.String.{String}
-use Rattle.std.specs.declared.alloc.Global.{Global}
 use Rattle.std.specs.Coded.{Coded-set, coded_ℕ, coded_option, Π_prop}
 use Rattle.std.specs.BTreeMap.{get_by_text}
 use Rattle.std.specs.Str.{bytes_eq}
 use Rattle.jt_ast.specs.Expressions.{Text}
 use Rattle.jt_chains.specs.Chain.{same_namespace}
 use Rattle.jt_chains.specs.Tables.{Table}
+use Rattle.jt_chains.specs.declared.files.TemplateFile.{TemplateFile}
 use Rattle.jt_inherit.specs.internal.SetView.{key_view, keyed}
 use Rattle.jt_inherit.specs.declared.sets.NamespaceKey.{NamespaceKey}
 
 -- ---- tests of keys
 
--- The key is the name x.
-abbrev pub is_text : Text → String Global → Bool
-is_text x k = bytes_eq x (string_bytes k)
+-- The template has the name x.
+abbrev pub is_named : Text → TemplateFile → Bool
+is_named x p = bytes_eq (string_bytes p.name) x
 
 -- The key is the library of the name x, or its chain.
 abbrev pub is_kind : Bool → Text → NamespaceKey → Bool

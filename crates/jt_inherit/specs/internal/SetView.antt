@@ -1,8 +1,6 @@
--- The views of sets of texts and of namespaces in contracts. Only private clauses cite this module.
+-- The views of lists of texts and of the set of namespaces in contracts. Only private clauses cite this module.
 use Rattle.std.specs.Prelude.{◌≡◌, ◌++◌, ℕ, Bool, false, List, map, slice_get, string_bytes, if◌then◌else◌, Option}
 use Rattle.std.specs.Prelude.{Some, MatchOption}
-use Rattle.std.specs.declared.string.String.{String}
-use Rattle.std.specs.declared.alloc.Global.{Global}
 use denote.Ref.{Bor}
 use Rattle.jt_ast.specs.Expressions.{Text}
 use Rattle.jt_ast.specs.Texts.{texts}
@@ -12,9 +10,6 @@ use Rattle.jt_inherit.specs.declared.sets.NamespaceKey.{NamespaceKey}
 -- The new list is the old one with `xs` appended.
 abbrev pub AddsTexts : List (Bor Text) → List (Bor Text) → List Text → Type 0
 AddsTexts old new xs = texts new ≡ texts old ++ xs
-
-abbrev pub strings : List (String Global) → List Text
-strings ks = map string_bytes ks
 
 -- The library of a name, or its chain.
 abbrev pub keyed : Bool → Text → Namespace

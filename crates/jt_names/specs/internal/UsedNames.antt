@@ -1,23 +1,25 @@
--- The name that a use reads or binds, and the name that it binds in a scope. Only private clauses cite this module.
-use Rattle.std.specs.Prelude.{Bool, true, false, Option, Some, None}
+-- The names that uses and bodies read or bind, and those that they bind in scopes. Only private clauses cite this
+-- module.
+use Rattle.std.specs.Prelude.{List, Option, Some, None, if◌then◌else◌}
 use Rattle.jt_ast.specs.Expressions.{Text}
+use Rattle.jt_ast.specs.Statements.{Body}
+use Rattle.jt_chains.specs.Uses.{body_names, scope_names_in}
 use Rattle.jt_uses.specs.Uses.{Use, reads, binds, Site}
+use Rattle.jt_uses.specs.declared.site.Enclosing.{Enclosing}
+use Rattle.jt_names.specs.declared.own.NamesOf.{NamesOf}
+use Rattle.jt_names.specs.declared.own.NamesOf.TheVariants.{Template, Scopes}
 
--- The name that a use reads or binds. The flag is true in a callee that is no name, which reads
--- nothing.
-abbrev pub used : Use → Bool → Option Text
-used (reads x) false = Some x
-used (reads x) true = None
-used (binds x) in_callee = Some x
-used u in_callee = None
+-- The name that a use reads or binds. A callee that is no name reads nothing.
+abbrev pub used : NamesOf → Use → Enclosing → Option Text
+used Template (reads x) w = if w.in_callee then None else Some x
+used Template (binds x) w = Some x
+used Scopes (binds x) w = if w.in_scope then Some x else None
+used of u w = None
 
-abbrev pub name_used : Site → Option Text
-name_used s = used s.made s.place.around.in_callee
+abbrev pub name_used : NamesOf → Site → Option Text
+name_used of s = used of s.made s.place.around
 
--- The name that a use binds in a scope within its template. The flag is true in such a scope.
-abbrev pub scoped : Use → Bool → Option Text
-scoped (binds x) true = Some x
-scoped u in_scope = None
-
-abbrev pub name_scoped : Site → Option Text
-name_scoped s = scoped s.made s.place.around.in_scope
+-- The names of a body.
+abbrev pub names_by : NamesOf → Body → List Text
+names_by Template b = body_names b
+names_by Scopes b = scope_names_in b

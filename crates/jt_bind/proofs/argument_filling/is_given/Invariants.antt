@@ -1,7 +1,4 @@
-use Rattle.std.proofs.Common.{◌≡◌, drop}
-use Rattle.jt_ast.specs.ExpressionView.{pairs_view}
-use Rattle.jt_chains.specs.Uses.{keywords}
-use Rattle.jt_ast.specs.Texts.{among}
+use Rattle.jt_bind.specs.internal.{◌≡◌, drop, pairs_view, keywords, among}
 use Rattle.jt_bind.proofs.argument_filling.is_given.Given as goal
 
 abbrev pub invariant-loop-key : goal.invariant-loop-key

@@ -1,8 +1,4 @@
-use Rattle.std.proofs.Common.{◌≡◌, drop}
-use Rattle.jt_ast.specs.ExpressionView.{pairs_view}
-use Rattle.jt_chains.specs.Uses.{keywords}
-use Rattle.jt_ast.specs.StatementView.{parameters_view}
-use Rattle.jt_eval.specs.Filters.{some_given}
+use Rattle.jt_bind.specs.internal.{◌≡◌, drop, pairs_view, keywords, parameters_view, some_given}
 use Rattle.jt_bind.proofs.argument_filling.is_some_given.Given as goal
 
 abbrev pub invariant-loop-parameter : goal.invariant-loop-parameter

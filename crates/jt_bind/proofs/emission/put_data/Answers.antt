@@ -1,9 +1,6 @@
-use Rattle.std.proofs.Common.{sym, ◌∙◌}
-use Rattle.std.proofs.lemmas.List.{length-map}
 use Rattle.jt_value.specs.Tree as tree
-use Rattle.jt_value.specs.View.{view}
-use Rattle.jt_bind.specs.internal.Scoped.{values}
-use Rattle.jt_bind.proofs.BodyConcatenation.{data_emitted, value_push}
+use Rattle.jt_bind.specs.internal.{view, values}
+use Rattle.jt_bind.proofs.{sym, ◌∙◌, length-map, data_emitted, value_push}
 use Rattle.jt_bind.proofs.emission.put_data.Goals as goal
 
 pub returns : goal.returns

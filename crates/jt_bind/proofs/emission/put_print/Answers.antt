@@ -1,9 +1,5 @@
-use Rattle.std.proofs.Common.{sym, subst, List}
-use Rattle.std.proofs.lemmas.Result.{IfOk-weaker}
-use Rattle.jt_ir.specs.View.{expr_view, filters_after}
-use Rattle.jt_ir.specs.declared.program.SlotFilter.{SlotFilter}
-use Rattle.jt_bind.specs.internal.Scoped.{IsPlaced}
-use Rattle.jt_bind.proofs.BodyConcatenation.{print_emitted}
+use Rattle.jt_bind.specs.internal.{List, expr_view, filters_after, SlotFilter, IsPlaced}
+use Rattle.jt_bind.proofs.{sym, subst, IfOk-weaker, print_emitted}
 use Rattle.jt_bind.proofs.emission.put_print.Goals as goal
 
 pub returns : goal.returns

@@ -1,7 +1,6 @@
-use Rattle.std.proofs.Common.{sym, ap, ◌∙◌}
-use Rattle.std.specs.Prelude.{if◌then◌else◌}
-use Rattle.jt_bind.specs.internal.Scoped.{globals_in, senv_in}
 use Rattle.jt_semantics.specs.Resolve.{StaticEnv}
+use Rattle.jt_bind.specs.internal.{if◌then◌else◌, globals_in, senv_in}
+use Rattle.jt_bind.proofs.{sym, ap, ◌∙◌}
 use Rattle.jt_bind.proofs.inclusion.seen_by.Goals as goal
 
 pub returns-else-scoped : goal.returns-else-scoped

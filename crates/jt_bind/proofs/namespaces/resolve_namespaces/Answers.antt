@@ -1,8 +1,5 @@
-use Rattle.std.proofs.lemmas.List.{drop_all}
-use Rattle.std.proofs.Common.{◌≡◌, ◌<◌, ◌≤◌, length, ◌∙◌, arith, rules}
-use Rattle.jt_bind.specs.internal.Scoped.{order_in}
-use Rattle.jt_layout.proofs.FirstOccurrences.{namespaces_left}
-use Rattle.jt_bind.proofs.RoutineConcatenation.{lead_first, lead_turn, lead_last}
+use Rattle.jt_bind.specs.internal.{◌≡◌, ◌<◌, ◌≤◌, length, order_in}
+use Rattle.jt_bind.proofs.{drop_all, ◌∙◌, arith, rules, namespaces_left, lead_first, lead_turn, lead_last}
 use Rattle.jt_bind.proofs.namespaces.resolve_namespaces.Goals as goal
 
 pub loop-namespace-init : goal.loop-namespace-init

@@ -1,4 +1,4 @@
-use Rattle.std.proofs.lemmas.Result.{IfOk-weaker}
+use Rattle.jt_bind.proofs.{IfOk-weaker}
 use Rattle.jt_bind.proofs.operator_forms.item_in_turn.Goals as goal
 
 pub returns : goal.returns

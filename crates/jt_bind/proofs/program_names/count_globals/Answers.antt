@@ -1,6 +1,4 @@
-use Rattle.std.proofs.Common.{arith, rules}
-use Rattle.std.proofs.lemmas.List.{length-map}
-use Rattle.jt_layout.proofs.FirstOccurrences.{namespaces_left}
+use Rattle.jt_bind.proofs.{arith, rules, length-map, namespaces_left}
 use Rattle.jt_bind.proofs.program_names.count_globals.Goals as goal
 
 pub loop-namespace-preserved : goal.loop-namespace-preserved

@@ -1,5 +1,4 @@
-use Rattle.std.proofs.Common.{◌≡◌, ◌++◌, map, drop, string_bytes}
-use Rattle.jt_ast.specs.Texts.{texts}
+use Rattle.jt_bind.specs.internal.{◌≡◌, ◌++◌, map, drop, string_bytes, texts}
 use Rattle.jt_bind.proofs.program_names.strings_of.Given as goal
 
 abbrev pub invariant-loop-name : goal.invariant-loop-name

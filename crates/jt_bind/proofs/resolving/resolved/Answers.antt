@@ -1,5 +1,4 @@
-use Rattle.std.proofs.Common.{arith, rules}
-use Rattle.jt_bind.proofs.ProgramParts.{program_is}
+use Rattle.jt_bind.proofs.{arith, rules, program_is}
 use Rattle.jt_bind.proofs.resolving.resolved.Goals as goal
 
 pub returns : goal.returns

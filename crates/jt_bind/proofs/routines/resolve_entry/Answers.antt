@@ -1,6 +1,5 @@
-use Rattle.std.proofs.Common.{sym, ◌∙◌, arith, rules}
-use Rattle.jt_bind.specs.internal.Scoped.{cenv_in, order_in, namespace_in, templates_in}
-use Rattle.jt_bind.proofs.RoutineConcatenation.{no_entry, one_entry}
+use Rattle.jt_bind.specs.internal.{cenv_in, order_in, namespace_in, templates_in}
+use Rattle.jt_bind.proofs.{sym, ◌∙◌, arith, rules, no_entry, one_entry}
 use Rattle.jt_bind.proofs.routines.resolve_entry.Goals as goal
 
 pub returns-then-here : goal.returns-then-here

@@ -1,7 +1,4 @@
-use Rattle.std.proofs.lemmas.List.{drop_all}
-use Rattle.std.proofs.Common.{arith, rules}
-use Rattle.jt_bind.proofs.BodyConcatenation.{lead_both, lead_of, emits_of}
-use Rattle.jt_bind.proofs.ChainTemplates.{layers_turn, root_here}
+use Rattle.jt_bind.proofs.{drop_all, arith, rules, lead_both, lead_of, emits_of, layers_turn, root_here}
 use Rattle.jt_bind.proofs.routines.resolve_layers.Goals as goal
 
 pub returns : goal.returns

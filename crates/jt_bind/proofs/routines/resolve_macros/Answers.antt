@@ -1,14 +1,6 @@
-use Rattle.std.proofs.Common.{List, map, sym, ap, ◌∙◌, subst, arith}
-use Rattle.std.proofs.lemmas.List.{at_drop_all}
-use Rattle.std.proofs.lemmas.Simd.{map-map}
-use Rattle.jt_chains.specs.Parts.{macro_view}
-use Rattle.jt_chains.specs.View.{chain_view}
-use Rattle.jt_chains.specs.declared.parts.Macro.{Macro}
-use Rattle.jt_semantics.specs.Resolve.{macro_routine}
-use Rattle.jt_bind.specs.internal.Scoped.{values, cenv_in, order_in, namespace_in, templates_in}
-use Rattle.jt_bind.specs.internal.Routines.{AreRoutines}
-use Rattle.jt_bind.proofs.RoutineConcatenation.{Planned, lead_last, routines_left}
-use Rattle.jt_bind.proofs.NumberedBodies.{macro_lead, remaining}
+use Rattle.jt_bind.specs.internal.{files_in, macro_in, List, map, macro_view, Macro, values, templates_in, AreRoutines}
+use Rattle.jt_bind.proofs.{sym, ap, ◌∙◌, subst, arith, at_drop_all, map-map, Planned, lead_last, routines_left}
+use Rattle.jt_bind.proofs.{macro_lead, remaining}
 use Rattle.jt_bind.proofs.routines.resolve_macros.Goals as goal
 
 pub returns : goal.returns
@@ -16,9 +8,9 @@ returns c =
     let l = c.loop-called in
     let scope = c.args.tables.now in
     let T = templates_in scope in
-    let ts = (chain_view scope.chain.now).templates in
+    let ts = (files_in scope) in
     let ms = c.deref-called-items.result.now in
-    let F = macro_routine (cenv_in scope) (order_in scope) (namespace_in scope) in
+    let F = macro_in scope in
     let P : List Planned → Type 0 = λ z. AreRoutines T z c.args.routines.now.items l.routines.items
     (values c.args.pool.now) (values l.pool) in
     subst P (ap (λ (z : List Macro). map (λ (m : Macro). F (macro_view ts m)) z) c.deref-called-items.ensures.value

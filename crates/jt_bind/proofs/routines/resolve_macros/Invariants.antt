@@ -1,6 +1,5 @@
-use Rattle.jt_bind.specs.internal.Routines.{RoutinesLead}
-use Rattle.jt_bind.proofs.NumberedBodies.{remaining}
-use Rattle.jt_bind.specs.internal.Scoped.{values, templates_in}
+use Rattle.jt_bind.specs.internal.{RoutinesLead, values, templates_in}
+use Rattle.jt_bind.proofs.{remaining}
 use Rattle.jt_bind.proofs.routines.resolve_macros.Given as goal
 
 abbrev pub invariant-loop-called : goal.invariant-loop-called

@@ -1,6 +1,5 @@
-use Rattle.std.proofs.lemmas.Result.{IfOk-weaker}
-use Rattle.jt_bind.specs.internal.Scoped.{templates_in}
-use Rattle.jt_bind.proofs.RoutineConcatenation.{routines_both}
+use Rattle.jt_bind.specs.internal.{templates_in}
+use Rattle.jt_bind.proofs.{IfOk-weaker, routines_both}
 use Rattle.jt_bind.proofs.routines.resolve_namespace.Goals as goal
 
 pub returns : goal.returns

@@ -1,12 +1,8 @@
-use Rattle.std.proofs.lemmas.List.{drop_all}
-use Rattle.std.proofs.Common.{◌+◌, ◌<◌, length, drop, sym, append-nil, arith}
-use Rattle.jt_ir.specs.Slots.{variable, local}
 use Rattle.jt_ir.specs.declared.program.Slot.TheVariants as s
 use Rattle.jt_ir.specs.declared.program.SlotExpr.TheVariants as e
 use Rattle.jt_semantics.specs.Resolve as resolve
-use Rattle.jt_bind.proofs.CalleeResolution.{locals_next}
-use Rattle.jt_bind.proofs.RowConcatenation.{of_whole, row_both, row_item}
-use Rattle.jt_ir.proofs.ExpressionViews.{view_Variable}
+use Rattle.jt_bind.specs.internal.{◌+◌, ◌<◌, length, drop, variable, local}
+use Rattle.jt_bind.proofs.{drop_all, sym, append-nil, arith, locals_next, of_whole, row_both, row_item, view_Variable}
 use Rattle.jt_bind.proofs.rows.first_locals.Goals as goal
 
 pub returns : goal.returns

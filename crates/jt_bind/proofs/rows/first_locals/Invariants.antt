@@ -1,8 +1,5 @@
-use Rattle.std.proofs.Common.{◌≡◌, List, [], length, drop}
-use Rattle.jt_value.specs.Tree.{Tree}
-use Rattle.jt_ast.specs.Expressions.{Text}
 use Rattle.jt_semantics.specs.Resolve as resolve
-use Rattle.jt_bind.specs.internal.Scoped.{RowLeads}
+use Rattle.jt_bind.specs.internal.{◌≡◌, List, [], length, drop, Tree, Text, RowLeads}
 use Rattle.jt_bind.proofs.rows.first_locals.Given as goal
 
 abbrev pub invariant-loop-local : goal.invariant-loop-local

@@ -1,6 +1,4 @@
-use Rattle.std.proofs.Common.{arith, rules}
-use Rattle.std.proofs.lemmas.List.{length-map}
-use Rattle.jt_bind.proofs.PlacesAndScopes.{senv_bound}
+use Rattle.jt_bind.proofs.{arith, rules, length-map, senv_bound}
 use Rattle.jt_bind.proofs.scope_entry.entered.Goals as goal
 
 pub returns : goal.returns

@@ -1,5 +1,4 @@
-use Rattle.std.proofs.Common.{take_all, arith, rules}
-use Rattle.jt_bind.proofs.PlacesAndScopes.{entered_more}
+use Rattle.jt_bind.proofs.{take_all, arith, rules, entered_more}
 use Rattle.jt_bind.proofs.scope_entry.framed_by.Goals as goal
 
 pub returns : goal.returns

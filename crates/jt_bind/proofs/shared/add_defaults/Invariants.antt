@@ -1,7 +1,4 @@
-use Rattle.std.proofs.Common.{◌≡◌, ◌++◌, map, drop}
-use Rattle.jt_ast.specs.StatementView.{parameter_view}
-use Rattle.jt_eval.specs.Filters.{default_value}
-use Rattle.jt_bind.specs.internal.Scoped.{values}
+use Rattle.jt_bind.specs.internal.{◌≡◌, ◌++◌, map, drop, parameter_view, default_value, values}
 use Rattle.jt_bind.proofs.shared.add_defaults.Given as goal
 
 abbrev pub invariant-loop-parameter : goal.invariant-loop-parameter

@@ -1,5 +1,4 @@
-use Rattle.std.proofs.Common.{arith, rules}
-use Rattle.jt_bind.proofs.SharedValues.{part_put, defaults_left}
+use Rattle.jt_bind.proofs.{arith, rules, part_put, defaults_left}
 use Rattle.jt_bind.proofs.shared.add_macros.Goals as goal
 
 pub loop-entry-preserved : goal.loop-entry-preserved

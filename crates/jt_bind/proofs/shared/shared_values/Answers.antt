@@ -1,6 +1,4 @@
-use Rattle.std.proofs.Common.{arith, rules}
-use Rattle.jt_bind.proofs.SharedValues.{part_put}
-use Rattle.jt_layout.proofs.FirstOccurrences.{namespaces_left}
+use Rattle.jt_bind.proofs.{arith, rules, part_put, namespaces_left}
 use Rattle.jt_bind.proofs.shared.shared_values.Goals as goal
 
 pub loop-namespace-preserved : goal.loop-namespace-preserved

@@ -1,9 +1,5 @@
-use Rattle.std.proofs.Common.{◌≡◌, ◌++◌, drop}
-use Rattle.std.specs.Prelude.{flat_map}
-use Rattle.jt_chains.specs.Chain.{macros}
 use Rattle.jt_semantics.specs.Layout as layout
-use Rattle.jt_semantics.specs.Layout.{defaults_of}
-use Rattle.jt_bind.specs.internal.Scoped.{values, cenv_in, order_in}
+use Rattle.jt_bind.specs.internal.{◌≡◌, ◌++◌, drop, flat_map, macros, defaults_of, values, cenv_in, order_in}
 use Rattle.jt_bind.proofs.shared.shared_values.Given as goal
 
 abbrev pub invariant-loop-namespace : goal.invariant-loop-namespace

@@ -1,8 +1,4 @@
-use Rattle.std.proofs.Common.{◌≡◌, ◌++◌, map, drop}
-use Rattle.std.specs.Prelude.{option_map}
-use Rattle.jt_semantics.specs.Resolve.{fresh}
-use Rattle.jt_ast.specs.StatementView.{names_view}
-use Rattle.jt_ir.specs.View.{slot_view}
+use Rattle.jt_bind.specs.internal.{◌≡◌, ◌++◌, map, drop, option_map, fresh, names_view, slot_view}
 use Rattle.jt_bind.proofs.targets.fresh_slots.Given as goal
 
 abbrev pub invariant-loop-name : goal.invariant-loop-name

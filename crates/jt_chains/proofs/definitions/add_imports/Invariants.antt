@@ -1,5 +1,5 @@
-use Rattle.jt_chains.proofs.Vocabulary.{◌≡◌, ◌++◌, drop, body_view, imports_in, sources_in, files_view, names_view}
-use Rattle.jt_chains.specs.Chain.{Namespace}
+use Rattle.jt_chains.proofs.Vocabulary.{◌≡◌, ◌++◌, drop, body_view, imports_in, sources_in, Namespace, files_view}
+use Rattle.jt_chains.proofs.Vocabulary.{names_view}
 use Rattle.jt_chains.proofs.definitions.add_imports.Given as goal
 
 abbrev pub invariant-loop-statement : goal.invariant-loop-statement

@@ -1,7 +1,8 @@
-use Rattle.jt_chains.proofs.Vocabulary.{◌∙◌, ◌&&◌, refl, rules, tests, list_all, YieldsList-from_slice}
-use Rattle.jt_chains.proofs.Vocabulary.{all_from_yields_List, stmt_view, body_view, holds_macros}
+use Rattle.jt_chains.proofs.Vocabulary.{◌∙◌, ◌&&◌, refl, rules, tests, all_from_yields_List, stmt_view, body_view}
+use Rattle.jt_chains.proofs.Vocabulary.{holds_macros, of_a_library}
+use Rattle.std.specs.List.{list_all}
+use Rattle.std.proofs.lemmas.Iterator.{YieldsList-from_slice}
 use Rattle.std.proofs.lemmas.List.Recursion.{same_from_clauses}
-use Rattle.jt_chains.specs.Chain.{of_a_library}
 use Rattle.jt_chains.proofs.definitions.holds_macros.Goals as goal
 
 pub returns : goal.returns

@@ -1,5 +1,4 @@
-use Rattle.std.proofs.Common.{arith, rules}
-use Rattle.std.proofs.lemmas.List.{map-append}
+use Rattle.jt_chains.proofs.Vocabulary.{arith, rules, map-append}
 use Rattle.jt_chains.proofs.TemplatesByIndex.{along_turn}
 use Rattle.jt_chains.proofs.layers.layers_at.Goals as goal
 

@@ -1,9 +1,6 @@
-use Rattle.jt_chains.proofs.Vocabulary.{List, ◌++◌, refl, sym, ◌∙◌, arith, rules, at_drop_all, append-nil}
-use Rattle.jt_chains.proofs.Vocabulary.{branches_view, choice_added, Branch, view_For, blocks_in, blocks_under}
-use Rattle.jt_chains.proofs.Vocabulary.{blocks_view, name_at}
-use Rattle.std.proofs.Common.{append_assoc}
-use Rattle.jt_ast.proofs.StatementViews.{view_Autoescape}
-use Rattle.jt_chains.specs.Chain.{blocks_of}
+use Rattle.jt_chains.proofs.Vocabulary.{List, ◌++◌, refl, sym, ◌∙◌, arith, rules, append_assoc, at_drop_all, append-nil}
+use Rattle.jt_chains.proofs.Vocabulary.{branches_view, choice_added, Branch, view_For, view_Autoescape, blocks_in}
+use Rattle.jt_chains.proofs.Vocabulary.{blocks_under, blocks_of, blocks_view, name_at}
 use Rattle.jt_chains.proofs.parts.+blocks.Goals as goal
 
 pub add_statement-returns-in_ok-add_blocks-in-If-2 : goal.add_statement-returns-in_ok-add_blocks-in-If-2

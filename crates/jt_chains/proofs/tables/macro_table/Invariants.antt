@@ -1,4 +1,5 @@
-use Rattle.jt_chains.proofs.Vocabulary.{◌≡◌, ◌≤◌, length, drop, get_by_text, Text, body_view, macro_index}
+use Rattle.jt_chains.proofs.Vocabulary.{◌≡◌, ◌≤◌, length, drop, get_by_text, Text, body_view}
+use Rattle.jt_chains.specs.Tables.{macro_index}
 use Rattle.jt_chains.proofs.tables.macro_table.Given as goal
 
 abbrev pub invariant-loop-left : goal.invariant-loop-left

@@ -1,6 +1,5 @@
-use Rattle.jt_checks.proofs.Vocabulary.{◌∙◌, rules, tests, YieldsList-from_slice, all_from_yields_List, Bor, Text}
-use Rattle.jt_checks.proofs.Vocabulary.{among, texts}
-use Rattle.jt_checks.proofs.NameSets.{among_first, all_in}
+use Rattle.jt_checks.proofs.{◌∙◌, rules, tests, YieldsList-from_slice, all_from_yields_List, Bor, Text, among, texts}
+use Rattle.jt_checks.proofs.{among_first, all_in}
 use Rattle.jt_checks.proofs.arguments.all_known.Goals as goal
 
 pub returns : goal.returns

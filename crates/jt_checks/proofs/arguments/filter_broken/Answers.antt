@@ -1,14 +1,10 @@
-use Rattle.jt_checks.proofs.Vocabulary.{length, exprs_view, pairs_view}
-use Rattle.jt_checks.proofs.FilterArity.{filter_known, filter_unknown}
-use Rattle.jt_checks.proofs.RowLengths.{counted}
+use Rattle.jt_checks.proofs.{arith, rules, filter_known, filter_unknown, counted}
 use Rattle.jt_checks.proofs.arguments.filter_broken.Goals as goal
 
 pub returns-in_ok-filter_accepts-in-Some : goal.returns-in_ok-filter_accepts-in-Some
 returns-in_ok-filter_accepts-in-Some c =
-    filter_known c.args.name.now c.in-Some.filter (length c.args.row.now) (exprs_view c.args.row.now)
-    (pairs_view c.args.pairs.now) c.in_ok-filter_accepts-in-Some.field-0 c.unless.result
-    c.in-Some.ensures (counted c.args.row.now) c.in_ok-filter_accepts-in-Some.ensures c.unless.ensures
+    filter_known c.args.name.now c.in-Some.filter _ _ _ _ _ c.in-Some.ensures (counted c.args.row.now)
+    c.in_ok-filter_accepts-in-Some.ensures c.unless.ensures
 
 pub returns-in-None : goal.returns-in-None
-returns-in-None c =
-    filter_unknown c.args.name.now (exprs_view c.args.row.now) (pairs_view c.args.pairs.now) c.in-None.ensures
+returns-in-None c = search (arith, rules, filter_unknown)

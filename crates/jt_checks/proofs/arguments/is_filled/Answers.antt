@@ -1,5 +1,5 @@
-use Rattle.jt_checks.proofs.Vocabulary.{take, ◌∙◌, rules, tests, YieldsList-from_slice, all_from_yields_List, texts}
-use Rattle.jt_checks.proofs.FilledParameters.{is_filled, filled_among}
+use Rattle.jt_checks.proofs.{take, ◌∙◌, rules, tests, YieldsList-from_slice, all_from_yields_List, texts, is_filled}
+use Rattle.jt_checks.proofs.{filled_among}
 use Rattle.jt_checks.proofs.arguments.is_filled.Goals as goal
 
 pub returns : goal.returns

@@ -1,6 +1,6 @@
 use Rattle.std.proofs.lemmas.Iterator.Search.{any_from_yields_List}
-use Rattle.jt_checks.proofs.Vocabulary.{◌∙◌, ◌||◌, refl, string_bytes, rules, tests, list_any, bytes_eq}
-use Rattle.jt_checks.proofs.Vocabulary.{YieldsList-from_slice, same_from_clauses, Text, among, texts, Bor}
+use Rattle.jt_checks.proofs.{◌∙◌, ◌||◌, refl, string_bytes, rules, tests, list_any, bytes_eq, YieldsList-from_slice}
+use Rattle.jt_checks.proofs.{same_from_clauses, Text, among, texts, Bor}
 use Rattle.jt_checks.proofs.arguments.is_given.Goals as goal
 
 pub returns : goal.returns

@@ -1,5 +1,4 @@
-use Rattle.jt_checks.proofs.Vocabulary.{arith, rules}
-use Rattle.jt_checks.proofs.FilledParameters.{last_reached, none_reached}
+use Rattle.jt_checks.proofs.{arith, rules, last_reached, none_reached}
 use Rattle.jt_checks.proofs.arguments.reached.Goals as goal
 
 pub returns-then-is_given-clause-value : goal.returns-then-is_given-clause-value

@@ -1,4 +1,4 @@
-use Rattle.jt_checks.proofs.Vocabulary.{◌≡◌, ◌≤◌, length, drop, false, some_given, texts}
+use Rattle.jt_checks.proofs.{◌≡◌, ◌≤◌, length, drop, false, some_given, texts}
 use Rattle.jt_ast.specs.StatementView as parsed
 use Rattle.jt_checks.proofs.arguments.reached.Given as goal
 

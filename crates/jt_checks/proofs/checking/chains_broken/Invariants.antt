@@ -1,5 +1,5 @@
-use Rattle.jt_checks.specs.internal.ScopeLookup.{cenv_in}
-use Rattle.jt_checks.proofs.Vocabulary.{◌≡◌, drop, chain_view}
+use Rattle.jt_checks.specs.internal.ScopeView.{cenv_in}
+use Rattle.jt_checks.proofs.{◌≡◌, drop, chain_view}
 use Rattle.jt_checks.specs.internal.UseRules as broken
 use Rattle.jt_checks.proofs.checking.chains_broken.Given as goal
 

@@ -1,6 +1,6 @@
 use Rattle.std.proofs.Common.{◌^◌}
-use Rattle.jt_checks.specs.internal.ScopeLookup.{cenv_in}
-use Rattle.jt_checks.proofs.Vocabulary.{◌≡◌, ◌+◌, ◌-◌, ◌<◌, min, drop, texts, libraries_counted}
+use Rattle.jt_checks.specs.internal.ScopeView.{cenv_in}
+use Rattle.jt_checks.proofs.{◌≡◌, ◌+◌, ◌-◌, ◌<◌, min, drop, texts, libraries_counted}
 use Rattle.jt_checks.proofs.checking.count_in_libraries.Given as goal
 
 abbrev pub invariant-loop-library : goal.invariant-loop-library

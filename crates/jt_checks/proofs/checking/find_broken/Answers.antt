@@ -1,54 +1,33 @@
-use Rattle.jt_rules.specs.CompileEnv.{cenv_of}
 use Rattle.jt_checks.specs.FindingView.{finding_view}
-use Rattle.jt_checks.specs.internal.ScopeLookup.{cenv_in}
-use Rattle.jt_checks.proofs.Vocabulary.{refl, sym, ap, ◌∙◌, option_map, inl, inr, chain_view, names_counted}
-use Rattle.jt_checks.proofs.FindingsHold.{chains_hold, found_is_broken, none_is_broken}
-use Rattle.jt_checks.proofs.LoopSteps.{few_enough, over, name_seen}
+use Rattle.jt_checks.specs.Findings.{Holds}
+use Rattle.jt_checks.proofs.{refl, sym, ap, ◌∙◌, arith, option_map, inr, chain_view, cenv_in, nat_tests, judged}
+use Rattle.jt_checks.proofs.{found_is_broken, none_is_broken, name_seen}
 use Rattle.jt_checks.proofs.checking.find_broken.Goals as goal
 
-pub returns-in-Some-clause-found : goal.returns-in-Some-clause-found
-unfolding cenv_in
-returns-in-Some-clause-found c =
-    let seen = chain_view c.args.facts.now.chain.now in
+pub returns-in-Some : goal.returns-in-Some
+returns-in-Some c =
+    let chain = c.args.facts.now.chain.now in
     let f = finding_view c.in-Some.finding in
-    found_is_broken (cenv_of seen) seen.order f (chains_hold (cenv_of seen) seen.order f
-    (sym c.in_ok-finding.ensures ∙ ap (option_map finding_view) c.in-Some.is))
-
-pub returns-in-Some-clause-holds : goal.returns-in-Some-clause-holds
-unfolding cenv_in
-returns-in-Some-clause-holds c =
-    let seen = chain_view c.args.facts.now.chain.now in
-    inl (chains_hold (cenv_of seen) seen.order (finding_view c.in-Some.finding)
-    (sym c.in_ok-finding.ensures ∙ ap (option_map finding_view) c.in-Some.is))
+    let holds : Holds f (cenv_in chain) (chain_view chain).order = judged (cenv_in chain) (chain_view chain).order _
+    (sym (ap (option_map finding_view) c.in-Some.is) ∙ c.in_ok-finding.ensures) in
+    record { kept = tt; found = found_is_broken (cenv_in chain) (chain_view chain).order f holds; holds = holds }
 
 pub returns-then-branch-clause-kept : goal.returns-then-branch-clause-kept
-unfolding cenv_in
 returns-then-branch-clause-kept c =
-    let seen = chain_view c.args.facts.now.chain.now in
-    none_is_broken (cenv_of seen) seen.order
-    (sym c.in_ok-finding.ensures ∙ ap (option_map finding_view) c.in_default.is)
-    (few_enough c.in_ok-has_few_names.field-0 (names_counted (cenv_of seen) seen.order) 65535
-    c.in_ok-has_few_names.ensures c.if-branch.true)
+    let chain = c.args.facts.now.chain.now in
+    none_is_broken (cenv_in chain) (chain_view chain).order
+    (sym (ap (option_map finding_view) c.in_default.is) ∙ c.in_ok-finding.ensures) (grind (arith, nat_tests))
 
 pub returns-clause-found : goal.returns-clause-found
-unfolding cenv_in
-returns-clause-found c =
-    let seen = chain_view c.args.facts.now.chain.now in
-    inr (over c.in_ok-has_few_names.field-0 (names_counted (cenv_of seen) seen.order) 65535
-    c.in_ok-has_few_names.ensures c.if-branch.false)
+returns-clause-found c = inr (grind (arith, nat_tests))
 
 pub returns-clause-holds : goal.returns-clause-holds
-unfolding cenv_in
 returns-clause-holds c =
-    let seen = chain_view c.args.facts.now.chain.now in
+    let chain = c.args.facts.now.chain.now in
     inr (record {
       rule = refl;
-      broken =
-          over c.in_ok-has_few_names.field-0 (names_counted (cenv_of seen) seen.order) 65535
-          c.in_ok-has_few_names.ensures c.if-branch.false;
-      template =
-          c.as_str.ensures.value
-          ∙ name_seen c.args.facts.now.chain.now 0 c.index.result.now c.args.facts.now.chain.now.some c.index.ensures;
+      broken = grind (arith, nat_tests);
+      template = c.as_str.ensures.value ∙ name_seen chain 0 c.index.result.now chain.some c.index.ensures;
       line = refl;
       subject = refl;
     })

@@ -1,5 +1,5 @@
-use Rattle.jt_checks.specs.internal.ScopeLookup.{cenv_in}
-use Rattle.jt_checks.proofs.Vocabulary.{◌≡◌, ◌+◌, ◌≤◌, drop, chain_view, names_counted}
+use Rattle.jt_checks.specs.internal.ScopeView.{cenv_in}
+use Rattle.jt_checks.proofs.{◌≡◌, ◌+◌, ◌≤◌, drop, chain_view, names_counted}
 use Rattle.jt_checks.proofs.checking.has_few_names.Given as goal
 
 abbrev pub invariant-loop-namespace : goal.invariant-loop-namespace

@@ -1,9 +1,9 @@
 use Rattle.std.specs.Prelude.{option_and_then}
 use Rattle.jt_ids.specs.FilterTable.{position_of}
 use Rattle.jt_eval.specs.Inside.{pairs_well}
-use Rattle.jt_checks.proofs.Vocabulary.{◌∙◌, ◌&&◌, refl, string_bytes, rules, tests, list_all, YieldsList-from_slice}
-use Rattle.jt_checks.proofs.Vocabulary.{all_from_yields_List, same_from_clauses, literal_text, expr_view, pairs_view}
-use Rattle.jt_checks.proofs.Vocabulary.{Entry, named_at, argument_well}
+use Rattle.jt_checks.proofs.{◌∙◌, ◌&&◌, refl, string_bytes, rules, tests, list_all, YieldsList-from_slice}
+use Rattle.jt_checks.proofs.{all_from_yields_List, same_from_clauses, literal_text, expr_view, pairs_view, Entry}
+use Rattle.jt_checks.proofs.{named_at, argument_well}
 use Rattle.jt_checks.proofs.nested_calls.are_pairs_well.Goals as goal
 
 pub returns : goal.returns

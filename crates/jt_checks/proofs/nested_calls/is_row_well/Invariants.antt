@@ -1,4 +1,4 @@
-use Rattle.jt_checks.proofs.Vocabulary.{◌≡◌, ◌+◌, drop, exprs_view, row_well}
+use Rattle.jt_checks.proofs.{◌≡◌, ◌+◌, drop, exprs_view, row_well}
 use Rattle.jt_checks.proofs.nested_calls.is_row_well.Given as goal
 
 abbrev pub invariant-loop-index : goal.invariant-loop-index

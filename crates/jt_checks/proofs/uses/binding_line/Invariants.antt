@@ -1,5 +1,5 @@
 use Rattle.std.specs.Prelude.{slice_get}
-use Rattle.jt_checks.proofs.Vocabulary.{◌≡◌, drop, sites_view}
+use Rattle.jt_checks.proofs.{◌≡◌, drop, sites_view}
 use Rattle.jt_checks.specs.internal.UseRules as broken
 use Rattle.jt_checks.proofs.uses.binding_line.Given as goal
 

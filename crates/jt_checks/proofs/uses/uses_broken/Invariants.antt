@@ -1,5 +1,4 @@
-use Rattle.jt_checks.specs.internal.ScopeView.{in_scope}
-use Rattle.jt_checks.proofs.Vocabulary.{◌≡◌, drop, sites_view}
+use Rattle.jt_checks.proofs.{in_scope, ◌≡◌, drop, sites_view}
 use Rattle.jt_checks.specs.internal.UseRules as broken
 use Rattle.jt_checks.proofs.uses.uses_broken.Given as goal
 

@@ -4,7 +4,7 @@ use Rattle.jt_inherit.proofs.bodies.no_super.Goals as goal
 
 pub returns : goal.returns
 returns c =
-    let ts = its_templates c.args.store c.args.indices.now in
+    let ts = its_templates c.args.store.now c.args.indices.now in
     let call = c.in-Some.call in
     let tag = tag_view call.block in
     let found = subst (λ (l : List (Text × Site)). IsLastCall l tag call.line) c.in_ok-named.ensures

@@ -7,7 +7,7 @@ use Rattle.jt_inherit.proofs.bodies.not_given.Goals as goal
 
 pub returns : goal.returns
 returns c =
-    let ts = its_templates c.args.store c.args.indices.now in
+    let ts = its_templates c.args.store.now c.args.indices.now in
     let x = c.args.name.now in
     let nearest = c.in-Some.nearest.now in
     let found : slice_get c.in_ok-named.named.items 0 ≡ Some nearest =

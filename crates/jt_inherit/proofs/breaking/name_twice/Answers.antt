@@ -6,7 +6,7 @@ use Rattle.jt_inherit.proofs.breaking.name_twice.Goals as goal
 
 pub returns : goal.returns
 returns c =
-    let ts = its_templates c.args.store c.args.indices.now in
+    let ts = its_templates c.args.store.now c.args.indices.now in
     let p = c.in-Some.places in
     let found = sym (ap (λ (l : List FoundTag). tags_view l) c.deref.ensures.value ∙ c.in_ok-tags.ensures) in
     let at = subst (λ o. IfSome o (AreFirst c.deref.result.now)) c.in-Some.is c.in_ok-places.ensures in (

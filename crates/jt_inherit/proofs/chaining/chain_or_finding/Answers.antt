@@ -1,7 +1,7 @@
-use Rattle.std.proofs.Common.{arith, rules, List, subst}
-use Rattle.jt_chains.specs.Tables.{AreAt}
-use Rattle.jt_inherit.proofs.Vocabulary.{err_from_is_err_and, files_view, TemplateFile, found_templates}
-use Rattle.jt_inherit.proofs.PathTemplates.{all_short}
+use Rattle.std.proofs.Common.{arith, rules}
+use Rattle.jt_inherit.proofs.NumberTables.{files_at}
+use Rattle.jt_inherit.proofs.Vocabulary.{err_from_is_err_and, found_templates}
+use Rattle.jt_inherit.proofs.PathsGrow.{all_short}
 use Rattle.jt_inherit.proofs.RingFound.{order_finds}
 use Rattle.jt_inherit.proofs.ChainIsUnique.{no_chain, one_chain}
 use Rattle.jt_inherit.proofs.ChainComplete.{its_findings, its_some, its_begins, its_order, its_whole, its_chain}
@@ -30,9 +30,8 @@ invariant_of-result g c =
       begins = its_begins d kept o ks made;
       order = its_order d kept o ks made;
       whole = its_whole d kept o ks made;
-      indexed =
-          subst (λ (z : List TemplateFile). AreAt (files_view z) c.in_ok-indices.indices) c.deref.ensures.value
-          c.in_ok-indices.ensures;
+      indexed = files_at c.in_ok-found.found.store.files.items c.in_ok-found.found.store.indices
+          c.in_ok-found.found.store.indexed;
     }
 
 pub returns-clause-chained : goal.returns-clause-chained
@@ -79,9 +78,6 @@ returns-in_err-order-clause-only g c =
 
 pub returns-in_err-namespaces-clause-only : goal.returns-in_err-namespaces-clause-only
 returns-in_err-namespaces-clause-only g c = search (arith, rules, err_from_is_err_and)
-
-pub returns-in_err-indices-clause-only : goal.returns-in_err-indices-clause-only
-returns-in_err-indices-clause-only g c = search (arith, rules, err_from_is_err_and)
 
 pub returns-clause-only : goal.returns-clause-only
 returns-clause-only g c =

@@ -1,41 +1,31 @@
-use Rattle.std.proofs.Common.{arith, rules, List, sym, subst}
-use Rattle.jt_inherit.proofs.Vocabulary.{err_from_is_err_and, graph_of, AreIndices, templates_at, sources_in}
-use Rattle.jt_inherit.proofs.Vocabulary.{files_view, TemplateFile, IsBroken, found_templates}
+use Rattle.std.proofs.Common.{sym, subst}
+use Rattle.jt_inherit.proofs.Vocabulary.{err_from_is_err_and, graph_of, AreIndices, templates_at, sources_in, IsBroken}
+use Rattle.jt_inherit.proofs.Vocabulary.{found_templates}
 use Rattle.jt_inherit.proofs.ChainComplete.{at_number, way_at}
 use Rattle.jt_inherit.proofs.chaining.check_chains.Goals as goal
-
-pub invariant_of-store : goal.invariant_of-store
-invariant_of-store c = search (arith, rules)
 
 pub check_rules-requires : goal.check_rules-requires
 check_rules-requires c =
     let f = c.args.found.now in
     let i = c.loop-extends_path.extends_path-index in
-    let is = c.deref-in-loop-extends_path.result.now in
-    let here = way_at f.extends_paths.items c.deref-extends_path-items.result.now i c.extends_path-item.result is
-    c.deref-extends_path-items.ensures.value c.loop-extends_path-test.true c.extends_path-item.is
-    c.deref-in-loop-extends_path.ensures.value in
-    subst (λ (z : List TemplateFile). AreIndices (files_view z) is) (sym c.deref.ensures.value)
-    (subst (AreIndices (found_templates f)) here.1
-    (at_number (AreIndices (found_templates f)) (graph_of f.extends_paths.items) i here.0 c.requires.indices))
+    let here = way_at f.extends_paths.items c.deref-extends_path-items.result.now i c.extends_path-item.result
+    c.deref.result.now c.deref-extends_path-items.ensures.value c.loop-extends_path-test.true c.extends_path-item.is
+    c.deref.ensures.value in
+    subst (AreIndices (found_templates f)) here.1
+    (at_number (AreIndices (found_templates f)) (graph_of f.extends_paths.items) i here.0 c.requires)
 
 pub returns-in_err-check_rules-clause-broken : goal.returns-in_err-check_rules-clause-broken
 returns-in_err-check_rules-clause-broken c =
     let f = c.args.found.now in
     let i = c.loop-extends_path.extends_path-index in
-    let is = c.deref-in-loop-extends_path.result.now in
-    let e = c.in_err-check_rules.field-0.0 in
-    let here = way_at f.extends_paths.items c.deref-extends_path-items.result.now i c.extends_path-item.result is
-    c.deref-extends_path-items.ensures.value c.loop-extends_path-test.true c.extends_path-item.is
-    c.deref-in-loop-extends_path.ensures.value in
+    let here = way_at f.extends_paths.items c.deref-extends_path-items.result.now i c.extends_path-item.result
+    c.deref.result.now c.deref-extends_path-items.ensures.value c.loop-extends_path-test.true c.extends_path-item.is
+    c.deref.ensures.value in
     let p = err_from_is_err_and c.from_residual.result c.from_residual.ensures.1 in
     rw (p.1, p.2) (record {
       number = i;
       within = here.0;
       found =
-          subst (λ z. IsBroken (sources_in (found_templates f)) c.args.escaping (templates_at (found_templates f) z) e)
-          (sym here.1)
-          (subst (λ (z : List TemplateFile).
-          IsBroken (sources_in (files_view z)) c.args.escaping (templates_at (files_view z) is) e)
-          c.deref.ensures.value c.in_err-check_rules.ensures.broken);
+          subst (λ z. IsBroken (sources_in (found_templates f)) c.args.escaping (templates_at (found_templates f) z)
+          c.in_err-check_rules.field-0.0) (sym here.1) c.in_err-check_rules.ensures.broken;
     })

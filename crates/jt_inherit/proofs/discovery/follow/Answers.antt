@@ -1,22 +1,21 @@
-use Rattle.std.proofs.Common.{rules, ◌≡◌, ◌<◌, true, ◌⊎◌, ◌++◌, ◌∷◌, [], List, ℕ, sym, ap, subst, ◌∙◌, arith, length}
-use Rattle.std.proofs.Common.{Vec, Global}
-use Rattle.jt_inherit.proofs.Vocabulary.{length-map, AllByRecursion, err_from_is_err_and, graph_of, among, AreIndices}
-use Rattle.jt_inherit.proofs.Vocabulary.{templates_at, needs_along, needed, files_view, TemplateFile, AreFound, AreNext}
-use Rattle.jt_inherit.proofs.Vocabulary.{IsMet, IsNextFinding, chosen, found_namespaces, root_of, key_view, names_view}
-use Rattle.jt_inherit.proofs.Vocabulary.{namespaces_view, IsUnmet, of_namespaces, indexed_among, repeated, map_push}
+use Rattle.std.proofs.Common.{rules, ◌≡◌, ◌<◌, ◌++◌, ◌∷◌, [], List, ℕ, sym, ap, subst, ◌∙◌, arith, length, Vec, Global}
+use Rattle.jt_inherit.proofs.Vocabulary.{length-map, err_from_is_err_and, graph_of, files_view, AreFound, HasPath}
+use Rattle.jt_inherit.proofs.Vocabulary.{found_namespaces, root_of, key_view, namespaces_view, of_namespaces}
+use Rattle.jt_inherit.proofs.Vocabulary.{indexed_among, map_push, SourceTexts, Options, Template, Namespace}
 use Rattle.jt_inherit.proofs.FindingsHold.{need_finds, next_finds, library_finds}
-use Rattle.jt_inherit.proofs.DiscoveryInvariant.{namespace_number, reached_here, reached_there, found_more}
-use Rattle.jt_inherit.proofs.DiscoveryInvariant.{chosen_there, first_same, reached_from, way_there, both_files}
-use Rattle.jt_inherit.proofs.DiscoveryInvariant.{both_known, same_needs}
+use Rattle.jt_inherit.proofs.DiscoveryInvariant.{namespace_number, reached_here, reached_there, found_more, has_needs}
+use Rattle.jt_inherit.proofs.DiscoveryInvariant.{chosen_there, first_same, reached_from, way_there}
 use Rattle.jt_inherit.proofs.TopologicalOrder.{namespace_among}
 use Rattle.jt_inherit.proofs.ChainComplete.{ways_indexed}
 use Rattle.jt_inherit.proofs.discovery.follow.Goals as goal
 
+-- The path by an equal list of indices.
+its_path : {given : SourceTexts} {options : Options} {ts us : List Template} {h : Namespace} {v w : Vec ℕ Global}
+    → v ≡ w → HasPath given options ts us h v.items → HasPath given options ts us h w.items
+its_path {given} {options} {ts} {us} {h} e = subst (λ (z : Vec ℕ Global). HasPath given options ts us h z.items) e
+
 pub get-namespace-requires : goal.get-namespace-requires
 get-namespace-requires g c = search (arith, rules, length-map)
-
-pub check_library-requires-clause-named : goal.check_library-requires-clause-named
-check_library-requires-clause-named g c = search (arith, rules, repeated)
 
 pub check_library-requires-clause-indices : goal.check_library-requires-clause-indices
 check_library-requires-clause-indices g c = search (arith, rules, ways_indexed)
@@ -53,116 +52,58 @@ returns-in_err-extends_path-clause-refused g c =
       says = c.in_err-extends_path.ensures.1 (root_of f) here;
     })
 
-pub returns-in_err-newly_read-clause-refused : goal.returns-in_err-newly_read-clause-refused
-returns-in_err-newly_read-clause-refused g c =
+pub returns-in_err-read_needs-clause-refused : goal.returns-in_err-read_needs-clause-refused
+returns-in_err-read_needs-clause-refused g c =
     let f = c.args.found.now in
     let at = namespace_number (found_namespaces f) f.extends_paths.items _ c.len-number.result
     (omega (arith, c.len-number.ensures, f.extends_paths.ok.0)) c.get-namespace.ensures in
-    let extends_path = c.in_ok-extends_path.ensures in
-    let e = c.in_err-newly_read.field-0.0 in
-    let given = g.L.Library.sources c.args.loader.now.library.now in
-    let p = err_from_is_err_and c.from_residual-in_err-newly_read.result c.from_residual-in_err-newly_read.ensures.1 in
-    let unmet = subst (λ (z : List TemplateFile). IsUnmet given c.args.loader.now.options z c.deref-2.result.now e)
-    c.deref.ensures.value c.in_err-newly_read.ensures.refused in
-    rw (p.1, p.2) (need_finds extends_path.known
-    (reached_here c.requires.found at extends_path.grown extends_path.extends_path) extends_path.extends_path e
-    (subst (λ (z : List ℕ). IsUnmet given c.args.loader.now.options c.read_namespace.new.files.items z e)
-    c.deref-2.ensures.value unmet))
+    let told = c.in_ok-path.ensures.told in
+    let p = its_path (sym c.in_ok-path.ensures.same) c.in_ok-extends_path.ensures in
+    let e = err_from_is_err_and c.from_residual-in_err-read_needs.result c.from_residual-in_err-read_needs.ensures.1 in
+    rw (e.1, e.2) (need_finds p.read.known (reached_here c.requires.found at p) p.led c.in_err-read_needs.field-0.0
+    c.in_err-read_needs.ensures.refused)
 
-pub next_namespaces-requires-clause-indices : goal.next_namespaces-requires-clause-indices
-next_namespaces-requires-clause-indices g c =
-    let f = c.args.found.now in
-    let at = namespace_number (found_namespaces f) f.extends_paths.items _ c.len-number.result
-    (omega (arith, c.len-number.ensures, f.extends_paths.ok.0)) c.get-namespace.ensures in
-    let extends_path = c.in_ok-extends_path.ensures in
-    let grown = both_files c.read_namespace.new.files.items c.in_ok-newly_read.newly_read.items c.deref.ensures.value
-    c.in_ok-append.ensures.items c.in_ok-newly_read.ensures.known in
-    let known = both_known c.read_namespace.new.files.items c.in_ok-newly_read.newly_read.items c.deref.ensures.value
-    c.in_ok-append.ensures.items c.in_ok-newly_read.ensures.known in
-    subst (λ (z : List TemplateFile). AreIndices (files_view z) c.deref-4.result.now) (sym c.deref-3.ensures.value)
-    (subst (AreIndices (files_view c.append.new.self.items)) (sym c.deref-4.ensures.value)
-    (way_there c.requires.found at extends_path.grown extends_path.extends_path
-    (files_view c.in_ok-newly_read.newly_read.items) grown known).indices)
+pub next_namespaces-requires-clause-path : goal.next_namespaces-requires-clause-path
+next_namespaces-requires-clause-path g c = has_needs c.in_ok-path.ensures.told c.in_ok-read_needs.ensures.read
 
 pub returns-in_err-next-clause-refused : goal.returns-in_err-next-clause-refused
 returns-in_err-next-clause-refused g c =
     let f = c.args.found.now in
     let at = namespace_number (found_namespaces f) f.extends_paths.items _ c.len-number.result
     (omega (arith, c.len-number.ensures, f.extends_paths.ok.0)) c.get-namespace.ensures in
-    let extends_path = c.in_ok-extends_path.ensures in
-    let grown = both_files c.read_namespace.new.files.items c.in_ok-newly_read.newly_read.items c.deref.ensures.value
-    c.in_ok-append.ensures.items c.in_ok-newly_read.ensures.known in
-    let known = both_known c.read_namespace.new.files.items c.in_ok-newly_read.newly_read.items c.deref.ensures.value
-    c.in_ok-append.ensures.items c.in_ok-newly_read.ensures.known in
-    let e = c.in_err-next.field-0.0 in
-    let p = err_from_is_err_and c.from_residual-in_err-next.result c.from_residual-in_err-next.ensures.1 in
-    let newly_read = files_view c.in_ok-newly_read.newly_read.items in
-    let told = subst (λ (z : List ℕ). IsNextFinding (found_namespaces f)
-    (chosen (names_view c.read_includes.new.names) (needs_along (files_view c.append.new.self.items) z))
-    (templates_at (files_view c.append.new.self.items) z) e) c.deref-4.ensures.value
-    (subst (λ (z : List TemplateFile). IsNextFinding (found_namespaces f)
-    (chosen (names_view c.read_includes.new.names) (needs_along (files_view z) c.deref-4.result.now))
-    (templates_at (files_view z) c.deref-4.result.now) e) c.deref-3.ensures.value c.in_err-next.ensures.refused) in
-    rw (p.1, p.2) (next_finds known
-    (reached_there c.requires.found at extends_path.grown extends_path.extends_path newly_read grown known)
-    (way_there c.requires.found at extends_path.grown extends_path.extends_path newly_read grown known)
-    (reached_from c.requires.found at extends_path.grown extends_path.extends_path newly_read grown known)
-    (chosen_there c.requires.found at extends_path.grown extends_path.extends_path newly_read grown known) e told)
+    let told = c.in_ok-path.ensures.told in
+    let p = its_path (sym c.in_ok-path.ensures.same) c.in_ok-extends_path.ensures in
+    let r = c.in_ok-read_needs.ensures.read in
+    let e = err_from_is_err_and c.from_residual-in_err-next.result c.from_residual-in_err-next.ensures.1 in
+    rw (e.1, e.2) (next_finds r.known (reached_there c.requires.found at p told.told r)
+    (way_there c.requires.found at p told.told r) _ (reached_from c.requires.found at p told.told r)
+    (chosen_there c.requires.found at p told.told r) c.in_err-next.field-0.0 c.in_err-next.ensures.refused)
 
 pub returns-clause-found : goal.returns-clause-found
 returns-clause-found g c =
     let f = c.args.found.now in
     let at = namespace_number (found_namespaces f) f.extends_paths.items _ c.len-number.result
     (omega (arith, c.len-number.ensures, f.extends_paths.ok.0)) c.get-namespace.ensures in
-    let extends_path = c.in_ok-extends_path.ensures in
-    let grown = both_files c.read_namespace.new.files.items c.in_ok-newly_read.newly_read.items c.deref.ensures.value
-    c.in_ok-append.ensures.items c.in_ok-newly_read.ensures.known in
-    let known = both_known c.read_namespace.new.files.items c.in_ok-newly_read.newly_read.items c.deref.ensures.value
-    c.in_ok-append.ensures.items c.in_ok-newly_read.ensures.known in
-    let newly_read = files_view c.in_ok-newly_read.newly_read.items in
-    let numbers = subst (λ l. AreNext (found_namespaces f) (namespaces_view c.next_namespaces.new.namespaces)
-    (chosen (names_view c.read_includes.new.names) l) c.in_ok-next.next.items)
-    (same_needs c.append.new.self.items c.deref-3.result.now c.in_ok-extends_path.extends_path.items
-    c.deref-4.result.now c.deref-3.ensures.value c.deref-4.ensures.value)
-    c.in_ok-next.ensures.next in
-    let ts = files_view c.append.new.self.items in
-    let ks = names_view c.read_includes.new.names in
+    let told = c.in_ok-path.ensures.told in
+    let p = its_path (sym c.in_ok-path.ensures.same) c.in_ok-extends_path.ensures in
+    let r = c.in_ok-read_needs.ensures.read in
+    let numbers = c.in_ok-next.ensures.next in
+    let ts = files_view c.read_needs.new.store.files.items in
     let hs = namespaces_view c.next_namespaces.new.namespaces in
-    let needs = same_needs c.read_namespace.new.files.items c.deref.result.now c.in_ok-extends_path.extends_path.items
-    c.deref-2.result.now c.deref.ensures.value c.deref-2.ensures.value in
     let longer = ap graph_of c.in_ok-push.ensures.items
-    ∙ map_push (λ (v : Vec ℕ Global). v.items) f.extends_paths.items c.in_ok-extends_path.extends_path in
+    ∙ map_push (λ (v : Vec ℕ Global). v.items) f.extends_paths.items c.in_ok-path.path.extends_path in
     let longer_next = ap graph_of c.in_ok-push-2.ensures.items
     ∙ map_push (λ (v : Vec ℕ Global). v.items) f.next.items c.in_ok-next.next in
-    subst (λ z. AreFound (g.L.Library.sources c.args.loader.now.library.now) c.args.loader.now.options z ts ks hs
+    subst (λ z. AreFound (g.L.Library.sources c.args.loader.now.library.now) c.args.loader.now.options z ts hs
     (graph_of c.push.new.self.items) (graph_of c.push-2.new.self.items))
-    (sym (first_same c.requires.found at extends_path.grown extends_path.extends_path newly_read grown known numbers))
-    (subst (λ z. AreFound (g.L.Library.sources c.args.loader.now.library.now) c.args.loader.now.options (root_of f) ts
-    ks hs z (graph_of c.push-2.new.self.items)) (sym longer)
-    (subst (AreFound (g.L.Library.sources c.args.loader.now.library.now) c.args.loader.now.options (root_of f) ts ks hs
-    (graph_of f.extends_paths.items ++ c.in_ok-extends_path.extends_path.items ∷ []))
-    (sym longer_next)
-    (found_more c.requires.found at extends_path.grown extends_path.extends_path newly_read grown known
-    (names_view c.read_namespace.new.names) extends_path.from
-    (λ n a. subst (λ l. (among n (names_view c.read_namespace.new.names) ≡ true) ⊎ (among n (needed true l) ≡ true))
-    needs (c.in_ok-newly_read.ensures.from n a))
-    (subst (AllByRecursion (IsMet (g.L.Library.sources c.args.loader.now.library.now) ks)) needs
-    c.in_ok-newly_read.ensures.met) numbers)))
+    (sym (first_same c.requires.found at p told.told r numbers))
+    (rw (longer, longer_next) (found_more c.requires.found at p told.told r c.in_ok-read_needs.ensures.met numbers))
 
 pub returns-clause-root : goal.returns-clause-root
 returns-clause-root g c =
     let f = c.args.found.now in
     let at = namespace_number (found_namespaces f) f.extends_paths.items _ c.len-number.result
     (omega (arith, c.len-number.ensures, f.extends_paths.ok.0)) c.get-namespace.ensures in
-    let extends_path = c.in_ok-extends_path.ensures in
-    let grown = both_files c.read_namespace.new.files.items c.in_ok-newly_read.newly_read.items c.deref.ensures.value
-    c.in_ok-append.ensures.items c.in_ok-newly_read.ensures.known in
-    let known = both_known c.read_namespace.new.files.items c.in_ok-newly_read.newly_read.items c.deref.ensures.value
-    c.in_ok-append.ensures.items c.in_ok-newly_read.ensures.known in
-    first_same c.requires.found at extends_path.grown extends_path.extends_path
-    (files_view c.in_ok-newly_read.newly_read.items) grown known
-    (subst (λ l. AreNext (found_namespaces f) (namespaces_view c.next_namespaces.new.namespaces)
-    (chosen (names_view c.read_includes.new.names) l) c.in_ok-next.next.items)
-    (same_needs c.append.new.self.items c.deref-3.result.now c.in_ok-extends_path.extends_path.items
-    c.deref-4.result.now c.deref-3.ensures.value c.deref-4.ensures.value)
-    c.in_ok-next.ensures.next)
+    let told = c.in_ok-path.ensures.told in
+    let p = its_path (sym c.in_ok-path.ensures.same) c.in_ok-extends_path.ensures in
+    first_same c.requires.found at p told.told c.in_ok-read_needs.ensures.read c.in_ok-next.ensures.next

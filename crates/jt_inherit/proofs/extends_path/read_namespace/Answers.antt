@@ -1,15 +1,17 @@
-use Rattle.std.proofs.Common.{rules, ◌≡◌, ◌+◌, ◌<◌, false, drop, length, sym, ap, subst, ◌∙◌, arith, string_bytes, None}
+use Rattle.std.proofs.Common.{rules, ◌≡◌, ◌+◌, ◌<◌, ◌∷◌, [], false, drop, length, sym, ap, subst, ◌∙◌, arith}
+use Rattle.std.proofs.Common.{string_bytes, None}
 use Rattle.jt_inherit.specs.internal.ExtendsPaths.{IsAt}
 use Rattle.jt_inherit.specs.internal.Placing.{IsParent}
-use Rattle.jt_inherit.specs.declared.error.ChainError.TheVariants as error
 use Rattle.jt_inherit.proofs.Vocabulary.{length-map, slice_get_within, IsFaultOf, files_view, Text, among, templates_at}
-use Rattle.jt_inherit.proofs.Vocabulary.{HasRead, IsExtendsPath, names_view, is_no_library, IsCycle, IsNamedOn}
-use Rattle.jt_inherit.proofs.Vocabulary.{file_view}
-use Rattle.jt_inherit.proofs.PlacedErrors.{asked_turn, cycle_placed, extends_told, fault_placed, long_placed}
-use Rattle.jt_inherit.proofs.PlacedErrors.{refused_all, same_path, there_on}
+use Rattle.jt_inherit.proofs.Vocabulary.{HasRead, HasPath, IsExtendsPath, is_no_library, IsCycle, IsNamedOn, file_view}
+use Rattle.jt_inherit.proofs.Vocabulary.{names}
+use Rattle.jt_inherit.proofs.FindingsHold.{asked_turn, cycle_placed, extends_told, fault_placed, long_placed}
+use Rattle.jt_inherit.proofs.FindingsHold.{refused_all, same_path, there_on}
 use Rattle.jt_inherit.proofs.StoreLookup.{library_known, library_read}
 use Rattle.jt_inherit.proofs.NumberTables.{is_chain, is_library}
-use Rattle.jt_inherit.proofs.PathsGrow.{names, path_turn, way_step, grow_on, cycle_breaks, long_breaks, fault_breaks}
+use Rattle.jt_inherit.proofs.PathsGrow.{cycle_breaks, long_breaks, fault_breaks, file_there, path_turn, read_step}
+use Rattle.jt_inherit.proofs.PathsGrow.{way_step}
+use Rattle.jt_inherit.specs.declared.error.ChainError.TheVariants as error
 use Rattle.jt_inherit.proofs.extends_path.read_namespace.Goals as goal
 
 pub library_path-requires : goal.library_path-requires
@@ -17,16 +19,16 @@ library_path-requires g c = search (arith, rules, is_library, names, library_kno
 
 pub returns-then-namespace : goal.returns-then-namespace
 returns-then-namespace g c =
-    let ps = c.args.files.now.items in
-    let ks = c.args.names.now in
+    let ts = files_view c.args.store.now.files.items in
     let k = c.args.namespace.now in
     let key = is_library k c.if-namespace.true in
-    let at = subst (λ (n : Text). IsAt (names_view ks) n c.in_ok-library_path.field-0) c.deref.ensures
+    let at = subst (λ (n : Text). IsAt (names ts) n c.in_ok-library_path.field-0) c.deref.ensures
     c.in_ok-library_path.ensures in
-    subst (λ h. HasRead (g.L.Library.sources c.args.loader.now.library.now) c.args.loader.now.options ps ps ks ks h
+    subst (λ h. HasPath (g.L.Library.sources c.args.loader.now.library.now) c.args.loader.now.options ts ts h
     c.in_ok-library_path.field-0.items) (sym key)
-    (library_read ps ks c.requires.known (string_bytes k.name)
-    (sym (ap (is_no_library (files_view ps)) key) ∙ c.requires.library) at.0 at.1 at.2)
+    (library_read c.requires.known (string_bytes k.name) (sym (ap (is_no_library ts) key)
+    ∙ c.requires.library) at.0 at.1
+    at.2)
 
 pub cycle_finding-requires-clause-start : goal.cycle_finding-requires-clause-start
 cycle_finding-requires-clause-start g c = search (arith, rules)
@@ -34,18 +36,17 @@ cycle_finding-requires-clause-start g c = search (arith, rules)
 pub returns-in-Some : goal.returns-in-Some
 returns-in-Some g c =
     let l = c.path in
+    let ts = files_view l.store.files.items in
     let f = c.in_ok-cycle_finding.field-0 in
     let k = c.in-Some.start in
-    let on = same_path (λ ps is n. IsNamedOn (files_view ps) is n k) c.deref-in-path.ensures.value
-    c.deref-in-path-2.ensures.value c.deref-in-path-3.ensures c.in-Some.ensures in
-    let told = same_path (λ ps is n. IsCycle l.asked (names (templates_at (files_view ps) (drop (k + 1) is))) f)
-    c.deref-in-Some.ensures.value c.deref-in-Some-2.ensures.value c.deref-in-path-3.ensures
-    c.in_ok-cycle_finding.ensures in
-    refused_all (g.L.Library.sources c.args.loader.now.library.now) c.args.loader.now.options c.args.files.now.items
-    l.files.items l.invariant.grown c.args.namespace.now c.if-namespace.false error.ExtendsCycle f told.error
-    (λ root r. cycle_breaks l.invariant.known r l.invariant.led
-    (there_on (files_view l.files.items) l.extends_path.items k (string_bytes l.asked.name) on))
-    (λ root r. cycle_placed l.invariant.known r l.invariant.led on l.asked.place l.invariant.tagged f told.place
+    let on = same_path (λ is n. IsNamedOn ts is n k) c.deref-in-path.ensures.value c.deref-in-path-2.ensures
+    c.in-Some.ensures in
+    let told = same_path (λ is n. IsCycle l.asked (names (templates_at ts (drop (k + 1) is))) f)
+    c.deref-in-Some.ensures.value c.deref-in-path-2.ensures c.in_ok-cycle_finding.ensures in
+    refused_all l.invariant.read c.args.namespace.now c.if-namespace.false error.ExtendsCycle f told.error
+    (λ root r. cycle_breaks l.invariant.read.known r l.invariant.led
+    (there_on ts l.extends_path.items k (string_bytes l.asked.name) on))
+    (λ root r. cycle_placed l.invariant.read.known r l.invariant.led on l.asked.place l.invariant.tagged f told.place
     told.subject)
 
 pub returns-then-len-eq-MAX_TEMPLATES : goal.returns-then-len-eq-MAX_TEMPLATES
@@ -54,14 +55,12 @@ returns-then-len-eq-MAX_TEMPLATES g c =
     let f = c.long_finding.result in
     let told = c.long_finding.ensures in
     let full : length l.extends_path.items ≡ 64 = search (arith, rules) in
-    let new = same_path (λ ps is n. among n (names (templates_at (files_view ps) is)) ≡ false)
-    c.deref-in-path.ensures.value c.deref-in-path-2.ensures.value c.deref-in-path-3.ensures
-    c.in_default.ensures in
-    refused_all (g.L.Library.sources c.args.loader.now.library.now) c.args.loader.now.options c.args.files.now.items
-    l.files.items l.invariant.grown c.args.namespace.now c.if-namespace.false error.ChainTooLong f told.error
-    (λ root r. long_breaks l.invariant.known r l.invariant.led full new)
-    (λ root r. long_placed l.invariant.known r l.invariant.led full new l.asked.place l.invariant.tagged f told.place
-    told.subject)
+    let new = same_path (λ is n. among n (names (templates_at (files_view l.store.files.items) is)) ≡ false)
+    c.deref-in-path.ensures.value c.deref-in-path-2.ensures c.in_default.ensures in
+    refused_all l.invariant.read c.args.namespace.now c.if-namespace.false error.ChainTooLong f told.error
+    (λ root r. long_breaks l.invariant.read.known r l.invariant.led full new)
+    (λ root r. long_placed l.invariant.read.known r l.invariant.led full new l.asked.place l.invariant.tagged f
+    told.place told.subject)
 
 pub returns-in-Err : goal.returns-in-Err
 returns-in-Err g c =
@@ -69,13 +68,12 @@ returns-in-Err g c =
     let given = g.L.Library.sources c.args.loader.now.library.now in
     let e = c.in-Err.error in
     let f = c.name_finding.result in
-    let fault = subst (λ x. IsFaultOf e given x c.args.loader.now.options) c.deref-in-path-4.ensures
+    let fault = subst (λ x. IsFaultOf e given x c.args.loader.now.options) c.deref-in-path-3.ensures
     c.in-Err.ensures.refused in
     let told = c.name_finding.ensures in
-    refused_all given c.args.loader.now.options c.args.files.now.items l.files.items l.invariant.grown
-    c.args.namespace.now c.if-namespace.false e f told.0
-    (λ root r. fault_breaks l.invariant.known r l.invariant.led e fault)
-    (λ root r. fault_placed l.invariant.known r l.invariant.led e fault l.asked.place l.invariant.tagged f.place
+    refused_all l.invariant.read c.args.namespace.now c.if-namespace.false e f told.0
+    (λ root r. fault_breaks l.invariant.read.known r l.invariant.led e fault)
+    (λ root r. fault_placed l.invariant.read.known r l.invariant.led e fault l.asked.place l.invariant.tagged f.place
     f.subject told.1)
 
 pub index-requires : goal.index-requires
@@ -84,52 +82,44 @@ index-requires g c = search (arith, rules, slice_get_within, names, length-map)
 pub returns-in-None : goal.returns-in-None
 returns-in-None g c =
     let l = c.path in
-    let indexed = c.in-Ok.ensures in
-    let qs = c.read_index.new.files.items in
-    let new = same_path (λ ps is n. among n (names (templates_at (files_view ps) is)) ≡ false)
-    c.deref-in-path.ensures.value c.deref-in-path-2.ensures.value c.deref-in-path-3.ensures
-    c.in_default.ensures in
+    let us = files_view c.read.new.self.files.items in
+    let at = file_there c.read.new.self.files.items c.in-Ok.index c.in-Ok.ensures.index c.index.ensures in
+    let r = subst (λ n. HasRead (g.L.Library.sources c.args.loader.now.library.now) c.args.loader.now.options
+    (files_view l.store.files.items) us (n ∷ [])) c.deref-in-path-3.ensures c.in-Ok.ensures.read in
+    let named = at.1 ∙ c.deref-in-path-3.ensures in
+    let new = same_path (λ is n. among n (names (templates_at (files_view l.store.files.items) is)) ≡ false)
+    c.deref-in-path.ensures.value c.deref-in-path-2.ensures c.in_default.ensures in
     let few : length l.extends_path.items < 64 = search (arith, rules) in
     let root = subst (IsParent (file_view c.index.result.now)) c.in-None.is c.in_ok-parent.ensures in
-    let step = way_step l.files.items qs indexed.grown l.extends_path.items c.in-Ok.index indexed.index
-    c.deref-in-path-4.ensures c.in_ok-push.ensures.items c.index.ensures
-    l.invariant.led new few
-    indexed.known.read.once (sym root) c.args.names.now l.names c.read_index.new.names l.invariant.from
-    indexed.from in
     record {
-      known = indexed.known;
-      grown = grow_on c.args.files.now.items l.files.items qs l.invariant.grown indexed.grown;
-      from = step.1;
-      extends_path =
-          subst (λ h. IsExtendsPath (files_view qs) h c.push.new.self.items None)
-          (sym (is_chain c.args.namespace.now c.if-namespace.false)) step.0;
+      read = read_step l.invariant.read r l.invariant.led c.in-Ok.index at.0 named c.in_ok-push.ensures.items;
+      led =
+          subst (λ h. IsExtendsPath us h c.push.new.self.items None)
+          (sym (is_chain c.args.namespace.now c.if-namespace.false))
+          (way_step l.invariant.read r l.invariant.led c.in-Ok.index at.0 named c.in_ok-push.ensures.items new few
+          (sym root));
     }
 
 pub path-preserved : goal.path-preserved
 path-preserved g c =
     let l = c.path in
-    let indexed = c.in-Ok.ensures in
-    let qs = c.read_index.new.files.items in
-    let new = same_path (λ ps is n. among n (names (templates_at (files_view ps) is)) ≡ false)
-    c.deref-in-path.ensures.value c.deref-in-path-2.ensures.value c.deref-in-path-3.ensures
-    c.in_default.ensures in
+    let us = files_view c.read.new.self.files.items in
+    let at = file_there c.read.new.self.files.items c.in-Ok.index c.in-Ok.ensures.index c.index.ensures in
+    let r = subst (λ n. HasRead (g.L.Library.sources c.args.loader.now.library.now) c.args.loader.now.options
+    (files_view l.store.files.items) us (n ∷ [])) c.deref-in-path-3.ensures c.in-Ok.ensures.read in
+    let named = at.1 ∙ c.deref-in-path-3.ensures in
+    let new = same_path (λ is n. among n (names (templates_at (files_view l.store.files.items) is)) ≡ false)
+    c.deref-in-path.ensures.value c.deref-in-path-2.ensures c.in_default.ensures in
     let few : length l.extends_path.items < 64 = search (arith, rules) in
+    let p = c.in-Some-2.parent in
     let parent = subst (IsParent (file_view c.index.result.now)) c.in-Some-2.is c.in_ok-parent.ensures in
-    let turn = path_turn l.files.items qs indexed.grown l.extends_path.items c.in-Ok.index indexed.index
-    c.deref-in-path-4.ensures c.in_ok-push.ensures.items c.index.ensures in
-    let tagged = asked_turn (templates_at (files_view qs) c.push.new.self.items)
-    (templates_at (files_view qs) l.extends_path.items) (file_view c.index.result.now)
-    (string_bytes c.in-Some-2.parent.name) c.in-Some-2.parent.place turn parent in
-    let step = way_step l.files.items qs indexed.grown l.extends_path.items c.in-Ok.index indexed.index
-    c.deref-in-path-4.ensures c.in_ok-push.ensures.items c.index.ensures
-    l.invariant.led new few
-    indexed.known.read.once (sym (extends_told (file_view c.index.result.now) (string_bytes c.in-Some-2.parent.name)
-    c.in-Some-2.parent.place parent)) c.args.names.now l.names c.read_index.new.names l.invariant.from
-    indexed.from in
     record {
-      known = indexed.known;
-      grown = grow_on c.args.files.now.items l.files.items qs l.invariant.grown indexed.grown;
-      from = step.1;
-      led = step.0;
-      tagged = tagged;
+      read = read_step l.invariant.read r l.invariant.led c.in-Ok.index at.0 named c.in_ok-push.ensures.items;
+      led =
+          way_step l.invariant.read r l.invariant.led c.in-Ok.index at.0 named c.in_ok-push.ensures.items new few
+          (sym (extends_told (file_view c.index.result.now) (string_bytes p.name) p.place parent));
+      tagged =
+          asked_turn (templates_at us c.push.new.self.items) _ (file_view c.index.result.now) (string_bytes p.name)
+          p.place (path_turn l.invariant.read r l.invariant.led c.in-Ok.index at.0 named c.in_ok-push.ensures.items)
+          parent;
     }

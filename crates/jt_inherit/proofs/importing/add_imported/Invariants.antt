@@ -5,5 +5,5 @@ use Rattle.jt_inherit.proofs.importing.add_imported.Given as goal
 abbrev pub invariant-loop-statement : goal.invariant-loop-statement
 invariant-loop-statement l =
     texts l.given.items
-    ++ imported_names (sources_in (files_view l.store.files.now)) (body_view (drop l.statement-index l.body))
-    ≡ texts l.initial.given.items ++ imported_names (sources_in (files_view l.store.files.now)) (body_view l.body)
+    ++ imported_names (sources_in (files_view l.store.files.items)) (body_view (drop l.statement-index l.body))
+    ≡ texts l.initial.given.items ++ imported_names (sources_in (files_view l.store.files.items)) (body_view l.body)

@@ -5,5 +5,5 @@ use Rattle.jt_inherit.proofs.importing.missing_from.Given as goal
 
 abbrev pub invariant-loop-name : goal.invariant-loop-name
 invariant-loop-name l =
-    lacks_one (sources_in (files_view l.store.files.now)) l.library (given_view l.macros)
-    ≡ lacks_one (sources_in (files_view l.store.files.now)) l.library (given_view (drop l.name-index l.macros))
+    lacks_one (sources_in (files_view l.store.files.items)) l.library (given_view l.macros)
+    ≡ lacks_one (sources_in (files_view l.store.files.items)) l.library (given_view (drop l.name-index l.macros))

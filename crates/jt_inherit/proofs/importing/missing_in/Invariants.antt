@@ -4,5 +4,5 @@ use Rattle.jt_inherit.proofs.importing.missing_in.Given as goal
 
 abbrev pub invariant-loop-statement : goal.invariant-loop-statement
 invariant-loop-statement l =
-    lacks_macros (sources_in (files_view l.store.files.now)) (body_view l.body)
-    ≡ lacks_macros (sources_in (files_view l.store.files.now)) (body_view (drop l.statement-index l.body))
+    lacks_macros (sources_in (files_view l.store.files.items)) (body_view l.body)
+    ≡ lacks_macros (sources_in (files_view l.store.files.items)) (body_view (drop l.statement-index l.body))

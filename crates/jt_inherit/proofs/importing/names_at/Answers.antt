@@ -1,4 +1,4 @@
-use Rattle.std.proofs.Common.{◌++◌, List, ℕ, get_or, sym, ap, ◌∙◌}
+use Rattle.std.proofs.Common.{◌++◌, List, ℕ, get_or, sym, ◌∙◌}
 use Rattle.std.proofs.lemmas.List.{at_drop_all}
 use Rattle.jt_inherit.proofs.Vocabulary.{append-nil, body_view, along, templates_at, sources_in, files_view}
 use Rattle.jt_inherit.proofs.Vocabulary.{imported_names, texts, along_turn, file_at, index_within}
@@ -8,7 +8,7 @@ use Rattle.jt_inherit.proofs.importing.names_at.Goals as goal
 
 pub loop-index-preserved : goal.loop-index-preserved
 loop-index-preserved c =
-    let ps = c.args.store.files.now in
+    let ps = c.args.store.now.files.items in
     let s = sources_in (files_view ps) in
     let is = c.args.indices.now in
     let k = c.loop-index.index-index in
@@ -17,13 +17,13 @@ loop-index-preserved c =
     along_turn (λ n b. imported_names s b) (files_view ps) is k (body_view c.body.result.now)
     (texts c.loop-index.given.items) (texts c.add_imported.new.given.items)
     c.loop-index-test.true (c.body.ensures
-    ∙ sym (file_at ps i (get_or ps i c.index-store-index.result) lt (ap (λ d. get_or ps i d) c.index-store-index.is)))
+    ∙ sym (file_at ps i c.index.result.now lt c.index.ensures))
     c.in_ok-add_imported.ensures
     ∙ c.loop-index.invariant
 
 pub returns : goal.returns
 returns c =
-    let ts = files_view c.args.store.files.now in
+    let ts = files_view c.args.store.now.files.items in
     let s = sources_in ts in
     let is = c.args.indices.now in
     let found = texts c.loop-index.given.items in

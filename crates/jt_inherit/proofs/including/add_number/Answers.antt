@@ -1,45 +1,44 @@
-use Rattle.std.proofs.Common.{◌≡◌, ◌∷◌, [], Bool, true, false, if◌then◌else◌, string_bytes, sym, subst}
-use Rattle.jt_inherit.proofs.Vocabulary.{err_from_is_err_and, AreNext, IsNextFault, a_chain, a_library, Need}
-use Rattle.jt_inherit.proofs.Vocabulary.{need_namespace, need_view, key_view, NamespaceKey, names_view, namespaces_view}
-use Rattle.jt_inherit.proofs.Vocabulary.{of_texts, indexed_among}
-use Rattle.jt_inherit.proofs.FollowStep.{one_known}
+use Rattle.std.proofs.Common.{◌≡◌, ◌∷◌, [], Some, string_bytes, ap, sym, subst, ◌∙◌}
+use Rattle.jt_inherit.specs.internal.SetView.{keyed}
+use Rattle.jt_inherit.proofs.Vocabulary.{err_from_is_err_and, AreNext, IsNextFault, key_view, NamespaceKey, Text}
+use Rattle.jt_inherit.proofs.Vocabulary.{keyed_view, names, files_view, namespaces_view, of_texts, indexed_among}
+use Rattle.jt_inherit.proofs.DiscoveryInvariant.{one_known}
 use Rattle.jt_inherit.proofs.including.add_number.Goals as goal
 
--- The key of a needed template has its name.
-key_named : (k : NamespaceKey) (n : Need) → key_view k ≡ need_namespace n → string_bytes k.name ≡ n.name
-key_named k n e = by k.is_library n.library e
-  where
-    by : (b d : Bool) → (if b then a_library (string_bytes k.name) else a_chain (string_bytes k.name))
-        ≡ (if d then a_library n.name else a_chain n.name)
-        → string_bytes k.name ≡ n.name
-    by true true q = cc
-    by true false q = absurd (cc)
-    by false true q = absurd (cc)
-    by false false q = cc
+same_key : (k m : NamespaceKey) → string_bytes k.name ≡ string_bytes m.name → k.is_library ≡ m.is_library
+    → key_view k ≡ key_view m
+same_key k m e f = ap (keyed k.is_library) e ∙ ap (λ b. keyed b (string_bytes m.name)) f
 
 pub returns-in_err-number-clause-refused : goal.returns-in_err-number-clause-refused
 returns-in_err-number-clause-refused c =
-    let ks = names_view c.args.names.now in
-    let n = need_view c.args.include in
+    let ks = names (files_view c.args.store.now.files.items) in
+    let old = namespaces_view c.args.namespaces.now in
+    let n = keyed_view c.args.need.now in
+    let k = c.in_ok-namespace.namespace in
     let e = c.in_err-number.field-0.0 in
+    let same = c.in_ok-namespace.ensures in
     let p = err_from_is_err_and c.from_residual-in_err-number.result c.from_residual-in_err-number.ensures.1 in
     rw (p.1, p.2)
-    (subst (λ l. IsNextFault (namespaces_view c.args.namespaces.now) l n.name e)
-    (sym (one_known ks n (indexed_among of_texts ks c.in-Some._index n.name c.in-Some.ensures)))
-    (subst (λ h. IsNextFault (namespaces_view c.args.namespaces.now) (h ∷ []) n.name e) c.in_ok-namespace.ensures
-    (subst (λ x. IsNextFault (namespaces_view c.args.namespaces.now) (key_view c.in_ok-namespace.namespace ∷ []) x e)
-    (key_named c.in_ok-namespace.namespace n c.in_ok-namespace.ensures) c.in_err-number.ensures.refused)))
+    (subst (λ l. IsNextFault old l n.name e) (sym (one_known ks n
+    (indexed_among of_texts ks c.in-Some._index n.name (c.in-Some.ensures ∙ ap (λ
+    (x : Text). Some x) c.deref.ensures))))
+    (subst (λ h. IsNextFault old (h ∷ []) n.name e) (same_key k c.args.need.now.namespace same.name same.kind)
+    (subst (λ x. IsNextFault old (key_view k ∷ []) x e) same.name c.in_err-number.ensures.refused)))
 
 pub returns-clause-next : goal.returns-clause-next
 returns-clause-next c =
-    let ks = names_view c.args.names.now in
-    let n = need_view c.args.include in
+    let ks = names (files_view c.args.store.now.files.items) in
     let old = namespaces_view c.args.namespaces.now in
     let new = namespaces_view c.number_of.new.namespaces in
-    let i = c.in_ok-number.number in (
+    let n = keyed_view c.args.need.now in
+    let i = c.in_ok-number.number in
+    let same = c.in_ok-namespace.ensures in (
       i ∷ [],
       c.in_ok-push.ensures.items,
-      subst (λ l. AreNext old new l (i ∷ []))
-          (sym (one_known ks n (indexed_among of_texts ks c.in-Some._index n.name c.in-Some.ensures)))
-          (subst (λ h. AreNext old new (h ∷ []) (i ∷ [])) c.in_ok-namespace.ensures c.in_ok-number.ensures.next),
+      subst (λ l. AreNext old new l (i ∷ [])) (sym (one_known ks n
+          (indexed_among of_texts ks c.in-Some._index n.name
+          (c.in-Some.ensures ∙ ap (λ (x : Text). Some x) c.deref.ensures))))
+          (subst (λ h. AreNext old new (h ∷ []) (i ∷ []))
+          (same_key c.in_ok-namespace.namespace c.args.need.now.namespace same.name same.kind)
+          c.in_ok-number.ensures.next),
     )

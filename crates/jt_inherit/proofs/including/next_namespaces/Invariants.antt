@@ -1,8 +1,8 @@
 use Rattle.std.proofs.Common.{take}
-use Rattle.jt_inherit.proofs.Vocabulary.{AreNext, chosen, needs_view, names_view, namespaces_view}
+use Rattle.jt_inherit.proofs.Vocabulary.{AreNext, chosen, files_view, keyed_needs, names, namespaces_view}
 use Rattle.jt_inherit.proofs.including.next_namespaces.Given as goal
 
-abbrev pub invariant-loop-include : goal.invariant-loop-include
-invariant-loop-include l =
+abbrev pub invariant-loop-need : goal.invariant-loop-need
+invariant-loop-need l =
     AreNext (namespaces_view l.initial.namespaces) (namespaces_view l.namespaces)
-    (chosen (names_view l.names) (needs_view (take l.include-index l.include-items))) l.numbers.items
+    (chosen (names (files_view l.store.files.items)) (keyed_needs (take l.need-index l.need-items))) l.numbers.items

@@ -1,6 +1,6 @@
 use Rattle.std.proofs.Common.{arith, string_bytes}
 use Rattle.jt_inherit.proofs.Vocabulary.{length-map, err_from_is_err_and, key_view, namespaces_view}
-use Rattle.jt_inherit.proofs.FollowStep.{next_there, next_new, put_fault}
+use Rattle.jt_inherit.proofs.DiscoveryInvariant.{next_there, next_new, put_fault}
 use Rattle.jt_inherit.proofs.including.number_of.Goals as goal
 
 pub returns-in-Some-clause-next : goal.returns-in-Some-clause-next

@@ -1,38 +1,32 @@
-use Rattle.std.proofs.Common.{◌≡◌, [], List, refl, sym, ap, subst, ◌∙◌, Option, Bool}
+use Rattle.std.proofs.Common.{ℕ, ◌≡◌, [], List, refl, sym, ap, subst, ◌∙◌, Option, Bool}
 use Rattle.jt_inherit.proofs.Vocabulary.{IfOk, option_map, unwrap_or, next_of, graph_of, AreIndices, templates_at}
-use Rattle.jt_inherit.proofs.Vocabulary.{Namespace, Template, a_chain, namespace_at, files_view, TemplateFile, Use}
-use Rattle.jt_inherit.proofs.Vocabulary.{all_uses, leads_to, found_namespaces, found_templates, place_in, place_view}
-use Rattle.jt_inherit.proofs.Vocabulary.{tags, test_of}
+use Rattle.jt_inherit.proofs.Vocabulary.{Namespace, a_chain, namespace_at, Use, all_uses, leads_to, found_namespaces}
+use Rattle.jt_inherit.proofs.Vocabulary.{found_templates, place_in, place_view, tags, test_of}
 use Rattle.jt_inherit.proofs.ChainComplete.{at_number, way_at}
 use Rattle.jt_inherit.proofs.leading.leading_tag.Goals as goal
 
 pub first_at-requires : goal.first_at-requires
 first_at-requires c =
     let f = c.args.found.now in
-    let is = c.deref-2.result.now in
+    let is = c.deref.result.now in
     let here = way_at f.extends_paths.items f.extends_paths.items c.args.from c.index.result.now is refl
-    c.requires.from c.index.ensures c.deref-2.ensures.value in
-    subst (λ (z : List TemplateFile). AreIndices (files_view z) is) (sym c.deref.ensures.value)
-    (subst (AreIndices (found_templates f)) here.1
-    (at_number (AreIndices (found_templates f)) (graph_of f.extends_paths.items) c.args.from here.0 c.requires.indices))
+    c.requires.from c.index.ensures c.deref.ensures.value in
+    subst (AreIndices (found_templates f)) here.1
+    (at_number (AreIndices (found_templates f)) (graph_of f.extends_paths.items) c.args.from here.0 c.requires.indices)
 
 pub returns : goal.returns
 returns c =
     let f = c.args.found.now in
-    let is = c.deref-2.result.now in
+    let is = c.deref.result.now in
     let ways = graph_of f.extends_paths.items in
     let here = way_at f.extends_paths.items f.extends_paths.items c.args.from c.index.result.now is refl
-    c.requires.from c.index.ensures c.deref-2.ensures.value in
+    c.requires.from c.index.ensures c.deref.ensures.value in
     let test = test_of c.wanted_for-wanted.result in
     let wanted : test ≡ leads_to (namespace_at (found_namespaces f) c.args.to) =
     c.wanted_for-wanted.ensures
     ∙ ap leads_to (sym (ap (λ (o : Option Namespace). unwrap_or o (a_chain [])) c.get.ensures)) in
-    let theirs : templates_at (files_view c.deref.result.now) is ≡ templates_at (found_templates f) (next_of ways
-    c.args.from) =
-    ap (λ (z : List TemplateFile). templates_at (files_view z) is) c.deref.ensures.value
-    ∙ ap (templates_at (found_templates f)) (sym here.1) in
     let r = c.first_at.result in
     subst (λ (t : Use → Bool). IfOk r (λ p. option_map place_view p
     ≡ place_in 0 (tags t (all_uses (templates_at (found_templates f) (next_of ways c.args.from)))))) wanted
-    (subst (λ (l : List Template). IfOk r (λ p. option_map place_view p ≡ place_in 0 (tags test (all_uses l)))) theirs
-    c.first_at.ensures)
+    (subst (λ (l : List ℕ). IfOk r (λ p. option_map place_view p
+    ≡ place_in 0 (tags test (all_uses (templates_at (found_templates f) l))))) (sym here.1) c.first_at.ensures)

@@ -1,11 +1,11 @@
 use Rattle.std.proofs.Common.{rules, ◌≡◌, ◌≤◌, None, length, ap, subst, arith, IsUtf8}
 use Rattle.std.proofs.lemmas.Str.{IsUtf8-string_bytes}
 use Rattle.jt_scan.specs.Cut.{weight_of}
-use Rattle.jt_parse.specs.declared.error.ParseError.TheVariants as parse_error
 use Rattle.jt_inherit.proofs.Vocabulary.{Held, max_source_len, cut_of, bytes_of, Spelled, pieces, IsRefusal}
 use Rattle.jt_inherit.proofs.Vocabulary.{body_unknown, Body, body_levels, body_of, reads_of}
 use Rattle.jt_inherit.proofs.SourceErrors.{limited, tree_found, only_tree, no_tree, unspelled}
 use Rattle.jt_inherit.proofs.TreeLengths.{taken, few_chars, few_bytes, cut_short}
+use Rattle.jt_parse.specs.declared.error.ParseError.TheVariants as parse_error
 use Rattle.jt_inherit.proofs.reading.template_of.Goals as goal
 
 pub returns-in-Ok-parse-clause-weighs : goal.returns-in-Ok-parse-clause-weighs

@@ -1,9 +1,9 @@
 use Rattle.std.proofs.Common.{◌∙◌, sym, ap, arith}
 use Rattle.std.proofs.lemmas.Grind.{common_steps}
 use Rattle.jt_ast.specs.ExpressionView.{expr_view}
-use Rattle.jt_chains.specs.Supers as spec
 use Rattle.jt_ast.proofs.ExpressionViews.{view_Map, view_Call, view_Filter, view_Test}
 use Rattle.jt_inherit.proofs.Vocabulary.{pairs_view}
+use Rattle.jt_chains.specs.Supers as spec
 use Rattle.jt_inherit.proofs.supers.+expressions.Goals as goal
 
 pub has_super-returns-in-Map : goal.has_super-returns-in-Map

@@ -5,5 +5,5 @@ use Rattle.jt_inherit.proofs.tags.tags_at.Given as goal
 abbrev pub invariant-loop-index : goal.invariant-loop-index
 invariant-loop-index l =
     tags_view l.found.items
-    ++ tags (test_of l.wanted) (all_uses (templates_at (files_view l.files) (drop l.index-index l.indices)))
-    ≡ tags (test_of l.wanted) (all_uses (templates_at (files_view l.files) l.indices))
+    ++ tags (test_of l.wanted) (all_uses (templates_at (files_view l.store.files.items) (drop l.index-index l.indices)))
+    ≡ tags (test_of l.wanted) (all_uses (templates_at (files_view l.store.files.items) l.indices))

@@ -1,6 +1,6 @@
 use Rattle.std.proofs.lemmas.Grind.{common_steps}
 use Rattle.jt_layout.proofs.Vocabulary.{arith, rules}
-use Rattle.jt_layout.proofs.BodyIndices.{given_turn, required_turn, nexts_turn}
+use Rattle.jt_layout.proofs.FirstOccurrences.{given_turn, nexts_turn, required_turn}
 use Rattle.jt_layout.proofs.bodies.next_bodies.Goals as goal
 
 pub loop-left-preserved-then-block : goal.loop-left-preserved-then-block

@@ -1,5 +1,5 @@
-use Rattle.jt_layout.proofs.Vocabulary.{◌≡◌, ◌≤◌, List, length, map, drop, filter, bytes_eq, Text, Template, block_view}
-use Rattle.jt_layout.proofs.Vocabulary.{counted_from, next_given, value_in, nexts}
+use Rattle.jt_layout.proofs.Vocabulary.{List, drop, length, map, ◌≡◌, ◌≤◌, filter, bytes_eq, Text, Template, block_view}
+use Rattle.jt_layout.proofs.Vocabulary.{value_in, counted_from, next_given, nexts}
 use Rattle.jt_layout.proofs.bodies.next_bodies.Given as goal
 
 abbrev pub invariant-loop-left : goal.invariant-loop-left

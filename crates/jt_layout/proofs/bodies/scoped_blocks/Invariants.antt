@@ -1,4 +1,4 @@
-use Rattle.jt_layout.proofs.Vocabulary.{◌≡◌, ◌&&◌, ◌||◌, List, map, drop, list_any, is_some, bytes_eq, Text, Template}
+use Rattle.jt_layout.proofs.Vocabulary.{List, drop, map, ◌&&◌, ◌||◌, ◌≡◌, list_any, is_some, bytes_eq, Text, Template}
 use Rattle.jt_layout.proofs.Vocabulary.{block_view, value_in}
 use Rattle.jt_layout.proofs.bodies.scoped_blocks.Given as goal
 

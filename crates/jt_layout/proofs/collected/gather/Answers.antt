@@ -1,4 +1,4 @@
-use Rattle.jt_layout.proofs.Vocabulary.{arith, string_bytes, rules, length-map, name_of_namespace}
+use Rattle.jt_layout.proofs.Vocabulary.{arith, rules, string_bytes, length-map, name_of_namespace}
 use Rattle.jt_layout.proofs.NamesInOrder.{names_turn, names_kept}
 use Rattle.jt_layout.proofs.collected.gather.Goals as goal
 

@@ -1,11 +1,9 @@
 use Rattle.jt_names.proofs.EachItem.{each_more}
-use Rattle.jt_layout.proofs.Vocabulary.{◌≡◌, ℕ, ◌+◌, ◌<◌, ◌≤◌, [], ◌∷◌, length, get_or, sym, ap, subst, ◌∙◌, arith}
-use Rattle.jt_layout.proofs.Vocabulary.{length-append, List, drop, string_bytes, rules, flat_map, at_drop_all}
-use Rattle.jt_layout.proofs.Vocabulary.{length-map, a_chain, listed, same_namespace, namespace_view, chain_view}
-use Rattle.jt_layout.proofs.Vocabulary.{namespace_in, its_cenv, its_order, IsLaid, names_at, NamespaceLayout}
-use Rattle.jt_layout.proofs.Vocabulary.{name_of_namespace}
-use Rattle.jt_layout.proofs.OffsetSteps.{first_front}
-use Rattle.jt_layout.proofs.LayoutCorrect.{listed_left, left_turn, names_handed}
+use Rattle.jt_layout.proofs.Vocabulary.{[], ap, arith, drop, length, length-append, rules, string_bytes, subst, sym}
+use Rattle.jt_layout.proofs.Vocabulary.{◌+◌, ◌<◌, ◌∙◌, ◌∷◌, at_drop_all, length-map, flat_map, name_of_namespace}
+use Rattle.jt_layout.proofs.Vocabulary.{a_chain, listed, same_namespace, namespace_view, namespace_in, AreLaid}
+use Rattle.jt_layout.proofs.Vocabulary.{IsLaidAt, names_at, its_cenv, its_order}
+use Rattle.jt_layout.proofs.LayoutCorrect.{left_turn, listed_left, names_handed}
 use Rattle.jt_semantics.specs.Layout as layout
 use Rattle.jt_layout.proofs.layout.lay_chains.Goals as goal
 
@@ -16,8 +14,7 @@ lay_chain-requires c =
     let lt : l.namespace < length a.namespaces.items =
     omega (arith, c.loop-namespace-test.true, c.len-namespace-end.ensures, a.namespaces.ok.0) in
     let k = c.index.result.now in
-    let is : namespace_in a l.namespace ≡ namespace_view k =
-    name_of_namespace a.namespaces.items l.namespace k lt c.index.ensures in
+    let is = name_of_namespace a.namespaces.items l.namespace k lt c.index.ensures in
     record {
       known = c.requires.known;
       stands = lt;
@@ -30,24 +27,16 @@ lay_chain-requires c =
     }
 
 pub loop-namespace-init : goal.loop-namespace-init
-loop-namespace-init c = search (arith, rules, first_front)
+loop-namespace-init c = search (arith, rules)
 
 pub loop-namespace-preserved : goal.loop-namespace-preserved
 loop-namespace-preserved c =
     let a = c.args.facts.now.chain.now in
     let l = c.loop-namespace in
-    let W = its_cenv a in
-    let O = its_order a in
     let lt : l.namespace < length a.namespaces.items =
     omega (arith, c.loop-namespace-test.true, c.len-namespace-end.ensures, a.namespaces.ok.0) in
-    let k = c.index.result.now in
-    let is : namespace_in a l.namespace ≡ namespace_view k =
-    name_of_namespace a.namespaces.items l.namespace k lt c.index.ensures in
-    let grown = c.in_ok-push.ensures.items in
-    let P : ℕ → NamespaceLayout → Type 0 = (λ i t. IsLaid W O (chain_view a).templates (namespace_in a i) t) in
-    let last : P (length l.namespaces.items) c.in_ok-indexed.indexed.namespace_layout = subst
-    (λ i. P i c.in_ok-indexed.indexed.namespace_layout) (sym l.invariant.all) c.in_ok-indexed.ensures.namespace_layout
-    in
+    let is = name_of_namespace a.namespaces.items l.namespace c.index.result.now lt c.index.ensures in
+    let laid = c.in_ok-indexed.indexed.namespace_layout in
     record {
       stands = c.in_ok-indexed.ensures.behind;
       left = λ x u.
@@ -55,25 +44,26 @@ loop-namespace-preserved c =
           c.take-names.ensures.others x (ap (λ h. same_namespace h (a_chain x)) (sym is) ∙ other.0)
           ∙ l.invariant.left x other.1;
       all =
-          ap length grown ∙ length-append l.namespaces.items (c.in_ok-indexed.indexed.namespace_layout ∷ [])
+          ap length c.in_ok-push.ensures.items ∙ length-append l.namespaces.items (laid ∷ [])
           ∙ ap (λ n. n + 1) l.invariant.all;
       each =
-          subst
-          (λ (ts : List NamespaceLayout). (i : ℕ) (t : NamespaceLayout) → i < length ts → t ≡ get_or ts i t → P i t)
-          (sym grown) (each_more P l.namespaces.items c.in_ok-indexed.indexed.namespace_layout l.invariant.each last);
+          subst (AreLaid a) (sym c.in_ok-push.ensures.items)
+          (each_more (IsLaidAt a) l.namespaces.items laid l.invariant.each
+          (subst (λ i. IsLaidAt a i laid) (sym l.invariant.all) c.in_ok-indexed.ensures.namespace_layout));
     }
 
 pub returns-clause-units : goal.returns-clause-units
 returns-clause-units c =
     let a = c.args.facts.now.chain.now in
     let l = c.loop-namespace in
-    let W = its_cenv a in
-    let le : length (its_order a) ≤ l.namespace = omega (
+    omega (
       arith,
-      c.loop-namespace-test.false,
-      c.len-namespace-end.ensures,
-      a.namespaces.ok.0,
-      length-map a.namespaces.items namespace_view,
-    ) in
-    let none = at_drop_all (λ hs. length (flat_map (layout.chain_keys W) hs)) (its_order a) l.namespace le in
-    omega (arith, l.invariant.stands.all, none)
+      l.invariant.stands.all,
+      at_drop_all (λ hs. length (flat_map (layout.chain_keys (its_cenv a)) hs)) (its_order a) l.namespace (omega (
+        arith,
+        c.loop-namespace-test.false,
+        c.len-namespace-end.ensures,
+        a.namespaces.ok.0,
+        length-map a.namespaces.items namespace_view,
+      )),
+    )

@@ -2,8 +2,5 @@ use Rattle.jt_layout.proofs.Vocabulary.{arith, length-map}
 use Rattle.jt_layout.proofs.FirstOccurrences.{is_namespace}
 use Rattle.jt_layout.proofs.layout.lay_out.Goals as goal
 
-pub lay_chains-requires-clause-named : goal.lay_chains-requires-clause-named
-lay_chains-requires-clause-named c = λ x. c.in_ok-collected.ensures x
-
 pub returns-clause-namespace_layout : goal.returns-clause-namespace_layout
 returns-clause-namespace_layout c = grind (arith, length-map, is_namespace)

@@ -1,4 +1,4 @@
-use Rattle.jt_layout.proofs.Vocabulary.{◌≡◌, ◌+◌, ◌++◌, List, length, map, drop, Template, macro_view, defaults_of}
+use Rattle.jt_layout.proofs.Vocabulary.{List, drop, length, map, ◌++◌, ◌+◌, ◌≡◌, Template, macro_view, defaults_of}
 use Rattle.jt_layout.proofs.Vocabulary.{defaults_from}
 use Rattle.jt_layout.proofs.macros.default_indices.Given as goal
 

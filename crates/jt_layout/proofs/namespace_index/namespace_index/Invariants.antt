@@ -1,5 +1,5 @@
-use Rattle.jt_layout.proofs.Vocabulary.{◌≡◌, ◌≤◌, length, map, drop, Text, namespace_view, value_in, namespace_named}
-use Rattle.jt_layout.proofs.Vocabulary.{first_namespace}
+use Rattle.jt_layout.proofs.Vocabulary.{drop, length, map, ◌≡◌, ◌≤◌, Text, namespace_view, value_in, first_namespace}
+use Rattle.jt_layout.proofs.Vocabulary.{namespace_named}
 use Rattle.jt_layout.proofs.namespace_index.namespace_index.Given as goal
 
 abbrev pub invariant-loop-left : goal.invariant-loop-left

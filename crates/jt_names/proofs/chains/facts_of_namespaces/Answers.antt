@@ -1,8 +1,7 @@
 use Rattle.std.proofs.Common.{length-append}
 use Rattle.jt_names.specs.FactsOfChains.{IsKnown}
 use Rattle.jt_names.specs.declared.facts.NamespaceFacts.{NamespaceFacts}
-use Rattle.jt_names.proofs.Vocabulary.{◌+◌, ℕ, List, [], ◌∷◌, length, sym, ap, subst, ◌∙◌, EachKnown}
-use Rattle.jt_names.proofs.EachItem.{each_more}
+use Rattle.jt_names.proofs.{◌+◌, ℕ, List, [], ◌∷◌, length, sym, ap, subst, ◌∙◌, EachKnown, each_more}
 use Rattle.jt_names.proofs.chains.facts_of_namespaces.Goals as goal
 
 pub loop-namespace-preserved : goal.loop-namespace-preserved

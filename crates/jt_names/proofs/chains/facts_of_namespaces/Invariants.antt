@@ -1,4 +1,4 @@
-use Rattle.jt_names.proofs.Vocabulary.{◌≡◌, length, EachKnown}
+use Rattle.jt_names.proofs.{◌≡◌, length, EachKnown}
 use Rattle.jt_names.proofs.chains.facts_of_namespaces.Given as goal
 
 abbrev pub invariant-loop-namespace : goal.invariant-loop-namespace

@@ -1,5 +1,5 @@
-use Rattle.jt_names.proofs.Vocabulary.{◌≡◌, ◌≤◌, List, length, drop, option_map, Text, Template, Namespace, given_to}
-use Rattle.jt_names.proofs.Vocabulary.{given_view, names_view, value_in}
+use Rattle.jt_names.proofs.{◌≡◌, ◌≤◌, List, length, drop, option_map, Text, Template, Namespace, given_to, given_view}
+use Rattle.jt_names.proofs.{names_view, value_in}
 use Rattle.jt_names.proofs.index.definitions_of.Given as goal
 
 abbrev pub invariant-loop-left : goal.invariant-loop-left

@@ -1,5 +1,5 @@
 use Rattle.jt_names.specs.Names.{AreIndices}
-use Rattle.jt_names.proofs.Vocabulary.{◌≤◌, List, length, map, drop, Template, blocks_view}
+use Rattle.jt_names.proofs.{◌≤◌, List, length, map, drop, Template, blocks_view}
 use Rattle.jt_names.proofs.index.first_bodies.Given as goal
 
 abbrev pub invariant-loop-left : goal.invariant-loop-left

@@ -1,5 +1,4 @@
-use Rattle.jt_names.proofs.Vocabulary.{ap, ◌∙◌, texts}
-use Rattle.jt_names.proofs.SortedNames.{key_inserted}
+use Rattle.jt_names.proofs.{ap, ◌∙◌, texts, key_inserted}
 use Rattle.jt_names.proofs.ordered.add_name.Goals as goal
 
 pub returns : goal.returns

@@ -1,4 +1,4 @@
-use Rattle.jt_names.proofs.Vocabulary.{◌≡◌, drop, all_inserted, texts}
+use Rattle.jt_names.proofs.{◌≡◌, drop, all_inserted, texts}
 use Rattle.jt_names.proofs.ordered.add_names.Given as goal
 
 abbrev pub invariant-loop-name : goal.invariant-loop-name

@@ -1,8 +1,8 @@
 use Rattle.std.proofs.lemmas.List.{at_drop_all}
 use Rattle.jt_ast.proofs.RemainingParts.{Branch}
 use Rattle.jt_ast.proofs.CollectedLists.{branch_added, choice_added, statement_added}
-use Rattle.jt_names.proofs.Vocabulary.{List, ◌++◌, refl, sym, ap, ◌∙◌, append-nil, body_view, branches_view, set_by}
-use Rattle.jt_names.proofs.Vocabulary.{set_in, set_under, texts}
+use Rattle.jt_names.proofs.{List, ◌++◌, refl, sym, ap, ◌∙◌, append-nil, body_view, branches_view, set_by, set_in}
+use Rattle.jt_names.proofs.{set_under, texts}
 use Rattle.jt_names.proofs.sets.+sets.Goals as goal
 
 pub add_sets-loop-statement-preserved : goal.add_sets-loop-statement-preserved

@@ -1,4 +1,4 @@
-use Rattle.jt_names.proofs.Vocabulary.{◌≡◌, ◌++◌, drop, body_view, branches_view, set_in, set_under, texts}
+use Rattle.jt_names.proofs.{◌≡◌, ◌++◌, drop, body_view, branches_view, set_in, set_under, texts}
 use Rattle.jt_names.proofs.sets.+sets.Given as goal
 
 abbrev pub invariant-add_sets-loop-statement : goal.invariant-add_sets-loop-statement

@@ -1,6 +1,4 @@
-use Rattle.std.proofs.lemmas.List.{drop_all}
-use Rattle.std.proofs.Common.{arith, rules}
-use Rattle.jt_bind.proofs.PlacesAndScopes.{placed_next}
+use Rattle.jt_bind.proofs.{drop_all, arith, rules, placed_next}
 use Rattle.jt_bind.proofs.name_scope.NameScope.new.Goals as goal
 
 pub invariant_of-result : goal.invariant_of-result

@@ -1,8 +1,4 @@
-use Rattle.std.proofs.Common.{◌≡◌, None, drop}
-use Rattle.jt_ast.specs.Expressions.{Text}
-use Rattle.jt_names.specs.Names.{value_in}
-use Rattle.jt_ast.specs.Texts.{texts}
-use Rattle.jt_bind.specs.internal.Names.{last_among}
+use Rattle.jt_bind.specs.internal.{◌≡◌, None, drop, Text, value_in, texts, last_among}
 use Rattle.jt_bind.proofs.name_scope.NameScope.new.Given as goal
 
 abbrev pub invariant-loop-name : goal.invariant-loop-name

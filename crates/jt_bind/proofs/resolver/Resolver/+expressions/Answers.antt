@@ -1,51 +1,25 @@
-use Rattle.std.proofs.lemmas.List.{drop_all}
-use Rattle.std.proofs.Common.{◌≡◌, ℕ, ◌+◌, [], length, drop, sym, ap, ◌∙◌, subst, arith}
-use Rattle.std.proofs.Common.{add-one, Some}
-use Rattle.std.specs.Prelude.{option_map}
-use Rattle.std.proofs.lemmas.Result.{IfOk-weaker}
+use Rattle.jt_ast.proofs.ExpressionViews.{view_Call, view_Filter, view_Test}
+use Rattle.jt_ast.specs.ExpressionView.{expr_view}
 use Rattle.jt_value.specs.Tree as tree
 use Rattle.jt_ids.specs.declared.op_id.OpId.TheVariants as op
-use Rattle.jt_ast.specs.ExpressionView.{expr_view, exprs_view, pairs_view}
-use Rattle.jt_ids.specs.FilterTable.{filter_id}
-use Rattle.jt_ast.specs.StatementView.{parameters_view}
-use Rattle.jt_chains.specs.Chain.{a_block}
-use Rattle.jt_chains.specs.Uses.{keywords}
-use Rattle.jt_semantics.specs.Operators.{range_of}
-use Rattle.jt_semantics.specs.Resolve.{filled, filled_some}
-use Rattle.jt_semantics.specs.Resolve.{locals_from}
-use Rattle.jt_semantics.specs.Expressions.{filter_parameters}
-use Rattle.jt_ir.specs.Pool.{own}
 use Rattle.jt_ir.specs.Slots as slots
-use Rattle.jt_eval.specs.TheFilters.{the_filters, filter_parameters as written_parameters}
-use Rattle.jt_ir.specs.View.{expr_view as coded}
 use Rattle.jt_ir.specs.declared.program.NaryOp.TheVariants as m
-use Rattle.jt_bind.specs.internal.Callees.{IsCallee}
-use Rattle.jt_bind.specs.declared.callee.Callee.{Callee}
-use Rattle.jt_bind.specs.internal.Scoped.{values, cenv_in, order_in, callee_in, expr_in, row_in}
-use Rattle.jt_bind.specs.internal.Scoped.{asides_in, entries_in, filter_row_in}
-use Rattle.jt_bind.proofs.CalleeResolution.{count_length, called_placed}
-use Rattle.jt_bind.proofs.ExpressionDepths.{call_depth, filter_depth, test_depth}
-use Rattle.jt_bind.proofs.FilterTags.{named_is, parameters_are}
-use Rattle.jt_bind.proofs.RowConcatenation.{begun, of_whole, row_both, row_item, row_aside}
-use Rattle.jt_bind.proofs.RowConcatenation.{made_placed, invoked_placed}
-use Rattle.jt_ast.proofs.RemainingParts.{row_left, pairs_left}
-use Rattle.jt_ast.proofs.ExpressionViews.{view_Item, view_Call, view_Filter, view_Test, view_Unary, view_Binary}
-use Rattle.jt_ast.proofs.ExpressionViews.{view_When, view_Choice}
-use Rattle.jt_ir.proofs.ExpressionViews.{view_Made, view_Invoke}
+use Rattle.jt_bind.specs.internal.{[], length, Some, exprs_view, pairs_view, filter_id, parameters_view, a_block}
+use Rattle.jt_bind.specs.internal.{keywords, filled, locals_from, own, expr_view as coded, values, row_in, asides_in}
+use Rattle.jt_bind.specs.internal.{filter_row_in}
+use Rattle.jt_bind.proofs.{drop_all, ◌∙◌, arith, add-one, IfOk-weaker, count_length, called_placed, call_depth}
+use Rattle.jt_bind.proofs.{filter_depth, test_depth, named_is, parameters_are, row_both, row_item, row_aside}
+use Rattle.jt_bind.proofs.{made_placed, invoked_placed, row_left, pairs_left, view_Made, view_Invoke}
+use Rattle.jt_bind.proofs.{conjunction_placed, disjunction_placed, view_Conjunction, view_Disjunction}
 use Rattle.jt_bind.proofs.resolver.Resolver.+expressions.Goals as goal
 
 pub resolve_row-loop-expr-preserved : goal.resolve_row-loop-expr-preserved
 resolve_row-loop-expr-preserved t c = λ left.
     let l = c.loop-expr in
-    let scope = c.args.self.now.tables.now in
-    let senv = c.args.self.now.senv in
-    let ts = c.args.row.now in
-    let x = c.expr-item.result in
-    row_both _ _ _ _ _ _ _ _ _ (l.invariant left)
-    (of_whole _ _ _ _ _ _ _
-    (ap (λ r. row_in scope r senv left) (sym (row_left ts l.expr-index x c.loop-expr-test.true c.expr-item.is)))
-    (row_item (expr_in scope (expr_view x) senv) (row_in scope (exprs_view (drop (l.expr-index + 1) ts)) senv left)
-    c.in_ok-next.next l.done.items _ (values l.pool) _ c.in_ok-next.ensures c.in_ok-put_argument.ensures))
+    row_both _ _ _ _ _ _ _ _ _
+    (rw (row_left c.args.row.now l.expr-index c.expr-item.result c.loop-expr-test.true c.expr-item.is) at
+    (l.invariant left))
+    (row_item _ _ c.in_ok-next.next l.done.items _ (values l.pool) _ c.in_ok-next.ensures c.in_ok-put_argument.ensures)
 
 pub resolve_row-returns : goal.resolve_row-returns
 resolve_row-returns t c = λ left.
@@ -54,25 +28,18 @@ resolve_row-returns t c = λ left.
 pub resolve_entries-loop-key-preserved : goal.resolve_entries-loop-key-preserved
 resolve_entries-loop-key-preserved t c =
     let l = c.loop-key in
-    let scope = c.args.self.now.tables.now in
-    let senv = c.args.self.now.senv in
-    let ps = c.args.pairs.now in
-    let x = c.loop-key-item.result in
-    let rest = entries_in scope (pairs_view (drop (l.key-index + 1) ps)) senv in
-    let value = expr_in scope (expr_view x.1) senv in
-    row_both _ _ _ _ _ _ _ _ _ l.invariant
-    (of_whole _ _ _ _ _ _ _
-    (ap (λ k. slots.item (slots.pooled (own (tree.text k))) (slots.item value rest)) c.as_str.ensures.value
-    ∙ ap (λ r. entries_in scope r senv) (sym (pairs_left ps l.key-index x c.loop-key-test.true c.loop-key-item.is)))
-    (row_both _ _ _ _ _ _ _ _ _ (row_item _ (slots.item value rest) c.in_ok-entry_key.entry_key l.done.items _
-    (values l.pool) _
+    row_both _ _ _ _ _ _ _ _ _ (rw (
+      pairs_left c.args.pairs.now l.key-index c.loop-key-item.result c.loop-key-test.true c.loop-key-item.is,
+      ← c.as_str.ensures.value,
+    ) at l.invariant)
+    (row_both _ _ _ _ _ _ _ _ _ (row_item _ _ c.in_ok-entry_key.entry_key l.done.items _ (values l.pool) _
     c.in_ok-entry_key.ensures c.in_ok-put_argument.ensures)
-    (row_item value rest c.in_ok-next.next _ _ _ _ c.in_ok-next.ensures c.in_ok-put_argument-2.ensures)))
+    (row_item _ _ c.in_ok-next.next _ _ _ _ c.in_ok-next.ensures c.in_ok-put_argument-2.ensures))
 
 pub resolve_made-returns : goal.resolve_made-returns
 resolve_made-returns t c =
     rw c.into_part.ensures (made_placed _ _ c.resolve_row.new.done.items _ _ _
-    (begun _ _ _ _ _ _ _ c.new.ensures.items (c.in_ok-resolve_row.ensures slots.none))
+    (rw c.new.ensures.items at (c.in_ok-resolve_row.ensures slots.none))
     (view_Made c.args.op c.resolve_row.new.done))
 
 pub resolve_applied-returns : goal.resolve_applied-returns
@@ -81,14 +48,14 @@ resolve_applied-returns t c =
     let done = c.resolve_row.new.done in
     rw c.into_part.ensures (made_placed _ _ done.items _ _ _
     (row_both _ es slots.none [] _ done.items _ _ _
-    (begun _ _ _ _ _ _ _ c.in_ok-with_capacity.ensures.items (c.in_ok-resolve_operand.ensures es))
+    (rw c.in_ok-with_capacity.ensures.items at (c.in_ok-resolve_operand.ensures es))
     (c.in_ok-resolve_row.ensures slots.none))
     (view_Made c.args.op done))
 
 pub resolve_map-returns : goal.resolve_map-returns
 resolve_map-returns t c =
     rw c.into_part.ensures (made_placed slots.a_map _ c.resolve_entries.new.done.items _ _ _
-    (begun _ _ _ _ _ _ _ c.new.ensures.items c.in_ok-resolve_entries.ensures)
+    (rw c.new.ensures.items at c.in_ok-resolve_entries.ensures)
     (view_Made m.Map c.resolve_entries.new.done))
 
 pub resolve_attribute-returns : goal.resolve_attribute-returns
@@ -99,7 +66,7 @@ resolve_attribute-returns t c =
     rw (c.into_part.ensures, ← c.is_loop_name.ensures, c.if-is_loop_name.false)
     (made_placed (slots.operator op.Item) _ done.items _ _ r
     (row_both _ (slots.item k slots.none) slots.none [] _ done.items _ _ r
-    (begun _ _ _ _ _ _ _ c.in_ok-with_capacity.ensures.items
+    (rw c.in_ok-with_capacity.ensures.items at
     (c.in_ok-resolve_operand.ensures (slots.item k slots.none)))
     (row_item k slots.none c.in_ok-item_key.item_key _ done.items _ r c.in_ok-item_key.ensures
     c.in_ok-put_argument.ensures))
@@ -112,19 +79,12 @@ resolve_asides-returns t c = λ left.
 pub resolve_asides-loop-value-preserved : goal.resolve_asides-loop-value-preserved
 resolve_asides-loop-value-preserved t c = λ left.
     let l = c.loop-value in
-    let scope = c.args.self.now.tables.now in
-    let ps = c.args.pairs.now in
-    let x = c.loop-value-item.result in
-    let rest = pairs_view (drop (l.value-index + 1) ps) in
-    let value = expr_in scope (expr_view x.1) l.senv in
-    row_both _ _ _ _ _ _ _ _ _ (l.invariant left)
-    (of_whole _ _ _ _ _ _ _ (ap
-    (λ (n : ℕ). slots.aside l.senv.free value (asides_in scope rest (record l.senv { free = n }) left))
-    (c.in_ok-senv.ensures ∙ add-one l.senv.free)
-    ∙ ap (λ r. asides_in scope r l.senv left)
-    (sym (pairs_left ps l.value-index x c.loop-value-test.true c.loop-value-item.is)))
-    (row_aside l.senv.free value (asides_in scope rest (record l.senv { free = c.in_ok-senv.field-0 }) left)
-    c.in_ok-next.next l.done.items _ (values l.pool) _ c.in_ok-next.ensures c.in_ok-put_argument.ensures))
+    row_both _ _ _ _ _ _ _ _ _ (rw (
+      pairs_left c.args.pairs.now l.value-index c.loop-value-item.result c.loop-value-test.true c.loop-value-item.is,
+      ← (c.in_ok-senv.ensures ∙ add-one l.senv.free),
+    ) at (l.invariant left))
+    (row_aside l.senv.free _ _ c.in_ok-next.next l.done.items _ (values l.pool) _ c.in_ok-next.ensures
+    c.in_ok-put_argument.ensures)
 
 pub resolve_binary-returns-in-Operation : goal.resolve_binary-returns-in-Operation
 resolve_binary-returns-in-Operation t c = rw (← c.form_of.ensures, c.in-Operation.is) c.resolve_operation.ensures
@@ -136,13 +96,20 @@ resolve_binary-returns-in_ok-inside-in-Negation t c =
 
 pub resolve_binary-returns-in_ok-second-in-Conjunction : goal.resolve_binary-returns-in_ok-second-in-Conjunction
 resolve_binary-returns-in_ok-second-in-Conjunction t c =
-    rw (← c.form_of.ensures, c.in-Conjunction.is) (c.conjunction.ensures _ _ _ _ _ c.in_ok-first-in-Conjunction.ensures
-    c.in_ok-second-in-Conjunction.ensures)
+    rw (← c.form_of.ensures, c.in-Conjunction.is, c.into_part.ensures, c.into_part-in-Conjunction.ensures)
+    (conjunction_placed _ _ _ _ _ _ _ _ c.in_ok-first-in-Conjunction.ensures c.in_ok-second-in-Conjunction.ensures
+    (view_Conjunction _ _))
 
 pub resolve_binary-returns-in_ok-second-in-Disjunction : goal.resolve_binary-returns-in_ok-second-in-Disjunction
 resolve_binary-returns-in_ok-second-in-Disjunction t c =
-    rw (← c.form_of.ensures, c.in-Disjunction.is) (c.disjunction.ensures _ _ _ _ _ c.in_ok-first-in-Disjunction.ensures
-    c.in_ok-second-in-Disjunction.ensures)
+    rw (
+      ← c.form_of.ensures,
+      c.in-Disjunction.is,
+      c.into_part-in-Disjunction.ensures,
+      c.into_part-in-Disjunction-2.ensures,
+    )
+    (disjunction_placed _ _ _ _ _ _ _ _ c.in_ok-first-in-Disjunction.ensures c.in_ok-second-in-Disjunction.ensures
+    (view_Disjunction _ _))
 
 pub resolve_when-returns : goal.resolve_when-returns
 resolve_when-returns t c =
@@ -156,10 +123,6 @@ resolve_choice-returns t c =
 pub resolve_boxed-returns : goal.resolve_boxed-returns
 resolve_boxed-returns t c =
     IfOk-weaker c.boxed.result _ _ (λ o h. rw h c.in_ok-resolve_expression.ensures) c.boxed.ensures
-
-pub resolve_expression-returns-in-Item : goal.resolve_expression-returns-in-Item
-resolve_expression-returns-in-Item t c =
-    rw (c.in-Item.is, view_Item, ← c.deref-in-Item.ensures, ← c.deref-in-Item-2.ensures) c.resolve_operation.ensures
 
 pub resolve_expression-returns-in-Call : goal.resolve_expression-returns-in-Call
 resolve_expression-returns-in-Call t c =
@@ -198,33 +161,6 @@ resolve_expression-returns-in-Test t c =
     )
     (IfOk-weaker c.resolve_test.result _ _ (λ e h. h (pairs_view c.in-Test.keywords.items)) c.resolve_test.ensures)
 
-pub resolve_expression-returns-in-Unary : goal.resolve_expression-returns-in-Unary
-resolve_expression-returns-in-Unary t c =
-    rw (c.in-Unary.is, view_Unary, ← c.deref-in-Unary.ensures)
-    c.resolve_unary.ensures
-
-pub resolve_expression-returns-in-Binary : goal.resolve_expression-returns-in-Binary
-resolve_expression-returns-in-Binary t c =
-    rw (c.in-Binary.is, view_Binary, ← c.deref-in-Binary.ensures, ← c.deref-in-Binary-2.ensures)
-    c.resolve_binary.ensures
-
-pub resolve_expression-returns-in-When : goal.resolve_expression-returns-in-When
-resolve_expression-returns-in-When t c =
-    rw (c.in-When.is, view_When, ← c.deref-in-When.ensures, ← c.deref-in-When-2.ensures)
-    c.resolve_when.ensures
-
-pub resolve_expression-returns-in-Choice : goal.resolve_expression-returns-in-Choice
-resolve_expression-returns-in-Choice t c =
-    rw (
-      c.in-Choice.is,
-      view_Choice,
-      ← c.deref-in-Choice.ensures,
-      ← c.deref-in-Choice-2.ensures,
-      ←
-          c.deref-in-Choice-3.ensures,
-    )
-    c.resolve_choice.ensures
-
 -- ---- tests and filters
 
 pub resolve_test-returns-in_default : goal.resolve_test-returns-in_default
@@ -257,30 +193,17 @@ resolve_filter-returns-in_ok-resolve_filter_row-in-Some t c =
     let ps = pairs_view c.args.arguments.pairs.now in
     let es = filter_row_in s (Some (filter_id f)) ts ps senv in
     let done = c.resolve_filter_row.new.done in
-    let named : (cenv_in s).filters.named c.args.name.now ts ps ≡ Some (filter_id f) =
-    named_is c.args.name.now ts ps ∙ ap (option_map filter_id) (sym c.filter_of.ensures ∙ c.in-Some.is) in
-    rw (c.into_part.ensures, named) (made_placed (slots.filter (filter_id f) senv.escaping) _ done.items _ _ _
+    rw (c.into_part.ensures, named_is, ← c.filter_of.ensures, c.in-Some.is)
+    (made_placed (slots.filter (filter_id f) senv.escaping) _ done.items _ _ _
     (row_both _ es slots.none [] _ done.items _ _ _
-    (begun _ _ _ _ _ _ _ c.new.ensures.items (c.in_ok-resolve_operand-in-Some.ensures es))
+    (rw c.new.ensures.items at (c.in_ok-resolve_operand-in-Some.ensures es))
     c.in_ok-resolve_filter_row-in-Some.ensures)
     (view_Made (m.Filter f senv.escaping) done))
 
 pub resolve_filter_row-returns : goal.resolve_filter_row-returns
 resolve_filter_row-returns t c =
-    let s = c.args.self.now.tables.now in
-    let senv = c.args.self.now.senv in
-    let f = c.args.filter in
-    let ts = exprs_view c.args.arguments.row.now in
-    let ps = pairs_view c.args.arguments.pairs.now in
-    let xs = keywords ps in
-    let ks = locals_from senv.free xs in
-    let n = length c.args.arguments.row.now in
-    let left = filled_some (written_parameters f) n xs ks in
-    IfOk-weaker c.fill_filter.result _ _ (λ u h. of_whole _ _ slots.none _ _ _ _
-    (ap (λ z. row_in s ts senv (asides_in s ps senv z)) (ap (λ z. filled_some z n xs ks) (sym (parameters_are f))
-    ∙ ap (λ (i : ℕ). filled_some (filter_parameters the_filters (Some (filter_id f))) i xs ks)
-    (sym (count_length c.args.arguments.row.now))))
-    (row_both _ left slots.none _ _ _ _ _ _ (c.in_ok-resolve_given.ensures left) h)) c.fill_filter.ensures
+    IfOk-weaker c.fill_filter.result _ _ (λ u h. rw (parameters_are, count_length)
+    (row_both _ _ slots.none _ _ _ _ _ _ (c.in_ok-resolve_given.ensures _) h)) c.fill_filter.ensures
 
 -- ---- calls
 
@@ -299,7 +222,7 @@ resolve_macro-returns t c =
     let q = values c.resolve_given.new.pool in
     rw c.into_part.ensures (invoked_placed signature.unit senv.escaping es full.items _ p q
     (row_both es left slots.none [] done.items full.items p q q
-    (begun _ _ _ _ _ _ _ c.new.ensures.items (c.in_ok-resolve_given.ensures left)) (c.in_ok-fill.ensures q))
+    (rw c.new.ensures.items at (c.in_ok-resolve_given.ensures left)) (c.in_ok-fill.ensures q))
     (view_Invoke signature.unit senv.escaping full))
 
 pub resolve_cycle-returns : goal.resolve_cycle-returns
@@ -326,13 +249,10 @@ pub resolve_call-returns-in-Block : goal.resolve_call-returns-in-Block
 resolve_call-returns-in-Block t c =
     let s = c.args.self.now.tables.now in
     let senv = c.args.self.now.senv in
-    let f = expr_view c.args.called.now in
     let row = c.args.arguments.row.now in
     let ps = pairs_view c.args.arguments.pairs.now in
-    let Q : Callee → Type 0 = λ z. IsCallee (cenv_in s) (order_in s) z (callee_in s f) in
-    IfOk-weaker c.block_called.result _ _ (λ e h. called_placed s senv f (a_block c.in-Block.name.now) row ps (coded e)
-    _ _
-    (subst Q c.in-Block.is c.in_ok-signature.ensures)
+    IfOk-weaker c.block_called.result _ _ (λ e h. called_placed s senv (expr_view c.args.called.now)
+    (a_block c.in-Block.name.now) row ps (coded e) _ _ (rw c.in-Block.is at c.in_ok-signature.ensures)
     (h (row_in s (exprs_view row) senv) (asides_in s ps senv) (length row) (locals_from senv.free (keywords ps))
     (values c.args.pool.now))) c.block_called.ensures
 

@@ -1,39 +1,42 @@
-use Rattle.std.proofs.Common.{◌+◌, ◌*◌, drop}
-use Rattle.std.specs.Prelude.{max}
-use denote.Param.Weighed.{most}
-use Rattle.jt_ast.specs.ExpressionView.{exprs_view, pairs_view}
-use Rattle.jt_ast.specs.declared.expression.Expr.{size-Expr}
-use Rattle.jt_ir.specs.Pool.{Constant}
-use Rattle.jt_ir.specs.Slots.{SRow}
-use Rattle.jt_bind.specs.internal.Scoped.{values, RowLeads, row_in, asides_in, entries_in}
+use Rattle.jt_bind.specs.internal.{ℕ, Expr, List, String, Arguments, ◌+◌, ◌*◌, drop, max, most, exprs_view, pairs_view}
+use Rattle.jt_bind.specs.internal.{size-Expr, Constant, SRow, values, RowLeads, row_in, asides_in, entries_in}
+use Rattle.jt_bind.proofs.{Global}
 use Rattle.jt_bind.proofs.resolver.Resolver.+expressions.Given as goal
 
 -- ---- measures: the depth of the remaining trees, and the order of the calls
+
+abbrev row_size : List Expr → ℕ
+row_size ts = most (λ x. size-Expr x) ts
+
+abbrev pairs_size : List (String Global × Expr) → ℕ
+pairs_size ps = most (λ x. size-Expr x.1) ps
+
+abbrev given_size : Arguments → ℕ
+given_size a = max (row_size a.row.now) (pairs_size a.pairs.now)
 
 abbrev pub decreases-resolve_expression : goal.decreases-resolve_expression
 decreases-resolve_expression l = 6 * size-Expr l.expr.now
 
 abbrev pub decreases-resolve_row : goal.decreases-resolve_row
-decreases-resolve_row l = 6 * most (λ x. size-Expr x) l.row.now + 1
+decreases-resolve_row l = 6 * row_size l.row.now + 1
 
 abbrev pub decreases-resolve_asides : goal.decreases-resolve_asides
-decreases-resolve_asides l = 6 * most (λ x. size-Expr x.1) l.pairs.now + 1
+decreases-resolve_asides l = 6 * pairs_size l.pairs.now + 1
 
 abbrev pub decreases-resolve_entries : goal.decreases-resolve_entries
-decreases-resolve_entries l = 6 * most (λ x. size-Expr x.1) l.pairs.now + 1
+decreases-resolve_entries l = 6 * pairs_size l.pairs.now + 1
 
 abbrev pub decreases-resolve_given : goal.decreases-resolve_given
-decreases-resolve_given l =
-    6 * max (most (λ x. size-Expr x) l.arguments.row.now) (most (λ x. size-Expr x.1) l.arguments.pairs.now) + 2
+decreases-resolve_given l = 6 * given_size l.arguments + 2
 
 abbrev pub decreases-resolve_made : goal.decreases-resolve_made
-decreases-resolve_made l = 6 * most (λ x. size-Expr x) l.row.now + 2
+decreases-resolve_made l = 6 * row_size l.row.now + 2
 
 abbrev pub decreases-resolve_applied : goal.decreases-resolve_applied
-decreases-resolve_applied l = 6 * max (size-Expr l.value.now) (most (λ x. size-Expr x) l.row.now) + 2
+decreases-resolve_applied l = 6 * max (size-Expr l.value.now) (row_size l.row.now) + 2
 
 abbrev pub decreases-resolve_map : goal.decreases-resolve_map
-decreases-resolve_map l = 6 * most (λ x. size-Expr x.1) l.pairs.now + 2
+decreases-resolve_map l = 6 * pairs_size l.pairs.now + 2
 
 abbrev pub decreases-resolve_attribute : goal.decreases-resolve_attribute
 decreases-resolve_attribute l = 6 * size-Expr l.value.now + 2
@@ -54,35 +57,27 @@ decreases-resolve_choice l =
 abbrev pub decreases-resolve_boxed : goal.decreases-resolve_boxed
 decreases-resolve_boxed l = 6 * size-Expr l.expr.now + 1
 
-abbrev pub decreases-resolve_unary : goal.decreases-resolve_unary
-decreases-resolve_unary l = 6 * size-Expr l.operand.now + 3
-
 abbrev pub decreases-resolve_test : goal.decreases-resolve_test
-decreases-resolve_test l = 6 * max (size-Expr l.value.now) (most (λ x. size-Expr x) l.row.now) + 3
+decreases-resolve_test l = 6 * max (size-Expr l.value.now) (row_size l.row.now) + 3
 
 abbrev pub decreases-resolve_operand : goal.decreases-resolve_operand
 decreases-resolve_operand l = 6 * size-Expr l.value.now + 1
 
 abbrev pub decreases-resolve_filter : goal.decreases-resolve_filter
 decreases-resolve_filter l =
-    6 * max (size-Expr l.value.now)
-    (max (most (λ x. size-Expr x) l.arguments.row.now) (most (λ x. size-Expr x.1) l.arguments.pairs.now))
-    + 4
+    6 * max (size-Expr l.value.now) (given_size l.arguments) + 4
 
 abbrev pub decreases-resolve_filter_row : goal.decreases-resolve_filter_row
-decreases-resolve_filter_row l =
-    6 * max (most (λ x. size-Expr x) l.arguments.row.now) (most (λ x. size-Expr x.1) l.arguments.pairs.now) + 3
+decreases-resolve_filter_row l = 6 * given_size l.arguments + 3
 
 abbrev pub decreases-resolve_call : goal.decreases-resolve_call
-decreases-resolve_call l =
-    6 * max (most (λ x. size-Expr x) l.arguments.row.now) (most (λ x. size-Expr x.1) l.arguments.pairs.now) + 4
+decreases-resolve_call l = 6 * given_size l.arguments + 4
 
 abbrev pub decreases-resolve_macro : goal.decreases-resolve_macro
-decreases-resolve_macro l =
-    6 * max (most (λ x. size-Expr x) l.arguments.row.now) (most (λ x. size-Expr x.1) l.arguments.pairs.now) + 3
+decreases-resolve_macro l = 6 * given_size l.arguments + 3
 
 abbrev pub decreases-resolve_cycle : goal.decreases-resolve_cycle
-decreases-resolve_cycle l = 6 * most (λ x. size-Expr x) l.row.now + 3
+decreases-resolve_cycle l = 6 * row_size l.row.now + 3
 
 -- ---- the remaining items of a list
 

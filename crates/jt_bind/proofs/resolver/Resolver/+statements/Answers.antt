@@ -1,29 +1,12 @@
-use Rattle.std.proofs.lemmas.List.{drop_all}
-use Rattle.std.proofs.Common.{◌+◌, List, drop, sym, ap, subst, ◌∙◌, arith, Global}
-use Rattle.std.specs.Prelude.{Vec}
-use Rattle.std.proofs.lemmas.List.{at_drop_all}
-use Rattle.std.proofs.lemmas.Result.{IfOk-weaker}
-use Rattle.jt_ast.specs.ExpressionView.{expr_view, pairs_view}
-use Rattle.jt_ast.specs.StatementView.{filter_calls_view, stmt_view, body_view}
-use Rattle.jt_ast.specs.StatementView.{branches_view}
+use Rattle.jt_ast.proofs.StatementViews.{view_Data, view_Set, view_SetBlock, view_Autoescape, view_Include, view_Block}
 use Rattle.jt_ir.specs.Slots as slots
-use Rattle.jt_ir.specs.View.{place_view}
-use Rattle.jt_ir.specs.declared.program.SlotBranch.{SlotBranch}
-use Rattle.jt_ir.specs.declared.program.SlotStmt.{SlotStmt}
-use Rattle.jt_semantics.specs.Resolve.{followed, alone, bound_all, resolved_filters, copied, place}
-use Rattle.jt_ast.specs.Texts.{texts}
-use Rattle.jt_bind.specs.internal.Scoped.{values, cenv_in, order_in, expr_in, senv_in, templates_in}
-use Rattle.jt_bind.specs.internal.Stated.{ChoiceLeads, line_in, stmt_in, body_in, choice_in, scoped_in}
-use Rattle.jt_bind.specs.internal.Stated.{values_in}
-use Rattle.jt_bind.proofs.BodyConcatenation.{lead_both, lead_of, emits_of, emits_both, emits_begun}
-use Rattle.jt_bind.proofs.BodyConcatenation.{emits_nothing, place_is, followed_again, choice_same, choice_other}
-use Rattle.jt_bind.proofs.BodyConcatenation.{branch_lead, choice_emitted, capture_emitted, print_emitted}
-use Rattle.jt_bind.proofs.BodyConcatenation.{assign_emitted, loop_emitted}
-use Rattle.jt_ast.proofs.RemainingParts.{Branch, statements_left, branches_left}
-use Rattle.jt_ast.proofs.StatementViews.{view_Data, view_Print, view_If, view_For, view_Set, view_SetBlock, view_With}
-use Rattle.jt_ast.proofs.StatementViews.{view_FilterBlock, view_Autoescape, view_Macro, view_Include, view_Import}
-use Rattle.jt_ast.proofs.StatementViews.{view_From, view_Extends, view_Block}
-use Rattle.jt_bind.proofs.StatementResolution.{filter_shown, values_emitted, scope_emitted, turns_as}
+use Rattle.jt_bind.specs.internal.{filters_in, alone, ◌+◌, drop, pairs_view, filter_calls_view, body_view, place_view}
+use Rattle.jt_bind.specs.internal.{followed, bound_all, copied, place, texts, values, senv_in, templates_in, line_in}
+use Rattle.jt_bind.specs.internal.{body_in, scoped_in, values_in}
+use Rattle.jt_bind.proofs.{drop_all, ap, ◌∙◌, arith, IfOk-weaker, lead_both, emits_of, emits_both, place_is}
+use Rattle.jt_bind.proofs.{followed_again, choice_same, branch_lead, choice_emitted, capture_emitted, print_emitted}
+use Rattle.jt_bind.proofs.{assign_emitted, loop_emitted, statements_left, branches_left, filter_shown, values_emitted}
+use Rattle.jt_bind.proofs.{scope_emitted, turns_as}
 use Rattle.jt_bind.proofs.resolver.Resolver.+statements.Goals as goal
 
 -- ---- bodies
@@ -32,15 +15,13 @@ pub resolve_body-loop-statement-preserved : goal.resolve_body-loop-statement-pre
 resolve_body-loop-statement-preserved t c = λ left.
     let l = c.loop-statement in
     let scope = c.args.self.now.tables.now in
-    let senv = c.args.self.now.senv in
     let ss = c.args.body.now in
-    let x = c.statement-item.result in
-    let rest = body_in scope (body_view (drop (l.statement-index + 1) ss)) senv in
-    lead_both (templates_in scope) _ _ _ _ _ _ _ _ _ (l.invariant left)
-    (lead_of (templates_in scope) _ _ _ _ _ _ _ (sym (followed_again (stmt_in scope (stmt_view x) senv) rest left)
-    ∙ ap (λ b. followed (body_in scope b senv) left)
-    (sym (statements_left ss l.statement-index x c.loop-statement-test.true c.statement-item.is)))
-    (c.in_ok-resolve_statement.ensures (followed rest left)))
+    let rest = body_in scope (body_view (drop (l.statement-index + 1) ss)) c.args.self.now.senv in
+    lead_both (templates_in scope) _ _ _ _ _ _ _ _ _ (rw (
+      statements_left ss l.statement-index c.statement-item.result c.loop-statement-test.true c.statement-item.is,
+      followed_again,
+    ) at (l.invariant left))
+    (c.in_ok-resolve_statement.ensures (followed rest left))
 
 pub resolve_body-returns : goal.resolve_body-returns
 resolve_body-returns t c = λ left.
@@ -48,7 +29,7 @@ resolve_body-returns t c = λ left.
 
 pub resolve_whole-returns : goal.resolve_whole-returns
 resolve_whole-returns t c =
-    rw c.into_part.ensures (emits_begun _ _ _ _ _ _ _ c.new.ensures.items c.in_ok-resolve_body.ensures)
+    rw c.into_part.ensures (rw c.new.ensures.items at c.in_ok-resolve_body.ensures)
 
 -- ---- scopes
 
@@ -95,35 +76,20 @@ resolve_branches-loop-branch-init t c =
 pub resolve_branches-loop-branch-preserved : goal.resolve_branches-loop-branch-preserved
 resolve_branches-loop-branch-preserved t c = λ other.
     let l = c.loop-branch in
-    let scope = c.args.self.now.tables.now in
-    let senv = c.args.self.now.senv in
     let bs = c.args.branches.now in
-    let x = c.branch-item.result in
-    let T = templates_in scope in
-    let rest = choice_in scope (branches_view (drop (l.branch-index + 1) bs)) senv other in
-    let here = choice_other T _ _ _ _ _ _ (ap (λ b. choice_in scope b senv other)
-    (branches_left bs l.branch-index x c.loop-branch-test.true c.branch-item.is))
+    let here = rw (branches_left bs l.branch-index c.branch-item.result c.loop-branch-test.true c.branch-item.is) at
     (l.invariant other) in
-    branch_lead T _ rest (body_in scope (body_view x.body.items) senv) (line_in scope senv x.line)
-    (expr_in scope (expr_view x.condition) senv) _ _ _ _ _ _ here c.in_ok-resolve_branch.ensures
+    branch_lead (templates_in c.args.self.now.tables.now) _ _ _ _ _ _ _ _ _ _ _ here c.in_ok-resolve_branch.ensures
     c.in_ok-put_branch.ensures
 
 pub resolve_branches-returns : goal.resolve_branches-returns
 resolve_branches-returns t c =
     let l = c.loop-branch in
     let scope = c.args.self.now.tables.now in
-    let senv = c.args.self.now.senv in
-    let bs = c.args.branches.now in
-    let T = templates_in scope in
-    let last = body_in scope (body_view c.args.other.now) senv in
-    let P : Vec (SlotBranch SlotStmt) Global → Type 0 =
-    λ z. ChoiceLeads T (choice_in scope (branches_view bs) senv last) last z.items (values c.args.pool.now)
-    (values l.pool) in
-    let all : P c.into_part.result = subst P (sym c.into_part.ensures) (choice_other T _ _ _ _ _ _
-    (at_drop_all (λ (z : List Branch). choice_in scope (branches_view z) senv last) bs l.branch-index (omega arith))
-    (l.invariant last)) in
-    IfOk-weaker c.put_choice.result _ _ (λ u h. choice_emitted T _ _ _ _ _ _ _ _ _ all c.in_ok-last.ensures h)
-    c.put_choice.ensures
+    let all = rw (drop_all l.branch-index c.args.branches.now (omega arith), ← c.into_part.ensures) at
+    (l.invariant (body_in scope (body_view c.args.other.now) c.args.self.now.senv)) in
+    IfOk-weaker c.put_choice.result _ _
+    (λ u h. choice_emitted (templates_in scope) _ _ _ _ _ _ _ _ _ all c.in_ok-last.ensures h) c.put_choice.ensures
 
 pub resolve_for-returns : goal.resolve_for-returns
 resolve_for-returns t c =
@@ -139,7 +105,7 @@ resolve_turns-returns t c =
     turns_as scope (body_view c.args.body.now) _ _ _ _ _ _ _ _ _
     (c.inside.ensures _ scope c.in_ok-inner.ensures ∙ ap (λ xs. bound_all xs sp) c.in_ok-names_of.ensures)
     c.in_ok-head.ensures
-    (emits_begun (templates_in scope) _ _ _ _ _ _ c.new.ensures.items c.in_ok-resolve_scoped.ensures)
+    (rw c.new.ensures.items at c.in_ok-resolve_scoped.ensures)
 
 pub resolve_with-returns : goal.resolve_with-returns
 resolve_with-returns t c =
@@ -165,7 +131,7 @@ resolve_filter_block-returns t c =
     let inside = senv_in scope (record senv { free = free }) in
     let first = alone (slots.capture senv.escaping (slots.local senv.free) (scoped_in scope b inside)) in
     let second = alone (slots.print (line_in scope senv line) senv.escaping
-    (resolved_filters (cenv_in scope) (order_in scope) fs inside (slots.variable (slots.local senv.free)))) in
+    (filters_in scope fs (record senv { free = free }) (slots.variable (slots.local senv.free)))) in
     IfOk-weaker c.put_filtered.result _ _
     (λ u h. emits_of T (followed first second) _ _ _ _ _ (filter_shown scope senv line fs b free c.in_ok-inside.ensures)
     (emits_both T first second _ _ _ _ _ _ c.in_ok-resolve_text.ensures
@@ -174,7 +140,7 @@ resolve_filter_block-returns t c =
 
 pub resolve_text-returns : goal.resolve_text-returns
 resolve_text-returns t c =
-    let text = emits_begun _ _ _ _ _ _ _ c.new.ensures.items c.in_ok-resolve_scoped.ensures in
+    let text = rw c.new.ensures.items at c.in_ok-resolve_scoped.ensures in
     IfOk-weaker c.put_capture.result _ _ (λ u h. capture_emitted _ _ _ _ _ _ _ _ _ (rw c.into_part.ensures text) h)
     c.put_capture.ensures
 
@@ -189,52 +155,10 @@ resolve_statement-returns-in-Data t c =
     rw (c.in-Data.is, view_Data, ← c.deref.ensures)
     (IfOk-weaker c.put_data.result _ _ (λ u h. h (templates_in c.args.self.now.tables.now)) c.put_data.ensures)
 
-pub resolve_statement-returns-in-Print : goal.resolve_statement-returns-in-Print
-resolve_statement-returns-in-Print t c = rw (c.in-Print.is, view_Print) c.resolve_print.ensures
-
-pub resolve_statement-returns-in-If : goal.resolve_statement-returns-in-If
-resolve_statement-returns-in-If t c = grind (arith, view_If)
-
-pub resolve_statement-returns-in-For : goal.resolve_statement-returns-in-For
-resolve_statement-returns-in-For t c =
-    rw (
-      c.in-For.is,
-      view_For,
-      ← c.deref-in-For.ensures.value,
-      ← c.deref-in-For-2.ensures.value,
-      ← c.deref-in-For-3.ensures.value,
-    ) c.resolve_for.ensures
-
-pub resolve_statement-returns-in-With : goal.resolve_statement-returns-in-With
-resolve_statement-returns-in-With t c =
-    rw (c.in-With.is, view_With, ← c.deref-in-With.ensures.value, ← c.deref-in-With-2.ensures.value)
-    c.resolve_with.ensures
-
-pub resolve_statement-returns-in-FilterBlock : goal.resolve_statement-returns-in-FilterBlock
-resolve_statement-returns-in-FilterBlock t c =
-    rw (
-      c.in-FilterBlock.is,
-      view_FilterBlock,
-      ← c.deref-in-FilterBlock.ensures.value,
-      ← c.deref-in-FilterBlock-2.ensures.value,
-    ) c.resolve_filter_block.ensures
-
 pub resolve_statement-returns-in-Autoescape : goal.resolve_statement-returns-in-Autoescape
 resolve_statement-returns-in-Autoescape t c =
     rw (c.in-Autoescape.is, view_Autoescape, ← c.deref-in-Autoescape.ensures.value)
     (IfOk-weaker c.resolve_escaping.result _ _ (λ u h. h c.in-Autoescape.line) c.resolve_escaping.ensures)
-
-pub resolve_statement-returns-in-Macro : goal.resolve_statement-returns-in-Macro
-resolve_statement-returns-in-Macro t c = grind (arith, view_Macro, emits_nothing)
-
-pub resolve_statement-returns-in-Import : goal.resolve_statement-returns-in-Import
-resolve_statement-returns-in-Import t c = grind (arith, view_Import, emits_nothing)
-
-pub resolve_statement-returns-in-From : goal.resolve_statement-returns-in-From
-resolve_statement-returns-in-From t c = grind (arith, view_From, emits_nothing)
-
-pub resolve_statement-returns-in-Extends : goal.resolve_statement-returns-in-Extends
-resolve_statement-returns-in-Extends t c = grind (arith, view_Extends, emits_nothing)
 
 pub resolve_statement-returns-in-Include : goal.resolve_statement-returns-in-Include
 resolve_statement-returns-in-Include t c =

@@ -1,16 +1,13 @@
-use Rattle.std.proofs.Common.{◌+◌, ◌*◌, max, drop}
-use denote.Param.Weighed.{most}
-use Rattle.jt_semantics.specs.Resolve.{followed}
-use Rattle.jt_ast.specs.StatementView.{body_view, branches_view}
-use Rattle.jt_ast.specs.declared.statement.Stmt.{size-Stmt}
-use Rattle.jt_ast.proofs.RemainingParts.{Branch}
-use Rattle.jt_ir.specs.Pool.{Constant}
-use Rattle.jt_ir.specs.Slots.{SBody}
-use Rattle.jt_bind.specs.internal.Scoped.{values, BodyLeads, templates_in}
-use Rattle.jt_bind.specs.internal.Stated.{ChoiceLeads, body_in, choice_in}
+use Rattle.jt_bind.specs.internal.{ℕ, List, Stmt, size-Stmt, ◌+◌, ◌*◌, max, drop, most, followed, body_view}
+use Rattle.jt_bind.specs.internal.{branches_view, Constant, SBody, values, BodyLeads, templates_in, ChoiceLeads}
+use Rattle.jt_bind.specs.internal.{body_in, choice_in}
+use Rattle.jt_bind.proofs.{Branch}
 use Rattle.jt_bind.proofs.resolver.Resolver.+statements.Given as goal
 
 -- ---- measures: the depth of the remaining statements, and the order of the calls
+
+abbrev body_size : List Stmt → ℕ
+body_size ss = most (λ x. size-Stmt x) ss
 
 abbrev pub decreases-resolve_if_set : goal.decreases-resolve_if_set
 decreases-resolve_if_set l = 6 * size-Stmt l.statement.now
@@ -19,42 +16,42 @@ abbrev pub decreases-resolve_statement : goal.decreases-resolve_statement
 decreases-resolve_statement l = 6 * size-Stmt l.statement.now + 1
 
 abbrev pub decreases-resolve_body : goal.decreases-resolve_body
-decreases-resolve_body l = 6 * most (λ x. size-Stmt x) l.body.now + 2
+decreases-resolve_body l = 6 * body_size l.body.now + 2
 
 abbrev pub decreases-resolve_whole : goal.decreases-resolve_whole
-decreases-resolve_whole l = 6 * most (λ x. size-Stmt x) l.body.now + 3
+decreases-resolve_whole l = 6 * body_size l.body.now + 3
 
 abbrev pub decreases-resolve_scoped : goal.decreases-resolve_scoped
-decreases-resolve_scoped l = 6 * most (λ x. size-Stmt x) l.body.now + 3
+decreases-resolve_scoped l = 6 * body_size l.body.now + 3
 
 abbrev pub decreases-resolve_within : goal.decreases-resolve_within
-decreases-resolve_within l = 6 * most (λ x. size-Stmt x) l.body.now + 4
+decreases-resolve_within l = 6 * body_size l.body.now + 4
 
 abbrev pub decreases-resolve_escaping : goal.decreases-resolve_escaping
-decreases-resolve_escaping l = 6 * most (λ x. size-Stmt x) l.body.now + 4
+decreases-resolve_escaping l = 6 * body_size l.body.now + 4
 
 abbrev pub decreases-resolve_text : goal.decreases-resolve_text
-decreases-resolve_text l = 6 * most (λ x. size-Stmt x) l.body.now + 5
+decreases-resolve_text l = 6 * body_size l.body.now + 5
 
 abbrev pub decreases-resolve_turns : goal.decreases-resolve_turns
-decreases-resolve_turns l = 6 * most (λ x. size-Stmt x) l.body.now + 5
+decreases-resolve_turns l = 6 * body_size l.body.now + 5
 
 abbrev pub decreases-resolve_for : goal.decreases-resolve_for
-decreases-resolve_for l = 6 * max (most (λ x. size-Stmt x) l.body.now) (most (λ x. size-Stmt x) l.other.now) + 6
+decreases-resolve_for l = 6 * max (body_size l.body.now) (body_size l.other.now) + 6
 
 abbrev pub decreases-resolve_with : goal.decreases-resolve_with
-decreases-resolve_with l = 6 * most (λ x. size-Stmt x) l.body.now + 5
+decreases-resolve_with l = 6 * body_size l.body.now + 5
 
 abbrev pub decreases-resolve_filter_block : goal.decreases-resolve_filter_block
-decreases-resolve_filter_block l = 6 * most (λ x. size-Stmt x) l.body.now + 6
+decreases-resolve_filter_block l = 6 * body_size l.body.now + 6
 
 abbrev pub decreases-resolve_branch : goal.decreases-resolve_branch
-decreases-resolve_branch l = 6 * most (λ x. size-Stmt x) l.branch.now.body.items + 4
+decreases-resolve_branch l = 6 * body_size l.branch.now.body.items + 4
 
 abbrev pub decreases-resolve_branches : goal.decreases-resolve_branches
 decreases-resolve_branches l =
-    6 * max (most (λ (b : Branch). most (λ x. size-Stmt x) b.body.items) l.branches.now)
-    (most (λ x. size-Stmt x) l.other.now)
+    6 * max (most (λ (b : Branch). body_size b.body.items) l.branches.now)
+    (body_size l.other.now)
     + 5
 
 -- ---- the remaining items

@@ -1,7 +1,5 @@
-use Rattle.std.proofs.lemmas.List.{drop_all}
-use Rattle.std.proofs.Common.{arith, add-one, rules}
-use Rattle.jt_bind.proofs.RowConcatenation.{of_whole, row_both, row_item}
-use Rattle.jt_bind.proofs.UnfilledParameters.{filled_behind, parameters_behind, parameters_left}
+use Rattle.jt_bind.proofs.{drop_all, arith, add-one, rules, of_whole, row_both, row_item, filled_behind}
+use Rattle.jt_bind.proofs.{parameters_behind, parameters_left}
 use Rattle.jt_bind.proofs.resolver.Resolver.fill.Goals as goal
 
 pub returns : goal.returns

@@ -1,10 +1,5 @@
-use Rattle.std.proofs.Common.{List, drop}
-use Rattle.jt_value.specs.Tree.{Tree}
-use Rattle.jt_ast.specs.ExpressionView.{pairs_view}
-use Rattle.jt_chains.specs.Uses.{keywords}
-use Rattle.jt_ast.specs.StatementView.{parameters_view}
-use Rattle.jt_semantics.specs.Resolve.{filled, locals_from}
-use Rattle.jt_bind.specs.internal.Scoped.{RowLeads}
+use Rattle.jt_bind.specs.internal.{List, drop, Tree, pairs_view, keywords, parameters_view, filled, locals_from}
+use Rattle.jt_bind.specs.internal.{RowLeads}
 use Rattle.jt_bind.proofs.resolver.Resolver.fill.Given as goal
 
 abbrev pub invariant-loop-parameter : goal.invariant-loop-parameter

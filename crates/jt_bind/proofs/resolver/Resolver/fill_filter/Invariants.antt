@@ -1,9 +1,5 @@
-use Rattle.std.proofs.Common.{drop}
-use Rattle.jt_ast.specs.ExpressionView.{pairs_view}
-use Rattle.jt_chains.specs.Uses.{keywords}
-use Rattle.jt_ast.specs.StatementView.{parameters_view}
-use Rattle.jt_semantics.specs.Resolve.{filled_some, locals_from}
-use Rattle.jt_bind.specs.internal.Scoped.{values, RowLeads}
+use Rattle.jt_bind.specs.internal.{drop, pairs_view, keywords, parameters_view, filled_some, locals_from, values}
+use Rattle.jt_bind.specs.internal.{RowLeads}
 use Rattle.jt_bind.proofs.resolver.Resolver.fill_filter.Given as goal
 
 abbrev pub invariant-loop-index : goal.invariant-loop-index

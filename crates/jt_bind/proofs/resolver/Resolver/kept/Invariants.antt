@@ -1,8 +1,4 @@
-use Rattle.std.proofs.Common.{◌≡◌, drop}
-use Rattle.jt_ast.specs.ExpressionView.{pairs_view}
-use Rattle.jt_chains.specs.Uses.{keywords}
-use Rattle.jt_semantics.specs.Layout.{slot_in}
-use Rattle.jt_semantics.specs.Resolve.{locals_from}
+use Rattle.jt_bind.specs.internal.{◌≡◌, drop, pairs_view, keywords, slot_in, locals_from}
 use Rattle.jt_bind.proofs.resolver.Resolver.kept.Given as goal
 
 abbrev pub invariant-loop-key : goal.invariant-loop-key

@@ -1,13 +1,14 @@
-use Rattle.std.proofs.Common.{◌≡◌, ◌++◌, map, drop}
-use Rattle.std.specs.Prelude.{option_map}
-use Rattle.jt_semantics.specs.Resolve.{kept_slots}
-use Rattle.jt_bind.specs.internal.Scoped.{senv_in}
-use Rattle.jt_ast.specs.StatementView.{names_view}
-use Rattle.jt_ir.specs.View.{slot_view}
+use Rattle.jt_bind.specs.internal.{is_some, reverse, ◌≡◌, ◌≤◌, map, drop, length, option_map, kept_slots, senv_in}
+use Rattle.jt_bind.specs.internal.{names_view, slot_view, Text, among, value_in}
 use Rattle.jt_bind.proofs.resolver.Resolver.kept_slots.Given as goal
 
-abbrev pub invariant-loop-index : goal.invariant-loop-index
-invariant-loop-index l =
-    map (option_map slot_view) l.slots.items
-    ++ kept_slots (senv_in l.self.tables.now l.self.senv).table (names_view (drop l.index l.names))
-    ≡ kept_slots (senv_in l.self.tables.now l.self.senv).table (names_view l.names)
+abbrev pub invariant-loop-left : goal.invariant-loop-left
+invariant-loop-left l = record {
+  within : l.left ≤ length l.names;
+  kept : map (option_map slot_view) (reverse l.slots.items)
+      ≡ kept_slots (senv_in l.self.tables.now l.self.senv).table (names_view (drop l.left l.names));
+  seen : (x : Text) → is_some (value_in l.after.indices x) ≡ among x (names_view (drop l.left l.names));
+}
+
+abbrev pub decreases-loop-left : goal.decreases-loop-left
+decreases-loop-left l = l.left

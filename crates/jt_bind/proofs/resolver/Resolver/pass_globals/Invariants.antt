@@ -1,11 +1,5 @@
-use Rattle.std.proofs.Common.{drop, List, [], if◌then◌else◌}
-use Rattle.jt_value.specs.Tree.{Tree}
-use Rattle.jt_semantics.specs.Resolve.{handed_on, followed}
-use Rattle.jt_ir.specs.Pool.{Constant}
-use Rattle.jt_ir.specs.Slots.{SBody}
-use Rattle.jt_ast.specs.Texts.{texts}
-use Rattle.jt_bind.specs.internal.Scoped.{BodyLeads, senv_in, templates_in}
-use Rattle.jt_bind.specs.internal.Stated.{line_in}
+use Rattle.jt_bind.specs.internal.{drop, List, [], if◌then◌else◌, Tree, handed_on, followed, Constant, SBody, texts}
+use Rattle.jt_bind.specs.internal.{BodyLeads, senv_in, templates_in, line_in}
 use Rattle.jt_bind.proofs.resolver.Resolver.pass_globals.Given as goal
 
 abbrev pub invariant-loop-name : goal.invariant-loop-name

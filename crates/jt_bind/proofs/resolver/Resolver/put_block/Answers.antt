@@ -1,12 +1,7 @@
-use Rattle.std.proofs.Common.{sym, ap, ◌∙◌}
-use Rattle.std.specs.Prelude.{if◌then◌else◌}
-use Rattle.std.proofs.lemmas.Result.{IfOk-weaker}
 use Rattle.jt_ir.specs.Slots as slots
-use Rattle.jt_semantics.specs.Layout.{Table, block_parameters, numbered_of}
-use Rattle.jt_semantics.specs.Resolve.{alone, reads, first_body}
-use Rattle.jt_bind.specs.internal.Scoped.{cenv_in, order_in, namespace_in, globals_in, senv_in, templates_in}
-use Rattle.jt_bind.proofs.BodyConcatenation.{emits_of, run_emitted}
-use Rattle.jt_bind.proofs.BlocksAndIncludes.{block_run, block_absent}
+use Rattle.jt_bind.specs.internal.{alone, parameters_in, if◌then◌else◌, Table, numbered_of, reads, first_body, cenv_in}
+use Rattle.jt_bind.specs.internal.{order_in, namespace_in, globals_in, senv_in, templates_in}
+use Rattle.jt_bind.proofs.{sym, ap, ◌∙◌, IfOk-weaker, emits_of, run_emitted, block_run, block_absent}
 use Rattle.jt_bind.proofs.resolver.Resolver.put_block.Goals as goal
 
 pub returns : goal.returns
@@ -14,7 +9,7 @@ returns c =
     let scope = c.args.self.now.tables.now in
     let senv = c.args.self.now.senv in
     let name = c.args.name.now in
-    let ps = block_parameters (cenv_in scope) (order_in scope) (namespace_in scope) name in
+    let ps = parameters_in scope name in
     let table : Table = if c.args.scoped then (senv_in scope senv).table else globals_in scope in
     IfOk-weaker c.put_run.result _ _ (λ u h line required body p. emits_of (templates_in scope) _ _ _ _ _ _
     (ap (λ (t : Table). alone (slots.run c.in-Some.unit (reads t ps))) (c.seen_by.ensures scope)

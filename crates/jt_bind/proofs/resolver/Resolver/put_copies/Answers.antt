@@ -1,10 +1,5 @@
-use Rattle.std.proofs.lemmas.List.{drop_all}
-use Rattle.std.proofs.Common.{arith}
-use Rattle.jt_ir.specs.View.{expr_view}
-use Rattle.jt_bind.specs.internal.Scoped.{senv_in, templates_in}
-use Rattle.jt_bind.specs.internal.Stated.{line_in}
-use Rattle.jt_bind.proofs.BodyConcatenation.{lead_both, assign_emitted}
-use Rattle.jt_bind.proofs.StatementResolution.{copied_followed, copy_step}
+use Rattle.jt_bind.specs.internal.{expr_view, senv_in, templates_in, line_in}
+use Rattle.jt_bind.proofs.{drop_all, arith, lead_both, assign_emitted, copied_followed, copy_step}
 use Rattle.jt_bind.proofs.resolver.Resolver.put_copies.Goals as goal
 
 pub loop-name-preserved : goal.loop-name-preserved

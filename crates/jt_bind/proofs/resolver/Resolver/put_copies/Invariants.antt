@@ -1,11 +1,5 @@
-use Rattle.std.proofs.Common.{drop, List}
-use Rattle.jt_value.specs.Tree.{Tree}
-use Rattle.jt_semantics.specs.Resolve.{copied}
-use Rattle.jt_ir.specs.Pool.{Constant}
-use Rattle.jt_ir.specs.Slots.{SBody}
-use Rattle.jt_ast.specs.Texts.{texts}
-use Rattle.jt_bind.specs.internal.Scoped.{BodyLeads, senv_in, templates_in}
-use Rattle.jt_bind.specs.internal.Stated.{line_in}
+use Rattle.jt_bind.specs.internal.{drop, List, Tree, copied, Constant, SBody, texts, BodyLeads, senv_in, templates_in}
+use Rattle.jt_bind.specs.internal.{line_in}
 use Rattle.jt_bind.proofs.resolver.Resolver.put_copies.Given as goal
 
 abbrev pub invariant-loop-name : goal.invariant-loop-name

@@ -1,17 +1,9 @@
-use Rattle.std.proofs.Common.{◌≡◌, refl, ℕ, [], sym, ap, ◌∙◌, subst, true, false, Option}
-use Rattle.std.specs.Option.{is_none}
-use Rattle.std.proofs.lemmas.Result.{IfOk-weaker}
 use Rattle.jt_ast.specs.Statements as trees
-use Rattle.jt_ast.specs.StatementView.{is_ignored, passes_context}
 use Rattle.jt_ir.specs.Slots as slots
-use Rattle.jt_semantics.specs.Layout.{first_slot, names}
-use Rattle.jt_chains.specs.Chain.{a_chain}
-use Rattle.jt_layout.specs.NamespaceLayout.{IsNamespaceAt}
-use Rattle.jt_ast.specs.Texts.{texts}
-use Rattle.jt_bind.specs.internal.Scoped.{cenv_in, order_in, templates_in}
-use Rattle.jt_bind.specs.internal.Stated.{stmt_in}
-use Rattle.jt_bind.proofs.BodyConcatenation.{emits_of, emits_both, run_emitted}
-use Rattle.jt_bind.proofs.BlocksAndIncludes.{no_row, absent_names, absent_unit, include_shown, include_missing}
+use Rattle.jt_bind.specs.internal.{◌≡◌, refl, [], true, false, is_none, is_ignored, passes_context, first_slot, names}
+use Rattle.jt_bind.specs.internal.{a_chain, texts, cenv_in, order_in, templates_in, stmt_in}
+use Rattle.jt_bind.proofs.{sym, ap, ◌∙◌, IfOk-weaker, emits_of, emits_both, run_emitted, no_row, absent_names}
+use Rattle.jt_bind.proofs.{absent_unit, include_shown, include_missing}
 use Rattle.jt_bind.proofs.resolver.Resolver.put_include.Goals as goal
 
 pub returns-in_default : goal.returns-in_default
@@ -19,8 +11,7 @@ returns-in_default c =
     let scope = c.args.self.now.tables.now in
     let x = c.args.name.now in
     let there : is_none ((cenv_in scope).sources x) ≡ false = sym c.is_missing.ensures ∙ c.if-is_missing.false in
-    let P : Option ℕ → Type 0 = IsNamespaceAt (order_in scope) (a_chain x) in
-    let absent = subst P c.in_default.is c.chain_index.ensures in
+    let absent = rw c.in_default.is at c.chain_index.ensures in
     IfOk-weaker c.put_run.result _ _ (λ u h p. emits_of (templates_in scope) _ _ _ _ _ _
     (include_shown scope c.args.self.now.senv c.args.line x (is_ignored c.args.missing) (passes_context c.args.names)
     (first_slot (cenv_in scope) (order_in scope) (a_chain x)) [] c.units.result there refl
@@ -38,8 +29,7 @@ returns c =
     let order = order_in scope in
     let chain = c.at-there.result.now in
     let there : is_none (cenv.sources x) ≡ false = sym c.is_missing.ensures ∙ c.if-is_missing.false in
-    let P : Option ℕ → Type 0 = IsNamespaceAt order (a_chain x) in
-    let is = (subst P c.in-Some.is c.chain_index.ensures).1 in
+    let is = (rw c.in-Some.is at c.chain_index.ensures).1 in
     let namespace_layout = c.at-there.ensures in
     IfOk-weaker c.put_run-2.result _ _ (λ u h p. emits_of T _ _ _ _ _ _
     (include_shown scope senv c.args.line x (is_ignored c.args.missing) c.passes_context.result chain.first_slot

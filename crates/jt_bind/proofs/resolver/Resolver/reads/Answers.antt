@@ -1,13 +1,6 @@
-use Rattle.std.proofs.lemmas.List.{drop_all}
-use Rattle.std.proofs.Common.{◌+◌, drop, arith}
-use Rattle.std.specs.Prelude.{option_map}
-use Rattle.jt_ast.specs.Texts.{texts}
-use Rattle.jt_ir.specs.View.{slot_view}
 use Rattle.jt_semantics.specs.Resolve as resolve
-use Rattle.jt_semantics.specs.Resolve.{read_from}
-use Rattle.jt_bind.specs.internal.Scoped.{senv_in}
-use Rattle.jt_bind.proofs.CalleeResolution.{reads_next}
-use Rattle.jt_bind.proofs.RowConcatenation.{of_whole, row_both, row_item}
+use Rattle.jt_bind.specs.internal.{◌+◌, drop, option_map, texts, slot_view, read_from, senv_in}
+use Rattle.jt_bind.proofs.{drop_all, arith, reads_next, of_whole, row_both, row_item}
 use Rattle.jt_bind.proofs.resolver.Resolver.reads.Goals as goal
 
 pub returns : goal.returns

@@ -1,8 +1,5 @@
-use Rattle.std.proofs.Common.{List, [], drop}
-use Rattle.jt_value.specs.Tree.{Tree}
-use Rattle.jt_ast.specs.Texts.{texts}
 use Rattle.jt_semantics.specs.Resolve as resolve
-use Rattle.jt_bind.specs.internal.Scoped.{RowLeads, senv_in}
+use Rattle.jt_bind.specs.internal.{List, [], drop, Tree, texts, RowLeads, senv_in}
 use Rattle.jt_bind.proofs.resolver.Resolver.reads.Given as goal
 
 abbrev pub invariant-loop-name : goal.invariant-loop-name

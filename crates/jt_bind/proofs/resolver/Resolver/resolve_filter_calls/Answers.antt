@@ -1,7 +1,5 @@
-use Rattle.std.proofs.Common.{arith, append-nil, rules}
-use Rattle.std.proofs.lemmas.List.{take_all, length-map}
-use Rattle.jt_bind.proofs.FilterTags.{filters_next}
-use Rattle.jt_ir.proofs.ExpressionViews.{view_Variable}
+use Rattle.std.proofs.lemmas.List.{take_all}
+use Rattle.jt_bind.proofs.{arith, append-nil, rules, length-map, filters_next, view_Variable}
 use Rattle.jt_bind.proofs.resolver.Resolver.resolve_filter_calls.Goals as goal
 
 pub returns : goal.returns

@@ -1,5 +1,4 @@
-use Rattle.std.proofs.Common.{arith, rules}
-use Rattle.jt_bind.proofs.BodyConcatenation.{emits_of}
+use Rattle.jt_bind.proofs.{arith, rules, emits_of}
 use Rattle.jt_bind.proofs.resolver.Resolver.resolve_layer.Goals as goal
 
 pub returns-then-is_root : goal.returns-then-is_root

@@ -1,15 +1,7 @@
-use Rattle.std.proofs.Common.{length, max, sym, ap, ◌∙◌}
-use Rattle.std.proofs.lemmas.List.{length-map}
-use denote.Ref.{Bor}
-use Rattle.jt_ast.specs.Expressions.{Text}
 use Rattle.jt_ast.specs.StatementView as written
-use Rattle.jt_ast.specs.Texts.{texts}
-use Rattle.jt_ir.specs.Locals.{body_locals}
-use Rattle.jt_semantics.specs.Resolve.{bound_all}
-use Rattle.jt_bind.specs.internal.Scoped.{values, senv_in, templates_in}
-use Rattle.jt_bind.specs.internal.Stated.{scoped_in}
-use Rattle.jt_bind.proofs.BodyConcatenation.{emits_begun}
-use Rattle.jt_bind.proofs.RoutineConcatenation.{locals_same, routine_made}
+use Rattle.jt_bind.specs.internal.{length, max, Bor, Text, texts, body_locals, bound_all, values, senv_in, templates_in}
+use Rattle.jt_bind.specs.internal.{scoped_in}
+use Rattle.jt_bind.proofs.{sym, ap, ◌∙◌, length-map, locals_same, routine_made}
 use Rattle.jt_bind.proofs.resolver.Resolver.resolve_routine.Goals as goal
 
 pub returns : goal.returns
@@ -22,10 +14,10 @@ returns c =
     let body = c.resolve_within.new.done in
     let p = values c.args.pool.now in
     let q = values c.resolve_within.new.pool in
-    let emitted = emits_begun T whole _ _ _ p q c.new-done.ensures.items c.in_ok-resolve_within.ensures in
+    let emitted = rw c.new-done.ensures.items at c.in_ok-resolve_within.ensures in
     let count = c.len-count.ensures ∙ names.ok.0 ∙ sym (length-map names.items (λ (k : Bor Text). k.now)) in
     routine_made T c.len-count.result (length (texts names.items)) whole body c.larger-locals.result
     (max (length (texts names.items)) (body_locals whole)) p q emitted count
     (c.larger-locals.ensures ∙ ap (λ n. max n c.in_ok-body_locals.field-0) count
     ∙ ap (max (length (texts names.items))) (locals_same T whole body.items p q c.in_ok-body_locals.field-0 emitted
-    (λ b. rw (← c.deref.ensures.value) (c.in_ok-body_locals.ensures T b))))
+    (rw (← c.deref.ensures.value) (c.in_ok-body_locals.ensures T))))

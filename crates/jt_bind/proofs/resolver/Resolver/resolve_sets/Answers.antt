@@ -1,8 +1,4 @@
-use Rattle.std.proofs.lemmas.List.{drop_all}
-use Rattle.std.proofs.Common.{arith, rules}
-use Rattle.jt_bind.proofs.ChainTemplates.{sets_next}
-use Rattle.jt_bind.proofs.BodyConcatenation.{lead_both, lead_of}
-use Rattle.jt_ast.proofs.RemainingParts.{statements_left}
+use Rattle.jt_bind.proofs.{drop_all, arith, rules, sets_next, lead_both, lead_of, statements_left}
 use Rattle.jt_bind.proofs.resolver.Resolver.resolve_sets.Goals as goal
 
 pub loop-statement-preserved : goal.loop-statement-preserved

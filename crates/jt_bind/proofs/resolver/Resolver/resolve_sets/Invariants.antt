@@ -1,9 +1,5 @@
-use Rattle.std.proofs.Common.{drop}
-use Rattle.jt_semantics.specs.Resolve.{followed, resolved_sets}
-use Rattle.jt_ast.specs.StatementView.{body_view}
-use Rattle.jt_ir.specs.Pool.{Constant}
-use Rattle.jt_ir.specs.Slots.{SBody}
-use Rattle.jt_bind.specs.internal.Scoped.{values, BodyLeads, templates_in, cenv_in, order_in, senv_in}
+use Rattle.jt_bind.specs.internal.{drop, followed, resolved_sets, body_view, Constant, SBody, values, BodyLeads}
+use Rattle.jt_bind.specs.internal.{templates_in, cenv_in, order_in, senv_in}
 use Rattle.jt_bind.proofs.resolver.Resolver.resolve_sets.Given as goal
 
 abbrev pub invariant-loop-statement : goal.invariant-loop-statement

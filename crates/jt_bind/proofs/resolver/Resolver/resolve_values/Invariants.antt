@@ -1,9 +1,4 @@
-use Rattle.std.proofs.Common.{drop}
-use Rattle.jt_ast.specs.ExpressionView.{pairs_view}
-use Rattle.jt_ir.specs.Pool.{Constant}
-use Rattle.jt_ir.specs.Slots.{SBody}
-use Rattle.jt_bind.specs.internal.Scoped.{values, BodyLeads, templates_in}
-use Rattle.jt_bind.specs.internal.Stated.{values_in}
+use Rattle.jt_bind.specs.internal.{drop, pairs_view, Constant, SBody, values, BodyLeads, templates_in, values_in}
 use Rattle.jt_bind.proofs.resolver.Resolver.resolve_values.Given as goal
 
 abbrev pub invariant-loop-value : goal.invariant-loop-value

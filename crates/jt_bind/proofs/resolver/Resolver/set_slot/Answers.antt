@@ -1,9 +1,5 @@
-use Rattle.std.proofs.Common.{sym, ap, ◌∙◌}
-use Rattle.std.specs.Prelude.{unwrap_or}
-use Rattle.jt_ir.specs.Slots.{local}
-use Rattle.jt_bind.specs.internal.Scoped.{senv_in}
-use Rattle.jt_bind.proofs.PlacesAndScopes.{slot_of_found, viewed_or}
-use Rattle.jt_ir.specs.View.{slot_view}
+use Rattle.jt_bind.specs.internal.{unwrap_or, local, senv_in, slot_view}
+use Rattle.jt_bind.proofs.{sym, ap, ◌∙◌, slot_of_found, viewed_or}
 use Rattle.jt_bind.proofs.resolver.Resolver.set_slot.Goals as goal
 
 pub returns : goal.returns

@@ -1,8 +1,6 @@
-use Rattle.std.proofs.Common.{◌≡◌, Global, String, List, [], ◌∷◌, length, refl, arith, rules}
-use Rattle.jt_ast.specs.StatementView.{names_view}
-use Rattle.jt_semantics.specs.Layout.{Table}
-use Rattle.jt_semantics.specs.Resolve.{kept_slots, set_targets}
-use Rattle.jt_ir.specs.Slots.{several}
+use Rattle.jt_bind.specs.internal.{◌≡◌, String, List, [], ◌∷◌, length, refl, names_view, Table, kept_slots, set_targets}
+use Rattle.jt_bind.specs.internal.{several}
+use Rattle.jt_bind.proofs.{Global, arith, rules}
 use Rattle.jt_bind.proofs.resolver.Resolver.set_targets.Goals.{else-names-lt1+else-names-lt2}
 use Rattle.jt_bind.proofs.resolver.Resolver.set_targets.Goals as goal
 

@@ -1,7 +1,5 @@
-use Rattle.std.proofs.Common.{◌≡◌, ℕ, ◌+◌, ◌-◌, ◌<◌, ◌≤◌, length, map, take, sym, ap, ◌∙◌, arith}
-use Rattle.jt_semantics.specs.Layout.{slot_in}
-use Rattle.jt_bind.specs.internal.Scoped.{globals_in, framed}
-use Rattle.jt_bind.proofs.PlacesAndScopes.{found_or, framed_found}
+use Rattle.jt_bind.specs.internal.{◌≡◌, ℕ, ◌+◌, ◌-◌, ◌<◌, ◌≤◌, length, map, take, slot_in, globals_in, framed}
+use Rattle.jt_bind.proofs.{sym, ap, ◌∙◌, arith, found_or, framed_found}
 use Rattle.jt_bind.proofs.resolver.Resolver.slot.Goals as goal
 
 pub returns-in-Some : goal.returns-in-Some

@@ -1,6 +1,4 @@
-use Rattle.std.proofs.Common.{◌≡◌, ◌≤◌, length, map, take}
-use Rattle.jt_semantics.specs.Layout.{slot_in}
-use Rattle.jt_bind.specs.internal.Scoped.{globals_in, framed}
+use Rattle.jt_bind.specs.internal.{◌≡◌, ◌≤◌, length, map, take, slot_in, globals_in, framed}
 use Rattle.jt_bind.proofs.resolver.Resolver.slot.Given as goal
 
 abbrev pub invariant-loop-left : goal.invariant-loop-left

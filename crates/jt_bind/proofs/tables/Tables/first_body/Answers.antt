@@ -1,6 +1,4 @@
-use Rattle.std.proofs.Common.{arith, rules}
-use Rattle.std.proofs.lemmas.List.{length-map}
-use Rattle.jt_bind.proofs.NumberedBodies.{first_within}
+use Rattle.jt_bind.proofs.{arith, rules, length-map, first_within}
 use Rattle.jt_bind.proofs.tables.Tables.first_body.Goals as goal
 
 pub returns-in_ok-checked_sum-in-Some : goal.returns-in_ok-checked_sum-in-Some

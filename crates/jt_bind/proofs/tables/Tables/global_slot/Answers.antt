@@ -1,6 +1,5 @@
-use Rattle.std.proofs.Common.{sym, ap, ◌∙◌}
-use Rattle.std.specs.Prelude.{option_map}
-use Rattle.jt_ir.specs.Slots.{global}
+use Rattle.jt_bind.specs.internal.{option_map, global}
+use Rattle.jt_bind.proofs.{sym, ap, ◌∙◌}
 use Rattle.jt_bind.proofs.tables.Tables.global_slot.Goals as goal
 
 pub returns-in-Some : goal.returns-in-Some

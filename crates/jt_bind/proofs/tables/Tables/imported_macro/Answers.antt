@@ -1,14 +1,8 @@
-use Rattle.std.proofs.Common.{◌≡◌, sym, ap, ◌∙◌, subst, Some, arith, rules}
-use Rattle.std.specs.Prelude.{option_map}
-use Rattle.std.proofs.lemmas.Result.{IfOk-weaker}
-use denote.Ref.{Bor}
 use Rattle.jt_ast.specs.Expressions as trees
-use Rattle.jt_ast.specs.Expressions.{Text}
-use Rattle.jt_chains.specs.Chain as chain
-use Rattle.jt_chains.specs.Chain.{a_library, macros, macro_of, given_to}
-use Rattle.jt_bind.specs.internal.Callees.{IsCallee, library_of, of_namespace}
-use Rattle.jt_bind.specs.internal.Scoped.{cenv_in, order_in, given_in, callee_in}
-use Rattle.jt_bind.proofs.CalleeResolution.{called_there, member_is, no_library, private_is, public_is}
+use Rattle.jt_bind.specs.internal.{◌≡◌, Some, option_map, Bor, Text, a_library, macros, macro_of, given_to, library_of}
+use Rattle.jt_bind.specs.internal.{of_namespace, cenv_in, given_in, callee_in}
+use Rattle.jt_bind.proofs.{sym, ap, ◌∙◌, arith, rules, IfOk-weaker, called_there, member_is, no_library, private_is}
+use Rattle.jt_bind.proofs.{public_is}
 use Rattle.jt_bind.proofs.tables.Tables.imported_macro.Goals as goal
 
 pub returns-in_default : goal.returns-in_default
@@ -32,7 +26,6 @@ returns c =
     member_is sources (given_in scope) of x c.requires.not_self c.requires.not_loop
     ∙ public_is sources o x n some (sym c.is_private.ensures ∙ c.if-is_private.false) in
     IfOk-weaker c.library_macro.result _ _ (λ k h.
-    let P : chain.Callee → Type 0 = λ z. IsCallee (cenv_in scope) (order_in scope) k z in
-    subst P (sym whole)
+    rw whole
     (h (λ m q. (called_there scope c.stands.ensures f (a_library n) m (whole ∙ ap (of_namespace (a_library n)) q)).1)))
     c.library_macro.ensures

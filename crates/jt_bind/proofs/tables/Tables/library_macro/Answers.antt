@@ -1,5 +1,4 @@
-use Rattle.std.proofs.Common.{arith, rules}
-use Rattle.jt_bind.proofs.CalleeResolution.{nowhere}
+use Rattle.jt_bind.proofs.{arith, rules, nowhere}
 use Rattle.jt_bind.proofs.tables.Tables.library_macro.Goals as goal
 
 pub returns-in-None : goal.returns-in-None

@@ -1,13 +1,7 @@
-use Rattle.std.proofs.Common.{◌≡◌, ℕ, sym, ap, ◌∙◌, subst, Option}
 use Rattle.std.proofs.lemmas.Option.{get_or_from_slice_get}
-use Rattle.jt_ast.specs.StatementView.{parameters_view}
-use Rattle.jt_chains.specs.Parts.{macro_view}
-use Rattle.jt_chains.specs.Indices.{namespace_at}
-use Rattle.jt_chains.specs.View.{chain_view}
-use Rattle.jt_chains.specs.declared.parts.Macro.{Macro}
-use Rattle.jt_layout.specs.NamespaceLayout.{IsCalled}
-use Rattle.jt_bind.specs.internal.Callees.{of_namespace}
-use Rattle.jt_bind.specs.internal.Scoped.{cenv_in, order_in}
+use Rattle.jt_bind.specs.internal.{files_in, ◌≡◌, parameters_view, macro_view, namespace_at, Macro, of_namespace}
+use Rattle.jt_bind.specs.internal.{order_in}
+use Rattle.jt_bind.proofs.{ap, ◌∙◌}
 use Rattle.jt_bind.proofs.tables.Tables.macro_at.Goals as goal
 
 pub returns : goal.returns
@@ -16,11 +10,10 @@ returns c =
     let x = c.args.name.now in
     let h = namespace_at (order_in scope) c.args.namespace in
     let there = c.at-there.result.now in
-    let ts = (chain_view scope.chain.now).templates in
+    let ts = files_in scope in
     let i = c.in-Some.index in
     let namespace_layout = c.at-there.ensures in
-    let P : Option ℕ → Type 0 = λ o. IsCalled (cenv_in scope) (order_in scope) ts h there x o in
-    let at = subst P (sym c.index_of.ensures ∙ c.in-Some.is) (namespace_layout.by_names x) in
+    let at = rw (← c.index_of.ensures, c.in-Some.is) at (namespace_layout.by_names x) in
     let found : c.index-found.result.now ≡ at.code =
     c.index-found.ensures
     ∙ get_or_from_slice_get there.known.now.macros.items i at.code c.index-found.result.now at.found in (

@@ -12,10 +12,24 @@ use Rattle.jt_expr.proofs.StackedForms.{length_pushed}
 use Rattle.jt_expr.proofs.pending.Reader.complete.Goals as goal
 
 pub returns-then-not-admits-clause-gives : goal.returns-then-not-admits-clause-gives
-returns-then-not-admits-clause-gives c = search (arith, rules, nat_le, skip_moves)
+returns-then-not-admits-clause-gives c =
+    let self = c.args.self.now in
+    let k = level_view c.args.level in
+    let g = level_view c.goal-goal.result in
+    let test : nat_le (rank g) (rank k) ≡ false = cc in
+    skip_moves (level_view self.entry) self.below self.pending.items k g (tree_of c.args.tree)
+    (ahead c.args.cursor.now) c.goal-goal.ensures (level_view c.towards-next.result)
+    (subst (λ j. Leads k j g (level_view c.towards-next.result)) c.continued.ensures c.towards-next.ensures) test
 
 pub returns-in_default-clause-gives : goal.returns-in_default-clause-gives
-returns-in_default-clause-gives c = search (arith, rules, nat_le, done_moves)
+returns-in_default-clause-gives c =
+    let self = c.args.self.now in
+    let k = level_view c.args.level in
+    let g = level_view c.goal-goal.result in
+    let test : nat_le (rank g) (rank k) ≡ true = cc in
+    let none : length self.pending.items ≡ 0 = omega (arith, c.in_default.ensures.cases) in
+    done_moves (level_view self.entry) self.below self.pending.items k g (tree_of c.args.tree) (ahead c.args.cursor.now)
+    c.goal-goal.ensures none test
 
 pub invariant_of-self-2 : goal.invariant_of-self-2
 invariant_of-self-2 c = search (arith, rules, depth_pushed)

@@ -1,4 +1,4 @@
-use Rattle.jt_layout.proofs.Vocabulary.{None, string_bytes, arith, rules, btree_map_updates_str}
+use Rattle.jt_layout.proofs.Vocabulary.{None, arith, rules, string_bytes, btree_map_updates_str}
 use Rattle.jt_layout.proofs.collected.CollectedNames.take.Goals as goal
 
 pub returns-in-Some-clause-others : goal.returns-in-Some-clause-others

@@ -1,12 +1,15 @@
-use Rattle.jt_names.proofs.Vocabulary.{arith, rules}
-use Rattle.jt_names.proofs.LibraryNames.{library_counted, none_counted, nowhere_counted}
+use Rattle.jt_chains.proofs.TemplatesByIndex.{file_at}
+use Rattle.jt_names.proofs.{arith, rules, tests, length-map, all_known, library_known, no_library, nowhere}
 use Rattle.jt_names.proofs.facts.ChainFacts.count_in_library.Goals as goal
 
+pub index-requires : goal.index-requires
+index-requires c = grind (arith, all_known, length-map, tests)
+
+pub returns-in-Some : goal.returns-in-Some
+returns-in-Some c = grind (arith, length-map, tests, file_at, library_known)
+
 pub returns-in_default : goal.returns-in_default
-returns-in_default c = search (arith, rules, nowhere_counted)
+returns-in_default c = search (arith, rules, length-map, file_at, no_library)
 
-pub returns-then-not-is_library_at : goal.returns-then-not-is_library_at
-returns-then-not-is_library_at c = search (arith, rules, none_counted)
-
-pub returns : goal.returns
-returns c = search (arith, rules, library_counted)
+pub returns-in_default-2 : goal.returns-in_default-2
+returns-in_default-2 c = search (arith, rules, length-map, nowhere)

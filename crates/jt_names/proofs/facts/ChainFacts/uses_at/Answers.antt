@@ -1,5 +1,4 @@
-use Rattle.jt_names.proofs.Vocabulary.{arith, length-map}
-use Rattle.jt_names.proofs.FactsOfTemplatesCorrect.{facts_at, all_known}
+use Rattle.jt_names.proofs.{arith, length-map, facts_at, all_known}
 use Rattle.jt_names.proofs.facts.ChainFacts.uses_at.Goals as goal
 
 pub returns : goal.returns

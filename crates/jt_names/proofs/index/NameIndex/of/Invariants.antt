@@ -1,4 +1,4 @@
-use Rattle.jt_names.proofs.Vocabulary.{◌≡◌, ◌+◌, ◌≤◌, length, drop, Text, texts, value_in, first_of}
+use Rattle.jt_names.proofs.{◌≡◌, ◌+◌, ◌≤◌, length, drop, Text, texts, value_in, first_of}
 use Rattle.jt_names.proofs.index.NameIndex.of.Given as goal
 
 abbrev pub invariant-loop-left : goal.invariant-loop-left

@@ -1,0 +1,7 @@
+use Rattle.jt_bind.specs.internal.{expr_view}
+use Rattle.jt_bind.proofs.{arith, filters_counted}
+use Rattle.jt_bind.proofs.local_counts.last_of_filtered.Goals as goal
+
+pub loop-filter-init : goal.loop-filter-init
+loop-filter-init c =
+    let v = c.args.filtered.now in omega (arith, filters_counted v.filters.items (expr_view v.value))

@@ -1,0 +1,70 @@
+-- The words that the clauses and the proofs of this crate take from the definitions of other crates.
+pub use Rattle.std.specs.Option.{is_none}
+pub use Rattle.std.specs.Prelude.{Bool, Box, Err, IfOk, List, None, Ok, Option, Result, Some, String, Vec, [], codes}
+pub use Rattle.std.specs.Prelude.{drop, false, filter, flat_map, get_or, if◌then◌else◌, is_some, length, map, max}
+pub use Rattle.std.specs.Prelude.{option_map, pos, refl, reverse, slice_get, string_bytes, suc, take, true, unwrap_or}
+pub use Rattle.std.specs.Prelude.{zero, ℕ, ◌*◌, ◌++◌, ◌+◌, ◌-◌, ◌<◌, ◌==◌, ◌^◌, ◌||◌, ◌∷◌, ◌≡◌, ◌≤◌}
+pub use Rattle.std.specs.Str.{bytes_eq}
+pub use Rattle.std.specs.declared.rc.Rc.{Rc}
+pub use denote.Param.Weighed.{most}
+pub use denote.Ref.{Bor}
+pub use Rattle.jt_ast.specs.ExpressionView.{exprs_view, is_negated, literal_view, pairs_view}
+pub use Rattle.jt_ast.specs.Expressions.{Exprs, Pairs, Text, attribute, name, no_pairs, pair}
+pub use Rattle.jt_ast.specs.StatementView.{body_view, branches_view, filter_call_view, filter_calls_view, is_ignored}
+pub use Rattle.jt_ast.specs.StatementView.{names_view, parameter_view, parameters_view, passes_context}
+pub use Rattle.jt_ast.specs.Texts.{among, texts}
+pub use Rattle.jt_ast.specs.declared.expression.Expr.{Expr, size-Expr}
+pub use Rattle.jt_ast.specs.declared.statement.Stmt.{Stmt, size-Stmt}
+pub use Rattle.jt_chains.specs.Chain.{BlockBody, Definition, MacroBody, Namespace, Sources, Template, a_block, a_chain}
+pub use Rattle.jt_chains.specs.Chain.{a_library, a_macro, all_bodies, callee, given, given_to, in_library, is_private}
+pub use Rattle.jt_chains.specs.Chain.{library, listed, macro_of, macros, no_callee, of_library, one_macro, public_macro}
+pub use Rattle.jt_chains.specs.Chain.{same_namespace, templates}
+pub use Rattle.jt_chains.specs.Indices.{namespace_at}
+pub use Rattle.jt_chains.specs.Layers.{layer_view}
+pub use Rattle.jt_chains.specs.Parts.{block_view, macro_view, name_at}
+pub use Rattle.jt_chains.specs.TemplateFiles.{files_view, namespace_view}
+pub use Rattle.jt_chains.specs.Uses.{count, keywords, set_in}
+pub use Rattle.jt_chains.specs.declared.layers.Layer.{Layer}
+pub use Rattle.jt_chains.specs.declared.parts.Block.{Block}
+pub use Rattle.jt_chains.specs.declared.parts.Macro.{Macro}
+pub use Rattle.jt_eval.specs.Filters.{default_value, some_given}
+pub use Rattle.jt_eval.specs.TheFilters.{filter_parameters, filter_written, parameters_of}
+pub use Rattle.jt_eval.specs.Values.{literal}
+pub use Rattle.jt_ids.specs.FilterTable.{filter_id}
+pub use Rattle.jt_ids.specs.declared.loop_field.LoopField.TheVariants.{Index0}
+pub use Rattle.jt_ir.specs.Locals.{body_locals, condition_locals, expr_locals, row_locals, slot_locals, slots_locals}
+pub use Rattle.jt_ir.specs.Locals.{stmt_locals}
+pub use Rattle.jt_ir.specs.Pool.{Constant, body_values, condition_values, expr_values, known, own, placed_body}
+pub use Rattle.jt_ir.specs.Pool.{placed_condition, placed_expr, placed_routine, placed_routines, placed_row}
+pub use Rattle.jt_ir.specs.Pool.{placed_stmt, routines_values, row_values, stmt_values}
+pub use Rattle.jt_ir.specs.Slots.{NaryOp, SBody, SRow, Slot, SlotExpr, Targets, absent, end, global, invoke, item}
+pub use Rattle.jt_ir.specs.Slots.{local, none, one, several, variable}
+pub use Rattle.jt_ir.specs.View.{Front, choice_view, entry_front, expr_view, filtered_view, filters_after, nary_op_view}
+pub use Rattle.jt_ir.specs.View.{place_view, program_of, routine_view, row_view, slot_view, stmt_view, targets_view}
+pub use Rattle.jt_ir.specs.declared.program.Routine.{Routine}
+pub use Rattle.jt_ir.specs.declared.program.SlotBranch.{SlotBranch}
+pub use Rattle.jt_ir.specs.declared.program.SlotFilter.{SlotFilter}
+pub use Rattle.jt_ir.specs.declared.program.SlotStmt.{SlotStmt, size-SlotStmt}
+pub use Rattle.jt_layout.specs.declared.namespace_layout.NamespaceLayout.{NamespaceLayout}
+pub use Rattle.jt_names.specs.Names.{value_in}
+pub use Rattle.jt_rules.specs.CompileEnv.{CompileEnv, cenv_of}
+pub use Rattle.jt_semantics.specs.Layout.{Key, Table, block_parameters, chain_keys, counted_from, default_index}
+pub use Rattle.jt_semantics.specs.Layout.{defaults_of, entry_keys, first_slot, globals, index_of, keys, names, names_in}
+pub use Rattle.jt_semantics.specs.Layout.{numbered_bodies, numbered_of, of_body, of_chain, of_macro, same_key, slot_in}
+pub use Rattle.jt_semantics.specs.Layout.{unit}
+pub use Rattle.jt_semantics.specs.Resolve.{Part, alone, bound_all, bound_table, chain_routine, copied, filled}
+pub use Rattle.jt_semantics.specs.Resolve.{filled_some, first_body, first_locals, followed, fresh, handed_on, invoked}
+pub use Rattle.jt_semantics.specs.Resolve.{invoked_body, invoked_super, kept_slots, left_out, locals_from, next_given}
+pub use Rattle.jt_semantics.specs.Resolve.{place, read_from, reads, resolved_chain, resolved_condition}
+pub use Rattle.jt_semantics.specs.Resolve.{resolved_routine, resolved_sets, resolved_values, set_targets, slot_of}
+pub use Rattle.jt_semantics.specs.Resolve.{value_or}
+pub use Rattle.jt_value.specs.Place.{Place}
+pub use Rattle.jt_value.specs.Tree.{Tree, number}
+pub use Rattle.jt_value.specs.View.{view}
+pub use Rattle.jt_value.specs.declared.value.Value.{Value}
+pub use Rattle.jt_bind.specs.declared.callee.Callee.{Callee}
+pub use Rattle.jt_bind.specs.declared.callee.Signature.{Signature}
+pub use Rattle.jt_bind.specs.declared.emission.Turns.{Turns}
+pub use Rattle.jt_bind.specs.declared.name_scope.NameScope.{NameScope}
+pub use Rattle.jt_bind.specs.declared.resolver.Arguments.{Arguments}
+pub use Rattle.jt_bind.specs.declared.senv.StaticEnv.{StaticEnv}

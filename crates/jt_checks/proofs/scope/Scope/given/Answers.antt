@@ -1,7 +1,0 @@
-use Rattle.jt_checks.specs.internal.ScopeLookup.{cenv_in, namespace_in}
-use Rattle.jt_checks.proofs.Vocabulary.{arith, rules}
-use Rattle.jt_checks.proofs.scope.Scope.given.Goals as goal
-
-pub returns : goal.returns
-unfolding cenv_in namespace_in
-returns c = search (arith, rules)

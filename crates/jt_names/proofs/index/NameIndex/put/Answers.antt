@@ -1,7 +1,0 @@
-use Rattle.jt_names.proofs.Vocabulary.{btree_map_updates_str}
-use Rattle.jt_names.proofs.index.NameIndex.put.Goals as goal
-
-pub returns : goal.returns
-returns c =
-    λ x.
-    btree_map_updates_str c.args.name.now c.args.self.now.indices c.insert.new.self _ c.in_ok-insert.ensures.updates x

@@ -1,7 +1,0 @@
-use Rattle.jt_names.proofs.Vocabulary.{◌≡◌, drop, filter_map, all_inserted, texts, sites_view, name_scoped}
-use Rattle.jt_names.proofs.own.add_scoped.Given as goal
-
-abbrev pub invariant-loop-site : goal.invariant-loop-site
-invariant-loop-site l =
-    all_inserted (filter_map name_scoped (sites_view (drop l.site-index l.uses))) (texts l.names.keys)
-    ≡ all_inserted (filter_map name_scoped (sites_view l.uses)) (texts l.initial.names.keys)

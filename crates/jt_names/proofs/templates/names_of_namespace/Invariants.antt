@@ -1,0 +1,15 @@
+use Rattle.std.specs.List.{AllByRecursion}
+use Rattle.jt_chains.specs.Chain.{templates}
+use Rattle.jt_chains.specs.View.{its_sources, namespace_in}
+use Rattle.jt_names.proofs.{◌≡◌, ◌<◌, length, drop, flat_map, all_inserted, ascending, texts, along, names_by}
+use Rattle.jt_names.proofs.{its_templates}
+use Rattle.jt_names.proofs.templates.names_of_namespace.Given as goal
+
+abbrev pub invariant-loop-index : goal.invariant-loop-index
+invariant-loop-index l = record {
+  within : AllByRecursion (λ i. i < length l.templates) l.index-items;
+  names : all_inserted (along (its_templates l.chain) (λ n b. names_by l.of b) (drop l.index-index l.index-items))
+      (texts l.names.keys)
+      ≡ ascending (flat_map (λ t. names_by l.of t.body)
+      (templates (its_sources l.chain) (namespace_in l.chain l.namespace)));
+}
