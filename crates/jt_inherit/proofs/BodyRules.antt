@@ -1,23 +1,18 @@
 -- The rules on bodies of blocks, as they are checked one body at a time.
-use Rattle.std.proofs.Common.{◌≡◌, ℕ, zero, suc, ◌+◌, ◌<◌, Bool, true, false, not, cond, ◌&&◌, ◌||◌, List, [], ◌∷◌}
-use Rattle.std.proofs.Common.{◌++◌, length, map, take, drop, get_or, refl, sym, ap, subst, ◌∙◌, arith, rules, Some}
-use Rattle.std.proofs.Math.Bool.{or-false, or_assoc, or_comm}
+use Rattle.jt_inherit.proofs.Vocabulary as words
+use words.{◌≡◌, ℕ, zero, suc, ◌+◌, ◌<◌, Bool, true, false, not, cond, ◌&&◌, ◌||◌, List, [], ◌∷◌, ◌++◌, length, map}
+use words.{take, drop, get_or, refl, sym, ap, ◌∙◌, arith, rules, Some, or-false, or_assoc, or_comm, is_eq-slice_cmp}
+use words.{body_at, macros_along, blocks_along, BlockBody, from_given, named, slice_get, unwrap_or, option_map}
+use words.{drop_more, map-append, slice_get-get_or, list_any, bytes_eq, Bor, among, repeated, texts, Text, end}
+use words.{option_to_list, templates_at, any_double, Template, blocks_in, lacks_body, lacks_next, block_names}
+use words.{block_view, blocks_view, Block, calls_super, of_texts, reflexive, same, symmetric, among_next, once_more}
+use words.{along, Sources, MacroBody, macros_in, their_blocks, their_macros, their_names, imported_names}
+use words.{along_templates, or_from, or_parts, or_right, take_more}
 use Rattle.std.specs.BTreeSet.{BTreeSet}
 use Rattle.std.specs.Cmp.Lexicographic.{slice_cmp}
 use Rattle.std.specs.Ordering.{nat_cmp, is_eq}
-use Rattle.std.proofs.lemmas.Map.Text.{is_eq-slice_cmp}
-use Rattle.jt_chains.specs.Along.{body_at, macros_along, blocks_along}
-use Rattle.jt_chains.specs.Chain.{BlockBody, from_given}
-use Rattle.jt_inherit.specs.internal.RuleTests.{named}
 use Rattle.jt_chains.specs.Parts.{name_at, macros_view}
 use Rattle.jt_chains.specs.Rules.{is_required, lacks_super, is_empty}
-use Rattle.jt_inherit.proofs.Vocabulary.{slice_get, unwrap_or, option_map, drop_more, map-append, slice_get-get_or}
-use Rattle.jt_inherit.proofs.Vocabulary.{list_any, bytes_eq, Bor, among, repeated, texts, Text, end, option_to_list}
-use Rattle.jt_inherit.proofs.Vocabulary.{templates_at, any_double, Template, blocks_in, lacks_body, lacks_next}
-use Rattle.jt_inherit.proofs.Vocabulary.{block_names, block_view, blocks_view, Block, calls_super, of_texts, reflexive}
-use Rattle.jt_inherit.proofs.Vocabulary.{same, symmetric, among_next, once_more, along, Sources, MacroBody, macros_in}
-use Rattle.jt_inherit.proofs.Vocabulary.{their_blocks, their_macros, their_names, imported_names, along_templates}
-use Rattle.jt_inherit.proofs.Vocabulary.{or_from, or_parts, or_right, take_more}
 use Rattle.jt_chains.specs.declared.parts.Macro.{Macro}
 use Rattle.std.specs.BTreeSet as set
 
@@ -179,8 +174,7 @@ module _ (ts : List Template) (xs : List Block) (i : ℕ) (x : Block) (lt : i < 
       ap (blocks_view ts) (take_next xs i x lt is) ∙ map-append (block_view ts) (take i xs) (x ∷ []) in
       let n : among x.name.now (names_of (blocks_view ts (take i xs))) ≡ among x.name.now ks =
       ap (among x.name.now) (names_seen ts _) ∙ sym (h x.name.now) in
-      subst AreGiven (sym e)
-      (given_more _ _ g (ap (λ c. not c && x.required) n ∙ off))
+      rw e (given_more _ _ g (ap (λ c. not c && x.required) n ∙ off))
 
 pub not_not : (b : Bool) → not (not b) ≡ b
 not_not true = refl

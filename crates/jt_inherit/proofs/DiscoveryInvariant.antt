@@ -1,25 +1,19 @@
 -- One step of the search, and what stays true of followed chains and libraries when more is found.
-use Rattle.std.proofs.Common.{◌≡◌, Bool, true, false, List, [], ◌∷◌, ◌++◌, map, refl, ap, arith, rules, ℕ, zero, suc}
-use Rattle.std.proofs.Common.{◌+◌, ◌<◌, ◌≤◌, not, cond, ◌||◌, length, take, drop, get_or, sym, subst, ◌∙◌, inl, inr}
-use Rattle.std.proofs.Common.{◌⊎◌, ⊎_elim, Some, length-append, Option, None, Vec, Global}
-use Rattle.jt_chains.specs.Chain.{imports_in, all_given_from}
-use Rattle.jt_chains.specs.Includes.{includes_by, includes_under}
-use Rattle.jt_inherit.proofs.Vocabulary.{flat_map, filter, AllByRecursion, map-append, Text, Body, Branches, among}
-use Rattle.jt_inherit.proofs.Vocabulary.{Sources, Namespace, a_chain, a_library, Template, holds_macros, libraries_in}
-use Rattle.jt_inherit.proofs.Vocabulary.{macros, MacroBody, own, lacks_macros, chosen, names_from, imported_names}
-use Rattle.jt_inherit.proofs.Vocabulary.{includes_in, Need, include_need, library_need, needed, and_parts, HasRead}
-use Rattle.jt_inherit.proofs.Vocabulary.{names, KeyedNeed, keyed_needs, keyed_view, Options, needed-append, slice_get}
-use Rattle.jt_inherit.proofs.Vocabulary.{bytes_eq, append-nil, append_assoc, drop_more, repeated, SourceTexts, listed}
-use Rattle.jt_inherit.proofs.Vocabulary.{AreNext, TooMany, IsNextFault, IsMet, chains_of, twice, need_namespace}
-use Rattle.jt_inherit.proofs.Vocabulary.{ChainError, of_texts, reflexive, chain_among, of_namespaces, among_behind}
-use Rattle.jt_inherit.proofs.Vocabulary.{among_cases, among_front, among_next, once_more, only_among, or_from, or_parts}
-use Rattle.jt_inherit.proofs.Vocabulary.{take-append-drop, take_more, HasPath, FollowedPath, HasNeeds, cases_lt}
-use Rattle.jt_inherit.proofs.Vocabulary.{slice_get_within, unwrap_or, is_some, option_to_list, length-map, AreIndices}
-use Rattle.jt_inherit.proofs.Vocabulary.{templates_at, imports_along, needs_along, namespace_name, templates, libraries}
-use Rattle.jt_inherit.proofs.Vocabulary.{sources_in, IsRead, IsFollowed, AreFollowed, AreFound, included, namespace_at}
-use Rattle.jt_inherit.proofs.Vocabulary.{Reaches, here, asked, extends_path, IsExtendsPath, by_templates}
-use Rattle.jt_inherit.proofs.Vocabulary.{along_templates, next_of, graph_of, same, indexed_among, filter_agree}
-use Rattle.jt_inherit.specs.internal.Found.{AddsNext, known_of, IsLedTo}
+use Rattle.jt_inherit.proofs.Vocabulary as words
+use words.{◌≡◌, Bool, true, false, List, [], ◌∷◌, ◌++◌, map, refl, ap, arith, rules, ℕ, zero, suc, ◌+◌, ◌<◌, ◌≤◌, not}
+use words.{cond, ◌||◌, length, take, drop, get_or, sym, subst, ◌∙◌, inl, inr, ◌⊎◌, ⊎_elim, Some, length-append, Option}
+use words.{None, Vec, Global, imports_in, all_given_from, includes_by, includes_under, flat_map, filter, AllByRecursion}
+use words.{map-append, Text, Body, Branches, among, Sources, Namespace, a_chain, a_library, Template, holds_macros}
+use words.{libraries_in, macros, MacroBody, own, lacks_macros, chosen, names_from, imported_names, includes_in, Need}
+use words.{include_need, library_need, needed, and_parts, HasRead, names, KeyedNeed, keyed_needs, keyed_view, Options}
+use words.{needed-append, slice_get, bytes_eq, append-nil, append_assoc, drop_more, repeated, SourceTexts, listed}
+use words.{AreNext, TooMany, IsNextFault, IsMet, chains_of, twice, need_namespace, ChainError, of_texts, reflexive}
+use words.{chain_among, of_namespaces, among_behind, among_cases, among_front, among_next, once_more, only_among}
+use words.{or_from, or_parts, take-append-drop, take_more, HasPath, FollowedPath, HasNeeds, cases_lt, slice_get_within}
+use words.{unwrap_or, is_some, option_to_list, length-map, AreIndices, templates_at, imports_along, needs_along}
+use words.{namespace_name, templates, libraries, sources_in, IsRead, IsFollowed, AreFollowed, AreFound, included}
+use words.{namespace_at, Reaches, here, asked, extends_path, IsExtendsPath, by_templates, along_templates, next_of}
+use words.{graph_of, same, indexed_among, filter_agree, AddsNext, known_of, IsLedTo}
 use Rattle.jt_inherit.proofs.PathsGrow.{last_at, read_on, indices_grow, names_to_root, templates_grow, way_grows}
 use Rattle.jt_inherit.proofs.PathsGrow.{few_templates, templates_to_root, reach_more, ask_more, reaches_next}
 use Rattle.jt_ast.specs.Statements as trees
@@ -255,9 +249,7 @@ pub met_read : {given : SourceTexts} {options : Options} {ts us : List Template}
     → HasRead given options ts us xs → (ns : List Need) → AllByRecursion (IsMet given (names ts)) ns
     → AllByRecursion (IsMet given (names us)) ns
 met_read {given} {ts = ts} r ns a =
-    subst (λ l. AllByRecursion (IsMet given l) ns)
-    (sym (ap names r.grown ∙ map-append (λ (t : Template). t.name) ts r.more))
-    (met_grows given _ _ ns a)
+    rw (ap names r.grown ∙ map-append (λ (t : Template). t.name) ts r.more) (met_grows given _ _ ns a)
 
 -- One include or import more.
 pub needed_turn : (ns : List KeyedNeed) (k : ℕ) (d : KeyedNeed) → k < length ns
@@ -272,8 +264,7 @@ pub met_turn : (P : Need → Type 0) (ns : List KeyedNeed) (k : ℕ) (d : KeyedN
     → AllByRecursion P (keyed_needs (take k ns)) → P (keyed_view (get_or ns k d))
     → AllByRecursion P (keyed_needs (take (k + 1) ns))
 met_turn P ns k d lt a p =
-    subst (λ (l : List KeyedNeed). AllByRecursion P (keyed_needs l)) (sym (take_more ns k d lt))
-    (more (take k ns) a)
+    rw (take_more ns k d lt) (more (take k ns) a)
   where
     more : (ms : List KeyedNeed) → AllByRecursion P (keyed_needs ms)
         → AllByRecursion P (keyed_needs (ms ++ get_or ns k d ∷ []))
@@ -286,8 +277,7 @@ pub next_turn : (old mid new : List Namespace) (ks : List Text) (ns : List Keyed
     → AddsNext mid new (chosen ks (keyed_view (get_or ns k d) ∷ [])) is js
     → AreNext old new (chosen ks (keyed_needs (take (k + 1) ns))) js
 next_turn old mid new ks ns k d is js lt p q =
-    subst (AreNext old new (chosen ks (keyed_needs (take (k + 1) ns)))) (sym q.1)
-    (subst (λ l. AreNext old new l (is ++ q.0)) (sym (chosen_turn ks ns k d lt))
+    rw q.1 (subst (λ l. AreNext old new l (is ++ q.0)) (sym (chosen_turn ks ns k d lt))
     (next_both old mid new _ _ is q.0 p
     q.2))
 
@@ -296,8 +286,7 @@ pub many_turn : (old mid : List Namespace) (ks : List Text) (ns : List KeyedNeed
     → k < length ns → AreNext old mid (chosen ks (keyed_needs (take k ns))) is
     → TooMany mid (chosen ks (keyed_view (get_or ns k d) ∷ [])) n → TooMany old (chosen ks (keyed_needs ns)) n
 many_turn old mid ks ns k d is n lt p f =
-    subst (λ l. TooMany old l n) (sym (chosen_all ks ns k d lt))
-    (many_later old mid _ _
+    rw (chosen_all ks ns k d lt) (many_later old mid _ _
     _ is n p f)
 
 -- ---- an error of an included template
@@ -450,12 +439,10 @@ module _ (given : SourceTexts) (options : Options) (ts us : List Template) (hs m
       let needs = includes_grow ts us w f.led.indices grown.indices in
       record {
         led = grown;
-        met = subst (λ l. AllByRecursion (IsMet given (names (ts ++ us))) l) (sym needs)
-            (subst (λ ks. AllByRecursion (IsMet given ks) (needs_along ts w)) (sym more_names)
+        met = rw needs (subst (λ ks. AllByRecursion (IsMet given ks) (needs_along ts w)) (sym more_names)
             (met_grows given _ _ _ f.met));
         numbered =
-            subst (λ l. map (slice_get (hs ++ ms)) n ≡ map Some l) (sym (same_chosen f))
-            (numbers_grow hs ms n _ f.numbered);
+            rw (same_chosen f) (numbers_grow hs ms n _ f.numbered);
       }
 
 next_front : (ws : List (List ℕ)) (w : List ℕ) (i : ℕ) → i < length ws → next_of (ws ++ w ∷ []) i ≡ next_of ws i
@@ -511,7 +498,7 @@ module _ {given : SourceTexts} {options : Options} {root : Text} {ts0 : List Tem
   module _ {ts2 : List Template} {needs : List Need} (same_needs : needs ≡ needs_along ts1 is)
       (r : HasRead given options ts1 ts2 (needed true needs)) where
     pub way_there : IsExtendsPath ts2 h is None
-    way_there = subst (λ vs. IsExtendsPath vs h is None) (sym r.grown) (way_grows _ r.more _ _ _ p.led)
+    way_there = rw r.grown (way_grows _ r.more _ _ _ p.led)
 
     pub needs_there : needs ≡ needs_along ts2 is
     needs_there = search (arith, rules, needs_along, includes_grow, way_there)
@@ -553,7 +540,7 @@ module _ {given : SourceTexts} {options : Options} {root : Text} {ts0 : List Tem
             let theirs = same_chosen given options ts0 all_read.more hs [] read (f.followed.each i lt) in (
               i,
               omega (arith, lt, length-append ws (is ∷ [])),
-              subst (λ v. listed x (chosen (names ts2) (needs_along ts2 v)) ≡ true) (sym (next_front ws is i lt))
+              rw (next_front ws is i lt)
                   (subst (λ vs. listed x (chosen (names vs) (needs_along vs (next_of ws i))) ≡ true)
                   (sym all_read.grown) (ap (listed x) theirs ∙ l.2)),
             )
@@ -562,8 +549,7 @@ module _ {given : SourceTexts} {options : Options} {root : Text} {ts0 : List Tem
         new q = (
           length ws,
           omega (arith, length-append ws (is ∷ [])),
-          subst (λ v. listed x (chosen (names ts2) (needs_along ts2 v)) ≡ true)
-              (sym (ap (λ o. unwrap_or o []) (last_at ws is)))
+          rw (ap (λ o. unwrap_or o []) (last_at ws is))
               (subst (λ l. listed x (chosen (names ts2) l) ≡ true) needs_there q),
         )
 
@@ -574,8 +560,8 @@ module _ {given : SourceTexts} {options : Options} {root : Text} {ts0 : List Tem
         let read = subst (AllByRecursion (IsRead given options)) all_read.grown r.known.read.each in
         let here_followed : IsFollowed given ts2 hs2 h is next = (record {
           led = way_there;
-          met = subst (AllByRecursion (IsMet given (names ts2))) needs_there met;
-          numbered = subst (λ l. map (slice_get hs2) next ≡ map Some (chosen (names ts2) l)) needs_there n.numbered;
+          met = rw (← needs_there) met;
+          numbered = rw (← needs_there) n.numbered;
         }) in
         record {
           known = r.known;
@@ -583,8 +569,7 @@ module _ {given : SourceTexts} {options : Options} {root : Text} {ts0 : List Tem
               (λ q. ask_more _ _ _ _ _ _ all_read.grown (f.asked x q))
               (λ q. (h, reached_there, q)) (all_read.from x a);
           first =
-              subst (λ l. slice_get l 0 ≡ Some (a_chain root)) (sym n.grown)
-              (at_front hs n.more 0 _ f.first);
+              rw n.grown (at_front hs n.more 0 _ f.first);
           once = n.once;
           few = n.few;
           reached = λ x a. reached_from x (n.from x a);
@@ -617,7 +602,7 @@ pub has_needs : {given : SourceTexts} {options : Options} {ts us : List Template
     → HasNeeds ts p → HasRead given options ts us xs → HasNeeds us p
 has_needs {ts = ts} {us} {p = p} h r =
     let is = p.extends_path.items in
-    let grown : AreIndices us is = subst (λ l. AreIndices l is) (sym r.grown) (indices_grow ts r.more is h.indices) in
+    let grown : AreIndices us is = rw r.grown (indices_grow ts r.more is h.indices) in
     record {
       indices = grown;
       told = h.told ∙ sym (ap (λ l. needs_along l is) r.grown

@@ -1,15 +1,11 @@
 -- A ring of the numbers of chains and libraries is one of the chains and libraries.
-use Rattle.std.proofs.Common.{◌≡◌, ◌⊎◌, ℕ, true, List, [], ◌∷◌, ◌<◌, ◌≤◌, ◌-◌, length, map, refl, sym, subst, ◌∙◌}
-use Rattle.std.proofs.Common.{⊎_elim, Option, Some, Bool, String, Vec, Global, arith, ap, suc}
+use Rattle.jt_inherit.proofs.Vocabulary as words
+use words.{◌≡◌, ◌⊎◌, ℕ, true, List, [], ◌∷◌, ◌<◌, ◌≤◌, ◌-◌, length, map, refl, sym, subst, ◌∙◌, ⊎_elim, Option, Some}
+use words.{Bool, String, Vec, Global, arith, ap, suc, LeadsTo, IsRingOf, HasRing, cases_lt, map-map, slice_get}
+use words.{unwrap_or, AllByRecursion, Graph, next_of, Options, Text, templates_at, Namespace, namespace_name, Template}
+use words.{Sources, sources_in, namespace_at, SourceTexts, HasTag, IsFinding, IsNoMemory, Says, all_uses, leads_to}
+use words.{AreFound, last_number, ChainFinding, Reaches, here, through, name_at, ChainSubject}
 use Rattle.jt_graph.specs.Graph.{Leads}
-use Rattle.jt_inherit.specs.Findings.{LeadsTo}
-use Rattle.jt_inherit.specs.internal.Placing.{IsRingOf}
-use Rattle.jt_inherit.specs.internal.Rings.{HasRing}
-use Rattle.jt_inherit.proofs.Vocabulary.{cases_lt, map-map, slice_get, unwrap_or, AllByRecursion, Graph, next_of}
-use Rattle.jt_inherit.proofs.Vocabulary.{Options, Text, templates_at, Namespace, namespace_name, Template, Sources}
-use Rattle.jt_inherit.proofs.Vocabulary.{sources_in, namespace_at, SourceTexts, HasTag, IsFinding, IsNoMemory, Says}
-use Rattle.jt_inherit.proofs.Vocabulary.{all_uses, leads_to, Breaks, AreFound, last_number, ChainFinding, Reaches, here}
-use Rattle.jt_inherit.proofs.Vocabulary.{through, name_at, ChainSubject}
 use Rattle.jt_inherit.proofs.ChainComplete.{edge, none_next, number, reached}
 use Rattle.jt_inherit.proofs.DiscoveryInvariant.{whole_path}
 use Rattle.jt_inherit.proofs.FindingsHold.{no_memory, said_at, shown}
@@ -22,7 +18,7 @@ use Rattle.jt_inherit.specs.declared.finding.ChainSubject.TheVariants as v
 
 led_reaches : (s : Sources) (e : Bool) (h : Namespace) (ks : List Namespace) (t : Namespace) → LeadsTo s h ks t
     → Reaches s e h t
-led_reaches s e h [] t l = subst (Reaches s e h) l here
+led_reaches s e h [] t l = rw (← l) here
 led_reaches s e h (k ∷ ks) t l = through l.0 (led_reaches s e k ks t l.1)
 
 last_leads : (g : Graph) (i : ℕ) (is : List ℕ) (t : ℕ) → Leads g i is t
@@ -55,11 +51,9 @@ module _ {given : SourceTexts} {options : Options} {entry : Text} {ts : List Tem
           let back = leads_namespaces first r.1 first r.2 in
           record {
             broken =
-                subst (λ z. Breaks z given entry options) (sym r.3.error)
-                (shows f.known (h, there, (next, e.1, led_reaches _ _ next _ h back)));
+                rw r.3.error (shows f.known (h, there, (next, e.1, led_reaches _ _ next _ h back)));
             says =
-                subst (λ z. Says given entry options x.place x.subject z) (sym r.3.error)
-                (by x.subject r.3.subject
+                rw r.3.error (by x.subject r.3.subject
                 (λ n rest q. said_at f.known there _ _ _
                 (all_uses (templates_at ts (next_of ws last))) used x.place r.3.place
                 (λ z tag. shown f.known there error.IncludeCycle z (v.Ring n rest) (record {

@@ -1,14 +1,12 @@
 -- The library of a name in a store: its macros, its path, and the names that are imported from it.
-use Rattle.std.proofs.Common.{◌≡◌, ℕ, ◌<◌, length, get_or, arith, string_bytes, Bool, false, ◌&&◌, ◌||◌, List, [], ◌∷◌}
-use Rattle.std.proofs.Common.{refl, sym, ap, ◌∙◌, Option, Some, None, rules, zero, suc, true, not}
+use Rattle.jt_inherit.proofs.Vocabulary as words
+use words.{◌≡◌, ℕ, ◌<◌, length, get_or, arith, string_bytes, Bool, false, ◌&&◌, ◌||◌, List, [], ◌∷◌, refl, sym, ap, ◌∙◌}
+use words.{Option, Some, None, rules, zero, suc, true, not, HasPath, names, slice_get, flat_map, is_some, is_none}
+use words.{length-map, append-nil, slice_get_within, Text, Body, body_of, among, repeated, Sources, a_library, Template}
+use words.{library_template, holds_macros, is_a_library, MacroBody, macros, macros_in, public_macro, sources_in}
+use words.{file_view, files_view, TemplateFile, only_one, macros_held, names_from, Options, SourceTexts, AreKnown}
+use words.{is_no_library, not-false, library_macros}
 use Rattle.jt_inherit.proofs.PathsGrow.{file_there, nothing_read}
-use Rattle.jt_inherit.proofs.Vocabulary.{HasPath, names, slice_get, flat_map, is_some, is_none, length-map, append-nil}
-use Rattle.jt_inherit.proofs.Vocabulary.{slice_get_within, Text, Body, body_of, among, repeated, Sources, a_library}
-use Rattle.jt_inherit.proofs.Vocabulary.{Template, library_template, holds_macros, is_a_library, MacroBody, macros}
-use Rattle.jt_inherit.proofs.Vocabulary.{macros_in, public_macro, sources_in, file_view, files_view, TemplateFile}
-use Rattle.jt_inherit.proofs.Vocabulary.{only_one, macros_held, names_from, Options, SourceTexts, AreKnown}
-use Rattle.jt_inherit.proofs.Vocabulary.{is_no_library, not-false}
-use Rattle.jt_chains.specs.Tables.{library_macros}
 use Rattle.jt_chains.specs.Rules.{lacks_one}
 use Rattle.jt_inherit.proofs.DiscoveryInvariant.{some_source}
 

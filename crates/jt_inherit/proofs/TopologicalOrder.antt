@@ -1,11 +1,9 @@
 -- An order of numbers determines an order of namespaces, each before those that it leads to.
-use Rattle.std.proofs.Common.{◌≡◌, ℕ, zero, suc, ◌<◌, ◌==◌, Bool, true, false, not, ◌||◌, List, [], ◌∷◌, length, map}
-use Rattle.std.proofs.Common.{refl, sym, ap, ◌∙◌, arith, Some, rules}
-use Rattle.jt_graph.specs.Graph.{AreOrdered}
-use Rattle.jt_inherit.proofs.Vocabulary.{slice_get, unwrap_or, AllByRecursion, nat_tests, Graph, next_of, Sources}
-use Rattle.jt_inherit.proofs.Vocabulary.{Namespace, a_chain, same_namespace, listed, included, AllIn, InOrder}
-use Rattle.jt_inherit.proofs.Vocabulary.{namespace_at, Reaches, here, through, twice, both_ways, not-true, or_from}
-use Rattle.jt_inherit.proofs.Vocabulary.{or_parts, or_right}
+use Rattle.jt_inherit.proofs.Vocabulary as words
+use words.{◌≡◌, ℕ, zero, suc, ◌<◌, ◌==◌, Bool, true, false, not, ◌||◌, List, [], ◌∷◌, length, map, refl, sym, ap, ◌∙◌}
+use words.{arith, Some, rules, AreOrdered, slice_get, unwrap_or, AllByRecursion, nat_tests, Graph, next_of, Sources}
+use words.{Namespace, a_chain, same_namespace, listed, included, AllIn, InOrder, namespace_at, Reaches, here, through}
+use words.{twice, both_ways, not-true, or_from, or_parts, or_right}
 use Rattle.jt_inherit.proofs.NamespaceMembership.{reflexive, same}
 use Rattle.jt_graph.specs.Graph as graph
 

@@ -1,6 +1,6 @@
-use Rattle.std.proofs.Common.{List, refl, sym, ap, subst, ◌∙◌, IfSome}
-use Rattle.jt_inherit.specs.internal.Tags.{AreFirst}
-use Rattle.jt_inherit.proofs.Vocabulary.{HasTwoTags, all_uses, defines, its_templates, place_in, tags_view, FoundTag}
+use Rattle.jt_inherit.proofs.Vocabulary as words
+use words.{List, refl, sym, ap, subst, ◌∙◌, IfSome, AreFirst, all_uses, defines, its_templates, place_in, tags_view}
+use words.{FoundTag}
 use Rattle.jt_inherit.proofs.TagPlaces.{second_shows}
 use Rattle.jt_inherit.proofs.breaking.name_twice.Goals as goal
 
@@ -13,7 +13,7 @@ returns c =
       refl,
       (
         refl,
-        subst (λ z. HasTwoTags (defines z) ts p.0 p.1) (sym c.in_ok-name.ensures.ok)
+        rw c.in_ok-name.ensures.ok
             (second_shows (defines c.args.name.now) p.0 p.1 (all_uses ts) (ap (place_in 0) found ∙ at.0)
             (ap (place_in 1) found ∙ at.1)),
       ),

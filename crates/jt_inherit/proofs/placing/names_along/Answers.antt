@@ -1,6 +1,6 @@
-use Rattle.std.proofs.Common.{◌+◌, ◌++◌, ◌∷◌, [], List, String, Global, drop, map, string_bytes, sym, ap, ◌∙◌}
-use Rattle.jt_inherit.proofs.Vocabulary.{append_assoc, Text, templates_at, Template, files_view, index_within, map_push}
-use Rattle.jt_inherit.proofs.Vocabulary.{names}
+use Rattle.jt_inherit.proofs.Vocabulary as words
+use words.{◌+◌, ◌++◌, ◌∷◌, [], List, String, Global, drop, map, string_bytes, sym, ap, ◌∙◌, append_assoc, Text}
+use words.{templates_at, Template, files_view, index_within, map_push, names}
 use Rattle.jt_inherit.proofs.PathsGrow.{templates_turn}
 use Rattle.jt_inherit.proofs.placing.names_along.Goals as goal
 

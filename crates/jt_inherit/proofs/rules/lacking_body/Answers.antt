@@ -1,6 +1,6 @@
-use Rattle.std.proofs.Common.{◌∷◌, [], ◌&&◌, not, List, take, sym, ap, subst, ◌∙◌}
-use Rattle.jt_inherit.proofs.Vocabulary.{map-append, among, texts, block_names, Block, blocks_view, take_all}
-use Rattle.jt_inherit.proofs.BodyRules.{AreGiven, among_set, body_lacking, body_goes, take_next, all_given}
+use Rattle.jt_inherit.proofs.Vocabulary as words
+use words.{◌∷◌, [], ◌&&◌, not, take, sym, ap, ◌∙◌, map-append, among, texts, block_names, Block, blocks_view, take_all}
+use Rattle.jt_inherit.proofs.BodyRules.{among_set, body_lacking, body_goes, take_next, all_given}
 use Rattle.jt_inherit.proofs.rules.lacking_body.Goals as goal
 
 pub returns-then-is_lacking : goal.returns-then-is_lacking
@@ -33,4 +33,4 @@ returns c =
     let l = c.loop-block in
     let whole = take_all l.block-index c.args.blocks.now c.loop-block-test.false in
     sym (all_given (blocks_view ts c.args.blocks.now)
-    (subst (λ (z : List Block). AreGiven (blocks_view ts z)) whole (l.invariant.1 ts)))
+    (rw (← whole) (l.invariant.1 ts)))

@@ -1,6 +1,6 @@
-use Rattle.std.proofs.Common.{◌≡◌, ◌++◌, ◌∷◌, ◌&&◌, ◌||◌, [], List, not, sym, ap, ◌∙◌, arith, rules}
-use Rattle.jt_inherit.proofs.Vocabulary.{option_to_list, bytes_eq, append_assoc, body_view, lacks_next, block_view}
-use Rattle.jt_inherit.proofs.Vocabulary.{blocks_view, calls_super, Block, nil_from_length}
+use Rattle.jt_inherit.proofs.Vocabulary as words
+use words.{◌≡◌, ◌++◌, ◌∷◌, ◌&&◌, ◌||◌, [], List, not, sym, ap, ◌∙◌, arith, rules, option_to_list, bytes_eq}
+use words.{append_assoc, body_view, lacks_next, block_view, blocks_view, calls_super, Block, nil_from_length}
 use Rattle.jt_inherit.proofs.BodyRules.{any_text, has_given, next_more, next_lacking, all_next}
 use Rattle.jt_inherit.proofs.rules.lacking_next.Goals as goal
 

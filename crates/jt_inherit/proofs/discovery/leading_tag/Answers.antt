@@ -1,9 +1,9 @@
-use Rattle.std.proofs.Common.{ℕ, ◌≡◌, [], List, refl, sym, ap, subst, ◌∙◌, Option, Bool}
-use Rattle.jt_inherit.proofs.Vocabulary.{IfOk, option_map, unwrap_or, next_of, graph_of, AreIndices, templates_at}
-use Rattle.jt_inherit.proofs.Vocabulary.{Namespace, a_chain, namespace_at, Use, all_uses, leads_to, found_namespaces}
-use Rattle.jt_inherit.proofs.Vocabulary.{found_templates, place_in, place_view, tags, test_of}
+use Rattle.jt_inherit.proofs.Vocabulary as words
+use words.{ℕ, ◌≡◌, [], List, refl, sym, ap, subst, ◌∙◌, Option, IfOk, option_map, unwrap_or, graph_of, AreIndices}
+use words.{templates_at, Namespace, a_chain, namespace_at, all_uses, leads_to, found_namespaces, found_templates}
+use words.{place_in, place_view, tags, test_of}
 use Rattle.jt_inherit.proofs.ChainComplete.{at_number, way_at}
-use Rattle.jt_inherit.proofs.leading.leading_tag.Goals as goal
+use Rattle.jt_inherit.proofs.discovery.leading_tag.Goals as goal
 
 pub first_at-requires : goal.first_at-requires
 first_at-requires c =
@@ -11,7 +11,7 @@ first_at-requires c =
     let is = c.deref.result.now in
     let here = way_at f.extends_paths.items f.extends_paths.items c.args.from c.index.result.now is refl
     c.requires.from c.index.ensures c.deref.ensures.value in
-    subst (AreIndices (found_templates f)) here.1
+    rw (← here.1)
     (at_number (AreIndices (found_templates f)) (graph_of f.extends_paths.items) c.args.from here.0 c.requires.indices)
 
 pub returns : goal.returns
@@ -26,7 +26,5 @@ returns c =
     c.wanted_for-wanted.ensures
     ∙ ap leads_to (sym (ap (λ (o : Option Namespace). unwrap_or o (a_chain [])) c.get.ensures)) in
     let r = c.first_at.result in
-    subst (λ (t : Use → Bool). IfOk r (λ p. option_map place_view p
-    ≡ place_in 0 (tags t (all_uses (templates_at (found_templates f) (next_of ways c.args.from)))))) wanted
-    (subst (λ (l : List ℕ). IfOk r (λ p. option_map place_view p
+    rw (← wanted) (subst (λ (l : List ℕ). IfOk r (λ p. option_map place_view p
     ≡ place_in 0 (tags test (all_uses (templates_at (found_templates f) l))))) (sym here.1) c.first_at.ensures)

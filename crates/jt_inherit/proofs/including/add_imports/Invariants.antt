@@ -1,6 +1,5 @@
-use Rattle.std.proofs.Common.{◌≡◌, ◌++◌, drop, map}
-use Rattle.jt_inherit.proofs.Vocabulary.{body_view, libraries_in, library_need, needs_view}
-use Rattle.jt_inherit.proofs.statements.add_imports.Given as goal
+use Rattle.jt_inherit.proofs.Vocabulary.{◌≡◌, ◌++◌, drop, map, body_view, libraries_in, library_need, needs_view}
+use Rattle.jt_inherit.proofs.including.add_imports.Given as goal
 
 abbrev pub invariant-loop-statement : goal.invariant-loop-statement
 invariant-loop-statement l =

@@ -1,6 +1,7 @@
-use Rattle.std.proofs.Common.{◌≡◌, ℕ, List, true, refl, sym, ap, subst, ◌∙◌}
-use Rattle.jt_inherit.proofs.Vocabulary.{Text, Site, HasNoSuper, calls_super_at, its_templates, IsLastCall, tag_view}
-use Rattle.jt_inherit.proofs.bodies.no_super.Goals as goal
+use Rattle.jt_inherit.proofs.Vocabulary as words
+use words.{◌≡◌, ℕ, List, true, refl, sym, ap, subst, ◌∙◌, Text, Site, calls_super_at, its_templates, IsLastCall}
+use words.{tag_view}
+use Rattle.jt_inherit.proofs.breaking.no_super.Goals as goal
 
 pub returns : goal.returns
 returns c =
@@ -14,7 +15,7 @@ returns c =
       refl,
       (
         refl,
-        subst (λ z. HasNoSuper ts z c.in_ok-opened.opened c.in_ok-place.place) (sym c.in_ok-block.ensures.ok) (record {
+        rw c.in_ok-block.ensures.ok (record {
           number = found.number;
           tag = tag;
           there = found.there;

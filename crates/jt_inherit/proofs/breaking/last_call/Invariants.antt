@@ -1,6 +1,5 @@
-use Rattle.std.proofs.Common.{◌≡◌, ◌++◌, true, List, length}
-use Rattle.jt_inherit.proofs.Vocabulary.{AllByRecursion, is_required, tag_view, FoundTag}
-use Rattle.jt_inherit.proofs.bodies.last_call.Given as goal
+use Rattle.jt_inherit.proofs.Vocabulary.{◌≡◌, ◌++◌, true, List, length, AllByRecursion, is_required, tag_view, FoundTag}
+use Rattle.jt_inherit.proofs.breaking.last_call.Given as goal
 
 abbrev pub decreases-loop-block : goal.decreases-loop-block
 decreases-loop-block l = length l.blocks.items

@@ -1,9 +1,8 @@
-use Rattle.std.proofs.Common.{◌≡◌, ℕ, List, refl, sym, ap, subst, ◌∙◌, Some}
-use Rattle.std.specs.Prelude.{option_copied}
-use Rattle.jt_inherit.specs.Findings.{blocks_named}
-use Rattle.jt_inherit.proofs.Vocabulary.{slice_get, Text, Site, IsNotGiven, its_templates, tag_view, FoundTag}
+use Rattle.jt_inherit.proofs.Vocabulary as words
+use words.{◌≡◌, ℕ, List, refl, sym, ap, ◌∙◌, Some, option_copied, blocks_named, slice_get, Text, Site, its_templates}
+use words.{tag_view, FoundTag}
 use Rattle.jt_inherit.proofs.TagPlaces.{first_view}
-use Rattle.jt_inherit.proofs.bodies.not_given.Goals as goal
+use Rattle.jt_inherit.proofs.breaking.not_given.Goals as goal
 
 pub returns : goal.returns
 returns c =
@@ -20,7 +19,7 @@ returns c =
       refl,
       (
         refl,
-        subst (λ z. IsNotGiven ts z c.in_ok-place.place) (sym c.in_ok-name.ensures.ok) (record {
+        rw c.in_ok-name.ensures.ok (record {
           tag = tag_view nearest;
           nearest = there;
           required = (
