@@ -1,15 +1,16 @@
 -- The macros of a library, by the index of its template and by their names.
-use Rattle.jt_chains.proofs.Vocabulary.{map, ◌≡◌, ◌≤◌, ℕ, suc, ◌+◌, length, Bool, true, false, arith, rules, subst}
-use Rattle.jt_chains.proofs.Vocabulary.{if◌then◌else◌, List, [], ◌∷◌, refl, sym, ap, ◌∙◌, Option, Some, None, flat_map}
-use Rattle.jt_chains.proofs.Vocabulary.{unwrap_or, option_map, slice_get, option_and_then, append-nil, length-map}
-use Rattle.jt_chains.proofs.Vocabulary.{bytes_eq-Decides, Text, body_at, first_body, Template, MacroBody, templates}
-use Rattle.jt_chains.proofs.Vocabulary.{holds_macros, library_template, macros_in, macro_of, a_library, sources_in}
-use Rattle.jt_chains.proofs.Vocabulary.{macros, is_private, public_macro, file_view, files_view, name_at, index_of}
-use Rattle.jt_chains.proofs.Vocabulary.{TemplateFile, get_by_text, slice_get_past, slice_get-map, stmts_of, body_view}
-use Rattle.jt_chains.proofs.Vocabulary.{body_of, stmt_view}
+use Rattle.jt_ast.specs.declared.statement.Stmt as statement
+use Rattle.jt_chains.specs.Chain
+use Chain.{MacroBody, templates, holds_macros, library_template, macro_of, a_library, macros, is_private, public_macro}
 use Rattle.jt_ast.specs.Statements.{Body, end, stmt, macro, Stmt}
 use Rattle.jt_chains.specs.Tables.{macro_index, library_macros, as_macro, IsTable, Table, is_named}
-use Rattle.jt_ast.specs.declared.statement.Stmt as statement
+use Rattle.jt_chains.specs.declared.files.TemplateFile.{TemplateFile}
+use Rattle.jt_chains.proofs.Vocabulary
+use Vocabulary.{option_and_then, slice_get_past, slice_get-map, map, ◌≡◌, ◌≤◌, ℕ, suc, ◌+◌, length, Bool, true, false}
+use Vocabulary.{arith, rules, subst, if◌then◌else◌, List, [], ◌∷◌, refl, sym, ap, ◌∙◌, Option, Some, None, flat_map}
+use Vocabulary.{unwrap_or, option_map, slice_get, append-nil, length-map, bytes_eq-Decides, Text, body_at, first_body}
+use Vocabulary.{Template, macros_in, sources_in, file_view, files_view, name_at, index_of, get_by_text, stmts_of}
+use Vocabulary.{body_view, body_of, stmt_view}
 
 -- ---- the template of a library
 
@@ -34,7 +35,7 @@ module _ {X : Type 0} (F : List Template → X) (f : Text → Body → X) (none 
   held : (n : Text) (o : Option Body) → of_held (option_map (as_template n) o) ≡ F (library_template n o)
   held n o = search (arith, rules, none, one)
 
-  library_has : (ts : List Template) (n : Text) (i : ℕ) → i ≡ index_of ts n
+  pub library_has : (ts : List Template) (n : Text) (i : ℕ) → i ≡ index_of ts n
       → of_held (slice_get ts i) ≡ F (templates (sources_in ts) (a_library n))
   library_has ts n i e = ap (λ j. of_held (slice_get ts j)) e ∙ ap of_held (named ts n) ∙ held n (sources_in ts n)
 

@@ -1,6 +1,6 @@
-use Rattle.jt_layout.proofs.Vocabulary.{List, drop, length, map, ◌≡◌, ◌≤◌, filter, bytes_eq, Text, Template, block_view}
-use Rattle.jt_layout.proofs.Vocabulary.{value_in, counted_from, next_given, nexts}
 use Rattle.jt_layout.proofs.bodies.next_bodies.Given as goal
+use Rattle.jt_layout.proofs.{counted_from, List, drop, length, map, ◌≡◌, ◌≤◌, Template, next_given, filter, bytes_eq}
+use Rattle.jt_layout.proofs.{Text, block_view, value_in, nexts}
 
 abbrev pub invariant-loop-left : goal.invariant-loop-left
 invariant-loop-left l = record {

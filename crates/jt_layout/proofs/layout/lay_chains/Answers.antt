@@ -1,11 +1,10 @@
-use Rattle.jt_names.proofs.EachItem.{each_more}
-use Rattle.jt_layout.proofs.Vocabulary.{[], ap, arith, drop, length, length-append, rules, string_bytes, subst, sym}
-use Rattle.jt_layout.proofs.Vocabulary.{◌+◌, ◌<◌, ◌∙◌, ◌∷◌, at_drop_all, length-map, flat_map, name_of_namespace}
-use Rattle.jt_layout.proofs.Vocabulary.{a_chain, listed, same_namespace, namespace_view, namespace_in, AreLaid}
-use Rattle.jt_layout.proofs.Vocabulary.{IsLaidAt, names_at, its_cenv, its_order}
-use Rattle.jt_layout.proofs.LayoutCorrect.{left_turn, listed_left, names_handed}
 use Rattle.jt_semantics.specs.Layout as layout
 use Rattle.jt_layout.proofs.layout.lay_chains.Goals as goal
+use Rattle.jt_names.proofs.EachItem.{each_more}
+use Rattle.jt_layout.proofs.{[], ap, drop, length, length-append, subst, sym, ◌+◌, ◌<◌, ◌∙◌, ◌∷◌, a_chain, listed}
+use Rattle.jt_layout.proofs.{same_namespace, arith, rules, string_bytes, at_drop_all, length-map, flat_map}
+use Rattle.jt_layout.proofs.{name_of_namespace, namespace_view, namespace_in, AreLaid, IsLaidAt, names_at, its_cenv}
+use Rattle.jt_layout.proofs.{its_order, left_turn, listed_left, names_handed}
 
 pub lay_chain-requires : goal.lay_chain-requires
 lay_chain-requires c =

@@ -1,8 +1,7 @@
-use Rattle.std.proofs.Common.{length-append}
-use Rattle.jt_names.specs.FactsOfChains.{IsKnown}
-use Rattle.jt_names.specs.declared.facts.NamespaceFacts.{NamespaceFacts}
-use Rattle.jt_names.proofs.{◌+◌, ℕ, List, [], ◌∷◌, length, sym, ap, subst, ◌∙◌, EachKnown, each_more}
 use Rattle.jt_names.proofs.chains.facts_of_namespaces.Goals as goal
+use Rattle.jt_names.specs.FactsOfChains.{IsKnown, EachKnown}
+use Rattle.jt_names.specs.declared.facts.NamespaceFacts.{NamespaceFacts}
+use Rattle.jt_names.proofs.{length-append, ◌+◌, ℕ, List, [], ◌∷◌, length, sym, ap, subst, ◌∙◌, each_more}
 
 pub loop-namespace-preserved : goal.loop-namespace-preserved
 loop-namespace-preserved c =
