@@ -1,15 +1,15 @@
 -- The first occurrences of names in lists, and bodies of blocks by their indices.
 use Rattle.jt_ast.specs.StatementView.{parameters_view}
 use Rattle.jt_chains.specs.declared.parts.Macro.{Macro}
-use Rattle.std.proofs.Common.{set, Option, add-one, get_or, suc, zero, Bool, Some, false, if◌then◌else◌, refl, ℕ}
+use Rattle.std.proofs.Common.{set, Option, add-one, get_or, suc, zero, Bool, Some, false, if◌then◌else◌, refl, ℕ, true}
 use Rattle.jt_chains.specs.Chain.{BlockBody, Namespace, macro_of}
-use Rattle.jt_semantics.specs.Layout.{Key, first_default, globals_from, index_of, of_macro, slot_in}
+use Rattle.jt_semantics.specs.Layout.{Key, first_default, globals_from, index_of, of_macro, slot_in, counted_from}
 use Rattle.jt_semantics.proofs.EnvLookup.{namespace_is, namespace_same, same_text}
 use Rattle.jt_layout.proofs.Vocabulary
-use Vocabulary.{true, List, [], ap, drop, length, map, subst, sym, ◌++◌, ◌+◌, ◌<◌, ◌||◌, ◌∙◌, ◌∷◌, ◌≡◌, counted_from}
-use Vocabulary.{Template, a_chain, listed, same_namespace, first_body, next_given, IsNamespaceAt, drop-set, None, arith}
-use Vocabulary.{rules, drop_more, filter, option_map, slice_get, bytes_eq, Text, namespace_at, block_view, macro_view}
-use Vocabulary.{Block, global, first_of, defaults_from, first_namespace, nexts}
+use Vocabulary.{List, [], ap, drop, length, map, subst, sym, ◌++◌, ◌+◌, ◌<◌, ◌||◌, ◌∙◌, ◌∷◌, ◌≡◌, Template, a_chain}
+use Vocabulary.{listed, same_namespace, first_body, next_given, IsNamespaceAt, drop-set, None, arith, rules, drop_more}
+use Vocabulary.{filter, option_map, slice_get, bytes_eq, Text, namespace_at, block_view, macro_view, Block, global}
+use Vocabulary.{first_of, defaults_from, first_namespace, nexts}
 
 -- Names in slots.
 pub in_slots : (x : Text) (n : ℕ) (xs : List Text) → option_map global (first_of x n xs) ≡ slot_in x (globals_from n xs)

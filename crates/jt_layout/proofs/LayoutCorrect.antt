@@ -1,10 +1,11 @@
 -- The layout of a chain or a library is correct, and the names of chains are inserted in order.
 use Rattle.jt_chains.specs.Uses as uses
-use Rattle.std.proofs.Common.{◌==◌, Option, append_assoc, not, suc, zero, Bool, Some, false, if◌then◌else◌, refl, ℕ}
+use Rattle.std.proofs.Common
+use Common.{◌==◌, Option, append_assoc, not, suc, zero, Bool, Some, false, if◌then◌else◌, refl, ℕ, true, length-append}
 use Rattle.std.proofs.lemmas.Bool.Decides.{nat_tests}
-use Rattle.jt_semantics.specs.Layout
-use Layout.{of_chain, same_key, chain_keys, numbered_bodies, block_parameters, first_slot, is_scoped, Key}
-use Layout.{default_index, entry_keys, first_default, in_globals, index_of, names, of_body, of_macro, unit, names_in}
+use Rattle.jt_semantics.specs.Layout.{of_chain, same_key, chain_keys, numbered_bodies, block_parameters, first_slot}
+use Rattle.jt_semantics.specs.Layout.{is_scoped, Key, default_index, entry_keys, first_default, in_globals, index_of}
+use Rattle.jt_semantics.specs.Layout.{names, of_body, of_macro, unit, names_in, counted_from, defaults_of}
 use Rattle.std.proofs.lemmas.Bool.{or_right}
 use Rattle.jt_chains.specs.declared.chain.Chain.{Chain}
 use Rattle.jt_chains.specs.Chain.{BlockBody, MacroBody, Namespace, Sources, a_library, macro_of, macros, templates}
@@ -21,12 +22,11 @@ use Rattle.jt_chains.specs.Needs.{include_need, needed, needs_view}
 use Rattle.jt_chains.proofs.IncludeCollection.{by_templates}
 use Rattle.std.specs.Option.{is_some}
 use Rattle.jt_layout.proofs.Vocabulary
-use Vocabulary.{true, List, [], ap, drop, length, length-append, map, subst, sym, ◌++◌, ◌+◌, ◌<◌, ◌||◌, ◌∙◌, ◌∷◌, ◌≡◌}
-use Vocabulary.{Global, Vec, counted_from, defaults_of, ascending_inserted, inserted_both, all_bodies, Template}
-use Vocabulary.{a_chain, listed, same_namespace, namespace_of, IsCalled, None, arith, rules, length-map, flat_map, Text}
-use Vocabulary.{block_view, macro_view, namespace_view, namespace_in, Block, first_of, Stands, StandsAt, defaults_from}
-use Vocabulary.{namespace_named, its_cenv, its_order, flat_map-append, append-nil, all_names, bytes_eq, Bor}
-use Vocabulary.{all_inserted, ascending, namespace_at, names_at}
+use Vocabulary.{List, [], ap, drop, length, map, subst, sym, ◌++◌, ◌+◌, ◌<◌, ◌||◌, ◌∙◌, ◌∷◌, ◌≡◌, Global, Vec}
+use Vocabulary.{ascending_inserted, inserted_both, all_bodies, Template, a_chain, listed, same_namespace, namespace_of}
+use Vocabulary.{IsCalled, None, arith, rules, length-map, flat_map, Text, block_view, macro_view, namespace_view}
+use Vocabulary.{namespace_in, Block, first_of, Stands, StandsAt, defaults_from, namespace_named, its_cenv, its_order}
+use Vocabulary.{flat_map-append, append-nil, all_names, bytes_eq, Bor, all_inserted, ascending, namespace_at, names_at}
 
 -- ---- names that are inserted in order, and the names of chains
 

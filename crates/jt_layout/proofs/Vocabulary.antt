@@ -15,12 +15,11 @@ pub use Rattle.jt_layout.specs.internal.Layouts.{defaults_from, first_namespace,
 pub use Rattle.jt_layout.specs.internal.Layouts.{namespace_named, namespace_of, nexts}
 pub use Rattle.jt_names.proofs.SortedNames.{ascending_inserted, inserted_both}
 pub use Rattle.jt_names.specs.Names.{first_of, value_in}
-pub use Rattle.jt_semantics.specs.Layout.{counted_from, defaults_of}
 pub use Rattle.jt_semantics.specs.Resolve.{first_body, next_given}
-pub use Rattle.std.proofs.Common.{Global, List, None, Vec, [], ap, arith, drop, length, length-append, map, rules}
-pub use Rattle.std.proofs.Common.{string_bytes, subst, sym, true, ◌&&◌, ◌++◌, ◌+◌, ◌<◌, ◌||◌, ◌∙◌, ◌∷◌, ◌≡◌, ◌≤◌}
+pub use Rattle.std.proofs.Common.{Global, List, None, Vec, [], ap, arith, drop, length, map, rules, string_bytes, subst}
+pub use Rattle.std.proofs.Common.{sym, ◌&&◌, ◌++◌, ◌+◌, ◌<◌, ◌||◌, ◌∙◌, ◌∷◌, ◌≡◌, ◌≤◌}
 pub use Rattle.std.proofs.lemmas.Grind.{common_steps, flat_map-append}
-pub use Rattle.std.proofs.lemmas.List.{append-nil, at_drop_all, drop-set, drop_more, length-map}
+pub use Rattle.std.proofs.lemmas.List.{append-nil, drop-set, drop_more, length-map}
 pub use Rattle.std.specs.List.{list_any}
 pub use Rattle.std.specs.Prelude.{filter, flat_map, option_map, slice_get}
 pub use Rattle.std.specs.Str.{bytes_eq}

@@ -7,6 +7,7 @@ pub use Rattle.jt_chains.specs.Chain.{given_to, is_loop, sources_in}
 pub use Rattle.jt_chains.specs.Parts.{blocks_view}
 pub use Rattle.jt_chains.specs.TemplateFiles.{files_view}
 pub use Rattle.jt_chains.specs.View.{its_sources, its_templates, namespace_in}
+pub use Rattle.jt_names.specs.FactsOfChains.{EachKnown, IsKnown}
 pub use Rattle.jt_names.specs.FactsOfTemplates.{AreKnown, facts_in, known_of}
 pub use Rattle.jt_names.specs.Names.{AreIndices, first_of, value_in}
 pub use Rattle.jt_names.specs.declared.own.NamesOf.{NamesOf}
@@ -14,8 +15,8 @@ pub use Rattle.jt_names.specs.internal.UsedNames.{name_used, names_by, used}
 pub use Rattle.jt_uses.specs.UseView.{sites_view}
 pub use Rattle.jt_uses.specs.Uses.{Site}
 pub use Rattle.std.proofs.Common.{Bool, List, None, Option, Some, [], ap, arith, drop, false, get_or, if◌then◌else◌}
-pub use Rattle.std.proofs.Common.{length, length-append, map, refl, rules, subst, suc, sym, tests, true, zero, ℕ, ◌++◌}
-pub use Rattle.std.proofs.Common.{◌+◌, ◌<◌, ◌||◌, ◌∙◌, ◌∷◌, ◌≡◌, ◌≤◌}
+pub use Rattle.std.proofs.Common.{length, map, refl, rules, subst, suc, sym, tests, true, zero, ℕ, ◌++◌, ◌+◌, ◌<◌, ◌||◌}
+pub use Rattle.std.proofs.Common.{◌∙◌, ◌∷◌, ◌≡◌, ◌≤◌}
 pub use Rattle.std.proofs.lemmas.List.{append-nil, at_drop_all, drop_more, length-map}
 pub use Rattle.std.specs.List.{AllByRecursion, cons_option, filter_map}
 pub use Rattle.std.specs.Option.{is_none, option_map_or}

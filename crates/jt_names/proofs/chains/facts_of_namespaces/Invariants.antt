@@ -1,6 +1,5 @@
 use Rattle.jt_names.proofs.chains.facts_of_namespaces.Given as goal
-use Rattle.jt_names.specs.FactsOfChains.{EachKnown}
-use Rattle.jt_names.proofs.{◌≡◌, length}
+use Rattle.jt_names.proofs.{EachKnown, ◌≡◌, length}
 
 abbrev pub invariant-loop-namespace : goal.invariant-loop-namespace
 invariant-loop-namespace l = record {
