@@ -3,10 +3,10 @@
 use Rattle.jt_inherit.proofs.Vocabulary as words
 use words.{◌≡◌, ◌≢◌, ◌↔◌, ℕ, zero, suc, ◌+◌, ◌*◌, ◌<◌, ◌≤◌, ◌==◌, true, false, not, ◌&&◌, List, [], ◌∷◌, length, map}
 use words.{refl, sym, ap, subst, ◌∙◌, arith, inl, inr, ◌⊎◌, ⊎_elim, Some, None, Vec, Global, get_or, rules, names}
-use words.{slice_get_within, length-map, append-nil, map-map, slice_get, unwrap_or, AllByRecursion, list_any, is_none}
-use words.{cases_lt, nat_tests, Graph, next_of, graph_of, Options, among, repeated, Text, AreIndices, templates_at}
-use words.{needs_along, Namespace, a_chain, listed, is_a_library, Template, templates, sources_in, SourceTexts, IsChain}
-use words.{lacks_body, lacks_next, chains_of, AreFound, IsFound, found_templates, found_namespaces, root_of, IsFollowed}
+use words.{slice_get_within, length-map, append-nil, map-map, slice_get, AllByRecursion, list_any, is_none, cases_lt}
+use words.{nat_tests, Graph, next_of, graph_of, Options, among, repeated, Text, AreIndices, templates_at, needs_along}
+use words.{Namespace, a_chain, listed, is_a_library, Template, templates, sources_in, SourceTexts, IsChain, lacks_body}
+use words.{lacks_next, chains_of, AreFound, IsFound, found_templates, found_namespaces, root_of, IsFollowed}
 use words.{AreFollowed, IsMet, found_paths, listed_view, included, InOrder, KeepAll, BreakOne, their_blocks}
 use words.{their_names, any_double, any_lacks_macros, IsName, Need, needed, namespace_at, IsFinding, Breaks}
 use words.{ChainFinding, Asks, Reaches, asked, is_whole, KeepsRules, templates_weight, chains_weight, templates_len}
@@ -180,7 +180,7 @@ module _ {given : SourceTexts} {options : Options} {entry : Text} {ts : List Tem
   some = slice_get_within hs 0 (a_chain entry) f.first
 
   first_namespace : namespace_at hs 0 ≡ a_chain entry
-  first_namespace = ap (λ o. unwrap_or o (a_chain [])) f.first
+  first_namespace = rw f.first
 
   includes_next : (i : ℕ) → i < length hs
       → map (slice_get hs) (next_of ns i) ≡ map Some (included (sources_in ts) (namespace_at hs i))
@@ -360,7 +360,7 @@ module _ {given : SourceTexts} {options : Options} {entry : Text} {ts : List Tem
         from [] p a w = absurd (cc)
         from (x ∷ os) p a w =
             let here = reached x (w x (indexed_among of_namespaces (x ∷ os) 0 x refl)) in
-            (os, ap (λ z. z ∷ os) (first_in_order _ _ x os _ p a here))
+            (os, rw (first_in_order _ _ x os _ p a here))
 
     all_reached : (os : List Namespace) → ((x : Namespace) → listed x os ≡ true → listed x hs ≡ true)
         → AllByRecursion (λ h. Reaches (sources_in ts) options.autoescape (a_chain entry) h) os

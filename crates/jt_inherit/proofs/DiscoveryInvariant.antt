@@ -1,8 +1,8 @@
 -- One step of the search, and what stays true of followed chains and libraries when more is found.
 use Rattle.jt_inherit.proofs.Vocabulary as words
 use words.{◌≡◌, Bool, true, false, List, [], ◌∷◌, ◌++◌, map, refl, ap, arith, rules, ℕ, zero, suc, ◌+◌, ◌<◌, ◌≤◌, not}
-use words.{cond, ◌||◌, length, take, drop, get_or, sym, subst, ◌∙◌, inl, inr, ◌⊎◌, ⊎_elim, Some, length-append, Option}
-use words.{None, Vec, Global, imports_in, all_given_from, includes_by, includes_under, flat_map, filter, AllByRecursion}
+use words.{◌||◌, length, take, drop, get_or, sym, subst, ◌∙◌, inl, inr, ◌⊎◌, ⊎_elim, Some, length-append, Option, None}
+use words.{Vec, Global, imports_in, all_given_from, includes_by, includes_under, flat_map, filter, AllByRecursion}
 use words.{map-append, Text, Body, Branches, among, Sources, Namespace, a_chain, a_library, Template, holds_macros}
 use words.{libraries_in, macros, MacroBody, own, lacks_macros, chosen, names_from, imported_names, includes_in, Need}
 use words.{include_need, library_need, needed, and_parts, HasRead, names, KeyedNeed, keyed_needs, keyed_view, Options}
@@ -29,8 +29,8 @@ all_imports (t ∷ ts) = search (arith, rules, library_need, libraries_in, all_i
 -- Each import needs its library.
 pub imports_needed : (all : Bool) (ns : List Text) → needed all (map library_need ns) ≡ ns
 imports_needed all [] = refl
-imports_needed true (n ∷ ns) = ap (λ l. n ∷ l) (imports_needed true ns)
-imports_needed false (n ∷ ns) = ap (λ l. n ∷ l) (imports_needed false ns)
+imports_needed true (n ∷ ns) = rw (imports_needed true ns)
+imports_needed false (n ∷ ns) = rw (imports_needed false ns)
 
 pub imports_chosen : (ks ns : List Text) → chosen ks (map library_need ns) ≡ map a_library (filter (λ n. among n ks) ns)
 imports_chosen ks [] = refl
@@ -107,7 +107,7 @@ from_named n ms (x ∷ xs) s e = search (arith, rules, map-append, from_named n 
 
 pub imports_named : (s : Sources) (b : Body) → map (λ g. g.0) (imports_in s b) ≡ imported_names s b
 imports_named s trees.end = refl
-imports_named s (trees.stmt (trees.import_as line n x) rest) = ap (λ l. x ∷ l) (imports_named s rest)
+imports_named s (trees.stmt (trees.import_as line n x) rest) = rw (imports_named s rest)
 imports_named s (trees.stmt (trees.import_from line n xs) rest) =
     search (arith, rules, map-append, from_named, imports_named s rest)
 imports_named s (trees.stmt t rest) = imports_named s rest
@@ -119,7 +119,7 @@ all_imported s (t ∷ ts) = search (arith, rules, map-append, imports_named, all
 
 pub own_named : (h : Namespace) (ms : List MacroBody) → map (λ g. g.0) (own h ms) ≡ map (λ m. m.name) ms
 own_named h [] = refl
-own_named h (m ∷ ms) = ap (λ l. m.name ∷ l) (own_named h ms)
+own_named h (m ∷ ms) = rw (own_named h ms)
 
 -- ---- known includes and imports
 
@@ -128,7 +128,7 @@ known-append ks [] ms = refl
 known-append ks (n ∷ ns) ms = search (arith, rules, known-append ks ns ms)
 
 pub one_known : (ks : List Text) (n : Need) → among n.name ks ≡ true → chosen ks (n ∷ []) ≡ need_namespace n ∷ []
-one_known ks n e = ap (λ b. map need_namespace (cond b (n ∷ []) [])) e
+one_known ks n e = rw e
 
 -- ---- numbers of namespaces
 
@@ -190,7 +190,7 @@ too_many old n once len new = record {
       (λ q. inr (ap (λ b. b || false) (ap (λ z. bytes_eq z m) (only_among of_texts _ _ q) ∙ reflexive m)))
       (among_cases of_texts m _ _ a);
   this_one = among_next of_texts n (chains_of old) [];
-  led = ap (λ b. b || false) (reflexive n);
+  led = rw (reflexive n);
 }
   where
     chains_once : (hs : List Namespace) → twice hs ≡ false → repeated (chains_of hs) ≡ false
@@ -220,9 +220,8 @@ pub chosen_turn : (ks : List Text) (ns : List KeyedNeed) (k : ℕ) (d : KeyedNee
     → chosen ks (keyed_needs (take (k + 1) ns))
     ≡ chosen ks (keyed_needs (take k ns)) ++ chosen ks (keyed_view (get_or ns k d) ∷ [])
 chosen_turn ks ns k d lt =
-    ap (λ (l : List KeyedNeed). chosen ks (keyed_needs l)) (take_more ns k d lt)
-    ∙ ap (chosen ks) (views-append _ _)
-    ∙ chosen-append ks _ _
+    rw (take_more ns k d lt) (ap (chosen ks) (views-append _ _)
+    ∙ chosen-append ks _ _)
 
 pub chosen_all : (ks : List Text) (ns : List KeyedNeed) (k : ℕ) (d : KeyedNeed) → k < length ns
     → chosen ks (keyed_needs ns) ≡ chosen ks (keyed_needs (take k ns))
@@ -256,9 +255,8 @@ pub needed_turn : (ns : List KeyedNeed) (k : ℕ) (d : KeyedNeed) → k < length
     → needed true (keyed_needs (take (k + 1) ns))
     ≡ needed true (keyed_needs (take k ns)) ++ (keyed_view (get_or ns k d)).name ∷ []
 needed_turn ns k d lt =
-    ap (λ (l : List KeyedNeed). needed true (keyed_needs l)) (take_more ns k d lt)
-    ∙ ap (needed true) (views-append _ _)
-    ∙ needed-append true (keyed_needs (take k ns)) (keyed_view (get_or ns k d) ∷ [])
+    rw (take_more ns k d lt) (ap (needed true) (views-append _ _)
+    ∙ needed-append true (keyed_needs (take k ns)) (keyed_view (get_or ns k d) ∷ []))
 
 pub met_turn : (P : Need → Type 0) (ns : List KeyedNeed) (k : ℕ) (d : KeyedNeed) → k < length ns
     → AllByRecursion P (keyed_needs (take k ns)) → P (keyed_view (get_or ns k d))
@@ -277,8 +275,7 @@ pub next_turn : (old mid new : List Namespace) (ks : List Text) (ns : List Keyed
     → AddsNext mid new (chosen ks (keyed_view (get_or ns k d) ∷ [])) is js
     → AreNext old new (chosen ks (keyed_needs (take (k + 1) ns))) js
 next_turn old mid new ks ns k d is js lt p q =
-    rw q.1 (subst (λ l. AreNext old new l (is ++ q.0)) (sym (chosen_turn ks ns k d lt))
-    (next_both old mid new _ _ is q.0 p
+    rw q.1 (rw (chosen_turn ks ns k d lt) (next_both old mid new _ _ is q.0 p
     q.2))
 
 pub many_turn : (old mid : List Namespace) (ks : List Text) (ns : List KeyedNeed) (k : ℕ) (d : KeyedNeed)
@@ -374,7 +371,7 @@ module _ {ts : List Template} (e : Bool) {h : Namespace} {is : List ℕ} (w : Is
     where
       by : (k : Namespace) → IsExtendsPath ts k is None → extends_path (sources_in ts) e k ≡ names (templates_at ts is)
       by (a_chain n) v = names_to_root _ 65 _ _ (omega (arith, few_way)) v.leads
-      by (a_library n) v = ap (λ m. m ∷ []) (sym v.leads.named) ∙ sym (ap names v.leads.only)
+      by (a_library n) v = rw (← v.leads.named) (sym (ap names v.leads.only))
 
   pub asked_way : (all : Bool)
       → asked (sources_in ts) e all h ≡ names (templates_at ts is) ++ needed all (needs_along ts is)
@@ -421,16 +418,15 @@ module _ (given : SourceTexts) (options : Options) (ts us : List Template) (hs m
     where
       both_names : (vs : List Template) → names (vs ++ us) ≡ names vs ++ names us
       both_names [] = refl
-      both_names (v ∷ vs) = ap (λ l. v.name ∷ l) (both_names vs)
+      both_names (v ∷ vs) = rw (both_names vs)
 
   same_chosen : {h : Namespace} {w n : List ℕ} → IsFollowed given ts hs h w n
       → chosen (names (ts ++ us)) (needs_along (ts ++ us) w) ≡ chosen (names ts) (needs_along ts w)
   same_chosen {h} {w} {n} f =
-      ap (λ ks. chosen ks (needs_along (ts ++ us) w)) more_names
-      ∙ ap (chosen (names ts ++ names us))
+      rw more_names (ap (chosen (names ts ++ names us))
       (includes_grow ts us w f.led.indices (way_grows _ us _ _ _ f.led).indices)
       ∙ chosen_same given _ _
-      (λ x e. sym (ap (among x) more_names) ∙ none_read given options _ x read e) _ f.met
+      (λ x e. sym (ap (among x) more_names) ∙ none_read given options _ x read e) _ f.met)
 
   followed_grows : (h : Namespace) (w n : List ℕ) → IsFollowed given ts hs h w n
       → IsFollowed given (ts ++ us) (hs ++ ms) h w n
@@ -439,8 +435,7 @@ module _ (given : SourceTexts) (options : Options) (ts us : List Template) (hs m
       let needs = includes_grow ts us w f.led.indices grown.indices in
       record {
         led = grown;
-        met = rw needs (subst (λ ks. AllByRecursion (IsMet given ks) (needs_along ts w)) (sym more_names)
-            (met_grows given _ _ _ f.met));
+        met = rw needs (rw more_names (met_grows given _ _ _ f.met));
         numbered =
             rw (same_chosen f) (numbers_grow hs ms n _ f.numbered);
       }
@@ -605,6 +600,5 @@ has_needs {ts = ts} {us} {p = p} h r =
     let grown : AreIndices us is = rw r.grown (indices_grow ts r.more is h.indices) in
     record {
       indices = grown;
-      told = h.told ∙ sym (ap (λ l. needs_along l is) r.grown
-          ∙ includes_grow ts r.more is h.indices (indices_grow ts r.more is h.indices));
+      told = h.told ∙ sym (rw r.grown (includes_grow ts r.more is h.indices (indices_grow ts r.more is h.indices)));
     }

@@ -11,10 +11,10 @@ use words.{ForSome, IsAt, HasTag, all_uses, is_extends, Says, may_be_bare, AreKn
 use words.{IsFaultOf, IsNamedOn, need_test, IsUnmet, tags, place_in, place_view, ChainError, ChainSubject, TagPlace}
 use words.{among_next, once_more, of_texts, key_view, ChainFinding, NamespaceKey, both_ways, flat_map-append, Need}
 use words.{AreIndices, is_whole, IsFinding, IsNoMemory, IsOfRule, RuleAt, BreakOne, IsBroken, is_include, Breaks}
-use words.{IsNextFinding, TooMany, chosen, IsIncludedMore, Graph, next_of, is_a_library, namespace_at, is_import}
-use words.{leads_to, AreFound, is_no_library, and_from, IsBrokenAt, last_of, SaysAll, IsAsked, IsFirst, IsNameless}
-use words.{IsOfName, IsOfNeed, IsParentAt, IsOneMore, IsRingOf, NamedAt, IsOneChainMore, IsFaultAt, IsUnmetNeed}
-use words.{BrokenIn, ◌&&◌, IsItsName, IsNoLibrary, IsOfImport, LeadsAt}
+use words.{IsNextFinding, TooMany, chosen, IsIncludedMore, Graph, next_of, is_a_library, namespace_at, leads_to}
+use words.{AreFound, is_no_library, and_from, IsBrokenAt, last_of, SaysAll, IsAsked, IsFirst, IsNameless, IsOfName}
+use words.{IsOfNeed, IsParentAt, IsOneMore, IsRingOf, NamedAt, IsOneChainMore, IsFaultAt, IsUnmetNeed, BrokenIn, ◌&&◌}
+use words.{IsItsName, IsNoLibrary, IsOfImport, LeadsAt}
 use Rattle.jt_inherit.proofs.DiscoveryInvariant.{some_source, none_read, asks_needed, whole_path, included_is, asked_at}
 use Rattle.jt_inherit.proofs.PathsGrow.{all_among, all_named, shows, names_lead, templates_lead, few_templates}
 use Rattle.jt_inherit.proofs.PathsGrow.{all_templates, last_at, asked_breaks, among_passes, chains_listed, chain_breaks}
@@ -86,7 +86,7 @@ split_at ts (i ∷ is) zero n at = by (slice_get ts i) refl
         absurd (cc)
     by (Some t) e =
         let told : Some t.name ≡ Some n = sym (ap (option_map (λ (t : Template). t.name)) e) ∙ at.1 in
-        ([], t, (let is_n : t.name ≡ n = cc in is_n), ap (λ o. option_to_list o ++ templates_at ts is) e)
+        ([], t, (let is_n : t.name ≡ n = cc in is_n), rw e)
 split_at ts (i ∷ is) (suc k) n at =
     let lt : k < length is = omega (arith, at.0) in
     let rest = split_at ts is k n (lt, at.1) in
@@ -94,8 +94,9 @@ split_at ts (i ∷ is) (suc k) n at =
       option_to_list (slice_get ts i) ++ rest.0,
       rest.1,
       rest.2,
-      rw (← one) (ap (λ l. option_to_list (slice_get ts i) ++ l) rest.3
-          ∙ sym (append_assoc (option_to_list (slice_get ts i)) rest.0 (rest.1 ∷ templates_at ts (drop (k + 1) is)))),
+      rw (← one)
+          (rw rest.3
+          (sym (append_assoc (option_to_list (slice_get ts i)) rest.0 (rest.1 ∷ templates_at ts (drop (k + 1) is))))),
     )
 
 pub there_on : (ts : List Template) (is : List ℕ) (k : ℕ) (n : Text) → IsNamedOn ts is n k
@@ -103,9 +104,8 @@ pub there_on : (ts : List Template) (is : List ℕ) (k : ℕ) (n : Text) → IsN
 there_on ts is k n on =
     let cut = split_at ts is k n on in
     let vs = templates_at ts (drop (k + 1) is) in
-    ap (λ us. among n (names us)) cut.3
-    ∙ ap (among n) (map-append (λ (t : Template). t.name) cut.0 (cut.1 ∷ vs))
-    ∙ ap (λ z. among n (names cut.0 ++ z ∷ names vs)) cut.2 ∙ among_next of_texts n (names cut.0) (names vs)
+    rw cut.3 (ap (among n) (map-append (λ (t : Template). t.name) cut.0 (cut.1 ∷ vs))
+    ∙ ap (λ z. among n (names cut.0 ++ z ∷ names vs)) cut.2 ∙ among_next of_texts n (names cut.0) (names vs))
 
 extends_need : (n : Text) (e : ChainError) (u : Use) → is_extends n u ≡ true → need_test n e u ≡ true
 extends_need n error.Missing u h = extends_asks false n u h
@@ -191,7 +191,7 @@ module _ {given : SourceTexts} {options : Options} {root : Text} {ts : List Temp
       → (p : Option TagPlace) (x : Option ChainSubject) → NamedAt o n e x p → Says given root options p x e
   need_said {us} whole n e f used o first p x q =
       let k = placed _ _ used o first in
-      named_said n e f o (rw k.1 (subst (λ l. HasTag (need_test n e) l k.0) (sym whole) k.2))
+      named_said n e f o (rw k.1 (rw whole k.2))
       p x q
 
 -- ---- an error at the end of a path
@@ -298,8 +298,7 @@ module _ {given : SourceTexts} {options : Options} {root : Text} {ts : List Temp
           shown known r error.ChainTooLong z (v.Templates m)
           (rw q (
             tag,
-            ap (λ l. slice_get l 64) up
-                ∙ subst (λ j. slice_get (names us ++ n ∷ []) j ≡ Some n) count (last_at (names us) n),
+            rw up (subst (λ j. slice_get (names us ++ n ∷ []) j ≡ Some n) count (last_at (names us) n)),
             ap repeated up ∙ once_more of_texts n (names us) w.once new,
           ))) o a f.place at
       by x q = absurd q
@@ -432,7 +431,7 @@ module _ {given : SourceTexts} {options : Options} {root : Text} {ts : List Temp
           told.place
           (λ z tag. shown known here error.ChainTooLong z (v.Chains m)
           (rw q (
-            subst (λ l. HasTag (is_include n) l z) (sym (whole_path w)) tag,
+            rw (whole_path w) tag,
             record {
               names = t.chains;
               many = t.many;
@@ -491,7 +490,7 @@ module _ {given : SourceTexts} {options : Options} {entry : Text} {ts : List Tem
       let h = namespace_at hs k in
       let front = whole_path (f.followed.each k within).led in
       shown f.known (f.reached h (namespace_among hs k lt)) error.NotALibrary p (v.Template x)
-      (rw is (subst (λ l. HasTag (is_import n) l p) (sym front) q.2, other))
+      (rw is (rw front q.2, other))
   import_said n a other (Some p) q x is = absurd is
 
   no_library : (h : Namespace) → listed h hs ≡ true → (x : ChainFinding) → is_no_library ts h ≡ true

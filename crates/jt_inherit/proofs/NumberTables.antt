@@ -1,7 +1,7 @@
 -- Tables of the numbers of templates and of namespaces: lookup, and the effect of an insertion.
 use Rattle.jt_inherit.proofs.Vocabulary as words
 use words.{◌≡◌, ℕ, suc, ◌+◌, Bool, true, false, cond, if◌then◌else◌, List, [], ◌∷◌, ◌++◌, length, refl, sym, ap, ◌∙◌}
-use words.{arith, Some, None, rules, Option, string_bytes, MatchOption, not, length-append, ◌||◌, AreAt, index_of}
+use words.{arith, Some, None, rules, Option, string_bytes, MatchOption, not, length-append, AreAt, index_of}
 use words.{TemplateFile, files_view, names, is_named, unwrap_or, length-map, slice_get, get_by_text, list_any}
 use words.{position_from, bytes_eq, Text, Table, AreNumbers, same, slice_get-map, among, symmetric, append-nil}
 use words.{Namespace, a_chain, a_library, same_namespace, listed, chains_of, key_view, keys_view, NamespaceKey, is_kind}
@@ -44,8 +44,8 @@ module _ {A : Type 0} (p : A → Bool) where
   first_more i (x ∷ xs) y n = search (arith, rules, first_more (i + 1) xs y)
 
   pub first_same : (i : ℕ) (xs : List A) (y : A) → p y ≡ false → position_from p i (xs ++ y ∷ []) ≡ position_from p i xs
-  first_same i [] y h = ap (λ b. cond b (Some i) None) h
-  first_same i (x ∷ xs) y h = ap (λ o. cond (p x) (Some i) o) (first_same (i + 1) xs y h)
+  first_same i [] y h = rw h
+  first_same i (x ∷ xs) y h = rw (first_same (i + 1) xs y h)
 
 -- ---- one item more
 
@@ -63,7 +63,7 @@ module _ {A : Type 0} (is : Text → A → Bool) (xs : List A) where
 
 any_file : (x : Text) (ps : List TemplateFile) → list_any (is_named x) ps ≡ among x (names (files_view ps))
 any_file x [] = refl
-any_file x (p ∷ ps) = ap (λ b. bytes_eq (string_bytes p.name) x || b) (any_file x ps)
+any_file x (p ∷ ps) = rw (any_file x ps)
 
 pub file_found : (x : Text) (ps : List TemplateFile) (m : Table) (r : Option ℕ) → AreNumbers is_named ps m
     → r ≡ get_by_text m x
@@ -76,7 +76,7 @@ pub file_put : (ps qs : List TemplateFile) (p : TemplateFile) (m n : Table) (x :
     → ((z : Text) → get_by_text n z ≡ cond (bytes_eq x z) (Some i) (get_by_text m z)) → AreNumbers is_named qs n
 file_put ps qs p m n x i told new all name at more =
     rw all (numbers_more is_named ps m n x i p told (λ z. ap (λ b. bytes_eq b z) (sym name))
-    (ap (λ b. list_any (is_named b) ps) name ∙ any_file _ ps ∙ new) at more)
+    (rw name (any_file _ ps ∙ new)) at more)
 
 file_at : (x : Text) (i : ℕ) (ps : List TemplateFile)
     → unwrap_or (position_from (is_named x) i ps) (i + length ps) ≡ i + index_of (files_view ps) x
@@ -102,10 +102,10 @@ namespace_found h ks a2 e =
 -- ---- chains and libraries
 
 pub is_chain : (k : NamespaceKey) → k.is_library ≡ false → key_view k ≡ a_chain (string_bytes k.name)
-is_chain k e = ap (λ (b : Bool). if b then a_library (string_bytes k.name) else a_chain (string_bytes k.name)) e
+is_chain k e = rw e
 
 pub is_library : (k : NamespaceKey) → k.is_library ≡ true → key_view k ≡ a_library (string_bytes k.name)
-is_library k e = ap (λ (b : Bool). if b then a_library (string_bytes k.name) else a_chain (string_bytes k.name)) e
+is_library k e = rw e
 
 -- ---- the numbers after an insertion
 

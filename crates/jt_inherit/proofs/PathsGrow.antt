@@ -2,16 +2,16 @@
 use Rattle.jt_inherit.proofs.Vocabulary as words
 use words.{◌≡◌, ℕ, zero, suc, ◌+◌, ◌-◌, ◌<◌, ◌≤◌, ◌==◌, Bool, true, false, not, ◌&&◌, List, [], ◌∷◌, ◌++◌, length, drop}
 use words.{get_or, refl, sym, ap, subst, ◌∙◌, arith, inl, inr, ◌⊎◌, ⊎_elim, Option, Some, None, length-append}
-use words.{string_bytes, rules, nat_lt, map, ◌||◌, HasRead, among_behind, among_cases, names, flat_map, slice_get}
-use words.{bytes_eq, option_to_list, slice_get_within, slice_get-get_or, AllByRecursion, append-nil, append_assoc}
-use words.{drop_more, length-map, Options, among, repeated, Text, Body, end, AreIndices, templates_at, Sources}
-use words.{Namespace, a_chain, a_library, Template, template, templates, libraries, extends_of, parent_of, names_up}
-use words.{sources_in, SourceTexts, IsRead, IsOnly, IsFaultOf, needs_in, file_view, files_view, TemplateFile, Breaks}
-use words.{HasFault, Shows, Reaches, asked, extends_path, Leads, AreKnown, IsExtendsPath, IsWithin, ChainError}
-use words.{only_one, map_at, IsNamedOn, of_texts, same, among_front, among_next, once_more, map_push, list_any, is_none}
-use words.{nat_tests, IsName, templates_weight, templates_len, or_from, or_right, filter, is_some, listed}
-use words.{library_template, libraries_in, included, with_source, Asks, here, through, BreaksAll, key_view}
-use words.{NamespaceKey, reflexive, flat_map-append, HasFaulty, LeadsFrom, all_more, comes_again, names_at, source_len}
+use words.{string_bytes, rules, nat_lt, map, HasRead, among_behind, among_cases, names, flat_map, slice_get, bytes_eq}
+use words.{option_to_list, slice_get_within, slice_get-get_or, AllByRecursion, append-nil, append_assoc, drop_more}
+use words.{length-map, Options, among, repeated, Text, Body, end, AreIndices, templates_at, Sources, Namespace, a_chain}
+use words.{a_library, Template, template, templates, libraries, extends_of, parent_of, names_up, sources_in}
+use words.{SourceTexts, IsRead, IsOnly, IsFaultOf, needs_in, file_view, files_view, TemplateFile, Breaks, HasFault}
+use words.{Shows, Reaches, asked, extends_path, Leads, AreKnown, IsExtendsPath, IsWithin, ChainError, only_one, map_at}
+use words.{IsNamedOn, of_texts, same, among_front, among_next, once_more, map_push, list_any, is_none, nat_tests}
+use words.{IsName, templates_weight, templates_len, or_from, or_right, filter, is_some, listed, library_template}
+use words.{libraries_in, included, with_source, Asks, here, through, BreaksAll, key_view, NamespaceKey, reflexive}
+use words.{flat_map-append, HasFaulty, LeadsFrom, all_more, comes_again, names_at, source_len}
 use Rattle.jt_ast.specs.Sizes.{body_bytes}
 use Rattle.jt_inherit.proofs.NumberTables.{is_chain}
 use Rattle.jt_inherit.specs.declared.error.ChainError.TheVariants as error
@@ -64,8 +64,7 @@ pub templates_lead : (s : Sources) (o : Option Text) (ts : List Template) (p : O
 templates_lead s o [] p l = refl
 templates_lead s None (t ∷ ts) p l = absurd l
 templates_lead s (Some n) (t ∷ ts) p l =
-    ap (λ b. template t.name b ++ flat_map (λ m. template m (s m)) (names ts)) (ap s l.0 ∙ l.1)
-    ∙ ap (λ xs. t ∷ xs) (templates_lead s (extends_of t.body) ts p l.2)
+    rw (ap s l.0 ∙ l.1) (ap (λ xs. t ∷ xs) (templates_lead s (extends_of t.body) ts p l.2))
 
 pub templates_to_root : (s : Sources) (h : Text) (ts : List Template) → length ts ≤ 64 → Leads s (Some h) ts None
     → templates s (a_chain h) ≡ ts
@@ -98,12 +97,11 @@ pub templates_grow : (ts us : List Template) (is : List ℕ) → AreIndices ts i
     → templates_at (ts ++ us) is ≡ templates_at ts is
 templates_grow ts us [] a = refl
 templates_grow ts us (i ∷ is) a =
-    ap (λ o. option_to_list o ++ templates_at (ts ++ us) is) (at_front ts us i a.0)
-    ∙ ap (λ l. option_to_list (slice_get ts i) ++ l) (templates_grow ts us is a.1)
+    rw (at_front ts us i a.0) (ap (λ l. option_to_list (slice_get ts i) ++ l) (templates_grow ts us is a.1))
 
 pub templates_more : (ts : List Template) (is : List ℕ) (i : ℕ) (t : Template) → slice_get ts i ≡ Some t
     → templates_at ts (is ++ i ∷ []) ≡ templates_at ts is ++ t ∷ []
-templates_more ts [] i t e = ap (λ o. option_to_list o ++ []) e
+templates_more ts [] i t e = rw e
 templates_more ts (j ∷ is) i t e =
     search (arith, rules, option_to_list, slice_get, templates_more ts is i t e, append_assoc, templates_at)
 
@@ -138,7 +136,7 @@ all_templates ts (i ∷ is) a = by (slice_get ts i) refl (all_templates ts is a.
     by None e r =
         let h = slice_get-get_or ts i (let none : Template = record { name = []; body = end } in none) a.0 in
         absurd (cc)
-    by (Some t) e r = ap (λ o. length (option_to_list o ++ templates_at ts is)) e ∙ ap suc r
+    by (Some t) e r = rw e (ap suc r)
 
 pub all_at_indices : (P : Template → Type 0) (ts : List Template) (is : List ℕ) → AllByRecursion P ts
     → AllByRecursion P (templates_at ts is)
@@ -275,7 +273,7 @@ module _ {given : SourceTexts} {options : Options} {root : Text} {ts : List Temp
       sixty_five n us len o =
           let count : length (names us ++ n ∷ []) ≡ 65 =
           length-append (names us) (n ∷ []) ∙ ap (λ k. k + 1) (length-map us (λ (u : Template). u.name) ∙ len) in
-          ap (λ k. (k == 65) && not (repeated (names us ++ n ∷ []))) count ∙ ap not o
+          rw count (ap not o)
 
   pub fault_breaks : {is : List ℕ} {n : Text} → IsExtendsPath ts (a_chain h) is (Some n) → (e : ChainError)
       → IsFaultOf e given n options → Breaks e given root options
@@ -331,17 +329,15 @@ module _ {given : SourceTexts} {options : Options} {vs ts us : List Template} {i
   way_step {o} new lt ext =
       let grown : IsExtendsPath us (a_chain h) is (Some n) = rw r.grown (way_grows _ r.more _ _ _ w) in
       let newly_read : among n (names (templates_at us is)) ≡ false =
-      ap (λ l. among n (names (templates_at l is))) r.grown
-      ∙ ap (λ l. among n (names l)) (templates_grow ts r.more is w.indices) ∙ new in
-      rw longer (subst (IsExtendsPath us (a_chain h) (is ++ i ∷ [])) (sym ext)
-      (way_next us h is i t n grown held named newly_read r.known.read.once lt))
+      rw r.grown (ap (λ l. among n (names l)) (templates_grow ts r.more is w.indices) ∙ new) in
+      rw longer (rw ext (way_next us h is i t n grown held named newly_read r.known.read.once lt))
 
 -- ---- names on the path
 
 front_up : (s : Sources) (k : ℕ) (n : Text) (t : Template) → t.name ≡ n → s n ≡ Some t.body
     → names_up s (suc k) (Some n) ≡ t.name ∷ names_up s k (extends_of t.body)
 front_up s k n t e f =
-    ap (λ o. n ∷ names_up s k (parent_of o)) f ∙ ap (λ x. x ∷ names_up s k (extends_of t.body)) (sym e)
+    rw f (ap (λ x. x ∷ names_up s k (extends_of t.body)) (sym e))
 
 among_up : (s : Sources) (k : ℕ) (o : Option Text) (ts : List Template) (x : Text) → Leads s o ts None
     → among x (names_up s k o) ≡ true → among x (names ts) ≡ true
@@ -420,7 +416,7 @@ templates_up s k o = flat_map (λ n. template n (s n)) (names_up s k o)
 
 up_some : (s : Sources) (k : ℕ) (n : Text) (b : Body) → s n ≡ Some b
     → templates_up s (suc k) (Some n) ≡ template n (Some b) ++ templates_up s k (extends_of b)
-up_some s k n b e = ap (λ o. template n o ++ templates_up s k (parent_of o)) e
+up_some s k n b e = rw e
 
 up_none : (s : Sources) (k : ℕ) (n : Text) → s n ≡ None → templates_up s (suc k) (Some n) ≡ []
 up_none s k n e = search (arith, rules, template, flat_map, names_up, parent_of, none_up)
@@ -435,7 +431,7 @@ carries_up s r k n b e g m a = search (arith, rules, or_right, bytes_eq, among, 
 
 front_carried : (s r : Sources) (k : ℕ) (n : Text) → Carries s r (names_up r (suc k) (Some n)) → (b : Body)
     → s n ≡ Some b → r n ≡ Some b
-front_carried s r k n g b e = g n (ap (λ c. c || among n (names_up r k (parent_of (r n)))) (reflexive n)) b e
+front_carried s r k n g b e = g n (rw (reflexive n)) b e
 
 -- When more is read, a path and its templates begin with those before. They stay the same if each name had a source.
 pub record Continues (s r : Sources) (k : ℕ) (o : Option Text) : Type 0 where
@@ -459,13 +455,12 @@ continues s r (suc k) (Some n) g =
     by None e f = record {
       more = names_up r k (parent_of (r n));
       longer =
-          sym (ap (λ o. n ∷ names_up s k (parent_of o) ++ names_up r k (parent_of (r n))) e
-          ∙ ap (λ l. n ∷ l ++ names_up r k (parent_of (r n))) (none_up s k));
+          sym (rw e (ap (λ l. n ∷ l ++ names_up r k (parent_of (r n))) (none_up s k)));
       more_templates = templates_up r (suc k) (Some n);
-      more_there = sym (ap (λ l. l ++ templates_up r (suc k) (Some n)) (up_none s k n e));
+      more_there = sym (rw (up_none s k n e));
       whole = λ h.
           let no : true ≡ false =
-          sym (ap (λ o. is_none o || list_any (λ m. is_none (s m)) (names_up s k (parent_of (s n)))) e) ∙ h in
+          sym (rw e) ∙ h in
           absurd (cc);
     }
     by (Some b) e f =
@@ -498,7 +493,7 @@ chains_listed n [] ys = none ys
     none : (zs : List Text) → listed (a_chain n) (map a_library zs) ≡ false
     none [] = refl
     none (z ∷ zs) = none zs
-chains_listed n (x ∷ xs) ys = ap (λ b. bytes_eq x n || b) (chains_listed n xs ys)
+chains_listed n (x ∷ xs) ys = rw (chains_listed n xs ys)
 
 pub libraries_listed : (n : Text) (xs ys : List Text)
     → listed (a_library n) (map a_chain xs ++ map a_library ys) ≡ among n ys
@@ -506,7 +501,7 @@ libraries_listed n [] ys = theirs ys
   where
     theirs : (zs : List Text) → listed (a_library n) (map a_library zs) ≡ among n zs
     theirs [] = refl
-    theirs (z ∷ zs) = ap (λ b. bytes_eq z n || b) (theirs zs)
+    theirs (z ∷ zs) = rw (theirs zs)
 libraries_listed n (x ∷ xs) ys = libraries_listed n xs ys
 
 -- Namespaces of names are members if the names are.
@@ -531,7 +526,7 @@ library_more s r n g = by (s n) refl
   where
     by : (o : Option Body) → s n ≡ o
         → (rest : List Template) × (library_template n (r n) ≡ library_template n (s n) ++ rest)
-    by None e = (library_template n (r n), sym (ap (λ o. library_template n o ++ library_template n (r n)) e))
+    by None e = (library_template n (r n), sym (rw e))
     by (Some b) e = search (arith, rules, reflexive, append-nil)
 
 module _ (s r : Sources) (e : Bool) (entry : Namespace)

@@ -1,10 +1,10 @@
 -- A ring of the numbers of chains and libraries is one of the chains and libraries.
 use Rattle.jt_inherit.proofs.Vocabulary as words
 use words.{◌≡◌, ◌⊎◌, ℕ, true, List, [], ◌∷◌, ◌<◌, ◌≤◌, ◌-◌, length, map, refl, sym, subst, ◌∙◌, ⊎_elim, Option, Some}
-use words.{Bool, String, Vec, Global, arith, ap, suc, LeadsTo, IsRingOf, HasRing, cases_lt, map-map, slice_get}
-use words.{unwrap_or, AllByRecursion, Graph, next_of, Options, Text, templates_at, Namespace, namespace_name, Template}
-use words.{Sources, sources_in, namespace_at, SourceTexts, HasTag, IsFinding, IsNoMemory, Says, all_uses, leads_to}
-use words.{AreFound, last_number, ChainFinding, Reaches, here, through, name_at, ChainSubject}
+use words.{Bool, String, Vec, Global, arith, suc, LeadsTo, IsRingOf, HasRing, cases_lt, map-map, slice_get, unwrap_or}
+use words.{AllByRecursion, Graph, next_of, Options, Text, templates_at, Namespace, namespace_name, Template, Sources}
+use words.{sources_in, namespace_at, SourceTexts, IsFinding, IsNoMemory, Says, all_uses, leads_to, AreFound}
+use words.{last_number, ChainFinding, Reaches, here, through, name_at, ChainSubject}
 use Rattle.jt_graph.specs.Graph.{Leads}
 use Rattle.jt_inherit.proofs.ChainComplete.{edge, none_next, number, reached}
 use Rattle.jt_inherit.proofs.DiscoveryInvariant.{whole_path}
@@ -61,7 +61,7 @@ module _ {given : SourceTexts} {options : Options} {entry : Text} {ts : List Tem
                   others = map (namespace_at hs) r.1;
                   first_name = sym q.0;
                   other_names = map-map namespace_name (namespace_at hs) r.1 ∙ sym q.1;
-                  tag = subst (λ l. HasTag (leads_to next) l z) (sym front) tag;
+                  tag = rw front tag;
                   led = e.1;
                   back = back;
                 }))));
@@ -93,7 +93,7 @@ last_of i [] = refl
 last_of i (k ∷ []) = refl
 last_of i (k ∷ (j ∷ is)) =
     let one : length (k ∷ (j ∷ is)) - 1 ≡ suc (length (j ∷ is) - 1) = omega arith in
-    ap (λ m. unwrap_or (slice_get (k ∷ (j ∷ is)) m) i) one ∙ last_of i (j ∷ is)
+    rw one (last_of i (j ∷ is))
 
 pub last_is : (i : ℕ) (is : List ℕ) (o : Option ℕ) → o ≡ slice_get is (length is - 1) → unwrap_or o i ≡ last_number i is
-last_is i is o e = ap (λ o. unwrap_or o i) e ∙ last_of i is
+last_is i is o e = rw e (last_of i is)

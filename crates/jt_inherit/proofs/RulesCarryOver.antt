@@ -1,10 +1,10 @@
 -- A rule that the templates read so far break is broken by the whole chain.
 use Rattle.jt_inherit.proofs.Vocabulary as words
-use words.{◌≡◌, ℕ, zero, suc, ◌<◌, ◌≤◌, ◌==◌, Bool, true, false, not, ◌&&◌, ◌||◌, nat_lt, List, [], ◌∷◌, ◌++◌, length}
-use words.{map, refl, sym, ap, subst, ◌∙◌, arith, inl, inr, ◌⊎◌, ⊎_elim, Option, Some, None, length-append, rules}
-use words.{given, imports, flat_map, list_any, is_none, append-nil, map-append, cases_lt, nat_tests, among, repeated}
-use words.{Text, Body, Sources, Namespace, a_chain, a_library, Template, templates, library_template, is_a_library}
-use words.{parent_of, names_up, blocks_in, MacroBody, macros, own, libraries_in, lacks_body, lacks_next, their_blocks}
+use words.{◌≡◌, ℕ, zero, suc, ◌<◌, ◌≤◌, ◌==◌, Bool, true, false, not, ◌&&◌, ◌||◌, List, [], ◌∷◌, ◌++◌, length, map}
+use words.{refl, sym, ap, subst, ◌∙◌, arith, inl, inr, ◌⊎◌, ⊎_elim, Option, Some, None, length-append, rules, given}
+use words.{imports, flat_map, list_any, is_none, append-nil, map-append, cases_lt, nat_tests, among, repeated, Text}
+use words.{Body, Sources, Namespace, a_chain, a_library, Template, templates, library_template, is_a_library, parent_of}
+use words.{names_up, blocks_in, MacroBody, macros, own, libraries_in, lacks_body, lacks_next, their_blocks}
 use words.{their_macros, any_double, any_lacks_macros, names_from, imported_names, Asks, Reaches, here, is_whole}
 use words.{extends_path, of_texts, reflexive, among_behind, among_front, and_from, and_parts, flat_map-append}
 use words.{list_any-append, not-true, or_from, or_left, or_parts, or_right}
@@ -50,7 +50,7 @@ up_ends s m zero o le lt = absurd (omega arith)
 up_ends s zero (suc k) o le lt = absurd (omega arith)
 up_ends s (suc m) (suc k) None le lt = refl
 up_ends s (suc m) (suc k) (Some n) le lt =
-    ap (λ l. n ∷ l) (up_ends s m k (parent_of (s n)) (omega (arith, le)) (omega (arith, lt)))
+    rw (up_ends s m k (parent_of (s n)) (omega (arith, le)) (omega (arith, lt)))
 
 either_true : (a b : Bool) → (a || b) ≡ true → (a ≡ true) ⊎ (b ≡ true)
 either_true true b h = inl refl
@@ -59,7 +59,7 @@ either_true false b h = inr h
 -- Each name of a part of a list keeps its source.
 module _ {s r : Sources} where
   carries_head : (n : Text) (xs : List Text) → Carries s r (n ∷ xs) → (b : Body) → s n ≡ Some b → r n ≡ Some b
-  carries_head n xs g = g n (ap (λ c. c || among n xs) (reflexive n))
+  carries_head n xs g = g n (rw (reflexive n))
 
   carries_rest : (n : Text) (xs : List Text) → Carries s r (n ∷ xs) → Carries s r xs
   carries_rest n xs g m a = g m (or_right _ _ a)
@@ -272,11 +272,10 @@ module _ (s r : Sources) (e : Bool) (entry : Namespace)
       let still =
       still_none s r (extends_path s e h) (λ n a. on_path s r e entry g h p n (ap (among n) one.0 ∙ a)) sources in (
         one.1,
-        ap (λ l. not (repeated l) && (nat_lt (length l) 65 && not (list_any (λ n. is_none (r n)) l))) one.0
-            ∙ and_from _
+        rw one.0 (and_from _
             _ w1.0
             (and_from _
-            _ w2.0 (ap not still)),
+            _ w2.0 (ap not still))),
       )
     where
       same_namespace_way : (k : Namespace) → Reaches r e entry k
@@ -295,7 +294,7 @@ module _ (s r : Sources) (e : Bool) (entry : Namespace)
           by None f =
               let no : false ≡ true = sym sources ∙ ap (λ o. is_none o || false) f in
               absurd (cc)
-          by (Some b) f = on_path s r e entry g (a_library n) q n (ap (λ c. c || false) (reflexive n)) b f ∙ sym f
+          by (Some b) f = on_path s r e entry g (a_library n) q n (rw (reflexive n)) b f ∙ sym f
 
   in_chain : (f : List Template → Bool) → InSomeChain s e entry (λ h. f (templates s h))
       → InSomeChain r e entry (λ h. f (templates r h))
@@ -312,8 +311,7 @@ module _ (s r : Sources) (e : Bool) (entry : Namespace)
       → Within (map (λ x. x.0) (given s h)) (map (λ x. x.0) (given r h))
   names_kept h p same_templates =
       rw (given_names s h)
-      (subst (Within (map (λ m. m.name) (macros s h) ++ map (λ x. x.0) (imports s h))) (sym (given_names r h))
-      (within_both
+      (rw (given_names r h) (within_both
       (subst (λ (l : List MacroBody). Within (map (λ m. m.name) (macros s h)) (map (λ m. m.name) l))
       (sym (ap their_macros same_templates)) (within_same (map (λ m. m.name) (macros s h))))
       (by h p same_templates)))
@@ -324,8 +322,8 @@ module _ (s r : Sources) (e : Bool) (entry : Namespace)
       by (a_chain n) q t =
           let ts = templates s (a_chain n) in
           let us = templates r (a_chain n) in
-          rw (all_imported s ts) (subst (Within (flat_map (λ (u : Template). imported_names s u.body) ts))
-          (sym (all_imported r us ∙ ap (flat_map (λ (u : Template). imported_names r u.body)) t))
+          rw (all_imported s ts)
+          (rw (all_imported r us ∙ ap (flat_map (λ (u : Template). imported_names r u.body)) t)
           (all_imports s r ts (λ m a. on_libraries s r e entry g (a_chain n) q m
           (ap (λ vs. among m (flat_map (λ (u : Template). libraries_in u.body) vs)) t ∙ a))))
 
@@ -355,8 +353,8 @@ module _ (s r : Sources) (e : Bool) (entry : Namespace)
           ap (any_lacks_macros r) more.1
           ∙ any_front (λ u. rules.lacks_macros r u.body) (templates s h) more.0
           (all_lacking s r (templates s h) (λ k a. on_libraries s r e entry g h p k
-          (ap (λ vs. among k (flat_map f vs)) more.1 ∙ ap (among k) (flat_map-append f (templates s h) more.0)
-          ∙ among_front of_texts k _ _ a)) t)
+          (rw more.1 (ap (among k) (flat_map-append f (templates s h) more.0)
+          ∙ among_front of_texts k _ _ a))) t)
 
   pub not_a_library : NotALibrary s e entry → NotALibrary r e entry
   not_a_library x = search (arith, rules, there, on_path, reflexive)

@@ -20,8 +20,7 @@ pub read_cut : (options : Options) (ss : List Segment) → HaveOptions options s
     → reads_of ss ≡ map (λ s. (options, s)) (cut_of ss)
 read_cut options [] h = refl
 read_cut options (s ∷ ss) h =
-    ap (λ o. let r : Read = (o, segment_view s) in r ∷ reads_of ss) h.0
-    ∙ ap (λ l. let r : Read = (options, segment_view s) in r ∷ l) (read_cut options ss h.1)
+    rw h.0 (ap (λ l. let r : Read = (options, segment_view s) in r ∷ l) (read_cut options ss h.1))
 
 pub limited : (given : Text) → (max_source_len < length given → ⊥) → length given ≤ max_source_len
 limited given long = search (arith, rules, cases_lt)
@@ -30,7 +29,7 @@ module _ (options : Options) (given : Text) (s : Held)
     (is : s ≡ record { text = normalized options.keep_trailing_newline given; options = options })
     (ss : List Segment) where
   its_text : s.text ≡ normalized options.keep_trailing_newline given
-  its_text = ap (λ (h : Held). h.text) is
+  its_text = rw is
 
   its_cut : IsCut (cut_of ss) (chars s.text)
       → IsCut (cut_of ss) (chars (normalized options.keep_trailing_newline given))

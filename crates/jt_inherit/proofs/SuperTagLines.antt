@@ -16,7 +16,7 @@ itself : (i : ℕ) → (i == i) ≡ true
 itself i = grind (arith, nat_tests)
 
 one : (c : Bool) (line : ℕ) → Tells (line_if c line) c (λ n. (line == n) && c)
-one true line = record { there = refl; shown = ap (λ b. b && true) (itself line) }
+one true line = record { there = refl; shown = rw (itself line) }
 one false line = record { there = refl; shown = tt }
 
 both : {o p : Option ℕ} {c d : Bool} {f g : ℕ → Bool} → Tells o c f → Tells p d g
@@ -25,7 +25,7 @@ both {o = None} {p = None} {d = d} a b = record { there = b.there ∙ ap (λ x. 
 both {o = None} {p = Some n} {d = d} {f = f} {g = g} a b =
     record { there = b.there ∙ ap (λ x. x || d) a.there; shown = or_right _ _ b.shown }
 both {o = Some n} {d = d} {g = g} a b =
-    record { there = ap (λ x. x || d) a.there; shown = ap (λ x. x || g n) a.shown }
+    record { there = ap (λ x. x || d) a.there; shown = rw a.shown }
 
 moved : {o : Option ℕ} {c d : Bool} {f : ℕ → Bool} → c ≡ d → Tells o c f → Tells o d f
 moved e a = record { there = a.there ∙ e; shown = a.shown }

@@ -41,7 +41,7 @@ tags_turn test ps is k p old more new all lt within at theirs longer before =
 -- The tags of a use, if it passes, and of those after it.
 begin : (test : Use → Bool) (x : Text × Site) (xs : List (Text × Site)) (b : Bool) → test x.1.made ≡ b
     → tags test (x ∷ xs) ≡ cond b (x ∷ tags test xs) (tags test xs)
-begin test x xs b h = ap (λ b. cond b (x ∷ tags test xs) (tags test xs)) h
+begin test x xs b h = rw h
 
 at_place : (test : Use → Bool) (p : TagPlace) (x : Text × Site) → test x.1.made ≡ true
     → Some (place_of x) ≡ Some (place_view p) → IsAt test p x
@@ -123,7 +123,7 @@ some_weaker P Q f (x ∷ xs) h = ⊎_elim (λ p. inl (f x p)) (λ q. inr (some_w
 uses-append : (ts us : List Template) → all_uses (ts ++ us) ≡ all_uses ts ++ all_uses us
 uses-append [] us = refl
 uses-append (t ∷ ts) us =
-    ap (λ l. uses_in t ++ l) (uses-append ts us) ∙ sym (append_assoc (uses_in t) (all_uses ts) (all_uses us))
+    rw (uses-append ts us) (sym (append_assoc (uses_in t) (all_uses ts) (all_uses us)))
 
 -- A tag of the first templates is one of them all.
 pub tag_front : (test : Use → Bool) (p : TagPlace) (ts us : List Template) → HasTag test ts p
@@ -151,7 +151,7 @@ extends_asks all n u h = absurd (cc)
 pub macro_named : (s : Sources) (ts : List Template) (p : TagPlace) (a b l x : Text) → a ≡ l → b ≡ x
     → HasTag (binds_macro l x) ts p → lacks s l x ≡ true → HasTag (binds_macro a b) ts p × (lacks s a b ≡ true)
 macro_named s ts p a b l x e f h k =
-    rw e (subst (λ z. HasTag (binds_macro l z) ts p × (lacks s l z ≡ true)) (sym f) (h, k))
+    rw e (rw f (h, k))
 
 -- ---- a template with two blocks of one name
 
@@ -368,7 +368,7 @@ past (q ∷ qs) b rest = past qs b rest
 
 behind : (qs : List FoundTag) (b : FoundTag) (rest : List FoundTag)
     → drop (length qs + 1) (tags_view (qs ++ b ∷ rest)) ≡ tags_view rest
-behind qs b rest = ap (λ n. drop n (tags_view (qs ++ b ∷ rest))) (add-one (length qs)) ∙ past qs b rest
+behind qs b rest = rw (add-one (length qs)) (past qs b rest)
 
 required : (ts : List FoundTag) → AllByRecursion (λ t. is_required (tag_view t).1.made ≡ true) ts
     → AllByRecursion (λ s. is_required s.1.made ≡ true) (tags_view ts)
@@ -384,5 +384,5 @@ call_found bs qs b rest e line h a =
       there = there qs b rest;
       calls = h;
       last =
-          subst (AllByRecursion (λ s. is_required s.1.made ≡ true)) (sym (behind qs b rest)) (required rest a);
+          rw (behind qs b rest) (required rest a);
     })

@@ -1,7 +1,7 @@
 -- The weights of the trees of chains and libraries: each chain or library but the entry's chain has its own tag, an
 -- include or an import, which weighs at least 7; and a tree weighs at most as much as its source has bytes.
 use Rattle.jt_inherit.proofs.Vocabulary as words
-use words.{◌≡◌, ◌+◌, ◌*◌, ◌≤◌, Bool, true, false, ◌||◌, ◌⊎◌, inl, inr, List, [], ◌∷◌, ◌++◌, length, refl, sym, ap, ◌∙◌}
+use words.{◌≡◌, ◌+◌, ◌*◌, ◌≤◌, Bool, true, false, ◌||◌, ◌⊎◌, inl, inr, List, [], ◌∷◌, ◌++◌, length, refl, sym, ◌∙◌}
 use words.{subst, arith, length-append, rules, flat_map, filter, length-map, Text, Stmt, choose, for_each, set_block}
 use words.{with_values, filter_block, autoescape, Body, end, stmt, Branches, no_branches, branch, Sources, Namespace}
 use words.{a_chain, a_library, same_namespace, listed, Template, templates, libraries, libraries_in, needs_by, needs_in}
@@ -124,13 +124,13 @@ few_chains sources escaping entry order o there reached =
         → listed h (entry ∷ flat_map (included sources) order) ≡ true
     indexed h (inl is) =
         subst (λ z. listed z (entry ∷ flat_map (included sources) order) ≡ true) (sym is)
-        (ap (λ b. b || listed entry (flat_map (included sources) order)) (namespaces.reflexive entry))
+        (rw (namespaces.reflexive entry))
     indexed h (inr t) = or_right _ _ (listed_flat sources h t.0 order t.1 t.2)
 
 -- ---- the members of an ascending list
 
 here_inserted : (x : Text) (ys : List Text) → among x (inserted x ys) ≡ true
-here_inserted x [] = ap (λ b. b || false) (reflexive x)
+here_inserted x [] = rw (reflexive x)
 here_inserted x (y ∷ ys) = search (arith, rules, here_inserted x ys, reflexive, or_right)
 
 kept_inserted : (x z : Text) (ys : List Text) → among z ys ≡ true → among z (inserted x ys) ≡ true
@@ -156,7 +156,7 @@ library_among : (n : Text) (hs : List Namespace) → listed (a_library n) hs ≡
 unfolding libraries_of
 library_among n [] = refl
 library_among n (a_chain m ∷ hs) = library_among n hs
-library_among n (a_library m ∷ hs) = ap (λ b. bytes_eq m n || b) (library_among n hs)
+library_among n (a_library m ∷ hs) = rw (library_among n hs)
 
 libraries_once : (s : Sources) (hs : List Namespace) → InOrder s hs → repeated (libraries_of hs) ≡ false
 unfolding libraries_of
@@ -183,10 +183,10 @@ module _ (given : SourceTexts) (s : Sources) where
           → among n (ascending (libraries s (a_chain m)) ++ imported_by hs) ≡ true
       by true q r =
           among_front of_texts n (ascending (libraries s (a_chain m))) (imported_by hs)
-          (here_all (libraries s (a_chain m)) n [] (ap (λ x. among n (libraries s (a_chain x))) (same m k q) ∙ a))
+          (here_all (libraries s (a_chain m)) n [] (rw (same m k q) a))
       by false q r =
           among_behind of_texts n (ascending (libraries s (a_chain m))) (imported_by hs)
-          (r (sym (ap (λ b. b || listed (a_chain k) hs) q) ∙ e))
+          (r (sym (rw q) ∙ e))
 
   len_both : (xs ys : List Text)
       → libraries_len given s (xs ++ ys) ≡ libraries_len given s xs + libraries_len given s ys
@@ -196,7 +196,7 @@ module _ (given : SourceTexts) (s : Sources) where
   libraries_total : (xs : List Text)
       → libraries_len given s xs ≡ total (λ n. templates_len given (templates s (a_library n))) xs
   libraries_total [] = refl
-  libraries_total (x ∷ xs) = ap (λ n. templates_len given (templates s (a_library x)) + n) (libraries_total xs)
+  libraries_total (x ∷ xs) = rw (libraries_total xs)
 
   -- A library weighs no more than its source, and so does the own path of a chain.
   balanced : (hs : List Namespace)
@@ -208,14 +208,14 @@ module _ (given : SourceTexts) (s : Sources) where
   balanced (a_chain n ∷ hs) each =
       omega (
         arith,
-        each (a_chain n) (ap (λ b. b || listed (a_chain n) hs) (reflexive n)),
+        each (a_chain n) (rw (reflexive n)),
         len_both (ascending (libraries s (a_chain n))) (imported_by hs),
         balanced hs (λ h a. each h (or_right _ _ a)),
       )
   balanced (a_library n ∷ hs) each =
       omega (
         arith,
-        each (a_library n) (ap (λ b. b || listed (a_library n) hs) (reflexive n)),
+        each (a_library n) (rw (reflexive n)),
         balanced hs (λ h a. each h (or_right _ _ a)),
       )
 

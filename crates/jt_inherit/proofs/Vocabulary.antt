@@ -17,7 +17,7 @@ pub use Rattle.std.proofs.lemmas.Str.{length-le-encodes}
 pub use Rattle.std.specs.BTreeMap.{get_by_text}
 pub use Rattle.std.specs.List.{AllByRecursion, AllWithin, HoldsAt, list_any, position_from, slice_split}
 pub use Rattle.std.specs.Option.{is_none, is_some, option_to_list, option_or}
-pub use Rattle.std.specs.Prelude.{IfOk, filter, flat_map, option_map, slice_get, unwrap_or, option_copied}
+pub use Rattle.std.specs.Prelude.{filter, flat_map, option_map, slice_get, unwrap_or, option_copied}
 pub use Rattle.std.specs.Str.{bytes_eq}
 pub use denote.Ref.{Bor}
 pub use Rattle.jt_ast.specs.ExpressionView.{exprs_view, pairs_view, expr_view}

@@ -1,6 +1,5 @@
 use Rattle.jt_inherit.proofs.Vocabulary as words
-use words.{◌≡◌, ℕ, List, true, refl, sym, ap, subst, ◌∙◌, Text, Site, calls_super_at, its_templates, IsLastCall}
-use words.{tag_view}
+use words.{ℕ, List, refl, sym, ap, subst, ◌∙◌, Text, Site, its_templates, IsLastCall, tag_view}
 use Rattle.jt_inherit.proofs.breaking.no_super.Goals as goal
 
 pub returns : goal.returns
@@ -22,7 +21,7 @@ returns c =
           calls = (
             ap (λ (q : Text × ℕ). q.0) begun,
             ap (λ (q : Text × ℕ). q.1) begun,
-            subst (λ n. calls_super_at n tag.1.made ≡ true) (sym (ap (λ (q : Text × ℕ). q.1) at)) found.calls,
+            rw (ap (λ (q : Text × ℕ). q.1) at) found.calls,
           );
           template = ap (λ (q : Text × ℕ). q.0) at ∙ sym (ap (λ (q : Text × ℕ). q.0) begun);
           last = found.last;

@@ -1,6 +1,5 @@
 use Rattle.jt_inherit.proofs.Vocabulary as words
-use words.{◌≡◌, ℕ, List, refl, sym, ap, ◌∙◌, Some, option_copied, blocks_named, slice_get, Text, Site, its_templates}
-use words.{tag_view, FoundTag}
+use words.{◌≡◌, ℕ, refl, sym, ap, ◌∙◌, Some, option_copied, blocks_named, slice_get, Text, its_templates, tag_view}
 use Rattle.jt_inherit.proofs.TagPlaces.{first_view}
 use Rattle.jt_inherit.proofs.breaking.not_given.Goals as goal
 
@@ -10,10 +9,10 @@ returns c =
     let x = c.args.name.now in
     let nearest = c.in-Some.nearest.now in
     let found : slice_get c.in_ok-named.named.items 0 ≡ Some nearest =
-    sym (ap (λ (l : List FoundTag). slice_get l 0) c.deref.ensures.value) ∙ sym c.first.ensures.value
+    sym (rw c.deref.ensures.value) ∙ sym c.first.ensures.value
     ∙ ap option_copied c.in-Some.is in
     let there : slice_get (blocks_named x ts) 0 ≡ Some (tag_view nearest) =
-    sym (ap (λ (l : List (Text × Site)). slice_get l 0) c.in_ok-named.ensures)
+    sym (rw c.in_ok-named.ensures)
     ∙ first_view c.in_ok-named.named.items nearest found in
     let at = c.in_ok-place.ensures in (
       refl,

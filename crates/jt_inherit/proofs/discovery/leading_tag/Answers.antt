@@ -1,7 +1,6 @@
 use Rattle.jt_inherit.proofs.Vocabulary as words
-use words.{ℕ, ◌≡◌, [], List, refl, sym, ap, subst, ◌∙◌, Option, IfOk, option_map, unwrap_or, graph_of, AreIndices}
-use words.{templates_at, Namespace, a_chain, namespace_at, all_uses, leads_to, found_namespaces, found_templates}
-use words.{place_in, place_view, tags, test_of}
+use words.{◌≡◌, refl, sym, ap, ◌∙◌, graph_of, AreIndices, namespace_at, leads_to, found_namespaces, found_templates}
+use words.{test_of}
 use Rattle.jt_inherit.proofs.ChainComplete.{at_number, way_at}
 use Rattle.jt_inherit.proofs.discovery.leading_tag.Goals as goal
 
@@ -24,7 +23,6 @@ returns c =
     let test = test_of c.wanted_for-wanted.result in
     let wanted : test ≡ leads_to (namespace_at (found_namespaces f) c.args.to) =
     c.wanted_for-wanted.ensures
-    ∙ ap leads_to (sym (ap (λ (o : Option Namespace). unwrap_or o (a_chain [])) c.get.ensures)) in
+    ∙ ap leads_to (sym (rw c.get.ensures)) in
     let r = c.first_at.result in
-    rw (← wanted) (subst (λ (l : List ℕ). IfOk r (λ p. option_map place_view p
-    ≡ place_in 0 (tags test (all_uses (templates_at (found_templates f) l))))) (sym here.1) c.first_at.ensures)
+    rw (← wanted) (rw here.1 c.first_at.ensures)

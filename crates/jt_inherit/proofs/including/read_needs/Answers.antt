@@ -1,6 +1,6 @@
 use Rattle.jt_inherit.proofs.Vocabulary as words
-use words.{◌≡◌, ◌+◌, ◌++◌, ◌∷◌, [], true, take, sym, ap, subst, ◌∙◌, string_bytes, IsMet, among, keyed_needs}
-use words.{keyed_view, needed, names, among_front, among_behind, of_texts, templates_at, KeyedNeed, IsOfNeed, its_files}
+use words.{◌≡◌, ◌+◌, ◌++◌, ◌∷◌, [], true, take, sym, ap, ◌∙◌, string_bytes, IsMet, among, keyed_needs, keyed_view}
+use words.{needed, names, among_front, among_behind, of_texts, templates_at, KeyedNeed, its_files}
 use Rattle.jt_inherit.proofs.DiscoveryInvariant.{met_turn, met_read, needed_turn, has_needs}
 use Rattle.jt_inherit.proofs.PathsGrow.{read_on, templates_grow}
 use Rattle.jt_inherit.proofs.FindingsHold.{unmet_need}
@@ -22,10 +22,8 @@ returns-in-Err-clause-refused g c =
     unmet_need given c.args.options ts is c.deref-need-items.result.now l.need-index need c.in-Err.error f
     (ap keyed_needs c.deref-need-items.ensures.value ∙ c.requires.path.told) c.loop-need-test.true
     (rw (← c.need-item.is) c.in-Err.ensures.refused)
-    (rw (← c.need-item.is) (subst (λ us. IsOfNeed us (string_bytes need.namespace.name) c.in-Err.error f)
-    (ap (λ us. templates_at us is) (c.in-Err.ensures.same ∙ r.grown)
-    ∙ templates_grow ts r.more is c.requires.path.indices)
-    c.in_ok-need_finding-in-Err.ensures))
+    (rw (← c.need-item.is) (rw (← (ap (λ us. templates_at us is) (c.in-Err.ensures.same ∙ r.grown)
+    ∙ templates_grow ts r.more is c.requires.path.indices)) c.in_ok-need_finding-in-Err.ensures))
 
 pub loop-need-preserved : goal.loop-need-preserved
 loop-need-preserved g c =

@@ -15,8 +15,8 @@ loop-index-preserved c =
     let rest = names (templates_at (files_view ps) (drop (k + 1) is)) in
     let here = templates_turn ps is k c.index.result.now c.loop-index-test.true
     (index_within ps is k c.loop-index-test.true c.requires) c.index.ensures in
-    ap (λ (z : List (String Global)). map string_bytes z ++ rest) c.in_ok-push.ensures.items
-    ∙ ap (λ (z : List Text). z ++ rest) (map_push (λ (z : String Global). string_bytes z) l.names.items s)
+    rw c.in_ok-push.ensures.items
+    (ap (λ (z : List Text). z ++ rest) (map_push (λ (z : String Global). string_bytes z) l.names.items s)
     ∙ append_assoc old (string_bytes s ∷ []) rest
     ∙ ap (λ (n : Text). old ++ n ∷ rest) (c.in_ok-from_str.ensures.ok ∙ c.deref.ensures)
-    ∙ ap (λ (us : List Template). old ++ names us) (sym here) ∙ l.invariant
+    ∙ ap (λ (us : List Template). old ++ names us) (sym here) ∙ l.invariant)

@@ -8,6 +8,6 @@ returns-clause-only g c =
     let p = c.in_ok-new.field-0 in
     let text = c.in-Some.source.now in
     only_read given c.args.options (string_bytes p.name) text (body_of p.template)
-    (ap (λ s. given (string_bytes s)) c.in_ok-new.ensures.name ∙ ap given c.in_ok-name.ensures.ok
-    ∙ sym c.in-Some.ensures)
+    (rw c.in_ok-new.ensures.name (ap given c.in_ok-name.ensures.ok
+    ∙ sym c.in-Some.ensures))
     (rw c.in_ok-new.ensures.template c.in_ok-template.ensures.only)

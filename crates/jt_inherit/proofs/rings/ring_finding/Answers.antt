@@ -1,6 +1,6 @@
 use Rattle.jt_inherit.proofs.Vocabulary as words
-use words.{◌<◌, ◌∙◌, ℕ, map, refl, ap, subst, arith, rules, Vec, Global, AllByRecursion, length-map, graph_of}
-use words.{found_namespaces, found_paths, name_at, found_templates, leading_at, namespace_at}
+use words.{◌∙◌, ℕ, map, refl, ap, arith, rules, Vec, Global, length-map, graph_of, found_namespaces, found_paths}
+use words.{name_at, found_templates, leading_at, namespace_at}
 use Rattle.jt_inherit.proofs.RingFound.{ring_within}
 use Rattle.jt_inherit.proofs.rings.ring_finding.Goals as goal
 
@@ -26,8 +26,8 @@ pub names_of-requires : goal.names_of-requires
 names_of-requires c =
     let f = c.args.found.now in
     let r = c.args.ring.now in
-    rw c.deref.ensures.value (subst (λ n. AllByRecursion (λ k. k < n) r.others.items)
-    (length-map f.next.items (λ (v : Vec ℕ Global). v.items) ∙ c.requires.all.next)
+    rw c.deref.ensures.value
+    (rw (← (length-map f.next.items (λ (v : Vec ℕ Global). v.items) ∙ c.requires.all.next))
     (ring_within (graph_of f.next.items) r.first r.others.items r.first c.requires.ring).1)
 
 pub returns : goal.returns
