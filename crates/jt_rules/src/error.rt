@@ -1,7 +1,7 @@
 //! Defines the errors of the static rules.
 
 ghost use Rattle.std.specs.Prelude.{◌≡◌};
-ghost use Rattle.jt_rules.specs.declared.error.ScopeError.TheVariants as variants;
+ghost use Rattle.jt_rules.specs.declared.error.ScopeError.TheVariants.{NoMemory};
 
 use jt_value::NoMemory;
 use std::alloc::AllocError;
@@ -34,7 +34,7 @@ pub enum ScopeError {
 }
 
 impl From<AllocError> for ScopeError {
-    ghost from_gives = { λ _ e. e ≡ variants.NoMemory };
+    ghost from_gives = { λ _ e. e ≡ NoMemory };
 
     fn from(_e: AllocError) -> ScopeError {
         ScopeError::NoMemory
@@ -42,7 +42,7 @@ impl From<AllocError> for ScopeError {
 }
 
 impl From<NoMemory> for ScopeError {
-    ghost from_gives = { λ _ e. e ≡ variants.NoMemory };
+    ghost from_gives = { λ _ e. e ≡ NoMemory };
 
     fn from(_e: NoMemory) -> ScopeError {
         ScopeError::NoMemory

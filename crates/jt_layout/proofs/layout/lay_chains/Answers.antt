@@ -10,8 +10,7 @@ pub lay_chain-requires : goal.lay_chain-requires
 lay_chain-requires c =
     let a = c.args.facts.now.chain.now in
     let l = c.loop-namespace in
-    let lt : l.namespace < length a.namespaces.items =
-    omega (arith, c.loop-namespace-test.true, c.len-namespace-end.ensures, a.namespaces.ok.0) in
+    let lt : l.namespace < length a.namespaces.items = omega (arith, a.namespaces.ok.0) in
     let k = c.index.result.now in
     let is = name_of_namespace a.namespaces.items l.namespace k lt c.index.ensures in
     record {
@@ -32,8 +31,7 @@ pub loop-namespace-preserved : goal.loop-namespace-preserved
 loop-namespace-preserved c =
     let a = c.args.facts.now.chain.now in
     let l = c.loop-namespace in
-    let lt : l.namespace < length a.namespaces.items =
-    omega (arith, c.loop-namespace-test.true, c.len-namespace-end.ensures, a.namespaces.ok.0) in
+    let lt : l.namespace < length a.namespaces.items = omega (arith, a.namespaces.ok.0) in
     let is = name_of_namespace a.namespaces.items l.namespace c.index.result.now lt c.index.ensures in
     let pushed = each_pushed (IsLaidAt a) l.namespaces.items c.in_ok-indexed.indexed.namespace_layout l.namespace
     c.in_ok-push.ensures.items l.invariant.all l.invariant.each c.in_ok-indexed.ensures.namespace_layout in
@@ -56,8 +54,6 @@ returns-clause-units c =
       l.invariant.stands.all,
       at_drop_all (λ hs. length (flat_map (layout.chain_keys (its_cenv a)) hs)) (its_order a) l.namespace (omega (
         arith,
-        c.loop-namespace-test.false,
-        c.len-namespace-end.ensures,
         a.namespaces.ok.0,
         length-map a.namespaces.items namespace_view,
       )),
