@@ -88,8 +88,9 @@ def equations(text):
 
 def lemmas_of(text):
     """Returns the names of the lemmas that a file imports or states."""
-    found = set()
+    found, renamed = set(), {name: module for module, name in re.findall(r"(?m)^use (\S+) as (\S+)$", text)}
     for module, names in re.findall(r"(?m)^use (\S+)\.\{([^}]*)\}", text):
+        module = renamed.get(module, module)
         for name in [it.split(" as ")[-1].strip() for it in names.split(",")]:
             is_common = module.endswith("proofs.Common")
             if WORD.fullmatch(name) and not name[0].isupper() and ".proofs." in module and (not is_common or re.search("[-_]", name)):

@@ -12,8 +12,8 @@ use Rattle.jt_bind.specs.internal.{alone, Place, files_in, ◌≡◌, ℕ, ◌+�
 use Rattle.jt_bind.specs.internal.{Option, Vec, Tree, view, Value, Text, Constant, own, expr_values, condition_values}
 use Rattle.jt_bind.specs.internal.{stmt_values, body_values, placed_condition, placed_stmt, placed_body, SlotExpr, SRow}
 use Rattle.jt_bind.specs.internal.{SBody, Front, slot_view, targets_view, place_view, expr_view, stmt_view, choice_view}
-use Rattle.jt_bind.specs.internal.{filtered_view, followed, Turns, StaticEnv, Chains, IsPlaced, RowLeads, BodyLeads}
-use Rattle.jt_bind.specs.internal.{templates_in, Emits, IsBranch, AreTurns, StandsFor, ChoiceLeads, line_in, place_of}
+use Rattle.jt_bind.specs.internal.{filtered_view, followed, Turns, Resolver, IsPlaced, RowLeads, BodyLeads}
+use Rattle.jt_bind.specs.internal.{templates_of, Emits, IsBranch, AreTurns, StandsFor, ChoiceLeads, line_of, place_of}
 use Rattle.jt_bind.proofs.Vocabulary.{sym, ap, ◌∙◌, subst, Global, append_assoc, append-nil, length-append, arith}
 use Rattle.jt_bind.proofs.Vocabulary.{rules, map-append, SBranch, view_PutPooled, view_Assign, view_If, view_For}
 use Rattle.jt_bind.proofs.Vocabulary.{view_Capture, view_Run, body_push, joined, choice_push, Entry}
@@ -211,36 +211,36 @@ module _ (templates : List Text) where
 
 -- ---- statements with the places of their tags
 
-module _ (scope : Chains) (senv : StaticEnv) (line : ℕ) where
+module _ (r : Resolver) (line : ℕ) where
   abbrev T : List Text
-  T = templates_in scope
+  T = templates_of r
 
   abbrev tag : Place
-  tag = line_in scope senv line
+  tag = line_of r line
 
-  pub place_is : place_view T (place_of senv line) ≡ tag
-  place_is = place_shown (files_in scope) senv.template line
+  pub place_is : place_view T (place_of r.senv line) ≡ tag
+  place_is = place_shown (files_in r.tables.now) r.senv.template line
 
   pub print_emitted : (c : SlotExpr Constant) (x : Filtered) (ss ts : List code_stmt.SlotStmt) (p q : List Tree)
-      → IsPlaced c (filtered_view x) p q → ts ≡ ss ++ v.Print (place_of senv line) senv.escaping x ∷ []
-      → Emits T (alone (slots.print tag senv.escaping c)) ss ts p q
+      → IsPlaced c (filtered_view x) p q → ts ≡ ss ++ v.Print (place_of r.senv line) r.senv.escaping x ∷ []
+      → Emits T (alone (slots.print tag r.senv.escaping c)) ss ts p q
   print_emitted c x ss ts p q h = search (arith, rules, stmt_emitted, view_Print, place_is)
 
   pub assign_emitted : (xs : code_targets.Targets) (c : SlotExpr Constant) (e : code.SlotExpr)
       (ss ts : List code_stmt.SlotStmt) (p q : List Tree)
-      → IsPlaced c (expr_view e) p q → ts ≡ ss ++ v.Assign (place_of senv line) xs e ∷ []
+      → IsPlaced c (expr_view e) p q → ts ≡ ss ++ v.Assign (place_of r.senv line) xs e ∷ []
       → Emits T (alone (slots.assign tag (targets_view xs) c)) ss ts p q
   assign_emitted xs c e ss ts p q h = search (arith, rules, stmt_emitted, view_Assign, place_is)
 
   pub loop_emitted : (xs : slots.Targets) (c : SlotExpr Constant) (k : Option (SlotExpr Constant))
       (turn last : SBody Constant) (t : Turns) (other : Vec code_stmt.SlotStmt Global)
-      (ss ts : List code_stmt.SlotStmt) (p q r : List Tree)
-      → AreTurns scope xs c k turn t p q → Emits T last [] other.items q r
-      → ts ≡ ss ++ v.For (place_of senv line) t.head.value.targets t.head.value.items t.head.value.condition t.body
+      (ss ts : List code_stmt.SlotStmt) (p q u : List Tree)
+      → AreTurns r.tables.now xs c k turn t p q → Emits T last [] other.items q u
+      → ts ≡ ss ++ v.For (place_of r.senv line) t.head.value.targets t.head.value.items t.head.value.condition t.body
       other
       ∷ []
-      → Emits T (alone (slots.for_each tag xs c k turn last)) ss ts p r
-  loop_emitted xs c k turn last t other ss ts p q r w o =
+      → Emits T (alone (slots.for_each tag xs c k turn last)) ss ts p u
+  loop_emitted xs c k turn last t other ss ts p q u w o =
       let h = w.headed in
       let e = h.goes_over in
       let first : length h.given ≡ length p + length (expr_values c) = grown_by p (expr_values c) h.given e.pooled in
@@ -252,14 +252,14 @@ module _ (scope : Chains) (senv : StaticEnv) (line : ℕ) where
       ≡ length p + length (expr_values c) + length (condition_values k) + length (body_values turn) =
       grown_by w.between (body_values turn) q body ∙ ap (λ n. n + length (body_values turn)) second in
       let turn_is = body_shown T turn t.body.items w.between q w.taken ∙ ap (placed_body turn) second in
-      let last_is = body_shown T last other.items q r o ∙ ap (placed_body last) third in
+      let last_is = body_shown T last other.items q u o ∙ ap (placed_body last) third in
       let asked = h.asked.shown ∙ ap (placed_condition k) first in
       stmt_emitted T (slots.for_each tag xs c k turn last)
-      (v.For (place_of senv line) t.head.value.targets t.head.value.items t.head.value.condition t.body other) ss ts p r
-      (λ behind. view_For T (place_of senv line) t.head.value.targets t.head.value.items t.head.value.condition t.body
-      other behind ∙ cc (place_is, h.takes, e.shown, asked, turn_is, last_is))
-      (four_pooled p (expr_values c) (condition_values k) (body_values turn) (body_values last) h.given w.between q r
-      e.pooled h.asked.pooled body (body_pooled T last other.items q r o))
+      (v.For (place_of r.senv line) t.head.value.targets t.head.value.items t.head.value.condition t.body other) ss ts p
+      u (λ behind. view_For T (place_of r.senv line) t.head.value.targets t.head.value.items t.head.value.condition
+      t.body other behind ∙ cc (place_is, h.takes, e.shown, asked, turn_is, last_is))
+      (four_pooled p (expr_values c) (condition_values k) (body_values turn) (body_values last) h.given w.between q u
+      e.pooled h.asked.pooled body (body_pooled T last other.items q u o))
     where
       four_pooled : (p ws xs ys zs q r t v : List Tree) → q ≡ p ++ ws → r ≡ q ++ xs → t ≡ r ++ ys → v ≡ t ++ zs
           → v ≡ p ++ (ws ++ (xs ++ (ys ++ zs)))

@@ -1,29 +1,23 @@
 -- The resolution of callees.
-use Rattle.jt_chains.specs.Chain.{Callee}
+use Rattle.std.proofs.lemmas.Bool.{or_right}
 use Rattle.jt_chains.specs.Includes.{InOrder}
 use Rattle.jt_semantics.proofs.RoutineLookup.{macro_named}
 use Rattle.jt_semantics.proofs.DefinedNames.{LeadsTo, called_macro}
 use Rattle.jt_semantics.proofs.ChainOrder.{libraries_stand}
 use Rattle.jt_semantics.proofs.EnvLookup.{namespace_is, no_both}
 use Rattle.jt_ir.specs.declared.program.Slot.{Slot}
-use Rattle.jt_value.specs.Tree as tree
 use Rattle.jt_ast.specs.Expressions as trees
 use Rattle.jt_bind.specs.internal.{◌≡◌, ℕ, zero, suc, ◌<◌, Bool, true, false, List, [], ◌∷◌, length, refl, Option, Some}
 use Rattle.jt_bind.specs.internal.{None, ◌+◌, drop, get_or, codes, ◌||◌, option_map, bytes_eq, Text, name, attribute}
 use Rattle.jt_bind.specs.internal.{Sources, Namespace, a_library, listed, MacroBody, macros, macro_of, is_private}
 use Rattle.jt_bind.specs.internal.{public_macro, Definition, given_to, a_macro, no_callee, of_library, in_library}
 use Rattle.jt_bind.specs.internal.{callee, namespace_at, CompileEnv, Chains, IsLaidThere, library_of, of_namespace}
-use Rattle.jt_bind.specs.internal.{unit_of, cenv_in, order_in, namespace_in, callee_in, IsPlaced, senv_in, expr_in}
-use Rattle.jt_bind.specs.internal.{row_in, asides_in, Bor, exprs_view, Expr, texts, count, keywords, Constant, SlotExpr}
-use Rattle.jt_bind.specs.internal.{absent, invoke, SRow, item, variable, local, slot_view, Table, slot_in, of_body}
-use Rattle.jt_bind.specs.internal.{unit, read_from, invoked, invoked_body, locals_from, reads, first_locals, StaticEnv}
+use Rattle.jt_bind.specs.internal.{unit_of, cenv_in, order_in, namespace_in, callee_in, Bor, exprs_view, Expr, texts}
+use Rattle.jt_bind.specs.internal.{count, Constant, absent, invoke, SRow, item, variable, local, slot_view, Table}
+use Rattle.jt_bind.specs.internal.{slot_in, of_body, unit, read_from, invoked_body, reads, first_locals}
 use Rattle.jt_bind.proofs.Vocabulary.{ap, ◌∙◌, arith, inl, inr, rules, add-one, drop_more}
 
 -- ---- the namespace of a called macro
-
-or_right : (a b : Bool) → b ≡ true → (a || b) ≡ true
-or_right true b e = refl
-or_right false b e = e
 
 namespace_listed : (hs : List Namespace) (i : ℕ) → i < length hs → listed (namespace_at hs i) hs ≡ true
 namespace_listed [] i lt = absurd (omega arith)
@@ -81,15 +75,6 @@ public_is sources o x n e f = search (arith, rules, library_is)
 pub count_length : (ts : List Expr) → count (exprs_view ts) ≡ length ts
 count_length [] = refl
 count_length (t ∷ ts) = ap suc (count_length ts)
-
--- A call is the call of its callee.
-pub called_placed : (s : Chains) (senv : StaticEnv) (f : trees.Expr) (k : Callee) (ts : List Expr) (ps : trees.Pairs)
-    (e : SlotExpr ℕ) (p q : List tree.Tree)
-    → callee_in s f ≡ k
-    → IsPlaced (invoked (cenv_in s) (order_in s) k (senv_in s senv) (row_in s (exprs_view ts) senv)
-    (asides_in s ps senv) (length ts) (locals_from senv.free (keywords ps))) e p q
-    → IsPlaced (expr_in s (trees.call f (exprs_view ts) ps) senv) e p q
-called_placed s senv f k ts ps e p q is h = search (arith, rules, count_length)
 
 -- The call of a block, by the unit of its first body.
 pub body_called : (cenv : CompileEnv) (order : List Namespace) (h : Namespace) (escaping : Bool) (i : Option ℕ) (u : ℕ)

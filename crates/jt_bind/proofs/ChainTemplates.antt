@@ -39,18 +39,11 @@ pub root_here : (ts : List Template) (ls : List Layer) (i : ℕ) (root : Bool) �
 root_here ts ls i root lt e = search (arith, rules, length-drop, nil_long, nil_same)
 
 -- The remaining templates are this one and those after it.
-layers_next : (s : Chains) (ts : List Template) (ls : List Layer) (i : ℕ) (d : Layer) (root : Bool)
-    (left : SBody Constant)
-    → i < length ls → root ≡ is_nil (map (layer_view ts) (drop (i + 1) ls))
-    → followed (layer_in s (layer_view ts (get_or ls i d)) root)
-    (followed (chained_in s (map (layer_view ts) (drop (i + 1) ls))) left)
-    ≡ followed (chained_in s (map (layer_view ts) (drop i ls))) left
-layers_next s ts ls i d root left lt e = search (arith, rules, followed_again, get_or, chain_next, drop_more)
-
 pub layers_turn : (s : Chains) (ts : List Template) (ls : List Layer) (i : ℕ) (x : Layer) (root : Bool)
     (left : SBody Constant)
     → i < length ls → x ≡ get_or ls i x → root ≡ is_nil (map (layer_view ts) (drop (i + 1) ls))
     → followed (layer_in s (layer_view ts x) root)
     (followed (chained_in s (map (layer_view ts) (drop (i + 1) ls))) left)
     ≡ followed (chained_in s (map (layer_view ts) (drop i ls))) left
-layers_turn s ts ls i x root left lt is e = search (arith, rules, layers_next)
+layers_turn s ts ls i x root left lt is e =
+    rw (drop_more ls i x lt, ← is) (search (arith, rules, followed_again, chain_next))

@@ -7,11 +7,11 @@ use Rattle.jt_ids.specs.declared.filter_id.FilterId.TheVariants as filter
 use Rattle.jt_semantics.specs.Expressions as meant
 use Rattle.jt_ast.specs.Statements as trees
 use Rattle.jt_ir.specs.Slots as slots
-use Rattle.jt_bind.specs.internal.{filters_in, ◌≡◌, refl, Some, ℕ, ◌+◌, ◌<◌, List, [], ◌∷◌, ◌++◌, length, take, get_or}
+use Rattle.jt_bind.specs.internal.{filters_of, ◌≡◌, refl, Some, ℕ, ◌+◌, ◌<◌, List, [], ◌∷◌, ◌++◌, length, take, get_or}
 use Rattle.jt_bind.specs.internal.{option_map, filter_id, Exprs, Pairs, Text, filter_written, filter_parameters}
 use Rattle.jt_bind.specs.internal.{parameters_of, Tree, filter_call_view, filter_calls_view, Constant, expr_values}
-use Rattle.jt_bind.specs.internal.{row_values, placed_expr, placed_row, SlotExpr, SRow, NaryOp, row_view, Chains}
-use Rattle.jt_bind.specs.internal.{StaticEnv, IsPlaced, RowLeads}
+use Rattle.jt_bind.specs.internal.{row_values, placed_expr, placed_row, SlotExpr, SRow, NaryOp, row_view, Resolver}
+use Rattle.jt_bind.specs.internal.{IsPlaced, RowLeads}
 use Rattle.jt_bind.proofs.Vocabulary.{ap, sym, ◌∙◌, append-nil, take_more, map-append, Entry}
 use Rattle.jt_bind.proofs.RowConcatenation.{grown_by, both_pooled}
 
@@ -33,21 +33,19 @@ parameters_are f = ap parameters_of (has_filter f)
 
 -- ---- the filters of a filter tag, in order
 
-filters_push : (s : Chains) (senv : StaticEnv) (fs : List trees.FilterCall) (f : trees.FilterCall)
-    (e : SlotExpr Constant)
-    → filters_in s (fs ++ f ∷ []) senv e ≡ filters_in s (f ∷ []) senv (filters_in s fs senv e)
-filters_push s senv [] f e = refl
-filters_push s senv (g ∷ gs) f e = filters_push s senv gs f (filters_in s (g ∷ []) senv e)
+filters_push : (r : Resolver) (fs : List trees.FilterCall) (f : trees.FilterCall) (e : SlotExpr Constant)
+    → filters_of r (fs ++ f ∷ []) e ≡ filters_of r (f ∷ []) (filters_of r fs e)
+filters_push r [] f e = refl
+filters_push r (g ∷ gs) f e = filters_push r gs f (filters_of r (g ∷ []) e)
 
 -- One more filter.
-pub filters_next : (s : Chains) (senv : StaticEnv) (fs : List FilterCall) (i : ℕ) (f : FilterCall)
-    (e : SlotExpr Constant)
+pub filters_next : (r : Resolver) (fs : List FilterCall) (i : ℕ) (f : FilterCall) (e : SlotExpr Constant)
     → i < length fs → f ≡ get_or fs i f
-    → filters_in s (filter_call_view f ∷ []) senv (filters_in s (filter_calls_view (take i fs)) senv e)
-    ≡ filters_in s (filter_calls_view (take (i + 1) fs)) senv e
-filters_next s senv fs i f e lt is =
+    → filters_of r (filter_call_view f ∷ []) (filters_of r (filter_calls_view (take i fs)) e)
+    ≡ filters_of r (filter_calls_view (take (i + 1) fs)) e
+filters_next r fs i f e lt is =
     rw (take_more fs i f lt, ← is, map-append)
-    (sym (filters_push s senv (filter_calls_view (take i fs)) (filter_call_view f) e))
+    (sym (filters_push r (filter_calls_view (take i fs)) (filter_call_view f) e))
 
 -- One more filter of a resolved value.
 pub filter_placed : (k : NaryOp) (c : SlotExpr Constant) (es : SRow Constant) (x : SlotExpr ℕ) (row : List Entry)

@@ -1,15 +1,13 @@
 -- The number of locals that resolved statements use.
 use Rattle.jt_ir.specs.Slots.{SlotStmt}
-use Rattle.jt_ir.specs.View.{body_view}
 use Rattle.jt_ir.proofs.ExpressionViews.{row_left}
 use Rattle.jt_ir.specs.Slots as slots
 use Rattle.jt_ir.specs.declared.program.Slot as code_slot
-use Rattle.jt_ir.specs.declared.program.SlotStmt as code_stmt
 use Rattle.jt_bind.specs.internal.{entry_front, up_to, Reaches, ◌≡◌, ℕ, ◌+◌, ◌<◌, List, [], ◌∷◌, length, map, drop}
 use Rattle.jt_bind.specs.internal.{get_or, refl, max, Option, Some, None, option_map, Text, slots_locals, expr_locals}
 use Rattle.jt_bind.specs.internal.{row_locals, condition_locals, stmt_locals, body_locals, Constant, placed_expr}
 use Rattle.jt_bind.specs.internal.{placed_row, placed_condition, placed_stmt, placed_body, SlotExpr, SRow, SBody, Front}
-use Rattle.jt_bind.specs.internal.{slot_view, expr_view, row_view, stmt_view, choice_view, filters_after, SlotFilter}
+use Rattle.jt_bind.specs.internal.{slot_view, expr_view, row_view, choice_view, filters_after, SlotFilter}
 use Rattle.jt_bind.specs.internal.{target_locals, branches_locals}
 use Rattle.jt_bind.proofs.Vocabulary.{sym, ap, ◌∙◌, arith, rules, drop_more, SBranch, Entry}
 
@@ -123,31 +121,3 @@ pub filters_counted : (fs : List SlotFilter) (x : SlotExpr ℕ)
     → expr_locals (filters_after fs x) ≡ max (expr_locals x) (filters_locals fs)
 filters_counted [] x = sym (max_zero (expr_locals x))
 filters_counted (f ∷ fs) x = search (arith, rules, filters_counted fs, max_again)
-
-pub body_step : (templates : List Text) (ss : List code_stmt.SlotStmt) (i : ℕ) (x : code_stmt.SlotStmt)
-    (m m' : Option ℕ) (behind : SBody ℕ) (r : ℕ)
-    → i < length ss → x ≡ get_or ss i x → Reaches (stmt_view templates x) m m'
-    → max (up_to m) (body_locals (body_view templates (drop i ss) behind)) ≡ r
-    → max (up_to m') (body_locals (body_view templates (drop (i + 1) ss) behind)) ≡ r
-body_step templates ss i x m m' behind r lt is h so =
-    h (body_view templates (drop (i + 1) ss) behind)
-    ∙ ap (λ (y : code_stmt.SlotStmt).
-    max (up_to m) (body_locals (stmt_view templates y (body_view templates (drop (i + 1) ss) behind)))) is
-    ∙ sym (ap (λ (l : List code_stmt.SlotStmt). max (up_to m) (body_locals (body_view templates l behind)))
-    (drop_more ss i x lt)) ∙ so
-
-pub branch_step : (templates : List Text) (bs : List SBranch) (i : ℕ) (b : SBranch) (us : List code_stmt.SlotStmt)
-    (m k m' : Option ℕ) (r : ℕ)
-    → i < length bs → b ≡ get_or bs i b → us ≡ b.body.items
-    → up_to k ≡ max (up_to m) (expr_locals (expr_view b.condition)) → Reaches (body_view templates us) k m'
-    → max (up_to m) (branches_locals templates (drop i bs)) ≡ r
-    → max (up_to m') (branches_locals templates (drop (i + 1) bs)) ≡ r
-branch_step templates bs i b us m k m' r lt is body e h so =
-    let left : branches_locals templates (drop i bs)
-    ≡ max (max (expr_locals (expr_view b.condition)) (body_locals (body_view templates us slots.end)))
-    (branches_locals templates (drop (i + 1) bs)) =
-    ap (branches_locals templates) (drop_more bs i b lt)
-    ∙ ap (λ (z : SBranch). branches_locals templates (z ∷ drop (i + 1) bs)) (sym is)
-    ∙ ap (λ (l : List code_stmt.SlotStmt). max (max (expr_locals (expr_view b.condition))
-    (body_locals (body_view templates l slots.end))) (branches_locals templates (drop (i + 1) bs))) (sym body) in
-    let here = h slots.end in omega arith

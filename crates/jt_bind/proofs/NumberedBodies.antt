@@ -1,14 +1,10 @@
 -- The bodies of a chain's blocks, by their indices, and the routines of macros and bodies.
-use Rattle.jt_semantics.specs.Resolve as resolve
-use Rattle.jt_bind.specs.internal.{bodies_in, files_in, macro_in, numbered_in, parameters_in, top_in, ◌≡◌, ℕ, zero, suc}
-use Rattle.jt_bind.specs.internal.{◌+◌, ◌<◌, ◌≤◌, Bool, true, false, List, [], ◌∷◌, length, drop, get_or, refl, Option}
-use Rattle.jt_bind.specs.internal.{Some, if◌then◌else◌, ◌++◌, map, filter, BlockBody, all_bodies, Template}
-use Rattle.jt_bind.specs.internal.{counted_from, first_body, next_given, resolved_routine, Tree, Text, body_view}
-use Rattle.jt_bind.specs.internal.{parameters_view, block_view, macro_view, Block, Macro, Routine, Chains, cenv_in}
-use Rattle.jt_bind.specs.internal.{order_in, namespace_in, templates_in, part_at, part_from, IsRoutine, RoutinesLead}
-use Rattle.jt_bind.proofs.Vocabulary.{length-drop, ap, ◌∙◌, arith, rules, sym, zero-add, add-zero, add-one, drop_more}
-use Rattle.jt_bind.proofs.Vocabulary.{at_drop_all, length-map}
-use Rattle.jt_bind.proofs.RoutineConcatenation.{Planned, lead_push, routine_as}
+use Rattle.jt_bind.specs.internal.{files_in, numbered_in, ◌≡◌, ℕ, zero, suc, ◌+◌, ◌<◌, ◌≤◌, Bool, true, false, List, []}
+use Rattle.jt_bind.specs.internal.{◌∷◌, length, drop, get_or, refl, Option, Some, if◌then◌else◌, map, filter, BlockBody}
+use Rattle.jt_bind.specs.internal.{all_bodies, Template, counted_from, first_body, next_given, block_view, Block}
+use Rattle.jt_bind.specs.internal.{Chains, cenv_in, namespace_in}
+use Rattle.jt_bind.proofs.Vocabulary.{length-drop, ap, ◌∙◌, arith, rules, sym, zero-add, add-zero, add-one, at_drop_all}
+use Rattle.jt_bind.proofs.Vocabulary.{length-map}
 
 -- ---- items of a list by their indices
 
@@ -57,9 +53,9 @@ module _ (s : Chains) (us : List Block) (all : map (block_view (files_in s)) us
   abbrev numbered : List (ℕ × BlockBody)
   numbered = numbered_in s
 
-  pub numbered_next : (i : ℕ) (d : Block) → i < length us
-      → drop i numbered ≡ (i, shown (get_or us i d)) ∷ drop (i + 1) numbered
-  numbered_next i d lt = search (arith, rules, counted_next, get_or, zero-add, add-one)
+  pub numbered_next : (i : ℕ) (x : Block) → i < length us → x ≡ get_or us i x
+      → drop i numbered ≡ (i, shown x) ∷ drop (i + 1) numbered
+  numbered_next i x lt is = search (arith, rules, counted_next, get_or, zero-add, add-one)
 
   pub numbered_end : (i : ℕ) → length us ≤ i → drop i numbered ≡ []
   numbered_end i h = search (arith, rules, length-map, counted_end)
@@ -73,44 +69,3 @@ module _ (s : Chains) (us : List Block) (all : map (block_view (files_in s)) us
       (ap (λ (z : List (ℕ × BlockBody)). next_given (filter p z)) (sym (drop_counted (i + 1) 0 bs)) ∙ e) in
       let long : length us ≡ length bs = sym (length-map us shown) ∙ ap length all in
       omega (arith, length-drop (i + 1) bs)
-
-  -- The routine of a body.
-  pub block_routine : (i : ℕ) (x : Block) (xs : List Text) (sp : resolve.StaticEnv) (whole : List Planned) (r : Routine)
-      (before rs ss : List Routine) (old p q : List Tree)
-      → i < length us → x ≡ get_or us i x → xs ≡ parameters_in s x.name.now
-      → sp ≡ record (top_in s x.template) { escaping = x.escaping; part = part_at numbered (Some i) }
-      → RoutinesLead (templates_in s) whole (bodies_in s (drop i numbered))
-      before rs old p
-      → IsRoutine (templates_in s) (resolved_routine (cenv_in s) (order_in s) xs (body_view x.body.now) sp) r p q
-      → ss ≡ rs ++ r ∷ [] → RoutinesLead (templates_in s) whole
-      (bodies_in s (drop (i + 1) numbered)) before ss old q
-  block_routine i x xs sp whole r before rs ss old p q lt is same e lead made pushed =
-      let at = λ (z : List (ℕ × BlockBody)). (let inside : resolve.StaticEnv =
-      record (top_in s x.template) { escaping = x.escaping; part = part_from z } in inside) in
-      let next = numbered_next i x lt ∙ ap (λ (z : Block). (i, shown z) ∷ drop (i + 1) numbered) (sym is) in
-      lead_push (templates_in s) whole before old _
-      (bodies_in s (drop (i + 1) numbered)) r rs ss p q
-      (rw next at lead)
-      (routine_as (templates_in s) (cenv_in s) (order_in s) xs
-      (parameters_in s x.name.now) (body_view x.body.now)
-      sp (at ((i, shown x) ∷ drop (i + 1) numbered)) r p q made same (e ∙ ap at next)) pushed
-
--- The routine of a macro.
-module _ (s : Chains) (ms : List Macro) where
-  abbrev pub remaining : ℕ → List Planned
-  remaining i = map (λ m. macro_in s (macro_view (files_in s) m)) (drop i ms)
-
-  pub macro_lead : (i : ℕ) (x : Macro) (xs : List Text) (sp : resolve.StaticEnv) (whole : List Planned) (r : Routine)
-      (before rs ss : List Routine) (old p q : List Tree)
-      → i < length ms → x ≡ get_or ms i x
-      → xs ≡ map (λ z. z.name) (parameters_view x.parameters.now)
-      → sp ≡ top_in s x.template
-      → RoutinesLead (templates_in s) whole (remaining i) before rs old p
-      → IsRoutine (templates_in s) (resolved_routine (cenv_in s) (order_in s) xs (body_view x.body.now) sp) r p q
-      → ss ≡ rs ++ r ∷ [] → RoutinesLead (templates_in s) whole (remaining (i + 1)) before ss old q
-  macro_lead i x xs sp whole r before rs ss old p q lt is same at lead made pushed =
-      lead_push (templates_in s) whole before old (macro_in s (macro_view (files_in s) x)) (remaining (i + 1)) r rs ss
-      p q
-      (rw (drop_more ms i x lt, ← is) at lead)
-      (routine_as (templates_in s) (cenv_in s) (order_in s) xs (map (λ z. z.name) (parameters_view x.parameters.now))
-      (body_view x.body.now) sp (top_in s x.template) r p q made same at) pushed

@@ -7,8 +7,8 @@ use Rattle.jt_ir.specs.declared.program.Slot.TheVariants as s
 use Rattle.jt_bind.specs.internal.{◌≡◌, ℕ, suc, ◌+◌, ◌<◌, false, List, [], ◌∷◌, length, drop, get_or, refl, Option}
 use Rattle.jt_bind.specs.internal.{Some, None, if◌then◌else◌, ◌++◌, map, Bool, true, take, bytes_eq, Bor, Text, Slot}
 use Rattle.jt_bind.specs.internal.{local, Table, slot_in, bound_table, slot_of, bound_all, texts, last_among}
-use Rattle.jt_bind.specs.internal.{option_map, unwrap_or, slice_get, Rc, Template, name_at, place_view, slot_view}
-use Rattle.jt_bind.specs.internal.{framed, NameScope, value_in}
+use Rattle.jt_bind.specs.internal.{option_map, unwrap_or, Rc, Template, name_at, place_view, slot_view, framed}
+use Rattle.jt_bind.specs.internal.{NameScope, value_in}
 use Rattle.jt_bind.proofs.Vocabulary.{sym, ap, ◌∙◌, add-one, arith, rules, Global, drop_more, map-append, take_more}
 
 -- ---- names with numbers
@@ -33,15 +33,12 @@ placed_next ks i d x n n' f f' lt e h = search (arith, rules, add-one, drop_more
 
 -- ---- the places of tags, and the scopes around them
 
--- The name of the template of a tag.
-pub name_shown : (ts : List Template) (i : ℕ) → unwrap_or (slice_get (map (λ t. t.name) ts) i) [] ≡ name_at ts i
-name_shown ts i = ap (λ o. unwrap_or o []) (slice_get-map (λ (t : Template). t.name) ts i)
-
 pub place_shown : (ts : List Template) (i line : ℕ)
     → place_view (map (λ t. t.name) ts) (record { template = i; line = line })
     ≡ record { template = name_at ts i; line = line }
 place_shown ts i line =
-    ap (λ (x : Text). let p : place.Place = record { template = x; line = line } in p) (name_shown ts i)
+    ap (λ (x : Option Text). let p : place.Place = record { template = unwrap_or x []; line = line } in p)
+    (slice_get-map (λ (t : Template). t.name) ts i)
 
 -- One more scope.
 pub framed_push : (fs : List NameScope) (f : NameScope) (t : Table)

@@ -4,13 +4,12 @@ use Rattle.jt_ast.specs.Expressions as expressions
 use Rattle.jt_ast.specs.Statements as trees
 use Rattle.jt_ir.specs.Slots as slots
 use Rattle.jt_bind.specs.declared.senv.StaticEnv as code_senv
-use Rattle.jt_bind.specs.internal.{filters_in, alone, Place, ◌≡◌, ℕ, suc, ◌+◌, ◌<◌, List, [], ◌∷◌, length, drop, get_or}
-use Rattle.jt_bind.specs.internal.{refl, Option, Bor, Tree, Pairs, no_pairs, pair, Text, Namespace, set_in, CompileEnv}
-use Rattle.jt_bind.specs.internal.{texts, Constant, Slot, SlotExpr, SBody, local, global, one, Targets, SlotStmt, Table}
-use Rattle.jt_bind.specs.internal.{slot_in, read_from, followed, copied, handed_on, resolved_values, resolved_condition}
-use Rattle.jt_bind.specs.internal.{bound_all, place, Chains, Turns, IsPlaced, BodyLeads, cenv_in, order_in, senv_in}
-use Rattle.jt_bind.specs.internal.{templates_in, Emits, IsHead, AreTurns, line_in, stmt_in, body_in, scoped_in}
-use Rattle.jt_bind.specs.internal.{values_in}
+use Rattle.jt_bind.specs.internal.{alone, Place, ◌≡◌, ℕ, suc, ◌+◌, ◌<◌, List, [], ◌∷◌, length, drop, get_or, refl}
+use Rattle.jt_bind.specs.internal.{Option, Bor, Tree, Pairs, no_pairs, pair, Text, Namespace, set_in, CompileEnv, texts}
+use Rattle.jt_bind.specs.internal.{Constant, Slot, SlotExpr, SBody, local, global, one, Targets, SlotStmt, Table}
+use Rattle.jt_bind.specs.internal.{slot_in, read_from, followed, copied, handed_on, resolved_values, Turns, Resolver}
+use Rattle.jt_bind.specs.internal.{IsPlaced, BodyLeads, Emits, IsHead, AreTurns, condition_in, templates_of, senv_of}
+use Rattle.jt_bind.specs.internal.{table_of, line_of, stmt_of, body_of, scoped_of, values_of, filters_of, inside_of}
 use Rattle.jt_bind.proofs.Vocabulary.{ap, add-one, arith, rules, drop_more}
 use Rattle.jt_bind.proofs.BodyConcatenation.{emits_of, emits_both, lead_of}
 
@@ -57,37 +56,39 @@ pub values_followed : (cenv : CompileEnv) (order : List Namespace) (ps : Pairs) 
 values_followed cenv order no_pairs sp line b left = refl
 values_followed cenv order (pair x e ps) sp line b left = search (arith, rules, values_followed cenv order ps)
 
+-- The resolver whose first free local is n.
+abbrev pub freed : Resolver → ℕ → Resolver
+freed r n = record r { senv = record r.senv { free = n } }
+
 -- A filter tag: its text, and the result of its filters.
-pub filter_shown : (s : Chains) (senv : code_senv.StaticEnv) (line : ℕ) (fs : List trees.FilterCall) (b : trees.Body)
-    (n : ℕ)
-    → n ≡ senv.free + 1
-    → followed
-    (alone (slots.capture senv.escaping (local senv.free) (scoped_in s b (senv_in s (record senv { free = n })))))
-    (alone (slots.print (line_in s senv line) senv.escaping
-    (filters_in s fs (record senv { free = n })
-    (slots.variable (local senv.free)))))
-    ≡ stmt_in s (trees.filter_block line fs b) senv
-filter_shown s senv line fs b n e = search (arith, rules, add-one)
+pub filter_shown : (r : Resolver) (line : ℕ) (fs : List trees.FilterCall) (b : trees.Body) (n : ℕ)
+    → n ≡ r.senv.free + 1
+    → followed (alone (slots.capture r.senv.escaping (local r.senv.free) (scoped_of r b (senv_of (freed r n)))))
+    (alone (slots.print (line_of r line) r.senv.escaping
+    (filters_of (freed r n) fs (slots.variable (local r.senv.free)))))
+    ≡ stmt_of r (trees.filter_block line fs b)
+filter_shown r line fs b n e = search (arith, rules, add-one)
 
 -- The values of a `with` tag, followed by its body.
-pub values_emitted : (s : Chains) (senv : code_senv.StaticEnv) (ps : Pairs) (line : ℕ) (w : SBody Constant)
-    (es fs gs : List SlotStmt) (p q r : List Tree)
-    → Emits (templates_in s) (values_in s ps senv line slots.end) es fs p q
-    → Emits (templates_in s) w fs gs q r → Emits (templates_in s) (values_in s ps senv line w) es gs p r
-values_emitted s senv ps line w es fs gs p q r h g = search (arith, rules, emits_of, values_followed, emits_both)
+pub values_emitted : (r : Resolver) (ps : Pairs) (line : ℕ) (w : SBody Constant) (es fs gs : List SlotStmt)
+    (p q u : List Tree)
+    → Emits (templates_of r) (values_of r ps line slots.end) es fs p q
+    → Emits (templates_of r) w fs gs q u → Emits (templates_of r) (values_of r ps line w) es gs p u
+values_emitted r ps line w es fs gs p q u h g = search (arith, rules, emits_of, values_followed, emits_both)
 
 -- Copies of the names that a scope sets, followed by its body.
-pub scope_emitted : (s : Chains) (b : trees.Body) (sp : StaticEnv) (senv : code_senv.StaticEnv)
-    (es fs gs : List SlotStmt) (p r : List Tree)
-    → senv_in s senv ≡ bound_all (set_in b) sp
-    → Emits (templates_in s) (copied (place sp 1) sp.table sp.free (set_in b) slots.end) es fs p p
-    → Emits (templates_in s) (body_in s b senv) fs gs p r → Emits (templates_in s) (scoped_in s b sp) es gs p r
-scope_emitted s b sp senv es fs gs p r e h g = search (arith, rules, emits_of, copied_followed, emits_both)
+pub scope_emitted : (r : Resolver) (b : trees.Body) (n : code_senv.StaticEnv) (es fs gs : List SlotStmt)
+    (p u : List Tree)
+    → senv_of (record r { senv = n }) ≡ inside_of r (set_in b)
+    → Emits (templates_of r) (copied (line_of r 1) (table_of r) r.senv.free (set_in b) slots.end) es fs p p
+    → Emits (templates_of r) (body_of (record r { senv = n }) b) fs gs p u
+    → Emits (templates_of r) (scoped_of r b (senv_of r)) es gs p u
+scope_emitted r b n es fs gs p u e h g = search (arith, rules, emits_of, copied_followed, emits_both)
 
 -- The environment of a loop's body may be replaced by an equal one.
-pub turns_as : (s : Chains) (b : trees.Body) (k : Option expressions.Expr) (sp sq : StaticEnv) (xs : Targets)
-    (c : SlotExpr Constant) (t : Turns) (p r v : List Tree)
-    → sp ≡ sq → IsHead xs c (resolved_condition (cenv_in s) (order_in s) k sp) t.head.value p r
-    → Emits (templates_in s) (scoped_in s b sp) [] t.body.items r v
-    → AreTurns s xs c (resolved_condition (cenv_in s) (order_in s) k sq) (scoped_in s b sq) t p v
-turns_as s b k sp sq xs c t p r v e h w = search (arith, rules, emits_of)
+pub turns_as : (r : Resolver) (b : trees.Body) (k : Option expressions.Expr) (sp sq : StaticEnv) (xs : Targets)
+    (c : SlotExpr Constant) (t : Turns) (p u v : List Tree)
+    → sp ≡ sq → IsHead xs c (condition_in r.tables.now k sp) t.head.value p u
+    → Emits (templates_of r) (scoped_of r b sp) [] t.body.items u v
+    → AreTurns r.tables.now xs c (condition_in r.tables.now k sq) (scoped_of r b sq) t p v
+turns_as r b k sp sq xs c t p u v e h w = search (arith, rules, emits_of)

@@ -2,8 +2,8 @@
 
 ghost use Rattle.jt_semantics.specs.Resolve as resolve;
 ghost use Rattle.std.specs.Prelude.{◌≡◌};
-ghost use Rattle.jt_bind.specs.internal.{IfOk, texts, IsBlock, super_of, table_of, IsRow, PutsNone};
-ghost use Rattle.jt_bind.specs.internal.{first_unit_in, parameters_in};
+ghost use Rattle.jt_bind.specs.internal.{IfOk, texts, block_of, super_of, table_of, IsRow};
+ghost use Rattle.jt_bind.specs.internal.{PutsNone, first_unit_in, parameters_in};
 
 use crate::Result;
 use crate::lookup::absent;
@@ -50,7 +50,7 @@ impl<'t, 'f, 's, 'a> Resolver<'t, 'f, 's, 'a> {
     /// without a body is absent.
     #[inline(never)]
     pub(crate) fn block_called(&self, name: &str) -> Result<SlotExpr>
-        ensures { IfOk result (λ e. IsBlock self.now name.now e) }
+        ensures { IfOk result (PutsNone (block_of self.now name.now)) }
     {
         let Some(unit) = self.tables.first_body(name)? else {
             return Ok(absent());

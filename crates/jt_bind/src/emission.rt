@@ -4,13 +4,13 @@ ghost use Rattle.jt_value.specs.Tree as tree;
 ghost use Rattle.jt_ir.specs.Slots as slots;
 ghost use Rattle.jt_ir.specs.declared.program.SlotStmt.TheVariants as s;
 ghost use Rattle.std.specs.Prelude.{◌++◌, ◌∷◌, ◌≡◌};
-ghost use Rattle.jt_bind.specs.internal.{alone, IfOk, List, [], Text, Chains, IsShown};
-ghost use Rattle.jt_bind.specs.internal.{templates_in, values, Emits, line_in, place_of, Constant};
-ghost use Rattle.jt_bind.specs.internal.{own};
+ghost use Rattle.jt_bind.specs.internal.{alone, IfOk, List, [], Text, IsShown, own, templates_of};
+ghost use Rattle.jt_bind.specs.internal.{values, Emits, line_of, place_of, Constant};
 
 use crate::Result;
 use crate::held::Held;
 use crate::pool::Pool;
+use crate::resolver::Resolver;
 use crate::rows::Row;
 use crate::senv::StaticEnv;
 use jt_ir::{Filtered, Slot, SlotBranch, SlotExpr, SlotStmt, Targets};
@@ -38,21 +38,17 @@ pub(crate) fn put_data(
     Ok(())
 }
 
-/// Emits a print of a value.
-#[inline(never)]
-pub(crate) fn put_print(
-    senv: &StaticEnv<'_, '_>,
-    line: u32,
-    value: SlotExpr,
-    done: &mut SlotBody,
-) -> Result<()>
-    ensures { IfOk result (λ u. (scope : Chains) (c : slots.SlotExpr Constant)
-        (p q : List tree.Tree) → IsShown c value p q → Emits (templates_in scope)
-        (alone (slots.print (line_in scope senv.now line) senv.now.escaping c)) done.old.items
-        done.new.items p q) }
-{
-    let filters = Vec::new(*done.allocator());
-    put_filtered(senv, line, Filtered { value, filters }, done)
+impl<'t, 'f, 's, 'a> Resolver<'t, 'f, 's, 'a> {
+    /// Emits a print of a value.
+    #[inline(never)]
+    pub(crate) fn put_print(&self, line: u32, value: SlotExpr, done: &mut SlotBody) -> Result<()>
+        ensures { IfOk result (λ u. (c : slots.SlotExpr Constant) (p q : List tree.Tree)
+            → IsShown c value p q → Emits (templates_of self.now) (alone (slots.print
+            (line_of self.now line) self.now.senv.escaping c)) done.old.items done.new.items p q) }
+    {
+        let filters = Vec::new(*done.allocator());
+        put_filtered(&self.senv, line, Filtered { value, filters }, done)
+    }
 }
 
 /// Emits a print of a value after the filters of a tag.

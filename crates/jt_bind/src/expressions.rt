@@ -5,7 +5,7 @@ ghost use Rattle.jt_ast.specs.Expressions as trees;
 ghost use Rattle.jt_semantics.specs.Resolve as resolve;
 ghost use Rattle.jt_ids.specs.declared.op_id.OpId.TheVariants as op;
 ghost use Rattle.jt_ir.specs.Slots as slots;
-ghost use Rattle.jt_bind.specs.internal.{filter_row_in, entries_in, IfOk, Some, length, exprs_view};
+ghost use Rattle.jt_bind.specs.internal.{filter_row_of, entries_of, IfOk, Some, length, exprs_view};
 ghost use Rattle.jt_bind.specs.internal.{is_negated, literal_view, pairs_view, IsResolved, RowAdds};
 ghost use Rattle.jt_bind.specs.internal.{RowPuts, asides_of, by_name, by_position, called_of};
 ghost use Rattle.jt_bind.specs.internal.{expr_of, given_of, row_of, IsAdded, turn_in, literal};
@@ -324,9 +324,8 @@ impl<'t, 'f, 's, 'a> Resolver<'t, 'f, 's, 'a> {
         done: &mut Row,
         pool: &mut Pool,
     ) -> Result<()>
-        ensures { IfOk result (λ u. RowAdds (filter_row_in self.now.tables.now
-            (Some (filter_id filter)) (by_position arguments.entry) (by_name arguments.entry)
-            self.now.senv) slots.none done.old done.new pool.old pool.new) }
+        ensures { IfOk result (λ u. RowAdds (filter_row_of self.now (Some (filter_id filter))
+            arguments.entry) slots.none done.old done.new pool.old pool.new) }
     {
         self.resolve_given(arguments, done, pool)?;
         self.fill_filter(filter, arguments, done, pool)
@@ -450,8 +449,8 @@ impl<'t, 'f, 's, 'a> Resolver<'t, 'f, 's, 'a> {
         done: &mut Row,
         pool: &mut Pool,
     ) -> Result<()>
-        ensures { IfOk result (λ u. RowAdds (entries_in self.now.tables.now (pairs_view pairs.now)
-            self.now.senv) slots.none done.old done.new pool.old pool.new) }
+        ensures { IfOk result (λ u. RowAdds (entries_of self.now (pairs_view pairs.now)) slots.none
+            done.old done.new pool.old pool.new) }
     {
         for (key, value) in pairs {
             let entry_key = add_text(self.alloc, key.as_str(), pool)?;

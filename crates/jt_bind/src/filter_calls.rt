@@ -2,7 +2,7 @@
 
 ghost use Rattle.jt_ir.specs.Slots as slots;
 ghost use Rattle.std.specs.Prelude.{◌∷◌, ◌≡◌};
-ghost use Rattle.jt_bind.specs.internal.{[], filters_in, IfOk, List, length, filter_call_view};
+ghost use Rattle.jt_bind.specs.internal.{[], filters_of, IfOk, List, length, filter_call_view};
 ghost use Rattle.jt_bind.specs.internal.{filter_calls_view, IsPlaced, values, Constant};
 ghost use Rattle.jt_bind.specs.internal.{filtered_view, slot_view, Tree};
 
@@ -23,8 +23,8 @@ impl<'t, 'f, 's, 'a> Resolver<'t, 'f, 's, 'a> {
         value: Slot,
         pool: &mut Pool,
     ) -> Result<Filtered>
-        ensures { IfOk result (λ v. IsPlaced (filters_in self.now.tables.now
-            (filter_calls_view filter_calls.now) self.now.senv (slots.variable (slot_view value)))
+        ensures { IfOk result (λ v. IsPlaced (filters_of self.now
+            (filter_calls_view filter_calls.now) (slots.variable (slot_view value)))
             (filtered_view v) (values pool.old) (values pool.new)) }
     {
         let start = pool.len();
@@ -49,7 +49,7 @@ impl<'t, 'f, 's, 'a> Resolver<'t, 'f, 's, 'a> {
     ) -> Result<()>
         ensures { IfOk result (λ u. (c : slots.SlotExpr Constant) (p : List Tree) → length p ≡ start
             → IsPlaced c (filtered_view done.old) p (values pool.old) → IsPlaced
-            (filters_in self.now.tables.now (filter_call_view filter_call.now ∷ []) self.now.senv c)
+            (filters_of self.now (filter_call_view filter_call.now ∷ []) c)
             (filtered_view done.new) p (values pool.new)) }
     {
         let row = filter_call.arguments.as_slice();

@@ -5,35 +5,17 @@ ghost use Rattle.jt_ast.specs.Statements as trees;
 ghost use Rattle.std.specs.Prelude.{if◌then◌else◌, ◌≡◌};
 ghost use Rattle.jt_bind.specs.internal.{Bool, IfOk, List, [], ℕ, is_ignored, passes_context};
 ghost use Rattle.jt_bind.specs.internal.{texts, Chains, line_of, stmt_of, table_of, templates_of};
-ghost use Rattle.jt_bind.specs.internal.{PutsNone, globals_in, senv_in, templates_in, Emits};
-ghost use Rattle.jt_bind.specs.internal.{slot_in, Tree};
+ghost use Rattle.jt_bind.specs.internal.{PutsNone, globals_in, senv_in, senv_of, Emits, slot_in};
+ghost use Rattle.jt_bind.specs.internal.{Tree};
 
 use crate::Result;
-use crate::emission::{SlotBody, put_assign, put_print, put_run};
+use crate::emission::{SlotBody, put_assign, put_run};
 use crate::lookup::{absent, no_value, reading};
 use crate::resolver::Resolver;
 use crate::senv::StaticEnv;
 use jt_ast::{IncludeContext, Missing};
 use jt_ir::{Slot, SlotExpr, Targets};
 use jt_layout::{NamespaceLayout, checked_sum};
-
-/// Emits an include of a name without a source: nothing if it may be missing, or else a print of an
-/// absent value.
-fn put_missing(
-    senv: &StaticEnv<'_, '_>,
-    line: u32,
-    ignore_missing: bool,
-    done: &mut SlotBody,
-) -> Result<()>
-    ensures { IfOk result (λ u. (s : Chains) (p : List Tree)
-        → Emits (templates_in s) (resolve.left_out (senv_in s senv.now) line ignore_missing)
-        done.old.items done.new.items p p) }
-{
-    if ignore_missing {
-        return Ok(());
-    }
-    put_print(senv, line, absent(), done)
-}
 
 /// Returns the environment in which a block's arguments are read. It is the environment of the tag
 /// if `scoped` is true, or else one without scopes, so that names are globals.
@@ -45,6 +27,19 @@ fn seen_by<'s, 'a>(senv: &StaticEnv<'s, 'a>, scoped: bool) -> StaticEnv<'s, 'a>
 }
 
 impl<'t, 'f, 's, 'a> Resolver<'t, 'f, 's, 'a> {
+    /// Emits an include of a name without a source: nothing if it may be missing, or else a print
+    /// of an absent value.
+    fn put_missing(&self, line: u32, ignore_missing: bool, done: &mut SlotBody) -> Result<()>
+        ensures { IfOk result (λ u. (p : List Tree)
+            → Emits (templates_of self.now) (resolve.left_out (senv_of self.now) line
+            ignore_missing) done.old.items done.new.items p p) }
+    {
+        if ignore_missing {
+            return Ok(());
+        }
+        self.put_print(line, absent(), done)
+    }
+
     /// Returns the value that an included chain gets for a name: with context the value of the
     /// name, or else the undefined value.
     fn handed(&self, with_context: bool, name: &str) -> SlotExpr
@@ -102,7 +97,7 @@ impl<'t, 'f, 's, 'a> Resolver<'t, 'f, 's, 'a> {
             (is_ignored missing) (passes_context names))) done.old.items done.new.items p p) }
     {
         if self.tables.is_missing(name) {
-            return put_missing(&self.senv, line, missing.is_ignored(), done);
+            return self.put_missing(line, missing.is_ignored(), done);
         }
         let Some(index) = self.tables.chain_index(name) else {
             return put_run(self.tables.units(), Vec::new(self.alloc), done);
@@ -120,7 +115,7 @@ impl<'t, 'f, 's, 'a> Resolver<'t, 'f, 's, 'a> {
             required body)) done.old.items done.new.items p p) }
     {
         let Some(unit) = self.tables.first_body(name)? else {
-            return put_print(&self.senv, 1, absent(), done);
+            return self.put_print(1, absent(), done);
         };
         let seen = Resolver {
             senv: seen_by(&self.senv, scoped),

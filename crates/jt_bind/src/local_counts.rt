@@ -14,19 +14,12 @@ use crate::Result;
 use jt_ir::{Filtered, Slot, SlotBranch, SlotExpr, SlotStmt, Targets};
 use jt_layout::checked_sum;
 
-/// Returns the greater of two numbers.
-pub(crate) fn larger(left: usize, right: usize) -> usize
-    ensures { result ≡ max left right }
-{
-    left.max(right)
-}
-
 /// Returns the later of two locals, if there are any.
 fn later(left: Option<usize>, right: Option<usize>) -> Option<usize>
     ensures { counts.up_to result ≡ max (counts.up_to left) (counts.up_to right) }
 {
     match (left, right) {
-        (Some(left), Some(right)) => Some(larger(left, right)),
+        (Some(left), Some(right)) => Some(left.max(right)),
         (Some(left), None) => Some(left),
         (None, right) => right,
     }

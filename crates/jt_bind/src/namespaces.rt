@@ -1,7 +1,7 @@
 //! Resolves the routines of all chains and libraries.
 
 ghost use Rattle.jt_semantics.specs.Programs as programs;
-ghost use Rattle.jt_bind.specs.internal.{IfOk, [], AreRoutines, cenv_in, order_in, templates_in};
+ghost use Rattle.jt_bind.specs.internal.{IfOk, [], RoutinesLead, cenv_in, order_in, templates_in};
 ghost use Rattle.jt_bind.specs.internal.{values};
 
 use crate::Result;
@@ -17,8 +17,8 @@ pub(crate) fn resolve_namespaces(
     mut tables: Tables<'_, '_>,
     pool: &mut Pool,
 ) -> Result<Vec<Routine>>
-    ensures { IfOk result (λ rs. AreRoutines (templates_in tables.entry)
-        (programs.routines (cenv_in tables.entry) (order_in tables.entry)) [] rs.items
+    ensures { IfOk result (λ rs. RoutinesLead (templates_in tables.entry)
+        (programs.routines (cenv_in tables.entry) (order_in tables.entry)) [] [] rs.items
         (values pool.old) (values pool.new)) }
 {
     let mut routines = Vec::new(alloc);

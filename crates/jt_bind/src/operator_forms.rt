@@ -119,9 +119,7 @@ pub(crate) fn on_one(alloc: Global, op: OpId, operand: SlotExpr) -> Result<SlotE
     ensures { IfOk result (MadeOfOne (λ a. slots.made (slots.operator op)
         (slots.item a slots.none)) operand) }
 {
-    let mut row = Vec::new(alloc);
-    row.push((None, operand))?;
-    Ok(SlotExpr::Made(NaryOp::Operator(op), row))
+    Ok(SlotExpr::Made(NaryOp::Operator(op), vec![in alloc; (None, operand)]?))
 }
 
 /// Returns the expression that applies `op` to `left` and `right`.
@@ -129,10 +127,10 @@ pub(crate) fn on_one(alloc: Global, op: OpId, operand: SlotExpr) -> Result<SlotE
 pub(crate) fn on_two(alloc: Global, op: OpId, left: SlotExpr, right: SlotExpr) -> Result<SlotExpr>
     ensures { IfOk result (MadeOfTwo (resolve.operation_of op) left right) }
 {
-    let mut row = Vec::new(alloc);
-    row.push((None, left))?;
-    row.push((None, right))?;
-    Ok(SlotExpr::Made(NaryOp::Operator(op), row))
+    Ok(SlotExpr::Made(
+        NaryOp::Operator(op),
+        vec![in alloc; (None, left), (None, right)]?,
+    ))
 }
 
 /// Returns the expression, negated if `negated` holds.

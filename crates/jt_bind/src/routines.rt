@@ -11,7 +11,7 @@ ghost use Rattle.jt_bind.specs.internal.{layers_in, a_chain};
 
 use crate::Result;
 use crate::emission::SlotBody;
-use crate::local_counts::{body_locals, larger};
+use crate::local_counts::body_locals;
 use crate::pool::Pool;
 use crate::resolver::Resolver;
 use crate::senv::StaticEnv;
@@ -49,7 +49,7 @@ impl<'t, 'f, 's, 'a> Resolver<'t, 'f, 's, 'a> {
         let count = parameters.len();
         let mut done = Vec::new(self.alloc);
         self.resolve_within(body, parameters, &mut done, pool)?;
-        let locals = larger(count, body_locals(&done)?);
+        let locals = count.max(body_locals(&done)?);
         Ok(Routine {
             parameters: count,
             locals,

@@ -7,7 +7,7 @@ ghost use Rattle.jt_semantics.specs.Resolve as resolve;
 ghost use Rattle.jt_ast.specs.Statements as trees;
 ghost use Rattle.jt_ir.specs.Slots as slots;
 ghost use Rattle.std.specs.Prelude.{if◌then◌else◌};
-ghost use Rattle.jt_bind.specs.internal.{values_in, condition_in, IfOk, [], option_map, ℕ};
+ghost use Rattle.jt_bind.specs.internal.{values_of, condition_in, IfOk, [], option_map, ℕ};
 ghost use Rattle.jt_bind.specs.internal.{pairs_view, body_view, branches_view, filter_calls_view};
 ghost use Rattle.jt_bind.specs.internal.{names_view, texts, BranchIs, Puts, PutsStmt, TurnsAre};
 ghost use Rattle.jt_bind.specs.internal.{body_of, expr_of, inside_of, scoped_of, senv_of, stmt_of};
@@ -16,7 +16,7 @@ ghost use Rattle.jt_bind.specs.internal.{templates_of, values, Emits, IsAsked, I
 use crate::Result;
 use crate::emission::{
     LoopHead, SlotBody, Turns, put_assign, put_branch, put_capture, put_choice, put_data,
-    put_filtered, put_loop, put_print,
+    put_filtered, put_loop,
 };
 use crate::held::Held;
 use crate::pool::Pool;
@@ -122,8 +122,8 @@ impl<'t, 'f, 's, 'a> Resolver<'t, 'f, 's, 'a> {
                 targets: names,
                 value,
             } => {
-                let given = self.resolve_expression(value, pool)?;
                 let targets = self.set_targets(names)?;
+                let given = self.resolve_expression(value, pool)?;
                 put_assign(&self.senv, *line, targets, given, done)
             }
             Stmt::SetBlock { name, body, .. } => {
@@ -251,9 +251,9 @@ impl<'t, 'f, 's, 'a> Resolver<'t, 'f, 's, 'a> {
             (condition_in inside.now.tables.now (option_map expr_view tag.entry.condition.now)
             (senv_of inside.now)) h.value (values pool.old) (values pool.new)) }
     {
+        let targets = fresh_targets(self.alloc, self.senv.free, tag.names)?;
         let items = self.resolve_expression(tag.over, pool)?;
         let condition = inside.resolve_condition(tag.condition, pool)?;
-        let targets = fresh_targets(self.alloc, self.senv.free, tag.names)?;
         let head = LoopHead {
             targets,
             items,
@@ -409,7 +409,7 @@ impl<'t, 'f, 's, 'a> Resolver<'t, 'f, 's, 'a> {
             done.old done.new pool.old pool.new) }
     {
         let shown = self.resolve_expression(value, pool)?;
-        put_print(&self.senv, line, shown, done)
+        self.put_print(line, shown, done)
     }
 
     /// Resolves the condition of a loop, if it has one.
@@ -438,9 +438,8 @@ impl<'t, 'f, 's, 'a> Resolver<'t, 'f, 's, 'a> {
         done: &mut SlotBody,
         pool: &mut Pool,
     ) -> Result<()>
-        ensures { IfOk result (λ _. Puts self.now (values_in self.now.tables.now
-            (pairs_view pairs.now) self.now.senv line slots.end) done.old done.new pool.old
-            pool.new) }
+        ensures { IfOk result (λ _. Puts self.now (values_of self.now (pairs_view pairs.now) line
+            slots.end) done.old done.new pool.old pool.new) }
     {
         let mut senv = self.senv;
         for (_, value) in pairs {

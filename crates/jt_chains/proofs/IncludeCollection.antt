@@ -1,10 +1,10 @@
 -- Includes that are collected by one function, in terms of those collected by another one.
-use Rattle.jt_chains.proofs.Vocabulary.{◌≡◌, Bool, List, [], ◌∷◌, ◌++◌, refl, ap, ◌∙◌, arith, rules, flat_map}
-use Rattle.jt_chains.proofs.Vocabulary.{append-nil, Text, Template, includes_by, includes_in, includes_under, need}
-use Rattle.jt_chains.proofs.Vocabulary.{needs_in, include_need, Need, needed}
 use Rattle.jt_ast.specs.Statements.{Stmt, macro, Body, end, stmt, choose, for_each, set_block, with_values}
 use Rattle.jt_ast.specs.Statements.{filter_block, autoescape, block, Branches, no_branches, branch}
 use Rattle.std.proofs.lemmas.Grind.{flat_map-append}
+use Rattle.jt_chains.proofs.Vocabulary
+use Vocabulary.{◌≡◌, Bool, List, [], ◌∷◌, ◌++◌, refl, ap, ◌∙◌, arith, rules, flat_map, append-nil, Text, Template}
+use Vocabulary.{includes_by, includes_in, includes_under, need, needs_in, include_need, Need, needed}
 
 -- The names of includes are the needed ones.
 module _ (all : Bool) where

@@ -1,15 +1,16 @@
 -- The macros of a library, by the index of its template and by their names.
-use Rattle.jt_chains.proofs.Vocabulary.{map, ◌≡◌, ◌≤◌, ℕ, suc, ◌+◌, length, Bool, true, false, arith, rules, subst}
-use Rattle.jt_chains.proofs.Vocabulary.{if◌then◌else◌, List, [], ◌∷◌, refl, sym, ap, ◌∙◌, Option, Some, None, flat_map}
-use Rattle.jt_chains.proofs.Vocabulary.{unwrap_or, option_map, slice_get, option_and_then, append-nil, length-map}
-use Rattle.jt_chains.proofs.Vocabulary.{bytes_eq-Decides, Text, body_at, first_body, Template, MacroBody, templates}
-use Rattle.jt_chains.proofs.Vocabulary.{holds_macros, library_template, macros_in, macro_of, a_library, sources_in}
-use Rattle.jt_chains.proofs.Vocabulary.{macros, is_private, public_macro, file_view, files_view, name_at, index_of}
-use Rattle.jt_chains.proofs.Vocabulary.{TemplateFile, get_by_text, slice_get_past, slice_get-map, stmts_of, body_view}
-use Rattle.jt_chains.proofs.Vocabulary.{body_of, stmt_view}
+use Rattle.jt_ast.specs.declared.statement.Stmt as statement
+use Rattle.jt_chains.specs.Chain
+use Chain.{MacroBody, templates, holds_macros, library_template, macro_of, a_library, macros, is_private, public_macro}
 use Rattle.jt_ast.specs.Statements.{Body, end, stmt, macro, Stmt}
 use Rattle.jt_chains.specs.Tables.{macro_index, library_macros, as_macro, IsTable, Table, is_named}
-use Rattle.jt_ast.specs.declared.statement.Stmt as statement
+use Rattle.jt_chains.specs.declared.files.TemplateFile.{TemplateFile}
+use Rattle.jt_chains.proofs.Vocabulary
+use Vocabulary.{option_and_then, slice_get_past, slice_get-map, map, ◌≡◌, ◌≤◌, ℕ, suc, length, Bool, true, false}
+use Vocabulary.{arith, rules, if◌then◌else◌, List, [], ◌∷◌, refl, sym, ap, ◌∙◌, Option, Some, None, flat_map}
+use Vocabulary.{unwrap_or, option_map, slice_get, append-nil, length-map, bytes_eq-Decides, Text, body_at}
+use Vocabulary.{Template, macros_in, sources_in, file_view, files_view, name_at, index_of, get_by_text, stmts_of}
+use Vocabulary.{body_view, body_of, stmt_view}
 
 -- ---- the template of a library
 
@@ -34,7 +35,7 @@ module _ {X : Type 0} (F : List Template → X) (f : Text → Body → X) (none 
   held : (n : Text) (o : Option Body) → of_held (option_map (as_template n) o) ≡ F (library_template n o)
   held n o = search (arith, rules, none, one)
 
-  library_has : (ts : List Template) (n : Text) (i : ℕ) → i ≡ index_of ts n
+  pub library_has : (ts : List Template) (n : Text) (i : ℕ) → i ≡ index_of ts n
       → of_held (slice_get ts i) ≡ F (templates (sources_in ts) (a_library n))
   library_has ts n i e = ap (λ j. of_held (slice_get ts j)) e ∙ ap of_held (named ts n) ∙ held n (sources_in ts n)
 
@@ -50,18 +51,6 @@ library_nowhere ps n i past e =
     slice_get_past (files_view ps) i (omega (arith, past, length-map ps file_view)) in
     rw none at (library_at (files_view ps) n i e)
 
-library_body : (ts : List Template) (n : Text) (b : Body) (c : Bool) → b ≡ body_at ts (index_of ts n)
-    → holds_macros b ≡ c → (if c then b else end) ≡ first_body (templates (sources_in ts) (a_library n))
-library_body ts n b c is e = rw (← e, is) (library_has first_body (λ _ z. z) refl (λ _ _. refl) ts n _ refl)
-
-pub body_held : (ts : List Template) (n : Text) (b : Body) → b ≡ body_at ts (index_of ts n) → holds_macros b ≡ true
-    → b ≡ first_body (templates (sources_in ts) (a_library n))
-body_held ts n b = library_body ts n b true
-
-pub no_body_held : (ts : List Template) (n : Text) (b : Body) → b ≡ body_at ts (index_of ts n) → holds_macros b ≡ false
-    → end ≡ first_body (templates (sources_in ts) (a_library n))
-no_body_held ts n b = library_body ts n b false
-
 -- ---- macros by their names
 
 module _ (x n : Text) where
@@ -70,40 +59,35 @@ module _ (x n : Text) where
   macro_step (macro line y ps c) b = refl
   macro_step s b = search rules
 
-  -- The statement at an index, counted from k, is the macro.
-  abbrev IsMacroAt : ℕ → List Stmt → Option ℕ → Option MacroBody → Type 0
-  IsMacroAt k ss None m = m ≡ None
-  IsMacroAt k ss (Some j) m = (d : ℕ) × (j ≡ k + d) × (m ≡ option_and_then (as_macro n) (slice_get ss d))
+  -- The number of a later statement is one more than among the later ones.
+  later_macro : (k : ℕ) (b : Body) → macro_index x (suc k) b ≡ option_map suc (macro_index x k b)
+  later_macro k end = refl
+  later_macro k (stmt s b) = search (arith, rules, later_macro (suc k) b)
 
-  at_index : (k : ℕ) (ss : List Stmt)
-      → IsMacroAt k ss (macro_index x k (stmts_of ss)) (macro_of x (macros_in n (stmts_of ss)))
-  at_index k [] = refl
-  at_index k (s ∷ ss) =
-      subst (IsMacroAt k (s ∷ ss) (macro_index x k (stmts_of (s ∷ ss)))) (sym (macro_step s (stmts_of ss)))
-      (by (is_named x s) (macro_index x (suc k) (stmts_of ss)) (macro_of x (macros_in n (stmts_of ss)))
-      (at_index (suc k) ss))
+  abbrev macro_at : List Stmt → Option ℕ → Option MacroBody
+  macro_at ss = option_and_then (λ i. option_and_then (as_macro n) (slice_get ss i))
+
+  at_index : (ss : List Stmt) → macro_at ss (macro_index x 0 (stmts_of ss)) ≡ macro_of x (macros_in n (stmts_of ss))
+  at_index [] = refl
+  at_index (s ∷ ss) =
+      ap (λ o. macro_at (s ∷ ss) (if is_named x s then Some 0 else o)) (later_macro 0 (stmts_of ss))
+      ∙ by (is_named x s) (macro_index x 0 (stmts_of ss))
+      ∙ ap (λ m. if is_named x s then as_macro n s else m) (at_index ss)
+      ∙ sym (macro_step s (stmts_of ss))
     where
-      by : (c : Bool) (o : Option ℕ) (m : Option MacroBody) → IsMacroAt (suc k) ss o m
-          → IsMacroAt k (s ∷ ss) (if c then Some k else o) (if c then as_macro n s else m)
-      by true o m f = (0, omega arith, refl)
-      by false None m f = f
-      by false (Some j) m f = (suc f.0, omega (arith, f.1), f.2)
+      by : (c : Bool) (o : Option ℕ) → macro_at (s ∷ ss) (if c then Some 0 else option_map suc o)
+          ≡ (if c then as_macro n s else macro_at ss o)
+      by true o = refl
+      by false None = refl
+      by false (Some j) = refl
 
   -- A lookup in the table of a library finds its first macro of the name.
   pub looked_up : (ss : List Stmt) (t : Table) (o : Option ℕ) → IsTable (stmts_of ss) (Some t) → o ≡ get_by_text t x
       → option_and_then (λ i. option_and_then (as_macro n) (slice_get ss i)) o
       ≡ macro_of x (library_macros n (stmts_of ss))
   looked_up ss t o is at =
-      by o _ (subst (λ z. IsMacroAt 0 ss z (macro_of x (macros_in n (stmts_of ss)))) (sym (at ∙ is.1 x))
-      (at_index 0 ss))
+      ap (macro_at ss) (at ∙ is.1 x) ∙ at_index ss
       ∙ ap (λ (c : Bool). macro_of x (if c then macros_in n (stmts_of ss) else [])) (sym is.0)
-    where
-      by : (z : Option ℕ) (m : Option MacroBody) → IsMacroAt 0 ss z m
-          → option_and_then (λ i. option_and_then (as_macro n) (slice_get ss i)) z ≡ m
-      by None m f = sym f
-      by (Some i) m f =
-          let e : i ≡ f.0 = omega (arith, f.1) in
-          ap (λ j. option_and_then (as_macro n) (slice_get ss j)) e ∙ sym f.2
 
   -- A lookup of a name that is not private finds the macro that the library offers.
   pub offered : (file : TemplateFile) (ss : List statement.Stmt) (t : Table) (i : Option ℕ)

@@ -1,14 +1,7 @@
 -- Templates by their indices.
-use Rattle.jt_chains.proofs.Vocabulary.{◌≡◌, ℕ, suc, ◌+◌, ◌<◌, Bool, true, false, List, [], ◌∷◌, ◌++◌, length, map}
-use Rattle.jt_chains.proofs.Vocabulary.{drop, get_or, refl, ap, ◌∙◌, arith, Option, Some, rules, tests, zero}
-use Rattle.jt_chains.proofs.Vocabulary.{append_assoc, a_library, imports, imports_in, libraries, libraries_in, Sources}
-use Rattle.jt_chains.proofs.Vocabulary.{Template, template, holds_macros, library_template, templates, sources_in}
-use Rattle.jt_chains.proofs.Vocabulary.{macros_in, blocks_in, max_templates, names_up, slice_get, flat_map, unwrap_or}
-use Rattle.jt_chains.proofs.Vocabulary.{option_map, length-map, drop_more, bytes_eq-Decides, Text, body_of, body_at}
-use Rattle.jt_chains.proofs.Vocabulary.{along, macros_along, blocks_along, layers_along, AreIndices, includes_in}
-use Rattle.jt_chains.proofs.Vocabulary.{include_need, includes_along, file_view, files_view, namespace_view, AreWhole}
-use Rattle.jt_chains.proofs.Vocabulary.{names_at, name_at, namespace_at, TemplateFile, slice_get_within, slice_get-map}
-use Rattle.jt_chains.proofs.Vocabulary.{slice_get_read}
+use Rattle.jt_chains.specs.Chain as chain
+use chain.{a_library, imports_in, libraries, Sources, template, holds_macros, library_template, templates, blocks_in}
+use chain.{max_templates, names_up}
 use Rattle.jt_ast.specs.Statements.{stmt, macro, Body, end, data_of}
 use Rattle.jt_ast.specs.Texts.{repeated, among}
 use Rattle.std.specs.List.{AllByRecursion}
@@ -16,7 +9,15 @@ use Rattle.std.proofs.lemmas.Cmp.{nat_list_eq_equiv}
 use Rattle.std.proofs.lemmas.Bool.{or_parts}
 use Rattle.jt_chains.specs.declared.chain.Namespace.{Namespace}
 use Rattle.jt_chains.specs.internal.AreFrom.{AreFrom}
-use Rattle.jt_chains.specs.Chain as chain
+use Rattle.jt_chains.specs.declared.chain.Chain.{Chain}
+use Rattle.jt_chains.specs.declared.files.TemplateFile.{TemplateFile}
+use Rattle.jt_chains.proofs.Vocabulary
+use Vocabulary.{namespace_view, AreWhole, names_at, slice_get_within, slice_get-map, slice_get_read, its_templates}
+use Vocabulary.{its_sources, namespace_in, ◌≡◌, ℕ, suc, ◌+◌, ◌<◌, Bool, true, false, List, [], ◌∷◌, ◌++◌, length, map}
+use Vocabulary.{drop, get_or, refl, ap, ◌∙◌, arith, Option, Some, rules, tests, zero, append_assoc, imports}
+use Vocabulary.{libraries_in, Template, sources_in, macros_in, slice_get, flat_map, unwrap_or, option_map, length-map}
+use Vocabulary.{drop_more, bytes_eq-Decides, Text, body_of, body_at, along, macros_along, blocks_along, layers_along}
+use Vocabulary.{AreIndices, includes_in, include_need, includes_along, file_view, files_view, name_at, namespace_at}
 
 pub number_at : (P : ℕ → Type 0) (xs : List ℕ) (i : ℕ) → i < length xs → AllByRecursion P xs → P (get_or xs i 0)
 number_at P [] i lt a = absurd (omega arith)
@@ -187,21 +188,18 @@ pub nothing_along : {X A : Type 0} (f : X → A) (xs : List X) (g : Text → Bod
 nothing_along f [] g ts is e none = refl
 nothing_along f (x ∷ xs) g ts is e none = absurd (cc (ap (along ts g) none))
 
-module _ (ps qs : List TemplateFile) (hs : List Namespace) (i : ℕ) (h : Namespace) (is : List ℕ) (same_files : qs ≡ ps)
-    (same_indices : is ≡ h.templates.items) (lt : i < length hs) (at : h ≡ get_or hs i h)
-    (once : repeated (map (λ u. u.name) (files_view ps)) ≡ false) (whole : AreWhole (files_view ps) hs) where
-  from : AreFrom (files_view ps) is (templates (sources_in (files_view ps)) (namespace_at (map namespace_view hs) i))
-  from = rw same_indices (indices_of_namespace (files_view ps) hs i h lt at once whole)
+-- What a chain or a library has, by the indices of its templates.
+module _ (c : Chain) (i : ℕ) (h : Namespace) (is : List ℕ) (same : is ≡ h.templates.items)
+    (lt : i < length c.namespaces.items) (at : h ≡ get_or c.namespaces.items i h) where
+  from : AreFrom (its_templates c) is (templates (its_sources c) (namespace_in c i))
+  from = rw same (indices_of_namespace (its_templates c) c.namespaces.items i h lt at c.once c.whole)
 
-  pub namespace_indices : AreIndices (files_view qs) is
-  namespace_indices = rw same_files (are_indices (files_view ps) is _ from)
+  pub namespace_indices : AreIndices (its_templates c) is
+  namespace_indices = are_indices (its_templates c) is _ from
 
   pub namespace_along : {A : Type 0} (g : Text → Body → List A)
-      → along (files_view qs) g is
-      ≡ flat_map (λ t. g t.name t.body)
-      (templates (sources_in (files_view ps)) (namespace_at (map namespace_view hs) i))
-  namespace_along = all_from ps qs is _ same_files from
+      → along (its_templates c) g is ≡ flat_map (λ t. g t.name t.body) (templates (its_sources c) (namespace_in c i))
+  namespace_along = all_from c.templates.items c.templates.items is _ refl from
 
-  pub namespace_layers : layers_along (files_view qs) is
-      ≡ templates (sources_in (files_view ps)) (namespace_at (map namespace_view hs) i)
-  namespace_layers = layers_from ps qs is _ same_files from
+  pub namespace_layers : layers_along (its_templates c) is ≡ templates (its_sources c) (namespace_in c i)
+  namespace_layers = layers_from c.templates.items c.templates.items is _ refl from

@@ -36,8 +36,3 @@ module _ (ts : List Template) where
   -- The templates at the indices, with an empty template for each index out of range.
   abbrev pub layers_along : List ℕ → List Template
   layers_along = along (λ n b. record { name = n; body = b } ∷ [])
-
--- The statements of the first of some templates.
-abbrev pub first_body : List Template → Body
-first_body [] = end
-first_body (t ∷ ts) = t.body

@@ -68,7 +68,7 @@ pub fn holds_macros(body: &[Stmt]) -> bool
 }
 
 /// Returns the index of the template of this name, or the number of templates if it does not exist.
-fn file_named(chain: &Chain, name: &str) -> usize
+pub fn file_named(chain: &Chain, name: &str) -> usize
     ensures { result ≡ index_of (its_templates chain.now) name.now }
 {
     match chain.indices.get(name) {
@@ -138,8 +138,9 @@ fn add_libraries<'a>(body: &'a [Stmt], found: &mut Vec<&'a str>) -> Result<(), A
 {
     for statement in body {
         match statement {
-            Stmt::Import { library, .. } => found.push(library.as_str())?,
-            Stmt::From { library, .. } => found.push(library.as_str())?,
+            Stmt::Import { library, .. } | Stmt::From { library, .. } => {
+                found.push(library.as_str())?
+            }
             _ => {}
         }
     }

@@ -19,7 +19,7 @@ mod parts;
 mod tables;
 
 pub use chain::{Chain, Namespace};
-pub use definitions::{DefinedName, Definition, holds_macros, is_private};
+pub use definitions::{DefinedName, Definition, file_named, holds_macros, is_private};
 pub use files::TemplateFile;
 pub use include_tags::{NeededTemplate, includes_at};
 pub use layers::Layer;

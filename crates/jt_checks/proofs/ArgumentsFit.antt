@@ -1,23 +1,27 @@
--- Arguments that fit the parameters of macros and filters.
-use Rattle.jt_rules.specs.Arguments.{no_keywords}
-use Rattle.std.proofs.lemmas.Bool.{or_right}
-use Rattle.std.proofs.Common.{Result, Ok, Err, IfOk}
-use Rattle.std.proofs.lemmas.List.{take_rest, drop_min, drop-map, length-map}
-use Rattle.jt_ast.specs.StatementView.{parameter_view}
-use Rattle.jt_filter_semantics.specs.FilterIds.{filter_of}
-use Rattle.jt_ids.specs.FilterTable.{filter_id}
-use Rattle.jt_eval.specs.Inside.{names_well}
-use Rattle.jt_eval.specs.TheFilters.{the_filters, filter_written, filter_parameters}
-use Rattle.jt_checks.proofs.Vocabulary.{◌≡◌, suc, List, [], ◌∷◌, length, refl, ap, arith, nat_eq, rules, nat_tests}
-use Rattle.jt_checks.proofs.Vocabulary.{exprs_view, pairs_view, Expr, count, Entry, ℕ, zero, ◌<◌, Bool, true, false}
-use Rattle.jt_checks.proofs.Vocabulary.{◌||◌, if◌then◌else◌, take, drop, get_or, ◌∙◌, Option, Some, None, string_bytes}
-use Rattle.jt_checks.proofs.Vocabulary.{list_all, is_some, option_map, among, Text, parameters_view, Parameter}
-use Rattle.jt_checks.proofs.Vocabulary.{some_given, ◌≤◌, ◌-◌, min, sym, not, ◌&&◌, list_any, repeated, Exprs, FilterId}
-use Rattle.jt_checks.proofs.Vocabulary.{keywords, filter_takes, ScopeError}
+-- Arguments that fit the parameters of macros and filters, and what the arguments of a filter name.
 use Rattle.jt_ast.specs.Statements as statements
 use Rattle.jt_checks.specs.internal.RuleTests as rules
 use Rattle.jt_ast.specs.Expressions as trees
 use Rattle.jt_ids.specs.declared.filter_id.FilterId.TheVariants as filter
+use Rattle.jt_rules.specs.Arguments.{no_keywords}
+use Rattle.std.proofs.lemmas.Bool.{or_right}
+use Rattle.jt_ast.specs.StatementView.{parameter_view, parameters_view}
+use Rattle.jt_filter_semantics.specs.FilterIds.{filter_of}
+use Rattle.jt_eval.specs.TheFilters.{the_filters, filter_written, filter_parameters}
+use Rattle.jt_ast.specs.declared.expression.Expr.{Expr}
+use Rattle.jt_chains.specs.Uses.{count, keywords}
+use Rattle.jt_ast.specs.declared.statement.Parameter.{Parameter}
+use Rattle.jt_checks.specs.internal.Fitting.{filter_takes}
+use Rattle.std.proofs.Common.{Result, Ok, Err, IfOk, nat_eq, zero, ◌-◌, min, ◌==◌, length-drop}
+use Rattle.jt_ids.specs.FilterTable.{filter_id, with_only, named_at}
+use Rattle.jt_eval.specs.Inside.{names_well, argument_well, row_well}
+use Rattle.jt_ids.specs.declared.filter_id.FilterId.{FilterId}
+use Rattle.jt_ids.specs.declared.filter_id.ArgumentRole.{ArgumentRole}
+use Rattle.jt_checks.proofs.Vocabulary
+use Vocabulary.{literal_text, take_rest, drop_min, drop-map, length-map, ◌≡◌, suc, List, [], ◌∷◌, length, refl, ap}
+use Vocabulary.{arith, rules, nat_tests, exprs_view, pairs_view, Entry, ℕ, ◌<◌, Bool, true, false, ◌||◌, if◌then◌else◌}
+use Vocabulary.{take, drop, get_or, ◌∙◌, Option, Some, None, string_bytes, list_all, is_some, option_map, among, Text}
+use Vocabulary.{some_given, ◌≤◌, sym, not, ◌&&◌, list_any, repeated, Exprs, ScopeError, ◌+◌, drop_more, expr_view}
 
 pub counted : (ts : List Expr) → count (exprs_view ts) ≡ length ts
 counted [] = refl
@@ -136,3 +140,35 @@ pub filter_unknown : (x : Text) (ts : Exprs) (ps : trees.Pairs) → None ≡ fil
 unfolding the_filters rule_of
 filter_unknown x ts ps is =
     ap (λ (o : Option FilterId). rule_of o ts ps) is ∙ sym (by_id (filter_written x ts ps) ts ps)
+
+-- ---- names in the arguments of a filter, one argument at a time
+
+-- Without the name of an only argument, a name means the filter of that name.
+pub alone : (o : Option FilterId) → with_only o None ≡ o
+alone a0 = search (arith, rules)
+
+pub turned : (m n : ℕ) → (m == n) ≡ (n == m)
+turned m n = grind (arith, nat_tests)
+
+-- The remaining arguments at an index are its argument and those after it.
+left : (ts : List Expr) (i : ℕ) (t : Expr) → i < length ts → t ≡ get_or ts i t → drop i ts ≡ t ∷ drop (i + 1) ts
+left ts i t lt is = drop_more ts i t lt ∙ ap (λ (z : Expr). z ∷ drop (i + 1) ts) (sym is)
+
+behind : {A : Type 0} (ts : List A) (i : ℕ) → i < length ts → suc (length (drop (i + 1) ts)) ≡ length ts - i
+behind ts i lt = let e = length-drop (i + 1) ts in omega (arith, lt, e)
+
+module _ (f : FilterId) (ts : List Expr) (i : ℕ) (t : Expr) (lt : i < length ts) (is : t ≡ get_or ts i t) where
+  turn : row_well f (i + 1) (exprs_view (drop i ts))
+      ≡ (argument_well (named_at f (i + 1)) (literal_text (expr_view t)) (length ts - i)
+      && row_well f (i + 1 + 1) (exprs_view (drop (i + 1) ts)))
+  turn = search (arith, rules, left, counted, behind)
+
+  -- The argument at an index names something incorrectly, or the arguments after it remain.
+  module _ (n : Option ArgumentRole) (b : Bool) (meant : n ≡ named_at f (i + 1))
+      (found : b ≡ argument_well n (literal_text (expr_view t)) (length ts - i))
+      (before : row_well f 1 (exprs_view ts) ≡ row_well f (i + 1) (exprs_view (drop i ts))) where
+    pub row_wrong : b ≡ false → false ≡ row_well f 1 (exprs_view ts)
+    row_wrong e = search (arith, rules, turn)
+
+    pub row_right : b ≡ true → row_well f 1 (exprs_view ts) ≡ row_well f (i + 1 + 1) (exprs_view (drop (i + 1) ts))
+    row_right e = search (arith, rules, turn)

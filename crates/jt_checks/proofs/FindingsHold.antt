@@ -1,17 +1,38 @@
 -- A finding is true of the chains in which it is found, and chains without a finding break no rule.
-use Rattle.std.proofs.lemmas.Option.{slice_get_within, slice_get-get_or}
-use Rattle.jt_rules.specs.Rules.{BindsTooMany, BrokenIn, Broken, Breaks, KeepsRules, chain_uses}
-use Rattle.jt_checks.specs.Findings.{subject_of, IsFoundAt, IsFoundIn, PassesBindings, Holds}
-use Rattle.jt_checks.proofs.Vocabulary.{◌≡◌, ◌<◌, ◌≤◌, refl, sym, subst, ℕ, List, [], ◌∷◌, ◌++◌, Option, Some, None}
-use Rattle.jt_checks.proofs.Vocabulary.{arith, rules, ◌⊎◌, flat_map, option_map, option_or, inl, inr, Text, body_bound}
-use Rattle.jt_checks.proofs.Vocabulary.{Namespace, Template, templates, Site, body_uses, CompileEnv, ForSome}
-use Rattle.jt_checks.proofs.Vocabulary.{names_counted, ScopeError, Finding, Subject}
-use Rattle.jt_checks.proofs.Vocabulary.{lines_bound, BreaksAt}
-use Rattle.jt_checks.proofs.BindingCounts.{lines_counted}
-use Rattle.jt_checks.proofs.RuleTestsCorrect.{Judged, use_judged}
 use Rattle.jt_uses.specs.Uses as uses
 use Rattle.jt_rules.specs.declared.error.ScopeError.TheVariants as error
 use Rattle.jt_checks.specs.internal.UseRules as broken
+use Rattle.std.proofs.lemmas.Option.{slice_get_within, slice_get-get_or}
+use Rattle.jt_rules.specs.Rules.{BrokenIn, Broken, Breaks, ForSome, BindsTooMany, KeepsRules}
+use Rattle.jt_checks.specs.Findings
+use Findings.{subject_of, IsFoundAt, IsFoundIn, PassesBindings, Finding, Subject, lines_bound, is_binding, binds_name}
+use uses.{Site, Use, binds, body_uses}
+use Rattle.jt_names.proofs.NamesOfUses.{bindings, bindings_counted, weight_of}
+use Rattle.jt_checks.proofs.RuleTestsCorrect.{Judged, use_judged}
+use Rattle.jt_ast.specs.Statements.{body_bound, Body}
+use Rattle.jt_chains.specs.Chain.{Namespace, Template, templates}
+use Rattle.std.proofs.Common.{◌++◌, cond}
+use Rattle.jt_checks.proofs.Vocabulary
+use Vocabulary.{chain_uses, Holds, ◌≡◌, ◌<◌, ◌≤◌, refl, ℕ, List, [], ◌∷◌, Option, Some, None, arith, rules, ◌⊎◌}
+use Vocabulary.{flat_map, option_map, option_or, inl, inr, Text, CompileEnv, names_counted, ScopeError, BreaksAt, ◌∙◌}
+use Vocabulary.{◌+◌, length, map, filter, Enclosing}
+
+-- ---- The uses of a body bind as many names as the body is said to bind
+
+abbrev lines : List Site → List ℕ
+lines = map (λ s. s.place.line)
+
+one_more : (u : Use) (w : Enclosing) (s : Site) (ss : List Site)
+    → length (lines (cond (is_binding u) (s ∷ ss) ss)) ≡ weight_of (λ x. 0) (λ c x. 0) u w + length (lines ss)
+one_more (binds x) w s ss = omega arith
+one_more u w s ss = search (arith, rules)
+
+lines_are : (ss : List Site) → length (lines_bound ss) ≡ bindings ss
+lines_are [] = refl
+lines_are (s ∷ ss) = omega (arith, one_more s.made s.place.around s (filter binds_name ss), lines_are ss)
+
+lines_counted : (b : Body) → length (lines_bound (body_uses b uses.outside)) ≡ body_bound b
+lines_counted b = lines_are (body_uses b uses.outside) ∙ bindings_counted b
 
 -- ---- Some item of a list has a property
 
@@ -43,24 +64,27 @@ module _ {A : Type 0} (P : A → Type 0) where
 
 -- ---- The first finding of items
 
-or_judged : (a b : Option Finding) (P Q : Finding → Type 0) (N M : ScopeError → Type 0) → Judged a P N → Judged b Q M
-    → Judged (option_or a b) (λ f. P f ⊎ Q f) (λ rule. N rule ⊎ M rule)
-or_judged (Some f) b P Q N M j k = inl j
-or_judged None (Some f) P Q N M j k = inr k
-or_judged None None P Q N M j k = λ rule h. elim h [ inl n ↦ j rule n | inr m ↦ k rule m ]
+-- A search ends with a finding that has the property P, or without one, and then no rule is broken as N says.
+pub record Decided (o : Option Finding) (P : Finding → Type 0) (N : ScopeError → Type 0) : Type 0 where
+  pub is : Judged o P N
 
-rejudged : (o : Option Finding) (P Q : Finding → Type 0) (N M : ScopeError → Type 0) → ((f : Finding) → P f → Q f)
-    → ((rule : ScopeError) → M rule → N rule) → Judged o P N → Judged o Q M
-rejudged None P Q N M to back j = λ rule m. j rule (back rule m)
-rejudged (Some f) P Q N M to back j = to f j
+module _ {P Q : Finding → Type 0} {N M : ScopeError → Type 0} where
+  or_decided : (a b : Option Finding) → Decided a P N → Decided b Q M
+      → Decided (option_or a b) (λ f. P f ⊎ Q f) (λ rule. N rule ⊎ M rule)
+  or_decided (Some f) b j k = record { is = inl j.is }
+  or_decided None (Some f) j k = record { is = inr k.is }
+  or_decided None None j k = record { is = λ rule h. elim h [ inl n ↦ j.is rule n | inr m ↦ k.is rule m ] }
 
-first_judged : {A : Type 0} (g : A → Option Finding) (P : A → Finding → Type 0) (N : A → ScopeError → Type 0)
-    → ((x : A) → Judged (g x) (P x) (N x)) → (xs : List A)
-    → Judged (broken.first g xs) (λ f. ForSome (λ x. P x f) xs) (λ rule. ForSome (λ x. N x rule) xs)
-first_judged g P N each [] = λ rule h. h
-first_judged g P N each (x ∷ xs) =
-    or_judged (g x) (broken.first g xs) (P x) (λ f. ForSome (λ y. P y f) xs) (N x) (λ rule. ForSome (λ y. N y rule) xs)
-    (each x) (first_judged g P N each xs)
+  decided_as : (o : Option Finding) → Decided o P N → ((f : Finding) → P f → Q f)
+      → ((rule : ScopeError) → M rule → N rule) → Decided o Q M
+  decided_as None j to back = record { is = λ rule m. j.is rule (back rule m) }
+  decided_as (Some f) j to back = record { is = to f j.is }
+
+first_decided : {A : Type 0} {P : A → Finding → Type 0} {N : A → ScopeError → Type 0} (g : A → Option Finding)
+    → ((x : A) → Decided (g x) (P x) (N x)) → (xs : List A)
+    → Decided (broken.first g xs) (λ f. ForSome (λ x. P x f) xs) (λ rule. ForSome (λ x. N x rule) xs)
+first_decided g each [] = record { is = λ rule h. h }
+first_decided g each (x ∷ xs) = or_decided (g x) (broken.first g xs) (each x) (first_decided g each xs)
 
 module _ (cenv : CompileEnv) (namespace : Namespace) where
   -- ---- Uses
@@ -75,11 +99,12 @@ module _ (cenv : CompileEnv) (namespace : Namespace) where
   abbrev IsNamed : Text → Finding → Site → Type 0
   IsNamed n f s = (n ≡ f.template) × IsFoundAt cenv namespace f s
 
-  site_judged : (n : Text) (s : Site)
-      → Judged (broken.site_finding cenv namespace n s) (λ f. IsNamed n f s) (λ rule. SiteBreaks rule s)
-  site_judged n s =
-      by (subject_of s.made) (broken.site_broken cenv namespace s) refl
-      (use_judged cenv namespace s.made s.place.around)
+  site_decided : (n : Text) (s : Site)
+      → Decided (broken.site_finding cenv namespace n s) (λ f. IsNamed n f s) (λ rule. SiteBreaks rule s)
+  site_decided n s = record {
+    is = by (subject_of s.made) (broken.site_broken cenv namespace s) refl
+        (use_judged cenv namespace s.made s.place.around);
+  }
     where
       by : (x : Option Subject) (r : Option ScopeError) → subject_of s.made ≡ x
           → Judged r (λ rule. SiteBreaks rule s) (λ rule. SiteBreaks rule s)
@@ -94,9 +119,9 @@ module _ (cenv : CompileEnv) (namespace : Namespace) where
   OfNumber error.TooManySlots t = BindsTooMany cenv namespace t
   OfNumber rule t = ⊥
 
-  over_judged : (t : Template) → Judged (option_map (broken.finding_over t.name) (broken.line_over t.body))
+  over_decided : (t : Template) → Decided (option_map (broken.finding_over t.name) (broken.line_over t.body))
       (λ f. (t.name ≡ f.template) × PassesBindings cenv namespace f t) (λ rule. OfNumber rule t)
-  over_judged t = by (broken.line_over t.body) refl
+  over_decided t = record { is = by (broken.line_over t.body) refl }
     where
       by : (o : Option ℕ) → broken.line_over t.body ≡ o → Judged (option_map (broken.finding_over t.name) o)
           (λ f. (t.name ≡ f.template) × PassesBindings cenv namespace f t) (λ rule. OfNumber rule t)
@@ -122,21 +147,15 @@ module _ (cenv : CompileEnv) (namespace : Namespace) where
   named n f [] h = absurd h
   named n f (s ∷ ss) h = search (arith, rules, named n f ss)
 
-  template_judged : (t : Template)
-      → Judged (broken.template_broken cenv namespace t) (λ f. IsFoundIn cenv namespace f t)
+  template_decided : (t : Template)
+      → Decided (broken.template_broken cenv namespace t) (λ f. IsFoundIn cenv namespace f t)
       (λ rule. TemplateBreaks rule t)
-  template_judged t =
+  template_decided t =
       let ss = body_uses t.body uses.outside in
-      let over = option_map (broken.finding_over t.name) (broken.line_over t.body) in
-      let Named : Finding → Type 0 = (λ f. ForSome (IsNamed t.name f) ss) in
-      let Passes : Finding → Type 0 = (λ f. (t.name ≡ f.template) × PassesBindings cenv namespace f t) in
-      let AtUses : ScopeError → Type 0 = (λ rule. ForSome (SiteBreaks rule) ss) in
-      rejudged (broken.template_broken cenv namespace t) (λ f. Named f ⊎ Passes f) (λ f. IsFoundIn cenv namespace f t)
-      (λ rule. TemplateBreaks rule t) (λ rule. TemplateBreaks rule t)
+      decided_as _
+      (or_decided _ _ (first_decided (broken.site_finding cenv namespace t.name) (site_decided t.name) ss)
+      (over_decided t))
       (λ f h. search (arith, rules, named t.name f ss)) (λ rule h. h)
-      (or_judged (broken.uses_broken cenv namespace t.name ss) over Named Passes AtUses (λ rule. OfNumber rule t)
-      (first_judged (broken.site_finding cenv namespace t.name) (λ s f. IsNamed t.name f s)
-      (λ s rule. SiteBreaks rule s) (site_judged t.name) ss) (over_judged t))
 
   -- ---- Chains
 
@@ -170,16 +189,13 @@ module _ (cenv : CompileEnv) (namespace : Namespace) where
         back = λ p. e.back (inl p);
       }
 
-  chain_judged : Judged (broken.chain_broken cenv namespace)
+  chain_decided : Decided (broken.chain_broken cenv namespace)
       (λ f. ForSome (IsFoundIn cenv namespace f) (templates cenv.sources namespace))
       (λ rule. BrokenIn cenv namespace rule)
-  chain_judged =
-      let ts = templates cenv.sources namespace in
-      let In : Finding → Type 0 = (λ f. ForSome (IsFoundIn cenv namespace f) ts) in
-      rejudged (broken.chain_broken cenv namespace) In In ChainBreaks
-      (λ rule. BrokenIn cenv namespace rule) (λ f p. p) (λ rule. (broken_same rule).back)
-      (first_judged (broken.template_broken cenv namespace) (λ t f. IsFoundIn cenv namespace f t)
-      (λ t rule. TemplateBreaks rule t) template_judged ts)
+  chain_decided =
+      decided_as _
+      (first_decided (broken.template_broken cenv namespace) template_decided (templates cenv.sources namespace))
+      (λ f p. p) (λ rule. (broken_same rule).back)
 
   -- A finding in a template breaks its rule there.
   found_breaks : (f : Finding) (t : Template) → IsFoundIn cenv namespace f t → TemplateBreaks f.rule t
@@ -191,15 +207,11 @@ module _ (cenv : CompileEnv) (order : List Namespace) where
   abbrev FoundIn : Finding → Namespace → Type 0
   FoundIn f h = ForSome (IsFoundIn cenv h f) (templates cenv.sources h)
 
-  pub judged : (o : Option Finding) → o ≡ broken.chains_broken cenv order
-      → Judged o (λ f. Holds f cenv order) (λ rule. ForSome (λ h. BrokenIn cenv h rule) order)
-  judged o e = subst (λ o. Judged o (λ f. Holds f cenv order) (λ rule. ForSome (λ h. BrokenIn cenv h rule) order))
-      (sym e)
-      (rejudged (broken.chains_broken cenv order) (λ f. ForSome (FoundIn f) order) (λ f. Holds f cenv order)
-      (λ rule. ForSome (λ h. BrokenIn cenv h rule) order) (λ rule. ForSome (λ h. BrokenIn cenv h rule) order)
-      (λ f h. inl h) (λ rule h. h)
-      (first_judged (broken.chain_broken cenv) (λ h f. FoundIn f h) (λ h rule. BrokenIn cenv h rule) (chain_judged cenv)
-      order))
+  pub decided : (o : Option Finding) → o ≡ broken.chains_broken cenv order
+      → Decided o (λ f. Holds f cenv order) (λ rule. ForSome (λ h. BrokenIn cenv h rule) order)
+  decided o e =
+      rw e
+      (decided_as _ (first_decided (broken.chain_broken cenv) (chain_decided cenv) order) (λ f h. inl h) (λ rule h. h))
 
   -- The rule of a finding is broken.
   pub found_is_broken : (f : Finding) → Holds f cenv order → Breaks f.rule cenv order
@@ -217,7 +229,7 @@ module _ (cenv : CompileEnv) (order : List Namespace) where
   -- If no rule is found and the names are few, no rule is broken.
   pub none_is_broken : None ≡ broken.chains_broken cenv order → names_counted cenv order ≤ 65535
       → KeepsRules cenv order
-  none_is_broken e few = record { none = λ rule h. judged None e rule (by rule h) }
+  none_is_broken e few = record { none = λ rule h. (decided None e).is rule (by rule h) }
     where
       by : (rule : ScopeError) → Broken rule cenv order → ForSome (λ h. BrokenIn cenv h rule) order
       by error.LoopOutside h = h

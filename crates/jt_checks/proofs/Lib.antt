@@ -1,16 +1,13 @@
 pub mod Vocabulary
-pub mod BindingCounts
 pub mod ArgumentsFit
 pub mod Lookups
 pub mod RuleTestsCorrect
 pub mod FindingsHold
-pub mod NestedCallNames
 pub mod NameSets
 pub mod LoopSteps
 pub use Vocabulary.*
 pub use ArgumentsFit.*
 pub use Lookups.*
 pub use FindingsHold.*
-pub use NestedCallNames.*
 pub use NameSets.*
 pub use LoopSteps.*

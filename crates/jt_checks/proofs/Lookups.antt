@@ -1,11 +1,10 @@
 -- Attributes by their operand, and the blocks of a scope by their names.
-use Rattle.jt_ast.specs.Expressions.{Expr}
-use Rattle.jt_chains.specs.Chain.{Sources, Definition, callee, named_in, BlockBody}
-use Rattle.jt_checks.specs.Findings.{a_called_field, a_called_expression, called}
-use Rattle.jt_checks.specs.internal.ScopeView.{name_in}
-use Rattle.jt_checks.proofs.Vocabulary.{◌≡◌, List, Option, Some, None, arith, rules, attribute, Text, given_to, Callee}
-use Rattle.jt_checks.proofs.Vocabulary.{no_callee, Subject, ℕ, suc, nat_lt, true, not, [], ◌∷◌, length, map, refl}
-use Rattle.jt_checks.proofs.Vocabulary.{bytes_eq, nat_tests, first_of, is_some, filter}
+use Rattle.jt_ast.specs.Expressions.{Expr, attribute}
+use Rattle.jt_chains.specs.Chain.{Sources, Definition, callee, named_in, BlockBody, given_to, Callee, no_callee}
+use Rattle.jt_checks.specs.Findings.{a_called_field, a_called_expression, called, Subject}
+use Rattle.jt_checks.proofs.Vocabulary
+use Vocabulary.{name_in, ◌≡◌, List, Option, Some, None, arith, rules, Text, ℕ, suc, nat_lt, true, not, [], ◌∷◌, length}
+use Vocabulary.{map, refl, bytes_eq, nat_tests, first_of, is_some, filter}
 
 abbrev pub called_of : Option Text → Text → Subject
 called_of (Some of) k = a_called_field of k

@@ -1,16 +1,14 @@
 -- Steps of the loops over chains, and over the templates of a chain.
-use Rattle.std.proofs.lemmas.List.{length-map}
-use Rattle.std.proofs.lemmas.Option.{unwrap_or-slice_get}
-use Rattle.jt_chains.specs.Chain.{namespace_name, a_chain, a_library}
-use Rattle.jt_chains.specs.View.{namespace_in}
-use Rattle.jt_chains.proofs.TemplatesByIndex.{name_of_namespace, namespace_layers, namespace_indices, index_within}
-use Rattle.jt_checks.specs.internal.ScopeView.{names_of}
-use Rattle.jt_checks.proofs.Vocabulary.{◌≡◌, ℕ, ◌+◌, ◌<◌, Bool, true, false, List, ◌∷◌, length, drop, cenv_in}
-use Rattle.jt_checks.proofs.Vocabulary.{get_or, if◌then◌else◌, string_bytes, refl, sym, ap, ◌∙◌, arith, rules, Chain}
-use Rattle.jt_checks.proofs.Vocabulary.{drop_more, Namespace, Template, templates, layers_along, names_counted}
-use Rattle.jt_checks.proofs.Vocabulary.{chain_view, CompileEnv}
 use Rattle.jt_chains.specs.declared.chain.Namespace as written
 use Rattle.jt_checks.specs.internal.UseRules as broken
+use Rattle.std.proofs.lemmas.Option.{unwrap_or-slice_get}
+use Rattle.jt_chains.specs.Chain.{namespace_name, a_chain, a_library, Namespace, Template, templates}
+use Rattle.jt_chains.proofs.TemplatesByIndex.{name_of_namespace, namespace_layers, namespace_indices, index_within}
+use Rattle.jt_chains.specs.declared.chain.Chain.{Chain}
+use Rattle.jt_checks.proofs.Vocabulary
+use Vocabulary.{length-map, namespace_in, names_of, ◌≡◌, ℕ, ◌+◌, ◌<◌, Bool, true, false, List, ◌∷◌, length, drop}
+use Vocabulary.{cenv_in, get_or, if◌then◌else◌, string_bytes, refl, sym, ap, ◌∙◌, arith, rules, drop_more, layers_along}
+use Vocabulary.{names_counted, chain_view, CompileEnv}
 
 -- The remaining chains are the one at the index and those after it.
 pub chains_left : (c : Chain) (i : ℕ) → i < length c.namespaces.items

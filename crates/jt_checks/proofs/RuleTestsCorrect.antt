@@ -1,16 +1,15 @@
 -- Each test decides its rule, and the first rule that a use breaks is broken there.
-use Rattle.std.specs.Prelude.{codes}
+use Rattle.jt_checks.specs.internal.RuleTests as test
 use Rattle.std.specs.Bool.{Decides}
 use Rattle.std.proofs.lemmas.Bool.Decides.{Decides-and, Decides-or, Decides-not, Decides-ltb}
-use Rattle.std.proofs.lemmas.Slice.Eq.{bytes_eq-Decides}
-use Rattle.jt_ast.specs.Expressions.{Expr}
-use Rattle.jt_chains.specs.Chain.{bodies, a_super, a_block, is_loop}
+use Rattle.jt_ast.specs.Expressions.{Expr, name, attribute}
+use Rattle.jt_chains.specs.Chain.{bodies, a_super, a_block, is_loop, Callee, no_callee, Namespace}
 use Rattle.jt_rules.specs.Rules.{IsOnlyCalled, MisusesLoop, CannotBeCalled}
-use Rattle.jt_uses.specs.Uses.{calls}
-use Rattle.jt_checks.proofs.Vocabulary.{◌≡◌, Bool, false, not, ◌||◌, List, [], ◌∷◌, length, nat_lt, Option, Some}
-use Rattle.jt_checks.proofs.Vocabulary.{None, arith, rules, nat_tests, name, attribute, Text, Namespace, Enclosing}
-use Rattle.jt_checks.proofs.Vocabulary.{Use, Callee, no_callee, CompileEnv, ScopeError, BreaksAt, bytes_eq}
-use Rattle.jt_checks.specs.internal.RuleTests as test
+use Rattle.jt_uses.specs.Uses.{calls, Use}
+use Rattle.std.proofs.lemmas.Slice.Eq.{bytes_eq-Decides}
+use Rattle.jt_checks.proofs.Vocabulary
+use Vocabulary.{codes, ◌≡◌, Bool, false, not, ◌||◌, List, [], ◌∷◌, length, nat_lt, Option, Some, None, arith, rules}
+use Vocabulary.{nat_tests, Text, Enclosing, CompileEnv, ScopeError, BreaksAt, bytes_eq}
 
 -- What is found has the property, or if nothing is found, no rule is broken.
 abbrev pub Judged : {A : Type 0} → Option A → (A → Type 0) → (ScopeError → Type 0) → Type 0

@@ -12,7 +12,7 @@ use jt_ids::{ArgumentRole, FilterId};
 
 /// Returns whether the named filter or test takes `values` values, the item included, and `map` may
 /// call the filter. An unknown name passes: the parser refuses it.
-#[tactic(auto, using(crate::proofs::NestedCallNames::alone, crate::proofs::NestedCallNames::turned))]
+#[tactic(auto, using(crate::proofs::ArgumentsFit::alone, crate::proofs::ArgumentsFit::turned))]
 fn is_called_well(naming: ArgumentRole, name: &str, values: usize) -> bool
     ensures { result ≡ inside.called_well naming name.now values }
 {
@@ -38,7 +38,7 @@ fn is_argument_well(naming: Option<ArgumentRole>, argument: &Expr, values: usize
 
 /// Returns whether each positional argument that names something names it correctly. A named filter
 /// or test takes the item and the arguments after its name.
-#[tactic(auto, using(crate::proofs::NestedCallNames::row_wrong, crate::proofs::NestedCallNames::row_right))]
+#[tactic(auto, using(crate::proofs::ArgumentsFit::row_wrong, crate::proofs::ArgumentsFit::row_right))]
 fn is_row_well(filter: FilterId, row: &[Expr]) -> bool
     ensures { result ≡ inside.row_well filter 1 (exprs_view row.now) }
 {

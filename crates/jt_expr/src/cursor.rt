@@ -1,6 +1,6 @@
 //! Defines a cursor over the tokens of a tag.
 
-ghost use Rattle.std.specs.Prelude.{◌≡◌, length, map};
+ghost use Rattle.std.specs.Prelude.{◌≡◌, drop, length, map};
 ghost use Rattle.jt_scan.specs.View.{token_view};
 ghost use Rattle.jt_scan.specs.Words.{letters_of};
 ghost use Rattle.jt_expr.specs.Front as front;
@@ -9,7 +9,8 @@ ghost use Rattle.jt_expr.specs.Grammar as grammar;
 ghost use Rattle.jt_expr.specs.Cursor.{ahead, Passes, Takes, TakesSign, TakesAName};
 ghost use Rattle.std.specs.Str.{chars};
 ghost use Rattle.jt_expr.specs.internal.Pending.{joined, level_view, sign_level, word_level};
-ghost use Rattle.jt_expr.specs.internal.Gives.{Operates, OperatesAt, NamesBy, TextsBy, GivesWord};
+ghost use Rattle.jt_expr.specs.internal.Gives.{Operates, OperatesAt, OperatesIf, NamesBy, TextsBy};
+ghost use Rattle.jt_expr.specs.internal.Gives.{GivesWord};
 
 use crate::error::ExprError;
 use crate::pending::Level;
@@ -54,6 +55,16 @@ impl<'a> Cursor<'a> {
     {
         match self.rest {
             [Token::Name(found), ..] => is_word(found, word),
+            _ => false,
+        }
+    }
+
+    /// Returns whether the token after the next one is this word.
+    fn then_says(&self, word: &str) -> bool
+        ensures { result ≡ front.says (letters_of word.now) (drop 1 (ahead self.now)) }
+    {
+        match self.rest {
+            [_, Token::Name(found), ..] => is_word(found, word),
             _ => false,
         }
     }
@@ -192,40 +203,37 @@ impl<'a> Cursor<'a> {
         ensures { OperatesAt (level_view level) self.old result self.new }
     {
         match level {
-            Level::Disjunction => self.or_operator(),
-            Level::Conjunction => self.and_operator(),
+            Level::Disjunction => self.word_operator("or", BinaryOperator::Or),
+            Level::Conjunction => self.word_operator("and", BinaryOperator::And),
             Level::Comparison => self.comparison(),
             Level::Sum => self.sum_operator(),
-            Level::Concatenation => self.concatenation_operator(),
+            Level::Concatenation => self.sign_operator(Sign::Tilde, BinaryOperator::Concatenate),
             Level::Product => self.product_operator(),
-            Level::Power => self.power_operator(),
+            Level::Power => self.sign_operator(Sign::Power, BinaryOperator::Power),
             Level::Whole | Level::Inversion | Level::Postscript | Level::Signed | Level::Postfix =>
                 None,
         }
     }
 
-    /// Takes `or`, if it is next.
-    #[tactic(auto, unfolding(crate::specs::internal::Reading::operator))]
-    fn or_operator(&mut self) -> Option<BinaryOperator>
-        ensures { OperatesAt grammar.disjunction self.old result self.new }
+    /// Takes the word of an operator, if it is next.
+    fn word_operator(&mut self, word: &str, op: BinaryOperator) -> Option<BinaryOperator>
+        ensures { OperatesIf (front.says (letters_of word.now) (ahead self.old)) op self.old result
+            self.new }
     {
-        if self.eat_word("or") {
-            Some(BinaryOperator::Or)
-        } else {
-            None
+        if !self.eat_word(word) {
+            return None;
         }
+        Some(op)
     }
 
-    /// Takes `and`, if it is next.
-    #[tactic(auto, unfolding(crate::specs::internal::Reading::operator))]
-    fn and_operator(&mut self) -> Option<BinaryOperator>
-        ensures { OperatesAt grammar.conjunction self.old result self.new }
+    /// Takes the sign of an operator, if it is next.
+    fn sign_operator(&mut self, sign: Sign, op: BinaryOperator) -> Option<BinaryOperator>
+        ensures { OperatesIf (front.sees sign (ahead self.old)) op self.old result self.new }
     {
-        if self.eat_word("and") {
-            Some(BinaryOperator::And)
-        } else {
-            None
+        if !self.eat(sign) {
+            return None;
         }
+        Some(op)
     }
 
     /// Takes a comparison operator, `in` or `not in`, if one is next.
@@ -257,14 +265,12 @@ impl<'a> Cursor<'a> {
         ensures { Operates (reading.not_in (ahead self.old)) (ahead self.old) result
             (ahead self.new) }
     {
-        match self.rest {
-            [Token::Name(one), Token::Name(two), rest @ ..]
-                if is_word(one, "not") && is_word(two, "in") => {
-                self.rest = rest;
-                Some(BinaryOperator::NotIn)
-            }
-            _ => None,
+        if !self.says("not") || !self.then_says("in") {
+            return None;
         }
+        self.take();
+        self.take();
+        Some(BinaryOperator::NotIn)
     }
 
     /// Takes `+` or `-`, if one is next.
@@ -281,18 +287,6 @@ impl<'a> Cursor<'a> {
         }
     }
 
-    /// Takes `~`, if it is next.
-    #[tactic(auto, unfolding(crate::specs::internal::Reading::operator))]
-    fn concatenation_operator(&mut self) -> Option<BinaryOperator>
-        ensures { OperatesAt grammar.concatenation self.old result self.new }
-    {
-        if self.eat(Sign::Tilde) {
-            Some(BinaryOperator::Concatenate)
-        } else {
-            None
-        }
-    }
-
     /// Takes `*`, `//` or `%`, if one is next.
     #[tactic(auto, unfolding(crate::specs::internal::Reading::operator))]
     fn product_operator(&mut self) -> Option<BinaryOperator>
@@ -304,18 +298,6 @@ impl<'a> Cursor<'a> {
             Some(BinaryOperator::FloorDivide)
         } else if self.eat(Sign::Percent) {
             Some(BinaryOperator::Remainder)
-        } else {
-            None
-        }
-    }
-
-    /// Takes `**`, if it is next.
-    #[tactic(auto, unfolding(crate::specs::internal::Reading::operator))]
-    fn power_operator(&mut self) -> Option<BinaryOperator>
-        ensures { OperatesAt grammar.power self.old result self.new }
-    {
-        if self.eat(Sign::Power) {
-            Some(BinaryOperator::Power)
         } else {
             None
         }

@@ -15,7 +15,7 @@ ghost use Rattle.jt_expr.specs.Grammar.{Spells, Arguments};
 ghost use Rattle.jt_expr.specs.Promises.{Reads, EndsAt, OpensNone, parts_levels};
 ghost use Rattle.jt_expr.specs.Promises.{level_of_form, parts_view, tree_of};
 ghost use Rattle.jt_expr.specs.internal.Gives.{Gives, GivesParts, GivesKeyed, GivesElement};
-ghost use Rattle.jt_expr.specs.internal.Gives.{GivesKey};
+ghost use Rattle.jt_expr.specs.internal.Gives.{GivesKey, GivesPartKey};
 ghost use Rattle.jt_expr.specs.internal.Gives.{Around, Builds, Fits, row_view, bytes_of, rows_of};
 ghost use Rattle.jt_expr.specs.internal.Gives.{named_of};
 ghost use Rattle.jt_expr.specs.internal.Gives.{by_rule, FollowsParts};
@@ -209,11 +209,7 @@ impl Grammar {
     }
 
     /// Reads the key of a part, if it has one.
-    pub(crate) fn key(
-        &self,
-        cursor: &mut Cursor<'_>,
-        row: SequenceKind,
-    ) -> Result<Option<String>, ExprError>
+    fn key(&self, cursor: &mut Cursor<'_>, row: SequenceKind) -> Result<Option<String>, ExprError>
         ensures { GivesKey (spec.key_at (row_view row) (ahead cursor.old)) (ahead cursor.old) result
             (ahead cursor.new) }
     {
@@ -230,16 +226,28 @@ impl Grammar {
         }
     }
 
+    /// Reads the key of a part, and refuses a part without a key if it needs one.
+    pub(crate) fn part_key(
+        &self,
+        cursor: &mut Cursor<'_>,
+        row: SequenceKind,
+    ) -> Result<Option<String>, ExprError>
+        ensures { GivesPartKey (row_view row) (ahead cursor.old) result (ahead cursor.new) }
+    {
+        let key = self.key(cursor, row)?;
+        if key.is_none() && !row.takes_plain() {
+            return Err(ExprError::Syntax);
+        }
+        Ok(key)
+    }
+
     /// Reads one part of a sequence.
     #[tactic(auto, unfolding(crate::specs::internal::Reading::part))]
     fn part(&self, cursor: &mut Cursor<'_>, row: SequenceKind) -> Result<KeyedExpr, ExprError>
         ensures { GivesKeyed (by_rule spec.part self.now.below (row_view row) (ahead cursor.old))
             result (ahead cursor.new) }
     {
-        let key = self.key(cursor, row)?;
-        if key.is_none() && !row.takes_plain() {
-            return Err(ExprError::Syntax);
-        }
+        let key = self.part_key(cursor, row)?;
         let part = read_within(self.alloc, cursor, self.below, NestedForm::Whole)?;
         Ok(KeyedExpr { key, part })
     }

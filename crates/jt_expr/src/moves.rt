@@ -2,17 +2,22 @@
 //!
 //! Read first: specs/internal/Moves.antt, which states each move.
 
-ghost use Rattle.std.specs.Prelude.{◌≡◌, codes, Ok};
+ghost use Rattle.std.specs.Prelude.{◌≡◌, ℕ, suc, codes, encode_utf8_all, Ok};
+ghost use Rattle.std.specs.Str.{chars};
+ghost use Rattle.jt_scan.specs.Literals.{unescaped};
 ghost use Rattle.jt_ast.specs.Expressions as trees;
-ghost use Rattle.jt_expr.specs.Grammar.{postscript};
+ghost use Rattle.jt_expr.specs.Grammar.{Tokens, postscript};
 ghost use Rattle.jt_ast.specs.ExpressionView.{is_negated};
 ghost use Rattle.jt_expr.specs.Cursor.{ahead};
 ghost use Rattle.jt_expr.specs.Front as front;
 ghost use Rattle.jt_expr.specs.Promises.{parts_view, tree_of};
-ghost use Rattle.jt_expr.specs.internal.Gives.{by_rule, bytes_of, keyed_view, row_view};
+ghost use Rattle.jt_expr.specs.internal.Gives.{Builds, Fits, Gives, by_rule, bytes_of};
+ghost use Rattle.jt_expr.specs.internal.Gives.{keyed_view, row_view};
+ghost use Rattle.jt_expr.specs.internal.Reading.{ParseResult, cap};
 ghost use Rattle.jt_expr.specs.internal.Moves as moves;
-ghost use Rattle.jt_expr.specs.internal.Pending.{FitsMove, GivesMove, form_view, grown, level_view};
-ghost use Rattle.jt_expr.specs.internal.Pending.{move_view};
+ghost use Rattle.jt_expr.specs.internal.Pending.{FitsMove, GivesMove, complete, form_view, grown};
+ghost use Rattle.jt_expr.specs.internal.Pending.{grows};
+ghost use Rattle.jt_expr.specs.internal.Pending.{level_view, move_view};
 ghost use Rattle.jt_expr.specs.internal.Pending.{operated, owned, owner_view, owning};
 
 use crate::cursor::Cursor;
@@ -34,6 +39,29 @@ fn polarity_of(negated: bool) -> Polarity
     } else {
         Polarity::Is
     }
+}
+
+/// Returns the move after a tree of the level that the next tokens may extend.
+fn grown<'a>(level: Level, tree: Result<LeveledExpr, ExprError>) -> Result<Step<'a>, ExprError>
+    ensures fits { (below : ℕ) (t : trees.Expr) → Fits below t tree
+        → FitsMove below (grown (level_view level) t) t result }
+    ensures gives { (o : ParseResult trees.Expr) (new : Tokens) → Gives o tree new
+        → GivesMove (grows (level_view level) o) result new }
+    ensures builds { (t : trees.Expr) (new : Tokens) → Builds t tree
+        → GivesMove (Ok (grown (level_view level) t, new)) result new }
+    ensures caps { (below : ℕ) (t : trees.Expr) (new : Tokens) → Fits below t tree
+        → GivesMove (cap (trees.levels t) (suc below) (grown (level_view level) t) new) result new }
+{
+    Ok(Step::Grown(level, tree?))
+}
+
+/// Returns the move after a tree of the level that the next tokens do not extend.
+fn completed<'a>(level: Level, tree: Result<LeveledExpr, ExprError>) -> Result<Step<'a>, ExprError>
+    ensures { (below : ℕ) (t : trees.Expr) (new : Tokens) → Fits below t tree
+        → GivesMove (cap (trees.levels t) (suc below) (complete (level_view level) t) new) result
+        new }
+{
+    Ok(Step::Complete(level, tree?))
 }
 
 /// Returns the move after an operator of the level has both operands.
@@ -75,18 +103,23 @@ impl Grammar {
             (ahead cursor.new) }
     {
         match cursor.take() {
-            Some(Token::Name(word)) => Ok(Step::Grown(Level::Postfix, self.word(cursor, word)?)),
+            Some(Token::Name(word)) => grown(Level::Postfix, self.word(cursor, word)),
             Some(Token::Number(value)) => {
-                let number = self.constant(Literal::Number(value))?;
-                Ok(Step::Grown(Level::Postfix, number))
+                grown(Level::Postfix, self.constant(Literal::Number(value)))
             }
-            Some(Token::Text(raw)) => {
-                let text = self.constant(Literal::Text(text_value(self.alloc, raw)?))?;
-                Ok(Step::Grown(Level::Postfix, text))
-            }
+            Some(Token::Text(raw)) => grown(Level::Postfix, self.text(raw)),
             Some(Token::Sign(sign)) => self.opened(cursor, sign),
             None => Err(ExprError::Syntax),
         }
+    }
+
+    /// Builds the constant that a text literal spells, given its characters in the source.
+    fn text(&self, raw: &str) -> Result<LeveledExpr, ExprError>
+        ensures { Builds (trees.constant (trees.text (encode_utf8_all (unescaped (chars raw.now)))))
+            result }
+    {
+        let text = text_value(self.alloc, raw)?;
+        self.constant(Literal::Text(text))
     }
 
     /// Begins an expression in parentheses, a list or a map, after its opening sign.
@@ -134,27 +167,17 @@ impl Grammar {
             (row_view sequence.entry.kind) sequence.entry.turns (parts_view sequence.entry.found)
             (ahead cursor.old)) result (ahead cursor.new) }
     {
-        let Sequence {
-            owner,
-            kind,
-            turns,
-            found,
-        } = sequence;
-        if turns == 0 {
+        if sequence.turns == 0 {
+            drop(sequence);
             return Err(ExprError::Syntax);
         }
-        if cursor.eat(kind.closer()) {
-            return self.ends(owner, found);
+        if cursor.eat(sequence.kind.closer()) {
+            return self.ends(sequence.owner, sequence.found);
         }
-        let key = self.key(cursor, kind)?;
-        if key.is_none() && !kind.takes_plain() {
-            return Err(ExprError::Syntax);
-        }
+        let key = self.part_key(cursor, sequence.kind)?;
         let rest = Sequence {
-            owner,
-            kind,
-            turns: turns - 1,
-            found,
+            turns: sequence.turns - 1,
+            ..sequence
         };
         Ok(Step::Nest(Pending::Part(rest, key)))
     }
@@ -164,18 +187,19 @@ impl Grammar {
         ensures { let tree = owning (owner_view owner.entry) (parts_view found) in
             FitsMove self.now.below (grown (owned (owner_view owner.entry)) tree) tree result }
     {
+        grown(owner.level(), self.owned(owner, found))
+    }
+
+    /// Builds the form around the parts of a sequence.
+    fn owned(&self, owner: Owner<'_>, found: LeveledList) -> Result<LeveledExpr, ExprError>
+        ensures { Fits self.now.below (owning (owner_view owner.entry) (parts_view found)) result }
+    {
         match owner {
-            Owner::List => Ok(Step::Grown(Level::Postfix, self.list(found)?)),
-            Owner::Map => Ok(Step::Grown(Level::Postfix, self.map(found)?)),
-            Owner::Call(callee) => Ok(Step::Grown(Level::Postfix, self.call(callee, found)?)),
-            Owner::Filter(input, name) => {
-                let filter = self.filter(input, name, found)?;
-                Ok(Step::Grown(Level::Postscript, filter))
-            }
-            Owner::Test(value, polarity, name) => {
-                let test = self.test(value, polarity, name, found)?;
-                Ok(Step::Grown(Level::Postscript, test))
-            }
+            Owner::List => self.list(found),
+            Owner::Map => self.map(found),
+            Owner::Call(callee) => self.call(callee, found),
+            Owner::Filter(input, name) => self.filter(input, name, found),
+            Owner::Test(value, polarity, name) => self.test(value, polarity, name, found),
         }
     }
 
@@ -205,8 +229,7 @@ impl Grammar {
             (ahead cursor.old)) result (ahead cursor.new) }
     {
         if cursor.eat(Sign::Dot) {
-            let name = cursor.word()?;
-            Ok(Step::Grown(Level::Postfix, self.attribute(tree, name)?))
+            self.attribute_named(cursor, tree)
         } else if cursor.eat(Sign::LeftBracket) {
             Ok(Step::Nest(Pending::Item(tree)))
         } else if cursor.eat(Sign::LeftParen) {
@@ -214,6 +237,19 @@ impl Grammar {
         } else {
             Ok(Step::Complete(Level::Postfix, tree))
         }
+    }
+
+    /// Takes the name of an attribute, after its dot.
+    fn attribute_named<'a>(
+        &self,
+        cursor: &mut Cursor<'a>,
+        tree: LeveledExpr,
+    ) -> Result<Step<'a>, ExprError>
+        ensures { GivesMove (by_rule moves.attribute_move self.now.below (tree_of tree)
+            (ahead cursor.old)) result (ahead cursor.new) }
+    {
+        let name = cursor.word()?;
+        grown(Level::Postfix, self.attribute(tree, name))
     }
 
     /// Begins a filter or a test, if one follows.
@@ -331,13 +367,12 @@ impl Grammar {
                 self.end_part(cursor, sequence, KeyedExpr { key, part: tree })
             }
             Pending::Item(value) => self.end_item(cursor, value, tree),
-            Pending::Prefix(op) => Ok(Step::Complete(prefix_level(op), self.unary(op, tree)?)),
+            Pending::Prefix(op) => completed(prefix_level(op), self.unary(op, tree)),
             Pending::Argument(value, polarity, name) => {
                 self.end_argument(value, polarity, name, tree)
             }
             Pending::Else(value, condition) => {
-                let choice = self.choice(condition, value, tree)?;
-                Ok(Step::Complete(Level::Whole, choice))
+                completed(Level::Whole, self.choice(condition, value, tree))
             }
             Pending::Operand(level, op, left) => {
                 Ok(operated(level, self.binary(op, left, tree)?))
@@ -359,7 +394,7 @@ impl Grammar {
         if !cursor.eat(Sign::RightParen) {
             return Err(ExprError::Syntax);
         }
-        Ok(Step::Grown(Level::Postfix, self.group(tree)?))
+        grown(Level::Postfix, self.group(tree))
     }
 
     /// Ends an item, after its index.
@@ -376,7 +411,7 @@ impl Grammar {
         if !cursor.eat(Sign::RightBracket) {
             return Err(ExprError::Syntax);
         }
-        Ok(Step::Grown(Level::Postfix, self.item(value, index)?))
+        grown(Level::Postfix, self.item(value, index))
     }
 
     /// Ends a part of a sequence: begins the next element, or ends the sequence.
@@ -392,27 +427,18 @@ impl Grammar {
             (keyed_view keyed).0 (keyed_view keyed).1 (ahead cursor.old)) result
             (ahead cursor.new) }
     {
-        let Sequence {
-            owner,
-            kind,
-            turns,
-            mut found,
-        } = sequence;
-        let rest = kind.behind_key(&keyed.key);
-        found.push(keyed)?;
+        let mut sequence = sequence;
+        let closer = sequence.kind.closer();
+        sequence.kind = sequence.kind.behind_key(&keyed.key);
+        sequence.found.push(keyed)?;
         if cursor.eat(Sign::Comma) {
-            let sequence = Sequence {
-                owner,
-                kind: rest,
-                turns,
-                found,
-            };
             return self.begin_element(cursor, sequence);
         }
-        if !cursor.eat(kind.closer()) {
+        if !cursor.eat(closer) {
+            drop(sequence);
             return Err(ExprError::Syntax);
         }
-        self.ends(owner, found)
+        self.ends(sequence.owner, sequence.found)
     }
 
     /// Ends a test, after its argument without parentheses.
@@ -450,7 +476,6 @@ impl Grammar {
         if cursor.eat_word("else") {
             return Ok(Step::Nest(Pending::Else(value, condition)));
         }
-        let when = self.when(condition, value)?;
-        Ok(Step::Complete(Level::Whole, when))
+        completed(Level::Whole, self.when(condition, value))
     }
 }

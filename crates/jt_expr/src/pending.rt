@@ -3,7 +3,7 @@
 ghost use Rattle.std.specs.Prelude.{◌≡◌, ◌<◌, ◌+◌, ◌^◌, nat_le};
 ghost use Rattle.jt_expr.specs.internal.Pending.{awaited, deeper, depth, form_view, forms_of};
 ghost use Rattle.jt_expr.specs.internal.Pending.{level_view};
-ghost use Rattle.jt_expr.specs.internal.Pending.{Leads, looser, rank};
+ghost use Rattle.jt_expr.specs.internal.Pending.{Leads, looser, owned, owner_view, rank};
 ghost use Rattle.jt_expr.specs.internal.Pending as pending;
 ghost use Rattle.jt_expr.specs.Grammar.{next};
 ghost use Rattle.jt_expr.specs.Promises.{level_of_form};
@@ -137,6 +137,18 @@ pub enum Owner<'a> {
     Call(LeveledExpr),
     Filter(LeveledExpr, &'a str),
     Test(LeveledExpr, Polarity, &'a str),
+}
+
+impl Owner<'_> {
+    /// Returns the level of the form.
+    pub(crate) fn level(&self) -> Level
+        ensures { level_view result ≡ owned (owner_view self.now) }
+    {
+        match self {
+            Owner::List | Owner::Map | Owner::Call(_) => Level::Postfix,
+            Owner::Filter(..) | Owner::Test(..) => Level::Postscript,
+        }
+    }
 }
 
 /// A sequence in brackets that is being read.

@@ -82,6 +82,7 @@ impl<'a> Reader<'a> {
             (ahead cursor.new) }
     {
         if self.below == 0 {
+            drop(form);
             return Err(ExprError::TooDeep);
         }
         self.below -= 1;

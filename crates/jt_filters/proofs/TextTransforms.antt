@@ -1,6 +1,6 @@
 -- Texts in another case, trimmed, and reversed.
 use Rattle.std.proofs.Common.{◌≡◌, ℕ, ◌+◌, ◌<◌, Bool, true, cond, List, [], ◌∷◌, ◌++◌, map, reverse, length}
-use Rattle.std.proofs.Common.{get_or, take, drop, refl, ap, ◌∙◌, arith, length-append}
+use Rattle.std.proofs.Common.{get_or, take, drop, refl, sym, ap, ◌∙◌, arith, length-append}
 use Rattle.std.proofs.lemmas.List.{append-nil, take_more, reverse-append, at_drop_more}
 use Rattle.std.proofs.lemmas.Str.{encodes-chars, encodes-append}
 use Rattle.std.proofs.lemmas.Bool.Decides.{nat_tests}
@@ -44,9 +44,9 @@ front_white s n inside white =
     ∙ ap (λ (b : Bool). cond b (trimmed_front (drop (n + 1) s)) (get_or s n 0 ∷ drop (n + 1) s)) white
 
 -- The bytes of the first i characters and of the next one are those of i + 1 characters.
-pub encodes_more : (cs : List ℕ) (i : ℕ) → i < length cs
-    → encode_utf8_all (take (i + 1) cs) ≡ encode_utf8_all (take i cs) ++ encode (get_or cs i 0)
-encodes_more cs i inside =
-    ap encode_utf8_all (take_more cs i 0 inside)
-    ∙ encodes-append (take i cs) (get_or cs i 0 ∷ [])
-    ∙ ap (λ (xs : List ℕ). encode_utf8_all (take i cs) ++ xs) (append-nil (encode (get_or cs i 0)))
+pub encodes_more : (cs : List ℕ) (i c : ℕ) → i < length cs → c ≡ get_or cs i c
+    → encode_utf8_all (take (i + 1) cs) ≡ encode_utf8_all (take i cs) ++ encode c
+encodes_more cs i c inside is =
+    ap encode_utf8_all (take_more cs i c inside ∙ ap (λ (x : ℕ). take i cs ++ x ∷ []) (sym is))
+    ∙ encodes-append (take i cs) (c ∷ [])
+    ∙ ap (λ (xs : List ℕ). encode_utf8_all (take i cs) ++ xs) (append-nil (encode c))

@@ -56,7 +56,6 @@ fn room_for(item: Operand<'_>) -> usize {
 }
 
 /// Appends the code of a text's fold.
-#[tactic(auto, using(crate::proofs::FoldedCodes::folded_codes))]
 fn push_folded(bytes: &mut Vec<u8>, text: &str) -> Result<(), NoMemory>
     ensures { Adds (text_code (fold text.now)) bytes.old bytes.new result }
 {

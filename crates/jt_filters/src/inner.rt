@@ -246,7 +246,6 @@ impl<'a> ItemAction<'a> {
     }
 
     /// Appends the action's result on an item, if it has one. `index` is the index of the item.
-    #[tactic(auto, using(crate::proofs::ItemResults::action_values))]
     pub(crate) fn push(
         self,
         maker: Maker<'_>,

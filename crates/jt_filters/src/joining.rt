@@ -123,7 +123,6 @@ fn has_markup_item(items: ItemList<'_>) -> bool
 
 /// Returns the length in bytes of the joined text, at most 2^64 - 1. A fault of the separator comes
 /// before the faults of the items. Its bytes are counted only if there is a second item.
-#[tactic(auto, using(crate::proofs::JoinLengths::joined_lengths))]
 fn joined_len(items: ItemList<'_>, separator: Separator<'_>, escaping: bool) -> Result<u64, Fault>
     ensures { result ≡ text_length
         (joined_text escaping (items_in items.entry) (tree_of separator.entry.operand)) }
@@ -216,7 +215,6 @@ fn joined_items(
 
 /// Returns the joined text of the items. A fault of the separator comes before the faults of the
 /// items.
-#[tactic(auto, using(crate::proofs::JoinedTexts::joined_texts))]
 fn text_of_items(
     alloc: Global,
     items: ItemList<'_>,

@@ -234,7 +234,6 @@ fn row_list_measure<'a>(
 
 /// Returns the size, at most 2^64 - 1, and the nesting, at most 2^32 - 1, of the action's results
 /// on the items.
-#[tactic(auto, using(crate::proofs::ItemResults::rest_measures))]
 fn row_measure<'a>(
     alloc: Global,
     items: ItemList<'a>,
@@ -274,7 +273,6 @@ fn row_list<'a>(
 }
 
 /// Returns the action's results on the items, in order.
-#[tactic(auto, using(crate::proofs::ItemResults::front_values))]
 fn row_values<'a>(
     alloc: Global,
     items: ItemList<'a>,

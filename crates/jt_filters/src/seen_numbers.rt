@@ -167,7 +167,6 @@ fn number_at(item: Operand<'_>, key: Option<&str>) -> Option<i64> {
 
 /// Returns an entry for each number that is greater than all before it, so for each one if they are
 /// sorted.
-#[tactic(auto, using(crate::proofs::SeenEntries::rising_first))]
 fn entries_of(alloc: Global, occurrences: &[Occurrence]) -> Result<Vec<Entry>, NoMemory>
     ensures { IfOk result (λ v. AreDistinct v.items × AreUnseen v.items) }
 {

@@ -236,7 +236,6 @@ fn trimmed_back(text: &str) -> &str
 }
 
 /// Returns a text's characters in reverse order.
-#[tactic(auto, using(crate::proofs::TextTransforms::encodes_more))]
 fn turned(alloc: Global, text: &str) -> Result<String, NoMemory>
     ensures { IfOk result (λ s. string_bytes s ≡ texts.backwards text.now) }
 {

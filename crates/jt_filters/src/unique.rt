@@ -176,7 +176,6 @@ pub(crate) fn first_items(alloc: Global, all: ItemList<'_>) -> Result<Vec<Operan
 
 /// Appends an item to the first ones unless it is like one of the first `count` items, whose keys
 /// `met` holds.
-#[tactic(auto, using(crate::proofs::SeenCodes::first_items))]
 fn push_new<'a>(
     alloc: Global,
     met: &mut SeenItems<'a>,

@@ -1,6 +1,6 @@
 //! Defines the error of `order`.
 
-use std::alloc::{AllocError, AllocFailed};
+use std::alloc::AllocError;
 
 /// A ring of nodes: each one leads to the next one, and the last one to the first.
 #[derive(Debug, Drop, PartialEq, Eq)]
@@ -27,17 +27,6 @@ impl From<AllocError> for OrderError {
     ghost from_gives = { λ _ e. e ≡ NoMemory };
 
     fn from(_e: AllocError) -> OrderError {
-        OrderError::NoMemory
-    }
-}
-
-impl<T: Drop> From<AllocFailed<T>> for OrderError {
-    ghost use Rattle.std.specs.Prelude.{◌≡◌};
-    ghost use Rattle.jt_graph.specs.declared.error.OrderError.TheVariants.{NoMemory};
-
-    ghost from_gives = { λ _ e. e ≡ NoMemory };
-
-    fn from(_e: AllocFailed<T>) -> OrderError {
         OrderError::NoMemory
     }
 }

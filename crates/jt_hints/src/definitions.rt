@@ -134,6 +134,16 @@ fn add_names<'a>(
     }
 }
 
+/// Returns the name of a kind that needs no definition, if there is one.
+fn built_in(kind: NameKind) -> Option<&'static str>
+    ensures { spec.if_some (option_map (λ x. x.now) result) ≡ spec.built_in kind }
+{
+    match kind {
+        NameKind::Callee => Some("range"),
+        NameKind::PublicMacro | NameKind::Block => None,
+    }
+}
+
 /// Returns the names of a kind that the tags of a source define, in the order of the tags.
 ///
 /// # Errors
@@ -148,9 +158,7 @@ pub fn defined_names<'a>(
         ≡ spec.defined_names kind segments.now) }
 {
     let mut found = Vec::new(alloc);
-    if kind == NameKind::Callee {
-        found.push("range")?;
-    }
+    add_name(built_in(kind), &mut found)?;
     for segment in segments {
         add_names(kind, segment, &mut found)?;
     }

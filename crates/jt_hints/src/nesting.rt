@@ -90,14 +90,14 @@ impl NestingHint {
 }
 
 /// An open statement, with the line of its first tag.
-#[derive(Clone, Copy, Debug, Drop, PartialEq, Eq)]
+#[derive(Clone, Copy)]
 pub struct Opened {
     pub statement: Statement,
     pub line: u32,
 }
 
 /// What a tag does to the open statements.
-#[derive(Clone, Copy, Debug, Drop, PartialEq, Eq)]
+#[derive(Clone, Copy)]
 pub enum Role {
     Opens(Statement),
     Closes(Statement),

@@ -8,7 +8,7 @@ use jt_scan::{Sign, Token};
 use std::alloc::{AllocError, Global};
 
 /// The role of an open bracket.
-#[derive(Clone, Copy, Debug, PartialEq, Eq)]
+#[derive(Clone, Copy)]
 pub enum Bracket {
     /// `(` around an expression.
     Group,
@@ -23,7 +23,7 @@ pub enum Bracket {
 }
 
 /// The kind of the token before a place.
-#[derive(Clone, Copy, Debug, PartialEq, Eq)]
+#[derive(Clone, Copy, PartialEq, Eq)]
 pub enum Before {
     /// A text literal.
     Text,
@@ -38,7 +38,7 @@ pub enum Before {
 }
 
 /// The kind of a tag, by where its expressions stand.
-#[derive(Clone, Copy, Debug, PartialEq, Eq)]
+#[derive(Clone, Copy)]
 pub enum TagForm {
     /// An expression at once, as in `{{ e }}` and after `if`.
     Expression,

@@ -42,7 +42,7 @@ impl PositionHint {
 }
 
 /// What a segment is, as far as positions depend on it.
-#[derive(Clone, Copy, Debug, Drop, PartialEq, Eq)]
+#[derive(Clone, Copy, PartialEq, Eq)]
 pub enum Part {
     /// A comment or whitespace.
     Blank,
@@ -126,7 +126,7 @@ fn has_macro(opened: &[Opened]) -> bool
 }
 
 /// What was before a segment.
-#[derive(Clone, Copy, Debug, Drop, PartialEq, Eq)]
+#[derive(Clone, Copy)]
 pub struct Passed {
     /// Whether there was something other than comments and whitespace.
     pub started: bool,

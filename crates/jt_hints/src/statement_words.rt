@@ -1,10 +1,40 @@
 //! Knows the reserved words of expressions and the first words of statements.
 
-ghost use Rattle.std.specs.Prelude.{◌≡◌};
+ghost use Rattle.std.specs.Prelude.{◌≡◌, map};
 ghost use Rattle.jt_hints.specs.Forms as spec;
 
 use crate::places::TagForm;
 use crate::syntax::SyntaxHint;
+
+static PLAIN_WORDS: [&str; 15] = [
+    "if",
+    "elif",
+    "endif",
+    "endfor",
+    "endset",
+    "with",
+    "endwith",
+    "filter",
+    "endfilter",
+    "autoescape",
+    "endautoescape",
+    "macro",
+    "endmacro",
+    "block",
+    "endblock",
+];
+
+/// Returns whether a word is one of the given ones.
+fn is_one_of(words: &[&str], word: &str) -> bool
+    ensures { result ≡ spec.is_one_of (map (λ x. x.now) words.now) word.now }
+{
+    for each in words {
+        if word == *each {
+            return true;
+        }
+    }
+    false
+}
 
 /// Returns whether a word is an operator or a part of an inline if, after which an operand begins.
 pub(crate) fn is_operator_word(word: &str) -> bool
@@ -17,23 +47,7 @@ pub(crate) fn is_operator_word(word: &str) -> bool
 pub(crate) fn is_plain_word(word: &str) -> bool
     ensures { result ≡ spec.is_plain_word word.now }
 {
-    matches!(
-        word,
-        "if" | "elif"
-            | "endif"
-            | "endfor"
-            | "endset"
-            | "with"
-            | "endwith"
-            | "filter"
-            | "endfilter"
-            | "autoescape"
-            | "endautoescape"
-            | "macro"
-            | "endmacro"
-            | "block"
-            | "endblock"
-    )
+    is_one_of(&PLAIN_WORDS, word)
 }
 
 /// Returns where the expressions of a statement's tag stand, by the tag's first word.

@@ -1,7 +1,7 @@
 -- Parts with tables in order and within the limits are a code with a spelling.
-use Rattle.std.proofs.Common.{◌≡◌, ℕ, ◌+◌, ◌-◌, ◌*◌, min, ◌<◌, ◌≤◌, ◌^◌, Bool, true, false, List, [], ◌∷◌, ◌++◌, length}
-use Rattle.std.proofs.Common.{Option, Some, refl, ap, subst, arith, rules}
-use Rattle.std.specs.Prelude.{◌&&◌, ◌↔◌, not, IsUtf8}
+use Rattle.std.proofs.Common.{◌≡◌, ℕ, ◌+◌, ◌*◌, ◌<◌, ◌≤◌, ◌^◌, true, List, [], ◌∷◌, ◌++◌, length}
+use Rattle.std.proofs.Common.{Option, Some, refl, subst, arith, rules}
+use Rattle.std.specs.Prelude.{IsUtf8}
 use Rattle.std.specs.Int.{w16, w32, w64, to_le_bytes}
 use Rattle.std.specs.List.{flat_map, AllByRecursion}
 use Rattle.std.proofs.lemmas.List.{length-append}
@@ -12,7 +12,7 @@ use Rattle.jt_image.specs.declared.error.ImageError.TheVariants.{NoMemory}
 use Rattle.jt_image.specs.declared.instruction.Instruction.{Instruction}
 use Rattle.jt_image.specs.declared.version.Version.TheVariants as version
 use Rattle.jt_image.specs.Code.{Constant, Name, Section, SourceLoc, Code}
-use Rattle.jt_image.specs.Spelling.{magic, version_number, name_bytes, constant_bytes, header_bytes, wire_of}
+use Rattle.jt_image.specs.Spelling.{magic, version_number, name_bytes, constant_bytes, header_bytes}
 use Rattle.jt_image.specs.Spelling.{instruction_bytes, template_bytes, loc_bytes, place_bytes, spelling}
 use Rattle.jt_image.specs.IsCode.{IsName, IsTemplate, IsConstant, IsSection, IsPlaced, total_len, HasEntry, IsCode}
 use Rattle.jt_image.specs.IsCode.{max_count, max_locals, max_instructions, max_bytes}

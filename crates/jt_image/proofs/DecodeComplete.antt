@@ -2,7 +2,7 @@
 use Rattle.std.proofs.Common.{◌≡◌, ℕ, ◌+◌, ◌<◌, ◌≤◌, ◌^◌, Bool, true, false, cond, ltb, leb, eqb, List, [], ◌∷◌, ◌++◌}
 use Rattle.std.proofs.Common.{length, map, take, drop, Option, Some, None, Result, Ok, Err, refl, sym, ap, subst, ◌∙◌}
 use Rattle.std.proofs.Common.{arith, append_assoc, rules}
-use Rattle.std.specs.Prelude.{ℤ, ◌==◌, ◌&&◌, ◌||◌, ◌≢◌, not, nat_lt, nat_le, IsUtf8, MatchResult, MatchOption}
+use Rattle.std.specs.Prelude.{ℤ, ◌==◌, ◌||◌, ◌≢◌, not, nat_lt, nat_le, IsUtf8, MatchResult, MatchOption}
 use Rattle.std.specs.Int.{w16, w32, w64, to_le_bytes, cast_signed, cast_unsigned}
 use Rattle.std.specs.List.{flat_map, AllByRecursion}
 use Rattle.std.specs.Option.{IsSome}
@@ -14,23 +14,22 @@ use Rattle.std.proofs.lemmas.Bool.{lt-ltb, le-leb, le-ltb}
 use Rattle.std.proofs.lemmas.Bool.Decides.{nat_tests}
 use Rattle.std.proofs.lemmas.List.{append-nil, take_at, drop_at}
 use Rattle.jt_image.specs.declared.error.ImageError.{ImageError}
-use Rattle.jt_image.specs.declared.error.ImageError.TheVariants.{BadMagic, Truncated, Trailing, BadOpcode, BadTable}
+use Rattle.jt_image.specs.declared.error.ImageError.TheVariants.{BadMagic, Truncated, Trailing, BadTable}
 use Rattle.jt_image.specs.declared.error.ImageError.TheVariants.{LimitPassed, NoMemory}
 use Rattle.jt_image.specs.declared.instruction.Instruction.{Instruction}
-use Rattle.jt_image.specs.declared.instruction.Instruction.TheVariants as op
 use Rattle.jt_image.specs.declared.wire.Instr.{Instr}
 use Rattle.jt_image.specs.declared.version.Version.{Version}
 use Rattle.jt_image.specs.Code.{Constant, undefined, nothing, truth_value, number, text, markup, Name, Section, Code}
-use Rattle.jt_image.specs.Spelling.{magic, version_number, name_bytes, template_bytes, constant_bytes, header_bytes}
+use Rattle.jt_image.specs.Spelling.{magic, version_number, name_bytes, constant_bytes, header_bytes}
 use Rattle.jt_image.specs.Spelling.{wire_of, wire_bytes, instruction_bytes, spelling}
 use Rattle.jt_image.specs.IsCode.{IsName, Ascend, AreDistinct, IsConstant, IsInstruction, IsSection, total_len}
 use Rattle.jt_image.specs.IsCode.{HasEntry, IsCode, max_locals, max_instructions, max_bytes}
-use Rattle.jt_image.specs.Reading.{◌>>=◌, Gives, check, number_at, byte_at, text_at, is_used, follows, last_name}
-use Rattle.jt_image.specs.Reading.{text_after, slot_at, name_at, names_at, long_text_at, constant_of, constant_at}
+use Rattle.jt_image.specs.Reading.{◌>>=◌, Gives, check, number_at, byte_at, is_used, follows, last_name}
+use Rattle.jt_image.specs.Reading.{slot_at, name_at, names_at, long_text_at, constant_of, constant_at}
 use Rattle.jt_image.specs.Reading.{constants_at, Header, header_total, is_first, parameters_at, kind_at, locals_at}
 use Rattle.jt_image.specs.Reading.{len_at, header_of, header_at, headers_at, known, known_of, instruction_of}
 use Rattle.jt_image.specs.Reading.{instruction_at, instructions_at, section_of, section_at, sections_at, magic_at}
-use Rattle.jt_image.specs.Reading.{version_at, start_at, Trailer, trailer_at, units_at, all_names_at, all_constants_at}
+use Rattle.jt_image.specs.Reading.{start_at, Trailer, trailer_at, units_at, all_names_at, all_constants_at}
 use Rattle.jt_image.specs.Reading.{code_of}
 use Rattle.jt_image.proofs.ReaderParts.{header_total-push, is_first-push, is_used-push}
 use Rattle.jt_image.proofs.DecodeSoundLemmas.{wide16, wide32, wide64, AllGood, each_good}

@@ -11,7 +11,6 @@ use Rattle.std.proofs.lemmas.Bool.{ltb-true, leb-true, eqb-true}
 use Rattle.jt_image.specs.declared.error.ImageError.{ImageError}
 use Rattle.jt_image.specs.declared.error.ImageError.TheVariants.{BadTable, LimitPassed}
 use Rattle.jt_image.specs.declared.instruction.Instruction.{Instruction}
-use Rattle.jt_image.specs.declared.instruction.Instruction.TheVariants as op
 use Rattle.jt_image.specs.declared.wire.Instr.{Instr}
 use Rattle.jt_image.specs.Code.{Constant, number, text, markup, Name, Section}
 use Rattle.jt_image.specs.Spelling.{name_bytes, template_bytes, constant_bytes, wire_of, wire_bytes, instruction_bytes}
@@ -23,7 +22,7 @@ use Rattle.jt_image.specs.Reading.{instruction_of, known, known_of, instruction_
 use Rattle.jt_image.specs.Reading.{section_at, sections_at, header_total, many_at, each_at}
 use Rattle.jt_image.proofs.DecodeSoundLemmas.{Read, AllOk, all_at, all_map, bind_from, check_all, cond_all, IsBytes}
 use Rattle.jt_image.proofs.DecodeSoundLemmas.{Takes, Takes-then, Takes-as, Found, wide16, wide32, wide64, number_found}
-use Rattle.jt_image.proofs.DecodeSoundLemmas.{single, byte_found, IsText, text_found, AllGood, Many, many_found, Each}
+use Rattle.jt_image.proofs.DecodeSoundLemmas.{single, byte_found, IsText, text_found, Many, many_found, Each}
 use Rattle.jt_image.proofs.DecodeSoundLemmas.{each_found, and_true, not_true, good_each}
 
 -- ---- names

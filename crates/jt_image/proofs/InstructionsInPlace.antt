@@ -1,7 +1,7 @@
 -- Instructions in place: their number is the stored one, and the one at a point is read from its
 -- bytes.
 use Rattle.std.proofs.Common.{◌≡◌, ℕ, zero, suc, ◌+◌, ◌*◌, ◌<◌, ◌≤◌, ◌^◌, List, [], ◌∷◌, ◌++◌, length, drop, Option}
-use Rattle.std.proofs.Common.{Some, None, Result, Ok, Err, refl, sym, ap, subst, ◌∙◌, arith, append_assoc, rules}
+use Rattle.std.proofs.Common.{Some, Result, Ok, Err, refl, sym, ap, subst, ◌∙◌, arith, append_assoc, rules}
 use Rattle.std.specs.Prelude.{slice_get}
 use Rattle.std.specs.Option.{IsSome}
 use Rattle.std.specs.List.{flat_map, AllByRecursion}
@@ -9,10 +9,10 @@ use Rattle.std.proofs.lemmas.List.Concat.{flat_map-cons}
 use Rattle.jt_image.specs.declared.error.ImageError.{ImageError}
 use Rattle.jt_image.specs.declared.instruction.Instruction.{Instruction}
 use Rattle.jt_image.specs.declared.wire.Instr.{Instr}
-use Rattle.jt_image.specs.Code.{Section, SourceLoc}
+use Rattle.jt_image.specs.Code.{SourceLoc}
 use Rattle.jt_image.specs.Spelling.{wire_of, wire_bytes, instruction_bytes, loc_bytes}
-use Rattle.jt_image.specs.IsCode.{IsInstruction, IsLine, IsSourceLoc}
-use Rattle.jt_image.specs.Reading.{◌>>=◌, Header, known, known_of, instruction_of, instruction_at, instructions_at}
+use Rattle.jt_image.specs.IsCode.{IsInstruction, IsSourceLoc}
+use Rattle.jt_image.specs.Reading.{Header, instruction_of, instruction_at, instructions_at}
 use Rattle.jt_image.specs.Reading.{section_of, section_at, loc_at, locs_at}
 use Rattle.jt_image.specs.InPlace.{read_or, instructions_in, fields_in, loc_in}
 use Rattle.jt_image.proofs.DecodeSoundLemmas.{good_each, IsBytes, AllOk, all_at, Many, many_found, wide16, wide32}

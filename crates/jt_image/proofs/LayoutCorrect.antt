@@ -1,6 +1,6 @@
 -- Offsets that are computed from the lengths of spellings are those of the parts of the code.
 use Rattle.std.proofs.Common.{◌≡◌, ℕ, ◌+◌, ◌*◌, ◌<◌, ◌≤◌, ◌^◌, List, [], ◌∷◌, ◌++◌, length, drop, map, get_or}
-use Rattle.std.proofs.Common.{Result, Ok, Some, refl, sym, ap, subst, ◌∙◌, arith, append_assoc, rules}
+use Rattle.std.proofs.Common.{Ok, Some, refl, sym, ap, subst, ◌∙◌, arith, append_assoc, rules}
 use Rattle.std.specs.Int.{w16, to_le_bytes}
 use Rattle.std.specs.List.{flat_map, AllByRecursion}
 use Rattle.std.proofs.lemmas.List.{length-append, length-map, drop-drop, drop_at, drop_more, append-nil}
@@ -11,17 +11,17 @@ use Rattle.jt_image.specs.declared.offsets.Offsets.{Offsets}
 use Rattle.jt_image.specs.declared.version.Version.{Version}
 use Rattle.jt_image.specs.declared.version.Version.TheVariants as version
 use Rattle.jt_image.specs.Code.{Constant, undefined, Name, Section, SourceLoc, Code}
-use Rattle.jt_image.specs.Spelling.{magic, version_number, name_bytes, constant_bytes, header_bytes, template_bytes}
+use Rattle.jt_image.specs.Spelling.{name_bytes, constant_bytes, header_bytes, template_bytes}
 use Rattle.jt_image.specs.Spelling.{loc_bytes, place_bytes, spelling}
 use Rattle.jt_image.specs.IsCode.{IsName, IsConstant, IsTemplate, IsSourceLoc, IsPlaced, IsCode, total_len, max_bytes}
-use Rattle.jt_image.specs.IsCode.{max_instructions}
-use Rattle.jt_image.specs.Reading.{instructions_at, constant_at, Trailer, locs_at}
+use Rattle.jt_image.specs.Reading.{instructions_at, constant_at, locs_at}
 use Rattle.jt_image.specs.Parts.{IsRefusal}
-use Rattle.jt_image.specs.View.{instruction_view, unit_view, units_view}
+use Rattle.jt_image.specs.View.{instruction_view, units_view}
 use Rattle.jt_image.specs.declared.parts.Unit as given
-use Rattle.jt_image.specs.InPlace.{IsRead, read_or, bare_name_at, bare_text_at, section_in, HasUnit, AreCounted}
-use Rattle.jt_image.specs.InPlace.{template_in, templates_in, HasTemplate, locs_in, AreSourceLocs, code_in, Spells}
-use Rattle.jt_image.specs.internal.Layout.{starts, unit_start, unit_starts, TrailerStarts, constants_start, code_start}
+use Rattle.jt_image.specs.InPlace.{start_len, IsReadAt, read_or, bare_name_at, bare_text_at, section_in, HasUnit}
+use Rattle.jt_image.specs.InPlace.{AreCounted, template_in, templates_in, HasTemplate, locs_in, AreSourceLocs, code_in}
+use Rattle.jt_image.specs.InPlace.{Spells}
+use Rattle.jt_image.specs.internal.Layout.{starts, unit_starts, TrailerStarts, constants_start, code_start}
 use Rattle.jt_image.specs.internal.Layout.{IsLaidOut, IsAbove}
 use Rattle.jt_image.proofs.DecodeSoundLemmas.{Read, wide16}
 use Rattle.jt_image.proofs.DecodeSound.{code_bytes, HasCode}
@@ -83,7 +83,7 @@ pub record At (bytes : List ℕ) (at : ℕ) (rest : List ℕ) : Type 0 where
   pub len : at + length rest ≡ length bytes
   pub is : drop at bytes ≡ rest
 
-past : (bytes : List ℕ) (at n : ℕ) (a b : List ℕ) → At bytes at (a ++ b) → n ≡ at + length a → At bytes n b
+pub past : (bytes : List ℕ) (at n : ℕ) (a b : List ℕ) → At bytes at (a ++ b) → n ≡ at + length a → At bytes n b
 past bytes at n a b h e = record {
   len = omega (arith, e, h.len, length-append a b);
   is = rw e (sym (drop-drop (length a) at bytes) ∙ ap (drop (length a)) h.is ∙ drop_at a b (length a) refl);
@@ -91,18 +91,19 @@ past bytes at n a b h e = record {
 
 module _ {A : Type 0} (other : A) (reader : List ℕ → Read A) (spell : A → List ℕ) (good : A → Type 0)
     (again : (x : A) (rest : List ℕ) → good x → reader (spell x ++ rest) ≡ Ok (x, rest)) (bytes : List ℕ) where
-  tabled : (at : ℕ) (xs : List A) (rest : List ℕ) → AllByRecursion good xs → At bytes at (flat_map spell xs ++ rest)
-      → AllByRecursion (λ n. IsRead (reader (drop n bytes))) (starts spell at xs)
+  tabled : (at : ℕ) (xs : List A) (rest : List ℕ) → start_len ≤ at → AllByRecursion good xs
+      → At bytes at (flat_map spell xs ++ rest)
+      → AllByRecursion (IsReadAt reader bytes) (starts spell at xs)
       × (map (λ n. read_or other (reader (drop n bytes))) (starts spell at xs) ≡ xs)
-  tabled at [] rest all h = (tt, refl)
-  tabled at (x ∷ xs) rest all h =
+  tabled at [] rest late all h = (tt, refl)
+  tabled at (x ∷ xs) rest late all h =
       let here : At bytes at (spell x ++ (flat_map spell xs ++ rest)) =
       simp (flat_map-cons, append_assoc) at h in
       let read : reader (drop at bytes) ≡ Ok (x, flat_map spell xs ++ rest) =
       ap reader here.is ∙ again x (flat_map spell xs ++ rest) all.0 in
-      let more = tabled (at + length (spell x)) xs rest all.1
+      let more = tabled (at + length (spell x)) xs rest (omega (arith, late)) all.1
       (past bytes at (at + length (spell x)) (spell x) (flat_map spell xs ++ rest) here refl) in (
-        (is_read (reader (drop at bytes)) x (flat_map spell xs ++ rest) read, more.0),
+        ((late, is_read (reader (drop at bytes)) x (flat_map spell xs ++ rest) read), more.0),
         ap (λ (y : A). y ∷ map (λ n. read_or other (reader (drop n bytes))) (starts spell (at + length (spell x)) xs))
             (read_as other (reader (drop at bytes)) x (flat_map spell xs ++ rest) read)
             ∙ ap (λ (ys : List A). x ∷ ys) more.1,
@@ -114,47 +115,48 @@ record AreCoded (bytes : List ℕ) (first : ℕ) (us : List Section) (ps : List 
   has : AllByRecursion (HasUnit bytes) ps
   counted : AreCounted first ps
 
-coded : (bytes : List ℕ) (start first : ℕ) (us : List Section) (rest : List ℕ) → AllByRecursion HasCode us
-    → At bytes (start + 8 * first) (flat_map code_bytes us ++ rest)
+coded : (bytes : List ℕ) (start first : ℕ) (us : List Section) (rest : List ℕ) → start_len ≤ start
+    → AllByRecursion HasCode us → At bytes (start + 8 * first) (flat_map code_bytes us ++ rest)
     → AreCoded bytes first us (unit_starts start first us)
-coded bytes start first [] rest all h = record { is = refl; has = tt; counted = tt }
-coded bytes start first (u ∷ us) rest all h =
+coded bytes start first [] rest late all h = record { is = refl; has = tt; counted = tt }
+coded bytes start first (u ∷ us) rest late all h =
     let r = flat_map code_bytes us ++ rest in
     let here : At bytes (start + 8 * first) (code_bytes u ++ r) = simp (flat_map-cons, append_assoc) at h in
     let read : read_or [] (instructions_at (length u.code) (drop (start + 8 * first) bytes)) ≡ u.code =
     read_as [] (instructions_at (length u.code) (drop (start + 8 * first) bytes)) u.code r
     (ap (instructions_at (length u.code)) here.is ∙ instructions_again u.code r all.0) in
-    let more = coded bytes start (first + length u.code) us rest all.1
+    let more = coded bytes start (first + length u.code) us rest late all.1
     (past bytes (start + 8 * first) (start + 8 * (first + length u.code)) (code_bytes u) r here
     (omega (arith, instructions_len u.code))) in
     record {
       is = rw (read, more.is) refl;
-      has = ((omega (arith, h.len), ap length read), more.has);
+      has = (((omega (arith, late), omega (arith, h.len)), ap length read), more.has);
       counted = (refl, more.counted);
     }
 
 -- The templates and the places begin at these offsets.
-record AreBehind (bytes : List ℕ) (v : Version) (n : ℕ) (ts : List (List ℕ)) (ss : List SourceLoc) (offsets : List ℕ)
-    (places : ℕ) : Type 0 where
-  is : templates_in bytes offsets ≡ ts
-  has : AllByRecursion (HasTemplate bytes) offsets
-  few : length offsets < 2 ^ 16
-  locs : locs_in v (length offsets) n (drop places bytes) ≡ ss
-  whole : AreSourceLocs v (length offsets) n (drop places bytes)
+pub record AreBehind (bytes : List ℕ) (v : Version) (n : ℕ) (ts : List (List ℕ)) (ss : List SourceLoc)
+    (offsets : List ℕ) (places : ℕ) : Type 0 where
+  pub is : templates_in bytes offsets ≡ ts
+  pub has : AllByRecursion (HasTemplate bytes) offsets
+  pub few : length offsets < 2 ^ 16
+  pub locs : locs_in v (length offsets) n (drop places bytes) ≡ ss
+  pub whole : AreSourceLocs v (length offsets) n (drop places bytes)
 
-behind : (bytes : List ℕ) (v : Version) (start n : ℕ) (ts : List (List ℕ)) (ss : List SourceLoc) (offsets : List ℕ)
-    (places : ℕ)
-    → length ts < 2 ^ 16 → AllByRecursion IsTemplate ts → AllByRecursion (IsSourceLoc (length ts)) ss
-    → IsPlaced v n ts ss → TrailerStarts v start ts offsets places → At bytes start (place_bytes v ts ss)
+pub behind : (bytes : List ℕ) (v : Version) (start n : ℕ) (ts : List (List ℕ)) (ss : List SourceLoc)
+    (offsets : List ℕ) (places : ℕ)
+    → start_len ≤ start → length ts < 2 ^ 16 → AllByRecursion IsTemplate ts
+    → AllByRecursion (IsSourceLoc (length ts)) ss → IsPlaced v n ts ss → TrailerStarts v start ts offsets places
+    → At bytes start (place_bytes v ts ss)
     → AreBehind bytes v n ts ss offsets places
-behind bytes version.One start n ts ss offsets places few texts locs placed e h =
+behind bytes version.One start n ts ss offsets places late few texts locs placed e h =
     rw (e, placed.0, placed.1) (record { is = refl; has = tt; few = omega arith; locs = refl; whole = tt })
-behind bytes version.Two start n ts ss offsets places few texts locs placed e h =
+behind bytes version.Two start n ts ss offsets places late few texts locs placed e h =
     let names : At bytes (start + 2) (flat_map template_bytes ts ++ flat_map loc_bytes ss) =
     past bytes start (start + 2) (to_le_bytes w16 (length ts)) (flat_map template_bytes ts ++ flat_map loc_bytes ss) h
     refl in
     let there = tabled [] bare_text_at template_bytes IsTemplate (λ t rest g. bare_text_again t rest g.fits g.utf8)
-    bytes (start + 2) ts (flat_map loc_bytes ss) texts names in
+    bytes (start + 2) ts (flat_map loc_bytes ss) (omega (arith, late)) texts names in
     let is : templates_in bytes offsets ≡ ts = ap (templates_in bytes) e.0 ∙ there.1 in
     let count : length offsets ≡ length ts = sym (length-map offsets (template_in bytes)) ∙ ap length is in
     let back : drop places bytes ≡ flat_map loc_bytes ss ++ [] =
@@ -173,7 +175,7 @@ behind bytes version.Two start n ts ss offsets places few texts locs placed e h 
       whole = ap length read ∙ placed;
     }
 
-same_code : (k : Code) (v : Version) (g : ℕ) (ns : List Name) (cs : List Constant) (us : List Section)
+pub same_code : (k : Code) (v : Version) (g : ℕ) (ns : List Name) (cs : List Constant) (us : List Section)
     (ts : List (List ℕ)) (ss : List SourceLoc)
     → v ≡ k.version → g ≡ k.globals → ns ≡ k.names → cs ≡ k.constants → us ≡ k.units → ts ≡ k.templates
     → ss ≡ k.places
@@ -218,12 +220,12 @@ laid k p is h =
     (omega (arith, codes_len k.units)) in
     let ns = tabled (record { slot = 0; text = [] }) bare_name_at name_bytes (IsName k.globals)
     (λ n rest g. bare_again n rest (omega (arith, g.slot, is.globals)) g.fits g.utf8) bytes 10 k.names
-    (to_le_bytes w16 (length k.constants) ++ r1) is.names names in
+    (to_le_bytes w16 (length k.constants) ++ r1) (omega arith) is.names names in
     let cs = tabled undefined constant_at constant_bytes IsConstant (constant_again []) bytes (constants_start k)
-    k.constants (to_le_bytes w16 (length k.units) ++ r2) is.constants constants in
-    let us = coded bytes (code_start k) 0 k.units r4 (codes_of k.units is.units) code in
+    k.constants (to_le_bytes w16 (length k.units) ++ r2) (omega arith) is.constants constants in
+    let us = coded bytes (code_start k) 0 k.units r4 (omega arith) (codes_of k.units is.units) code in
     let b = behind bytes k.version (code_start k + 8 * total_len k.units) (total_len k.units) k.templates k.places
-    p.templates.items p.places
+    p.templates.items p.places (omega arith)
     is.count_templates is.templates is.places is.placed h.trailer back in
     let units : (code_in bytes p).units ≡ k.units = rw h.units us.is in
     let locs : (code_in bytes p).places ≡ k.places = rw (h.version, h.instructions) b.locs in

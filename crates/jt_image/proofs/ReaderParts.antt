@@ -1,6 +1,6 @@
 -- Names, texts and headers in the reader, and their views.
-use Rattle.std.proofs.Common.{◌≡◌, ℕ, ◌+◌, ◌-◌, ◌++◌, false, true, ◌<◌, ◌≤◌, Bool, take, drop, ltb, ◌≢◌, Ok, Err, List}
-use Rattle.std.proofs.Common.{[], ◌∷◌, length, get_or, set, refl, map, sym, arith, Some, None, rules, zero, suc, subst}
+use Rattle.std.proofs.Common.{◌≡◌, ℕ, ◌+◌, ◌-◌, ◌++◌, false, true, ◌<◌, ◌≤◌, Bool, take, drop, ◌≢◌, Ok, Err, List}
+use Rattle.std.proofs.Common.{[], ◌∷◌, length, get_or, set, refl, map, arith, Some, None, rules, zero, suc}
 use Rattle.std.specs.Prelude.{◌==◌, ◌||◌, replicate}
 use Rattle.std.specs.Str.{IsUtf8, is_utf8}
 use Rattle.std.proofs.lemmas.Str.{is_utf8-from_IsUtf8, IsUtf8-from_is_utf8}

@@ -1,6 +1,6 @@
 -- Parts at offsets of an image's bytes: a part that was read is at its offset, and the bytes there
 -- have its form.
-use Rattle.std.proofs.Common.{◌≡◌, ℕ, ◌+◌, ◌-◌, ◌<◌, ◌≤◌, ◌^◌, Bool, true, false, cond, ltb, List, [], ◌∷◌, ◌++◌}
+use Rattle.std.proofs.Common.{◌≡◌, ℕ, suc, ◌+◌, ◌-◌, ◌<◌, ◌≤◌, ◌^◌, Bool, true, false, cond, ltb, List, [], ◌∷◌, ◌++◌}
 use Rattle.std.proofs.Common.{length, take, drop, get_or, Result, Ok, Err, refl, sym, ap, subst, ◌∙◌, arith}
 use Rattle.std.proofs.Common.{append_assoc, rules}
 use Rattle.std.specs.Prelude.{IsUtf8}
@@ -22,7 +22,7 @@ use Rattle.jt_image.specs.Reading.{instruction_at, instructions_at, Header, head
 use Rattle.jt_image.specs.Reading.{is_first, start_at, template_at, all_templates_at, locs_at, Trailer, trailer_at}
 use Rattle.jt_image.specs.Reading.{Fails}
 use Rattle.jt_image.specs.InPlace.{IsRead, read_or, bare_text_at, template_in, templates_in, HasTemplate, bare_name_at}
-use Rattle.jt_image.specs.InPlace.{name_in, HasName, constant_in, HasConstant, AreLast}
+use Rattle.jt_image.specs.InPlace.{name_in, HasName, constant_in, HasConstant, start_len, AreLast}
 use Rattle.jt_image.proofs.DecodeSoundLemmas.{Read, all_at, IsBytes, IsBytes-drop, Takes, IsWide, number_found, Many}
 use Rattle.jt_image.proofs.DecodeSoundLemmas.{many_found, wide16}
 use Rattle.jt_image.proofs.DecodeSound.{IsNamed, name_found, constant_found, instruction_found, good_instruction}
@@ -30,13 +30,9 @@ use Rattle.jt_image.proofs.DecodeSound.{head_bytes, header_found}
 use Rattle.jt_image.proofs.WholeImageSound.{good_header}
 use Rattle.jt_image.proofs.WholeCodeSound.{start_found}
 use Rattle.jt_image.proofs.TrailerRoundTrip.{IsNextText, template_found}
-use Rattle.jt_image.proofs.TableLoops.{Fails-along}
 use Rattle.jt_image.proofs.RoundTripLemmas.{number_again, text_again, bind_again}
 
 -- ---- the remaining bytes
-
-pub all_last : (bytes : List ℕ) → length bytes ≤ max_bytes → AreLast bytes bytes
-all_last bytes small = search (arith, rules)
 
 pub takes_last : (bytes rest taken after : List ℕ) → Takes rest taken after → AreLast bytes rest → AreLast bytes after
 takes_last bytes rest taken after t h =
@@ -110,7 +106,7 @@ name_step globals before bytes rest n after small fits h e =
     ∙ bare_again n after (omega (arith, found.1.slot.below, small)) found.1.next.fits found.1.next.utf8 in
     let here = there bare_name_at bytes rest n after h bare in
     record {
-      there = is_read (bare_name_at (drop (length bytes - length rest) bytes)) n after here;
+      there = (omega (arith, h.within), is_read (bare_name_at (drop (length bytes - length rest) bytes)) n after here);
       is =
           read_as (record { slot = 0; text = [] }) (bare_name_at (drop (length bytes - length rest) bytes)) n after
           here;
@@ -133,7 +129,7 @@ template_step before bytes rest t after fits h e =
     ap bare_text_at found.0.parts ∙ bare_text_again t after found.1.fits found.1.utf8 in
     let here = there bare_text_at bytes rest t after h bare in
     record {
-      there = is_read (bare_text_at (drop (length bytes - length rest) bytes)) t after here;
+      there = (omega (arith, h.within), is_read (bare_text_at (drop (length bytes - length rest) bytes)) t after here);
       is = read_as [] (bare_text_at (drop (length bytes - length rest) bytes)) t after here;
       last = takes_last bytes rest (template_bytes t) after found.0 h;
     }
@@ -147,7 +143,7 @@ constant_step bytes rest x after fits h e =
     (constant_found rest (last_fits bytes rest fits h)) in
     let here = there constant_at bytes rest x after h e in
     record {
-      there = is_read (constant_at (drop (length bytes - length rest) bytes)) x after here;
+      there = (omega (arith, h.within), is_read (constant_at (drop (length bytes - length rest) bytes)) x after here);
       is = read_as undefined (constant_at (drop (length bytes - length rest) bytes)) x after here;
       last = takes_last bytes rest _ after found.0 h;
     }
@@ -282,9 +278,15 @@ headers_last n bytes rest hs after fits h e =
 pub start_last : (bytes : List ℕ) (v : Version) (rest : List ℕ) → length bytes ≤ max_bytes → IsBytes bytes
     → start_at bytes ≡ Ok (v, rest) → AreLast bytes rest
 start_last bytes v rest small fits e =
-    takes_last bytes bytes _ rest (all_at (start_at bytes)
-    (λ x. Takes bytes (magic ++ to_le_bytes w16 (version_number x.0)) x.1) (v, rest) e (start_found bytes fits))
-    (all_last bytes small)
+    let t = all_at (start_at bytes) (λ x. Takes bytes (magic ++ to_le_bytes w16 (version_number x.0)) x.1) (v, rest) e
+    (start_found bytes fits) in
+    let len : length bytes ≡ suc (suc (suc (suc (suc (suc (length rest)))))) = ap length t.parts in
+    let front : length bytes - length rest ≡ start_len = omega (arith, len) in
+    record {
+      small = small;
+      within = omega (arith, len);
+      are = ap (λ (n : ℕ). drop n bytes) front ∙ ap (drop start_len) t.parts;
+    }
 
 -- A text after its length of two bytes.
 pub record TemplateParts (bytes : List ℕ) : Type 0 where

@@ -1,22 +1,22 @@
 -- A trailer that is read has its spelling in the bytes, and a spelled trailer is read again.
-use Rattle.std.proofs.Common.{◌≡◌, ℕ, zero, suc, ◌<◌, ◌≤◌, ◌^◌, Bool, true, false, eqb, List, [], ◌∷◌, ◌++◌, length, Ok}
-use Rattle.std.proofs.Common.{Err, refl, sym, ap, subst, ◌∙◌, arith, append_assoc, if◌then◌else◌, rules, Option, Some}
+use Rattle.std.proofs.Common.{◌≡◌, ℕ, zero, suc, ◌<◌, ◌≤◌, ◌^◌, true, false, eqb, List, [], ◌∷◌, ◌++◌, length, Ok}
+use Rattle.std.proofs.Common.{refl, sym, ap, subst, ◌∙◌, arith, append_assoc, rules, Option, Some}
 use Rattle.std.proofs.Common.{None}
-use Rattle.std.specs.Prelude.{◌==◌, ◌&&◌, nat_le}
+use Rattle.std.specs.Prelude.{nat_le}
 use Rattle.std.specs.Int.{w16, w32, to_le_bytes}
 use Rattle.std.specs.List.{flat_map, AllByRecursion}
 use Rattle.std.proofs.lemmas.Bool.{ltb-true, leb-true, eqb-true, lt-ltb, le-leb}
 use Rattle.std.proofs.lemmas.Bool.Decides.{nat_tests}
-use Rattle.jt_image.specs.declared.error.ImageError.TheVariants.{BadTable, BadVersion}
+use Rattle.jt_image.specs.declared.error.ImageError.TheVariants.{BadTable}
 use Rattle.jt_image.specs.declared.version.Version.{Version}
 use Rattle.jt_image.specs.declared.version.Version.TheVariants as version
 use Rattle.jt_image.specs.Code.{SourceLoc}
 use Rattle.jt_image.specs.Spelling.{version_number, template_bytes, loc_bytes, place_bytes}
 use Rattle.jt_image.specs.IsCode.{IsTemplate, AscendTexts, IsLine, IsSourceLoc, IsPlaced}
-use Rattle.jt_image.specs.Reading.{◌>>=◌, check, number_at, text_at, version_at, follows, last_text, text_after}
+use Rattle.jt_image.specs.Reading.{◌>>=◌, check, number_at, version_at, follows, last_text, text_after}
 use Rattle.jt_image.specs.Reading.{template_at, templates_at, all_templates_at, template_number_at, is_line, line_at}
 use Rattle.jt_image.specs.Reading.{loc_at, locs_at, Trailer, trailer_at}
-use Rattle.jt_image.proofs.DecodeSoundLemmas.{AllOk, all_map, bind_from, check_all, cond_all, IsBytes, Takes}
+use Rattle.jt_image.proofs.DecodeSoundLemmas.{AllOk, bind_from, check_all, cond_all, IsBytes, Takes}
 use Rattle.jt_image.proofs.DecodeSoundLemmas.{Takes-then, Takes-as, Found, wide16, wide32, number_found, AllGood, Many}
 use Rattle.jt_image.proofs.DecodeSoundLemmas.{many_found, and_true, each_good, good_each, table_found}
 use Rattle.jt_image.proofs.DecodeSound.{IsNext, next_found}

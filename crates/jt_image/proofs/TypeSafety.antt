@@ -1,5 +1,5 @@
 -- Type safety: a machine of a typed code continues or ends, and is never wrong.
-use Rattle.std.proofs.Common.{◌≡◌, ℕ, zero, suc, ◌+◌, ◌*◌, ◌<◌, ◌≤◌, Bool, true, false, cond, eqb, List, [], ◌∷◌, ◌++◌}
+use Rattle.std.proofs.Common.{◌≡◌, ℕ, zero, suc, ◌+◌, ◌*◌, ◌<◌, ◌≤◌, Bool, true, false, cond, eqb, List, [], ◌∷◌}
 use Rattle.std.proofs.Common.{length, map, Option, Some, None, Result, Ok, Err, refl, sym, ap, subst, ◌∙◌, arith, rules}
 use Rattle.std.specs.Prelude.{slice_get, slice_set}
 use Rattle.std.specs.Option.{is_some}
@@ -22,7 +22,7 @@ use Rattle.jt_image.specs.Effect.{Shape, Successors, require, pops, pops_many, p
 use Rattle.jt_image.specs.Effect.{calls, goes_on, jumps, branches, may_return, effect, effect_of}
 use Rattle.jt_image.specs.Typed.{Shapes, Equal, HasSame, IsTypedBy, IsTyped}
 use Rattle.jt_ids.specs.LoopTable.{field_of}
-use Rattle.jt_image.specs.Loops.{trees_of, loop_over, keeping}
+use Rattle.jt_image.specs.Loops.{trees_of, keeping}
 use Rattle.jt_image.specs.Config as config
 use Rattle.jt_image.specs.Config.{Budget, Frame, StackEntry, value, frame, capture, kind_of, State, Caller}
 use Rattle.jt_image.specs.Config.{MachineState, Config}

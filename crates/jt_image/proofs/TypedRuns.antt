@@ -1,12 +1,11 @@
 -- Whole runs of a typed code are safe.
 use Rattle.std.proofs.Common.{◌≡◌, ◌≢◌, ◌↔◌, ℕ, zero, suc, ◌+◌, ◌<◌, ◌≤◌, List, [], ◌∷◌, length, Option, Some, None}
 use Rattle.std.proofs.Common.{refl, ap, subst, ◌∙◌, arith, rules}
-use Rattle.std.specs.Prelude.{slice_get, slice_set, unwrap_or, replicate}
+use Rattle.std.specs.Prelude.{slice_get, replicate}
 use Rattle.std.proofs.lemmas.Bool.{ltb-true, ltb-false}
 use Rattle.std.proofs.lemmas.List.{length-set}
-use Rattle.jt_value.specs.Tree as tree
 use Rattle.jt_value.specs.Tree.{Tree}
-use Rattle.jt_value.specs.Pairs.{Pairs, look}
+use Rattle.jt_value.specs.Pairs.{Pairs}
 use Rattle.jt_image.specs.declared.instruction.Instruction.{Instruction}
 use Rattle.jt_image.specs.Code.{Name, Section, Code}
 use Rattle.jt_image.specs.IsCode.{IsCode}

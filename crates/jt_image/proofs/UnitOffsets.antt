@@ -138,13 +138,22 @@ instructions_taken n (Ok x) bytes h m =
     (x.1, m.takes.parts ∙ ap (λ (is : List Instruction). flat_map instruction_bytes is ++ x.1) (sym m.is))
 instructions_taken n (Err e) bytes h m = (bytes, refl)
 
+-- The bytes at a unit's offset begin with its instructions.
+pub code_taken : (bytes : List ℕ) (q : UnitOffset) → IsBytes bytes → HasUnit bytes q
+    → (rest : List ℕ) × (drop q.start bytes ≡ flat_map instruction_bytes (section_in bytes q).code ++ rest)
+code_taken bytes q fits h =
+    let code = drop q.start bytes in
+    instructions_taken q.len (instructions_at q.len code) code h.1
+    (many_found (λ _. reading.instruction_at) instruction_bytes good_instruction
+    (λ before bytes fits. instruction_found bytes fits) q.len [] code (IsBytes-drop q.start bytes fits))
+
 module _ (bytes : List ℕ) (p : Offsets) (fits : IsBytes bytes) (h : Spells bytes p) where
   pub constant_stands : (i : ℕ) (o : Option ℕ) → o ≡ slice_get p.constants.items i → ConstantPlace (code_in bytes p) i o
   constant_stands i None e =
       slice_get-map (constant_in bytes) p.constants.items i ∙ ap (option_map (constant_in bytes)) (sym e)
   constant_stands i (Some at) e =
       let here = all_get (HasConstant bytes) p.constants.items i at h.there.constants (sym e) in
-      let taken = constant_taken (constant_at (drop at bytes)) (drop at bytes) here
+      let taken = constant_taken (constant_at (drop at bytes)) (drop at bytes) here.1
       (constant_found (drop at bytes) (IsBytes-drop at bytes fits)) in
       record {
         constant = constant_in bytes at;
@@ -155,11 +164,7 @@ module _ (bytes : List ℕ) (p : Offsets) (fits : IsBytes bytes) (h : Spells byt
 
   unit_stands : (u : ℕ) (q : UnitOffset) → slice_get p.units.items u ≡ Some q → IsUnitAt (code_in bytes p) u q.start
   unit_stands u q e =
-      let code = drop q.start bytes in
-      let here = all_get (HasUnit bytes) p.units.items u q h.there.units e in
-      let taken = instructions_taken q.len (instructions_at q.len code) code here.1
-      (many_found (λ _. reading.instruction_at) instruction_bytes good_instruction
-      (λ before bytes fits. instruction_found bytes fits) q.len [] code (IsBytes-drop q.start bytes fits)) in
+      let taken = code_taken bytes q fits (all_get (HasUnit bytes) p.units.items u q h.there.units e) in
       record {
         section = section_in bytes q;
         is = units_of bytes p.units.items u ∙ ap (option_map (section_in bytes)) e;

@@ -1,6 +1,6 @@
 -- An upgraded image has the spelling of version 2, and the runs of the old image.
-use Rattle.std.proofs.Common.{◌≡◌, ℕ, zero, suc, ◌+◌, ◌*◌, ◌≤◌, List, [], ◌++◌, length, take, drop, replicate}
-use Rattle.std.proofs.Common.{if◌then◌else◌, Option, Some, None, refl, sym, ap, ◌∙◌, arith, append_assoc, rules}
+use Rattle.std.proofs.Common.{◌≡◌, ℕ, zero, suc, ◌+◌, ◌*◌, ◌≤◌, List, [], ◌++◌, length, drop, replicate}
+use Rattle.std.proofs.Common.{Option, Some, None, refl, sym, ap, ◌∙◌, arith, append_assoc, rules}
 use Rattle.std.specs.Prelude.{slice_get}
 use Rattle.std.specs.Option.{option_and_then}
 use Rattle.std.specs.Int.{w16, to_le_bytes}
@@ -18,7 +18,7 @@ use Rattle.jt_image.specs.Places.{place_of, place_at}
 use Rattle.jt_image.specs.Upgrading.{unplaced}
 use Rattle.jt_image.specs.Config as config
 use Rattle.jt_image.specs.Config.{Budget, Outcome, MachineState, Config}
-use Rattle.jt_image.specs.Step.{action, in_tables, strict, wrong, fetch}
+use Rattle.jt_image.specs.Step.{action, in_tables, strict, fetch}
 use Rattle.jt_image.specs.Run.{Next, next_at, next, passed, start, then_goes, after, RunFrom, Run}
 use Rattle.jt_image.proofs.AssembleCorrect.{spelled_len}
 use Rattle.jt_image.proofs.DecodeSound.{code_bytes}
@@ -59,6 +59,14 @@ none_behind k e = ap (λ (v : Version). place_bytes v k.templates k.places) e
 pub behind_start : (k : Code) → k.version ≡ version.One → drop 6 (spelling k) ≡ behind k
 behind_start k e = search (arith, rules, grouped, none_behind, append-nil)
 
+-- The places follow all that follows the version.
+pub tail_spelled : (k : Code) → k.version ≡ version.One
+    → drop 6 (spelling (unplaced k))
+    ≡ drop 6 (spelling k) ++ place_bytes version.Two [] (replicate (total_len k.units) no_loc)
+tail_spelled k e =
+    let z = place_bytes version.Two [] (replicate (total_len k.units) no_loc) in
+    sym (ap (λ (b : List ℕ). b ++ z) (behind_start k e) ∙ grouped k z)
+
 pub unplaced_spelled : (k : Code) → k.version ≡ version.One
     → magic ++ (to_le_bytes w16 2 ++ (drop 6 (spelling k) ++ replicate (2 + 6 * total_len k.units) 0))
     ≡ spelling (unplaced k)
@@ -84,11 +92,11 @@ unplaced_len k e =
 
 -- ---- it is a code
 
-locs_fit : (n : ℕ) → AllByRecursion (IsSourceLoc 0) (replicate n no_loc)
+pub locs_fit : (n : ℕ) → AllByRecursion (IsSourceLoc 0) (replicate n no_loc)
 locs_fit zero = tt
 locs_fit (suc n) = (record { template = omega arith; line = refl }, locs_fit n)
 
-length_replicate : (n : ℕ) → length (replicate n no_loc) ≡ n
+pub length_replicate : (n : ℕ) → length (replicate n no_loc) ≡ n
 length_replicate zero = refl
 length_replicate (suc n) = ap suc (length_replicate n)
 

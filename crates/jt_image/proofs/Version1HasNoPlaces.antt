@@ -1,19 +1,16 @@
 -- No run of an image of version 1 has a fault with a place.
-use Rattle.std.proofs.Common.{◌≡◌, ℕ, zero, suc, ◌+◌, List, [], take, Option, Some, None, refl, ap, ◌∙◌, arith, rules}
-use Rattle.std.specs.Prelude.{slice_get}
-use Rattle.std.specs.Option.{option_and_then}
+use Rattle.std.proofs.Common.{◌≡◌, ℕ, zero, suc, [], Option, Some, None, refl, arith, rules}
 use Rattle.jt_value.specs.Pairs.{Pairs}
 use Rattle.jt_value.specs.declared.fault.Fault.{Fault}
 use Rattle.jt_image.specs.declared.instruction.Instruction.{Instruction}
 use Rattle.jt_image.specs.declared.version.Version.TheVariants as version
-use Rattle.jt_image.specs.Code.{Section, SourceLoc, Code}
-use Rattle.jt_image.specs.IsCode.{total_len, IsCode}
+use Rattle.jt_image.specs.Code.{Section, Code}
+use Rattle.jt_image.specs.IsCode.{IsCode}
 use Rattle.jt_value.specs.Place.{Place}
-use Rattle.jt_image.specs.Places.{place_of, place_at}
+use Rattle.jt_image.specs.Places.{place_at}
 use Rattle.jt_image.specs.Config as config
 use Rattle.jt_image.specs.Config.{Budget, Config}
-use Rattle.jt_image.specs.Step.{strict, cost}
-use Rattle.jt_image.specs.Run.{Next, Ends, spends, placed, next_at, next, start, then_goes, after, RunFrom, Run}
+use Rattle.jt_image.specs.Run.{Next, Ends, placed, next_at, next, start, then_goes, after, RunFrom, Run}
 
 no_place : (k : Code) → k.places ≡ [] → (u p : ℕ) → place_at k u p ≡ None
 no_place k e u p = search (arith, rules)

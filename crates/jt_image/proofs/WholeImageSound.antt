@@ -14,8 +14,8 @@ use Rattle.jt_image.specs.declared.error.ImageError.TheVariants.{BadTable}
 use Rattle.jt_image.specs.Code.{Constant, Name, Section}
 use Rattle.jt_image.specs.Spelling.{name_bytes, constant_bytes, header_bytes}
 use Rattle.jt_image.specs.IsCode.{IsName, Ascend, AreDistinct, IsConstant, IsSection, total_len, max_instructions}
-use Rattle.jt_image.specs.Reading.{◌>>=◌, check, number_at, is_used, follows, last_name, name_at, names_at, constant_at}
-use Rattle.jt_image.specs.Reading.{constants_at, Header, header_total, is_first, header_at, headers_at, sections_at}
+use Rattle.jt_image.specs.Reading.{◌>>=◌, check, number_at, is_used, follows, last_name, name_at, constant_at}
+use Rattle.jt_image.specs.Reading.{Header, header_total, is_first, header_at, headers_at, sections_at}
 use Rattle.jt_image.specs.Reading.{units_at, all_names_at, all_constants_at}
 use Rattle.jt_image.proofs.ReaderParts.{header_total-push}
 use Rattle.jt_image.proofs.DecodeSoundLemmas.{all_map, bind_from, check_all, IsBytes, Takes, Takes-then, Takes-as}

@@ -24,6 +24,14 @@ abbrev pub IsRead : {A : Type 0} → Result (A × List ℕ) ImageError → Type 
 IsRead (Ok x) = Unit {0}
 IsRead (Err e) = ⊥
 
+-- The number of bytes of the magic number and the version. All parts follow them.
+abbrev pub start_len : ℕ
+start_len = 6
+
+-- A part is at the offset.
+abbrev pub IsReadAt : {A : Type 0} → (List ℕ → Result (A × List ℕ) ImageError) → List ℕ → ℕ → Type 0
+IsReadAt reader bytes at = (start_len ≤ at) × IsRead (reader (drop at bytes))
+
 -- A slot and a text, whatever precedes them.
 unfoldable pub bare_name_at : List ℕ → Result (Name × List ℕ) ImageError
 bare_name_at bytes = do
@@ -39,7 +47,7 @@ abbrev pub names_in : List ℕ → List ℕ → List Name
 names_in bytes offsets = map (name_in bytes) offsets
 
 abbrev pub HasName : List ℕ → ℕ → Type 0
-HasName bytes at = IsRead (bare_name_at (drop at bytes))
+HasName bytes at = IsReadAt bare_name_at bytes at
 
 abbrev pub constant_in : List ℕ → ℕ → Constant
 constant_in bytes at = read_or undefined (constant_at (drop at bytes))
@@ -48,7 +56,7 @@ abbrev pub constants_in : List ℕ → List ℕ → List Constant
 constants_in bytes offsets = map (constant_in bytes) offsets
 
 abbrev pub HasConstant : List ℕ → ℕ → Type 0
-HasConstant bytes at = IsRead (constant_at (drop at bytes))
+HasConstant bytes at = IsReadAt constant_at bytes at
 
 -- The first `n` instructions of the bytes.
 abbrev pub instructions_in : ℕ → List ℕ → List Instruction
@@ -70,7 +78,7 @@ sections_in bytes ps = map (section_in bytes) ps
 -- The unit's offset is within the bytes, and all its instructions are read there.
 abbrev pub HasUnit : List ℕ → UnitOffset → Type 0
 HasUnit bytes p =
-    (p.start ≤ length bytes) × (length (instructions_in p.len (drop p.start bytes)) ≡ p.len)
+    ((start_len ≤ p.start) × (p.start ≤ length bytes)) × (length (instructions_in p.len (drop p.start bytes)) ≡ p.len)
 
 -- Each unit has the number of instructions before it.
 abbrev pub AreCounted : ℕ → List UnitOffset → Type 0
@@ -90,7 +98,7 @@ abbrev pub templates_in : List ℕ → List ℕ → List (List ℕ)
 templates_in bytes offsets = map (template_in bytes) offsets
 
 abbrev pub HasTemplate : List ℕ → ℕ → Type 0
-HasTemplate bytes at = IsRead (bare_text_at (drop at bytes))
+HasTemplate bytes at = IsReadAt bare_text_at bytes at
 
 -- The first `n` encoded places of the bytes, for a given number of templates; version 1 has none.
 abbrev pub locs_in : Version → ℕ → ℕ → List ℕ → List SourceLoc
@@ -150,10 +158,11 @@ pub record Spells (bytes : List ℕ) (p : Offsets) : Type 0 where
   pub spelled : bytes ≡ spelling (code_in bytes p)
   pub there : AreThere bytes p
 
--- `rest` is the end of the bytes, and the bytes are within the limit.
+-- `rest` is the end of the bytes, after the magic number and the version, and the bytes are within
+-- the limit.
 pub record AreLast (bytes rest : List ℕ) : Type 0 where
   pub small : length bytes ≤ max_bytes
-  pub within : length rest ≤ length bytes
+  pub within : start_len + length rest ≤ length bytes
   pub are : drop (length bytes - length rest) bytes ≡ rest
 
 -- The state of a reader: each of these offsets has its part, and `rest` is the end of the bytes.

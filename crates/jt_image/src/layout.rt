@@ -25,7 +25,7 @@ use std::alloc::Global;
 const NAMES_START: usize = 10;
 
 // The number of bytes of a count.
-const COUNT_BYTES: usize = 2;
+pub(crate) const COUNT_BYTES: usize = 2;
 
 /// An entry of a table for which an image stores the offset of each entry.
 pub(crate) trait Entry: Spell {
@@ -158,7 +158,6 @@ fn trailer_starts(
 }
 
 /// Returns the offsets of the parts in their spelling, and its length.
-#[tactic(auto, using(crate::proofs::LayoutCorrect::above_refused, crate::proofs::AssembleCorrect::spelled_len))]
 pub(crate) fn laid_out(alloc: Global, parts: &Parts) -> Result<(Offsets, usize), ImageError>
     requires { length parts.now.units.items ≤ max_count }
     ensures laid { IfOk result (λ x. IsLaidOut (code_seen parts.now) x.0) }

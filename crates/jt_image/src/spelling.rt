@@ -250,7 +250,6 @@ fn put_places(out: &mut Vec<u8>, parts: &Parts) -> Result<(), NoMemory>
     }
 }
 
-#[tactic(auto, using(crate::proofs::PartsForAssembly::short_codes))]
 fn put_parts(out: &mut Vec<u8>, parts: &Parts) -> Result<(), NoMemory>
     requires code { IsCode (code_seen parts.now) }
     requires known { AreKnown parts.now.units.items }

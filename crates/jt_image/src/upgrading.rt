@@ -1,5 +1,6 @@
 //! Upgrades images of version 1 to version 2.
-ghost use Rattle.std.specs.Prelude.{◌≡◌, ◌≤◌, ◌*◌, ◌+◌, replicate, IfOk, IfErr};
+ghost use Rattle.std.specs.Prelude.{◌≡◌, ◌≤◌, ◌<◌, ◌*◌, ◌+◌, ℕ, length, replicate, slice_index_or};
+ghost use Rattle.std.specs.Prelude.{IfOk, IfErr};
 ghost use Rattle.jt_value.specs.Pairs.{Pairs};
 ghost use Rattle.jt_image.specs.Config.{Budget, Outcome};
 ghost use Rattle.jt_image.specs.Run.{Run};
@@ -13,8 +14,8 @@ ghost use Rattle.jt_image.specs.declared.version.Version.TheVariants as variant;
 use crate::code::Code;
 use crate::error::ImageError;
 use crate::image::Image;
+use crate::layout::COUNT_BYTES;
 use crate::limits::MAX_BYTES;
-use crate::reading::read;
 use crate::version::Version;
 use jt_value::NoMemory;
 use std::alloc::Global;
@@ -52,18 +53,45 @@ fn put_unplaced(out: &mut Vec<u8>, image: &Image) -> Result<(), NoMemory>
     Ok(())
 }
 
-fn unplaced(alloc: Global, image: &Image) -> Result<Image, ImageError>
+// Returns the spelling of the upgraded image.
+fn spelled(alloc: Global, image: &Image) -> Result<Vec<u8>, ImageError>
     requires { image.now.version ≡ variant.One }
-    ensures is { IfOk result (λ i. i ≡ unplaced image.now) }
+    ensures is { IfOk result (λ v. v.items ≡ spelling (unplaced image.now)) }
+    ensures short { IfOk result (λ v. length v.items ≤ max_bytes) }
     ensures named { IfErr result (λ e. IsNotUpgraded e image.now) }
 {
-    if image.bytes.len() + places_len(image) > MAX_BYTES {
+    let len = image.bytes.len() + places_len(image);
+    if len > MAX_BYTES {
         return Err(ImageError::LimitPassed);
     }
-    let mut bytes = Vec::new(alloc);
+    let mut bytes = Vec::with_capacity(alloc, len)?;
     put_unplaced(&mut bytes, image)?;
-    let offsets = read(alloc, &bytes)?;
-    Ok(Image { bytes, offsets })
+    Ok(bytes)
+}
+
+// Returns the offset of the places that an upgrade adds behind these bytes.
+fn places_behind(bytes: &[u8]) -> u32
+    requires { length bytes.now ≤ max_bytes }
+    ensures at { result ≡ length bytes.now + 2 }
+    ensures bytes { (i : ℕ) → slice_index_or bytes.now i 0 < 256 }
+{
+    (bytes.len() + COUNT_BYTES) as u32
+}
+
+// Returns the upgraded image. In its bytes all parts are where they were, and the places follow.
+fn unplaced(image: Image, bytes: Vec<u8>) -> Image
+    requires version { image.version ≡ variant.One }
+    requires is { bytes.items ≡ spelling (unplaced image) }
+    requires short { length bytes.items ≤ max_bytes }
+    ensures { result ≡ unplaced image }
+{
+    let Image {
+        bytes: old,
+        mut offsets,
+    } = image;
+    offsets.version = Version::Two;
+    offsets.places = places_behind(&old);
+    Image { bytes, offsets }
 }
 
 /// Upgrades an image to version 2. An image of version 1 gets no places, and an image of version 2
@@ -90,6 +118,9 @@ pub fn upgrade(alloc: Global, image: Image) -> Result<Image, (Image, ImageError)
 {
     match image.version() {
         Version::Two => Ok(image),
-        Version::One => unplaced(alloc, &image).map_err(|error| (image, error)),
+        Version::One => match spelled(alloc, &image) {
+            Ok(bytes) => Ok(unplaced(image, bytes)),
+            Err(error) => Err((image, error)),
+        },
     }
 }

@@ -1,23 +1,18 @@
 -- The rules on bodies of blocks, as they are checked one body at a time.
-use Rattle.std.proofs.Common.{◌≡◌, ℕ, zero, suc, ◌+◌, ◌<◌, Bool, true, false, not, cond, ◌&&◌, ◌||◌, List, [], ◌∷◌}
-use Rattle.std.proofs.Common.{◌++◌, length, map, take, drop, get_or, refl, sym, ap, subst, ◌∙◌, arith, rules, Some}
-use Rattle.std.proofs.Math.Bool.{or-false, or_assoc, or_comm}
+use Rattle.jt_inherit.proofs.Vocabulary as words
+use words.{◌≡◌, ℕ, zero, suc, ◌+◌, ◌<◌, Bool, true, false, not, cond, ◌&&◌, ◌||◌, List, [], ◌∷◌, ◌++◌, length, map}
+use words.{take, drop, get_or, refl, sym, ap, ◌∙◌, arith, rules, Some, or-false, or_assoc, or_comm, is_eq-slice_cmp}
+use words.{body_at, macros_along, blocks_along, BlockBody, from_given, named, slice_get, drop_more, map-append}
+use words.{slice_get-get_or, list_any, bytes_eq, Bor, among, repeated, texts, Text, end, option_to_list, templates_at}
+use words.{any_double, Template, blocks_in, lacks_body, lacks_next, block_names, block_view, blocks_view, Block}
+use words.{calls_super, of_texts, reflexive, same, symmetric, among_next, once_more, along, Sources, MacroBody}
+use words.{macros_in, their_blocks, their_macros, their_names, imported_names, along_templates, or_from, or_parts}
+use words.{or_right, take_more}
 use Rattle.std.specs.BTreeSet.{BTreeSet}
 use Rattle.std.specs.Cmp.Lexicographic.{slice_cmp}
 use Rattle.std.specs.Ordering.{nat_cmp, is_eq}
-use Rattle.std.proofs.lemmas.Map.Text.{is_eq-slice_cmp}
-use Rattle.jt_chains.specs.Along.{body_at, macros_along, blocks_along}
-use Rattle.jt_chains.specs.Chain.{BlockBody, from_given}
-use Rattle.jt_inherit.specs.internal.RuleTests.{named}
 use Rattle.jt_chains.specs.Parts.{name_at, macros_view}
 use Rattle.jt_chains.specs.Rules.{is_required, lacks_super, is_empty}
-use Rattle.jt_inherit.proofs.Vocabulary.{slice_get, unwrap_or, option_map, drop_more, map-append, slice_get-get_or}
-use Rattle.jt_inherit.proofs.Vocabulary.{list_any, bytes_eq, Bor, among, repeated, texts, Text, end, option_to_list}
-use Rattle.jt_inherit.proofs.Vocabulary.{templates_at, any_double, Template, blocks_in, lacks_body, lacks_next}
-use Rattle.jt_inherit.proofs.Vocabulary.{block_names, block_view, blocks_view, Block, calls_super, of_texts, reflexive}
-use Rattle.jt_inherit.proofs.Vocabulary.{same, symmetric, among_next, once_more, along, Sources, MacroBody, macros_in}
-use Rattle.jt_inherit.proofs.Vocabulary.{their_blocks, their_macros, their_names, imported_names, along_templates}
-use Rattle.jt_inherit.proofs.Vocabulary.{or_from, or_parts, or_right, take_more}
 use Rattle.jt_chains.specs.declared.parts.Macro.{Macro}
 use Rattle.std.specs.BTreeSet as set
 
@@ -79,7 +74,7 @@ any_none p h (x ∷ xs) = or_from _ _ (h x) (any_none p h xs)
 
 any_here : {X : Type 0} (p : X → Bool) (xs : List X) (x : X) (ys : List X) → p x ≡ true
     → list_any p (xs ++ x ∷ ys) ≡ true
-any_here p [] x ys h = ap (λ b. b || list_any p ys) h
+any_here p [] x ys h = rw h
 any_here p (y ∷ xs) x ys h = or_right _ _ (any_here p xs x ys h)
 
 pub all_given : (bs : List BlockBody) → AreGiven bs → lacks_body bs ≡ false
@@ -125,7 +120,7 @@ none_next bs b cs n h = search (arith, rules, none_behind, reflexive, any_here, 
 pub parted : {X : Type 0} (xs : List X) (i : ℕ) (x : X) → i < length xs → x ≡ get_or xs i x
     → (rest : List X) × (xs ≡ take i xs ++ x ∷ rest)
 parted [] i x lt is = absurd (omega arith)
-parted (y ∷ ys) zero x lt is = (ys, ap (λ z. z ∷ ys) (sym is))
+parted (y ∷ ys) zero x lt is = (ys, rw (← is))
 parted (y ∷ ys) (suc i) x lt is = search (arith, rules, parted ys i x)
 
 pub take_next : {X : Type 0} (xs : List X) (i : ℕ) (x : X) → i < length xs → x ≡ get_or xs i x
@@ -135,8 +130,7 @@ take_next xs i x lt is = take_more xs i x lt ∙ ap (λ y. take i xs ++ y ∷ []
 pub among_snoc : (l : List Text) (n y : Text) → among y (l ++ n ∷ []) ≡ (among y l || bytes_eq n y)
 among_snoc [] n y = or-false (bytes_eq n y)
 among_snoc (z ∷ l) n y =
-    ap (λ c. bytes_eq z y || c) (among_snoc l n y)
-    ∙ sym (or_assoc (bytes_eq z y) (among y l) (bytes_eq n y))
+    rw (among_snoc l n y) (sym (or_assoc (bytes_eq z y) (among y l) (bytes_eq n y)))
 
 -- A set after the insertion of a name.
 pub among_set : (ks ms pre : List Text) (n : Text) → ((y : Text) → among y ks ≡ among y pre)
@@ -164,7 +158,7 @@ module _ {X : Type 0} (f : X → Text) (xs : List X) (i : ℕ) (x : X) (lt : i <
 
 pub names_seen : (ts : List Template) (xs : List Block) → names_of (blocks_view ts xs) ≡ block_names xs
 names_seen ts [] = refl
-names_seen ts (x ∷ xs) = ap (λ l. x.name.now ∷ l) (names_seen ts xs)
+names_seen ts (x ∷ xs) = rw (names_seen ts xs)
 
 module _ (ts : List Template) (xs : List Block) (i : ℕ) (x : Block) (lt : i < length xs) (is : x ≡ get_or xs i x) where
   pub body_lacking : (ks : List Text) → ((y : Text) → among y ks ≡ among y (block_names (take i xs)))
@@ -179,8 +173,7 @@ module _ (ts : List Template) (xs : List Block) (i : ℕ) (x : Block) (lt : i < 
       ap (blocks_view ts) (take_next xs i x lt is) ∙ map-append (block_view ts) (take i xs) (x ∷ []) in
       let n : among x.name.now (names_of (blocks_view ts (take i xs))) ≡ among x.name.now ks =
       ap (among x.name.now) (names_seen ts _) ∙ sym (h x.name.now) in
-      subst AreGiven (sym e)
-      (given_more _ _ g (ap (λ c. not c && x.required) n ∙ off))
+      rw e (given_more _ _ g (rw n off))
 
 pub not_not : (b : Bool) → not (not b) ≡ b
 not_not true = refl
@@ -207,14 +200,12 @@ module _ (e : Bool) (ts : List Template) (is : List ℕ) (k : ℕ) (lt : k < len
       let t = get_or ts i nothing in
       let at : slice_get ts i ≡ Some t = slice_get-get_or ts i nothing within in
       let found : blocks_in (name_at ts i) (body_at ts i) e ≡ blocks_in t.name t.body e =
-      ap (λ o. blocks_in (unwrap_or (option_map (λ (u : Template). u.name) o) [])
-      (unwrap_or (option_map (λ (u : Template). u.body) o) end) e) at in
+      rw at in
       let twice : repeated (map (λ (x : BlockBody). x.name) (blocks_in t.name t.body e)) ≡ b =
-      ap (λ l. repeated (names_of l)) (sym found) ∙ ap (λ l. repeated (names_of l)) (sym seen)
-      ∙ ap repeated (names_seen ts xs) ∙ sym told in
-      ap (λ l. any_double e (templates_at ts l)) (drop_more is k 0 lt)
-      ∙ ap (λ o. any_double e (option_to_list o ++ templates_at ts (drop (k + 1) is))) at
-      ∙ ap (λ c. c || any_double e (templates_at ts (drop (k + 1) is))) twice
+      rw (← found) (ap (λ l. repeated (names_of l)) (sym seen)
+      ∙ ap repeated (names_seen ts xs) ∙ sym told) in
+      rw (drop_more is k 0 lt) (ap (λ o. any_double e (option_to_list o ++ templates_at ts (drop (k + 1) is))) at
+      ∙ ap (λ c. c || any_double e (templates_at ts (drop (k + 1) is))) twice)
 
   pub double_found : b ≡ true → any_double e (templates_at ts (drop k is)) ≡ true
   double_found h = double_left ∙ ap (λ c. c || any_double e (templates_at ts (drop (k + 1) is))) h
@@ -231,7 +222,7 @@ next_lacking ts qs b rest h = search (arith, rules, map-append, none_next)
 macros_seen : (ts : List Template) (ms : List Macro)
     → map (λ (m : MacroBody). m.name) (macros_view ts ms) ≡ map (λ m. m.name.now) ms
 macros_seen ts [] = refl
-macros_seen ts (m ∷ ms) = ap (λ l. m.name.now ∷ l) (macros_seen ts ms)
+macros_seen ts (m ∷ ms) = rw (macros_seen ts ms)
 
 -- The names of macros, followed by the names that imports bind.
 pub names_found : (s : Sources) (ts us : List Template) (is : List ℕ) → map (slice_get ts) is ≡ map Some us

@@ -1,28 +1,20 @@
 -- The chains and libraries that an entry reaches: all of them are followed and checked, and each
 -- comes before those that it leads to.
-use Rattle.std.proofs.Common.{◌≡◌, ◌≢◌, ◌↔◌, ℕ, zero, suc, ◌+◌, ◌*◌, ◌<◌, ◌≤◌, ◌==◌, true, false, not, ◌&&◌, nat_lt}
-use Rattle.std.proofs.Common.{List, [], ◌∷◌, length, map, refl, sym, ap, subst, ◌∙◌, arith, inl, inr, ◌⊎◌, ⊎_elim, Some}
-use Rattle.std.proofs.Common.{None, Vec, Global, get_or, rules}
-use Rattle.jt_inherit.proofs.Vocabulary.{names, slice_get_within, length-map, append-nil, map-map, slice_get, unwrap_or}
-use Rattle.jt_inherit.proofs.Vocabulary.{AllByRecursion, list_any, is_none, cases_lt, nat_tests, Graph, next_of}
-use Rattle.jt_inherit.proofs.Vocabulary.{graph_of, Options, among, repeated, Text, AreIndices, templates_at}
-use Rattle.jt_inherit.proofs.Vocabulary.{needs_along, Namespace, a_chain, listed, is_a_library, Template, templates}
-use Rattle.jt_inherit.proofs.Vocabulary.{sources_in, SourceTexts, IsChain, lacks_body, lacks_next, chains_of, AreFound}
-use Rattle.jt_inherit.proofs.Vocabulary.{IsFound, found_templates, found_namespaces, root_of, IsFollowed, AreFollowed}
-use Rattle.jt_inherit.proofs.Vocabulary.{IsMet, found_paths, listed_at, listed_view, included, InOrder, KeepAll}
-use Rattle.jt_inherit.proofs.Vocabulary.{BreakOne, their_blocks, their_names, any_double, any_lacks_macros, IsName}
-use Rattle.jt_inherit.proofs.Vocabulary.{Need, needed, namespace_at, IsFinding, Breaks, ChainFinding, Asks, Reaches}
-use Rattle.jt_inherit.proofs.Vocabulary.{asked, is_whole, KeepsRules, templates_weight, chains_weight, templates_len}
-use Rattle.jt_inherit.proofs.Vocabulary.{chains_len, Seen, AreKnown, IsExtendsPath, Discovery, ChainError, map_at}
-use Rattle.jt_inherit.proofs.Vocabulary.{of_texts, same, chain_among, of_namespaces, among_cases, no_more}
-use Rattle.jt_inherit.proofs.Vocabulary.{indexed_among, and_from, and_right, both_ways, list_any-append, not-true}
-use Rattle.jt_inherit.proofs.Vocabulary.{or_from, or_right}
-use Rattle.jt_graph.specs.Graph.{IsClosed, IsOrder}
+use Rattle.jt_inherit.proofs.Vocabulary as words
+use words.{◌≡◌, ◌≢◌, ◌↔◌, ℕ, zero, suc, ◌+◌, ◌*◌, ◌<◌, ◌≤◌, ◌==◌, true, false, not, ◌&&◌, List, [], ◌∷◌, length, map}
+use words.{refl, sym, ap, subst, ◌∙◌, arith, inl, inr, ◌⊎◌, ⊎_elim, Some, None, Vec, Global, get_or, rules, names}
+use words.{slice_get_within, length-map, append-nil, map-map, slice_get, AllByRecursion, list_any, is_none, cases_lt}
+use words.{nat_tests, Graph, next_of, graph_of, Options, among, repeated, Text, AreIndices, templates_at, needs_along}
+use words.{Namespace, a_chain, listed, is_a_library, Template, templates, sources_in, SourceTexts, IsChain, lacks_body}
+use words.{lacks_next, chains_of, AreFound, IsFound, found_templates, found_namespaces, root_of, IsFollowed}
+use words.{AreFollowed, IsMet, found_paths, listed_view, included, InOrder, KeepAll, BreakOne, their_blocks}
+use words.{their_names, any_double, any_lacks_macros, IsName, Need, needed, namespace_at, IsFinding, Breaks}
+use words.{ChainFinding, Asks, Reaches, asked, is_whole, KeepsRules, templates_weight, chains_weight, templates_len}
+use words.{chains_len, Seen, AreKnown, IsExtendsPath, Discovery, ChainError, map_at, of_texts, same, chain_among}
+use words.{of_namespaces, among_cases, no_more, indexed_among, and_from, and_right, both_ways, list_any-append}
+use words.{not-true, or_from, or_right, IsClosed, IsOrder, IsDone, begins_with_chain, namespace_view, AreWhole, FindsAt}
+use words.{given_templates}
 use Rattle.jt_chains.specs.Chain.{given as given_in}
-use Rattle.jt_inherit.specs.internal.Found.{AllKeep, IsDone}
-use Rattle.jt_chains.specs.Includes.{begins_with_chain}
-use Rattle.jt_chains.specs.TemplateFiles.{namespace_view, AreWhole}
-use Rattle.jt_inherit.specs.internal.Breaking.{FindsAt}
 use Rattle.jt_inherit.proofs.FindingsHold.{rule_bare, rule_said}
 use Rattle.jt_inherit.proofs.RulesCarryOver.{given_names}
 use Rattle.jt_inherit.proofs.TreeWeights.{few_chains, all_weigh}
@@ -33,7 +25,6 @@ use Rattle.jt_inherit.proofs.PathsGrow.{shows, few_templates, all_at_indices, to
 use Rattle.jt_inherit.proofs.PathsGrow.{have_sources, all_among, repeated_up, weigh, names_indexed}
 use Rattle.jt_inherit.proofs.TopologicalOrder.{namespace_among, number_of, names_in_order, reached_in_order, no_cycle}
 use Rattle.jt_inherit.proofs.TopologicalOrder.{first_in_order, named_among}
-use Rattle.jt_chains.proofs.TemplatesByIndex.{given_templates}
 use Rattle.jt_graph.specs.Graph as graph
 use Rattle.jt_inherit.specs.declared.error.ChainError.TheVariants as error
 use Rattle.jt_chains.specs.declared.chain.Namespace as linked
@@ -109,9 +100,7 @@ module _ {given : SourceTexts} {options : Options} {ts : List Template}
   is_one =
       let us = templates_at ts is in
       let s = sources_in ts in
-      subst (λ xs. (not (repeated xs) && (nat_lt (length xs) 65 && not (list_any (λ n. is_none (s n)) xs))) ≡ true)
-      (sym (way_names options.autoescape w))
-      (and_from _ _ (ap not w.once)
+      rw (way_names options.autoescape w) (and_from _ _ (ap not w.once)
       (and_from _ _
       (few_names _
       (omega (arith, few_way options.autoescape w, length-map us (λ (t : Template). t.name))))
@@ -129,20 +118,20 @@ module _ {given : SourceTexts} {options : Options} {ts : List Template}
   pub one_breaks : (root : Text) → Reaches (sources_in ts) options.autoescape (a_chain root) h → (e : ChainError)
       → BreakOne (sources_in ts) options.autoescape (templates_at ts is) e → Breaks e given root options
   one_breaks root r error.DoubleBlock b =
-      shows known (h, r, subst (λ us. any_double options.autoescape us ≡ true) (sym (whole_path w)) b)
+      shows known (h, r, rw (whole_path w) b)
   one_breaks root r error.RequiredNotGiven b =
       shows known (
         h,
         r,
         and_from _ _ is_one
-            (subst (λ us. lacks_body (their_blocks options.autoescape us) ≡ true) (sym (whole_path w)) b),
+            (rw (whole_path w) b),
       )
   one_breaks root r error.NoSuper b =
       shows known (
         h,
         r,
         and_from _ _ is_one
-            (subst (λ us. lacks_next (their_blocks options.autoescape us) ≡ true) (sym (whole_path w)) b),
+            (rw (whole_path w) b),
       )
   one_breaks root r error.MacroTwice b =
       search (arith, rules, shows, and_from, is_whole, sources_in, repeated, is_one, names_told)
@@ -191,7 +180,7 @@ module _ {given : SourceTexts} {options : Options} {entry : Text} {ts : List Tem
   some = slice_get_within hs 0 (a_chain entry) f.first
 
   first_namespace : namespace_at hs 0 ≡ a_chain entry
-  first_namespace = ap (λ o. unwrap_or o (a_chain [])) f.first
+  first_namespace = rw f.first
 
   includes_next : (i : ℕ) → i < length hs
       → map (slice_get hs) (next_of ns i) ≡ map Some (included (sources_in ts) (namespace_at hs i))
@@ -222,18 +211,30 @@ module _ {given : SourceTexts} {options : Options} {entry : Text} {ts : List Tem
   -- ---- the order of namespaces
 
   module _ (kept : AllByRecursion (λ w. KeepAll (sources_in ts) options.autoescape (templates_at ts w)) ws)
-      {is : List ℕ} (o : IsOrder ns is) where
+      {is : List ℕ} (o : IsOrder ns is) (namespaces : List linked.Namespace)
+      (made : map listed_view namespaces ≡ map (λ i. (namespace_at hs i, next_of ws i)) is) where
+    abbrev pub its_order : List Namespace
+    its_order = map namespace_view namespaces
+
+    named : its_order ≡ map (namespace_at hs) is
+    named =
+        sym (map-map (λ q. q.0) listed_view namespaces) ∙ ap (map (λ q. q.0)) made
+        ∙ map-map (λ q. q.0) (λ i. (namespace_at hs i, next_of ws i)) is
+
     within : AllByRecursion (λ i. i < length hs) is
-    within = subst (λ n. AllByRecursion (λ i. i < n) is) lens o.within
+    within = rw (← lens) o.within
 
-    pub in_order : InOrder (sources_in ts) (map (namespace_at hs) is)
-    in_order = names_in_order _ hs ns is f.once within includes_next o.ordered
+    pub in_order : InOrder (sources_in ts) its_order
+    in_order = rw named (names_in_order _ hs ns is f.once within includes_next o.ordered)
 
-    entry_in : listed (a_chain entry) (map (namespace_at hs) is) ≡ true
-    entry_in = search (arith, rules, listed, namespace_at, first_namespace, named_among, lens, some)
+    entry_in : listed (a_chain entry) its_order ≡ true
+    entry_in =
+        ap (listed (a_chain entry)) named
+        ∙ ap (λ h. listed h (map (namespace_at hs) is)) (sym first_namespace)
+        ∙ named_among hs 0 is (o.all 0 (omega (arith, lens, some)))
 
-    in_namespaces : (x : Namespace) → listed x (map (namespace_at hs) is) ≡ true → listed x hs ≡ true
-    in_namespaces x a = from is within a
+    in_namespaces : (x : Namespace) → listed x its_order ≡ true → listed x hs ≡ true
+    in_namespaces x a = from is within (sym (ap (listed x) named) ∙ a)
       where
         from : (js : List ℕ) → AllByRecursion (λ i. i < length hs) js → listed x (map (namespace_at hs) js) ≡ true
             → listed x hs ≡ true
@@ -241,7 +242,7 @@ module _ {given : SourceTexts} {options : Options} {entry : Text} {ts : List Tem
         from (j ∷ js) w a = search (arith, rules, from js w.1, namespace_among)
 
     ordered : {h : Namespace} → Reaches (sources_in ts) options.autoescape (a_chain entry) h
-        → listed h (map (namespace_at hs) is) ≡ true
+        → listed h its_order ≡ true
     ordered r = reached_in_order _ _ _ in_order r entry_in
 
     -- The path of a namespace.
@@ -325,7 +326,7 @@ module _ {given : SourceTexts} {options : Options} {entry : Text} {ts : List Tem
     }
 
     abbrev pub chain : Seen
-    chain = record { templates = ts; order = map (namespace_at hs) is; escaping = options.autoescape }
+    chain = record { templates = ts; order = its_order; escaping = options.autoescape }
 
     -- A requested name is read, or it has no source.
     complete : (n : Text) → Asks (sources_in ts) options.autoescape (a_chain entry) n
@@ -350,22 +351,22 @@ module _ {given : SourceTexts} {options : Options} {entry : Text} {ts : List Tem
         → (among n (names ts) ≡ true) ↔ (Asks (sources_in ts) options.autoescape (a_chain entry) n × (given n ≢ None))
     templates_asked n = search (arith, rules, none_read, complete)
 
-    pub begins : (rest : List Namespace) × (map (namespace_at hs) is ≡ a_chain entry ∷ rest)
-    begins = from is in_order entry_in within
+    pub begins : (rest : List Namespace) × (its_order ≡ a_chain entry ∷ rest)
+    begins = from its_order in_order entry_in in_namespaces
       where
-        from : (js : List ℕ) → InOrder (sources_in ts) (map (namespace_at hs) js)
-            → listed (a_chain entry) (map (namespace_at hs) js) ≡ true → AllByRecursion (λ i. i < length hs) js
-            → (rest : List Namespace) × (map (namespace_at hs) js ≡ a_chain entry ∷ rest)
+        from : (os : List Namespace) → InOrder (sources_in ts) os → listed (a_chain entry) os ≡ true
+            → ((x : Namespace) → listed x os ≡ true → listed x hs ≡ true)
+            → (rest : List Namespace) × (os ≡ a_chain entry ∷ rest)
         from [] p a w = absurd (cc)
-        from (j ∷ js) p a w =
-            let e = first_in_order _ _ _ _
-            _ p a (reached (namespace_at hs j) (namespace_among hs j w.0)) in
-            (map (namespace_at hs) js, ap (λ x. x ∷ map (namespace_at hs) js) e)
+        from (x ∷ os) p a w =
+            let here = reached x (w x (indexed_among of_namespaces (x ∷ os) 0 x refl)) in
+            (os, rw (first_in_order _ _ x os _ p a here))
 
-    all_reached : (js : List ℕ) → AllByRecursion (λ i. i < length hs) js
-        → AllByRecursion (λ h. Reaches (sources_in ts) options.autoescape (a_chain entry) h) (map (namespace_at hs) js)
+    all_reached : (os : List Namespace) → ((x : Namespace) → listed x os ≡ true → listed x hs ≡ true)
+        → AllByRecursion (λ h. Reaches (sources_in ts) options.autoescape (a_chain entry) h) os
     all_reached [] w = tt
-    all_reached (j ∷ js) w = (reached (namespace_at hs j) (namespace_among hs j w.0), all_reached js w.1)
+    all_reached (x ∷ os) w =
+        (reached x (w x (indexed_among of_namespaces (x ∷ os) 0 x refl)), all_reached os (λ z a. w z (or_right _ _ a)))
 
     pub chained : IsChain given entry options chain
     chained = record {
@@ -374,7 +375,7 @@ module _ {given : SourceTexts} {options : Options} {entry : Text} {ts : List Tem
       asked = templates_asked;
       included = begins.0;
       begins = begins.1;
-      reached = all_reached is within;
+      reached = all_reached its_order in_namespaces;
       order = in_order;
       rules = keeps;
     }
@@ -384,103 +385,53 @@ module _ {given : SourceTexts} {options : Options} {entry : Text} {ts : List Tem
         → templates_weight (templates (sources_in ts) h) ≤ templates_len given (templates (sources_in ts) h)
     one_weighs h a = search (arith, rules, way_of, whole_path, weigh, all_at_indices, within)
 
-    pub weighs : chains_weight (sources_in ts) (map (namespace_at hs) is)
-        ≤ chains_len given (sources_in ts) (map (namespace_at hs) is)
+    pub weighs : chains_weight (sources_in ts) its_order ≤ chains_len given (sources_in ts) its_order
     weighs =
-        let b = begins in
-        subst (λ os. chains_weight (sources_in ts) os ≤ chains_len given (sources_in ts) os) (sym b.1)
-        (all_weigh given (sources_in ts) options.autoescape entry b.0 (subst (InOrder (sources_in ts)) b.1 in_order)
-        (λ h a. one_weighs h (in_namespaces h (subst (λ os. listed h os ≡ true) (sym b.1) a)))
-        (λ h a. reached h (in_namespaces h (subst (λ os. listed h os ≡ true) (sym b.1) a))))
+        all_weigh given (sources_in ts) options.autoescape entry its_order in_order entry_in
+        (λ h a. one_weighs h (in_namespaces h a)) (λ h a. reached h (in_namespaces h a))
 
-    pub few_namespaces : 7 * length (map (namespace_at hs) is)
-        ≤ chains_weight (sources_in ts) (map (namespace_at hs) is) + 7
-    few_namespaces =
-        let b = begins in
-        subst (λ os. 7 * length os ≤ chains_weight (sources_in ts) os + 7) (sym b.1)
-        (few_chains _ _ _ b.0
-        (subst (InOrder (sources_in ts)) b.1 in_order)
-        (λ h a. reached h (in_namespaces h (subst (λ os. listed h os ≡ true) (sym b.1) a))))
+    pub few_namespaces : 7 * length its_order ≤ chains_weight (sources_in ts) its_order + 7
+    few_namespaces = few_chains _ _ _ its_order in_order entry_in (λ h a. reached h (in_namespaces h a))
 
-    pub some_namespaces : 0 < length is
-    some_namespaces = from is (o.all 0 (omega (arith, lens, some)))
-      where
-        from : (js : List ℕ) → graph.among 0 js ≡ true → 0 < length js
-        from [] a = absurd (cc)
-        from (j ∷ js) a = omega arith
+    pub some_namespaces : 0 < length namespaces
+    some_namespaces = omega (arith, ap length begins.1, length-map namespaces namespace_view)
 
-    whole_along : (js : List ℕ) (namespaces : List linked.Namespace) → AllByRecursion (λ i. i < length hs) js
-        → map listed_view namespaces ≡ map (λ i. (namespace_at hs i, next_of ws i)) js → AreWhole ts namespaces
+    pub begins_chain : begins_with_chain its_order ≡ true
+    begins_chain = ap begins_with_chain begins.1
+
+    whole_along : (js : List ℕ) (ks : List linked.Namespace) → AllByRecursion (λ i. i < length hs) js
+        → map listed_view ks ≡ map (λ i. (namespace_at hs i, next_of ws i)) js → AreWhole ts ks
     whole_along [] [] w a = tt
-    whole_along [] (k ∷ namespaces) w a = absurd (cc)
+    whole_along [] (k ∷ ks) w a = absurd (cc)
     whole_along (j ∷ js) [] w a = absurd (cc)
-    whole_along (j ∷ js) (k ∷ namespaces) w a =
-        search (arith, rules, number, names_indexed, indexed_templates, whole_path, whole_along js namespaces w.1)
+    whole_along (j ∷ js) (k ∷ ks) w a =
+        search (arith, rules, number, names_indexed, indexed_templates, whole_path, whole_along js ks w.1)
+
+    pub all_whole : AreWhole ts namespaces
+    all_whole = whole_along is namespaces within made
 
 -- A search whose paths are those of all chains and libraries is done.
 pub search_done : {given : SourceTexts} {options : Options} {entry : Text} (f : Discovery) → root_of f ≡ entry
     → IsFound given options f → length (found_paths f) ≡ length (found_namespaces f) → IsDone given options entry f
 search_done {given} {options} {entry} f root is all =
     let found : AreFound given options entry (found_templates f) (found_namespaces f) (found_paths f)
-    (graph_of f.next.items) = subst (λ z. AreFound given options z (found_templates f) (found_namespaces f)
-    (found_paths f) (graph_of f.next.items)) root is in
+    (graph_of f.next.items) = rw (← root) is in
     record {
       found = found;
-      indices =
-          ways_indexed given _ _ _
-          _ is.followed;
-      paths = sym (length-map f.extends_paths.items (λ (v : Vec ℕ Global). v.items)) ∙ all;
-      next = sym (length-map f.next.items (λ (v : Vec ℕ Global). v.items)) ∙ lens found all;
-      closed = closed found all;
+      all = record {
+        indices = ways_indexed given _ _ _ _ is.followed;
+        paths = sym (length-map f.extends_paths.items (λ (v : Vec ℕ Global). v.items)) ∙ all;
+        next = sym (length-map f.next.items (λ (v : Vec ℕ Global). v.items)) ∙ lens found all;
+        closed = closed found all;
+      };
     }
 
 -- A search from an entry that is done, with the chain of an order of its numbers.
 module _ {given : SourceTexts} {options : Options} {entry : Text} {f : Discovery}
     (d : IsDone given options entry f) where
   pub all : length (found_paths f) ≡ length (found_namespaces f)
-  all = length-map f.extends_paths.items (λ (v : Vec ℕ Global). v.items) ∙ d.paths
+  all = length-map f.extends_paths.items (λ (v : Vec ℕ Global). v.items) ∙ d.all.paths
 
   pub its_findings : (x : ChainFinding) → FindsAt options.autoescape (found_templates f) (found_paths f) x
       → IsFinding given entry options x
   its_findings = chain_finds d.found all
-
-  module _ (kept : AllKeep options.autoescape f) {is : List ℕ} (o : IsOrder (graph_of f.next.items) is)
-      (namespaces : List linked.Namespace) (made : map listed_view namespaces ≡ map (listed_at f) is) where
-    named : map namespace_view namespaces ≡ map (namespace_at (found_namespaces f)) is
-    named =
-        sym (map-map (λ q. q.0) listed_view namespaces) ∙ ap (map (λ q. q.0)) made
-        ∙ map-map (λ q. q.0) (listed_at f) is
-
-    pub its_some : 0 < length namespaces
-    its_some =
-        omega (
-          arith,
-          ap length made,
-          length-map namespaces listed_view,
-          length-map is (listed_at f),
-          some_namespaces d.found all kept o,
-        )
-
-    pub its_begins : begins_with_chain (map namespace_view namespaces) ≡ true
-    its_begins = ap begins_with_chain (named ∙ (begins d.found all kept o).1)
-
-    pub its_order : InOrder (sources_in (found_templates f)) (map namespace_view namespaces)
-    its_order = subst (InOrder (sources_in (found_templates f))) (sym named) (in_order d.found all kept o)
-
-    pub its_whole : AreWhole (found_templates f) namespaces
-    its_whole = whole_along d.found all kept o is namespaces (within d.found all kept o) made
-
-    pub its_chain : IsChain given entry options (record {
-      templates = found_templates f;
-      order = map namespace_view namespaces;
-      escaping = options.autoescape;
-    })
-    its_chain = search (arith, rules, named, chained, all)
-
-    pub its_weight : chains_weight (sources_in (found_templates f)) (map namespace_view namespaces)
-        ≤ chains_len given (sources_in (found_templates f)) (map namespace_view namespaces)
-    its_weight = search (arith, rules, chains_weight, sources_in, found_templates, chains_len, named, weighs, all)
-
-    pub its_count : 7 * length (map namespace_view namespaces)
-        ≤ chains_weight (sources_in (found_templates f)) (map namespace_view namespaces) + 7
-    its_count = search (arith, rules, chains_weight, sources_in, found_templates, named, few_namespaces, all)

@@ -1,16 +1,13 @@
 -- An entry has one chain, up to the order of its parts, and none if a rule is broken. The rule is broken in each
 -- reading.
-use Rattle.std.proofs.Common.{◌≡◌, ◌≢◌, ◌↔◌, Bool, true, false, List, [], ◌∷◌, refl, sym, ap, subst, ◌∙◌, ⊎_elim}
-use Rattle.std.proofs.Common.{Option, Some, None, string_bytes, arith, rules}
-use Rattle.jt_chains.specs.View.{sources_of}
-use Rattle.jt_inherit.proofs.Vocabulary.{AllByRecursion, list_any, is_some, is_none, Options, among, Text, Body}
-use Rattle.jt_inherit.proofs.Vocabulary.{Sources, a_chain, Template, sources_in, SourceTexts, IsTree, IsRead, IsOnly}
-use Rattle.jt_inherit.proofs.Vocabulary.{IsChain, Breaks, Shows, HasFault, IsUncut, IsUnspelled, Asks, here, asked}
-use Rattle.jt_inherit.proofs.Vocabulary.{KeepsRules, Seen, ChainError, same, or_right, names, repeated, Namespace}
-use Rattle.jt_inherit.proofs.Vocabulary.{names_up}
+use Rattle.jt_inherit.proofs.Vocabulary as words
+use words.{◌≡◌, ◌≢◌, ◌↔◌, Bool, true, false, List, [], ◌∷◌, refl, sym, ap, subst, ◌∙◌, ⊎_elim, Option, Some, None}
+use words.{string_bytes, arith, rules, sources_of, AllByRecursion, list_any, is_some, is_none, Options, among, Text}
+use words.{Body, Sources, a_chain, Template, sources_in, SourceTexts, IsTree, IsRead, IsOnly, IsChain, Breaks, Shows}
+use words.{HasFault, IsUncut, IsUnspelled, Asks, here, asked, KeepsRules, Seen, ChainError, same, or_right, names}
+use words.{repeated, Namespace, names_up, IsMissing}
 use Rattle.jt_inherit.proofs.DiscoveryInvariant.{some_source}
-use Rattle.jt_inherit.proofs.PathsGrow.{asks_more, asked_more, reaches_more, names_more}
-use Rattle.jt_inherit.specs.Refusals.{IsMissing}
+use Rattle.jt_inherit.proofs.PathsGrow.{asks_more, asked_more, reaches_more, continues}
 use Rattle.jt_inherit.specs.Laws.{IsReading, IsLasting, RefusalLaws}
 use Rattle.jt_inherit.proofs.RulesCarryOver.{repeated_front}
 use Rattle.jt_inherit.specs.declared.error.ChainError.TheVariants as error
@@ -37,6 +34,12 @@ named_source ts n a = by (sources_in ts n) refl (some_source ts n ∙ a)
 source_named : (ts : List Template) (n : Text) (b : Body) → sources_in ts n ≡ Some b → among n (names ts) ≡ true
 source_named ts n b e = sym (some_source ts n) ∙ ap is_some e
 
+-- If the first rule is broken, the second one is when more is read.
+abbrev IsCarried : (Sources → Bool → Namespace → Type 0) → (Sources → Bool → Namespace → Type 0) → Type 0
+IsCarried Rule Broken =
+    (s r : Sources) (e : Bool) (entry : Namespace)
+    → ((n : Text) (b : Body) → Asks r e entry n → s n ≡ Some b → r n ≡ Some b) → Rule s e entry → Broken r e entry
+
 module _ (given : SourceTexts) (options : Options) where
   has_source : (ts : List Template) (n : Text) (b : Body) → AllByRecursion (IsRead given options) ts
       → sources_in ts n ≡ Some b → given n ≢ None
@@ -46,12 +49,10 @@ module _ (given : SourceTexts) (options : Options) where
     d_asked : (n : Text) → (among n (names d.templates) ≡ true) ↔
         (Asks (sources_of d) options.autoescape (a_chain entry) n × (given n ≢ None))
     d_asked =
-        subst (λ e. (n : Text)
-        → (among n (names d.templates) ≡ true) ↔ (Asks (sources_of d) e (a_chain entry) n × (given n ≢ None)))
-        is.escaping is.asked
+        rw (← is.escaping) is.asked
 
     d_keeps : KeepsRules (sources_of d) options.autoescape (a_chain entry)
-    d_keeps = subst (λ e. KeepsRules (sources_of d) e (a_chain entry)) is.escaping is.rules
+    d_keeps = rw (← is.escaping) is.rules
 
     -- A requested name that was read in the only way has the same tree in the chain.
     module _ (ts : List Template) (read : AllByRecursion (IsRead given options) ts)
@@ -66,12 +67,13 @@ module _ (given : SourceTexts) (options : Options) where
 
     -- ---- a broken rule
 
-    -- A property that the templates read so far show holds of the chain.
-    shown : {P : Sources → Type 0} → Shows given options P → ((s : Sources)
-        → ((n : Text) (b : Body) → Asks (sources_of d) options.autoescape (a_chain entry) n → s n ≡ Some b
-        → sources_of d n ≡ Some b) → P s → ⊥)
-        → ⊥
-    shown x none = none (sources_in x.templates) (into x.templates x.read.each x.only) x.holds
+    -- A rule that the templates read so far break is broken by the chain, which keeps its rules.
+    refuted : {Rule Broken : Sources → Bool → Namespace → Type 0} → IsCarried Rule Broken
+        → (Broken (sources_of d) options.autoescape (a_chain entry) → ⊥)
+        → Shows given options (λ s. Rule s options.autoescape (a_chain entry)) → ⊥
+    refuted carry none x =
+        none (carry (sources_in x.templates) (sources_of d) options.autoescape (a_chain entry)
+        (into x.templates x.read.each x.only) x.holds)
 
     -- A requested name has a tree or no source.
     no_fault : (n : Text) (P : Text → Type 0) → HasFault given entry options n P → ⊥
@@ -106,20 +108,17 @@ module _ (given : SourceTexts) (options : Options) where
             by : (o : Option Body) → sources_of d n ≡ o → is_none o ≡ true
             by None e = refl
             by (Some b) e = absurd (has_source d.templates n b is.read.each e none)
-    no_chain error.BadName x = absurd (shown x (λ s g b. d_keeps.bad_name (carried.bad_name s _ _ _ g b)))
+    no_chain error.BadName x = absurd (refuted carried.bad_name d_keeps.bad_name x)
     no_chain error.ExtendsCycle x =
-        absurd (shown x (λ s g b. ⊎_elim d_keeps.extends_cycle d_keeps.too_long
-        (carried.extends_cycle s (sources_of d) options.autoescape (a_chain entry) g b)))
-    no_chain error.ChainTooLong x = absurd (shown x (λ s g b. d_keeps.too_long (carried.too_long s _ _ _ g b)))
-    no_chain error.DoubleBlock x = absurd (shown x (λ s g b. d_keeps.double_block (carried.double_block s _ _ _ g b)))
-    no_chain error.RequiredNotGiven x =
-        absurd (shown x (λ s g b. d_keeps.required_not_given (carried.required_not_given s _ _ _ g b)))
-    no_chain error.NoSuper x = absurd (shown x (λ s g b. d_keeps.no_super (carried.no_super s _ _ _ g b)))
-    no_chain error.IncludeCycle x =
-        absurd (shown x (λ s g b. d_keeps.include_cycle (carried.include_cycle s _ _ _ g b)))
-    no_chain error.MacroTwice x = absurd (shown x (λ s g b. d_keeps.macro_twice (carried.macro_twice s _ _ _ g b)))
-    no_chain error.NoMacro x = absurd (shown x (λ s g b. d_keeps.no_macro (carried.no_macro s _ _ _ g b)))
-    no_chain error.NotALibrary x = absurd (shown x (λ s g b. d_keeps.not_a_library (carried.not_a_library s _ _ _ g b)))
+        absurd (refuted carried.extends_cycle (⊎_elim d_keeps.extends_cycle d_keeps.too_long) x)
+    no_chain error.ChainTooLong x = absurd (refuted carried.too_long d_keeps.too_long x)
+    no_chain error.DoubleBlock x = absurd (refuted carried.double_block d_keeps.double_block x)
+    no_chain error.RequiredNotGiven x = absurd (refuted carried.required_not_given d_keeps.required_not_given x)
+    no_chain error.NoSuper x = absurd (refuted carried.no_super d_keeps.no_super x)
+    no_chain error.IncludeCycle x = absurd (refuted carried.include_cycle d_keeps.include_cycle x)
+    no_chain error.MacroTwice x = absurd (refuted carried.macro_twice d_keeps.macro_twice x)
+    no_chain error.NoMacro x = absurd (refuted carried.no_macro d_keeps.no_macro x)
+    no_chain error.NotALibrary x = absurd (refuted carried.not_a_library d_keeps.not_a_library x)
     no_chain error.NoMemory x = refl
     no_chain (error.Scan n e) x = absurd (no_fault (string_bytes n) (IsUncut e options) x)
     no_chain (error.Parse n e) x = absurd (no_fault (string_bytes n) (IsUnspelled e options) x)
@@ -163,13 +162,7 @@ same_tree given options s is ts read only n b e =
     let one : other.0 ≡ b = source_read _ ts n b only e other.0 (is.read n other.0 other.1) in
     other.1 ∙ ap (λ (x : Body). Some x) one
 
-abbrev IsCarried : (Sources → Bool → Namespace → Type 0) → Type 0
-IsCarried Breaks =
-    (s r : Sources) (e : Bool) (entry : Namespace)
-    → ((n : Text) (b : Body) → Asks r e entry n → s n ≡ Some b → r n ≡ Some b)
-    → Breaks s e entry → Breaks r e entry
-
-lasting : (Breaks : Sources → Bool → Namespace → Type 0) → IsCarried Breaks → IsLasting Breaks
+lasting : (Breaks : Sources → Bool → Namespace → Type 0) → IsCarried Breaks Breaks → IsLasting Breaks
 lasting Breaks carry given options entry s is x =
     carry (sources_in x.templates) s options.autoescape (a_chain entry)
     (λ n b i. same_tree given options s is x.templates x.read.each x.only n b) x.holds
@@ -181,10 +174,10 @@ cycle_lasts given options entry s is x =
     let g = same_tree given options s is x.templates x.read.each x.only in
     let h = x.holds in
     let y = h.2 in
-    let more = names_more r s y.2 _ (λ n a. g n) in (
+    let more = continues r s y.2 (Some y.0) (λ n a. g n) in (
       h.0,
       reaches_more r s options.autoescape (a_chain entry) (λ n b i. g n b) here h.1,
-      (y.0, y.1, y.2, ap repeated more.1 ∙ repeated_front (names_up r y.2 (Some y.0)) more.0 y.3),
+      (y.0, y.1, y.2, ap repeated more.longer ∙ repeated_front (names_up r y.2 (Some y.0)) more.more y.3),
     )
 
 missing_lasts : (given : SourceTexts) (options : Options) (entry : Text) (s : Sources) → IsReading given options s

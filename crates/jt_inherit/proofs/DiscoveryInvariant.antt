@@ -1,25 +1,19 @@
 -- One step of the search, and what stays true of followed chains and libraries when more is found.
-use Rattle.std.proofs.Common.{◌≡◌, Bool, true, false, List, [], ◌∷◌, ◌++◌, map, refl, ap, arith, rules, ℕ, zero, suc}
-use Rattle.std.proofs.Common.{◌+◌, ◌<◌, ◌≤◌, not, cond, ◌||◌, length, take, drop, get_or, sym, subst, ◌∙◌, inl, inr}
-use Rattle.std.proofs.Common.{◌⊎◌, ⊎_elim, Some, length-append, Option, None, Vec, Global}
-use Rattle.jt_chains.specs.Chain.{imports_in, all_given_from}
-use Rattle.jt_chains.specs.Includes.{includes_by, includes_under}
-use Rattle.jt_inherit.proofs.Vocabulary.{flat_map, filter, AllByRecursion, map-append, Text, Body, Branches, among}
-use Rattle.jt_inherit.proofs.Vocabulary.{Sources, Namespace, a_chain, a_library, Template, holds_macros, libraries_in}
-use Rattle.jt_inherit.proofs.Vocabulary.{macros, MacroBody, own, lacks_macros, chosen, names_from, imported_names}
-use Rattle.jt_inherit.proofs.Vocabulary.{includes_in, Need, include_need, library_need, needed, and_parts, HasRead}
-use Rattle.jt_inherit.proofs.Vocabulary.{names, KeyedNeed, keyed_needs, keyed_view, Options, needed-append, slice_get}
-use Rattle.jt_inherit.proofs.Vocabulary.{bytes_eq, append-nil, append_assoc, drop_more, repeated, SourceTexts, listed}
-use Rattle.jt_inherit.proofs.Vocabulary.{AreNext, TooMany, IsNextFault, IsMet, chains_of, twice, need_namespace}
-use Rattle.jt_inherit.proofs.Vocabulary.{ChainError, of_texts, reflexive, chain_among, of_namespaces, among_behind}
-use Rattle.jt_inherit.proofs.Vocabulary.{among_cases, among_front, among_next, once_more, only_among, or_from, or_parts}
-use Rattle.jt_inherit.proofs.Vocabulary.{take-append-drop, take_more, HasPath, FollowedPath, HasNeeds, cases_lt}
-use Rattle.jt_inherit.proofs.Vocabulary.{slice_get_within, unwrap_or, is_some, option_to_list, length-map, AreIndices}
-use Rattle.jt_inherit.proofs.Vocabulary.{templates_at, imports_along, needs_along, namespace_name, templates, libraries}
-use Rattle.jt_inherit.proofs.Vocabulary.{sources_in, IsRead, IsFollowed, AreFollowed, AreFound, included, namespace_at}
-use Rattle.jt_inherit.proofs.Vocabulary.{Reaches, here, asked, extends_path, IsExtendsPath, by_templates}
-use Rattle.jt_inherit.proofs.Vocabulary.{along_templates, next_of, graph_of, same, indexed_among, filter_agree}
-use Rattle.jt_inherit.specs.internal.Found.{AddsNext, known_of, IsLedTo}
+use Rattle.jt_inherit.proofs.Vocabulary as words
+use words.{◌≡◌, Bool, true, false, List, [], ◌∷◌, ◌++◌, map, refl, ap, arith, rules, ℕ, zero, suc, ◌+◌, ◌<◌, ◌≤◌, not}
+use words.{◌||◌, length, take, drop, get_or, sym, subst, ◌∙◌, inl, inr, ◌⊎◌, ⊎_elim, Some, length-append, Option, None}
+use words.{Vec, Global, imports_in, all_given_from, includes_by, includes_under, flat_map, filter, AllByRecursion}
+use words.{map-append, Text, Body, Branches, among, Sources, Namespace, a_chain, a_library, Template, holds_macros}
+use words.{libraries_in, macros, MacroBody, own, lacks_macros, chosen, names_from, imported_names, includes_in, Need}
+use words.{include_need, library_need, needed, and_parts, HasRead, names, KeyedNeed, keyed_needs, keyed_view, Options}
+use words.{needed-append, slice_get, bytes_eq, append-nil, append_assoc, drop_more, repeated, SourceTexts, listed}
+use words.{AreNext, TooMany, IsNextFault, IsMet, chains_of, twice, need_namespace, ChainError, of_texts, reflexive}
+use words.{chain_among, of_namespaces, among_behind, among_cases, among_front, among_next, once_more, only_among}
+use words.{or_from, or_parts, take-append-drop, take_more, HasPath, FollowedPath, HasNeeds, cases_lt, slice_get_within}
+use words.{unwrap_or, is_some, option_to_list, length-map, AreIndices, templates_at, imports_along, needs_along}
+use words.{namespace_name, templates, libraries, sources_in, IsRead, IsFollowed, AreFollowed, AreFound, included}
+use words.{namespace_at, Reaches, here, asked, extends_path, IsExtendsPath, by_templates, along_templates, next_of}
+use words.{graph_of, same, indexed_among, filter_agree, AddsNext, known_of, IsLedTo}
 use Rattle.jt_inherit.proofs.PathsGrow.{last_at, read_on, indices_grow, names_to_root, templates_grow, way_grows}
 use Rattle.jt_inherit.proofs.PathsGrow.{few_templates, templates_to_root, reach_more, ask_more, reaches_next}
 use Rattle.jt_ast.specs.Statements as trees
@@ -35,8 +29,8 @@ all_imports (t ∷ ts) = search (arith, rules, library_need, libraries_in, all_i
 -- Each import needs its library.
 pub imports_needed : (all : Bool) (ns : List Text) → needed all (map library_need ns) ≡ ns
 imports_needed all [] = refl
-imports_needed true (n ∷ ns) = ap (λ l. n ∷ l) (imports_needed true ns)
-imports_needed false (n ∷ ns) = ap (λ l. n ∷ l) (imports_needed false ns)
+imports_needed true (n ∷ ns) = rw (imports_needed true ns)
+imports_needed false (n ∷ ns) = rw (imports_needed false ns)
 
 pub imports_chosen : (ks ns : List Text) → chosen ks (map library_need ns) ≡ map a_library (filter (λ n. among n ks) ns)
 imports_chosen ks [] = refl
@@ -113,7 +107,7 @@ from_named n ms (x ∷ xs) s e = search (arith, rules, map-append, from_named n 
 
 pub imports_named : (s : Sources) (b : Body) → map (λ g. g.0) (imports_in s b) ≡ imported_names s b
 imports_named s trees.end = refl
-imports_named s (trees.stmt (trees.import_as line n x) rest) = ap (λ l. x ∷ l) (imports_named s rest)
+imports_named s (trees.stmt (trees.import_as line n x) rest) = rw (imports_named s rest)
 imports_named s (trees.stmt (trees.import_from line n xs) rest) =
     search (arith, rules, map-append, from_named, imports_named s rest)
 imports_named s (trees.stmt t rest) = imports_named s rest
@@ -125,7 +119,7 @@ all_imported s (t ∷ ts) = search (arith, rules, map-append, imports_named, all
 
 pub own_named : (h : Namespace) (ms : List MacroBody) → map (λ g. g.0) (own h ms) ≡ map (λ m. m.name) ms
 own_named h [] = refl
-own_named h (m ∷ ms) = ap (λ l. m.name ∷ l) (own_named h ms)
+own_named h (m ∷ ms) = rw (own_named h ms)
 
 -- ---- known includes and imports
 
@@ -134,7 +128,7 @@ known-append ks [] ms = refl
 known-append ks (n ∷ ns) ms = search (arith, rules, known-append ks ns ms)
 
 pub one_known : (ks : List Text) (n : Need) → among n.name ks ≡ true → chosen ks (n ∷ []) ≡ need_namespace n ∷ []
-one_known ks n e = ap (λ b. map need_namespace (cond b (n ∷ []) [])) e
+one_known ks n e = rw e
 
 -- ---- numbers of namespaces
 
@@ -196,7 +190,7 @@ too_many old n once len new = record {
       (λ q. inr (ap (λ b. b || false) (ap (λ z. bytes_eq z m) (only_among of_texts _ _ q) ∙ reflexive m)))
       (among_cases of_texts m _ _ a);
   this_one = among_next of_texts n (chains_of old) [];
-  led = ap (λ b. b || false) (reflexive n);
+  led = rw (reflexive n);
 }
   where
     chains_once : (hs : List Namespace) → twice hs ≡ false → repeated (chains_of hs) ≡ false
@@ -226,9 +220,8 @@ pub chosen_turn : (ks : List Text) (ns : List KeyedNeed) (k : ℕ) (d : KeyedNee
     → chosen ks (keyed_needs (take (k + 1) ns))
     ≡ chosen ks (keyed_needs (take k ns)) ++ chosen ks (keyed_view (get_or ns k d) ∷ [])
 chosen_turn ks ns k d lt =
-    ap (λ (l : List KeyedNeed). chosen ks (keyed_needs l)) (take_more ns k d lt)
-    ∙ ap (chosen ks) (views-append _ _)
-    ∙ chosen-append ks _ _
+    rw (take_more ns k d lt) (ap (chosen ks) (views-append _ _)
+    ∙ chosen-append ks _ _)
 
 pub chosen_all : (ks : List Text) (ns : List KeyedNeed) (k : ℕ) (d : KeyedNeed) → k < length ns
     → chosen ks (keyed_needs ns) ≡ chosen ks (keyed_needs (take k ns))
@@ -255,25 +248,21 @@ pub met_read : {given : SourceTexts} {options : Options} {ts us : List Template}
     → HasRead given options ts us xs → (ns : List Need) → AllByRecursion (IsMet given (names ts)) ns
     → AllByRecursion (IsMet given (names us)) ns
 met_read {given} {ts = ts} r ns a =
-    subst (λ l. AllByRecursion (IsMet given l) ns)
-    (sym (ap names r.grown ∙ map-append (λ (t : Template). t.name) ts r.more))
-    (met_grows given _ _ ns a)
+    rw (ap names r.grown ∙ map-append (λ (t : Template). t.name) ts r.more) (met_grows given _ _ ns a)
 
 -- One include or import more.
 pub needed_turn : (ns : List KeyedNeed) (k : ℕ) (d : KeyedNeed) → k < length ns
     → needed true (keyed_needs (take (k + 1) ns))
     ≡ needed true (keyed_needs (take k ns)) ++ (keyed_view (get_or ns k d)).name ∷ []
 needed_turn ns k d lt =
-    ap (λ (l : List KeyedNeed). needed true (keyed_needs l)) (take_more ns k d lt)
-    ∙ ap (needed true) (views-append _ _)
-    ∙ needed-append true (keyed_needs (take k ns)) (keyed_view (get_or ns k d) ∷ [])
+    rw (take_more ns k d lt) (ap (needed true) (views-append _ _)
+    ∙ needed-append true (keyed_needs (take k ns)) (keyed_view (get_or ns k d) ∷ []))
 
 pub met_turn : (P : Need → Type 0) (ns : List KeyedNeed) (k : ℕ) (d : KeyedNeed) → k < length ns
     → AllByRecursion P (keyed_needs (take k ns)) → P (keyed_view (get_or ns k d))
     → AllByRecursion P (keyed_needs (take (k + 1) ns))
 met_turn P ns k d lt a p =
-    subst (λ (l : List KeyedNeed). AllByRecursion P (keyed_needs l)) (sym (take_more ns k d lt))
-    (more (take k ns) a)
+    rw (take_more ns k d lt) (more (take k ns) a)
   where
     more : (ms : List KeyedNeed) → AllByRecursion P (keyed_needs ms)
         → AllByRecursion P (keyed_needs (ms ++ get_or ns k d ∷ []))
@@ -286,9 +275,7 @@ pub next_turn : (old mid new : List Namespace) (ks : List Text) (ns : List Keyed
     → AddsNext mid new (chosen ks (keyed_view (get_or ns k d) ∷ [])) is js
     → AreNext old new (chosen ks (keyed_needs (take (k + 1) ns))) js
 next_turn old mid new ks ns k d is js lt p q =
-    subst (AreNext old new (chosen ks (keyed_needs (take (k + 1) ns)))) (sym q.1)
-    (subst (λ l. AreNext old new l (is ++ q.0)) (sym (chosen_turn ks ns k d lt))
-    (next_both old mid new _ _ is q.0 p
+    rw q.1 (rw (chosen_turn ks ns k d lt) (next_both old mid new _ _ is q.0 p
     q.2))
 
 pub many_turn : (old mid : List Namespace) (ks : List Text) (ns : List KeyedNeed) (k : ℕ) (d : KeyedNeed)
@@ -296,8 +283,7 @@ pub many_turn : (old mid : List Namespace) (ks : List Text) (ns : List KeyedNeed
     → k < length ns → AreNext old mid (chosen ks (keyed_needs (take k ns))) is
     → TooMany mid (chosen ks (keyed_view (get_or ns k d) ∷ [])) n → TooMany old (chosen ks (keyed_needs ns)) n
 many_turn old mid ks ns k d is n lt p f =
-    subst (λ l. TooMany old l n) (sym (chosen_all ks ns k d lt))
-    (many_later old mid _ _
+    rw (chosen_all ks ns k d lt) (many_later old mid _ _
     _ is n p f)
 
 -- ---- an error of an included template
@@ -385,7 +371,7 @@ module _ {ts : List Template} (e : Bool) {h : Namespace} {is : List ℕ} (w : Is
     where
       by : (k : Namespace) → IsExtendsPath ts k is None → extends_path (sources_in ts) e k ≡ names (templates_at ts is)
       by (a_chain n) v = names_to_root _ 65 _ _ (omega (arith, few_way)) v.leads
-      by (a_library n) v = ap (λ m. m ∷ []) (sym v.leads.named) ∙ sym (ap names v.leads.only)
+      by (a_library n) v = rw (← v.leads.named) (sym (ap names v.leads.only))
 
   pub asked_way : (all : Bool)
       → asked (sources_in ts) e all h ≡ names (templates_at ts is) ++ needed all (needs_along ts is)
@@ -432,16 +418,15 @@ module _ (given : SourceTexts) (options : Options) (ts us : List Template) (hs m
     where
       both_names : (vs : List Template) → names (vs ++ us) ≡ names vs ++ names us
       both_names [] = refl
-      both_names (v ∷ vs) = ap (λ l. v.name ∷ l) (both_names vs)
+      both_names (v ∷ vs) = rw (both_names vs)
 
   same_chosen : {h : Namespace} {w n : List ℕ} → IsFollowed given ts hs h w n
       → chosen (names (ts ++ us)) (needs_along (ts ++ us) w) ≡ chosen (names ts) (needs_along ts w)
   same_chosen {h} {w} {n} f =
-      ap (λ ks. chosen ks (needs_along (ts ++ us) w)) more_names
-      ∙ ap (chosen (names ts ++ names us))
+      rw more_names (ap (chosen (names ts ++ names us))
       (includes_grow ts us w f.led.indices (way_grows _ us _ _ _ f.led).indices)
       ∙ chosen_same given _ _
-      (λ x e. sym (ap (among x) more_names) ∙ none_read given options _ x read e) _ f.met
+      (λ x e. sym (ap (among x) more_names) ∙ none_read given options _ x read e) _ f.met)
 
   followed_grows : (h : Namespace) (w n : List ℕ) → IsFollowed given ts hs h w n
       → IsFollowed given (ts ++ us) (hs ++ ms) h w n
@@ -450,12 +435,9 @@ module _ (given : SourceTexts) (options : Options) (ts us : List Template) (hs m
       let needs = includes_grow ts us w f.led.indices grown.indices in
       record {
         led = grown;
-        met = subst (λ l. AllByRecursion (IsMet given (names (ts ++ us))) l) (sym needs)
-            (subst (λ ks. AllByRecursion (IsMet given ks) (needs_along ts w)) (sym more_names)
-            (met_grows given _ _ _ f.met));
+        met = rw needs (rw more_names (met_grows given _ _ _ f.met));
         numbered =
-            subst (λ l. map (slice_get (hs ++ ms)) n ≡ map Some l) (sym (same_chosen f))
-            (numbers_grow hs ms n _ f.numbered);
+            rw (same_chosen f) (numbers_grow hs ms n _ f.numbered);
       }
 
 next_front : (ws : List (List ℕ)) (w : List ℕ) (i : ℕ) → i < length ws → next_of (ws ++ w ∷ []) i ≡ next_of ws i
@@ -511,7 +493,7 @@ module _ {given : SourceTexts} {options : Options} {root : Text} {ts0 : List Tem
   module _ {ts2 : List Template} {needs : List Need} (same_needs : needs ≡ needs_along ts1 is)
       (r : HasRead given options ts1 ts2 (needed true needs)) where
     pub way_there : IsExtendsPath ts2 h is None
-    way_there = subst (λ vs. IsExtendsPath vs h is None) (sym r.grown) (way_grows _ r.more _ _ _ p.led)
+    way_there = rw r.grown (way_grows _ r.more _ _ _ p.led)
 
     pub needs_there : needs ≡ needs_along ts2 is
     needs_there = search (arith, rules, needs_along, includes_grow, way_there)
@@ -553,7 +535,7 @@ module _ {given : SourceTexts} {options : Options} {root : Text} {ts0 : List Tem
             let theirs = same_chosen given options ts0 all_read.more hs [] read (f.followed.each i lt) in (
               i,
               omega (arith, lt, length-append ws (is ∷ [])),
-              subst (λ v. listed x (chosen (names ts2) (needs_along ts2 v)) ≡ true) (sym (next_front ws is i lt))
+              rw (next_front ws is i lt)
                   (subst (λ vs. listed x (chosen (names vs) (needs_along vs (next_of ws i))) ≡ true)
                   (sym all_read.grown) (ap (listed x) theirs ∙ l.2)),
             )
@@ -562,8 +544,7 @@ module _ {given : SourceTexts} {options : Options} {root : Text} {ts0 : List Tem
         new q = (
           length ws,
           omega (arith, length-append ws (is ∷ [])),
-          subst (λ v. listed x (chosen (names ts2) (needs_along ts2 v)) ≡ true)
-              (sym (ap (λ o. unwrap_or o []) (last_at ws is)))
+          rw (ap (λ o. unwrap_or o []) (last_at ws is))
               (subst (λ l. listed x (chosen (names ts2) l) ≡ true) needs_there q),
         )
 
@@ -574,8 +555,8 @@ module _ {given : SourceTexts} {options : Options} {root : Text} {ts0 : List Tem
         let read = subst (AllByRecursion (IsRead given options)) all_read.grown r.known.read.each in
         let here_followed : IsFollowed given ts2 hs2 h is next = (record {
           led = way_there;
-          met = subst (AllByRecursion (IsMet given (names ts2))) needs_there met;
-          numbered = subst (λ l. map (slice_get hs2) next ≡ map Some (chosen (names ts2) l)) needs_there n.numbered;
+          met = rw (← needs_there) met;
+          numbered = rw (← needs_there) n.numbered;
         }) in
         record {
           known = r.known;
@@ -583,8 +564,7 @@ module _ {given : SourceTexts} {options : Options} {root : Text} {ts0 : List Tem
               (λ q. ask_more _ _ _ _ _ _ all_read.grown (f.asked x q))
               (λ q. (h, reached_there, q)) (all_read.from x a);
           first =
-              subst (λ l. slice_get l 0 ≡ Some (a_chain root)) (sym n.grown)
-              (at_front hs n.more 0 _ f.first);
+              rw n.grown (at_front hs n.more 0 _ f.first);
           once = n.once;
           few = n.few;
           reached = λ x a. reached_from x (n.from x a);
@@ -617,9 +597,8 @@ pub has_needs : {given : SourceTexts} {options : Options} {ts us : List Template
     → HasNeeds ts p → HasRead given options ts us xs → HasNeeds us p
 has_needs {ts = ts} {us} {p = p} h r =
     let is = p.extends_path.items in
-    let grown : AreIndices us is = subst (λ l. AreIndices l is) (sym r.grown) (indices_grow ts r.more is h.indices) in
+    let grown : AreIndices us is = rw r.grown (indices_grow ts r.more is h.indices) in
     record {
       indices = grown;
-      told = h.told ∙ sym (ap (λ l. needs_along l is) r.grown
-          ∙ includes_grow ts r.more is h.indices (indices_grow ts r.more is h.indices));
+      told = h.told ∙ sym (rw r.grown (includes_grow ts r.more is h.indices (indices_grow ts r.more is h.indices)));
     }

@@ -1,27 +1,20 @@
 -- What a finding says holds in each chain that reaches the tag: findings of the name of a template, of a rule, of a
 -- chain that is one too many, and of a library that holds something other than macros.
-use Rattle.std.proofs.Common.{rules, ◌≡◌, ℕ, suc, ◌+◌, ◌-◌, ◌<◌, ◌≤◌, Bool, true, false, List, [], ◌∷◌, ◌++◌, length}
-use Rattle.std.proofs.Common.{String, Global, drop, get_or, map, zero, refl, sym, ap, subst, ◌∙◌, arith, inl, ◌⊎◌}
-use Rattle.std.proofs.Common.{Option, Some, None, string_bytes, ⊎_elim, not, inr}
-use Rattle.jt_inherit.proofs.Vocabulary.{HasRead, KeyedNeed, keyed_needs, keyed_view, needs_along, names, flat_map}
-use Rattle.jt_inherit.proofs.Vocabulary.{slice_get, option_map, is_some, option_to_list, append_assoc, append-nil}
-use Rattle.jt_inherit.proofs.Vocabulary.{length-map, map-append, Options, among, repeated, Text, Use, Site}
-use Rattle.jt_inherit.proofs.Vocabulary.{templates_at, Sources, Namespace, namespace_name, a_chain, a_library, listed}
-use Rattle.jt_inherit.proofs.Vocabulary.{Template, template, templates, extends_of, names_up, sources_in, included}
-use Rattle.jt_inherit.proofs.Vocabulary.{IsName, Reaches, here, through, extends_path, SourceTexts, ForSome, IsAt}
-use Rattle.jt_inherit.proofs.Vocabulary.{HasTag, all_uses, asks, is_extends, Says, may_be_bare, AreKnown, BreaksAll}
-use Rattle.jt_inherit.proofs.Vocabulary.{IsExtendsPath, Leads, IsFaultOf, IsNamedOn, need_test, IsUnmet, tags, place_in}
-use Rattle.jt_inherit.proofs.Vocabulary.{place_view, ChainError, ChainSubject, TagPlace, among_next, once_more}
-use Rattle.jt_inherit.proofs.Vocabulary.{of_texts, key_view, ChainFinding, NamespaceKey, both_ways, flat_map-append}
-use Rattle.jt_inherit.proofs.Vocabulary.{Need, AreIndices, is_whole, IsFinding, IsNoMemory, IsOfRule, RuleAt, BreakOne}
-use Rattle.jt_inherit.proofs.Vocabulary.{IsBroken, is_include, Breaks, IsNextFinding, TooMany, chosen, IsIncludedMore}
-use Rattle.jt_inherit.proofs.Vocabulary.{Graph, next_of, is_a_library, namespace_at, is_import, leads_to, AreFound}
-use Rattle.jt_inherit.proofs.Vocabulary.{is_no_library, and_from}
-use Rattle.jt_inherit.specs.Findings.{IsBrokenAt, last_of, ReachesTooMany}
-use Rattle.jt_inherit.specs.internal.ExtendsPaths.{SaysAll}
-use Rattle.jt_inherit.specs.internal.Placing.{IsAsked, IsFirst, IsNameless, IsOfName, IsOfNeed, IsParentAt, IsOneMore}
-use Rattle.jt_inherit.specs.internal.Placing.{IsRingOf, NamedAt, IsOneChainMore}
-use Rattle.jt_inherit.specs.internal.Found.{IsFaultAt, IsUnmetNeed}
+use Rattle.jt_inherit.proofs.Vocabulary as words
+use words.{rules, ◌≡◌, ℕ, suc, ◌+◌, ◌-◌, ◌<◌, ◌≤◌, Bool, true, false, List, [], ◌∷◌, ◌++◌, length, String, Global, drop}
+use words.{get_or, zero, refl, sym, ap, subst, ◌∙◌, arith, inl, ◌⊎◌, Option, Some, None, string_bytes, ⊎_elim, not, inr}
+use words.{HasRead, KeyedNeed, keyed_needs, keyed_view, needs_along, names, flat_map, slice_get, option_map, is_some}
+use words.{option_to_list, append_assoc, append-nil, length-map, map-append, Options, among, repeated, Text, Use, Site}
+use words.{templates_at, Sources, Namespace, namespace_name, a_chain, a_library, listed, Template, template, templates}
+use words.{extends_of, names_up, sources_in, included, IsName, Reaches, here, through, extends_path, SourceTexts}
+use words.{ForSome, IsAt, HasTag, all_uses, is_extends, Says, may_be_bare, AreKnown, BreaksAll, IsExtendsPath, Leads}
+use words.{IsFaultOf, IsNamedOn, need_test, IsUnmet, tags, place_in, place_view, ChainError, ChainSubject, TagPlace}
+use words.{among_next, once_more, of_texts, key_view, ChainFinding, NamespaceKey, both_ways, flat_map-append, Need}
+use words.{AreIndices, is_whole, IsFinding, IsNoMemory, IsOfRule, RuleAt, BreakOne, IsBroken, is_include, Breaks}
+use words.{IsNextFinding, TooMany, chosen, IsIncludedMore, Graph, next_of, is_a_library, namespace_at, leads_to}
+use words.{AreFound, is_no_library, and_from, IsBrokenAt, last_of, SaysAll, IsAsked, IsFirst, IsNameless, IsOfName}
+use words.{IsOfNeed, IsParentAt, IsOneMore, IsRingOf, NamedAt, IsOneChainMore, IsFaultAt, IsUnmetNeed, BrokenIn, ◌&&◌}
+use words.{IsItsName, IsNoLibrary, IsOfImport, LeadsAt}
 use Rattle.jt_inherit.proofs.DiscoveryInvariant.{some_source, none_read, asks_needed, whole_path, included_is, asked_at}
 use Rattle.jt_inherit.proofs.PathsGrow.{all_among, all_named, shows, names_lead, templates_lead, few_templates}
 use Rattle.jt_inherit.proofs.PathsGrow.{all_templates, last_at, asked_breaks, among_passes, chains_listed, chain_breaks}
@@ -29,9 +22,6 @@ use Rattle.jt_inherit.proofs.PathsGrow.{libraries_listed, reach_more}
 use Rattle.jt_inherit.proofs.NumberTables.{is_chain}
 use Rattle.jt_inherit.proofs.TagPlaces.{HasUse, placed, tag_front, tag_last, tag_weaker, extends_asks, asked_used}
 use Rattle.jt_inherit.proofs.TagPlaces.{leads_used}
-use Rattle.jt_inherit.specs.internal.Breaking.{BrokenIn}
-use Rattle.std.specs.Prelude.{◌&&◌}
-use Rattle.jt_inherit.specs.internal.Imported.{IsItsName, IsNoLibrary, IsOfImport, LeadsAt}
 use Rattle.jt_inherit.proofs.TopologicalOrder.{namespace_among}
 use Rattle.jt_inherit.specs.declared.error.ChainError.TheVariants as error
 use Rattle.jt_inherit.specs.declared.finding.ChainSubject.TheVariants as v
@@ -96,7 +86,7 @@ split_at ts (i ∷ is) zero n at = by (slice_get ts i) refl
         absurd (cc)
     by (Some t) e =
         let told : Some t.name ≡ Some n = sym (ap (option_map (λ (t : Template). t.name)) e) ∙ at.1 in
-        ([], t, (let is_n : t.name ≡ n = cc in is_n), ap (λ o. option_to_list o ++ templates_at ts is) e)
+        ([], t, (let is_n : t.name ≡ n = cc in is_n), rw e)
 split_at ts (i ∷ is) (suc k) n at =
     let lt : k < length is = omega (arith, at.0) in
     let rest = split_at ts is k n (lt, at.1) in
@@ -104,10 +94,9 @@ split_at ts (i ∷ is) (suc k) n at =
       option_to_list (slice_get ts i) ++ rest.0,
       rest.1,
       rest.2,
-      subst (λ j. templates_at ts (i ∷ is) ≡ (option_to_list (slice_get ts i) ++ rest.0)
-          ++ rest.1 ∷ templates_at ts (drop j (i ∷ is))) one
-          (ap (λ l. option_to_list (slice_get ts i) ++ l) rest.3
-          ∙ sym (append_assoc (option_to_list (slice_get ts i)) rest.0 (rest.1 ∷ templates_at ts (drop (k + 1) is)))),
+      rw (← one)
+          (rw rest.3
+          (sym (append_assoc (option_to_list (slice_get ts i)) rest.0 (rest.1 ∷ templates_at ts (drop (k + 1) is))))),
     )
 
 pub there_on : (ts : List Template) (is : List ℕ) (k : ℕ) (n : Text) → IsNamedOn ts is n k
@@ -115,9 +104,8 @@ pub there_on : (ts : List Template) (is : List ℕ) (k : ℕ) (n : Text) → IsN
 there_on ts is k n on =
     let cut = split_at ts is k n on in
     let vs = templates_at ts (drop (k + 1) is) in
-    ap (λ us. among n (names us)) cut.3
-    ∙ ap (among n) (map-append (λ (t : Template). t.name) cut.0 (cut.1 ∷ vs))
-    ∙ ap (λ z. among n (names cut.0 ++ z ∷ names vs)) cut.2 ∙ among_next of_texts n (names cut.0) (names vs)
+    rw cut.3 (ap (among n) (map-append (λ (t : Template). t.name) cut.0 (cut.1 ∷ vs))
+    ∙ ap (λ z. among n (names cut.0 ++ z ∷ names vs)) cut.2 ∙ among_next of_texts n (names cut.0) (names vs))
 
 extends_need : (n : Text) (e : ChainError) (u : Use) → is_extends n u ≡ true → need_test n e u ≡ true
 extends_need n error.Missing u h = extends_asks false n u h
@@ -163,17 +151,17 @@ module _ {given : SourceTexts} {options : Options} {root : Text} {ts : List Temp
       → Says given root options p (Some x) e
   said_at e x test xs h p is f =
       let k = placed test xs h p is in
-      subst (λ z. Says given root options z (Some x) e) (sym k.1) (f k.0 k.2)
+      rw k.1 (f k.0 k.2)
 
   asked_said : (n : Text) (e : ChainError) → IsFaultOf e given n options → (p : TagPlace) (m : String Global)
       → string_bytes m ≡ n → HasTag (need_test n e) (templates (sources_in ts) h) p → IsOfName e
       → Says given root options (Some p) (Some (v.Template m)) e
   asked_said n error.Missing f p m is t o =
       shown error.Missing p (v.Template m)
-      (subst (λ z. HasTag (asks false z) (templates (sources_in ts) h) p × (given z ≡ None)) (sym is) (t, f))
+      (rw is (t, f))
   asked_said n error.BadName f p m is t o =
       shown error.BadName p (v.Template m)
-      (subst (λ z. HasTag (asks true z) (templates (sources_in ts) h) p × (IsName z → ⊥)) (sym is) (t, f))
+      (rw is (t, f))
   asked_said n e f p m is t o = absurd o
 
   -- A tag of the chain or library asks for the name at the place. A name without a place is the entry's
@@ -190,7 +178,7 @@ module _ {given : SourceTexts} {options : Options} {root : Text} {ts : List Temp
       (q.1 ∙ root_is, ap given (sym root_is) ∙ f)
   named_said n error.BadName f None a None (Some (v.Template m)) q =
       let root_is = unread_root n a (bad_unread n f) in
-      (q.1 ∙ root_is, λ k. f (subst IsName (sym root_is) k))
+      (q.1 ∙ root_is, λ k. f (rw root_is k))
   named_said n e f None a None (Some (v.Template m)) q = absurd q.2
   named_said n e f None a (Some p) (Some (v.Template m)) q = search (arith, rules)
   named_said n e f (Some z) a p (Some (v.Template m)) q =
@@ -203,7 +191,7 @@ module _ {given : SourceTexts} {options : Options} {root : Text} {ts : List Temp
       → (p : Option TagPlace) (x : Option ChainSubject) → NamedAt o n e x p → Says given root options p x e
   need_said {us} whole n e f used o first p x q =
       let k = placed _ _ used o first in
-      named_said n e f o (subst (AskedFor n e) (sym k.1) (subst (λ l. HasTag (need_test n e) l k.0) (sym whole) k.2))
+      named_said n e f o (rw k.1 (rw whole k.2))
       p x q
 
 -- ---- an error at the end of a path
@@ -218,7 +206,7 @@ module _ {given : SourceTexts} {options : Options} {root : Text} {ts : List Temp
   tagged q t =
       let on = chain_front _ h _ _
       (omega (arith, few_templates ts is, w.few)) w.leads in
-      subst (λ l. HasTag (is_extends n) l q) (sym on.1) (tag_front (is_extends n) q (templates_at ts is) on.0 t)
+      rw on.1 (tag_front (is_extends n) q (templates_at ts is) on.0 t)
 
   -- The name of a chain whose path is empty.
   own_name : templates_at ts is ≡ [] → h ≡ n
@@ -244,7 +232,7 @@ module _ {given : SourceTexts} {options : Options} {root : Text} {ts : List Temp
       → Says given root options p (Some x) e
   parent_said e x some f None a p is_o = absurd (some a)
   parent_said e x some f (Some z) a p is_o =
-      subst (λ y. Says given root options y (Some x) e) (sym is_o) (f a.0 a.1 a.2 z (tagged z a.4) a.3)
+      rw is_o (f a.0 a.1 a.2 z (tagged z a.4) a.3)
 
   pub cycle_placed : {k : ℕ} → IsNamedOn ts is n k → (o : Option TagPlace) → IsAsked (templates_at ts is) n o
       → (f : ChainFinding) → f.place ≡ o → IsRingOf n (names (templates_at ts (drop (k + 1) is))) f.subject
@@ -285,9 +273,7 @@ module _ {given : SourceTexts} {options : Options} {root : Text} {ts : List Temp
           parent_said error.ExtendsCycle (v.Ring m rest) some
           (λ us t last z tag named.
           shown known r error.ExtendsCycle z (v.Ring m rest)
-          (subst (λ x. HasTag (is_extends x) (templates s (a_chain h)) z
-          × (names_up s (length rest.items + 1) (Some x) ≡ x ∷ map string_bytes rest.items)
-          × (string_bytes z.template ≡ last_of x (map string_bytes rest.items))) (sym q.0) (
+          (rw q.0 (
             tag,
             ap (λ j. names_up s (j + 1) (Some n)) len ∙ ring.0 ∙ ap (λ l. n ∷ l) (sym q.1),
             named ∙ ring.1 us t last ∙ ap (last_of n) (sym q.1),
@@ -310,12 +296,9 @@ module _ {given : SourceTexts} {options : Options} {root : Text} {ts : List Temp
           parent_said error.ChainTooLong (v.Templates m) (λ e. absurd (omega (arith, len, ap length e)))
           (λ front_templates t last z tag named.
           shown known r error.ChainTooLong z (v.Templates m)
-          (subst (λ x. HasTag (is_extends x) (templates s (a_chain h)) z
-          × (slice_get (extends_path s options.autoescape (a_chain h)) 64 ≡ Some x)
-          × (repeated (extends_path s options.autoescape (a_chain h)) ≡ false)) (sym q) (
+          (rw q (
             tag,
-            ap (λ l. slice_get l 64) up
-                ∙ subst (λ j. slice_get (names us ++ n ∷ []) j ≡ Some n) count (last_at (names us) n),
+            rw up (subst (λ j. slice_get (names us ++ n ∷ []) j ≡ Some n) count (last_at (names us) n)),
             ap repeated up ∙ once_more of_texts n (names us) w.once new,
           ))) o a f.place at
       by x q = absurd q
@@ -341,7 +324,7 @@ pub asked_turn : (vs ws : List Template) (t : Template) (n : Text) (o : Option T
     → IsParentAt t n o → IsAsked vs n o
 asked_turn vs ws t n None e a = absurd a
 asked_turn vs ws t n (Some p) e a =
-    (ws, t, e, a.1, subst (λ l. HasTag (is_extends n) l p) (sym e) (tag_last _ p ws t a.2))
+    (ws, t, e, a.1, rw e (tag_last _ p ws t a.2))
 
 -- A fact about a path and a name, by an equal path and name.
 pub same_path : (P : List ℕ → Text → Type 0) {is js : List ℕ} {n m : Text} → js ≡ is → m ≡ n → P js m → P is n
@@ -366,7 +349,7 @@ need_used {given} {options} {ts} {is} {f} w n = by f.error refl
 
 module _ {given : SourceTexts} {root : Text} {options : Options} where
   pub no_memory : (f : ChainFinding) → IsNoMemory f → IsFinding given root options f
-  no_memory f is = subst (IsFinding given root options) (sym is) (record { broken = tt; says = refl })
+  no_memory f is = rw is (record { broken = tt; says = refl })
 
   -- An error of an included or imported template.
   pub need_finds : {ts : List Template} {h : Namespace} {is : List ℕ} → AreKnown given options ts
@@ -392,7 +375,7 @@ rule_broken {s} {escaping} {ts} {e} {f} b r = search (arith, rules)
 
 pub memory_broken : {s : Sources} {escaping : Bool} {ts : List Template} {f : ChainFinding} → IsNoMemory f
     → IsBroken s escaping ts f
-memory_broken {s} {escaping} {ts} m = subst (IsBroken s escaping ts) (sym m) (record { broken = tt; said = tt })
+memory_broken {s} {escaping} {ts} m = rw m (record { broken = tt; said = tt })
 
 -- A broken rule on the blocks, macros and imports of a chain or library.
 module _ {given : SourceTexts} {root : Text} {options : Options} {ts : List Template}
@@ -447,9 +430,8 @@ module _ {given : SourceTexts} {options : Options} {root : Text} {ts : List Temp
           said_at known here error.ChainTooLong (v.Chains m) (is_include n) (all_uses (templates_at ts is)) used f.place
           told.place
           (λ z tag. shown known here error.ChainTooLong z (v.Chains m)
-          (subst (λ x. HasTag (is_include x) (templates (sources_in ts) h) z
-          × ReachesTooMany given (sources_in ts) options.autoescape (a_chain root) h x) (sym q) (
-            subst (λ l. HasTag (is_include n) l z) (sym (whole_path w)) tag,
+          (rw q (
+            rw (whole_path w) tag,
             record {
               names = t.chains;
               many = t.many;
@@ -467,9 +449,9 @@ module _ {given : SourceTexts} {options : Options} {root : Text} {ts : List Temp
       let used = subst (λ l. HasUse (is_include t.0) (all_uses l)) (whole_path w)
       (leads_used _ h _ (ap (listed (a_chain t.0)) same_chosen ∙ t.1.led)) in
       record {
-        broken = subst (λ z. Breaks z given root options) (sym t.2.error) (many_broken t.1);
+        broken = rw t.2.error (many_broken t.1);
         says =
-            subst (λ z. Says given root options f.place f.subject z) (sym t.2.error) (many_said t.1 used f t.2);
+            rw t.2.error (many_said t.1 used f t.2);
       })
       q
 
@@ -486,8 +468,7 @@ module _ {given : SourceTexts} {options : Options} {entry : Text} {ts : List Tem
       let w = (f.followed.each i lt).led in (
         i,
         lt,
-        subst (λ vs. HasUse (leads_to (a_library n)) (all_uses vs)) (whole_path w)
-            (leads_used _ h _
+        rw (← (whole_path w)) (leads_used _ h _
             (ap (listed (a_library n)) (included_is w) ∙ l.2)),
       ))
       (f.led (a_library n) a)
@@ -509,9 +490,7 @@ module _ {given : SourceTexts} {options : Options} {entry : Text} {ts : List Tem
       let h = namespace_at hs k in
       let front = whole_path (f.followed.each k within).led in
       shown f.known (f.reached h (namespace_among hs k lt)) error.NotALibrary p (v.Template x)
-      (subst (λ z. HasTag (is_import z) (templates (sources_in ts) h) p
-      × ((is_some (sources_in ts z) && not (is_a_library (sources_in ts z))) ≡ true)) (sym is)
-      (subst (λ l. HasTag (is_import n) l p) (sym front) q.2, other))
+      (rw is (rw front q.2, other))
   import_said n a other (Some p) q x is = absurd is
 
   no_library : (h : Namespace) → listed h hs ≡ true → (x : ChainFinding) → is_no_library ts h ≡ true
@@ -525,11 +504,9 @@ module _ {given : SourceTexts} {options : Options} {entry : Text} {ts : List Tem
       let other = and_from _ _ there none in
       record {
         broken =
-            subst (λ z. Breaks z given entry options) (sym told.error)
-            (shows f.known (a_library n, here, (n, refl, other)));
+            rw told.error (shows f.known (a_library n, here, (n, refl, other)));
         says =
-            subst (λ z. Says given entry options x.place x.subject z) (sym told.error)
-            (import_said n a other x.place told.place x.subject told.subject);
+            rw told.error (import_said n a other x.place told.place x.subject told.subject);
       }
 
   pub library_finds : (h : Namespace) → listed h hs ≡ true → (x : ChainFinding) → IsNoLibrary ts ws h x

@@ -1,6 +1,6 @@
 -- Membership by a test for equality: names, and chains and libraries.
-use Rattle.std.proofs.Common.{◌≡◌, ℕ, zero, suc, ◌≤◌, Bool, true, false, cond, ◌||◌, List, [], ◌∷◌, ◌++◌, length, refl}
-use Rattle.std.proofs.Common.{sym, ap, ◌∙◌, arith, ◌⊎◌, inr, Some, rules}
+use Rattle.std.proofs.Common.{◌≡◌, ℕ, zero, suc, ◌+◌, ◌≤◌, Bool, true, false, cond, ◌||◌, List, [], ◌∷◌, ◌++◌, length}
+use Rattle.std.proofs.Common.{refl, sym, ap, ◌∙◌, arith, ◌⊎◌, inr, Some, rules}
 use Rattle.std.specs.Prelude.{slice_get}
 use Rattle.std.proofs.lemmas.Bool.{or_from, or_parts, or_right}
 
@@ -16,6 +16,11 @@ pub record Members (A : Type 0) : Type 0 where
   pub among_more : (x y : A) (ys : List A) → among x (y ∷ ys) ≡ (same y x || among x ys)
   pub again_none : again [] ≡ false
   pub again_more : (x : A) (xs : List A) → again (x ∷ xs) ≡ (among x xs || again xs)
+
+-- The sum of the weights of items.
+abbrev pub total : {A : Type 0} → (A → ℕ) → List A → ℕ
+total w [] = 0
+total w (x ∷ xs) = w x + total w xs
 
 module _ {A : Type 0} (m : Members A) where
   -- A member of a part is a member of the concatenation.
@@ -64,29 +69,37 @@ module _ {A : Type 0} (m : Members A) where
   comes_again x (y ∷ xs) h =
       search (arith, rules, m.again_more, m.among_more, comes_again x xs, m.equal, among_next, or_right)
 
-  -- ---- different members of a list are no more than its items
+  -- ---- different members of a list are together no heavier than its items
 
-  abbrev pub without : A → List A → List A
+  abbrev without : A → List A → List A
   without x [] = []
   without x (y ∷ ys) = cond (m.same y x) ys (y ∷ without x ys)
 
-  one_less : (x : A) (ys : List A) → m.among x ys ≡ true → length ys ≡ suc (length (without x ys))
-  one_less x [] a = let e = m.among_none x in absurd (cc)
-  one_less x (y ∷ ys) a = search (arith, rules, m.among_more, one_less x ys)
+  one_less : (f : A → ℕ) (x : A) (ys : List A) → m.among x ys ≡ true → total f ys ≡ f x + total f (without x ys)
+  one_less f x [] a = let e = m.among_none x in absurd (cc)
+  one_less f x (y ∷ ys) a = search (arith, rules, m.among_more, one_less f x ys, m.equal)
 
-  pub still_among : (x z : A) (ys : List A) → m.same x z ≡ false → m.among z ys ≡ true → m.among z (without x ys) ≡ true
+  still_among : (x z : A) (ys : List A) → m.same x z ≡ false → m.among z ys ≡ true → m.among z (without x ys) ≡ true
   still_among x z [] n a = let e = m.among_none z in absurd (cc)
   still_among x z (y ∷ ys) n a = search (arith, rules, m.among_more, still_among x z ys n, m.equal, or_right)
 
-  pub no_more : (xs ys : List A) → m.again xs ≡ false → ((x : A) → m.among x xs ≡ true → m.among x ys ≡ true)
-      → length xs ≤ length ys
-  no_more [] ys once f = omega arith
-  no_more (x ∷ xs) ys once f =
+  pub lighter : (w : A → ℕ) (xs ys : List A) → m.again xs ≡ false
+      → ((x : A) → m.among x xs ≡ true → m.among x ys ≡ true) → total w xs ≤ total w ys
+  lighter w [] ys once f = omega arith
+  lighter w (x ∷ xs) ys once f =
       let k = or_parts (m.among x xs) (m.again xs) (sym (m.again_more x xs) ∙ once) in
-      let len = one_less x ys (f x (m.among_more x x xs ∙ ap (λ b. b || m.among x xs) (m.reflexive x))) in
-      let rest = no_more xs (without x ys) k.1 (λ z a. still_among x z ys (apart z (m.same x z) refl k.0 a)
+      let len = one_less w x ys (f x (m.among_more x x xs ∙ ap (λ b. b || m.among x xs) (m.reflexive x))) in
+      let rest = lighter w xs (without x ys) k.1 (λ z a. still_among x z ys (apart z (m.same x z) refl k.0 a)
       (f z (m.among_more z x xs ∙ or_right (m.same x z) (m.among z xs) a))) in
       omega (arith, len, rest)
     where
       apart : (z : A) (b : Bool) → m.same x z ≡ b → m.among x xs ≡ false → m.among z xs ≡ true → m.same x z ≡ false
       apart z a1 e n a = search (arith, rules, m.equal)
+
+  pub no_more : (xs ys : List A) → m.again xs ≡ false → ((x : A) → m.among x xs ≡ true → m.among x ys ≡ true)
+      → length xs ≤ length ys
+  no_more xs ys once f = omega (arith, lighter (λ x. 1) xs ys once f, counted xs, counted ys)
+    where
+      counted : (zs : List A) → total (λ x. 1) zs ≡ length zs
+      counted [] = refl
+      counted (z ∷ zs) = omega (arith, counted zs)

@@ -1,6 +1,5 @@
 -- Membership of chains and libraries in lists.
-use Rattle.std.proofs.Common.{◌≡◌, true, ◌||◌, List, [], ◌∷◌, ◌++◌, refl, ap}
-use Rattle.std.specs.Str.{bytes_eq}
+use Rattle.std.proofs.Common.{◌≡◌, true, List, [], ◌∷◌, ◌++◌, refl, ap}
 use Rattle.jt_ast.specs.Texts.{among}
 use Rattle.jt_ast.specs.Expressions.{Text}
 use Rattle.jt_chains.specs.Chain.{Namespace, a_chain, a_library, same_namespace, listed}
@@ -43,10 +42,10 @@ of_namespaces =
 
 pub chains_both : (xs ys : List Namespace) → chains_of (xs ++ ys) ≡ chains_of xs ++ chains_of ys
 chains_both [] ys = refl
-chains_both (a_chain n ∷ xs) ys = ap (λ l. n ∷ l) (chains_both xs ys)
+chains_both (a_chain n ∷ xs) ys = rw (chains_both xs ys)
 chains_both (a_library n ∷ xs) ys = chains_both xs ys
 
 pub chain_among : (n : Text) (hs : List Namespace) → listed (a_chain n) hs ≡ among n (chains_of hs)
 chain_among n [] = refl
-chain_among n (a_chain m ∷ hs) = ap (λ b. bytes_eq m n || b) (chain_among n hs)
+chain_among n (a_chain m ∷ hs) = rw (chain_among n hs)
 chain_among n (a_library m ∷ hs) = chain_among n hs

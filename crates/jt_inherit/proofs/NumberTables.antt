@@ -1,18 +1,13 @@
 -- Tables of the numbers of templates and of namespaces: lookup, and the effect of an insertion.
-use Rattle.std.proofs.Common.{◌≡◌, ℕ, suc, ◌+◌, Bool, true, false, cond, if◌then◌else◌, List, [], ◌∷◌, ◌++◌, length}
-use Rattle.std.proofs.Common.{refl, sym, ap, ◌∙◌, arith, Some, None, rules, Option, string_bytes, MatchOption, not}
-use Rattle.std.proofs.Common.{length-append, ◌||◌}
-use Rattle.jt_chains.specs.Tables.{AreAt}
-use Rattle.jt_chains.specs.Indices.{index_of}
-use Rattle.jt_inherit.proofs.Vocabulary.{TemplateFile, files_view, names, is_named, unwrap_or, length-map, slice_get}
-use Rattle.jt_inherit.proofs.Vocabulary.{get_by_text, list_any, position_from, bytes_eq, Text, Table, AreNumbers, same}
-use Rattle.jt_inherit.proofs.Vocabulary.{slice_get-map, among, symmetric, append-nil, Namespace, a_chain, a_library}
-use Rattle.jt_inherit.proofs.Vocabulary.{same_namespace, listed, chains_of, key_view, keys_view, NamespaceKey}
+use Rattle.jt_inherit.proofs.Vocabulary as words
+use words.{◌≡◌, ℕ, suc, ◌+◌, Bool, true, false, cond, if◌then◌else◌, List, [], ◌∷◌, ◌++◌, length, refl, sym, ap, ◌∙◌}
+use words.{arith, Some, None, rules, Option, string_bytes, MatchOption, not, length-append, AreAt, index_of}
+use words.{TemplateFile, files_view, names, is_named, unwrap_or, length-map, slice_get, get_by_text, list_any}
+use words.{position_from, bytes_eq, Text, Table, AreNumbers, same, slice_get-map, among, symmetric, append-nil}
+use words.{Namespace, a_chain, a_library, same_namespace, listed, chains_of, key_view, keys_view, NamespaceKey, is_kind}
+use words.{keyed, chains_both}
 use Rattle.std.specs.Result.{is_ok, IsOk}
 use Rattle.std.specs.declared.result.Result.{Result}
-use Rattle.jt_inherit.specs.internal.Numbers.{is_kind}
-use Rattle.jt_inherit.specs.internal.SetView.{keyed}
-use Rattle.jt_inherit.proofs.NamespaceMembership.{chains_both}
 use Rattle.jt_inherit.proofs.NamespaceMembership as namespaces
 
 -- A push that succeeds appends the item.
@@ -49,39 +44,39 @@ module _ {A : Type 0} (p : A → Bool) where
   first_more i (x ∷ xs) y n = search (arith, rules, first_more (i + 1) xs y)
 
   pub first_same : (i : ℕ) (xs : List A) (y : A) → p y ≡ false → position_from p i (xs ++ y ∷ []) ≡ position_from p i xs
-  first_same i [] y h = ap (λ b. cond b (Some i) None) h
-  first_same i (x ∷ xs) y h = ap (λ o. cond (p x) (Some i) o) (first_same (i + 1) xs y h)
+  first_same i [] y h = rw h
+  first_same i (x ∷ xs) y h = rw (first_same (i + 1) xs y h)
 
 -- ---- one item more
 
 module _ {A : Type 0} (is : Text → A → Bool) (xs : List A) where
   -- The table gets the number of the appended item.
-  pub numbers_more : (m n : Table) (x : Text) (y : A) → AreNumbers is xs m → ((z : Text) → is z y ≡ bytes_eq x z)
-      → list_any (is x) xs ≡ false
-      → ((z : Text) → get_by_text n z ≡ cond (bytes_eq x z) (Some (length xs)) (get_by_text m z))
-      → AreNumbers is (xs ++ y ∷ []) n
-  numbers_more m n x y k one newly_read more z = search (arith, rules, same, first_more, first_same)
+  numbers_more : (m n : Table) (x : Text) (i : ℕ) (y : A) → AreNumbers is xs m → ((z : Text) → is z y ≡ bytes_eq x z)
+      → list_any (is x) xs ≡ false → i ≡ length xs
+      → ((z : Text) → get_by_text n z ≡ cond (bytes_eq x z) (Some i) (get_by_text m z)) → AreNumbers is (xs ++ y ∷ []) n
+  numbers_more m n x i y k one new at more z = search (arith, rules, same, first_more, first_same)
 
   -- The table stays as it is if none of its names is that of the appended item.
-  pub numbers_same : (m : Table) (y : A) → AreNumbers is xs m → ((z : Text) → is z y ≡ false)
+  numbers_same : (m : Table) (y : A) → AreNumbers is xs m → ((z : Text) → is z y ≡ false)
       → AreNumbers is (xs ++ y ∷ []) m
   numbers_same m y k none z = k z ∙ sym (first_same (is z) 0 xs y (none z))
 
 any_file : (x : Text) (ps : List TemplateFile) → list_any (is_named x) ps ≡ among x (names (files_view ps))
 any_file x [] = refl
-any_file x (p ∷ ps) = ap (λ b. bytes_eq (string_bytes p.name) x || b) (any_file x ps)
+any_file x (p ∷ ps) = rw (any_file x ps)
 
 pub file_found : (x : Text) (ps : List TemplateFile) (m : Table) (r : Option ℕ) → AreNumbers is_named ps m
     → r ≡ get_by_text m x
     → MatchOption r (among x (names (files_view ps)) ≡ false) (λ i. slice_get (names (files_view ps)) i ≡ Some x)
 file_found x ps m a3 k e = search (arith, rules, any_file, first_none, first_found, slice_get-map, string_bytes, same)
 
-pub file_put : (ps : List TemplateFile) (p : TemplateFile) (m n : Table) → AreNumbers is_named ps m
-    → among (string_bytes p.name) (names (files_view ps)) ≡ false
-    → ((x : Text) → get_by_text n x ≡ cond (bytes_eq (string_bytes p.name) x) (Some (length ps)) (get_by_text m x))
-    → AreNumbers is_named (ps ++ p ∷ []) n
-file_put ps p m n told new more =
-    numbers_more is_named ps m n (string_bytes p.name) p told (λ z. refl) (any_file _ ps ∙ new) more
+pub file_put : (ps qs : List TemplateFile) (p : TemplateFile) (m n : Table) (x : Text) (i : ℕ)
+    → AreNumbers is_named ps m → among (string_bytes p.name) (names (files_view ps)) ≡ false → qs ≡ ps ++ p ∷ []
+    → x ≡ string_bytes p.name → i ≡ length ps
+    → ((z : Text) → get_by_text n z ≡ cond (bytes_eq x z) (Some i) (get_by_text m z)) → AreNumbers is_named qs n
+file_put ps qs p m n x i told new all name at more =
+    rw all (numbers_more is_named ps m n x i p told (λ z. ap (λ b. bytes_eq b z) (sym name))
+    (rw name (any_file _ ps ∙ new)) at more)
 
 file_at : (x : Text) (i : ℕ) (ps : List TemplateFile)
     → unwrap_or (position_from (is_named x) i ps) (i + length ps) ≡ i + index_of (files_view ps) x
@@ -107,10 +102,10 @@ namespace_found h ks a2 e =
 -- ---- chains and libraries
 
 pub is_chain : (k : NamespaceKey) → k.is_library ≡ false → key_view k ≡ a_chain (string_bytes k.name)
-is_chain k e = ap (λ (b : Bool). if b then a_library (string_bytes k.name) else a_chain (string_bytes k.name)) e
+is_chain k e = rw e
 
 pub is_library : (k : NamespaceKey) → k.is_library ≡ true → key_view k ≡ a_library (string_bytes k.name)
-is_library k e = ap (λ (b : Bool). if b then a_library (string_bytes k.name) else a_chain (string_bytes k.name)) e
+is_library k e = rw e
 
 -- ---- the numbers after an insertion
 
@@ -118,33 +113,33 @@ kind_same : (b : Bool) (x y : Text) → same_namespace (keyed b x) (keyed b y) �
 kind_same true x y = namespaces.symmetric (a_library x) (a_library y)
 kind_same false x y = namespaces.symmetric (a_chain x) (a_chain y)
 
-kind_apart : (b : Bool) (x y : Text) → same_namespace (keyed b x) (keyed (not b) y) ≡ false
+kind_apart : (b : Bool) (x y : Text) → same_namespace (keyed (not b) x) (keyed b y) ≡ false
 kind_apart true x y = refl
 kind_apart false x y = refl
 
-pub namespace_put : (b : Bool) (ks : List NamespaceKey) (k : NamespaceKey) (m n : Table) → AreNumbers (is_kind b) ks m
-    → k.is_library ≡ b → listed (key_view k) (keys_view ks) ≡ false
-    → ((x : Text) → get_by_text n x ≡ cond (bytes_eq (string_bytes k.name) x) (Some (length ks)) (get_by_text m x))
-    → AreNumbers (is_kind b) (ks ++ k ∷ []) n
-namespace_put b ks k m n told is new more =
-    let same_key : keyed b (string_bytes k.name) ≡ key_view k = ap (λ d. keyed d (string_bytes k.name)) (sym is) in
-    numbers_more (is_kind b) ks m n (string_bytes k.name) k told
-    (λ z. ap (same_namespace (keyed b z)) (sym same_key) ∙ kind_same b z _)
-    (any_namespace _ ks ∙ ap (λ h. listed h (keys_view ks)) same_key ∙ new) more
-
-pub namespace_kept : (b : Bool) (ks : List NamespaceKey) (k : NamespaceKey) (m : Table) → AreNumbers (is_kind b) ks m
-    → k.is_library ≡ not b → AreNumbers (is_kind b) (ks ++ k ∷ []) m
-namespace_kept b ks k m told is =
-    numbers_same (is_kind b) ks m k told (λ z.
-    ap (λ d. same_namespace (keyed b z) (keyed d (string_bytes k.name))) is ∙ kind_apart b z _)
+-- A library gets its number among the libraries, and a chain among the chains.
+pub namespace_put : (b : Bool) (ks qs : List NamespaceKey) (k : NamespaceKey) (m n o : Table) (x : Text) (i : ℕ)
+    → AreNumbers (is_kind b) ks m → AreNumbers (is_kind (not b)) ks o → k.is_library ≡ b
+    → listed (key_view k) (keys_view ks) ≡ false → qs ≡ ks ++ k ∷ [] → x ≡ string_bytes k.name → i ≡ length ks
+    → ((z : Text) → get_by_text n z ≡ cond (bytes_eq x z) (Some i) (get_by_text m z))
+    → AreNumbers (is_kind b) qs n × AreNumbers (is_kind (not b)) qs o
+namespace_put b ks qs k m n o x i told others is new all name at more =
+    let same_key : keyed b x ≡ key_view k =
+    ap (keyed b) name ∙ ap (λ d. keyed d (string_bytes k.name)) (sym is) in
+    rw all (
+      numbers_more (is_kind b) ks m n x i k told (λ z. ap (same_namespace (keyed b z)) (sym same_key) ∙ kind_same b z _)
+          (any_namespace _ ks ∙ ap (λ h. listed h (keys_view ks)) same_key ∙ new) at more,
+      numbers_same (is_kind (not b)) ks o k others (λ z.
+          ap (λ d. same_namespace (keyed (not b) z) (keyed d (string_bytes k.name))) is ∙ kind_apart b z _),
+    )
 
 -- The number of chains after the insertion of a library or a chain.
-pub library_more : (old new : List Namespace) (k : NamespaceKey) → new ≡ old ++ key_view k ∷ [] → k.is_library ≡ true
-    → length (chains_of new) ≡ length (chains_of old)
-library_more old new k e is =
+pub library_more : (old new : List Namespace) (k : NamespaceKey) (h : Namespace) → new ≡ old ++ h ∷ [] → h ≡ key_view k
+    → k.is_library ≡ true → length (chains_of new) ≡ length (chains_of old)
+library_more old new k h e same_key is =
     search (arith, rules, chains_of, is_library, chains_both, a_library, string_bytes, append-nil)
 
-pub chain_more : (old new : List Namespace) (k : NamespaceKey) → new ≡ old ++ key_view k ∷ [] → k.is_library ≡ false
-    → length (chains_of new) ≡ length (chains_of old) + 1
-chain_more old new k e is =
+pub chain_more : (old new : List Namespace) (k : NamespaceKey) (h : Namespace) → new ≡ old ++ h ∷ [] → h ≡ key_view k
+    → k.is_library ≡ false → length (chains_of new) ≡ length (chains_of old) + 1
+chain_more old new k h e same_key is =
     search (arith, rules, chains_of, is_chain, chains_both, a_chain, string_bytes, length-append)

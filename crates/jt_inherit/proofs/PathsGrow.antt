@@ -1,27 +1,18 @@
 -- Paths that are extended: their names, sources and weights, and what stays true of them when more is read.
-use Rattle.std.proofs.Common.{◌≡◌, ℕ, zero, suc, ◌+◌, ◌-◌, ◌<◌, ◌≤◌, ◌==◌, Bool, true, false, not, ◌&&◌, List, [], ◌∷◌}
-use Rattle.std.proofs.Common.{◌++◌, length, drop, get_or, refl, sym, ap, subst, ◌∙◌, arith, inl, inr, ◌⊎◌, ⊎_elim}
-use Rattle.std.proofs.Common.{Option, Some, None, length-append, string_bytes, rules, nat_lt, map, ◌||◌}
-use Rattle.jt_inherit.proofs.Vocabulary.{HasRead, among_behind, among_cases, names, flat_map, slice_get, bytes_eq}
-use Rattle.jt_inherit.proofs.Vocabulary.{option_to_list, slice_get_within, slice_get-get_or, AllByRecursion, append-nil}
-use Rattle.jt_inherit.proofs.Vocabulary.{append_assoc, drop_more, length-map, Options, among, repeated, Text, Body, end}
-use Rattle.jt_inherit.proofs.Vocabulary.{AreIndices, templates_at, Sources, Namespace, a_chain, a_library, Template}
-use Rattle.jt_inherit.proofs.Vocabulary.{template, templates, libraries, extends_of, parent_of, names_up, sources_in}
-use Rattle.jt_inherit.proofs.Vocabulary.{SourceTexts, IsRead, IsOnly, IsFaultOf, needs_in, file_view, files_view}
-use Rattle.jt_inherit.proofs.Vocabulary.{TemplateFile, Breaks, HasFault, Shows, Reaches, asked, extends_path, Leads}
-use Rattle.jt_inherit.proofs.Vocabulary.{AreKnown, IsExtendsPath, IsWithin, ChainError, only_one, map_at, IsNamedOn}
-use Rattle.jt_inherit.proofs.Vocabulary.{of_texts, same, among_front, among_next, once_more, map_push, list_any}
-use Rattle.jt_inherit.proofs.Vocabulary.{is_none, nat_tests, IsName, templates_weight, templates_len, or_from, or_right}
-use Rattle.jt_inherit.proofs.Vocabulary.{filter, is_some, listed, library_template, libraries_in, included, with_source}
-use Rattle.jt_inherit.proofs.Vocabulary.{Asks, here, through, BreaksAll, key_view, NamespaceKey, reflexive}
-use Rattle.jt_inherit.proofs.Vocabulary.{flat_map-append}
-use Rattle.jt_inherit.specs.internal.Faults.{HasFaulty}
-use Rattle.jt_inherit.specs.internal.ExtendsPaths.{LeadsFrom}
-use Rattle.jt_inherit.proofs.NameMembership.{all_more}
-use Rattle.jt_inherit.proofs.Membership.{comes_again}
+use Rattle.jt_inherit.proofs.Vocabulary as words
+use words.{◌≡◌, ℕ, zero, suc, ◌+◌, ◌-◌, ◌<◌, ◌≤◌, ◌==◌, Bool, true, false, not, ◌&&◌, List, [], ◌∷◌, ◌++◌, length, drop}
+use words.{get_or, refl, sym, ap, subst, ◌∙◌, arith, inl, inr, ◌⊎◌, ⊎_elim, Option, Some, None, length-append}
+use words.{string_bytes, rules, nat_lt, map, HasRead, among_behind, among_cases, names, flat_map, slice_get, bytes_eq}
+use words.{option_to_list, slice_get_within, slice_get-get_or, AllByRecursion, append-nil, append_assoc, drop_more}
+use words.{length-map, Options, among, repeated, Text, Body, end, AreIndices, templates_at, Sources, Namespace, a_chain}
+use words.{a_library, Template, template, templates, libraries, extends_of, parent_of, names_up, sources_in}
+use words.{SourceTexts, IsRead, IsOnly, IsFaultOf, needs_in, file_view, files_view, TemplateFile, Breaks, HasFault}
+use words.{Shows, Reaches, asked, extends_path, Leads, AreKnown, IsExtendsPath, IsWithin, ChainError, only_one, map_at}
+use words.{IsNamedOn, of_texts, same, among_front, among_next, once_more, map_push, list_any, is_none, nat_tests}
+use words.{IsName, templates_weight, templates_len, or_from, or_right, filter, is_some, listed, library_template}
+use words.{libraries_in, included, with_source, Asks, here, through, BreaksAll, key_view, NamespaceKey, reflexive}
+use words.{flat_map-append, HasFaulty, LeadsFrom, all_more, comes_again, names_at, source_len}
 use Rattle.jt_ast.specs.Sizes.{body_bytes}
-use Rattle.jt_chains.specs.TemplateFiles.{names_at}
-use Rattle.jt_inherit.specs.Small.{source_len}
 use Rattle.jt_inherit.proofs.NumberTables.{is_chain}
 use Rattle.jt_inherit.specs.declared.error.ChainError.TheVariants as error
 
@@ -73,8 +64,7 @@ pub templates_lead : (s : Sources) (o : Option Text) (ts : List Template) (p : O
 templates_lead s o [] p l = refl
 templates_lead s None (t ∷ ts) p l = absurd l
 templates_lead s (Some n) (t ∷ ts) p l =
-    ap (λ b. template t.name b ++ flat_map (λ m. template m (s m)) (names ts)) (ap s l.0 ∙ l.1)
-    ∙ ap (λ xs. t ∷ xs) (templates_lead s (extends_of t.body) ts p l.2)
+    rw (ap s l.0 ∙ l.1) (ap (λ xs. t ∷ xs) (templates_lead s (extends_of t.body) ts p l.2))
 
 pub templates_to_root : (s : Sources) (h : Text) (ts : List Template) → length ts ≤ 64 → Leads s (Some h) ts None
     → templates s (a_chain h) ≡ ts
@@ -107,12 +97,11 @@ pub templates_grow : (ts us : List Template) (is : List ℕ) → AreIndices ts i
     → templates_at (ts ++ us) is ≡ templates_at ts is
 templates_grow ts us [] a = refl
 templates_grow ts us (i ∷ is) a =
-    ap (λ o. option_to_list o ++ templates_at (ts ++ us) is) (at_front ts us i a.0)
-    ∙ ap (λ l. option_to_list (slice_get ts i) ++ l) (templates_grow ts us is a.1)
+    rw (at_front ts us i a.0) (ap (λ l. option_to_list (slice_get ts i) ++ l) (templates_grow ts us is a.1))
 
 pub templates_more : (ts : List Template) (is : List ℕ) (i : ℕ) (t : Template) → slice_get ts i ≡ Some t
     → templates_at ts (is ++ i ∷ []) ≡ templates_at ts is ++ t ∷ []
-templates_more ts [] i t e = ap (λ o. option_to_list o ++ []) e
+templates_more ts [] i t e = rw e
 templates_more ts (j ∷ is) i t e =
     search (arith, rules, option_to_list, slice_get, templates_more ts is i t e, append_assoc, templates_at)
 
@@ -147,7 +136,7 @@ all_templates ts (i ∷ is) a = by (slice_get ts i) refl (all_templates ts is a.
     by None e r =
         let h = slice_get-get_or ts i (let none : Template = record { name = []; body = end } in none) a.0 in
         absurd (cc)
-    by (Some t) e r = ap (λ o. length (option_to_list o ++ templates_at ts is)) e ∙ ap suc r
+    by (Some t) e r = rw e (ap suc r)
 
 pub all_at_indices : (P : Template → Type 0) (ts : List Template) (is : List ℕ) → AllByRecursion P ts
     → AllByRecursion P (templates_at ts is)
@@ -156,13 +145,13 @@ all_at_indices P ts (i ∷ is) a = by (slice_get ts i) refl (all_at_indices P ts
   where
     at : (us : List Template) (j : ℕ) (t : Template) → slice_get us j ≡ Some t → AllByRecursion P us → P t
     at [] j t e h = absurd (cc)
-    at (u ∷ us) zero t e h = subst P (let k : u ≡ t = cc in k) h.0
+    at (u ∷ us) zero t e h = rw (← (let k : u ≡ t = cc in k)) h.0
     at (u ∷ us) (suc j) t e h = at us j t e h.1
 
     by : (o : Option Template) → slice_get ts i ≡ o → AllByRecursion P (templates_at ts is)
         → AllByRecursion P (option_to_list (slice_get ts i) ++ templates_at ts is)
-    by None e r = subst (λ o. AllByRecursion P (option_to_list o ++ templates_at ts is)) (sym e) r
-    by (Some t) e r = subst (λ o. AllByRecursion P (option_to_list o ++ templates_at ts is)) (sym e) (at ts i t e a, r)
+    by None e r = rw e r
+    by (Some t) e r = rw e (at ts i t e a, r)
 
 -- ---- templates that are read
 
@@ -284,7 +273,7 @@ module _ {given : SourceTexts} {options : Options} {root : Text} {ts : List Temp
       sixty_five n us len o =
           let count : length (names us ++ n ∷ []) ≡ 65 =
           length-append (names us) (n ∷ []) ∙ ap (λ k. k + 1) (length-map us (λ (u : Template). u.name) ∙ len) in
-          ap (λ k. (k == 65) && not (repeated (names us ++ n ∷ []))) count ∙ ap not o
+          rw count (ap not o)
 
   pub fault_breaks : {is : List ℕ} {n : Text} → IsExtendsPath ts (a_chain h) is (Some n) → (e : ChainError)
       → IsFaultOf e given n options → Breaks e given root options
@@ -338,21 +327,17 @@ module _ {given : SourceTexts} {options : Options} {vs ts us : List Template} {i
   pub way_step : {o : Option Text} → among n (names (templates_at ts is)) ≡ false → length is < 64
       → o ≡ extends_of t.body → IsExtendsPath us (a_chain h) js o
   way_step {o} new lt ext =
-      let grown : IsExtendsPath us (a_chain h) is (Some n) = subst (λ l. IsExtendsPath l (a_chain h) is (Some n))
-      (sym r.grown) (way_grows _ r.more _ _ _ w) in
+      let grown : IsExtendsPath us (a_chain h) is (Some n) = rw r.grown (way_grows _ r.more _ _ _ w) in
       let newly_read : among n (names (templates_at us is)) ≡ false =
-      ap (λ l. among n (names (templates_at l is))) r.grown
-      ∙ ap (λ l. among n (names l)) (templates_grow ts r.more is w.indices) ∙ new in
-      subst (λ z. IsExtendsPath us (a_chain h) z o) (sym longer)
-      (subst (IsExtendsPath us (a_chain h) (is ++ i ∷ [])) (sym ext)
-      (way_next us h is i t n grown held named newly_read r.known.read.once lt))
+      rw r.grown (ap (λ l. among n (names l)) (templates_grow ts r.more is w.indices) ∙ new) in
+      rw longer (rw ext (way_next us h is i t n grown held named newly_read r.known.read.once lt))
 
 -- ---- names on the path
 
 front_up : (s : Sources) (k : ℕ) (n : Text) (t : Template) → t.name ≡ n → s n ≡ Some t.body
     → names_up s (suc k) (Some n) ≡ t.name ∷ names_up s k (extends_of t.body)
 front_up s k n t e f =
-    ap (λ o. n ∷ names_up s k (parent_of o)) f ∙ ap (λ x. x ∷ names_up s k (extends_of t.body)) (sym e)
+    rw f (ap (λ x. x ∷ names_up s k (extends_of t.body)) (sym e))
 
 among_up : (s : Sources) (k : ℕ) (o : Option Text) (ts : List Template) (x : Text) → Leads s o ts None
     → among x (names_up s k o) ≡ true → among x (names ts) ≡ true
@@ -425,64 +410,69 @@ passes_among p x (y ∷ xs) h t = search (arith, rules, passes_among p x xs, or_
 
 -- ---- the templates of a chain when sources grow
 
-pub up_some : (s : Sources) (k : ℕ) (n : Text) (b : Body) → s n ≡ Some b
-    → flat_map (λ m. template m (s m)) (names_up s (suc k) (Some n))
-    ≡ template n (Some b) ++ flat_map (λ m. template m (s m)) (names_up s k (extends_of b))
-up_some s k n b e = ap (λ o. template n o ++ flat_map (λ m. template m (s m)) (names_up s k (parent_of o))) e
+-- The templates of the names on a path.
+abbrev pub templates_up : Sources → ℕ → Option Text → List Template
+templates_up s k o = flat_map (λ n. template n (s n)) (names_up s k o)
 
-up_none : (s : Sources) (k : ℕ) (n : Text) → s n ≡ None
-    → flat_map (λ m. template m (s m)) (names_up s (suc k) (Some n)) ≡ []
+up_some : (s : Sources) (k : ℕ) (n : Text) (b : Body) → s n ≡ Some b
+    → templates_up s (suc k) (Some n) ≡ template n (Some b) ++ templates_up s k (extends_of b)
+up_some s k n b e = rw e
+
+up_none : (s : Sources) (k : ℕ) (n : Text) → s n ≡ None → templates_up s (suc k) (Some n) ≡ []
 up_none s k n e = search (arith, rules, template, flat_map, names_up, parent_of, none_up)
 
 -- Each of these names that has a tree in the first sources has the same tree in the second ones.
 abbrev pub Carries : Sources → Sources → List Text → Type 0
 Carries s r xs = (n : Text) → among n xs ≡ true → (b : Body) → s n ≡ Some b → r n ≡ Some b
 
-pub carries_up : (s r : Sources) (k : ℕ) (n : Text) (b : Body) → r n ≡ Some b
+carries_up : (s r : Sources) (k : ℕ) (n : Text) (b : Body) → r n ≡ Some b
     → Carries s r (names_up r (suc k) (Some n)) → Carries s r (names_up r k (extends_of b))
 carries_up s r k n b e g m a = search (arith, rules, or_right, bytes_eq, among, names_up, parent_of)
 
-pub front_carried : (s r : Sources) (k : ℕ) (n : Text) → Carries s r (names_up r (suc k) (Some n)) → (b : Body)
+front_carried : (s r : Sources) (k : ℕ) (n : Text) → Carries s r (names_up r (suc k) (Some n)) → (b : Body)
     → s n ≡ Some b → r n ≡ Some b
-front_carried s r k n g b e = g n (ap (λ c. c || among n (names_up r k (parent_of (r n)))) (reflexive n)) b e
+front_carried s r k n g b e = g n (rw (reflexive n)) b e
 
--- The names on the path are the first of those on the path when more is read.
-pub names_more : (s r : Sources) (k : ℕ) (o : Option Text) → Carries s r (names_up r k o)
-    → (rest : List Text) × (names_up r k o ≡ names_up s k o ++ rest)
-names_more s r zero o g = ([], refl)
-names_more s r (suc k) None g = ([], refl)
-names_more s r (suc k) (Some n) g =
-    by (s n) refl (λ b e. names_more s r k _ (carries_up s r k n b (front_carried s r k n g b e) g))
-  where
-    by : (o : Option Body) → s n ≡ o → ((b : Body) → s n ≡ Some b
-        → (rest : List Text) × (names_up r k (extends_of b) ≡ names_up s k (extends_of b) ++ rest))
-        → (rest : List Text) × (names_up r (suc k) (Some n) ≡ names_up s (suc k) (Some n) ++ rest)
-    by None e f = (
-      names_up r k (parent_of (r n)),
-      sym (ap (λ o. n ∷ names_up s k (parent_of o) ++ names_up r k (parent_of (r n))) e
-          ∙ ap (λ l. n ∷ l ++ names_up r k (parent_of (r n))) (none_up s k)),
-    )
-    by (Some b) e f = search (arith, rules, front_carried)
+-- When more is read, a path and its templates begin with those before. They stay the same if each name had a source.
+pub record Continues (s r : Sources) (k : ℕ) (o : Option Text) : Type 0 where
+  pub more : List Text
+  pub longer : names_up r k o ≡ names_up s k o ++ more
+  pub more_templates : List Template
+  pub more_there : templates_up r k o ≡ templates_up s k o ++ more_templates
+  pub whole : list_any (λ n. is_none (s n)) (names_up s k o) ≡ false
+      → (names_up r k o ≡ names_up s k o) × (templates_up r k o ≡ templates_up s k o)
 
-pub templates_begin : (s r : Sources) (k : ℕ) (o : Option Text) → Carries s r (names_up r k o)
-    → (rest : List Template)
-    × (flat_map (λ n. template n (r n)) (names_up r k o) ≡ flat_map (λ n. template n (s n)) (names_up s k o) ++ rest)
-templates_begin s r zero o g = ([], refl)
-templates_begin s r (suc k) None g = ([], refl)
-templates_begin s r (suc k) (Some n) g =
-    by (s n) refl (λ b e. templates_begin s r k _ (carries_up s r k n b (front_carried s r k n g b e) g))
+pub continues : (s r : Sources) (k : ℕ) (o : Option Text) → Carries s r (names_up r k o) → Continues s r k o
+continues s r zero o g =
+    record { more = []; longer = refl; more_templates = []; more_there = refl; whole = λ h. (refl, refl) }
+continues s r (suc k) None g =
+    record { more = []; longer = refl; more_templates = []; more_there = refl; whole = λ h. (refl, refl) }
+continues s r (suc k) (Some n) g =
+    by (s n) refl (λ b e. continues s r k _ (carries_up s r k n b (front_carried s r k n g b e) g))
   where
-    by : (o : Option Body) → s n ≡ o
-        → ((b : Body) → s n ≡ Some b → (rest : List Template)
-        × (flat_map (λ m. template m (r m)) (names_up r k (extends_of b))
-        ≡ flat_map (λ m. template m (s m)) (names_up s k (extends_of b)) ++ rest))
-        → (rest : List Template) × (flat_map (λ m. template m (r m)) (names_up r (suc k) (Some n))
-        ≡ flat_map (λ m. template m (s m)) (names_up s (suc k) (Some n)) ++ rest)
-    by None e f = (
-      flat_map (λ m. template m (r m)) (names_up r (suc k) (Some n)),
-      sym (ap (λ l. l ++ flat_map (λ m. template m (r m)) (names_up r (suc k) (Some n))) (up_none s k n e)),
-    )
-    by (Some b) e f = search (arith, rules, up_some, front_carried)
+    by : (o : Option Body) → s n ≡ o → ((b : Body) → s n ≡ Some b → Continues s r k (extends_of b))
+        → Continues s r (suc k) (Some n)
+    by None e f = record {
+      more = names_up r k (parent_of (r n));
+      longer =
+          sym (rw e (ap (λ l. n ∷ l ++ names_up r k (parent_of (r n))) (none_up s k)));
+      more_templates = templates_up r (suc k) (Some n);
+      more_there = sym (rw (up_none s k n e));
+      whole = λ h.
+          let no : true ≡ false =
+          sym (rw e) ∙ h in
+          absurd (cc);
+    }
+    by (Some b) e f =
+        let at = front_carried s r k n g b e in
+        let p = f b e in
+        record {
+          more = p.more;
+          longer = search (arith, rules);
+          more_templates = p.more_templates;
+          more_there = search (arith, rules, up_some);
+          whole = λ h. search (arith, rules, up_some);
+        }
 
 -- The first m names on the path begin with the first k.
 pub up_more : (s : Sources) (m k : ℕ) (o : Option Text) → k ≤ m
@@ -503,7 +493,7 @@ chains_listed n [] ys = none ys
     none : (zs : List Text) → listed (a_chain n) (map a_library zs) ≡ false
     none [] = refl
     none (z ∷ zs) = none zs
-chains_listed n (x ∷ xs) ys = ap (λ b. bytes_eq x n || b) (chains_listed n xs ys)
+chains_listed n (x ∷ xs) ys = rw (chains_listed n xs ys)
 
 pub libraries_listed : (n : Text) (xs ys : List Text)
     → listed (a_library n) (map a_chain xs ++ map a_library ys) ≡ among n ys
@@ -511,7 +501,7 @@ libraries_listed n [] ys = theirs ys
   where
     theirs : (zs : List Text) → listed (a_library n) (map a_library zs) ≡ among n zs
     theirs [] = refl
-    theirs (z ∷ zs) = ap (λ b. bytes_eq z n || b) (theirs zs)
+    theirs (z ∷ zs) = rw (theirs zs)
 libraries_listed n (x ∷ xs) ys = libraries_listed n xs ys
 
 -- Namespaces of names are members if the names are.
@@ -536,7 +526,7 @@ library_more s r n g = by (s n) refl
   where
     by : (o : Option Body) → s n ≡ o
         → (rest : List Template) × (library_template n (r n) ≡ library_template n (s n) ++ rest)
-    by None e = (library_template n (r n), sym (ap (λ o. library_template n o ++ library_template n (r n)) e))
+    by None e = (library_template n (r n), sym (rw e))
     by (Some b) e = search (arith, rules, reflexive, append-nil)
 
 module _ (s r : Sources) (e : Bool) (entry : Namespace)
@@ -570,12 +560,13 @@ module _ (s r : Sources) (e : Bool) (entry : Namespace)
   -- When more is read, the path of a namespace begins with its path before.
   pub way_more : (h : Namespace) → Reaches r e entry h
       → (rest : List Text) × (extends_path r e h ≡ extends_path s e h ++ rest)
-  way_more (a_chain n) p = names_more s r 65 (Some n) (on_path (a_chain n) p)
+  way_more (a_chain n) p = let c = continues s r 65 (Some n) (on_path (a_chain n) p) in (c.more, c.longer)
   way_more (a_library n) p = ([], refl)
 
   pub namespace_more : (h : Namespace) → Reaches r e entry h
       → (rest : List Template) × (templates r h ≡ templates s h ++ rest)
-  namespace_more (a_chain n) p = templates_begin s r 64 (Some n) (on_first n p)
+  namespace_more (a_chain n) p =
+      let c = continues s r 64 (Some n) (on_first n p) in (c.more_templates, c.more_there)
   namespace_more (a_library n) p = library_more s r n (on_path (a_library n) p)
 
   pub libraries_more : (h : Namespace) → Reaches r e entry h
@@ -656,14 +647,12 @@ module _ (s r : Sources) (e : Bool) (entry : Namespace)
 pub reach_more : (ts us more : List Template) (e : Bool) (h k : Namespace) → us ≡ ts ++ more
     → Reaches (sources_in ts) e h k → Reaches (sources_in us) e h k
 reach_more ts us more e h k grown r =
-    subst (λ vs. Reaches (sources_in vs) e h k) (sym grown)
-    (reaches_more (sources_in ts) (sources_in (ts ++ more)) e h (λ n b i. more_sources ts more n b) here r)
+    rw grown (reaches_more (sources_in ts) (sources_in (ts ++ more)) e h (λ n b i. more_sources ts more n b) here r)
 
 pub ask_more : (ts us more : List Template) (e : Bool) (h : Namespace) (n : Text) → us ≡ ts ++ more
     → Asks (sources_in ts) e h n → Asks (sources_in us) e h n
 ask_more ts us more e h n grown i =
-    subst (λ vs. Asks (sources_in vs) e h n) (sym grown)
-    (asks_more (sources_in ts) (sources_in (ts ++ more)) e h (λ m b k. more_sources ts more m b) n i)
+    rw grown (asks_more (sources_in ts) (sources_in (ts ++ more)) e h (λ m b k. more_sources ts more m b) n i)
 
 -- An error that breaks each chain that reaches a namespace when more is read breaks each chain that
 -- reached it before.
@@ -671,5 +660,4 @@ pub chain_breaks : (given : SourceTexts) (options : Options) (ts us more : List 
     → (k : NamespaceKey) → k.is_library ≡ false → (e : ChainError)
     → BreaksAll given options us (a_chain (string_bytes k.name)) e → BreaksAll given options ts (key_view k) e
 chain_breaks given options ts us more grown k is e b =
-    subst (λ h. BreaksAll given options ts h e) (sym (is_chain k is))
-    (λ root r. b root (reach_more _ _ _ _ _ _ grown r))
+    rw (is_chain k is) (λ root r. b root (reach_more _ _ _ _ _ _ grown r))

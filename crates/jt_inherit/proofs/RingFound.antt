@@ -1,15 +1,11 @@
 -- A ring of the numbers of chains and libraries is one of the chains and libraries.
-use Rattle.std.proofs.Common.{◌≡◌, ◌⊎◌, ℕ, true, List, [], ◌∷◌, ◌<◌, ◌≤◌, ◌-◌, length, map, refl, sym, subst, ◌∙◌}
-use Rattle.std.proofs.Common.{⊎_elim, Option, Some, Bool, String, Vec, Global, arith, ap, suc}
+use Rattle.jt_inherit.proofs.Vocabulary as words
+use words.{◌≡◌, ◌⊎◌, ℕ, true, List, [], ◌∷◌, ◌<◌, ◌≤◌, ◌-◌, length, map, refl, sym, subst, ◌∙◌, ⊎_elim, Option, Some}
+use words.{Bool, String, Vec, Global, arith, suc, LeadsTo, IsRingOf, HasRing, cases_lt, map-map, slice_get, unwrap_or}
+use words.{AllByRecursion, Graph, next_of, Options, Text, templates_at, Namespace, namespace_name, Template, Sources}
+use words.{sources_in, namespace_at, SourceTexts, IsFinding, IsNoMemory, Says, all_uses, leads_to, AreFound}
+use words.{last_number, ChainFinding, Reaches, here, through, name_at, ChainSubject}
 use Rattle.jt_graph.specs.Graph.{Leads}
-use Rattle.jt_inherit.specs.Findings.{LeadsTo}
-use Rattle.jt_inherit.specs.internal.Placing.{IsRingOf}
-use Rattle.jt_inherit.specs.internal.Rings.{HasRing}
-use Rattle.jt_inherit.proofs.Vocabulary.{cases_lt, map-map, slice_get, unwrap_or, AllByRecursion, Graph, next_of}
-use Rattle.jt_inherit.proofs.Vocabulary.{Options, Text, templates_at, Namespace, namespace_name, Template, Sources}
-use Rattle.jt_inherit.proofs.Vocabulary.{sources_in, namespace_at, SourceTexts, HasTag, IsFinding, IsNoMemory, Says}
-use Rattle.jt_inherit.proofs.Vocabulary.{all_uses, leads_to, Breaks, AreFound, last_number, ChainFinding, Reaches, here}
-use Rattle.jt_inherit.proofs.Vocabulary.{through, name_at, ChainSubject}
 use Rattle.jt_inherit.proofs.ChainComplete.{edge, none_next, number, reached}
 use Rattle.jt_inherit.proofs.DiscoveryInvariant.{whole_path}
 use Rattle.jt_inherit.proofs.FindingsHold.{no_memory, said_at, shown}
@@ -22,7 +18,7 @@ use Rattle.jt_inherit.specs.declared.finding.ChainSubject.TheVariants as v
 
 led_reaches : (s : Sources) (e : Bool) (h : Namespace) (ks : List Namespace) (t : Namespace) → LeadsTo s h ks t
     → Reaches s e h t
-led_reaches s e h [] t l = subst (Reaches s e h) l here
+led_reaches s e h [] t l = rw (← l) here
 led_reaches s e h (k ∷ ks) t l = through l.0 (led_reaches s e k ks t l.1)
 
 last_leads : (g : Graph) (i : ℕ) (is : List ℕ) (t : ℕ) → Leads g i is t
@@ -55,11 +51,9 @@ module _ {given : SourceTexts} {options : Options} {entry : Text} {ts : List Tem
           let back = leads_namespaces first r.1 first r.2 in
           record {
             broken =
-                subst (λ z. Breaks z given entry options) (sym r.3.error)
-                (shows f.known (h, there, (next, e.1, led_reaches _ _ next _ h back)));
+                rw r.3.error (shows f.known (h, there, (next, e.1, led_reaches _ _ next _ h back)));
             says =
-                subst (λ z. Says given entry options x.place x.subject z) (sym r.3.error)
-                (by x.subject r.3.subject
+                rw r.3.error (by x.subject r.3.subject
                 (λ n rest q. said_at f.known there _ _ _
                 (all_uses (templates_at ts (next_of ws last))) used x.place r.3.place
                 (λ z tag. shown f.known there error.IncludeCycle z (v.Ring n rest) (record {
@@ -67,7 +61,7 @@ module _ {given : SourceTexts} {options : Options} {entry : Text} {ts : List Tem
                   others = map (namespace_at hs) r.1;
                   first_name = sym q.0;
                   other_names = map-map namespace_name (namespace_at hs) r.1 ∙ sym q.1;
-                  tag = subst (λ l. HasTag (leads_to next) l z) (sym front) tag;
+                  tag = rw front tag;
                   led = e.1;
                   back = back;
                 }))));
@@ -99,7 +93,7 @@ last_of i [] = refl
 last_of i (k ∷ []) = refl
 last_of i (k ∷ (j ∷ is)) =
     let one : length (k ∷ (j ∷ is)) - 1 ≡ suc (length (j ∷ is) - 1) = omega arith in
-    ap (λ m. unwrap_or (slice_get (k ∷ (j ∷ is)) m) i) one ∙ last_of i (j ∷ is)
+    rw one (last_of i (j ∷ is))
 
 pub last_is : (i : ℕ) (is : List ℕ) (o : Option ℕ) → o ≡ slice_get is (length is - 1) → unwrap_or o i ≡ last_number i is
-last_is i is o e = ap (λ o. unwrap_or o i) e ∙ last_of i is
+last_is i is o e = rw e (last_of i is)

@@ -1,20 +1,16 @@
 -- A rule that the templates read so far break is broken by the whole chain.
-use Rattle.std.proofs.Common.{◌≡◌, ℕ, zero, suc, ◌<◌, ◌≤◌, ◌==◌, Bool, true, false, not, ◌&&◌, ◌||◌, nat_lt, List, []}
-use Rattle.std.proofs.Common.{◌∷◌, ◌++◌, length, map, refl, sym, ap, subst, ◌∙◌, arith, inl, inr, ◌⊎◌, ⊎_elim, Option}
-use Rattle.std.proofs.Common.{Some, None, length-append, rules}
-use Rattle.jt_chains.specs.Chain.{given, imports}
+use Rattle.jt_inherit.proofs.Vocabulary as words
+use words.{◌≡◌, ℕ, zero, suc, ◌<◌, ◌≤◌, ◌==◌, Bool, true, false, not, ◌&&◌, ◌||◌, List, [], ◌∷◌, ◌++◌, length, map}
+use words.{refl, sym, ap, subst, ◌∙◌, arith, inl, inr, ◌⊎◌, ⊎_elim, Option, Some, None, length-append, rules, given}
+use words.{imports, flat_map, list_any, is_none, append-nil, map-append, cases_lt, nat_tests, among, repeated, Text}
+use words.{Body, Sources, Namespace, a_chain, a_library, Template, templates, library_template, is_a_library, parent_of}
+use words.{names_up, blocks_in, MacroBody, macros, own, libraries_in, lacks_body, lacks_next, their_blocks}
+use words.{their_macros, any_double, any_lacks_macros, names_from, imported_names, Asks, Reaches, here, is_whole}
+use words.{extends_path, of_texts, reflexive, among_behind, among_front, and_from, and_parts, flat_map-append}
+use words.{list_any-append, not-true, or_from, or_left, or_parts, or_right}
 use Rattle.jt_chains.specs.Rules.{InSomeChain, BadName, ExtendsCycle, ChainTooLong, DoubleBlock, RequiredNotGiven}
 use Rattle.jt_chains.specs.Rules.{NoSuper, IncludeCycle, MacroTwice, NoMacro, NotALibrary}
-use Rattle.jt_inherit.proofs.Vocabulary.{flat_map, list_any, is_none, append-nil, map-append, cases_lt, nat_tests}
-use Rattle.jt_inherit.proofs.Vocabulary.{among, repeated, Text, Body, Sources, Namespace, a_chain, a_library, Template}
-use Rattle.jt_inherit.proofs.Vocabulary.{template, templates, library_template, is_a_library, extends_of, parent_of}
-use Rattle.jt_inherit.proofs.Vocabulary.{names_up, blocks_in, MacroBody, macros, own, libraries_in, lacks_body}
-use Rattle.jt_inherit.proofs.Vocabulary.{lacks_next, their_blocks, their_macros, any_double, any_lacks_macros}
-use Rattle.jt_inherit.proofs.Vocabulary.{names_from, imported_names, Asks, Reaches, here, is_whole, extends_path}
-use Rattle.jt_inherit.proofs.Vocabulary.{of_texts, reflexive, among_behind, among_front, and_from, and_parts}
-use Rattle.jt_inherit.proofs.Vocabulary.{flat_map-append, list_any-append, not-true, or_from, or_left, or_parts}
-use Rattle.jt_inherit.proofs.Vocabulary.{or_right}
-use Rattle.jt_inherit.proofs.PathsGrow.{Carries, carries_up, front_carried, up_more, up_some, on_path, on_first}
+use Rattle.jt_inherit.proofs.PathsGrow.{Carries, continues, up_more, on_path, on_first}
 use Rattle.jt_inherit.proofs.PathsGrow.{on_libraries, way_more, namespace_more, included_more, reaches_more}
 use Rattle.jt_inherit.proofs.PathsGrow.{reaches_next, asked_more}
 use Rattle.jt_inherit.proofs.DiscoveryInvariant.{all_imported, own_named}
@@ -54,27 +50,7 @@ up_ends s m zero o le lt = absurd (omega arith)
 up_ends s zero (suc k) o le lt = absurd (omega arith)
 up_ends s (suc m) (suc k) None le lt = refl
 up_ends s (suc m) (suc k) (Some n) le lt =
-    ap (λ l. n ∷ l) (up_ends s m k (parent_of (s n)) (omega (arith, le)) (omega (arith, lt)))
-
--- If each name on the path has a source, the path is the same, and so are its templates.
-up_same : (s r : Sources) (k : ℕ) (o : Option Text) → Carries s r (names_up r k o)
-    → list_any (λ n. is_none (s n)) (names_up s k o) ≡ false
-    → (names_up r k o ≡ names_up s k o)
-    × (flat_map (λ n. template n (r n)) (names_up r k o) ≡ flat_map (λ n. template n (s n)) (names_up s k o))
-up_same s r zero o g h = (refl, refl)
-up_same s r (suc k) None g h = (refl, refl)
-up_same s r (suc k) (Some n) g h =
-    by (s n) refl (λ b e. up_same s r k (extends_of b) (carries_up s r k n b (front_carried s r k n g b e) g))
-  where
-    by : (o : Option Body) → s n ≡ o
-        → ((b : Body) → s n ≡ Some b → list_any (λ m. is_none (s m)) (names_up s k (extends_of b)) ≡ false
-        → (names_up r k (extends_of b) ≡ names_up s k (extends_of b))
-        × (flat_map (λ m. template m (r m)) (names_up r k (extends_of b))
-        ≡ flat_map (λ m. template m (s m)) (names_up s k (extends_of b))))
-        → (names_up r (suc k) (Some n) ≡ names_up s (suc k) (Some n))
-        × (flat_map (λ m. template m (r m)) (names_up r (suc k) (Some n))
-        ≡ flat_map (λ m. template m (s m)) (names_up s (suc k) (Some n)))
-    by a0 e f = search (arith, rules, front_carried, up_some)
+    rw (up_ends s m k (parent_of (s n)) (omega (arith, le)) (omega (arith, lt)))
 
 either_true : (a b : Bool) → (a || b) ≡ true → (a ≡ true) ⊎ (b ≡ true)
 either_true true b h = inl refl
@@ -83,7 +59,7 @@ either_true false b h = inr h
 -- Each name of a part of a list keeps its source.
 module _ {s r : Sources} where
   carries_head : (n : Text) (xs : List Text) → Carries s r (n ∷ xs) → (b : Body) → s n ≡ Some b → r n ≡ Some b
-  carries_head n xs g = g n (ap (λ c. c || among n xs) (reflexive n))
+  carries_head n xs g = g n (rw (reflexive n))
 
   carries_rest : (n : Text) (xs : List Text) → Carries s r (n ∷ xs) → Carries s r xs
   carries_rest n xs g m a = g m (or_right _ _ a)
@@ -266,7 +242,7 @@ module _ (s r : Sources) (e : Bool) (entry : Namespace)
   pub extends_cycle : ExtendsCycle s e entry → ExtendsCycle r e entry ⊎ ChainTooLong r e entry
   extends_cycle x =
       let y = x.2 in
-      cycle y.0 y.2 (subst (Reaches r e entry) y.1 (there x.1)) y.3
+      cycle y.0 y.2 (rw (← y.1) (there x.1)) y.3
 
   pub too_long : ChainTooLong s e entry → ChainTooLong r e entry
   too_long x =
@@ -296,11 +272,10 @@ module _ (s r : Sources) (e : Bool) (entry : Namespace)
       let still =
       still_none s r (extends_path s e h) (λ n a. on_path s r e entry g h p n (ap (among n) one.0 ∙ a)) sources in (
         one.1,
-        ap (λ l. not (repeated l) && (nat_lt (length l) 65 && not (list_any (λ n. is_none (r n)) l))) one.0
-            ∙ and_from _
+        rw one.0 (and_from _
             _ w1.0
             (and_from _
-            _ w2.0 (ap not still)),
+            _ w2.0 (ap not still))),
       )
     where
       same_namespace_way : (k : Namespace) → Reaches r e entry k
@@ -308,8 +283,8 @@ module _ (s r : Sources) (e : Bool) (entry : Namespace)
           → (extends_path r e k ≡ extends_path s e k) × (templates r k ≡ templates s k)
       same_namespace_way (a_chain n) q sources =
           let more = up_more s 65 64 (Some n) (omega arith) in (
-            (up_same s r 65 (Some n) (on_path s r e entry g (a_chain n) q) sources).0,
-            (up_same s r 64 (Some n) (on_first s r e entry g n q)
+            ((continues s r 65 (Some n) (on_path s r e entry g (a_chain n) q)).whole sources).0,
+            ((continues s r 64 (Some n) (on_first s r e entry g n q)).whole
                 (none_front (λ m. is_none (s m)) (names_up s 64 (Some n)) more.0
                 (ap (list_any (λ m. is_none (s m))) (sym more.1) ∙ sources))).1,
           )
@@ -319,7 +294,7 @@ module _ (s r : Sources) (e : Bool) (entry : Namespace)
           by None f =
               let no : false ≡ true = sym sources ∙ ap (λ o. is_none o || false) f in
               absurd (cc)
-          by (Some b) f = on_path s r e entry g (a_library n) q n (ap (λ c. c || false) (reflexive n)) b f ∙ sym f
+          by (Some b) f = on_path s r e entry g (a_library n) q n (rw (reflexive n)) b f ∙ sym f
 
   in_chain : (f : List Template → Bool) → InSomeChain s e entry (λ h. f (templates s h))
       → InSomeChain r e entry (λ h. f (templates r h))
@@ -335,9 +310,8 @@ module _ (s r : Sources) (e : Bool) (entry : Namespace)
   names_kept : (h : Namespace) → Reaches r e entry h → templates r h ≡ templates s h
       → Within (map (λ x. x.0) (given s h)) (map (λ x. x.0) (given r h))
   names_kept h p same_templates =
-      subst (λ l. Within l (map (λ x. x.0) (given r h))) (sym (given_names s h))
-      (subst (Within (map (λ m. m.name) (macros s h) ++ map (λ x. x.0) (imports s h))) (sym (given_names r h))
-      (within_both
+      rw (given_names s h)
+      (rw (given_names r h) (within_both
       (subst (λ (l : List MacroBody). Within (map (λ m. m.name) (macros s h)) (map (λ m. m.name) l))
       (sym (ap their_macros same_templates)) (within_same (map (λ m. m.name) (macros s h))))
       (by h p same_templates)))
@@ -348,9 +322,8 @@ module _ (s r : Sources) (e : Bool) (entry : Namespace)
       by (a_chain n) q t =
           let ts = templates s (a_chain n) in
           let us = templates r (a_chain n) in
-          subst (λ l. Within l (map (λ x. x.0) (imports r (a_chain n)))) (sym (all_imported s ts))
-          (subst (Within (flat_map (λ (u : Template). imported_names s u.body) ts))
-          (sym (all_imported r us ∙ ap (flat_map (λ (u : Template). imported_names r u.body)) t))
+          rw (all_imported s ts)
+          (rw (all_imported r us ∙ ap (flat_map (λ (u : Template). imported_names r u.body)) t)
           (all_imports s r ts (λ m a. on_libraries s r e entry g (a_chain n) q m
           (ap (λ vs. among m (flat_map (λ (u : Template). libraries_in u.body) vs)) t ∙ a))))
 
@@ -380,8 +353,8 @@ module _ (s r : Sources) (e : Bool) (entry : Namespace)
           ap (any_lacks_macros r) more.1
           ∙ any_front (λ u. rules.lacks_macros r u.body) (templates s h) more.0
           (all_lacking s r (templates s h) (λ k a. on_libraries s r e entry g h p k
-          (ap (λ vs. among k (flat_map f vs)) more.1 ∙ ap (among k) (flat_map-append f (templates s h) more.0)
-          ∙ among_front of_texts k _ _ a)) t)
+          (rw more.1 (ap (among k) (flat_map-append f (templates s h) more.0)
+          ∙ among_front of_texts k _ _ a))) t)
 
   pub not_a_library : NotALibrary s e entry → NotALibrary r e entry
   not_a_library x = search (arith, rules, there, on_path, reflexive)

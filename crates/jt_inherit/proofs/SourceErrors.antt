@@ -1,18 +1,14 @@
 -- Errors of a source: its segments with their options, and the trees that they spell.
-use Rattle.std.proofs.Common.{◌≡◌, ◌<◌, ◌≤◌, List, [], ◌∷◌, length, map, refl, sym, ap, subst, ◌∙◌, chars, Some, None}
-use Rattle.std.proofs.Common.{arith, rules}
+use Rattle.jt_inherit.proofs.Vocabulary as words
+use words.{◌≡◌, ◌<◌, ◌≤◌, List, [], ◌∷◌, length, map, refl, sym, ap, ◌∙◌, chars, Some, None, arith, rules, segment_view}
+use words.{HaveOptions, Read, HasNoTree, IsFault, IsScan, IsParse, cases_lt, normalized, Held, max_source_len, cut_of}
+use words.{Options, Spelled, pieces, body_unknown, IsRefusal, Body, body_levels, body_of, reads_of, SourceTexts, IsTree}
+use words.{IsOnly, IsUncut, IsUnspelled, ChainError}
 use Rattle.jt_scan.specs.Cut.{Text, IsCut}
-use Rattle.jt_scan.specs.View.{segment_view, HaveOptions}
 use Rattle.jt_scan.specs.declared.error.ScanError.{ScanError}
 use Rattle.jt_scan.specs.declared.segment.Segment.{Segment}
-use Rattle.jt_parse.specs.Kept.{Read}
 use Rattle.jt_parse.specs.declared.error.ParseError.{ParseError}
 use Rattle.jt_ast.specs.declared.statement.Template.{Template}
-use Rattle.jt_inherit.specs.Chains.{HasNoTree}
-use Rattle.jt_inherit.specs.internal.Faults.{IsFault, IsScan, IsParse}
-use Rattle.jt_inherit.proofs.Vocabulary.{cases_lt, normalized, Held, max_source_len, cut_of, Options, Spelled, pieces}
-use Rattle.jt_inherit.proofs.Vocabulary.{body_unknown, IsRefusal, Body, body_levels, body_of, reads_of, SourceTexts}
-use Rattle.jt_inherit.proofs.Vocabulary.{IsTree, IsOnly, IsUncut, IsUnspelled, ChainError}
 use Rattle.jt_scan.specs.Cut as cut
 use Rattle.jt_scan.specs.Refused as scanner
 use Rattle.jt_scan.specs.declared.error.ScanError.TheVariants as scan_error
@@ -24,8 +20,7 @@ pub read_cut : (options : Options) (ss : List Segment) → HaveOptions options s
     → reads_of ss ≡ map (λ s. (options, s)) (cut_of ss)
 read_cut options [] h = refl
 read_cut options (s ∷ ss) h =
-    ap (λ o. let r : Read = (o, segment_view s) in r ∷ reads_of ss) h.0
-    ∙ ap (λ l. let r : Read = (options, segment_view s) in r ∷ l) (read_cut options ss h.1)
+    rw h.0 (ap (λ l. let r : Read = (options, segment_view s) in r ∷ l) (read_cut options ss h.1))
 
 pub limited : (given : Text) → (max_source_len < length given → ⊥) → length given ≤ max_source_len
 limited given long = search (arith, rules, cases_lt)
@@ -34,22 +29,22 @@ module _ (options : Options) (given : Text) (s : Held)
     (is : s ≡ record { text = normalized options.keep_trailing_newline given; options = options })
     (ss : List Segment) where
   its_text : s.text ≡ normalized options.keep_trailing_newline given
-  its_text = ap (λ (h : Held). h.text) is
+  its_text = rw is
 
   its_cut : IsCut (cut_of ss) (chars s.text)
       → IsCut (cut_of ss) (chars (normalized options.keep_trailing_newline given))
-  its_cut c = subst (λ x. IsCut (cut_of ss) (chars x)) its_text c
+  its_cut c = rw (← its_text) c
 
   its_reads : HaveOptions s.options ss → reads_of ss ≡ map (λ s. (options, s)) (cut_of ss)
-  its_reads h = read_cut options ss (subst (λ o. HaveOptions o ss) (ap (λ (z : Held). z.options) is) h)
+  its_reads h = read_cut options ss (rw (← (ap (λ (z : Held). z.options) is)) h)
 
   -- The cut of a tree that the source spells is a cut of the text.
   text_cut : (b : Body) (t : IsTree options given b) → IsCut t.segments (chars s.text)
-  text_cut b t = subst (λ x. IsCut t.segments (chars x)) (sym its_text) t.cut
+  text_cut b t = rw its_text t.cut
 
   read_so : (b : Body) (t : IsTree options given b) → cut_of ss ≡ t.segments → HaveOptions s.options ss
       → Spelled b (pieces (reads_of ss))
-  read_so b t e h = subst (λ rs. Spelled b (pieces rs)) (sym (its_reads h ∙ ap (map (λ q. (options, q))) e)) t.spelled
+  read_so b t e h = rw (its_reads h ∙ ap (map (λ q. (options, q))) e) t.spelled
 
   module _ (h : HaveOptions s.options ss)
       (once : (qs : List cut.Segment) → IsCut qs (chars s.text) → cut_of ss ≡ qs) where
@@ -79,7 +74,7 @@ module _ (options : Options) (given : Text) (s : Held)
       → ((e ≡ parse_error.NoMemory → ⊥) → HasNoTree options given)
       → IsParse name e x → IsFault x name options given
   unspelled name e (error.Parse n f) c h r none p =
-      (p.0, subst (λ z. IsUnspelled z options given) (sym p.1) (refused_as e p.2 c h r), none p.2)
+      (p.0, rw p.1 (refused_as e p.2 c h r), none p.2)
   unspelled name e error.NoMemory c h r none p = tt
   unspelled name e x c h r none p = absurd p
 
@@ -109,4 +104,4 @@ pub only_read : (given : SourceTexts) (options : Options) (name text : Text) (b 
 only_read given options name text b found one = λ d r.
     let told : Some r.source ≡ Some text = sym r.found ∙ found in
     let source : r.source ≡ text = cc in
-    one d (subst (λ z. IsTree options z d) source r.tree)
+    one d (rw (← source) r.tree)

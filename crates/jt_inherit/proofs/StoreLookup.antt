@@ -1,14 +1,12 @@
 -- The library of a name in a store: its macros, its path, and the names that are imported from it.
-use Rattle.std.proofs.Common.{◌≡◌, ℕ, ◌<◌, length, get_or, arith, string_bytes, Bool, false, ◌&&◌, ◌||◌, List, [], ◌∷◌}
-use Rattle.std.proofs.Common.{refl, sym, ap, ◌∙◌, Option, Some, None, rules, zero, suc, true, not}
+use Rattle.jt_inherit.proofs.Vocabulary as words
+use words.{◌≡◌, ℕ, ◌<◌, length, get_or, arith, string_bytes, Bool, false, List, [], ◌∷◌, refl, sym, ap, ◌∙◌, Option}
+use words.{Some, None, rules, zero, suc, true, not, HasPath, names, slice_get, flat_map, is_some, length-map}
+use words.{append-nil, slice_get_within, Text, Body, body_of, among, repeated, Sources, a_library, Template}
+use words.{library_template, holds_macros, is_a_library, MacroBody, macros, macros_in, public_macro, sources_in}
+use words.{file_view, files_view, TemplateFile, only_one, macros_held, names_from, Options, SourceTexts, AreKnown}
+use words.{is_no_library, not-false, library_macros}
 use Rattle.jt_inherit.proofs.PathsGrow.{file_there, nothing_read}
-use Rattle.jt_inherit.proofs.Vocabulary.{HasPath, names, slice_get, flat_map, is_some, is_none, length-map, append-nil}
-use Rattle.jt_inherit.proofs.Vocabulary.{slice_get_within, Text, Body, body_of, among, repeated, Sources, a_library}
-use Rattle.jt_inherit.proofs.Vocabulary.{Template, library_template, holds_macros, is_a_library, MacroBody, macros}
-use Rattle.jt_inherit.proofs.Vocabulary.{macros_in, public_macro, sources_in, file_view, files_view, TemplateFile}
-use Rattle.jt_inherit.proofs.Vocabulary.{only_one, macros_held, names_from, Options, SourceTexts, AreKnown}
-use Rattle.jt_inherit.proofs.Vocabulary.{is_no_library, not-false}
-use Rattle.jt_chains.specs.Tables.{library_macros}
 use Rattle.jt_chains.specs.Rules.{lacks_one}
 use Rattle.jt_inherit.proofs.DiscoveryInvariant.{some_source}
 
@@ -59,13 +57,13 @@ none_from (x ∷ xs) = search (arith, rules, is_some, names_from, no_macro, none
 -- A name that is no library's binds no names and lacks no macros.
 pub nothing_from : (s : Sources) (n : Text) (xs : List (Text × Text)) → is_a_library (s n) ≡ false
     → names_from (macros s (a_library n)) xs ≡ []
-nothing_from s n xs e = ap (λ ms. names_from ms xs) (no_macros s n e) ∙ none_from xs
+nothing_from s n xs e = rw (no_macros s n e) (none_from xs)
 
 pub nothing_lacks : (s : Sources) (n : Text) (xs : List (Text × Text)) → is_a_library (s n) ≡ false
     → lacks_one s n xs ≡ false
 nothing_lacks s n [] e = refl
 nothing_lacks s n (x ∷ xs) e =
-    ap (λ b. (b && is_none (public_macro x.0 (macros s (a_library n)))) || lacks_one s n xs) e ∙ nothing_lacks s n xs e
+    rw e (nothing_lacks s n xs e)
 
 -- A library with the same tree lacks the same macros.
 pub lacks_same : (s r : Sources) (n : Text) (xs : List (Text × Text)) → s n ≡ r n → lacks_one s n xs ≡ lacks_one r n xs

@@ -1,16 +1,11 @@
 -- The first line at which `super()` is called: a tag there calls it, and none does if there is no line.
-use Rattle.std.proofs.Common.{◌≡◌, ℕ, ◌==◌, Bool, true, false, ◌&&◌, ◌||◌, refl, ap, ◌∙◌, arith, Option, Some, None}
-use Rattle.std.specs.Option.{option_or}
-use Rattle.std.proofs.Math.Bool.{or_assoc, or_comm}
-use Rattle.std.specs.Prelude.{IfSome}
+use Rattle.jt_inherit.proofs.Vocabulary as words
+use words.{◌≡◌, ℕ, ◌==◌, Bool, true, false, ◌&&◌, ◌||◌, refl, ap, ◌∙◌, arith, Option, Some, None, option_or, or_assoc}
+use words.{or_comm, IfSome, branches_super_at, stmt_super_at, line_if, first_of, is_some, nat_tests, Stmt, choose}
+use words.{for_each, set_block, with_values, filter_block, autoescape, Body, end, stmt, Branches, no_branches, branch}
+use words.{pairs_super, filter_call_super, calls_super, super_at, first_in, first_under, or_right}
 use Rattle.jt_ast.specs.Statements.{print, set}
 use Rattle.jt_chains.specs.Supers.{has_super, condition_super, stmt_super, branches_super}
-use Rattle.jt_inherit.specs.SuperTags.{branches_super_at, stmt_super_at}
-use Rattle.jt_inherit.specs.internal.SuperLines.{line_if, first_of}
-use Rattle.jt_inherit.proofs.Vocabulary.{is_some, nat_tests, Stmt, choose, for_each, set_block, with_values}
-use Rattle.jt_inherit.proofs.Vocabulary.{filter_block, autoescape, Body, end, stmt, Branches, no_branches, branch}
-use Rattle.jt_inherit.proofs.Vocabulary.{pairs_super, filter_call_super, calls_super, super_at, first_in, first_under}
-use Rattle.jt_inherit.proofs.Vocabulary.{or_right}
 
 -- A line is there if one calls, and a tag at the line calls.
 record Tells (found : Option ℕ) (calls : Bool) (at : ℕ → Bool) : Type 0 where
@@ -21,7 +16,7 @@ itself : (i : ℕ) → (i == i) ≡ true
 itself i = grind (arith, nat_tests)
 
 one : (c : Bool) (line : ℕ) → Tells (line_if c line) c (λ n. (line == n) && c)
-one true line = record { there = refl; shown = ap (λ b. b && true) (itself line) }
+one true line = record { there = refl; shown = rw (itself line) }
 one false line = record { there = refl; shown = tt }
 
 both : {o p : Option ℕ} {c d : Bool} {f g : ℕ → Bool} → Tells o c f → Tells p d g
@@ -30,7 +25,7 @@ both {o = None} {p = None} {d = d} a b = record { there = b.there ∙ ap (λ x. 
 both {o = None} {p = Some n} {d = d} {f = f} {g = g} a b =
     record { there = b.there ∙ ap (λ x. x || d) a.there; shown = or_right _ _ b.shown }
 both {o = Some n} {d = d} {g = g} a b =
-    record { there = ap (λ x. x || d) a.there; shown = ap (λ x. x || g n) a.shown }
+    record { there = ap (λ x. x || d) a.there; shown = rw a.shown }
 
 moved : {o : Option ℕ} {c d : Bool} {f : ℕ → Bool} → c ≡ d → Tells o c f → Tells o d f
 moved e a = record { there = a.there ∙ e; shown = a.shown }

@@ -1,28 +1,20 @@
 -- The places of tags: what the first ones show, and that whatever statements name has a use.
-use Rattle.std.proofs.Common.{rules, ◌≡◌, ℕ, zero, suc, ◌+◌, ◌<◌, Bool, true, false, cond, List, [], ◌∷◌, ◌++◌, length}
-use Rattle.std.proofs.Common.{drop, get_or, refl, sym, ap, subst, ◌∙◌, arith, inl, inr, ⊎_elim, Option, Some, not, ◌||◌}
-use Rattle.std.proofs.Common.{◌&&◌, map, None, if◌then◌else◌, string_bytes, add-one}
-use Rattle.std.specs.Prelude.{None}
-use Rattle.std.proofs.lemmas.List.Elements.{filter-append}
-use Rattle.jt_inherit.specs.internal.Breaking.{TwiceAt, lacks}
-use Rattle.jt_inherit.specs.internal.Tags.{place_of}
-use Rattle.jt_inherit.proofs.Vocabulary.{option_map, slice_get, option_to_list, append_assoc, Text, Use, Site}
-use Rattle.jt_inherit.proofs.Vocabulary.{templates_at, Sources, Template, file_view, files_view, TemplateFile, map_at}
-use Rattle.jt_inherit.proofs.Vocabulary.{ForSome, InTurn, IsAt, HasTag, all_uses, uses_in, asks, binds_macro}
-use Rattle.jt_inherit.proofs.Vocabulary.{is_extends, IsOfRule, IsTwiceIn, RuleAt, ChainFinding, ChainSubject, tags}
-use Rattle.jt_inherit.proofs.Vocabulary.{place_in, place_view, tag_view, tags_view, FoundTag, TagPlace, flat_map}
-use Rattle.jt_inherit.proofs.Vocabulary.{is_some, bytes_eq, Stmt, Body, Branches, among, body_uses, outside, AreIndices}
-use Rattle.jt_inherit.proofs.Vocabulary.{Namespace, a_chain, a_library, listed, templates, extends_of, libraries}
-use Rattle.jt_inherit.proofs.Vocabulary.{libraries_in, included, includes_in, needs_by, needs_in, needs_under}
-use Rattle.jt_inherit.proofs.Vocabulary.{with_source, include_need, library_need, needed, by_templates, needed-append}
-use Rattle.jt_inherit.proofs.Vocabulary.{is_import, is_include, leads_to, needs_along, among_cases, only_among}
-use Rattle.jt_inherit.proofs.Vocabulary.{of_texts, reflexive, AllByRecursion, calls_super_at, is_required, IsLastCall}
+use Rattle.jt_inherit.proofs.Vocabulary as words
+use words.{rules, ◌≡◌, ℕ, zero, suc, ◌+◌, ◌<◌, Bool, true, false, cond, List, [], ◌∷◌, ◌++◌, length, drop, get_or, refl}
+use words.{sym, ap, subst, ◌∙◌, arith, inl, inr, ⊎_elim, Option, Some, not, ◌||◌, ◌&&◌, map, None, if◌then◌else◌}
+use words.{string_bytes, add-one, filter-append, TwiceAt, lacks, place_of, option_map, slice_get, option_to_list}
+use words.{append_assoc, Text, Use, Site, templates_at, Sources, Template, file_view, files_view, TemplateFile, map_at}
+use words.{ForSome, InTurn, IsAt, HasTag, all_uses, uses_in, asks, binds_macro, is_extends, IsOfRule, IsTwiceIn, RuleAt}
+use words.{ChainFinding, ChainSubject, tags, place_in, place_view, tag_view, tags_view, FoundTag, TagPlace, flat_map}
+use words.{is_some, bytes_eq, Stmt, Body, Branches, among, body_uses, outside, AreIndices, Namespace, a_chain}
+use words.{a_library, listed, templates, extends_of, libraries, libraries_in, included, includes_in, needs_by, needs_in}
+use words.{needs_under, with_source, include_need, library_need, needed, by_templates, needed-append, is_import}
+use words.{is_include, leads_to, needs_along, among_cases, only_among, of_texts, reflexive, AllByRecursion}
+use words.{calls_super_at, is_required, IsLastCall, IsParentAt, extends_at, need}
 use Rattle.jt_inherit.proofs.PathsGrow.{templates_turn, among_passes, chains_listed, libraries_listed}
-use Rattle.jt_inherit.specs.internal.Placing.{IsParentAt, extends_at}
 use Rattle.jt_uses.specs.Uses.{branch_uses, stmt_uses, expr_uses, pair_uses, keys_bound, bound, filter_call_uses}
 use Rattle.jt_uses.specs.Uses.{condition_uses, place_at, inside_scope, inside_loop, inside_block, inside_macro}
 use Rattle.jt_uses.specs.declared.site.Enclosing.{Enclosing}
-use Rattle.jt_chains.specs.Includes.{need}
 use Rattle.jt_inherit.proofs.DiscoveryInvariant.{includes_told, imports_needed}
 use Rattle.jt_uses.specs.Uses as uses
 use Rattle.jt_inherit.specs.declared.error.ChainError.TheVariants as error
@@ -49,7 +41,7 @@ tags_turn test ps is k p old more new all lt within at theirs longer before =
 -- The tags of a use, if it passes, and of those after it.
 begin : (test : Use → Bool) (x : Text × Site) (xs : List (Text × Site)) (b : Bool) → test x.1.made ≡ b
     → tags test (x ∷ xs) ≡ cond b (x ∷ tags test xs) (tags test xs)
-begin test x xs b h = ap (λ b. cond b (x ∷ tags test xs) (tags test xs)) h
+begin test x xs b h = rw h
 
 at_place : (test : Use → Bool) (p : TagPlace) (x : Text × Site) → test x.1.made ≡ true
     → Some (place_of x) ≡ Some (place_view p) → IsAt test p x
@@ -131,13 +123,13 @@ some_weaker P Q f (x ∷ xs) h = ⊎_elim (λ p. inl (f x p)) (λ q. inr (some_w
 uses-append : (ts us : List Template) → all_uses (ts ++ us) ≡ all_uses ts ++ all_uses us
 uses-append [] us = refl
 uses-append (t ∷ ts) us =
-    ap (λ l. uses_in t ++ l) (uses-append ts us) ∙ sym (append_assoc (uses_in t) (all_uses ts) (all_uses us))
+    rw (uses-append ts us) (sym (append_assoc (uses_in t) (all_uses ts) (all_uses us)))
 
 -- A tag of the first templates is one of them all.
 pub tag_front : (test : Use → Bool) (p : TagPlace) (ts us : List Template) → HasTag test ts p
     → HasTag test (ts ++ us) p
 tag_front test p ts us h =
-    subst (ForSome (IsAt test p)) (sym (uses-append ts us)) (some_front _ _ _ h)
+    rw (uses-append ts us) (some_front _ _ _ h)
 
 -- A tag of the last template is one of them all.
 pub tag_last : (test : Use → Bool) (p : TagPlace) (ts : List Template) (t : Template)
@@ -159,8 +151,7 @@ extends_asks all n u h = absurd (cc)
 pub macro_named : (s : Sources) (ts : List Template) (p : TagPlace) (a b l x : Text) → a ≡ l → b ≡ x
     → HasTag (binds_macro l x) ts p → lacks s l x ≡ true → HasTag (binds_macro a b) ts p × (lacks s a b ≡ true)
 macro_named s ts p a b l x e f h k =
-    subst (λ z. HasTag (binds_macro z b) ts p × (lacks s z b ≡ true)) (sym e)
-    (subst (λ z. HasTag (binds_macro l z) ts p × (lacks s l z ≡ true)) (sym f) (h, k))
+    rw e (rw f (h, k))
 
 -- ---- a template with two blocks of one name
 
@@ -377,7 +368,7 @@ past (q ∷ qs) b rest = past qs b rest
 
 behind : (qs : List FoundTag) (b : FoundTag) (rest : List FoundTag)
     → drop (length qs + 1) (tags_view (qs ++ b ∷ rest)) ≡ tags_view rest
-behind qs b rest = ap (λ n. drop n (tags_view (qs ++ b ∷ rest))) (add-one (length qs)) ∙ past qs b rest
+behind qs b rest = rw (add-one (length qs)) (past qs b rest)
 
 required : (ts : List FoundTag) → AllByRecursion (λ t. is_required (tag_view t).1.made ≡ true) ts
     → AllByRecursion (λ s. is_required s.1.made ≡ true) (tags_view ts)
@@ -388,10 +379,10 @@ pub call_found : (bs qs : List FoundTag) (b : FoundTag) (rest : List FoundTag) �
     → calls_super_at line (tag_view b).1.made ≡ true
     → AllByRecursion (λ t. is_required (tag_view t).1.made ≡ true) rest → IsLastCall (tags_view bs) (tag_view b) line
 call_found bs qs b rest e line h a =
-    subst (λ (z : List FoundTag). IsLastCall (tags_view z) (tag_view b) line) (sym e) (record {
+    rw e (record {
       number = length qs;
       there = there qs b rest;
       calls = h;
       last =
-          subst (AllByRecursion (λ s. is_required s.1.made ≡ true)) (sym (behind qs b rest)) (required rest a);
+          rw (behind qs b rest) (required rest a);
     })

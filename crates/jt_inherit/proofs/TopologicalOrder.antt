@@ -1,11 +1,9 @@
 -- An order of numbers determines an order of namespaces, each before those that it leads to.
-use Rattle.std.proofs.Common.{◌≡◌, ℕ, zero, suc, ◌<◌, ◌==◌, Bool, true, false, not, ◌||◌, List, [], ◌∷◌, length, map}
-use Rattle.std.proofs.Common.{refl, sym, ap, ◌∙◌, arith, Some, rules}
-use Rattle.jt_graph.specs.Graph.{AreOrdered}
-use Rattle.jt_inherit.proofs.Vocabulary.{slice_get, unwrap_or, AllByRecursion, nat_tests, Graph, next_of, Sources}
-use Rattle.jt_inherit.proofs.Vocabulary.{Namespace, a_chain, same_namespace, listed, included, AllIn, InOrder}
-use Rattle.jt_inherit.proofs.Vocabulary.{namespace_at, Reaches, here, through, twice, both_ways, not-true, or_from}
-use Rattle.jt_inherit.proofs.Vocabulary.{or_parts, or_right}
+use Rattle.jt_inherit.proofs.Vocabulary as words
+use words.{◌≡◌, ℕ, zero, suc, ◌<◌, ◌==◌, Bool, true, false, not, ◌||◌, List, [], ◌∷◌, length, map, refl, sym, ap, ◌∙◌}
+use words.{arith, Some, rules, AreOrdered, slice_get, AllByRecursion, nat_tests, Graph, next_of, Sources, Namespace}
+use words.{same_namespace, listed, included, AllIn, InOrder, namespace_at, Reaches, here, through, twice, both_ways}
+use words.{not-true, or_from, or_parts, or_right}
 use Rattle.jt_inherit.proofs.NamespaceMembership.{reflexive, same}
 use Rattle.jt_graph.specs.Graph as graph
 
@@ -19,7 +17,7 @@ itself i = grind (arith, nat_tests)
 
 pub namespace_among : (hs : List Namespace) (i : ℕ) → i < length hs → listed (namespace_at hs i) hs ≡ true
 namespace_among [] i lt = absurd (omega arith)
-namespace_among (h ∷ hs) zero lt = ap (λ b. b || listed h hs) (reflexive h)
+namespace_among (h ∷ hs) zero lt = rw (reflexive h)
 namespace_among (h ∷ hs) (suc i) lt =
     or_right (same_namespace h (namespace_at hs i)) (listed (namespace_at hs i) hs) (namespace_among hs i (omega arith))
 
@@ -69,9 +67,9 @@ all_in hs is (j ∷ js) [] e f = absurd (cc)
 all_in hs is (j ∷ js) (n ∷ ns) e f =
     let h : slice_get hs j ≡ Some n = cc in
     let r : map (slice_get hs) js ≡ map Some ns = cc in
-    let name : namespace_at hs j ≡ n = ap (λ o. unwrap_or o (a_chain [])) h in
-    let there : graph.among j is ≡ true = f j (ap (λ b. b || graph.among j js) (itself j)) in (
-      ap (λ x. listed x (map (namespace_at hs) is)) (sym name) ∙ named_among hs j is there,
+    let name : namespace_at hs j ≡ n = rw h in
+    let there : graph.among j is ≡ true = f j (rw (itself j)) in (
+      rw (← name) (named_among hs j is there),
       all_in hs is js ns r (λ k a. f k (or_right _ _ a)),
     )
 
@@ -102,8 +100,8 @@ next_in_order s (x ∷ os) k m o a i = by (same_namespace x k) refl (λ h. next_
     by : (b : Bool) → same_namespace x k ≡ b → (listed k os ≡ true → listed m os ≡ true) → listed m (x ∷ os) ≡ true
     by true e r =
         or_right (same_namespace x m) (listed m os)
-        (all_in_among _ os m o.1.0 (ap (λ y. listed m (included s y)) (same x k e) ∙ i))
-    by false e r = or_right _ _ (r (sym (ap (λ b. b || listed k os) e) ∙ a))
+        (all_in_among _ os m o.1.0 (rw (same x k e) i))
+    by false e r = or_right _ _ (r (sym (rw e) ∙ a))
 
 -- A namespace that a member reaches is a member.
 pub reached_in_order : (s : Sources) (e : Bool) (os : List Namespace) → InOrder s os → {k m : Namespace}

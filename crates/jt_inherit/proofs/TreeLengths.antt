@@ -1,13 +1,13 @@
 -- A tree is no longer than its source: no text, token or segment is longer than its spelling.
-use Rattle.std.proofs.Common.{rules, ◌≡◌, ℕ, ◌+◌, ◌<◌, ◌≤◌, Bool, true, false, ◌==◌, ◌||◌, [], ◌∷◌, ◌++◌, length, refl}
-use Rattle.std.proofs.Common.{ap, subst, ◌∙◌, arith, encode_utf8_all, length-append, if◌then◌else◌, drop, codes, Option}
-use Rattle.std.proofs.Common.{Some, None, List, chars, IsUtf8}
+use Rattle.jt_inherit.proofs.Vocabulary as words
+use words.{rules, ◌≡◌, ℕ, ◌+◌, ◌<◌, ◌≤◌, Bool, true, false, ◌==◌, ◌||◌, [], ◌∷◌, ◌++◌, length, refl, ap, ◌∙◌, arith}
+use words.{encode_utf8_all, length-append, if◌then◌else◌, drop, codes, Option, Some, None, List, chars, IsUtf8}
+use words.{nat_tests, length-le-encodes, TagKind, Mark, cases_lt, normalized, Held, max_source_len, Options, bytes_of}
+use words.{segment_bytes}
 use Rattle.std.proofs.lemmas.Str.{encodes-append, length-encode, len_utf8_bounds, len_utf8_ascii, encodes-chars}
 use lib.Utf8.{encode}
 use Rattle.jt_scan.specs.Literals.{Text, digit_value, is_digit, AllDigits, number_of, Escape, drops, gives, octal}
 use Rattle.jt_scan.specs.Literals.{hexadecimal, refused, stays, escape, Means}
-use Rattle.jt_inherit.proofs.Vocabulary.{nat_tests, length-le-encodes, TagKind, Mark, cases_lt, normalized, Held}
-use Rattle.jt_inherit.proofs.Vocabulary.{max_source_len, Options, bytes_of}
 use Rattle.jt_scan.specs.Cut.{closing_text, behind_mark, is_space, after_space, after_word, closer_at, first_mark}
 use Rattle.jt_scan.specs.Cut.{marks, endraw_closed, endraw_named, endraw_at, begins, Token, Segment, Spelled, Inside}
 use Rattle.jt_scan.specs.Cut.{closed, space, token, Cuts, no_more, more, IsSegment, some_data, a_tag, a_comment, a_raw}
@@ -17,7 +17,6 @@ use Rattle.jt_scan.proofs.ParseResultSteps.{by_test}
 use Rattle.jt_scan.proofs.Tables.{closer_says}
 use Rattle.jt_scan.proofs.EndsLaws.{never_longer}
 use Rattle.jt_expr.specs.Sizes.{token_bytes, tokens_bytes}
-use Rattle.jt_parse.specs.Bytes.{segment_bytes}
 use Rattle.jt_scan.specs.Literals as literal
 use Rattle.jt_scan.specs.declared.segment.TagKind.TheVariants as kind
 
@@ -66,7 +65,7 @@ unfolding escape
 escape_fits c = search (arith, rules, either, below_eight, quoted)
 
 fits_as : (c : ℕ) (e : Escape) → escape c ≡ e → Fits c e
-fits_as c e h = subst (Fits c) h (escape_fits c)
+fits_as c e h = rw (← h) (escape_fits c)
 
 -- One to three octal digits are no shorter than the character that they name.
 octal_short : (c : ℕ) (s : Text) → digit_value c < 8 → AllDigits 8 s → length s ≤ 2

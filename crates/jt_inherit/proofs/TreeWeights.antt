@@ -1,21 +1,18 @@
 -- The weights of the trees of chains and libraries: each chain or library but the entry's chain has its own tag, an
 -- include or an import, which weighs at least 7; and a tree weighs at most as much as its source has bytes.
-use Rattle.std.proofs.Common.{◌≡◌, ◌+◌, ◌*◌, ◌≤◌, Bool, true, false, ◌||◌, ◌⊎◌, inl, inr, List, [], ◌∷◌, ◌++◌, length}
-use Rattle.std.proofs.Common.{refl, sym, ap, ◌∙◌, subst, arith, length-append, rules, ℕ}
+use Rattle.jt_inherit.proofs.Vocabulary as words
+use words.{◌≡◌, ◌+◌, ◌*◌, ◌≤◌, Bool, true, false, ◌||◌, ◌⊎◌, inl, inr, List, [], ◌∷◌, ◌++◌, length, refl, sym, ◌∙◌}
+use words.{subst, arith, length-append, rules, flat_map, filter, length-map, Text, Stmt, choose, for_each, set_block}
+use words.{with_values, filter_block, autoescape, Body, end, stmt, Branches, no_branches, branch, Sources, Namespace}
+use words.{a_chain, a_library, same_namespace, listed, Template, templates, libraries, libraries_in, needs_by, needs_in}
+use words.{needs_under, included, InOrder, Reaches, here, through, templates_weight, chains_weight, twice}
+use words.{of_namespaces, among_behind, among_front, no_more, is_some, bytes_eq, among, repeated, with_source}
+use words.{SourceTexts, templates_len, chains_len, of_texts, reflexive, same, not-true, or_from, or_right}
+use words.{libraries_len, lighter, total}
 use Rattle.jt_ast.specs.Statements.{macro, import_as, import_from, block, stmt_weight, body_weight, branch_weight}
-use Rattle.jt_inherit.proofs.Vocabulary.{flat_map, filter, length-map, Text, Stmt, choose, for_each, set_block}
-use Rattle.jt_inherit.proofs.Vocabulary.{with_values, filter_block, autoescape, Body, end, stmt, Branches, no_branches}
-use Rattle.jt_inherit.proofs.Vocabulary.{branch, Sources, Namespace, a_chain, a_library, same_namespace, listed}
-use Rattle.jt_inherit.proofs.Vocabulary.{Template, templates, libraries, libraries_in, needs_by, needs_in, needs_under}
-use Rattle.jt_inherit.proofs.Vocabulary.{included, InOrder, Reaches, here, through, templates_weight, chains_weight}
-use Rattle.jt_inherit.proofs.Vocabulary.{twice, of_namespaces, among_behind, among_front, no_more, is_some, bytes_eq}
-use Rattle.jt_inherit.proofs.Vocabulary.{among, repeated, with_source, SourceTexts, templates_len, chains_len, of_texts}
-use Rattle.jt_inherit.proofs.Vocabulary.{reflexive, same, not-true, or_from, or_parts, or_right}
 use Rattle.jt_inherit.proofs.TopologicalOrder.{next_in_order}
 use Rattle.jt_ast.specs.Texts.{inserted, all_inserted, ascending}
-use Rattle.jt_inherit.specs.Small.{libraries_len}
 use Rattle.jt_inherit.proofs.PathsGrow.{among_passes, libraries_listed}
-use Rattle.jt_inherit.proofs.Membership.{still_among, without}
 use Rattle.jt_inherit.proofs.NamespaceMembership as namespaces
 
 -- ---- tags
@@ -103,7 +100,7 @@ module _ (sources : Sources) where
           → listed h (included sources g ++ flat_map (included sources) gs) ≡ true
       by true is f later =
           among_front of_namespaces h (included sources g) (flat_map (included sources) gs)
-          (subst (λ x. listed h (included sources x) ≡ true) (sym (namespaces.same g k is)) i)
+          (rw (namespaces.same g k is) i)
       by false is f later = among_behind of_namespaces h _ _ (later f)
 
 -- ---- the whole order
@@ -113,29 +110,27 @@ once_in_order sources [] o = refl
 once_in_order sources (h ∷ hs) o =
     or_from (listed h hs) (twice hs) (not-true _ o.0) (once_in_order sources hs o.1.1)
 
--- The bound holds if the entry reaches each namespace of the order.
-pub few_chains : (sources : Sources) (escaping : Bool) (entry : Namespace) (rest : List Namespace)
-    → InOrder sources (entry ∷ rest)
-    → ((h : Namespace) → listed h (entry ∷ rest) ≡ true → Reaches sources escaping entry h)
-    → 7 * length (entry ∷ rest) ≤ chains_weight sources (entry ∷ rest) + 7
-few_chains sources escaping entry rest o reached =
-    let order = entry ∷ rest in
-    let fewer = no_more of_namespaces rest (flat_map (included sources) order) (once_in_order sources rest o.1.1)
-    (λ h e. indexed h e (tagged sources escaping order o
-    (reached h (or_right _ _ e))
-    (ap (λ b. b || listed entry rest) (namespaces.reflexive entry)))) in
+-- The bound holds if the entry, one of the order, reaches each namespace of the order.
+pub few_chains : (sources : Sources) (escaping : Bool) (entry : Namespace) (order : List Namespace)
+    → InOrder sources order → listed entry order ≡ true
+    → ((h : Namespace) → listed h order ≡ true → Reaches sources escaping entry h)
+    → 7 * length order ≤ chains_weight sources order + 7
+few_chains sources escaping entry order o there reached =
+    let fewer = no_more of_namespaces order (entry ∷ flat_map (included sources) order) (once_in_order sources order o)
+    (λ h e. indexed h (tagged sources escaping order o (reached h e) there)) in
     omega (arith, fewer, includes_weigh sources order)
   where
-    indexed : (h : Namespace) → listed h rest ≡ true → (h ≡ entry) ⊎ HasTag sources (entry ∷ rest) h
-        → listed h (flat_map (included sources) (entry ∷ rest)) ≡ true
-    indexed h e (inl is) =
-        (let no : true ≡ false = sym e ∙ ap (λ w. listed w rest) is ∙ not-true _ o.0 in absurd cc)
-    indexed h e (inr t) = listed_flat sources h t.0 (entry ∷ rest) t.1 t.2
+    indexed : (h : Namespace) → (h ≡ entry) ⊎ HasTag sources order h
+        → listed h (entry ∷ flat_map (included sources) order) ≡ true
+    indexed h (inl is) =
+        subst (λ z. listed z (entry ∷ flat_map (included sources) order) ≡ true) (sym is)
+        (rw (namespaces.reflexive entry))
+    indexed h (inr t) = or_right _ _ (listed_flat sources h t.0 order t.1 t.2)
 
 -- ---- the members of an ascending list
 
 here_inserted : (x : Text) (ys : List Text) → among x (inserted x ys) ≡ true
-here_inserted x [] = ap (λ b. b || false) (reflexive x)
+here_inserted x [] = rw (reflexive x)
 here_inserted x (y ∷ ys) = search (arith, rules, here_inserted x ys, reflexive, or_right)
 
 kept_inserted : (x z : Text) (ys : List Text) → among z ys ≡ true → among z (inserted x ys) ≡ true
@@ -161,7 +156,7 @@ library_among : (n : Text) (hs : List Namespace) → listed (a_library n) hs ≡
 unfolding libraries_of
 library_among n [] = refl
 library_among n (a_chain m ∷ hs) = library_among n hs
-library_among n (a_library m ∷ hs) = ap (λ b. bytes_eq m n || b) (library_among n hs)
+library_among n (a_library m ∷ hs) = rw (library_among n hs)
 
 libraries_once : (s : Sources) (hs : List Namespace) → InOrder s hs → repeated (libraries_of hs) ≡ false
 unfolding libraries_of
@@ -188,104 +183,77 @@ module _ (given : SourceTexts) (s : Sources) where
           → among n (ascending (libraries s (a_chain m)) ++ imported_by hs) ≡ true
       by true q r =
           among_front of_texts n (ascending (libraries s (a_chain m))) (imported_by hs)
-          (here_all (libraries s (a_chain m)) n [] (ap (λ x. among n (libraries s (a_chain x))) (same m k q) ∙ a))
+          (here_all (libraries s (a_chain m)) n [] (rw (same m k q) a))
       by false q r =
           among_behind of_texts n (ascending (libraries s (a_chain m))) (imported_by hs)
-          (r (sym (ap (λ b. b || listed (a_chain k) hs) q) ∙ e))
+          (r (sym (rw q) ∙ e))
 
   len_both : (xs ys : List Text)
       → libraries_len given s (xs ++ ys) ≡ libraries_len given s xs + libraries_len given s ys
   len_both [] ys = omega arith
   len_both (x ∷ xs) ys = omega (arith, len_both xs ys)
 
-  one_less : (x : Text) (ys : List Text) → among x ys ≡ true
-      → libraries_len given s ys
-      ≡ templates_len given (templates s (a_library x)) + libraries_len given s (without of_texts x ys)
-  one_less x [] a = absurd cc
-  one_less x (y ∷ ys) a = search (arith, rules, one_less x ys, same)
+  libraries_total : (xs : List Text)
+      → libraries_len given s xs ≡ total (λ n. templates_len given (templates s (a_library n))) xs
+  libraries_total [] = refl
+  libraries_total (x ∷ xs) = rw (libraries_total xs)
 
-  -- The sources of different libraries in a list are together no longer than those of the whole
-  -- list.
-  no_longer : (xs ys : List Text) → repeated xs ≡ false → ((x : Text) → among x xs ≡ true → among x ys ≡ true)
-      → libraries_len given s xs ≤ libraries_len given s ys
-  no_longer [] ys once f = omega arith
-  no_longer (x ∷ xs) ys once f =
-      search (
-        arith,
-        rules,
-        or_parts,
-        one_less,
-        reflexive,
-        no_longer xs (without of_texts x ys),
-        still_among of_texts,
-        or_right,
-        same,
-      )
-
-  -- The length of the sources of the chains alone.
-  own_len : List Namespace → ℕ
-  own_len [] = 0
-  own_len (a_chain n ∷ hs) = templates_len given (templates s (a_chain n)) + own_len hs
-  own_len (a_library n ∷ hs) = own_len hs
-
-  split_len : (hs : List Namespace) → chains_len given s hs ≡ own_len hs + libraries_len given s (imported_by hs)
-  unfolding imported_by own_len
-  split_len [] = refl
-  split_len (a_chain n ∷ hs) =
-      omega (arith, split_len hs, len_both (ascending (libraries s (a_chain n))) (imported_by hs))
-  split_len (a_library n ∷ hs) = split_len hs
-
-  split_weight : (hs : List Namespace)
+  -- A library weighs no more than its source, and so does the own path of a chain.
+  balanced : (hs : List Namespace)
       → ((h : Namespace) → listed h hs ≡ true → templates_weight (templates s h) ≤ templates_len given (templates s h))
-      → chains_weight s hs ≤ own_len hs + libraries_len given s (libraries_of hs)
-  unfolding libraries_of own_len
-  split_weight [] each = omega arith
-  split_weight (a_chain n ∷ hs) each =
+      → chains_weight s hs + libraries_len given s (imported_by hs)
+      ≤ chains_len given s hs + libraries_len given s (libraries_of hs)
+  unfolding imported_by libraries_of
+  balanced [] each = omega arith
+  balanced (a_chain n ∷ hs) each =
       omega (
         arith,
-        each (a_chain n) (ap (λ b. b || listed (a_chain n) hs) (reflexive n)),
-        split_weight hs (λ h a. each h (or_right _ _ a)),
+        each (a_chain n) (rw (reflexive n)),
+        len_both (ascending (libraries s (a_chain n))) (imported_by hs),
+        balanced hs (λ h a. each h (or_right _ _ a)),
       )
-  split_weight (a_library n ∷ hs) each =
+  balanced (a_library n ∷ hs) each =
       omega (
         arith,
-        each (a_library n) (ap (λ b. b || listed (a_library n) hs) (reflexive n)),
-        split_weight hs (λ h a. each h (or_right _ _ a)),
+        each (a_library n) (rw (reflexive n)),
+        balanced hs (λ h a. each h (or_right _ _ a)),
       )
 
   -- Each library of the order is imported by a chain of the order.
-  pub all_weigh : (e : Bool) (entry : Text) (rest : List Namespace) → InOrder s (a_chain entry ∷ rest)
-      → ((h : Namespace) → listed h (a_chain entry ∷ rest) ≡ true
+  pub all_weigh : (e : Bool) (entry : Text) (order : List Namespace) → InOrder s order
+      → listed (a_chain entry) order ≡ true
+      → ((h : Namespace) → listed h order ≡ true
       → templates_weight (templates s h) ≤ templates_len given (templates s h))
-      → ((h : Namespace) → listed h (a_chain entry ∷ rest) ≡ true → Reaches s e (a_chain entry) h)
-      → chains_weight s (a_chain entry ∷ rest) ≤ chains_len given s (a_chain entry ∷ rest)
-  all_weigh e entry rest o each reached =
-      let order = a_chain entry ∷ rest in
-      let less = no_longer (libraries_of order) (imported_by order) (libraries_once s order o) imported in
-      omega (arith, split_weight order each, split_len order, less)
+      → ((h : Namespace) → listed h order ≡ true → Reaches s e (a_chain entry) h)
+      → chains_weight s order ≤ chains_len given s order
+  all_weigh e entry order o there each reached =
+      let less = lighter of_texts (λ n. templates_len given (templates s (a_library n))) (libraries_of order)
+      (imported_by order) (libraries_once s order o)
+      (λ n a.
+      let listed_so : listed (a_library n) order ≡ true = library_among n order ∙ a in
+      from n (tagged s e order o (reached (a_library n) listed_so) there)) in
+      omega (
+        arith,
+        balanced order each,
+        less,
+        libraries_total (libraries_of order),
+        libraries_total (imported_by order),
+      )
     where
-      from : (n : Text) → (a_library n ≡ a_chain entry) ⊎ HasTag s (a_chain entry ∷ rest) (a_library n)
-          → among n (imported_by (a_chain entry ∷ rest)) ≡ true
+      from : (n : Text) → (a_library n ≡ a_chain entry) ⊎ HasTag s order (a_library n)
+          → among n (imported_by order) ≡ true
       from n (inl is) = absurd cc
       from n (inr t) = by t.0 t.1 t.2
         where
-          by : (k : Namespace) → listed k (a_chain entry ∷ rest) ≡ true → listed (a_library n) (included s k) ≡ true
-              → among n (imported_by (a_chain entry ∷ rest)) ≡ true
-          by (a_chain k) there i =
+          by : (k : Namespace) → listed k order ≡ true → listed (a_library n) (included s k) ≡ true
+              → among n (imported_by order) ≡ true
+          by (a_chain k) at i =
               let a = sym
               (libraries_listed n (with_source s (needed s (a_chain k))) (with_source s (libraries s (a_chain k))))
               ∙ i in
-              is_imported n k (a_chain entry ∷ rest) there
-              (among_passes (λ m. is_some (s m)) n (libraries s (a_chain k)) a).0
-          by (a_library k) there i =
+              is_imported n k order at (among_passes (λ m. is_some (s m)) n (libraries s (a_chain k)) a).0
+          by (a_library k) at i =
               let a : among n [] ≡ true = sym
               (libraries_listed n (with_source s (needed s (a_library k))) (with_source s (libraries s (a_library k))))
               ∙ i in
               absurd cc
-
-      imported : (n : Text) → among n (libraries_of (a_chain entry ∷ rest)) ≡ true
-          → among n (imported_by (a_chain entry ∷ rest)) ≡ true
-      imported n a =
-          let there : listed (a_library n) (a_chain entry ∷ rest) ≡ true = library_among n (a_chain entry ∷ rest) ∙ a in
-          from n (tagged s e (a_chain entry ∷ rest) o (reached (a_library n) there)
-          (ap (λ b. b || listed (a_chain entry) rest) (reflexive entry)))

@@ -1,9 +1,8 @@
 -- The test for valid names of templates is exact.
-use Rattle.std.proofs.Common.{ℕ, ◌<◌, ◌≤◌, ◌==◌, Bool, true, false, List, [], ◌∷◌, length, refl, arith, All, IsTrue}
-use Rattle.std.proofs.Common.{◌↔◌, MatchBool, rules}
-use Rattle.std.specs.List.{slice_split}
+use Rattle.jt_inherit.proofs.Vocabulary as words
+use words.{ℕ, ◌<◌, ◌≤◌, ◌==◌, Bool, true, false, List, [], ◌∷◌, length, refl, arith, All, IsTrue, ◌↔◌, MatchBool, rules}
+use words.{slice_split, AllWithin, HoldsAt, IsPart, IsName}
 use Rattle.jt_chains.specs.Names.{Text, IsNameByte}
-use Rattle.jt_inherit.proofs.Vocabulary.{AllWithin, HoldsAt, IsPart, IsName}
 
 -- The parts of a name.
 abbrev pub parts : Text → List Text

@@ -3,7 +3,6 @@ pub mod Findings
 pub mod Laws
 pub mod Lines
 pub mod Refusals
-pub mod Refused
 pub mod Small
 pub mod SuperTags
 pub mod internal

@@ -3,10 +3,8 @@ pub mod ExtendsPaths
 pub mod Faults
 pub mod Found
 pub mod Given
-pub mod Imported
 pub mod Numbers
 pub mod Placing
-pub mod Rings
 pub mod RuleTests
 pub mod SetView
 pub mod Sets

@@ -1,16 +1,17 @@
 //! Finds the tags that break a rule on the blocks, macros and imports of a chain or library.
 
-ghost use Rattle.std.specs.Prelude.{◌≡◌, true, IfOk};
+ghost use Rattle.std.specs.Prelude.{◌≡◌, true, IfOk, IfSome};
 ghost use Rattle.jt_chains.specs.Along.{AreIndices};
 ghost use Rattle.jt_chains.specs.TemplateFiles.{file_view};
 ghost use Rattle.jt_inherit.specs.internal.Breaking.{IsOfRule, IsTwiceIn, lacks};
 ghost use Rattle.jt_inherit.specs.internal.Given.{its_files, its_sources, its_templates};
+ghost use Rattle.jt_inherit.specs.internal.Tags.{IsLastCall, tag_view, tags_view};
 
 use crate::error::ChainError;
 use crate::finding::{ChainFinding, ChainSubject};
 use crate::importing::MissingMacro;
 use crate::store::TemplateStore;
-use crate::tags::{Wanted, first_at, tags_at, tags_of, two_places};
+use crate::tags::{FoundTag, Wanted, first_at, tags_at, tags_of, two_places};
 use jt_chains::TemplateFile;
 use std::alloc::{AllocError, Global};
 
@@ -88,5 +89,80 @@ pub(crate) fn block_twice(
             name,
             first: places.0,
         }),
+    })
+}
+
+/// Returns the finding of a block whose nearest body is a required one.
+pub(crate) fn not_given(
+    alloc: Global,
+    store: &TemplateStore,
+    indices: &[usize],
+    name: &str,
+) -> Result<ChainFinding, AllocError>
+    requires { AreIndices (its_files store.now) indices.now }
+    ensures { IfOk result (IsOfRule (its_sources store.now)
+        (its_templates store.now indices.now) ChainError.RequiredNotGiven) }
+{
+    let named = tags_at(alloc, store, indices, Wanted::Block(name))?;
+    let Some(nearest) = named.first() else {
+        return Ok(ChainFinding::without_place(ChainError::RequiredNotGiven));
+    };
+    if !nearest.is_required() {
+        return Ok(ChainFinding::without_place(ChainError::RequiredNotGiven));
+    }
+    let place = nearest.place(alloc)?;
+    let name = String::from_str(alloc, name)?;
+    Ok(ChainFinding {
+        error: ChainError::RequiredNotGiven,
+        place: Some(place),
+        subject: Some(ChainSubject::Block(name)),
+    })
+}
+
+/// A block whose body calls `super()`, and the line of the tag that calls it.
+#[derive(Clone, Copy)]
+struct SuperCall<'a> {
+    block: FoundTag<'a>,
+    line: u32,
+}
+
+/// Returns the last of the blocks that calls `super()`, if each block after it is required.
+fn last_call(mut blocks: Vec<FoundTag<'_>>) -> Option<SuperCall<'_>>
+    ensures { IfSome result
+        (λ call. IsLastCall (tags_view blocks.entry.items) (tag_view call.block) call.line) }
+{
+    while let Some(block) = blocks.pop() {
+        if let Some(line) = block.super_line() {
+            return Some(SuperCall { block, line });
+        }
+        if !block.is_required() {
+            return None;
+        }
+    }
+    None
+}
+
+/// Returns the finding of a block that calls `super()` and has no next body.
+pub(crate) fn no_super(
+    alloc: Global,
+    store: &TemplateStore,
+    indices: &[usize],
+    name: &str,
+) -> Result<ChainFinding, AllocError>
+    requires { AreIndices (its_files store.now) indices.now }
+    ensures { IfOk result (IsOfRule (its_sources store.now)
+        (its_templates store.now indices.now) ChainError.NoSuper) }
+{
+    let named = tags_at(alloc, store, indices, Wanted::Block(name))?;
+    let Some(call) = last_call(named) else {
+        return Ok(ChainFinding::without_place(ChainError::NoSuper));
+    };
+    let place = call.block.place_on(alloc, call.line)?;
+    let opened = call.block.place(alloc)?;
+    let block = String::from_str(alloc, name)?;
+    Ok(ChainFinding {
+        error: ChainError::NoSuper,
+        place: Some(place),
+        subject: Some(ChainSubject::Super { block, opened }),
     })
 }

@@ -5,10 +5,9 @@ ghost use Rattle.std.specs.Prelude.{MatchResult};
 ghost use Rattle.std.specs.List.{AllByRecursion};
 ghost use Rattle.jt_ast.specs.Sizes.{body_bytes};
 ghost use Rattle.jt_ast.specs.Expressions.{Text};
-ghost use Rattle.jt_chains.specs.Along.{AreIndices};
 ghost use Rattle.jt_inherit.specs.Chains.{IsChain};
-ghost use Rattle.jt_inherit.specs.internal.Found.{AllKeep, listed_at, listed_view};
-ghost use Rattle.jt_inherit.specs.internal.Found.{found_namespaces, found_templates, found_paths};
+ghost use Rattle.jt_inherit.specs.internal.Found.{AllFollowed, AllKeep, AreIndexed, listed_at};
+ghost use Rattle.jt_inherit.specs.internal.Found.{listed_view, found_templates, found_paths};
 ghost use Rattle.jt_inherit.specs.internal.Breaking.{FindsAt};
 ghost use Rattle.jt_inherit.specs.Findings.{IsFinding};
 ghost use Rattle.jt_inherit.specs.Refusals.{Breaks};
@@ -19,7 +18,7 @@ ghost use Rattle.jt_chains.specs.View.{Seen, chain_view, sources_of};
 use crate::discovery::{Discovery, discover};
 use crate::error::ChainError;
 use crate::finding::ChainFinding;
-use crate::library::{Library, Loader};
+use crate::library::Library;
 use crate::rings::order_of;
 use crate::rules::check_rules;
 use jt_chains::{Chain, Namespace};
@@ -114,7 +113,7 @@ pub fn chain_or_finding<L: Library>(
     ensures few { IfOk result (λ found. 7 * length (chain_view found).order
         ≤ chains_weight (sources_of (chain_view found)) (chain_view found).order + 7) }
 {
-    let found = discover(alloc, entry, &Loader { library, options })?;
+    let found = discover(alloc, entry, library, options)?;
     check_chains(alloc, &found, options.autoescape)?;
     let order = order_of(alloc, &found)?;
     let namespaces = namespaces_in(alloc, &found, order)?;
@@ -128,8 +127,7 @@ pub fn chain_or_finding<L: Library>(
 
 /// Refuses chains and libraries whose blocks, macros or imports break a rule.
 fn check_chains(alloc: Global, found: &Discovery, escaping: bool) -> Result<(), ChainFinding>
-    requires { AllByRecursion (AreIndices (found_templates found.now))
-        (found_paths found.now) }
+    requires { AreIndexed found.now }
     ensures kept { OnOk result (AllKeep escaping found.now) }
     ensures broken { IfErr result
         (FindsAt escaping (found_templates found.now) (found_paths found.now)) }
@@ -146,7 +144,7 @@ fn namespaces_in(
     found: &Discovery,
     order: Vec<usize>,
 ) -> Result<Vec<Namespace>, AllocError>
-    requires all { length found.now.extends_paths.items ≡ length (found_namespaces found.now) }
+    requires all { AllFollowed found.now }
     requires within { AllByRecursion (λ i. i < length found.now.extends_paths.items) order.items }
     ensures { IfOk result (λ namespaces.
         map listed_view namespaces.items ≡ map (listed_at found.now) order.items) }
@@ -160,7 +158,7 @@ fn namespaces_in(
 
 /// Returns the chain or library of a number.
 fn namespace_of(alloc: Global, found: &Discovery, number: usize) -> Result<Namespace, AllocError>
-    requires all { length found.now.extends_paths.items ≡ length (found_namespaces found.now) }
+    requires all { AllFollowed found.now }
     requires within { number < length found.now.extends_paths.items }
     ensures { IfOk result (λ h. listed_view h ≡ listed_at found.now number) }
 {

@@ -1,25 +1,28 @@
 //! Finds the chains and libraries that an entry reaches.
 
-ghost use Rattle.std.specs.Prelude.{◌≡◌, ◌+◌, ◌<◌, false, length, OnOk, IfOk, IfErr};
-ghost use Rattle.std.specs.List.{AllByRecursion};
-ghost use Rattle.jt_chains.specs.Along.{AreIndices};
+ghost use Rattle.std.specs.Prelude.{◌≡◌, ◌+◌, ◌<◌, false, length, OnOk, IfOk, IfErr, option_map};
+ghost use Rattle.std.specs.Prelude.{string_bytes};
 ghost use Rattle.jt_chains.specs.Indices.{namespace_at};
-ghost use Rattle.jt_inherit.specs.internal.Found.{IsDone, IsFirst, IsFound, found_namespaces};
-ghost use Rattle.jt_inherit.specs.internal.Found.{root_of, found_paths, found_templates};
+ghost use Rattle.jt_inherit.specs.internal.Found.{AreIndexed, IsDone, IsFirst, IsFound, root_of};
+ghost use Rattle.jt_inherit.specs.internal.Found.{found_namespaces, found_paths, found_templates};
+ghost use Rattle.jt_inherit.specs.Findings as findings;
 ghost use Rattle.jt_inherit.specs.Findings.{IsFinding};
-ghost use Rattle.jt_inherit.specs.internal.Imported as spec;
-ghost use Rattle.jt_inherit.specs.internal.Imported.{IsNoLibrary, IsOfImport, LeadsAt};
+ghost use Rattle.jt_inherit.specs.internal.Placing as spec;
+ghost use Rattle.jt_inherit.specs.internal.Placing.{IsNoLibrary, IsOfImport, LeadsAt};
+ghost use Rattle.jt_inherit.specs.internal.Placing.{leading_at, name_at};
 ghost use Rattle.jt_inherit.specs.internal.SetView.{key_view};
+ghost use Rattle.jt_inherit.specs.internal.Tags.{place_view, test_of};
 
 use crate::error::ChainError;
 use crate::extends_path::read_namespace;
 use crate::finding::{ChainFinding, ChainSubject, TagPlace};
 use crate::importing::library_file;
 use crate::including::{next_namespaces, read_needs, with_needs};
-use crate::leading::{leading_tag, name_of};
-use crate::library::{Library, Loader};
+use crate::library::Library;
 use crate::sets::{NamespaceKey, Namespaces};
 use crate::store::TemplateStore;
+use crate::tags::{Wanted, first_at};
+use jt_scan::Options;
 use std::alloc::{AllocError, Global};
 
 /// The state of the search: the templates, chains and libraries that were found.
@@ -56,11 +59,47 @@ fn begin(alloc: Global, entry: &str) -> Result<Discovery, AllocError>
     })
 }
 
+/// Returns the name of the chain or library of a number.
+pub(crate) fn name_of(alloc: Global, found: &Discovery, number: usize) -> Result<String, AllocError>
+    requires { number < length (found_namespaces found.now) }
+    ensures { IfOk result
+        (λ name. string_bytes name ≡ name_at (found_namespaces found.now) number) }
+{
+    String::from_str(alloc, &found.namespaces.get(number).name)
+}
+
+/// Returns the use that leads to a chain or library.
+fn wanted_for(namespace: &NamespaceKey) -> Wanted<'_>
+    ensures { test_of result ≡ findings.leads_to (key_view namespace.now) }
+{
+    if namespace.is_library {
+        return Wanted::Imports(&namespace.name);
+    }
+    Wanted::Includes(&namespace.name)
+}
+
+/// Returns the place of the first tag in the chain or library `from` that leads to `to`, or `None`
+/// if there is none.
+pub(crate) fn leading_tag(
+    alloc: Global,
+    found: &Discovery,
+    from: usize,
+    to: usize,
+) -> Result<Option<TagPlace>, AllocError>
+    requires from { from < length found.now.extends_paths.items }
+    requires to { to < length (found_namespaces found.now) }
+    requires indices { AreIndexed found.now }
+    ensures { IfOk result (λ p. option_map place_view p ≡ leading_at (found_templates found.now)
+        (found_paths found.now) (namespace_at (found_namespaces found.now) to) from) }
+{
+    let wanted = wanted_for(found.namespaces.get(to));
+    first_at(alloc, &found.store, &found.extends_paths[from], wanted)
+}
+
 /// Returns the place of the first tag that leads to the chain or library of a number.
 fn place_of(alloc: Global, found: &Discovery, number: usize) -> Result<Option<TagPlace>, AllocError>
     requires number { number < length (found_namespaces found.now) }
-    requires indices { AllByRecursion (AreIndices (found_templates found.now))
-        (found_paths found.now) }
+    requires indices { AreIndexed found.now }
     ensures { IfOk result (LeadsAt (found_templates found.now) (found_paths found.now)
         (namespace_at (found_namespaces found.now) number)) }
 {
@@ -80,8 +119,7 @@ fn import_finding(
     number: usize,
 ) -> Result<ChainFinding, AllocError>
     requires number { number < length (found_namespaces found.now) }
-    requires indices { AllByRecursion (AreIndices (found_templates found.now))
-        (found_paths found.now) }
+    requires indices { AreIndexed found.now }
     ensures { IfOk result (IsOfImport (found_templates found.now) (found_paths found.now)
         (namespace_at (found_namespaces found.now) number)) }
 {
@@ -110,8 +148,7 @@ fn is_no_library(found: &Discovery, namespace: &NamespaceKey) -> bool
 /// Refuses the library of a number if it holds something other than macros.
 fn check_library(alloc: Global, found: &Discovery, number: usize) -> Result<(), ChainFinding>
     requires number { number < length (found_namespaces found.now) }
-    requires indices { AllByRecursion (AreIndices (found_templates found.now))
-        (found_paths found.now) }
+    requires indices { AreIndexed found.now }
     ensures kept { OnOk result (spec.is_no_library (found_templates found.now)
         (namespace_at (found_namespaces found.now) number) ≡ false) }
     ensures refused { IfErr result (IsNoLibrary (found_templates found.now) (found_paths found.now)
@@ -128,24 +165,25 @@ fn check_library(alloc: Global, found: &Discovery, number: usize) -> Result<(), 
 fn follow<L: Library>(
     alloc: Global,
     found: &mut Discovery,
-    loader: &Loader<'_, L>,
+    library: &L,
+    options: Options,
 ) -> Result<(), ChainFinding>
-    requires found { IsFound (L.sources loader.now.library.now) loader.now.options found.old }
+    requires found { IsFound (L.sources library.now) options found.old }
     requires more { length found.old.extends_paths.items < length (found_namespaces found.old) }
     ensures found { OnOk result
-        (IsFound (L.sources loader.now.library.now) loader.now.options found.new) }
+        (IsFound (L.sources library.now) options found.new) }
     ensures one { OnOk result
         (length found.new.extends_paths.items ≡ length found.old.extends_paths.items + 1) }
     ensures root { OnOk result (root_of found.new ≡ root_of found.old) }
     ensures refused { IfErr result
-        (IsFinding (L.sources loader.now.library.now) (root_of found.old) loader.now.options) }
+        (IsFinding (L.sources library.now) (root_of found.old) options) }
 {
     let number = found.extends_paths.len();
     check_library(alloc, found, number)?;
     let namespace = found.namespaces.get(number);
-    let extends_path = read_namespace(alloc, &mut found.store, namespace, loader)?;
+    let extends_path = read_namespace(alloc, &mut found.store, namespace, library, options)?;
     let path = with_needs(alloc, &found.store, extends_path)?;
-    read_needs(alloc, &mut found.store, &path, loader)?;
+    read_needs(alloc, &mut found.store, &path, library, options)?;
     let next = next_namespaces(alloc, &found.store, &mut found.namespaces, &path)?;
     found.extends_paths.push(path.extends_path)?;
     found.next.push(next)?;
@@ -156,16 +194,17 @@ fn follow<L: Library>(
 pub(crate) fn discover<L: Library>(
     alloc: Global,
     entry: &str,
-    loader: &Loader<'_, L>,
+    library: &L,
+    options: Options,
 ) -> Result<Discovery, ChainFinding>
     ensures done { IfOk result
-        (IsDone (L.sources loader.now.library.now) loader.now.options entry.now) }
+        (IsDone (L.sources library.now) options entry.now) }
     ensures refused { IfErr result
-        (IsFinding (L.sources loader.now.library.now) entry.now loader.now.options) }
+        (IsFinding (L.sources library.now) entry.now options) }
 {
     let mut found = begin(alloc, entry)?;
     'chains: while found.extends_paths.len() < found.namespaces.len() {
-        follow(alloc, &mut found, loader)?;
+        follow(alloc, &mut found, library, options)?;
     }
     Ok(found)
 }

@@ -3,7 +3,6 @@
 ghost use Rattle.std.specs.Prelude.{◌≡◌, option_map};
 ghost use Rattle.jt_inherit.specs.Lines as lines;
 
-use jt_graph::OrderError;
 use jt_parse::ParseError;
 use jt_scan::ScanError;
 use std::alloc::{AllocError, AllocFailed};
@@ -120,18 +119,5 @@ impl<T: Drop> From<AllocFailed<T>> for ChainError {
 
     fn from(_e: AllocFailed<T>) -> ChainError {
         ChainError::NoMemory
-    }
-}
-
-impl From<OrderError> for ChainError {
-    ghost use Rattle.jt_inherit.specs.Refused.{gives};
-
-    ghost from_gives = { gives };
-
-    fn from(refusal: OrderError) -> ChainError {
-        match refusal {
-            OrderError::Cycle(_ring) => ChainError::IncludeCycle,
-            OrderError::NoMemory => ChainError::NoMemory,
-        }
     }
 }

@@ -1,29 +1,31 @@
 //! Reads the path from a chain's entry to its root, and the template of a library.
 
-ghost use Rattle.std.specs.Prelude.{◌≡◌, false, true, IfOk, MatchOption};
+ghost use Rattle.std.specs.Prelude.{◌≡◌, false, true, IfOk, MatchOption, option_map};
+ghost use Rattle.jt_ast.specs.StatementView.{body_view};
 ghost use Rattle.jt_ast.specs.Texts.{among};
 ghost use Rattle.jt_chains.specs.Along.{AreIndices};
 ghost use Rattle.jt_chains.specs.TemplateFiles.{file_view};
 ghost use Rattle.jt_inherit.specs.internal.ExtendsPaths.{AreKnown, IsAt, Reads, names};
 ghost use Rattle.jt_inherit.specs.internal.Given.{its_files, its_templates};
-ghost use Rattle.jt_inherit.specs.internal.Imported.{is_no_library};
-ghost use Rattle.jt_inherit.specs.internal.Placing.{IsNamedOn, IsParent};
+ghost use Rattle.jt_inherit.specs.internal.Placing.{IsNamedOn, IsParent, extends_at, is_no_library};
 ghost use Rattle.jt_inherit.specs.internal.SetView.{key_view};
 
 use crate::error::ChainError;
 use crate::finding::{ChainFinding, TagPlace};
-use crate::library::{Library, Loader};
+use crate::library::Library;
 use crate::placing::{AskedName, cycle_finding, long_finding, name_finding};
 use crate::sets::NamespaceKey;
-use crate::statements::parent_of;
 use crate::store::TemplateStore;
+use jt_ast::Stmt;
 use jt_chains::TemplateFile;
+use jt_scan::Options;
 use std::alloc::{AllocError, Global};
 
 /// The greatest number of templates in a chain.
 const MAX_TEMPLATES: usize = 64;
 
 /// Returns the number on the path of the template of a name, or `None` if there is none.
+#[tactic(auto, using(crate::proofs::PathsGrow::named_here, crate::proofs::PathsGrow::passed_by, jt_chains::proofs::TemplatesByIndex::index_within))]
 fn number_on(store: &TemplateStore, extends_path: &[usize], name: &str) -> Option<usize>
     requires { AreIndices (its_files store.now) extends_path.now }
     ensures { MatchOption result
@@ -34,6 +36,18 @@ fn number_on(store: &TemplateStore, extends_path: &[usize], name: &str) -> Optio
         let index = extends_path[number];
         if store.files[index].name.as_str() == name {
             return Some(number);
+        }
+    }
+    None
+}
+
+/// Returns the name of the template that the statements extend, and the line of the tag.
+fn parent_of(body: &[Stmt]) -> Option<(&str, u32)>
+    ensures { option_map (λ p. (p.0.now, p.1)) result ≡ extends_at (body_view body.now) }
+{
+    for statement in body {
+        if let Stmt::Extends(line, name) = statement {
+            return Some((name.as_str(), *line));
         }
     }
     None
@@ -76,12 +90,13 @@ pub(crate) fn read_namespace<L: Library>(
     alloc: Global,
     store: &mut TemplateStore,
     namespace: &NamespaceKey,
-    loader: &Loader<'_, L>,
+    library: &L,
+    options: Options,
 ) -> Result<Vec<usize>, ChainFinding>
-    requires known { AreKnown (L.sources loader.now.library.now) loader.now.options
+    requires known { AreKnown (L.sources library.now) options
         (its_files store.old) }
     requires library { is_no_library (its_files store.old) (key_view namespace.now) ≡ false }
-    ensures { Reads (L.sources loader.now.library.now) loader.now.options
+    ensures { Reads (L.sources library.now) options
         (its_files store.old) (its_files store.new) (key_view namespace.now) result }
 {
     if namespace.is_library {
@@ -99,7 +114,7 @@ pub(crate) fn read_namespace<L: Library>(
         if extends_path.len() == MAX_TEMPLATES {
             return Err(long_finding(asked));
         }
-        let index = match store.read(alloc, &asked.name, loader) {
+        let index = match store.read(alloc, &asked.name, library, options) {
             Ok(index) => index,
             Err(error) => return Err(name_finding(asked, error)),
         };

@@ -84,6 +84,7 @@ fn missing_in<'a>(store: &TemplateStore, body: &'a [Stmt]) -> Option<MissingMacr
 }
 
 /// Returns the first macro that the templates at `indices` import and the library does not offer.
+#[tactic(auto, using(crate::proofs::PathsGrow::templates_turn, jt_chains::proofs::TemplatesByIndex::index_within))]
 pub(crate) fn missing_at<'a>(
     store: &'a TemplateStore,
     indices: &[usize],

@@ -2,8 +2,9 @@
 //! they begin.
 
 ghost use Rattle.std.specs.Prelude.{◌≡◌, ◌≤◌, ◌++◌, ◌∷◌, [], true, false, length, OnErr, OnOk};
-ghost use Rattle.std.specs.Prelude.{IfOk, IfErr, string_bytes};
+ghost use Rattle.std.specs.Prelude.{IfOk, IfErr, map, string_bytes};
 ghost use Rattle.std.specs.List.{AllByRecursion};
+ghost use Rattle.jt_ast.specs.StatementView.{body_view};
 ghost use Rattle.jt_chains.specs.Along.{AreIndices};
 ghost use Rattle.jt_inherit.specs.internal.Found.{imports_along, needs_along, IsMet, IsFaultAt};
 ghost use Rattle.jt_inherit.specs.internal.Found.{IsPutFault, AreNamespaces, AreNext, AddsNext};
@@ -11,8 +12,8 @@ ghost use Rattle.jt_inherit.specs.internal.Found.{IsNextFault, IsNextFinding, ch
 ghost use Rattle.jt_inherit.specs.internal.Found.{leads_to, IsUnmet, HasNeeds, keyed_view};
 ghost use Rattle.jt_inherit.specs.internal.Found.{keyed_needs};
 ghost use Rattle.jt_inherit.specs.internal.Given.{its_files, its_templates};
-ghost use Rattle.jt_chains.specs.Chain.{listed};
-ghost use Rattle.jt_chains.specs.Needs.{AddsNeeds, need_view, needed};
+ghost use Rattle.jt_chains.specs.Chain.{libraries_in, listed};
+ghost use Rattle.jt_chains.specs.Needs.{AddsNeeds, library_need, need_view, needed};
 ghost use Rattle.jt_chains.specs.TemplateFiles.{files_view};
 ghost use Rattle.jt_inherit.specs.internal.SetView.{key_view};
 ghost use Rattle.jt_inherit.specs.internal.Sets.{namespaces_view};
@@ -20,12 +21,13 @@ ghost use Rattle.jt_inherit.specs.internal.ExtendsPaths.{AreKnown, HasRead, name
 
 use crate::error::ChainError;
 use crate::finding::ChainFinding;
-use crate::library::{Library, Loader};
+use crate::library::Library;
 use crate::placing::{included_finding, need_finding};
 use crate::sets::{NamespaceKey, Namespaces};
-use crate::statements::add_imports;
 use crate::store::TemplateStore;
+use jt_ast::Stmt;
 use jt_chains::{NeededTemplate, TemplateFile, includes_at};
+use jt_scan::Options;
 use std::alloc::{AllocError, Global};
 
 /// The greatest number of chains that an entry may reach, its own included.
@@ -46,7 +48,34 @@ pub(crate) struct FollowedPath {
     pub(crate) needs: Vec<KeyedNeed>,
 }
 
+/// Returns the import of a library.
+fn imported(name: &str) -> NeededTemplate<'_>
+    ensures { need_view result ≡ library_need name.now }
+{
+    NeededTemplate {
+        name,
+        ignoring: false,
+        is_library: true,
+    }
+}
+
+/// Adds the imports of a template, in the order of the source.
+fn add_imports<'a>(found: &mut Vec<NeededTemplate<'a>>, body: &'a [Stmt]) -> Result<(), AllocError>
+    ensures { IfOk result (λ _. AddsNeeds found.old.items found.new.items
+        (map library_need (libraries_in (body_view body.now)))) }
+{
+    for statement in body {
+        match statement {
+            Stmt::Import { library, .. } => found.push(imported(library))?,
+            Stmt::From { library, .. } => found.push(imported(library))?,
+            _ => {}
+        }
+    }
+    Ok(())
+}
+
 /// Adds the imports of the templates at `indices`.
+#[tactic(auto, using(jt_chains::proofs::TemplatesByIndex::along_turn, jt_chains::proofs::TemplatesByIndex::file_at, jt_chains::proofs::TemplatesByIndex::index_within))]
 fn add_imports_at<'a>(
     files: &'a [TemplateFile],
     indices: &[usize],
@@ -117,19 +146,20 @@ fn read_need<L: Library>(
     alloc: Global,
     store: &mut TemplateStore,
     need: &KeyedNeed,
-    loader: &Loader<'_, L>,
+    library: &L,
+    options: Options,
 ) -> Result<(), ChainError>
-    requires { AreKnown (L.sources loader.now.library.now) loader.now.options
+    requires { AreKnown (L.sources library.now) options
         (its_files store.old) }
-    ensures read { OnOk result (HasRead (L.sources loader.now.library.now) loader.now.options
+    ensures read { OnOk result (HasRead (L.sources library.now) options
         (its_files store.old) (its_files store.new) (string_bytes need.now.namespace.name ∷ [])) }
-    ensures met { OnOk result (IsMet (L.sources loader.now.library.now)
+    ensures met { OnOk result (IsMet (L.sources library.now)
         (names (its_files store.new)) (keyed_view need.now)) }
     ensures same { OnErr result (its_files store.new ≡ its_files store.old) }
     ensures refused { IfErr result (λ e.
-        IsFaultAt (L.sources loader.now.library.now) loader.now.options (keyed_view need.now) e) }
+        IsFaultAt (L.sources library.now) options (keyed_view need.now) e) }
 {
-    match store.read(alloc, &need.namespace.name, loader) {
+    match store.read(alloc, &need.namespace.name, library, options) {
         Ok(_index) => Ok(()),
         Err(ChainError::Missing) if need.ignoring => Ok(()),
         Err(refusal) => Err(refusal),
@@ -141,22 +171,23 @@ pub(crate) fn read_needs<L: Library>(
     alloc: Global,
     store: &mut TemplateStore,
     path: &FollowedPath,
-    loader: &Loader<'_, L>,
+    library: &L,
+    options: Options,
 ) -> Result<(), ChainFinding>
-    requires known { AreKnown (L.sources loader.now.library.now) loader.now.options
+    requires known { AreKnown (L.sources library.now) options
         (its_files store.old) }
     requires path { HasNeeds (its_files store.old) path.now }
     // Each new name is included or imported.
-    ensures read { OnOk result (HasRead (L.sources loader.now.library.now) loader.now.options
+    ensures read { OnOk result (HasRead (L.sources library.now) options
         (its_files store.old) (its_files store.new)
         (needed true (keyed_needs path.now.needs.items))) }
-    ensures met { OnOk result (AllByRecursion (IsMet (L.sources loader.now.library.now)
+    ensures met { OnOk result (AllByRecursion (IsMet (L.sources library.now)
         (names (its_files store.new))) (keyed_needs path.now.needs.items)) }
-    ensures refused { IfErr result (IsUnmet (L.sources loader.now.library.now) loader.now.options
+    ensures refused { IfErr result (IsUnmet (L.sources library.now) options
         (its_files store.old) path.now.extends_path.items) }
 {
     for need in &path.needs {
-        match read_need(alloc, store, need, loader) {
+        match read_need(alloc, store, need, library, options) {
             Ok(()) => {}
             Err(error) => return Err(need_finding(alloc, store, path, need, error)?),
         }
@@ -166,8 +197,7 @@ pub(crate) fn read_needs<L: Library>(
 
 /// Returns a copy of a key.
 fn copy_of(alloc: Global, namespace: &NamespaceKey) -> Result<NamespaceKey, AllocError>
-    ensures name { IfOk result (λ k. string_bytes k.name ≡ string_bytes namespace.now.name) }
-    ensures kind { IfOk result (λ k. k.is_library ≡ namespace.now.is_library) }
+    ensures { IfOk result (λ k. key_view k ≡ key_view namespace.now) }
 {
     Ok(NamespaceKey {
         name: String::from_str(alloc, &namespace.name)?,
@@ -176,29 +206,31 @@ fn copy_of(alloc: Global, namespace: &NamespaceKey) -> Result<NamespaceKey, Allo
 }
 
 /// Appends a chain or a library that is new.
+#[tactic(auto, using(crate::proofs::NumberTables::library_more, crate::proofs::NumberTables::chain_more))]
 fn put_new(
     alloc: Global,
     namespaces: &mut Namespaces,
-    namespace: NamespaceKey,
+    namespace: &NamespaceKey,
 ) -> Result<(), ChainError>
-    requires new { listed (key_view namespace) (namespaces_view namespaces.old) ≡ false }
+    requires new { listed (key_view namespace.now) (namespaces_view namespaces.old) ≡ false }
     requires few { length (chains_of (namespaces_view namespaces.old)) ≤ MAX_CHAINS }
     ensures put { OnOk result
         (namespaces_view namespaces.new
-        ≡ namespaces_view namespaces.old ++ key_view namespace ∷ []) }
+        ≡ namespaces_view namespaces.old ++ key_view namespace.now ∷ []) }
     ensures few { OnOk result (length (chains_of (namespaces_view namespaces.new)) ≤ MAX_CHAINS) }
     ensures refused { IfErr result
-        (IsPutFault (namespaces_view namespaces.old) (key_view namespace)
-        (string_bytes namespace.name)) }
+        (IsPutFault (namespaces_view namespaces.old) (key_view namespace.now)
+        (string_bytes namespace.now.name)) }
 {
+    let key = copy_of(alloc, namespace)?;
     if namespace.is_library {
-        namespaces.put(alloc, namespace)?;
+        namespaces.put(alloc, key)?;
         return Ok(());
     }
     if namespaces.count_chains() == MAX_CHAINS {
         return Err(ChainError::ChainTooLong);
     }
-    namespaces.put(alloc, namespace)?;
+    namespaces.put(alloc, key)?;
     Ok(())
 }
 
@@ -206,15 +238,15 @@ fn put_new(
 fn number_of(
     alloc: Global,
     namespaces: &mut Namespaces,
-    namespace: NamespaceKey,
+    namespace: &NamespaceKey,
 ) -> Result<usize, ChainError>
     requires { AreNamespaces (namespaces_view namespaces.old) }
     ensures next { IfOk result (λ i. AreNext (namespaces_view namespaces.old)
-        (namespaces_view namespaces.new) (key_view namespace ∷ []) (i ∷ [])) }
+        (namespaces_view namespaces.new) (key_view namespace.now ∷ []) (i ∷ [])) }
     ensures refused { IfErr result (IsNextFault (namespaces_view namespaces.old)
-        (key_view namespace ∷ []) (string_bytes namespace.name)) }
+        (key_view namespace.now ∷ []) (string_bytes namespace.now.name)) }
 {
-    if let Some(number) = namespaces.find(&namespace) {
+    if let Some(number) = namespaces.find(namespace) {
         return Ok(number);
     }
     let number = namespaces.len();
@@ -240,8 +272,7 @@ fn add_number(
     let Some(_index) = store.find(&need.namespace.name) else {
         return Ok(());
     };
-    let namespace = copy_of(alloc, &need.namespace)?;
-    let number = number_of(alloc, namespaces, namespace)?;
+    let number = number_of(alloc, namespaces, &need.namespace)?;
     numbers.push(number)?;
     Ok(())
 }

@@ -8,7 +8,6 @@
 //! entry.
 #![tactic(auto)]
 
-mod bodies;
 mod breaking;
 mod chaining;
 mod discovery;
@@ -18,7 +17,6 @@ mod finding;
 mod importing;
 mod including;
 mod laws;
-mod leading;
 mod library;
 mod names;
 mod placing;
@@ -26,7 +24,6 @@ mod reading;
 mod rings;
 mod rules;
 mod sets;
-mod statements;
 mod store;
 mod supers;
 mod tags;

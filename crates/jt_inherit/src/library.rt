@@ -2,8 +2,6 @@
 
 ghost use Rattle.std.specs.Prelude.{◌≡◌, ℕ, List, Option, option_map};
 
-use jt_scan::Options;
-
 /// A library of template sources, by their names.
 pub trait Library {
     /// The source of each name, both as bytes. It depends on the library alone, so a name has one
@@ -13,11 +11,4 @@ pub trait Library {
     /// Returns the source of the template `name`, or `None` if the library has none.
     fn source(&self, name: &str) -> Option<&str>
         ensures { option_map (λ s. s.now) result ≡ sources self.now name.now };
-}
-
-/// A library, and the options for reading its sources.
-#[derive(Drop)]
-pub(crate) struct Loader<'a, L> {
-    pub(crate) library: &'a L,
-    pub(crate) options: Options,
 }

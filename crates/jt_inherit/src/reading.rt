@@ -11,7 +11,7 @@ ghost use Rattle.jt_chains.specs.TemplateFiles.{file_view};
 ghost use Rattle.jt_inherit.specs.internal.ExtendsPaths.{IsWithin};
 
 use crate::error::ChainError;
-use crate::library::{Library, Loader};
+use crate::library::Library;
 use crate::names::is_name;
 use jt_ast::Template;
 use jt_chains::TemplateFile;
@@ -23,25 +23,26 @@ use std::alloc::Global;
 pub(crate) fn read_file<L: Library>(
     alloc: Global,
     name: &str,
-    loader: &Loader<'_, L>,
+    library: &L,
+    options: Options,
 ) -> Result<TemplateFile, ChainError>
     ensures named { IfOk result (λ p. string_bytes p.name ≡ name.now) }
     ensures read { IfOk result (λ p.
-        IsRead (L.sources loader.now.library.now) loader.now.options (file_view p)) }
+        IsRead (L.sources library.now) options (file_view p)) }
     ensures only { IfOk result (λ p.
-        IsOnly (L.sources loader.now.library.now) loader.now.options (file_view p)) }
-    ensures within { IfOk result (λ p. IsWithin (L.sources loader.now.library.now) (file_view p)) }
+        IsOnly (L.sources library.now) options (file_view p)) }
+    ensures within { IfOk result (λ p. IsWithin (L.sources library.now) (file_view p)) }
     ensures refused { IfErr result (λ e.
-        IsFaultOf e (L.sources loader.now.library.now) name.now loader.now.options) }
+        IsFaultOf e (L.sources library.now) name.now options) }
     ensures missing { result ≡ Err ChainError.Missing → IsName name.now }
 {
     if !is_name(name) {
         return Err(ChainError::BadName);
     }
-    let Some(source) = loader.library.source(name) else {
+    let Some(source) = library.source(name) else {
         return Err(ChainError::Missing);
     };
-    let template = template_of(alloc, name, source, loader.options)?;
+    let template = template_of(alloc, name, source, options)?;
     let name = String::from_str(alloc, name)?;
     Ok(TemplateFile::new(alloc, name, template)?)
 }

@@ -2,17 +2,16 @@
 
 ghost use Rattle.std.specs.Prelude.{◌≡◌, ◌<◌, ◌⊎◌, map, length, string_bytes, IfOk, IfErr};
 ghost use Rattle.std.specs.List.{AllByRecursion};
-ghost use Rattle.jt_graph.specs.Graph.{IsClosed, IsOrder, IsRing};
+ghost use Rattle.jt_graph.specs.Graph.{IsOrder, IsRing};
 ghost use Rattle.jt_graph.specs.View.{graph_of};
-ghost use Rattle.jt_chains.specs.Along.{AreIndices};
 ghost use Rattle.jt_inherit.specs.Findings.{IsNoMemory};
-ghost use Rattle.jt_inherit.specs.internal.Found.{found_namespaces, found_paths, found_templates};
-ghost use Rattle.jt_inherit.specs.internal.Rings.{HasRing, IsOfRing, last_number, name_at};
+ghost use Rattle.jt_inherit.specs.internal.Found.{AllFollowed, found_namespaces, found_paths};
+ghost use Rattle.jt_inherit.specs.internal.Found.{found_templates};
+ghost use Rattle.jt_inherit.specs.internal.Placing.{HasRing, IsOfRing, last_number, name_at};
 
-use crate::discovery::Discovery;
+use crate::discovery::{Discovery, leading_tag, name_of};
 use crate::error::ChainError;
 use crate::finding::{ChainFinding, ChainSubject};
-use crate::leading::{leading_tag, name_of};
 use jt_graph::{OrderError, Ring, order};
 use std::alloc::{AllocError, Global};
 
@@ -41,10 +40,7 @@ fn last_of(ring: &Ring) -> usize
 
 /// Returns the finding of a ring, with the tag that closes it.
 fn ring_finding(alloc: Global, found: &Discovery, ring: &Ring) -> Result<ChainFinding, AllocError>
-    requires paths { length found.now.extends_paths.items ≡ length (found_namespaces found.now) }
-    requires next { length found.now.next.items ≡ length (found_namespaces found.now) }
-    requires indices { AllByRecursion (AreIndices (found_templates found.now))
-        (found_paths found.now) }
+    requires all { AllFollowed found.now }
     requires ring { IsRing (graph_of found.now.next.items) ring.now.first ring.now.others.items }
     ensures { IfOk result (IsOfRing (found_templates found.now) (found_namespaces found.now)
         (found_paths found.now) ring.now.first ring.now.others.items) }
@@ -68,11 +64,7 @@ fn ring_finding(alloc: Global, found: &Discovery, ring: &Ring) -> Result<ChainFi
 /// - The finding of a ring, if there is no order.
 /// - That of `NoMemory` if a growth is refused.
 pub(crate) fn order_of(alloc: Global, found: &Discovery) -> Result<Vec<usize>, ChainFinding>
-    requires closed { IsClosed (graph_of found.now.next.items) }
-    requires paths { length found.now.extends_paths.items ≡ length (found_namespaces found.now) }
-    requires next { length found.now.next.items ≡ length (found_namespaces found.now) }
-    requires indices { AllByRecursion (AreIndices (found_templates found.now))
-        (found_paths found.now) }
+    requires { AllFollowed found.now }
     ensures ordered { IfOk result (λ nodes. IsOrder (graph_of found.now.next.items) nodes.items) }
     ensures refused { IfErr result (λ f. IsNoMemory f ⊎ HasRing (found_templates found.now)
         (found_namespaces found.now) (found_paths found.now) (graph_of found.now.next.items) f) }

@@ -16,8 +16,7 @@ ghost use Rattle.jt_chains.specs.Parts.{blocks_view};
 ghost use Rattle.jt_inherit.specs.internal.Breaking.{IsBroken};
 ghost use Rattle.jt_inherit.specs.internal.Given.{its_files, its_sources, its_templates};
 
-use crate::bodies::{no_super, not_given};
-use crate::breaking::{block_twice, missing_finding, name_twice};
+use crate::breaking::{block_twice, missing_finding, name_twice, no_super, not_given};
 use crate::finding::ChainFinding;
 use crate::importing::{missing_at, names_at};
 use crate::store::TemplateStore;
@@ -64,6 +63,7 @@ fn is_lacking(there: bool, asked: bool) -> bool
 }
 
 /// Adds the name of a body, unless the body is a required one.
+#[tactic(auto, using(crate::proofs::BodyRules::given_noted))]
 fn note_given<'a>(given: &mut BTreeSet<&'a str>, block: &Block<'a>) -> Result<(), AllocError>
     ensures { IfOk result (λ _. (x : Text)
         → among x (texts given.new.keys)

@@ -6,9 +6,10 @@ ghost use Rattle.jt_chains.specs.TemplateFiles.{files_view};
 ghost use Rattle.jt_inherit.specs.internal.Numbers.{AreNumbers, AreNumbers-prop, is_named};
 
 use crate::error::ChainError;
-use crate::library::{Library, Loader};
+use crate::library::Library;
 use crate::reading::read_file;
 use jt_chains::{Block, Macro, TemplateFile, blocks_at, blocks_of_file, macros_at};
+use jt_scan::Options;
 use std::alloc::{AllocError, Global};
 use std::collections::BTreeMap;
 
@@ -114,16 +115,17 @@ impl TemplateStore {
         &mut self,
         alloc: Global,
         name: &str,
-        loader: &Loader<'_, L>,
+        library: &L,
+        options: Options,
     ) -> Result<usize, ChainError>
-        requires { AreKnown (L.sources loader.now.library.now) loader.now.options
+        requires { AreKnown (L.sources library.now) options
             (its_files self.old) }
-        ensures read { OnOk result (HasRead (L.sources loader.now.library.now) loader.now.options
+        ensures read { OnOk result (HasRead (L.sources library.now) options
             (its_files self.old) (its_files self.new) (name.now ∷ [])) }
         ensures index { IfOk result
             (λ i. slice_get (names (its_files self.new)) i ≡ Some name.now) }
         ensures refused { IfErr result (λ e.
-            IsFaultOf e (L.sources loader.now.library.now) name.now loader.now.options) }
+            IsFaultOf e (L.sources library.now) name.now options) }
         ensures same { OnErr result (its_files self.new ≡ its_files self.old) }
         ensures missing { result ≡ Err ChainError.Missing → IsName name.now }
     {
@@ -131,7 +133,7 @@ impl TemplateStore {
             return Ok(index);
         }
         let index = self.files.len();
-        let file = read_file(alloc, name, loader)?;
+        let file = read_file(alloc, name, library, options)?;
         self.add(alloc, file)?;
         Ok(index)
     }

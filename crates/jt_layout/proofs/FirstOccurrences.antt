@@ -1,18 +1,15 @@
 -- The first occurrences of names in lists, and bodies of blocks by their indices.
-use Rattle.jt_semantics.specs.Resolve.{first_body}
-use Rattle.jt_layout.specs.NamespaceLayout.{IsNamespaceAt}
 use Rattle.jt_ast.specs.StatementView.{parameters_view}
 use Rattle.jt_chains.specs.declared.parts.Macro.{Macro}
-use Rattle.std.proofs.Common.{set}
-use Rattle.std.proofs.lemmas.List.{drop-set}
-use Rattle.jt_layout.proofs.Vocabulary.{Bool, List, None, Option, Some, [], add-one, ap, arith, drop, false, get_or}
-use Rattle.jt_layout.proofs.Vocabulary.{if◌then◌else◌, length, map, refl, rules, subst, suc, sym, true, zero, ℕ, ◌++◌}
-use Rattle.jt_layout.proofs.Vocabulary.{◌+◌, ◌<◌, ◌||◌, ◌∙◌, ◌∷◌, ◌≡◌, drop_more, filter, option_map, slice_get}
-use Rattle.jt_layout.proofs.Vocabulary.{bytes_eq, Text, BlockBody, Namespace, Template, a_chain, listed, macro_of}
-use Rattle.jt_layout.proofs.Vocabulary.{same_namespace, namespace_at, block_view, macro_view, Block, global, first_of}
-use Rattle.jt_layout.proofs.Vocabulary.{namespace_is, namespace_same, same_text, Key, counted_from, first_default}
-use Rattle.jt_layout.proofs.Vocabulary.{globals_from, index_of, of_macro, slot_in, next_given, defaults_from}
-use Rattle.jt_layout.proofs.Vocabulary.{first_namespace, nexts}
+use Rattle.std.proofs.Common.{set, Option, add-one, get_or, suc, zero, Bool, Some, false, if◌then◌else◌, refl, ℕ, true}
+use Rattle.jt_chains.specs.Chain.{BlockBody, Namespace, macro_of}
+use Rattle.jt_semantics.specs.Layout.{Key, first_default, globals_from, index_of, of_macro, slot_in, counted_from}
+use Rattle.jt_semantics.proofs.EnvLookup.{namespace_is, namespace_same, same_text}
+use Rattle.jt_layout.proofs.Vocabulary
+use Vocabulary.{List, [], ap, drop, length, map, subst, sym, ◌++◌, ◌+◌, ◌<◌, ◌||◌, ◌∙◌, ◌∷◌, ◌≡◌, Template, a_chain}
+use Vocabulary.{listed, same_namespace, first_body, next_given, IsNamespaceAt, drop-set, None, arith, rules, drop_more}
+use Vocabulary.{filter, option_map, slice_get, bytes_eq, Text, namespace_at, block_view, macro_view, Block, global}
+use Vocabulary.{first_of, defaults_from, first_namespace, nexts}
 
 -- Names in slots.
 pub in_slots : (x : Text) (n : ℕ) (xs : List Text) → option_map global (first_of x n xs) ≡ slot_in x (globals_from n xs)
@@ -25,27 +22,27 @@ pub first_bodies : (x : Text) (n : ℕ) (bs : List BlockBody)
 first_bodies x n [] = refl
 first_bodies x n (b ∷ bs) = search (arith, rules, first_bodies x (suc n) bs)
 
--- Chains and libraries.
-abbrev IsFrom : List Namespace → Namespace → ℕ → Option ℕ → Type 0
-IsFrom hs h n None = listed h hs ≡ false
-IsFrom hs h n (Some i) = (j : ℕ) × (i ≡ n + j) × (j < length hs) × (namespace_at hs j ≡ h)
+-- Chains and libraries. The number of a later one is one more than among the later ones.
+later_namespace : (h : Namespace) (n : ℕ) (hs : List Namespace)
+    → first_namespace h (suc n) hs ≡ option_map suc (first_namespace h n hs)
+later_namespace h n [] = refl
+later_namespace h n (k ∷ hs) = search (arith, rules, later_namespace h (suc n) hs)
 
-from : (h : Namespace) (n : ℕ) (hs : List Namespace) → IsFrom hs h n (first_namespace h n hs)
-from h n [] = refl
-from h n (k ∷ hs) = by (same_namespace k h) refl (from h (suc n) hs)
+from : (h : Namespace) (hs : List Namespace) → IsNamespaceAt hs h (first_namespace h 0 hs)
+from h [] = refl
+from h (k ∷ hs) =
+    subst (λ o. IsNamespaceAt (k ∷ hs) h (if same_namespace k h then Some 0 else o)) (sym (later_namespace h 0 hs))
+    (by (same_namespace k h) refl (first_namespace h 0 hs) (from h hs))
   where
-    later : (o : Option ℕ) → same_namespace k h ≡ false → IsFrom hs h (suc n) o → IsFrom (k ∷ hs) h n o
-    later None e r = ap (λ b. b || listed h hs) e ∙ r
-    later (Some i) e r = (suc r.0, omega (arith, r.1), omega (arith, r.2), r.3)
-
-    by : (b : Bool) → same_namespace k h ≡ b → IsFrom hs h (suc n) (first_namespace h (suc n) hs)
-        → IsFrom (k ∷ hs) h n (if b then Some n else first_namespace h (suc n) hs)
-    by true e r = (0, omega arith, omega arith, namespace_same k h e)
-    by false e r = later (first_namespace h (suc n) hs) e r
+    by : (b : Bool) → same_namespace k h ≡ b → (o : Option ℕ) → IsNamespaceAt hs h o
+        → IsNamespaceAt (k ∷ hs) h (if b then Some 0 else option_map suc o)
+    by true e o r = (omega arith, namespace_same k h e)
+    by false e None r = ap (λ b. b || listed h hs) e ∙ r
+    by false e (Some i) r = (omega (arith, r.0), r.1)
 
 pub is_namespace : (h : Namespace) (order : List Namespace) (o : Option ℕ) → o ≡ first_namespace h 0 order
     → IsNamespaceAt order h o
-is_namespace h order a2 e = search (arith, rules, from)
+is_namespace h order o e = subst (IsNamespaceAt order h) (sym e) (from h order)
 
 -- ---- chains and libraries by their indices
 
@@ -59,6 +56,10 @@ namespaces_left hs i lt = drop_more hs i (a_chain []) lt ∙ ap (λ h. h ∷ dro
 
 -- ---- the first macro of a name
 
+later_name : (x : Text) (n : ℕ) (xs : List Text) → first_of x (suc n) xs ≡ option_map suc (first_of x n xs)
+later_name x n [] = refl
+later_name x n (y ∷ ys) = search (arith, rules, later_name x (suc n) ys)
+
 module _ (ts : List Template) (x : Text) where
   -- The first macro of the name, at its index.
   pub record AtFirst (ms : List Macro) (j : ℕ) : Type 0 where
@@ -71,50 +72,42 @@ module _ (ts : List Template) (x : Text) where
     pub unit : (h : Namespace) (rest : List Key)
         → index_of (of_macro h x) (map (λ m. of_macro h m.name) (map (macro_view ts) ms) ++ rest) ≡ j
 
-  macro_from : (ms : List Macro) (n i : ℕ) → first_of x n (map (λ m. m.name.now) ms) ≡ Some i
-      → (j : ℕ) × (i ≡ n + j) × AtFirst ms j
-  macro_from [] n i e = absurd (cc)
-  macro_from (m ∷ ms) n i e = by (bytes_eq m.name.now x) refl (macro_from ms (suc n) i)
+  pub first_macro : (ms : List Macro) (k : ℕ) → Some k ≡ first_of x 0 (map (λ m. m.name.now) ms) → AtFirst ms k
+  first_macro [] k e = absurd (cc)
+  first_macro (m ∷ ms) k e =
+      by (bytes_eq m.name.now x) refl (first_of x 0 names) (first_macro ms)
+      (e ∙ ap (λ o. if bytes_eq m.name.now x then Some 0 else o) (later_name x 0 names))
     where
-      rest : Option ℕ
-      rest = first_of x (suc n) (map (λ (k : Macro). k.name.now) ms)
+      names : List Text
+      names = map (λ (n : Macro). n.name.now) ms
 
       size : ℕ
       size = length (parameters_view m.parameters.now)
 
-      by : (b : Bool) → bytes_eq m.name.now x ≡ b → (rest ≡ Some i → (j : ℕ) × (i ≡ suc n + j) × AtFirst ms j)
-          → (j : ℕ) × (i ≡ n + j) × AtFirst (m ∷ ms) j
-      by true q g =
-          let here : Some n ≡ Some i = sym (ap (λ c. if c then Some n else rest) q) ∙ e in
-          let is : n ≡ i = cc in (
-            0,
-            omega arith,
-            record {
-              code = m;
-              found = refl;
-              named = same_text m.name.now x q;
-              meant = search (arith, rules);
-              default = λ d. search (arith, rules);
-              unit = λ h ks. search (arith, rules, namespace_is);
-            },
-          )
-      by false q g =
-          let r = g (sym (ap (λ c. if c then Some n else rest) q) ∙ e) in
-          let a = r.2 in (
-            suc r.0,
-            omega (arith, r.1),
-            record {
-              code = a.code;
-              found = a.found;
-              named = a.named;
-              meant = search (arith, rules, a.meant);
-              default = λ d. search (arith, rules, a.default (d + size));
-              unit = λ h ks. search (arith, rules, namespace_is, a.unit h ks);
-            },
-          )
-
-  pub first_macro : (ms : List Macro) (k : ℕ) → Some k ≡ first_of x 0 (map (λ m. m.name.now) ms) → AtFirst ms k
-  first_macro ms k e = let r = macro_from ms 0 k (sym e) in subst (AtFirst ms) (omega (arith, r.1)) r.2
+      by : (b : Bool) → bytes_eq m.name.now x ≡ b → (o : Option ℕ) → ((j : ℕ) → Some j ≡ o → AtFirst ms j)
+          → Some k ≡ (if b then Some 0 else option_map suc o) → AtFirst (m ∷ ms) k
+      by true q o g f =
+          let is : 0 ≡ k = cc in
+          subst (AtFirst (m ∷ ms)) is (record {
+            code = m;
+            found = refl;
+            named = same_text m.name.now x q;
+            meant = search (arith, rules);
+            default = λ d. search (arith, rules);
+            unit = λ h ks. search (arith, rules, namespace_is);
+          })
+      by false q None g f = absurd (cc)
+      by false q (Some j) g f =
+          let a = g j refl in
+          let is : suc j ≡ k = cc in
+          subst (AtFirst (m ∷ ms)) is (record {
+            code = a.code;
+            found = a.found;
+            named = a.named;
+            meant = search (arith, rules, a.meant);
+            default = λ d. search (arith, rules, a.default (d + size));
+            unit = λ h ks. search (arith, rules, namespace_is, a.unit h ks);
+          })
 
   pub no_macro : (ms : List Macro) (n : ℕ) → None ≡ first_of x n (map (λ m. m.name.now) ms)
       → macro_of x (map (macro_view ts) ms) ≡ None

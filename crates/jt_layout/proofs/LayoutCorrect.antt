@@ -1,26 +1,98 @@
--- The layout of a chain or a library is correct.
-use Rattle.std.proofs.Common.{◌==◌}
+-- The layout of a chain or a library is correct, and the names of chains are inserted in order.
+use Rattle.jt_chains.specs.Uses as uses
+use Rattle.std.proofs.Common
+use Common.{◌==◌, Option, append_assoc, not, suc, zero, Bool, Some, false, if◌then◌else◌, refl, ℕ, true, length-append}
 use Rattle.std.proofs.lemmas.Bool.Decides.{nat_tests}
 use Rattle.jt_semantics.specs.Layout.{of_chain, same_key, chain_keys, numbered_bodies, block_parameters, first_slot}
-use Rattle.jt_semantics.specs.Layout.{is_scoped}
-use Rattle.jt_layout.specs.internal.Layouts.{namespace_of}
+use Rattle.jt_semantics.specs.Layout.{is_scoped, Key, default_index, entry_keys, first_default, in_globals, index_of}
+use Rattle.jt_semantics.specs.Layout.{names, of_body, of_macro, unit, names_in, counted_from, defaults_of}
 use Rattle.std.proofs.lemmas.Bool.{or_right}
-use Rattle.jt_chains.specs.Includes.{InOrder}
 use Rattle.jt_chains.specs.declared.chain.Chain.{Chain}
-use Rattle.jt_layout.specs.NamespaceLayout.{IsCalled}
-use Rattle.jt_layout.proofs.Vocabulary.{Bool, List, None, Option, Some, [], ap, append_assoc, arith, drop, false}
-use Rattle.jt_layout.proofs.Vocabulary.{if◌then◌else◌, length, length-append, map, not, refl, rules, subst, suc, sym}
-use Rattle.jt_layout.proofs.Vocabulary.{true, zero, ℕ, ◌++◌, ◌+◌, ◌<◌, ◌||◌, ◌∙◌, ◌∷◌, ◌≡◌, length-map, is_some}
-use Rattle.jt_layout.proofs.Vocabulary.{flat_map, Text, BlockBody, MacroBody, Namespace, Sources, Template, a_chain}
-use Rattle.jt_layout.proofs.Vocabulary.{a_library, all_bodies, listed, macro_of, macros, same_namespace, block_view}
-use Rattle.jt_layout.proofs.Vocabulary.{macro_view, namespace_view, namespace_in, Block, first_of, CompileEnv}
-use Rattle.jt_layout.proofs.Vocabulary.{namespace_is, namespace_same, same_is, Key, counted_from, default_index}
-use Rattle.jt_layout.proofs.Vocabulary.{defaults_of, entry_keys, first_default, in_globals, index_of, names, of_body}
-use Rattle.jt_layout.proofs.Vocabulary.{of_macro, unit, FirstFree, NamespaceLayout, Stands, StandsAt, defaults_from}
-use Rattle.jt_layout.proofs.Vocabulary.{namespace_named, its_cenv, its_order}
+use Rattle.jt_chains.specs.Chain.{BlockBody, MacroBody, Namespace, Sources, a_library, macro_of, macros, templates}
+use Rattle.jt_layout.specs.declared.front.FirstFree.{FirstFree}
+use Rattle.jt_layout.specs.declared.namespace_layout.NamespaceLayout.{NamespaceLayout}
 use Rattle.jt_layout.proofs.FirstOccurrences.{first_macro, length-counted, namespaces_left, no_macro}
-use Rattle.jt_layout.proofs.NamesInOrder.{no_names}
-use Rattle.jt_chains.specs.Uses as uses
+use Rattle.jt_chains.specs.Includes.{InOrder, includes_in, with_source}
+use Rattle.jt_rules.specs.CompileEnv.{CompileEnv}
+use Rattle.jt_semantics.proofs.EnvLookup.{namespace_is, namespace_same, same_is, same_text}
+use Rattle.std.specs.BTreeMap.{BTreeMap}
+use uses.{own_names}
+use Rattle.jt_chains.specs.declared.include_tags.NeededTemplate.{NeededTemplate}
+use Rattle.jt_chains.specs.Needs.{include_need, needed, needs_view}
+use Rattle.jt_chains.proofs.IncludeCollection.{by_templates}
+use Rattle.std.specs.Option.{is_some}
+use Rattle.jt_layout.proofs.Vocabulary
+use Vocabulary.{List, [], ap, drop, length, map, subst, sym, ◌++◌, ◌+◌, ◌<◌, ◌||◌, ◌∙◌, ◌∷◌, ◌≡◌, Global, Vec}
+use Vocabulary.{ascending_inserted, inserted_both, all_bodies, Template, a_chain, listed, same_namespace, namespace_of}
+use Vocabulary.{IsCalled, None, arith, rules, length-map, flat_map, Text, block_view, macro_view, namespace_view}
+use Vocabulary.{namespace_in, Block, first_of, Stands, StandsAt, defaults_from, namespace_named, its_cenv, its_order}
+use Vocabulary.{flat_map-append, append-nil, all_names, bytes_eq, Bor, all_inserted, ascending, namespace_at, names_at}
+
+-- ---- names that are inserted in order, and the names of chains
+
+-- A missing chain has no templates, and so no names. A library has no globals.
+no_templates : (s : Sources) (n : Text) → is_some (s n) ≡ false → templates s (a_chain n) ≡ []
+no_templates s n e = search (arith, rules)
+
+no_source : (cenv : CompileEnv) (hs : List Namespace) (n : Text) → is_some (cenv.sources n) ≡ false
+    → names_in cenv hs (a_chain n) ≡ []
+no_source cenv [] n e = refl
+no_source cenv (k ∷ hs) n e = search (arith, rules, no_templates, no_source cenv hs n)
+
+pub no_names : (cenv : CompileEnv) (hs : List Namespace) (n : Text) → names_in cenv hs (a_library n) ≡ []
+no_names cenv [] n = refl
+no_names cenv (k ∷ hs) n = search (arith, rules, no_names cenv hs n)
+
+module _ (cenv : CompileEnv) (hs : List Namespace) where
+  no_names_of : (ns : List Text) → flat_map (names_in cenv hs) (map a_library ns) ≡ []
+  no_names_of [] = refl
+  no_names_of (n ∷ ns) = search (arith, rules, no_names, no_names_of ns)
+
+  module _ (h : Namespace) (m : BTreeMap (Bor Text) (Vec (Bor Text) Global))
+      (are : (x : Text) → names_at m x ≡ names_in cenv hs (a_chain x)) where
+    stored : (ks : List NeededTemplate) → flat_map (λ n. names_at m n.name.now) ks
+        ≡ flat_map (names_in cenv hs) (map a_chain (with_source cenv.sources (needed true (needs_view ks))))
+    stored [] = refl
+    stored (k ∷ ks) = search (arith, rules, are, no_source, stored ks)
+
+    pub all_stored : (ks : List NeededTemplate) (ns : List Text)
+        → needs_view ks ≡ flat_map (λ t. includes_in include_need t.body) (templates cenv.sources h)
+        → ns ≡ all_inserted (flat_map (λ n. names_at m n.name.now) ks)
+        (all_inserted (ascending (own_names cenv.sources h)) [])
+        → ns ≡ all_names cenv hs h
+    all_stored ks ns e f =
+        search (
+          arith,
+          rules,
+          flat_map-append,
+          stored,
+          by_templates,
+          no_names_of,
+          append-nil,
+          ascending_inserted,
+          inserted_both,
+        )
+
+module _ (cenv : CompileEnv) (order : List Namespace) (i : ℕ) (lt : i < length order) where
+  abbrev later : List Namespace
+  later = drop (i + 1) order
+
+  -- The names of any remaining chain; a library changes none.
+  pub names_turn : (ns old : List Text) (n x : Text) → namespace_at order i ≡ a_chain n
+      → ns ≡ all_names cenv later (namespace_at order i) → old ≡ names_in cenv later (a_chain x)
+      → (if bytes_eq n x then ns else old) ≡ names_in cenv (drop i order) (a_chain x)
+  names_turn ns old n x is e g = rw (namespaces_left order i lt, is) (by (bytes_eq n x) refl)
+    where
+      by : (b : Bool) → bytes_eq n x ≡ b → (if b then ns else old)
+          ≡ (if b then all_names cenv later (a_chain x) else names_in cenv later (a_chain x))
+      by true q = e ∙ ap (all_names cenv later) (is ∙ ap a_chain (same_text n x q))
+      by false q = g
+
+  pub names_kept : (old : List Text) (n x : Text) → namespace_at order i ≡ a_library n
+      → old ≡ names_in cenv later (a_chain x) → old ≡ names_in cenv (drop i order) (a_chain x)
+  names_kept old n x is g = search (arith, rules, namespaces_left)
+
+-- ---- one namespace differs from another one
 
 -- A namespace after another one differs from it.
 pub apart : (h : Namespace) (hs : List Namespace) → not (listed h hs) ≡ true → (k : Namespace) → listed k hs ≡ true
@@ -109,7 +181,7 @@ chain_key cenv n rest = search (arith, rules, same_is)
 
 -- ---- the first of the remaining namespaces
 
-module _ (cenv : CompileEnv) (order : List Namespace) (h : Namespace) (rest : List Namespace) (f : FirstFree)
+module _ {cenv : CompileEnv} {order : List Namespace} {h : Namespace} {rest : List Namespace} {f : FirstFree}
     (s : Stands cenv order (h ∷ rest) f) where
   abbrev behind : List Key
   behind = flat_map (chain_keys cenv) rest

@@ -1,4 +1,6 @@
 pub mod Vocabulary
 pub mod FirstOccurrences
-pub mod NamesInOrder
 pub mod LayoutCorrect
+use LayoutCorrect.*
+use FirstOccurrences.*
+use Vocabulary.*

@@ -15,7 +15,7 @@ ghost use Rattle.jt_names.specs.FactsOfChains.{AllKnown};
 ghost use Rattle.jt_names.specs.Names.{Puts};
 
 use jt_chains::{Namespace, NeededTemplate};
-use jt_names::{ChainFacts, add_names, list_of};
+use jt_names::{ChainFacts, add_names, list_of, set_entry};
 use jt_value::NoMemory;
 use std::alloc::{AllocError, Global};
 use std::collections::{BTreeMap, BTreeSet};
@@ -43,7 +43,7 @@ impl<'a> CollectedNames<'a> {
             ≡ (if bytes_eq chain.now x then texts names.entry.items else names_at self.old.names
             x)) }
     {
-        self.names.insert(chain, names)?;
+        set_entry(&mut self.names, chain, names)?;
         Ok(())
     }
 

@@ -1,10 +1,10 @@
 -- The facts of the template at an index, and the names of the templates of a chain.
-use Rattle.jt_names.specs.internal.UsedNames.{names_by}
-use Rattle.jt_names.specs.declared.own.NamesOf.{NamesOf}
-use Rattle.jt_names.proofs.Vocabulary.{◌≡◌, ◌<◌, ◌+◌, ℕ, zero, suc, List, [], ◌∷◌, length, drop, get_or, arith, rules}
-use Rattle.jt_names.proofs.Vocabulary.{drop_more, length-map, Text, all_inserted, along, body_at, Template}
-use Rattle.jt_names.proofs.Vocabulary.{TemplateFacts, known_of, facts_in, AreKnown}
+use Rattle.jt_chains.specs.Chain.{Template}
 use Rattle.jt_names.proofs.SortedNames.{inserted_both}
+use Rattle.jt_names.specs.declared.templates.TemplateFacts.{TemplateFacts}
+use Rattle.jt_names.proofs.Vocabulary
+use Vocabulary.{names_by, NamesOf, ◌≡◌, ◌<◌, ◌+◌, ℕ, zero, suc, List, [], ◌∷◌, length, drop, get_or, arith, rules}
+use Vocabulary.{drop_more, length-map, Text, all_inserted, along, body_at, known_of, facts_in, AreKnown}
 
 pub facts_at : (ts : List Template) (fs : List TemplateFacts) (i : ℕ) (f : TemplateFacts) → i < length fs
     → f ≡ get_or fs i f → AreKnown ts fs → known_of f ≡ facts_in (body_at ts i)

@@ -8,13 +8,10 @@ use Rattle.std.specs.BTreeSet.{insert_key}
 use Rattle.std.proofs.lemmas.Cmp.{nat_list_eq_equiv, nat_list_cmp_total}
 use Rattle.std.proofs.lemmas.Map.Text.{is_eq-slice_cmp}
 use Rattle.std.proofs.lemmas.Slice.Eq.{bytes_eq-Decides}
-use Rattle.jt_ast.specs.Texts.{inserted}
-use Rattle.jt_names.proofs.Vocabulary.{◌≡◌, ◌<◌, ◌≤◌, ◌+◌, ℕ, Bool, true, false, if◌then◌else◌, List, [], ◌∷◌, ◌++◌}
-use Rattle.jt_names.proofs.Vocabulary.{refl, sym, ap, subst, ◌∙◌, arith, rules, bytes_eq, Bor, Text, all_inserted}
-use Rattle.jt_names.proofs.Vocabulary.{ascending, texts}
-
-pub symmetric : (x y : Text) → bytes_eq x y ≡ bytes_eq y x
-symmetric x y = nat_list_eq_equiv.symm x y
+use Rattle.std.proofs.lemmas.Bool.{or_right}
+use Rattle.jt_names.proofs.Vocabulary
+use Vocabulary.{Bor, ◌||◌, inserted, among, ◌≡◌, Bool, true, false, if◌then◌else◌, List, [], ◌∷◌, ◌++◌, refl, sym, ap}
+use Vocabulary.{subst, ◌∙◌, arith, rules, bytes_eq, Text, all_inserted, ascending, texts}
 
 -- The insertion of a concatenation inserts the names of its first part, then those of its second
 -- part.
@@ -38,7 +35,7 @@ placed Greater x y ys = y ∷ inserted x ys
 at_head : (x y : Text) (ys : List Text) (o : Ordering) → cmp x y ≡ o → inserted x (y ∷ ys) ≡ placed o x y ys
 at_head x y ys o e =
     ap (λ b. if b then y ∷ ys else if is_lt (cmp x y) then x ∷ y ∷ ys else y ∷ inserted x ys)
-    (symmetric y x ∙ sym (is_eq-slice_cmp x y))
+    (nat_list_eq_equiv.symm y x ∙ sym (is_eq-slice_cmp x y))
     ∙ by (cmp x y) ∙ ap (λ r. placed r x y ys) e
   where
     by : (r : Ordering)
@@ -86,7 +83,7 @@ swapped x y ns = by (cmp x y) refl
     by Equal e = subst (λ z. inserted z (inserted x ns) ≡ inserted x (inserted z ns)) (same x y e) refl
     by Greater e = sym (ordered y x ns (turned x y Greater e))
 
-past : (y : Text) (xs ns : List Text) → inserted y (all_inserted xs ns) ≡ all_inserted xs (inserted y ns)
+pub past : (y : Text) (xs ns : List Text) → inserted y (all_inserted xs ns) ≡ all_inserted xs (inserted y ns)
 past y [] ns = refl
 past y (x ∷ xs) ns = past y xs (inserted x ns) ∙ ap (all_inserted xs) (swapped x y ns)
 
@@ -102,59 +99,41 @@ again x (y ∷ ys) = by (again x ys) (cmp x y) refl
     by later Less e = search (arith, rules, at_head, itself)
     by later o e = search (arith, rules, at_head, itself)
 
--- The different texts of a list may be inserted in its place.
-one_inserted : (x : Text) (ns ms : List Text) → all_inserted (inserted x ns) ms ≡ inserted x (all_inserted ns ms)
-one_inserted x [] ms = refl
-one_inserted x (y ∷ ys) ms = by (bytes_eq y x) (is_lt (cmp x y)) refl (one_inserted x ys (inserted y ms))
-  where
-    by : (b c : Bool) → bytes_eq y x ≡ b
-        → all_inserted (inserted x ys) (inserted y ms) ≡ inserted x (all_inserted ys (inserted y ms))
-        → all_inserted (if b then y ∷ ys else if c then x ∷ y ∷ ys else y ∷ inserted x ys) ms
-        ≡ inserted x (all_inserted ys (inserted y ms))
-    by true c e h = search (arith, rules, past, again, bytes_eq-Decides)
-    by false true e h = sym (past x (y ∷ ys) ms)
-    by false false e h = h
+-- ---- What is inserted depends only on which texts are in a list
 
-inserted_later : (xs ns ms : List Text) → all_inserted (all_inserted xs ns) ms ≡ all_inserted xs (all_inserted ns ms)
-inserted_later [] ns ms = refl
-inserted_later (x ∷ xs) ns ms = search (arith, rules, inserted_later xs, one_inserted)
+pub among_inserted : (q x : Text) (ns : List Text) → among q (inserted x ns) ≡ (bytes_eq x q || among q ns)
+among_inserted q x [] = refl
+among_inserted q x (y ∷ ys) = search (arith, rules, bytes_eq-Decides, among_inserted q x ys)
 
-pub ascending_inserted : (xs ms : List Text) → all_inserted (ascending xs) ms ≡ all_inserted xs ms
-ascending_inserted xs ms = inserted_later xs [] ms
-
--- ---- What is inserted depends only on how often each text is in a list
-
--- The sum of the weights of items.
-abbrev pub weight : {A : Type 0} → (A → ℕ) → List A → ℕ
-weight f [] = 0
-weight f (x ∷ xs) = f x + weight f xs
-
--- One for the text q, and nothing for another one.
-abbrev pub one : Text → Text → ℕ
-one q x = if bytes_eq x q then 1 else 0
+pub among_all : (q : Text) (xs ns : List Text) → among q (all_inserted xs ns) ≡ (among q xs || among q ns)
+among_all q [] ns = refl
+among_all q (x ∷ xs) ns = search (arith, rules, among_all q xs (inserted x ns), among_inserted)
 
 -- A text of the list is inserted with it.
-absorbed : (x : Text) (xs ns : List Text) → 0 < weight (one x) xs → all_inserted xs (inserted x ns) ≡ all_inserted xs ns
-absorbed x [] ns h = absurd (omega arith)
+pub absorbed : (x : Text) (xs ns : List Text) → among x xs ≡ true → all_inserted xs (inserted x ns) ≡ all_inserted xs ns
+absorbed x [] ns h = absurd (cc)
 absorbed x (y ∷ ys) ns h = by (bytes_eq y x) refl (absorbed x ys (inserted y ns)) h
   where
     by : (b : Bool) → bytes_eq y x ≡ b
-        → (0 < weight (one x) ys → all_inserted ys (inserted x (inserted y ns)) ≡ all_inserted ys (inserted y ns))
-        → 0 < (if b then 1 else 0) + weight (one x) ys
-        → all_inserted ys (inserted y (inserted x ns)) ≡ all_inserted ys (inserted y ns)
+        → (among x ys ≡ true → all_inserted ys (inserted x (inserted y ns)) ≡ all_inserted ys (inserted y ns))
+        → (b || among x ys) ≡ true → all_inserted ys (inserted y (inserted x ns)) ≡ all_inserted ys (inserted y ns)
     by true e later h = search (arith, rules, again, bytes_eq-Decides)
-    by false e later h = ap (all_inserted ys) (swapped x y ns) ∙ later (omega arith)
+    by false e later h = ap (all_inserted ys) (swapped x y ns) ∙ later h
 
-absorbs : (xs ys ns : List Text) → ((q : Text) → weight (one q) xs ≤ weight (one q) ys)
+absorbs : (xs ys ns : List Text) → ((q : Text) → among q xs ≡ true → among q ys ≡ true)
     → all_inserted ys (all_inserted xs ns) ≡ all_inserted ys ns
 absorbs [] ys ns h = refl
-absorbs (x ∷ xs) ys ns h = search (arith, rules, nat_list_eq_equiv, absorbs xs ys, absorbed)
+absorbs (x ∷ xs) ys ns h = search (arith, rules, nat_list_eq_equiv, or_right, absorbs xs ys, absorbed)
 
 crossed : (xs ys ns : List Text) → all_inserted ys (all_inserted xs ns) ≡ all_inserted xs (all_inserted ys ns)
 crossed xs [] ns = refl
 crossed xs (y ∷ ys) ns = ap (all_inserted ys) (past y xs ns) ∙ crossed xs ys (inserted y ns)
 
-pub as_often : (xs ys ns : List Text) → ((q : Text) → weight (one q) xs ≡ weight (one q) ys)
+pub inserted_alike : (xs ys ns : List Text) → ((q : Text) → among q xs ≡ among q ys)
     → all_inserted xs ns ≡ all_inserted ys ns
-as_often xs ys ns h =
-    sym (absorbs ys xs ns (λ q. omega (arith, h q))) ∙ crossed ys xs ns ∙ absorbs xs ys ns (λ q. omega (arith, h q))
+inserted_alike xs ys ns h =
+    sym (absorbs ys xs ns (λ q e. h q ∙ e)) ∙ crossed ys xs ns ∙ absorbs xs ys ns (λ q e. sym (h q) ∙ e)
+
+-- The different texts of a list may be inserted in its place.
+pub ascending_inserted : (xs ms : List Text) → all_inserted (ascending xs) ms ≡ all_inserted xs ms
+ascending_inserted xs ms = inserted_alike (ascending xs) xs ms (λ q. search (arith, rules, among_all))

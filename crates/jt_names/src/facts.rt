@@ -12,8 +12,8 @@ ghost use Rattle.jt_uses.specs.UseView.{sites_view};
 ghost use Rattle.jt_names.specs.FactsOfChains.{AllKnown, IsKnown};
 
 use crate::index::NameIndex;
-use crate::templates::{TemplateFacts, template_named};
-use jt_chains::{Block, Chain, Definition, Macro};
+use crate::templates::TemplateFacts;
+use jt_chains::{Block, Chain, Definition, Macro, file_named};
 use jt_uses::UseSite;
 use std::collections::BTreeMap;
 
@@ -70,7 +70,7 @@ impl<'a> ChainFacts<'a> {
         ensures { result ≡ length
             (ascending (own_names (its_sources self.now.chain.now) (a_library library.now))) }
     {
-        let index = template_named(self.chain, library);
+        let index = file_named(self.chain, library);
         match self.chain.templates.get(index) {
             Some(file) if file.is_library() => self.templates[index].names.as_slice().len(),
             _ => 0,

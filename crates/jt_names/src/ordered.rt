@@ -8,6 +8,7 @@ use std::alloc::{AllocError, Global};
 use std::collections::BTreeSet;
 
 /// Adds a name.
+#[tactic(auto, using(crate::proofs::SortedNames::key_inserted))]
 pub(crate) fn add_name<'a>(names: &mut BTreeSet<&'a str>, name: &'a str) -> Result<(), AllocError>
     ensures { IfOk result (λ u. texts names.new.keys ≡ inserted name.now (texts names.old.keys)) }
 {

@@ -6,7 +6,6 @@ ghost use Rattle.jt_ast.specs.Texts.{ascending, texts};
 ghost use Rattle.jt_ast.specs.Statements.{Body};
 ghost use Rattle.jt_ast.specs.StatementView.{body_view};
 ghost use Rattle.jt_chains.specs.Chain as chains;
-ghost use Rattle.jt_chains.specs.Indices.{index_of};
 ghost use Rattle.jt_chains.specs.View.{its_sources, its_templates, namespace_in};
 ghost use Rattle.jt_names.specs.FactsOfTemplates.{known_of, facts_in, AreKnown};
 ghost use Rattle.jt_names.specs.Names.{Puts};
@@ -15,7 +14,7 @@ ghost use Rattle.jt_names.specs.internal.UsedNames.{names_by};
 use crate::ordered::{add_names, list_of};
 use crate::own::{NamesOf, add_used};
 use jt_ast::Stmt;
-use jt_chains::Chain;
+use jt_chains::{Chain, file_named};
 use jt_uses::{UseSite, uses_of};
 use std::alloc::{AllocError, Global};
 use std::collections::BTreeSet;
@@ -55,25 +54,16 @@ pub(crate) fn facts_of_templates(
     Ok(found)
 }
 
-/// Returns the index of the template of a name, or the number of templates if it does not exist.
-pub(crate) fn template_named(chain: &Chain, name: &str) -> usize
-    ensures { result ≡ index_of (its_templates chain.now) name.now }
-{
-    match chain.indices.get(name) {
-        Some(index) => *index,
-        None => chain.templates.as_slice().len(),
-    }
-}
-
 /// Returns whether no template `name` was read.
 #[tactic(auto, using(crate::proofs::LibraryNames::missing))]
 pub fn is_missing(chain: &Chain, name: &str) -> bool
     ensures { result ≡ is_none (its_sources chain.now name.now) }
 {
-    chain.templates.as_slice().len() <= template_named(chain, name)
+    chain.templates.as_slice().len() <= file_named(chain, name)
 }
 
 /// Adds names of a template.
+#[tactic(auto, using(crate::proofs::NamesOfUses::known_scopes, crate::proofs::NamesOfUses::known_names))]
 fn add_known<'a>(
     names: &mut BTreeSet<&'a str>,
     of: NamesOf,

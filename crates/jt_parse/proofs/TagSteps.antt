@@ -5,8 +5,7 @@ use Rattle.std.proofs.lemmas.Bool.Decides.{nat_tests}
 use Rattle.jt_scan.specs.Cut.{Token}
 use Rattle.jt_ast.specs.Expressions.{Expr, levels}
 use Rattle.jt_parse.specs.Tags.{Head, Says, says_if, head_levels}
-use Rattle.jt_ast.specs.Statements.{Body, end, Branches}
-use Rattle.jt_parse.specs.internal.Reading.{OpenStmt, in_branch, then_branch, State, state, After, ElifTag}
+use Rattle.jt_parse.specs.internal.Reading.{State, After}
 use Rattle.jt_parse.specs.internal.Gives.{GivesOnly, Refuses, refusal_at}
 use Rattle.jt_expr.specs.Grammar.{Tokens, word, Spells, whole}
 use Rattle.jt_expr.specs.Promises.{Leads}
@@ -20,20 +19,34 @@ use Rattle.jt_parse.specs.declared.opening_tags.Head.{Head as First}
 use Rattle.jt_parse.specs.declared.error.ParseError.{ParseError}
 use Rattle.jt_parse.specs.declared.error.ParseError.TheVariants as e
 
--- `around` of the n allowed levels enclose the value, and `limit` levels are left.
-module _ {A B : Type 0} (view : A → B) (NestedForm : B → Type 0) (height : B → ℕ) (around limit n : ℕ)
-    (next : B → State) (all : around + limit ≡ n) where
-  pub after_ok : (a : A) (st : State) → GivesOnly view NestedForm height limit (Ok a) → st ≡ next (view a)
-      → After NestedForm (λ b. around + height b) n next (Ok st)
-  after_ok a st g is = (view a, g.0, omega (arith, g.1, all), g.2, is)
+-- The state after the only value of the form, and the refusal without it.
+module _ {A B : Type 0} (view : A → B) (NestedForm : B → Type 0) (height : B → ℕ) (n : ℕ) (next : B → State) where
+  pub only_ok : (a : A) (st : State) → GivesOnly view NestedForm height n (Ok a) → st ≡ next (view a)
+      → After NestedForm height n next (Ok st)
+  only_ok a st g is = (view a, g.0, g.1, g.2, is)
 
-  pub after_refused : (x : ParseError) → GivesOnly view NestedForm height limit (Err x)
-      → Refuses (After NestedForm (λ b. around + height b) n next) x
-  after_refused (e.Syntax l) g = g
-  after_refused (e.TooDeep l) g = λ b d. let p = g b d in omega (arith, p, all)
-  after_refused (e.UnknownFilter l) g = g
-  after_refused (e.UnknownTest l) g = g
-  after_refused e.NoMemory g = tt
+  pub only_refused : (x : ParseError) → GivesOnly view NestedForm height n (Err x)
+      → Refuses (After NestedForm height n next) x
+  only_refused (e.Syntax l) g = g
+  only_refused (e.TooDeep l) g = g
+  only_refused (e.UnknownFilter l) g = g
+  only_refused (e.UnknownTest l) g = g
+  only_refused e.NoMemory g = tt
+
+pub too_deep : {A B : Type 0} (view : A → B) (NestedForm : B → Type 0) (height : B → ℕ) (n line : ℕ) (x : ParseError)
+    → x ≡ e.TooDeep line → ((b : B) → NestedForm b → n < height b) → GivesOnly view NestedForm height n (Err x)
+too_deep view NestedForm height n line x is over = subst (λ z. GivesOnly view NestedForm height n (Err z)) (sym is) over
+
+-- `around` of the n allowed levels enclose the value, and `limit` levels are left.
+pub enclosed : {A B : Type 0} (view : A → B) (NestedForm : B → Type 0) (height : B → ℕ) (around limit n : ℕ)
+    → around + limit ≡ n → (r : Result A ParseError) → GivesOnly view NestedForm height limit r
+    → GivesOnly view NestedForm (λ b. around + height b) n r
+enclosed view NestedForm height around limit n all (Ok a) g = (g.0, omega (arith, g.1, all), g.2)
+enclosed view NestedForm height around limit n all (Err (e.Syntax l)) g = g
+enclosed view NestedForm height around limit n all (Err (e.TooDeep l)) g = λ b d. let p = g b d in omega (arith, p, all)
+enclosed view NestedForm height around limit n all (Err (e.UnknownFilter l)) g = g
+enclosed view NestedForm height around limit n all (Err (e.UnknownTest l)) g = g
+enclosed view NestedForm height around limit n all (Err e.NoMemory) g = tt
 
 pub some_levels : {line : ℕ} {h : Head} {x : List Token} → Says line h x → 0 < head_levels h
 some_levels (says_if d) = omega arith
@@ -57,40 +70,6 @@ one_left outer d n limit h same is = let less : outer < n = grind (arith, nat_te
 
 pub head_left : (outer d n limit : ℕ) → nat_lt outer n ≡ true → outer ≡ d → limit ≡ n - suc outer → d + suc limit ≡ n
 head_left outer d n limit h same is = let less : outer < n = grind (arith, nat_tests) in omega (arith, less, same, is)
-
-pub fitting : (around limit n l : ℕ) → around + limit ≡ n → l ≤ limit → around + l ≤ n
-fitting around limit n l all le = omega (arith, all, le)
-
--- ---- {% elif c %}
-
-module _ (n line : ℕ) (ts : List Token) (body before : Body) (done : Branches) (l : ℕ) (c : Expr)
-    (open_stmts fs : List OpenStmt) (is : open_stmts ≡ in_branch before done l c ∷ fs) (outer : ℕ)
-    (same : outer ≡ length fs) where
-  abbrev Next : Expr → State
-  Next e = state end (in_branch before (then_branch done l c body) line e ∷ fs)
-
-  pub elif_over : (x : ParseError) (k : ℕ) → x ≡ e.TooDeep k → nat_lt outer n ≡ false
-      → Refuses (ElifTag n line ts body open_stmts) x
-  elif_over x k deep h =
-      subst (λ z. Refuses (ElifTag n line ts body z) x) (sym is)
-      (no_room (λ c. Spells whole c ts) (λ c. suc (length fs) + levels c) n Next k x deep
-      (λ b d. expression_over outer (length fs) n (levels b) h same))
-
-  pub elif_refused : (x : ParseError) (limit : ℕ) → nat_lt outer n ≡ true → limit ≡ n - suc outer
-      → GivesOnly expr_view (λ c. Spells whole c ts) levels limit (Err x)
-      → Refuses (ElifTag n line ts body open_stmts) x
-  elif_refused x limit h left g =
-      subst (λ z. Refuses (ElifTag n line ts body z) x) (sym is)
-      (after_refused expr_view (λ c. Spells whole c ts) levels (suc (length fs)) limit n Next
-      (one_left outer (length fs) n limit h same left) x g)
-
-  pub elif_ok : (a : Tree) (st : State) (limit : ℕ) → nat_lt outer n ≡ true → limit ≡ n - suc outer
-      → GivesOnly expr_view (λ c. Spells whole c ts) levels limit (Ok a) → st ≡ Next (expr_view a)
-      → ElifTag n line ts body open_stmts (Ok st)
-  elif_ok a st limit h left g to =
-      subst (λ z. ElifTag n line ts body z (Ok st)) (sym is)
-      (after_ok expr_view (λ c. Spells whole c ts) levels (suc (length fs)) limit n Next
-      (one_left outer (length fs) n limit h same left) a st g to)
 
 -- The refusal of an expression.
 pub expression_refused : (limit line : ℕ) (ts : Tokens) (f : ExprError)

@@ -1,6 +1,6 @@
 //! Defines the errors of the parser.
 
-use std::alloc::{AllocError, AllocFailed};
+use std::alloc::AllocError;
 use thiserror::Error;
 
 /// The reason why segments are no template. The line is that of the tag with the error. For a
@@ -31,17 +31,6 @@ impl From<AllocError> for ParseError {
     ghost from_gives = { λ _ e. e ≡ NoMemory };
 
     fn from(_e: AllocError) -> ParseError {
-        ParseError::NoMemory
-    }
-}
-
-impl<T: Drop> From<AllocFailed<T>> for ParseError {
-    ghost use Rattle.std.specs.Prelude.{◌≡◌};
-    ghost use Rattle.jt_parse.specs.declared.error.ParseError.TheVariants.{NoMemory};
-
-    ghost from_gives = { λ _ e. e ≡ NoMemory };
-
-    fn from(_e: AllocFailed<T>) -> ParseError {
         ParseError::NoMemory
     }
 }

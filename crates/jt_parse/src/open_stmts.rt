@@ -1,16 +1,22 @@
 //! Defines open statements, whose end has not been read yet.
 
-ghost use Rattle.std.specs.Prelude.{◌≡◌, ◌∷◌, [], List, bytes_eq, IfOk, MatchOption};
+ghost use Rattle.std.specs.Prelude.{◌≡◌, ◌∷◌, [], List, ℕ, suc, ◌+◌, length, bytes_eq, IfOk};
+ghost use Rattle.std.specs.Prelude.{MatchOption, Ok};
 ghost use Rattle.std.specs.Str.{chars};
+ghost use Rattle.jt_scan.specs.Cut as cut;
+ghost use Rattle.jt_expr.specs.Grammar.{Spells, whole};
 ghost use Rattle.jt_ast.specs.ExpressionView.{expr_view};
-ghost use Rattle.jt_ast.specs.Statements.{Body, choose, end};
+ghost use Rattle.jt_ast.specs.Expressions.{levels};
+ghost use Rattle.jt_ast.specs.Statements.{Body, Branches, choose, end};
 ghost use Rattle.jt_parse.specs.Tags as tags;
 ghost use Rattle.jt_parse.specs.internal.Reading as reading;
 ghost use Rattle.jt_ast.specs.StatementView.{stmt_view, body_view, branches_view};
 ghost use Rattle.jt_parse.specs.internal.HeadView.{loop_view, opening_view};
-ghost use Rattle.jt_parse.specs.internal.Gives.{Opens, seen, open_stmt_view, open_stmt_by};
+ghost use Rattle.jt_parse.specs.internal.Gives.{GivesKind, GivesOnly, Opens, seen};
+ghost use Rattle.jt_parse.specs.internal.Gives.{open_stmt_view, open_stmt_by};
 ghost use Rattle.jt_parse.specs.internal.Gives.{open_stmts_view};
 
+use crate::error::ParseError;
 use crate::expression::is_name;
 use crate::opening_tags::{BlockStart, LoopHead};
 use jt_ast::{Branch, Expr, Stmt};
@@ -58,21 +64,101 @@ pub(crate) fn push_statement(body: &mut Vec<Stmt>, statement: Stmt) -> Result<()
 }
 
 /// Appends a branch.
-pub(crate) fn push_branch(
-    branches: &mut Vec<Branch<Stmt>>,
+fn with_branch(
+    branches: Vec<Branch<Stmt>>,
     line: u32,
     condition: Expr,
     body: Vec<Stmt>,
-) -> Result<(), AllocError>
-    ensures { IfOk result (λ u. branches_view branches.new.items ≡ reading.then_branch
-        (branches_view branches.old.items) line (expr_view condition) (body_view body.items)) }
+) -> Result<Vec<Branch<Stmt>>, AllocError>
+    ensures { IfOk result (λ all. branches_view all.items ≡ reading.then_branch
+        (branches_view branches.items) line (expr_view condition) (body_view body.items)) }
 {
+    let mut branches = branches;
     branches.push(Branch {
         line,
         condition,
         body,
     })?;
-    Ok(())
+    Ok(branches)
+}
+
+/// Returns the branch with this condition that follows the given ones.
+fn opened_branch(
+    branches: Result<Vec<Branch<Stmt>>, AllocError>,
+    line: u32,
+    condition: Result<Expr, ParseError>,
+) -> Result<OpenKind, ParseError>
+    ensures { (before : Body) (opening n : ℕ) (ts : List cut.Token) (fs : List reading.OpenStmt)
+        (done : Branches) → IfOk branches (λ all. branches_view all.items ≡ done)
+        → GivesOnly expr_view (λ e. Spells whole e ts) (λ e. suc (length fs) + levels e) n condition
+        → GivesKind (reading.After (λ e. Spells whole e ts) (λ e. suc (length fs) + levels e) n
+        (λ e. reading.state end (reading.in_branch before done line e ∷ fs))) before opening fs
+        result }
+{
+    let condition = condition?;
+    let branches = branches?;
+    Ok(OpenKind::Branch {
+        branches,
+        line,
+        condition,
+    })
+}
+
+/// Returns the `else` part that follows the branches.
+fn opened_else(branches: Result<Vec<Branch<Stmt>>, AllocError>) -> Result<OpenKind, ParseError>
+    ensures { (before : Body) (opening : ℕ) (fs : List reading.OpenStmt) (done : Branches)
+        → IfOk branches (λ all. branches_view all.items ≡ done)
+        → GivesKind (λ o. o ≡ Ok (reading.state end (reading.in_else before done ∷ fs))) before
+        opening fs result }
+{
+    Ok(OpenKind::Else(branches?))
+}
+
+/// Returns the branch that follows a branch with this body. A statement without branches is
+/// refused first, and then a condition that was not read.
+pub(crate) fn next_branch(
+    kind: OpenKind,
+    body: Vec<Stmt>,
+    line: u32,
+    condition: Result<Expr, ParseError>,
+) -> Result<OpenKind, ParseError>
+    ensures { (before : Body) (opening n : ℕ) (ts : List cut.Token) (fs : List reading.OpenStmt)
+        → GivesOnly expr_view (λ e. Spells whole e ts) (λ e. suc (length fs) + levels e) n condition
+        → GivesKind (reading.ElifTag n line ts (body_view body.items)
+        (open_stmt_by before opening kind ∷ fs)) before opening fs result }
+{
+    match kind {
+        OpenKind::Branch {
+            branches,
+            line: first,
+            condition: last,
+        } => opened_branch(with_branch(branches, first, last, body), line, condition),
+        other => {
+            drop(other);
+            Err(ParseError::Syntax { line })
+        }
+    }
+}
+
+/// Returns the `else` part that follows a branch or a loop with this body, and refuses another
+/// statement.
+pub(crate) fn else_part(kind: OpenKind, body: Vec<Stmt>, line: u32) -> Result<OpenKind, ParseError>
+    ensures { (before : Body) (opening : ℕ) (fs : List reading.OpenStmt)
+        → GivesKind (λ o. o ≡ reading.else_by (body_view body.items)
+        (open_stmt_by before opening kind ∷ fs)) before opening fs result }
+{
+    match kind {
+        OpenKind::Branch {
+            branches,
+            line: first,
+            condition,
+        } => opened_else(with_branch(branches, first, condition, body)),
+        OpenKind::Loop(head) => Ok(OpenKind::LoopElse(head, body)),
+        other => {
+            drop(other);
+            Err(ParseError::Syntax { line })
+        }
+    }
 }
 
 /// Pops the innermost open statement.
@@ -169,9 +255,8 @@ fn ended_branch(
     ensures { IfOk result (λ s. stmt_view s ≡ choose (reading.then_branch
         (branches_view branches.items) line (expr_view condition) (body_view body.items)) end) }
 {
-    let mut branches = branches;
-    push_branch(&mut branches, line, condition, body)?;
-    Ok(if_statement(branches, Vec::new(alloc)))
+    let all = with_branch(branches, line, condition, body)?;
+    Ok(if_statement(all, Vec::new(alloc)))
 }
 
 /// Builds the statement that an open statement and its last body make.

@@ -3,8 +3,8 @@
 //! The parser reads the segments in order and keeps a stack of open statements. It does not recurse
 //! into statements, so that a deeply nested source does not exhaust the call stack.
 
-ghost use Rattle.std.specs.Prelude.{◌≡◌, ◌≤◌, ◌-◌, suc, length, nat_lt, None, true, false, [], ◌∷◌};
-ghost use Rattle.std.specs.Prelude.{IfOk, IfErr, MatchResult};
+ghost use Rattle.std.specs.Prelude.{◌≡◌, ◌≤◌, ◌-◌, ◌+◌, suc, length, nat_lt, None, true, false};
+ghost use Rattle.std.specs.Prelude.{[], ◌∷◌, IfOk, IfErr, MatchResult};
 ghost use Rattle.std.specs.Str.{chars};
 ghost use Rattle.jt_scan.specs.Cut.{weight_of};
 ghost use Rattle.jt_scan.specs.View.{segment_view, cut_of};
@@ -21,7 +21,11 @@ ghost use Rattle.jt_ast.specs.StatementView.{body_of};
 ghost use Rattle.jt_parse.specs.View.{pieces_of};
 ghost use Rattle.jt_parse.specs.internal.HeadView.{head_view};
 ghost use Rattle.jt_parse.specs.internal.SideView.{side_view};
-ghost use Rattle.jt_parse.specs.internal.Gives.{GivesState, GivesBody, GivesKnown, Moves, RunsOver};
+ghost use Rattle.jt_ast.specs.Expressions.{levels};
+ghost use Rattle.jt_ast.specs.ExpressionView.{expr_view};
+ghost use Rattle.jt_expr.specs.Grammar.{Spells, whole};
+ghost use Rattle.jt_parse.specs.internal.Gives.{GivesState, GivesBody, GivesKnown, GivesOnly};
+ghost use Rattle.jt_parse.specs.internal.Gives.{Moves, RunsOver};
 ghost use Rattle.jt_parse.specs.internal.Gives.{body_in};
 ghost use Rattle.jt_parse.specs.internal.Gives.{open_in, seen, open_stmt_by, open_stmt_view};
 ghost use Rattle.jt_parse.specs.internal.Gives.{open_stmts_view, state_view};
@@ -33,12 +37,12 @@ use crate::expression::{expression, head};
 use crate::kept::{Neighbour, kept, side_ahead, side_behind};
 use crate::names::check_body;
 use crate::open_stmts::{
-    OpenKind, OpenStmt, close_open_stmt, ends_open_stmt, is_end_word, pop_open_stmt, push_branch,
-    push_open_stmt, push_statement, unclosed,
+    OpenKind, OpenStmt, close_open_stmt, else_part, ends_open_stmt, is_end_word, next_branch,
+    pop_open_stmt, push_open_stmt, push_statement, unclosed,
 };
 use crate::opening_tags::Head;
 use crate::positions::check_positions;
-use jt_ast::{Stmt, Template};
+use jt_ast::{Expr, Stmt, Template};
 use jt_expr::{copy_of, expression_laws};
 use jt_scan::{Segment, SegmentKind, TagKind, Token, is_word};
 use std::alloc::{AllocError, Global};
@@ -80,12 +84,20 @@ impl Parser {
         self.open_stmts.len()
     }
 
+    /// Parses an expression inside the open statements.
+    fn expression(&self, line: u32, tokens: &[Token<'_>]) -> Result<Expr, ParseError>
+        ensures { GivesOnly expr_view (λ e. Spells whole e (seen tokens.now))
+            (λ e. suc (length (open_in self.now)) + levels e) max_levels result }
+    {
+        let levels = levels_left(self.depth(), line)?;
+        expression(self.alloc, tokens, levels, line)
+    }
+
     /// Reads `{{ e }}`.
     fn print_tag(&mut self, line: u32, tokens: &[Token<'_>]) -> Result<(), ParseError>
         ensures { Moves (PrintTag max_levels line (seen tokens.now)) self.old result self.new }
     {
-        let levels = levels_left(self.depth(), line)?;
-        let printed = expression(self.alloc, tokens, levels, line)?;
+        let printed = self.expression(line, tokens)?;
         push_statement(&mut self.body, Stmt::Print(line, printed))?;
         Ok(())
     }
@@ -136,34 +148,23 @@ impl Parser {
         ensures { GivesState (reading.ElifTag max_levels line (seen tokens.now)
             (body_in self.old) (open_in self.old)) result self.new }
     {
-        let Some(open_stmt) = pop_open_stmt(&mut self.open_stmts) else {
-            return Err(ParseError::Syntax { line });
-        };
-        let OpenStmt {
-            before,
-            line: opening,
-            kind,
-        } = open_stmt;
-        let OpenKind::Branch {
-            mut branches,
-            line: first,
-            condition,
-        } = kind
+        let Some(
+            OpenStmt {
+                before,
+                line: opening,
+                kind,
+            },
+        ) = pop_open_stmt(&mut self.open_stmts)
         else {
             return Err(ParseError::Syntax { line });
         };
-        let levels = levels_left(self.depth(), line)?;
-        let next = expression(self.alloc, tokens, levels, line)?;
+        let condition = self.expression(line, tokens);
         let body = mem::replace(&mut self.body, Vec::new(self.alloc));
-        push_branch(&mut branches, first, condition, body)?;
+        let kind = next_branch(kind, body, line, condition)?;
         let open_stmt = OpenStmt {
             before,
             line: opening,
-            kind: OpenKind::Branch {
-                branches,
-                line,
-                condition: next,
-            },
+            kind,
         };
         push_open_stmt(&mut self.open_stmts, open_stmt)?;
         Ok(())
@@ -174,30 +175,18 @@ impl Parser {
         ensures { GivesState (λ o. o ≡ reading.else_by (body_in self.old) (open_in self.old)) result
             self.new }
     {
-        let Some(open_stmt) = pop_open_stmt(&mut self.open_stmts) else {
+        let Some(
+            OpenStmt {
+                before,
+                line: opening,
+                kind,
+            },
+        ) = pop_open_stmt(&mut self.open_stmts)
+        else {
             return Err(ParseError::Syntax { line });
         };
-        let OpenStmt {
-            before,
-            line: opening,
-            kind,
-        } = open_stmt;
-        let kind = match kind {
-            OpenKind::Branch {
-                mut branches,
-                line: first,
-                condition,
-            } => {
-                let body = mem::replace(&mut self.body, Vec::new(self.alloc));
-                push_branch(&mut branches, first, condition, body)?;
-                OpenKind::Else(branches)
-            }
-            OpenKind::Loop(head) => {
-                let body = mem::replace(&mut self.body, Vec::new(self.alloc));
-                OpenKind::LoopElse(head, body)
-            }
-            _ => return Err(ParseError::Syntax { line }),
-        };
+        let body = mem::replace(&mut self.body, Vec::new(self.alloc));
+        let kind = else_part(kind, body, line)?;
         let open_stmt = OpenStmt {
             before,
             line: opening,

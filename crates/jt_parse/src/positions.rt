@@ -132,16 +132,15 @@ fn choice_placed(branches: &[Branch<Stmt>], other: &[Stmt], position: Position) 
     body_placed(other, position)
 }
 
-/// Checks a tag that a child template may not have outside its blocks, and the statements in its
-/// body.
+/// Refuses the tag of a line unless it is allowed, and checks the statements in its body, which is
+/// at this position.
 #[cycle(positions)]
-fn inside_placed(line: u32, body: &[Stmt], position: Position) -> Result<(), u32>
+fn enclosed_placed(allowed: bool, line: u32, body: &[Stmt], position: Position) -> Result<(), u32>
     ensures { is_ok result
-        ≡ (not (spec.is_child (position_view position))
-        && spec.body_placed (spec.within (position_view position)) (body_view body.now)) }
+        ≡ (allowed && spec.body_placed (position_view position) (body_view body.now)) }
 {
-    allow(!is_child(position), line)?;
-    body_placed(body, within(position))
+    allow(allowed, line)?;
+    body_placed(body, position)
 }
 
 /// Checks the positions of a statement and of the statements nested in it.
@@ -164,16 +163,17 @@ fn statement_placed(statement: &Stmt, position: Position) -> Result<(), u32>
             other,
             ..
         } => {
-            inside_placed(*line, body, position)?;
+            enclosed_placed(!is_child(position), *line, body, within(position))?;
             body_placed(other, within(position))
         }
         Stmt::SetBlock { body, .. } => body_placed(body, within(position)),
         Stmt::With { line, body, .. }
         | Stmt::FilterBlock { line, body, .. }
-        | Stmt::Autoescape { line, body, .. } => inside_placed(*line, body, position),
+        | Stmt::Autoescape { line, body, .. } => {
+            enclosed_placed(!is_child(position), *line, body, within(position))
+        }
         Stmt::Macro { line, body, .. } => {
-            allow(is_top(position), *line)?;
-            body_placed(body, Position::InMacro)
+            enclosed_placed(is_top(position), *line, body, Position::InMacro)
         }
         Stmt::Block {
             line,
@@ -182,8 +182,8 @@ fn statement_placed(statement: &Stmt, position: Position) -> Result<(), u32>
             ..
         } => {
             allow(!is_macro(position), *line)?;
-            allow(!*required || is_blank_body(body), *line)?;
-            body_placed(body, within(position))
+            let allowed = !*required || is_blank_body(body);
+            enclosed_placed(allowed, *line, body, within(position))
         }
     }
 }

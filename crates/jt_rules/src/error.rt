@@ -1,7 +1,10 @@
 //! Defines the errors of the static rules.
 
+ghost use Rattle.std.specs.Prelude.{◌≡◌};
+ghost use Rattle.jt_rules.specs.declared.error.ScopeError.TheVariants.{NoMemory};
+
 use jt_value::NoMemory;
-use std::alloc::{AllocError, AllocFailed};
+use std::alloc::AllocError;
 use thiserror::Error;
 
 /// The reason for which a template is not resolved: a broken rule, or lack of memory.
@@ -31,9 +34,6 @@ pub enum ScopeError {
 }
 
 impl From<AllocError> for ScopeError {
-    ghost use Rattle.std.specs.Prelude.{◌≡◌};
-    ghost use Rattle.jt_rules.specs.declared.error.ScopeError.TheVariants.{NoMemory};
-
     ghost from_gives = { λ _ e. e ≡ NoMemory };
 
     fn from(_e: AllocError) -> ScopeError {
@@ -41,21 +41,7 @@ impl From<AllocError> for ScopeError {
     }
 }
 
-impl<T: Drop> From<AllocFailed<T>> for ScopeError {
-    ghost use Rattle.std.specs.Prelude.{◌≡◌};
-    ghost use Rattle.jt_rules.specs.declared.error.ScopeError.TheVariants.{NoMemory};
-
-    ghost from_gives = { λ _ e. e ≡ NoMemory };
-
-    fn from(_e: AllocFailed<T>) -> ScopeError {
-        ScopeError::NoMemory
-    }
-}
-
 impl From<NoMemory> for ScopeError {
-    ghost use Rattle.std.specs.Prelude.{◌≡◌};
-    ghost use Rattle.jt_rules.specs.declared.error.ScopeError.TheVariants.{NoMemory};
-
     ghost from_gives = { λ _ e. e ≡ NoMemory };
 
     fn from(_e: NoMemory) -> ScopeError {

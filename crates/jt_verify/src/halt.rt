@@ -4,7 +4,7 @@ ghost use Rattle.jt_verify.specs.declared.halt.Halt.TheVariants as halt;
 
 use crate::nodes::ShapeId;
 use jt_image::Flaw;
-use std::alloc::{AllocError, AllocFailed};
+use std::alloc::AllocError;
 
 /// The refusal of a unit: its point, its flaw, and the shape that differs from the known one, if a
 /// path brought it.
@@ -34,14 +34,6 @@ impl From<AllocError> for Halt {
     ghost from_gives = { λ _ h. h ≡ halt.NoMemory };
 
     fn from(_e: AllocError) -> Halt {
-        Halt::NoMemory
-    }
-}
-
-impl<T: Drop> From<AllocFailed<T>> for Halt {
-    ghost from_gives = { λ _ h. h ≡ halt.NoMemory };
-
-    fn from(_e: AllocFailed<T>) -> Halt {
         Halt::NoMemory
     }
 }

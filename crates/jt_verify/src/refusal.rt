@@ -5,7 +5,6 @@ ghost use Rattle.jt_verify.specs.declared.refusal.Refusal.TheVariants as refusal
 
 use jt_image::Flaw;
 use jt_value::NoMemory;
-use std::alloc::{AllocError, AllocFailed};
 use thiserror::Error;
 
 /// The reason why a code is refused: a flaw with its unit and point, or lack of memory.
@@ -42,22 +41,6 @@ impl From<NoMemory> for Refusal {
     ghost from_gives = { λ _ e. e ≡ refusals.NoMemory };
 
     fn from(_e: NoMemory) -> Refusal {
-        Refusal::NoMemory
-    }
-}
-
-impl From<AllocError> for Refusal {
-    ghost from_gives = { λ _ e. e ≡ refusals.NoMemory };
-
-    fn from(_e: AllocError) -> Refusal {
-        Refusal::NoMemory
-    }
-}
-
-impl<T: Drop> From<AllocFailed<T>> for Refusal {
-    ghost from_gives = { λ _ e. e ≡ refusals.NoMemory };
-
-    fn from(_e: AllocFailed<T>) -> Refusal {
         Refusal::NoMemory
     }
 }

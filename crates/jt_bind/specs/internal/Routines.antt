@@ -17,14 +17,6 @@ pub record IsRoutine (templates : List Text) (c : slots.Routine Constant) (r : R
   pub shown : routine_view templates r ≡ placed_routine c (length old)
   pub pooled : new ≡ old ++ body_values c.body
 
--- Routines are appended to others, and their values to a pool.
-pub record AreRoutines (templates : List Text) (cs : List (slots.Routine Constant)) (before after : List Routine)
-    (old new : List Tree) : Type 0 where
-  pub shown :
-      map (routine_view templates) after
-      ≡ map (routine_view templates) before ++ placed_routines cs (length old)
-  pub pooled : new ≡ old ++ routines_values cs
-
 -- Routines are appended; of `whole`, the part `left` remains.
 pub record RoutinesLead (templates : List Text) (whole left : List (slots.Routine Constant))
     (before after : List Routine) (old new : List Tree) : Type 0 where
@@ -32,6 +24,12 @@ pub record RoutinesLead (templates : List Text) (whole left : List (slots.Routin
       map (routine_view templates) after ++ placed_routines left (length new)
       ≡ map (routine_view templates) before ++ placed_routines whole (length old)
   pub pooled : new ++ routines_values left ≡ old ++ routines_values whole
+
+-- The routines `whole` are appended, whatever is left to come after them.
+abbrev pub AreRoutines : List Text → List (slots.Routine Constant) → List Routine → List Routine → List Tree
+    → List Tree → Type 0
+AreRoutines templates whole before after old new =
+    (left : List (slots.Routine Constant)) → RoutinesLead templates (whole ++ left) left before after old new
 
 module _ (s : Chains) where
   -- The routine of a chain, which a library lacks; the routines of macros; the routines of the

@@ -3,8 +3,6 @@
 use Rattle.std.specs.declared.alloc.Global.{Global}
 use Rattle.jt_ir.specs.View.{body_view}
 use Rattle.jt_ir.specs.declared.program.SlotExpr.{SlotExpr}
-use Rattle.jt_semantics.specs.Expressions.{filter_parameters}
-use Rattle.jt_ast.specs.Statements.{FilterCall}
 use Rattle.jt_chains.specs.Named.{given_view}
 use Rattle.jt_chains.specs.View.{chain_view}
 use Rattle.jt_layout.specs.NamespaceLayout.{IsLaid}
@@ -18,12 +16,11 @@ use Rattle.std.specs.Prelude.{◌≡◌, ◌<◌, ◌∷◌, ◌++◌}
 use Rattle.jt_bind.specs.internal.Vocabulary.{given, Template, ℕ, pos, List, [], map, drop, length, get_or, filter}
 use Rattle.jt_bind.specs.internal.Vocabulary.{Option, Some, None, Vec, Rc, bytes_eq, Bor, Tree, number, Index0, view}
 use Rattle.jt_bind.specs.internal.Vocabulary.{Value, Text, Namespace, BlockBody, Definition, callee, macros, macro_of}
-use Rattle.jt_bind.specs.internal.Vocabulary.{name_at, count, keywords, namespace_at, CompileEnv, cenv_of, Constant}
-use Rattle.jt_bind.specs.internal.Vocabulary.{own, expr_values, row_values, body_values, placed_expr, placed_row}
-use Rattle.jt_bind.specs.internal.Vocabulary.{placed_body, SRow, SBody, expr_view, row_view, SlotStmt, Table, globals}
-use Rattle.jt_bind.specs.internal.Vocabulary.{numbered_bodies, numbered_of, block_parameters, Part, bound_table}
-use Rattle.jt_bind.specs.internal.Vocabulary.{bound_all, filled_some, locals_from, texts, NameScope, StaticEnv}
-use Rattle.jt_bind.specs.internal.Vocabulary.{NamespaceLayout, Callee}
+use Rattle.jt_bind.specs.internal.Vocabulary.{name_at, namespace_at, CompileEnv, cenv_of, Constant, own, expr_values}
+use Rattle.jt_bind.specs.internal.Vocabulary.{row_values, body_values, placed_expr, placed_row, placed_body, SRow}
+use Rattle.jt_bind.specs.internal.Vocabulary.{SBody, expr_view, row_view, SlotStmt, Table, globals, numbered_bodies}
+use Rattle.jt_bind.specs.internal.Vocabulary.{numbered_of, block_parameters, Part, bound_table, bound_all, texts}
+use Rattle.jt_bind.specs.internal.Vocabulary.{NameScope, StaticEnv, NamespaceLayout, Callee}
 use Rattle.jt_bind.specs.declared.scope_entry.EnteredScope.{EnteredScope}
 use Rattle.jt_bind.specs.internal.Selected.{Chains}
 use Rattle.jt_bind.specs.internal.Callees.{IsCallee, of_namespace, unit_of}
@@ -197,29 +194,6 @@ module _ (s : Chains) where
   abbrev pub top_in : ℕ → resolve.StaticEnv
   top_in i =
       resolve.top_senv cenv_in order_in namespace_in (name_at files_in i)
-
-  -- The parts of a tree after resolution.
-  abbrev pub expr_in : trees.Expr → StaticEnv → slots.SlotExpr Constant
-  expr_in e p = resolve.resolved cenv_in order_in e (senv_in p)
-
-  abbrev pub row_in : trees.Exprs → StaticEnv → SRow Constant → SRow Constant
-  row_in ts p left = resolve.resolved_row cenv_in order_in ts (senv_in p) left
-
-  abbrev pub asides_in : trees.Pairs → StaticEnv → SRow Constant → SRow Constant
-  asides_in ps p left = resolve.resolved_asides cenv_in order_in ps (senv_in p) left
-
-  abbrev pub entries_in : trees.Pairs → StaticEnv → SRow Constant
-  entries_in ps p = resolve.resolved_entries cenv_in order_in ps (senv_in p)
-
-  -- The arguments of a filter, by its number, after its value.
-  abbrev pub filter_row_in : Option ℕ → trees.Exprs → trees.Pairs → StaticEnv → SRow Constant
-  filter_row_in f ts ps p =
-      row_in ts p (asides_in ps p (filled_some (filter_parameters cenv_in.filters f) (count ts)
-      (keywords ps) (locals_from (senv_in p).free (keywords ps))))
-
-  -- The filters of a filter tag on a resolved value, in order.
-  abbrev pub filters_in : List FilterCall → StaticEnv → slots.SlotExpr Constant → slots.SlotExpr Constant
-  filters_in fs p c = resolve.resolved_filters cenv_in order_in fs (senv_in p) c
 
 -- The environment inside an entered scope, whose names are in locals.
 abbrev pub Enters : StaticEnv → List Text → EnteredScope → Type 0

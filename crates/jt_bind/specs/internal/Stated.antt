@@ -10,11 +10,10 @@ use Rattle.jt_ir.specs.Slots as slots
 use Rattle.jt_semantics.specs.Resolve as resolve
 use Rattle.std.specs.Prelude.{◌≡◌, ◌+◌, ◌++◌, if◌then◌else◌}
 use Rattle.jt_bind.specs.internal.Vocabulary.{ℕ, Bool, List, [], map, length, Option, option_map, Tree, Text, Template}
-use Rattle.jt_bind.specs.internal.Vocabulary.{layer_view, set_in, Layer, Constant, condition_values, body_values}
+use Rattle.jt_bind.specs.internal.Vocabulary.{layer_view, Layer, Constant, condition_values, body_values}
 use Rattle.jt_bind.specs.internal.Vocabulary.{placed_condition, placed_body, SBody, Front, place_view, targets_view}
 use Rattle.jt_bind.specs.internal.Vocabulary.{expr_view, choice_view, SlotBranch, SlotStmt, followed, Turns, StaticEnv}
-use Rattle.jt_bind.specs.internal.Scoped.{files_in, IsPlaced, BodyLeads, cenv_in, order_in, namespace_in, senv_in}
-use Rattle.jt_bind.specs.internal.Scoped.{templates_in}
+use Rattle.jt_bind.specs.internal.Scoped.{files_in, IsPlaced, BodyLeads, cenv_in, order_in, namespace_in, templates_in}
 use Rattle.jt_bind.specs.internal.Selected.{Chains}
 use Rattle.jt_bind.specs.declared.emission.LoopHead.{LoopHead}
 
@@ -70,25 +69,9 @@ place_of p line = record { template = p.template; line = line }
 -- ---- the parts of a chain
 
 module _ (s : Chains) where
-  abbrev pub line_in : StaticEnv → ℕ → place.Place
-  line_in p line = resolve.place (senv_in s p) line
-
-  abbrev pub stmt_in : trees.Stmt → StaticEnv → SBody Constant
-  stmt_in t p = resolve.resolved_stmt (cenv_in s) (order_in s) t (senv_in s p)
-
   abbrev pub condition_in : Option expressions.Expr → resolve.StaticEnv
       → Option (slots.SlotExpr Constant)
   condition_in k sp = resolve.resolved_condition (cenv_in s) (order_in s) k sp
-
-  abbrev pub body_in : trees.Body → StaticEnv → SBody Constant
-  body_in b p = resolve.resolved_body (cenv_in s) (order_in s) b (senv_in s p)
-
-  abbrev pub choice_in : Branches → StaticEnv → SBody Constant → SBody Constant
-  choice_in bs p other = resolve.resolved_choice (cenv_in s) (order_in s) bs (senv_in s p) other
-
-  -- A body in a scope of its own.
-  abbrev pub scoped_in : trees.Body → resolve.StaticEnv → SBody Constant
-  scoped_in b sp = resolve.scoped (set_in b) sp (resolve.resolved_body (cenv_in s) (order_in s) b)
 
   -- A template of a chain at its top: all its statements if it is the root, or only the statements
   -- that set names.
@@ -108,10 +91,6 @@ module _ (s : Chains) where
 
   abbrev pub layers_in : List Layer → SBody Constant
   layers_in ls = chained_in (map (layer_view (files_in s)) ls)
-
-  abbrev pub values_in : expressions.Pairs → StaticEnv → ℕ → SBody Constant → SBody Constant
-  values_in ps p line behind =
-      resolve.resolved_values (cenv_in s) (order_in s) ps (senv_in s p) line behind
 
   -- The parts of a loop: targets, items, condition and body.
   pub record AreTurns (xs : slots.Targets) (c : slots.SlotExpr Constant) (k : Option (slots.SlotExpr Constant))

@@ -15,10 +15,10 @@ pub use Rattle.jt_ast.specs.StatementView.{names_view, parameter_view, parameter
 pub use Rattle.jt_ast.specs.Texts.{among, texts}
 pub use Rattle.jt_ast.specs.declared.expression.Expr.{Expr, size-Expr}
 pub use Rattle.jt_ast.specs.declared.statement.Stmt.{Stmt, size-Stmt}
-pub use Rattle.jt_chains.specs.Chain.{BlockBody, Definition, MacroBody, Namespace, Sources, Template, a_block, a_chain}
+pub use Rattle.jt_chains.specs.Chain.{BlockBody, Definition, MacroBody, Namespace, Sources, Template, a_chain}
 pub use Rattle.jt_chains.specs.Chain.{a_library, a_macro, all_bodies, callee, given, given_to, in_library, is_private}
 pub use Rattle.jt_chains.specs.Chain.{library, listed, macro_of, macros, no_callee, of_library, one_macro, public_macro}
-pub use Rattle.jt_chains.specs.Chain.{same_namespace, templates}
+pub use Rattle.jt_chains.specs.Chain.{templates}
 pub use Rattle.jt_chains.specs.Indices.{namespace_at}
 pub use Rattle.jt_chains.specs.Layers.{layer_view}
 pub use Rattle.jt_chains.specs.Parts.{block_view, macro_view, name_at}
@@ -48,15 +48,15 @@ pub use Rattle.jt_ir.specs.declared.program.SlotStmt.{SlotStmt, size-SlotStmt}
 pub use Rattle.jt_layout.specs.declared.namespace_layout.NamespaceLayout.{NamespaceLayout}
 pub use Rattle.jt_names.specs.Names.{value_in}
 pub use Rattle.jt_rules.specs.CompileEnv.{CompileEnv, cenv_of}
-pub use Rattle.jt_semantics.specs.Layout.{Key, Table, block_parameters, chain_keys, counted_from, default_index}
-pub use Rattle.jt_semantics.specs.Layout.{defaults_of, entry_keys, first_slot, globals, index_of, keys, names, names_in}
-pub use Rattle.jt_semantics.specs.Layout.{numbered_bodies, numbered_of, of_body, of_chain, of_macro, same_key, slot_in}
+pub use Rattle.jt_semantics.specs.Layout.{Table, block_parameters, chain_keys, counted_from, default_index}
+pub use Rattle.jt_semantics.specs.Layout.{defaults_of, first_slot, globals, index_of, keys, names, names_in}
+pub use Rattle.jt_semantics.specs.Layout.{numbered_bodies, numbered_of, of_body, of_chain, of_macro, slot_in}
 pub use Rattle.jt_semantics.specs.Layout.{unit}
 pub use Rattle.jt_semantics.specs.Resolve.{Part, alone, bound_all, bound_table, chain_routine, copied, filled}
-pub use Rattle.jt_semantics.specs.Resolve.{filled_some, first_body, first_locals, followed, fresh, handed_on, invoked}
+pub use Rattle.jt_semantics.specs.Resolve.{filled_some, first_body, first_locals, followed, fresh, handed_on}
 pub use Rattle.jt_semantics.specs.Resolve.{invoked_body, invoked_super, kept_slots, left_out, locals_from, next_given}
-pub use Rattle.jt_semantics.specs.Resolve.{place, read_from, reads, resolved_chain, resolved_condition}
-pub use Rattle.jt_semantics.specs.Resolve.{resolved_routine, resolved_sets, resolved_values, set_targets, slot_of}
+pub use Rattle.jt_semantics.specs.Resolve.{place, read_from, reads, resolved_chain}
+pub use Rattle.jt_semantics.specs.Resolve.{resolved_routine, resolved_values, set_targets, slot_of}
 pub use Rattle.jt_semantics.specs.Resolve.{value_or}
 pub use Rattle.jt_value.specs.Place.{Place}
 pub use Rattle.jt_value.specs.Tree.{Tree, number}
@@ -67,4 +67,5 @@ pub use Rattle.jt_bind.specs.declared.callee.Signature.{Signature}
 pub use Rattle.jt_bind.specs.declared.emission.Turns.{Turns}
 pub use Rattle.jt_bind.specs.declared.name_scope.NameScope.{NameScope}
 pub use Rattle.jt_bind.specs.declared.resolver.Arguments.{Arguments}
+pub use Rattle.jt_bind.specs.declared.resolver.Resolver.{Resolver}
 pub use Rattle.jt_bind.specs.declared.senv.StaticEnv.{StaticEnv}

@@ -1,7 +1,7 @@
 -- The results of the cursor and of the grammar's functions, in terms of the reader of Reading. Only
 -- private clauses cite this module.
 use Rattle.std.specs.Prelude.{◌≡◌, ℕ, suc, ◌≤◌, ◌<◌, List, encode_utf8_all, Option, Some, None, option_map, Result, Ok}
-use Rattle.std.specs.Prelude.{Err, IfOk, String, string_bytes}
+use Rattle.std.specs.Prelude.{Err, IfOk, String, string_bytes, Bool, true, false, drop, if◌then◌else◌}
 use Rattle.std.specs.Str.{chars}
 use Rattle.std.specs.Global.{Box}
 use Rattle.std.specs.declared.alloc.AllocError.{AllocError}
@@ -27,7 +27,7 @@ use Rattle.jt_ast.specs.declared.expression.Expr as expression
 use Rattle.jt_expr.specs.Promises.{tree_of, parts_view, level_of_form}
 use Rattle.jt_expr.specs.Grammar as grammar
 use Rattle.jt_expr.specs.Grammar.{Tokens, Level}
-use Rattle.jt_expr.specs.internal.Reading.{ParseResult, Reader, syntax, deep, operator, read}
+use Rattle.jt_expr.specs.internal.Reading.{ParseResult, Reader, syntax, deep, key_at, operator, read}
 use Rattle.jt_expr.specs.internal.Elements as elements
 use Rattle.jt_expr.specs.Cursor.{ahead}
 
@@ -42,6 +42,11 @@ Operates found ts (Some op) new = found ≡ Some (op, new)
 -- `Operates` for an operator of the level.
 abbrev pub OperatesAt : Level → Cursor → Option BinaryOperator → Cursor → Type 0
 OperatesAt k old result new = Operates (operator k (ahead old)) (ahead old) result (ahead new)
+
+-- An operator is taken with its only token if that is found, or nothing is taken.
+abbrev pub OperatesIf : Bool → BinaryOperator → Cursor → Option BinaryOperator → Cursor → Type 0
+OperatesIf found op old result new =
+    Operates (if found then Some (op, drop 1 (ahead old)) else None) (ahead old) result (ahead new)
 
 -- A name is taken with the sign after it, or nothing is taken.
 abbrev pub TakesName : Option (Text × Tokens) → Tokens → Option (Bor (List ℕ)) → Tokens → Type 0
@@ -124,6 +129,15 @@ GivesKey found ts (Ok None) new = (found ≡ None) × (new ≡ ts)
 GivesKey found ts (Ok (Some k)) new = found ≡ Some (string_bytes k, new)
 GivesKey found ts (Err e.NoMemory) new = Unit {0}
 GivesKey found ts (Err x) new = ⊥
+
+-- `GivesKey` for the key of a part: a part without a key is refused if the sequence takes none.
+abbrev pub GivesPartKey : grammar.SequenceKind → Tokens → Result (Option (String Global)) ExprError
+    → Tokens → Type 0
+GivesPartKey r ts (Ok None) new = (key_at r ts ≡ None) × (grammar.takes_plain r ≡ true) × (new ≡ ts)
+GivesPartKey r ts (Ok (Some k)) new = key_at r ts ≡ Some (string_bytes k, new)
+GivesPartKey r ts (Err e.Syntax) new = (key_at r ts ≡ None) × (grammar.takes_plain r ≡ false)
+GivesPartKey r ts (Err e.TooDeep) new = ⊥
+GivesPartKey r ts (Err e.NoMemory) new = Unit {0}
 
 abbrev pub row_view : SequenceKind → grammar.SequenceKind
 row_view w.Items = grammar.items

@@ -17,7 +17,8 @@ use Rattle.jt_expr.specs.internal.Reading.{ParseResult, Reader, ◌>>=◌, synta
 use Rattle.jt_expr.specs.internal.Reading.{key_at, word_by}
 use Rattle.jt_expr.specs.internal.Pending.{rank, Owner, a_list, a_map, a_call, a_filter, a_test, Form, in_group}
 use Rattle.jt_expr.specs.internal.Pending.{in_part, in_item, in_prefix, in_argument, in_else, in_operand, in_condition}
-use Rattle.jt_expr.specs.internal.Pending.{Move, grown, complete, waits, nests, owning, owned, operated, prefix_level}
+use Rattle.jt_expr.specs.internal.Pending.{Move, grown, grows, complete, waits, nests, owning, owned, operated}
+use Rattle.jt_expr.specs.internal.Pending.{prefix_level}
 
 -- `inner` reads forms that are one level deeper, and n levels are allowed here.
 module _ (inner : Level → Reader Expr) (n : ℕ) where
@@ -60,8 +61,7 @@ module _ (inner : Level → Reader Expr) (n : ℕ) where
 
   unfoldable pub primary : Reader Move
   primary [] = Err syntax
-  primary (cut.name x ∷ ts) =
-      word_by inner n (literal_of x) x ts >>= λ t v. Ok (grown postfix t, v)
+  primary (cut.name x ∷ ts) = grows postfix (word_by inner n (literal_of x) x ts)
   primary (cut.number v ∷ ts) = Ok (grown postfix (constant (number v)), ts)
   primary (cut.text v ∷ ts) = Ok (grown postfix (constant (text (encode_utf8_all v))), ts)
   primary (cut.sign k ∷ ts) = begun_by k ts
@@ -79,10 +79,12 @@ module _ (inner : Level → Reader Expr) (n : ℕ) where
 
   -- ---- postfix forms, filters and tests
 
+  abbrev pub attribute_move : Expr → Reader Move
+  attribute_move left ts = word_at ts >>= λ x v. growing postfix (attribute left (encode_utf8_all x)) v
+
   unfoldable pub postfix_move : Expr → Reader Move
   postfix_move left ts =
-      if sees s.Dot ts then (word_at (drop 1 ts)
-      >>= λ x v. growing postfix (attribute left (encode_utf8_all x)) v)
+      if sees s.Dot ts then attribute_move left (drop 1 ts)
       else if sees s.LeftBracket ts then Ok (nests (in_item left), drop 1 ts)
       else if sees s.LeftParen ts then opens (a_call left) arguments (drop 1 ts)
       else Ok (complete postfix left, ts)

@@ -24,7 +24,7 @@ use Rattle.jt_expr.specs.declared.pending.Step.TheVariants as st
 use Rattle.jt_expr.specs.Grammar.{Tokens, Level, whole, disjunction, conjunction, inversion, comparison, sum}
 use Rattle.jt_expr.specs.Grammar.{concatenation, product, power, postscript, signed, postfix, next, SequenceKind}
 use Rattle.jt_expr.specs.Grammar.{LeveledList}
-use Rattle.jt_expr.specs.internal.Reading.{ParseResult}
+use Rattle.jt_expr.specs.internal.Reading.{ParseResult, ◌>>=◌}
 use Rattle.jt_expr.specs.internal.Gives.{row_view, Refuses}
 use Rattle.jt_expr.specs.Promises.{tree_of, parts_view}
 
@@ -155,6 +155,10 @@ pub data Move : Type 0 where
   waits : Form → Move
   -- A form waits for a tree that is one level deeper.
   nests : Form → Move
+
+-- The move after a tree that was read.
+abbrev pub grows : Level → ParseResult Expr → ParseResult Move
+grows k o = o >>= λ t v. Ok (grown k t, v)
 
 -- The move after an operator has both operands. A comparison is not the operand of a further one.
 abbrev pub operated : Level → Expr → Move

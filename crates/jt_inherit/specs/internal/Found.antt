@@ -209,14 +209,22 @@ listed_view k = (namespace_view k, k.templates.items)
 abbrev pub listed_at : Discovery → ℕ → chain.Namespace × List ℕ
 listed_at f i = (namespace_at (found_namespaces f) i, next_of (found_paths f) i)
 
--- The search from an entry is done: each chain or library that was found was followed.
-pub record IsDone (given : SourceTexts) (options : Options) (entry : Text) (f : Discovery) : Type 0 where
-  pub found : AreFound given options entry (found_templates f) (found_namespaces f) (found_paths f)
-      (graph_of f.next.items)
-  pub indices : AllByRecursion (AreIndices (found_templates f)) (found_paths f)
+-- The paths have indices of templates.
+abbrev pub AreIndexed : Discovery → Type 0
+AreIndexed f = AllByRecursion (AreIndices (found_templates f)) (found_paths f)
+
+-- Each chain or library that was found was followed, and leads to ones that were found.
+pub record AllFollowed (f : Discovery) : Type 0 where
+  pub indices : AreIndexed f
   pub paths : length f.extends_paths.items ≡ length (found_namespaces f)
   pub next : length f.next.items ≡ length (found_namespaces f)
   pub closed : IsClosed (graph_of f.next.items)
+
+-- The search from an entry is done.
+pub record IsDone (given : SourceTexts) (options : Options) (entry : Text) (f : Discovery) : Type 0 where
+  pub found : AreFound given options entry (found_templates f) (found_namespaces f) (found_paths f)
+      (graph_of f.next.items)
+  pub all : AllFollowed f
 
 -- The error is one of an included or imported template; it is `Missing` only for a template that
 -- may not be missing. The place is that of the tag that asks for the template.

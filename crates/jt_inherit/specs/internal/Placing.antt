@@ -1,12 +1,17 @@
--- The place and the subject of an error at the name of a template. Only private clauses cite this
--- module.
-use Rattle.std.specs.Prelude.{◌≡◌, ◌<◌, ℕ, Bool, true, false, List, [], ◌∷◌, ◌++◌, length, get_or, map, slice_get}
-use Rattle.std.specs.Prelude.{Option, Some, None, option_map, string_bytes}
+-- The place and the subject of an error at the name of a template, and of an error of the search: an imported template
+-- that holds something other than macros, and a ring. Only private clauses cite this module.
+use Rattle.std.specs.Prelude.{◌≡◌, ◌<◌, ◌⊎◌, ℕ, Bool, true, false, not, List, [], ◌∷◌, ◌++◌, length, get_or, map}
+use Rattle.std.specs.Prelude.{slice_get, Option, Some, None, option_map, string_bytes}
 use Rattle.jt_ast.specs.Expressions.{Text}
 use Rattle.jt_ast.specs.Statements.{Body, end, extends, stmt}
 use Rattle.jt_uses.specs.Uses.{Use}
-use Rattle.jt_chains.specs.Chain.{Template, extends_of}
-use Rattle.jt_inherit.specs.Findings.{ForSome, HasTag, IsAt, asks, is_extends, is_include, all_uses, uses_in}
+use Rattle.jt_graph.specs.Graph.{Graph, IsRing, next_of}
+use Rattle.jt_chains.specs.Along.{templates_at}
+use Rattle.jt_chains.specs.Chain.{Namespace, namespace_name, a_chain, a_library, Template, extends_of, is_a_library}
+use Rattle.jt_chains.specs.Chain.{sources_in}
+use Rattle.jt_chains.specs.Indices.{namespace_at}
+use Rattle.jt_inherit.specs.Findings.{ForSome, HasTag, IsAt, IsNoMemory, asks, is_extends, is_include, all_uses}
+use Rattle.jt_inherit.specs.Findings.{leads_to, uses_in}
 use Rattle.jt_inherit.specs.internal.Tags.{tags, place_in, place_view}
 use Rattle.jt_inherit.specs.declared.error.ChainError.{ChainError}
 use Rattle.jt_inherit.specs.declared.error.ChainError.TheVariants as error
@@ -112,3 +117,57 @@ IsOneChainMore n x = ⊥
 -- The place is that of the first tag that includes the template.
 abbrev pub IsIncludedMore : List Template → Text → ChainFinding → Type 0
 IsIncludedMore ts n = IsFoundAt error.ChainTooLong (IsFirst (is_include n) ts) (IsOneChainMore n)
+
+-- ---- imported libraries
+
+-- The library was not read, or holds something other than macros. A chain is no library.
+abbrev pub is_no_library : List Template → Namespace → Bool
+is_no_library ts (a_chain n) = false
+is_no_library ts (a_library n) = not (is_a_library (sources_in ts n))
+
+-- The place of the first tag in the chain or library of a number that leads to another one.
+abbrev pub leading_at : List Template → List (List ℕ) → Namespace → ℕ → Option (Text × ℕ)
+leading_at ts extends_paths h i =
+    place_in 0 (tags (leads_to h) (all_uses (templates_at ts (next_of extends_paths i))))
+
+-- The name of the chain or library is the subject.
+abbrev pub IsItsName : Namespace → Option ChainSubject → Type 0
+IsItsName h (Some (v.Template x)) = string_bytes x ≡ namespace_name h
+IsItsName h x = ⊥
+
+module _ (ts : List Template) (extends_paths : List (List ℕ)) (h : Namespace) where
+  -- A template on one of the paths leads to the chain or library at the place, or none does.
+  abbrev pub LeadsAt : Option TagPlace → Type 0
+  LeadsAt None = (i : ℕ) → i < length extends_paths → leading_at ts extends_paths h i ≡ None
+  LeadsAt (Some p) =
+      (i : ℕ) × (i < length extends_paths) × HasTag (leads_to h) (templates_at ts (next_of extends_paths i)) p
+
+  abbrev pub IsOfImport : ChainFinding → Type 0
+  IsOfImport = IsFoundAt error.NotALibrary LeadsAt (IsItsName h)
+
+  -- The finding is that of a library that holds something other than macros, or lack of memory.
+  abbrev pub IsNoLibrary : ChainFinding → Type 0
+  IsNoLibrary f = IsNoMemory f ⊎ ((is_no_library ts h ≡ true) × IsOfImport f)
+
+-- ---- rings of chains and libraries, by their numbers
+
+-- The last one of a number and further numbers.
+abbrev pub last_number : ℕ → List ℕ → ℕ
+last_number i [] = i
+last_number i (k ∷ ks) = last_number k ks
+
+abbrev pub name_at : List Namespace → ℕ → Text
+name_at hs i = namespace_name (namespace_at hs i)
+
+module _ (ts : List Template) (hs : List Namespace) (extends_paths : List (List ℕ)) where
+  -- The subject has the names of the numbers. The place is that of the tag by which the last number
+  -- leads to the first one.
+  abbrev pub IsOfRing : ℕ → List ℕ → ChainFinding → Type 0
+  IsOfRing first others =
+      IsFoundAt error.IncludeCycle
+      (λ p. option_map place_view p ≡ leading_at ts extends_paths (namespace_at hs first) (last_number first others))
+      (IsRingOf (name_at hs first) (map (name_at hs) others))
+
+  -- The finding is that of a ring of the graph.
+  abbrev pub HasRing : Graph → ChainFinding → Type 0
+  HasRing next f = (first : ℕ) × (others : List ℕ) × IsRing next first others × IsOfRing first others f

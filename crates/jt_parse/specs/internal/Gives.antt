@@ -14,7 +14,7 @@ use Rattle.jt_parse.specs.Kept.{SourcePiece}
 use Rattle.jt_parse.specs.Names.{Found, body_unknown, unknown_in}
 use Rattle.jt_parse.specs.Refusals.{max_levels}
 use Rattle.jt_parse.specs.Positions.{is_placed}
-use Rattle.jt_ast.specs.Statements.{Body}
+use Rattle.jt_ast.specs.Statements.{Body, end}
 use Rattle.jt_parse.specs.internal.Reading as reading
 use Rattle.jt_parse.specs.internal.Reading.{Fault, syntax, deep, State, state, OpenStmt}
 use Rattle.jt_ast.specs.StatementView.{body_view, branches_view, body_of}
@@ -73,6 +73,12 @@ open_stmts_view fs = reverse (map open_stmt_view fs)
 -- The statement f is pushed onto the open statements.
 abbrev pub Opens : Open → List Open → List Open → Type 0
 Opens f old new = open_stmts_view new ≡ open_stmt_view f ∷ open_stmts_view old
+
+-- The statement of the kind is the innermost open one, inside the given ones.
+abbrev pub GivesKind : (Result State Fault → Type 0) → Body → ℕ → List OpenStmt
+    → Result OpenKind ParseError → Type 0
+GivesKind O before line fs (Ok kind) = O (Ok (state end (open_stmt_by before line kind ∷ fs)))
+GivesKind O before line fs (Err f) = Refuses O f
 
 abbrev pub state_view : Parser → State
 state_view p = state (body_view p.body.items) (open_stmts_view p.open_stmts.items)

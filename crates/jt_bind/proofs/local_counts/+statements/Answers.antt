@@ -1,13 +1,16 @@
-use Rattle.jt_bind.specs.internal.{end}
-use Rattle.jt_bind.proofs.{loop_max, drop_all, arith, max_zero, body_step, branch_step, choice_reaches, view_If}
-use Rattle.jt_bind.proofs.{view_For, view_Capture}
+use Rattle.jt_ir.specs.View.{body_view}
+use Rattle.jt_bind.specs.internal.{◌+◌, drop, end}
+use Rattle.jt_bind.proofs.{loop_max, drop_all, drop_more, arith, max_zero, choice_reaches, ◌∙◌, view_If, view_For}
+use Rattle.jt_bind.proofs.{view_Capture}
 use Rattle.jt_bind.proofs.local_counts.+statements.Goals as goal
 
 pub last_of_body-loop-statement-preserved : goal.last_of_body-loop-statement-preserved
 last_of_body-loop-statement-preserved t c = λ ts behind.
     let l = c.loop-statement in
-    body_step ts c.args.body.now l.statement-index c.statement-item.result l.latest c.last_of_stmt-latest.result behind
-    _ c.loop-statement-test.true c.statement-item.is (c.last_of_stmt-latest.ensures ts) (l.invariant ts behind)
+    let ss = c.args.body.now in
+    c.last_of_stmt-latest.ensures ts (body_view ts (drop (l.statement-index + 1) ss) behind)
+    ∙ (rw (drop_more ss l.statement-index c.statement-item.result c.loop-statement-test.true, ← c.statement-item.is) at
+    (l.invariant ts behind))
 
 pub last_of_body-returns : goal.last_of_body-returns
 last_of_body-returns t c = λ ts behind.
@@ -17,9 +20,12 @@ last_of_body-returns t c = λ ts behind.
 pub last_of_branches-loop-branch-preserved : goal.last_of_branches-loop-branch-preserved
 last_of_branches-loop-branch-preserved t c = λ ts.
     let l = c.loop-branch in
-    branch_step ts c.args.branches.now l.branch-index c.branch-item.result c.deref.result.now l.latest
-    c.last_of_expr-asked.result c.last_of_body-latest.result _ c.loop-branch-test.true c.branch-item.is
-    c.deref.ensures.value c.last_of_expr-asked.ensures (c.last_of_body-latest.ensures ts) (l.invariant ts)
+    let asked = c.last_of_expr-asked.ensures in
+    let taken = rw c.deref.ensures.value at (c.last_of_body-latest.ensures ts end) in
+    let left = rw
+    (drop_more c.args.branches.now l.branch-index c.branch-item.result c.loop-branch-test.true, ← c.branch-item.is) at
+    (l.invariant ts) in
+    omega arith
 
 pub last_of_branches-returns : goal.last_of_branches-returns
 last_of_branches-returns t c = λ ts.

@@ -1,8 +1,10 @@
-use Rattle.jt_bind.specs.internal.{bodies_in, numbered_in, drop, values, templates_in, RoutinesLead, blocks_in}
+use Rattle.jt_bind.specs.internal.{List, ◌++◌, bodies_in, numbered_in, drop, values, templates_in, RoutinesLead}
+use Rattle.jt_bind.specs.internal.{blocks_in}
+use Rattle.jt_bind.proofs.{Planned}
 use Rattle.jt_bind.proofs.routines.resolve_blocks.Given as goal
 
 abbrev pub invariant-loop-index : goal.invariant-loop-index
-invariant-loop-index l = RoutinesLead (templates_in l.tables) (blocks_in l.tables)
-    (bodies_in l.tables
-    (drop l.index (numbered_in l.tables)))
+invariant-loop-index l =
+    (left : List Planned) → RoutinesLead (templates_in l.tables) (blocks_in l.tables ++ left)
+    (bodies_in l.tables (drop l.index (numbered_in l.tables)) ++ left)
     l.initial.routines.items l.routines.items (values l.initial.pool) (values l.pool)

@@ -1,9 +1,10 @@
-use Rattle.jt_bind.specs.internal.{RoutinesLead, values, templates_in}
-use Rattle.jt_bind.proofs.{remaining}
+use Rattle.jt_bind.specs.internal.{List, ◌++◌, drop, map, macro_view, values, RoutinesLead, files_in, macro_in}
+use Rattle.jt_bind.specs.internal.{macros_in, templates_in}
+use Rattle.jt_bind.proofs.{Planned}
 use Rattle.jt_bind.proofs.routines.resolve_macros.Given as goal
 
 abbrev pub invariant-loop-called : goal.invariant-loop-called
 invariant-loop-called l =
-    RoutinesLead (templates_in l.tables) (remaining l.tables l.called-items 0)
-    (remaining l.tables l.called-items l.called-index) l.initial.routines.items l.routines.items (values l.initial.pool)
-    (values l.pool)
+    (left : List Planned) → RoutinesLead (templates_in l.tables) (macros_in l.tables ++ left)
+    (map (macro_in l.tables) (map (macro_view (files_in l.tables)) (drop l.called-index l.called-items)) ++ left)
+    l.initial.routines.items l.routines.items (values l.initial.pool) (values l.pool)

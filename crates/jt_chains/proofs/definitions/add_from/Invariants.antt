@@ -1,6 +1,6 @@
-use Rattle.jt_chains.proofs.Vocabulary.{◌≡◌, ◌++◌, drop, sources_in, Namespace, all_given_from, files_view, names_view}
-use Rattle.jt_chains.proofs.Vocabulary.{given_view}
 use Rattle.jt_chains.proofs.definitions.add_from.Given as goal
+use Rattle.jt_chains.specs.Chain.{Namespace, all_given_from}
+use Rattle.jt_chains.proofs.{◌≡◌, ◌++◌, drop, sources_in, files_view, names_view, given_view}
 
 abbrev pub invariant-loop-name : goal.invariant-loop-name
 invariant-loop-name l = (h : Namespace) →

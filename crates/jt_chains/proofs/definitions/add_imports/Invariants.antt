@@ -1,6 +1,6 @@
-use Rattle.jt_chains.proofs.Vocabulary.{◌≡◌, ◌++◌, drop, body_view, imports_in, sources_in, Namespace, files_view}
-use Rattle.jt_chains.proofs.Vocabulary.{names_view}
 use Rattle.jt_chains.proofs.definitions.add_imports.Given as goal
+use Rattle.jt_chains.specs.Chain.{imports_in, Namespace}
+use Rattle.jt_chains.proofs.{◌≡◌, ◌++◌, drop, body_view, sources_in, files_view, names_view}
 
 abbrev pub invariant-loop-statement : goal.invariant-loop-statement
 invariant-loop-statement l = (h : Namespace) →

@@ -1,5 +1,5 @@
-use Rattle.jt_chains.proofs.Vocabulary.{◌≡◌, ◌++◌, map, drop, body_view, libraries_in}
 use Rattle.jt_chains.proofs.definitions.add_libraries.Given as goal
+use Rattle.jt_chains.proofs.{◌≡◌, ◌++◌, map, drop, body_view, libraries_in}
 
 abbrev pub invariant-loop-statement : goal.invariant-loop-statement
 invariant-loop-statement l =

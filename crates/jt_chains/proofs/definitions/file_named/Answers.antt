@@ -1,5 +1,5 @@
-use Rattle.jt_chains.proofs.Vocabulary.{arith, rules, length-map}
 use Rattle.jt_chains.proofs.definitions.file_named.Goals as goal
+use Rattle.jt_chains.proofs.{arith, rules, length-map}
 
 pub returns-in-Some : goal.returns-in-Some
 returns-in-Some c = search (arith, rules)

@@ -1,9 +1,10 @@
-use Rattle.jt_chains.proofs.Vocabulary.{◌∙◌, ◌&&◌, refl, rules, tests, all_from_yields_List, stmt_view, body_view}
-use Rattle.jt_chains.proofs.Vocabulary.{holds_macros, of_a_library}
+use Rattle.jt_chains.proofs.definitions.holds_macros.Goals as goal
+use Rattle.std.proofs.lemmas.Iterator.Search.{all_from_yields_List}
+use Rattle.jt_chains.specs.Chain.{holds_macros, of_a_library}
 use Rattle.std.specs.List.{list_all}
 use Rattle.std.proofs.lemmas.Iterator.{YieldsList-from_slice}
 use Rattle.std.proofs.lemmas.List.Recursion.{same_from_clauses}
-use Rattle.jt_chains.proofs.definitions.holds_macros.Goals as goal
+use Rattle.jt_chains.proofs.{◌∙◌, ◌&&◌, refl, rules, tests, stmt_view, body_view}
 
 pub returns : goal.returns
 returns c =

@@ -1,6 +1,7 @@
-use Rattle.jt_chains.proofs.Vocabulary.{ap, not, rules, tests, any_from_yields_List, is_space}
-use Rattle.std.proofs.lemmas.Iterator.Adapters.{YieldsList-from_bytes}
 use Rattle.jt_chains.proofs.definitions.is_blank.Goals as goal
+use Rattle.std.proofs.lemmas.Iterator.Search.{any_from_yields_List}
+use Rattle.std.proofs.lemmas.Iterator.Adapters.{YieldsList-from_bytes}
+use Rattle.jt_chains.proofs.{ap, not, rules, tests, is_space}
 
 pub returns : goal.returns
 returns c =

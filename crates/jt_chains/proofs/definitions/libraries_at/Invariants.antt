@@ -1,5 +1,5 @@
-use Rattle.jt_chains.proofs.Vocabulary.{◌≡◌, ◌++◌, map, drop, along, libraries_in, files_view}
 use Rattle.jt_chains.proofs.definitions.libraries_at.Given as goal
+use Rattle.jt_chains.proofs.{◌≡◌, ◌++◌, map, drop, along, libraries_in, files_view}
 
 abbrev pub invariant-loop-index : goal.invariant-loop-index
 invariant-loop-index l =

@@ -1,7 +1,7 @@
-use Rattle.jt_chains.proofs.Vocabulary.{List, ◌++◌, refl, sym, ◌∙◌, arith, rules, append_assoc, at_drop_all, append-nil}
-use Rattle.jt_chains.proofs.Vocabulary.{branches_view, includes_by, includes_in, includes_under, include_need}
-use Rattle.jt_chains.proofs.Vocabulary.{needs_view, Branch, choice_added, view_For}
 use Rattle.jt_chains.proofs.include_tags.+includes.Goals as goal
+use Rattle.jt_ast.proofs.CollectedLists.{choice_added}
+use Rattle.jt_chains.proofs.{view_For, List, ◌++◌, refl, sym, ◌∙◌, arith, rules, append_assoc, at_drop_all, append-nil}
+use Rattle.jt_chains.proofs.{branches_view, includes_by, includes_in, includes_under, include_need, needs_view, Branch}
 
 pub add_statement-returns-in_ok-add_includes-in-If-2 : goal.add_statement-returns-in_ok-add_includes-in-If-2
 add_statement-returns-in_ok-add_includes-in-If-2 t c =

@@ -1,5 +1,5 @@
-use Rattle.jt_chains.proofs.Vocabulary.{◌≡◌, ◌++◌, drop, includes_along, needs_view, files_view}
 use Rattle.jt_chains.proofs.include_tags.includes_at.Given as goal
+use Rattle.jt_chains.proofs.{◌≡◌, ◌++◌, drop, includes_along, needs_view, files_view}
 
 abbrev pub invariant-loop-index : goal.invariant-loop-index
 invariant-loop-index l =

@@ -1,6 +1,6 @@
-use Rattle.jt_chains.proofs.Vocabulary.{◌≡◌, ◌++◌, drop, map, layers_along, files_view}
-use Rattle.jt_chains.specs.Layers.{layer_view}
 use Rattle.jt_chains.proofs.layers.layers_at.Given as goal
+use Rattle.jt_chains.specs.Layers.{layer_view}
+use Rattle.jt_chains.proofs.{◌≡◌, ◌++◌, drop, map, layers_along, files_view}
 
 abbrev pub invariant-loop-index : goal.invariant-loop-index
 invariant-loop-index l =

@@ -1,7 +1,8 @@
-use Rattle.jt_chains.proofs.Vocabulary.{List, ◌++◌, refl, sym, ◌∙◌, arith, rules, append_assoc, at_drop_all, append-nil}
-use Rattle.jt_chains.proofs.Vocabulary.{branches_view, choice_added, Branch, view_For, view_Autoescape, blocks_in}
-use Rattle.jt_chains.proofs.Vocabulary.{blocks_under, blocks_of, blocks_view, name_at}
 use Rattle.jt_chains.proofs.parts.+blocks.Goals as goal
+use Rattle.jt_ast.proofs.CollectedLists.{choice_added}
+use Rattle.jt_chains.specs.Chain.{blocks_in, blocks_under, blocks_of}
+use Rattle.jt_chains.proofs.{view_For, view_Autoescape, List, ◌++◌, refl, sym, ◌∙◌, arith, rules, append_assoc}
+use Rattle.jt_chains.proofs.{at_drop_all, append-nil, branches_view, Branch, blocks_view, name_at}
 
 pub add_statement-returns-in_ok-add_blocks-in-If-2 : goal.add_statement-returns-in_ok-add_blocks-in-If-2
 add_statement-returns-in_ok-add_blocks-in-If-2 t c = λ ts.

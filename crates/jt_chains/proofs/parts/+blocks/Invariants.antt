@@ -1,6 +1,6 @@
-use Rattle.jt_chains.proofs.Vocabulary.{◌≡◌, ◌++◌, List, drop, body_view, branches_view, Template, blocks_in}
-use Rattle.jt_chains.proofs.Vocabulary.{blocks_under, blocks_view, name_at}
 use Rattle.jt_chains.proofs.parts.+blocks.Given as goal
+use Rattle.jt_chains.specs.Chain.{blocks_in, blocks_under}
+use Rattle.jt_chains.proofs.{◌≡◌, ◌++◌, List, drop, body_view, branches_view, Template, blocks_view, name_at}
 
 abbrev pub invariant-add_blocks-loop-statement : goal.invariant-add_blocks-loop-statement
 invariant-add_blocks-loop-statement l = (ts : List Template) →

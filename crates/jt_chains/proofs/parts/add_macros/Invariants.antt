@@ -1,5 +1,5 @@
-use Rattle.jt_chains.proofs.Vocabulary.{◌≡◌, ◌++◌, drop, body_view, macros_in, files_view, macros_view, name_at}
 use Rattle.jt_chains.proofs.parts.add_macros.Given as goal
+use Rattle.jt_chains.proofs.{◌≡◌, ◌++◌, drop, body_view, macros_in, files_view, macros_view, name_at}
 
 abbrev pub invariant-loop-statement : goal.invariant-loop-statement
 invariant-loop-statement l =

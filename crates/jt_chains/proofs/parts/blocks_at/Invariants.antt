@@ -1,5 +1,5 @@
-use Rattle.jt_chains.proofs.Vocabulary.{◌≡◌, ◌++◌, drop, blocks_along, files_view, blocks_view}
 use Rattle.jt_chains.proofs.parts.blocks_at.Given as goal
+use Rattle.jt_chains.proofs.{◌≡◌, ◌++◌, drop, blocks_along, files_view, blocks_view}
 
 abbrev pub invariant-loop-index : goal.invariant-loop-index
 invariant-loop-index l =

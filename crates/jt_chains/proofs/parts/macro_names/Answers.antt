@@ -1,7 +1,7 @@
-use Rattle.jt_chains.proofs.Vocabulary.{rules, tests}
+use Rattle.jt_chains.proofs.parts.macro_names.Goals as goal
 use Rattle.std.proofs.lemmas.Iterator.{YieldsList-from_slice, YieldsList-from_map_by}
 use Rattle.std.proofs.lemmas.Iterator.Consumers.{map_from_collect}
-use Rattle.jt_chains.proofs.parts.macro_names.Goals as goal
+use Rattle.jt_chains.proofs.{rules, tests}
 
 pub returns : goal.returns
 returns c =

@@ -1,5 +1,5 @@
-use Rattle.jt_chains.proofs.Vocabulary.{◌≡◌, ◌++◌, drop, macros_along, files_view, macros_view}
 use Rattle.jt_chains.proofs.parts.macros_at.Given as goal
+use Rattle.jt_chains.proofs.{◌≡◌, ◌++◌, drop, macros_along, files_view, macros_view}
 
 abbrev pub invariant-loop-index : goal.invariant-loop-index
 invariant-loop-index l =

@@ -1,6 +1,6 @@
-use Rattle.jt_chains.proofs.Vocabulary.{◌≡◌, ◌≤◌, length, drop, get_by_text, Text, body_view}
-use Rattle.jt_chains.specs.Tables.{macro_index}
 use Rattle.jt_chains.proofs.tables.macro_table.Given as goal
+use Rattle.jt_chains.specs.Tables.{macro_index}
+use Rattle.jt_chains.proofs.{◌≡◌, ◌≤◌, length, drop, get_by_text, Text, body_view}
 
 abbrev pub invariant-loop-left : goal.invariant-loop-left
 invariant-loop-left l = record {

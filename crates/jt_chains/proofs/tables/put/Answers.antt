@@ -1,7 +1,7 @@
-use Rattle.jt_chains.proofs.Vocabulary.{if◌then◌else◌, string_bytes, ap, ◌∙◌, Some, get_by_text}
+use Rattle.jt_chains.proofs.tables.put.Goals as goal
 use Rattle.std.specs.Str.{bytes_eq}
 use Rattle.std.proofs.lemmas.Map.Text.{btree_map_updates_text}
-use Rattle.jt_chains.proofs.tables.put.Goals as goal
+use Rattle.jt_chains.proofs.{if◌then◌else◌, string_bytes, ap, ◌∙◌, Some, get_by_text}
 
 pub returns : goal.returns
 returns c = λ x.

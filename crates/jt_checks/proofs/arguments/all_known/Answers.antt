@@ -1,6 +1,6 @@
-use Rattle.jt_checks.proofs.{◌∙◌, rules, tests, YieldsList-from_slice, all_from_yields_List, Bor, Text, among, texts}
-use Rattle.jt_checks.proofs.{among_first, all_in}
 use Rattle.jt_checks.proofs.arguments.all_known.Goals as goal
+use Rattle.jt_checks.proofs.{◌∙◌, rules, tests, Bor, Text, among, texts, YieldsList-from_slice, all_from_yields_List}
+use Rattle.jt_checks.proofs.{among_first, all_in}
 
 pub returns : goal.returns
 returns c =

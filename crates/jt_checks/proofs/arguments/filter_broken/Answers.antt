@@ -1,5 +1,5 @@
-use Rattle.jt_checks.proofs.{arith, rules, filter_known, filter_unknown, counted}
 use Rattle.jt_checks.proofs.arguments.filter_broken.Goals as goal
+use Rattle.jt_checks.proofs.{arith, rules, filter_known, filter_unknown, counted}
 
 pub returns-in_ok-filter_accepts-in-Some : goal.returns-in_ok-filter_accepts-in-Some
 returns-in_ok-filter_accepts-in-Some c =

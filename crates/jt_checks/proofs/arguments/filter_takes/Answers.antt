@@ -1,5 +1,5 @@
-use Rattle.jt_checks.proofs.{arith, rules, equal_ok, named_well, filled_is}
 use Rattle.jt_checks.proofs.arguments.filter_takes.Goals as goal
+use Rattle.jt_checks.proofs.{arith, rules, equal_ok, named_well, filled_is}
 
 pub returns-then-not-takes : goal.returns-then-not-takes
 returns-then-not-takes c = search (arith, rules)

@@ -1,5 +1,5 @@
-use Rattle.jt_checks.proofs.{◌∙◌, ap, arith, rules, texts, equal_ok, fits_is, too_many}
 use Rattle.jt_checks.proofs.arguments.fits.Goals as goal
+use Rattle.jt_checks.proofs.{◌∙◌, ap, arith, rules, texts, equal_ok, fits_is, too_many}
 
 pub returns-then-parameters-row : goal.returns-then-parameters-row
 returns-then-parameters-row c = search (arith, rules, too_many)

@@ -1,6 +1,6 @@
-use Rattle.jt_checks.proofs.{take, ◌∙◌, rules, tests, YieldsList-from_slice, all_from_yields_List, texts, is_filled}
-use Rattle.jt_checks.proofs.{filled_among}
 use Rattle.jt_checks.proofs.arguments.is_filled.Goals as goal
+use Rattle.jt_checks.proofs.{take, ◌∙◌, rules, tests, texts, YieldsList-from_slice, all_from_yields_List, is_filled}
+use Rattle.jt_checks.proofs.{filled_among}
 
 pub returns : goal.returns
 returns c =

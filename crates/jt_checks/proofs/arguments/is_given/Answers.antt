@@ -1,7 +1,6 @@
-use Rattle.std.proofs.lemmas.Iterator.Search.{any_from_yields_List}
-use Rattle.jt_checks.proofs.{◌∙◌, ◌||◌, refl, string_bytes, rules, tests, list_any, bytes_eq, YieldsList-from_slice}
-use Rattle.jt_checks.proofs.{same_from_clauses, Text, among, texts, Bor}
 use Rattle.jt_checks.proofs.arguments.is_given.Goals as goal
+use Rattle.jt_checks.proofs.{same_from_clauses, ◌∙◌, ◌||◌, refl, string_bytes, rules, tests, list_any, bytes_eq, Text}
+use Rattle.jt_checks.proofs.{among, texts, Bor, any_from_yields_List, YieldsList-from_slice}
 
 pub returns : goal.returns
 returns c =

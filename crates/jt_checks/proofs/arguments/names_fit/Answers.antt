@@ -1,5 +1,5 @@
-use Rattle.jt_checks.proofs.{sym, ◌∙◌, ap, texts, equal_ok, well_named}
 use Rattle.jt_checks.proofs.arguments.names_fit.Goals as goal
+use Rattle.jt_checks.proofs.{sym, ◌∙◌, ap, texts, equal_ok, well_named}
 
 pub returns : goal.returns
 returns c =

@@ -1,5 +1,5 @@
-use Rattle.jt_checks.proofs.{arith, rules, last_reached, none_reached}
 use Rattle.jt_checks.proofs.arguments.reached.Goals as goal
+use Rattle.jt_checks.proofs.{arith, rules, last_reached, none_reached}
 
 pub returns-then-is_given-clause-value : goal.returns-then-is_given-clause-value
 returns-then-is_given-clause-value c = search (arith, rules, last_reached)

@@ -1,6 +1,6 @@
-use Rattle.jt_checks.proofs.{◌≡◌, ◌≤◌, length, drop, false, some_given, texts}
 use Rattle.jt_ast.specs.StatementView as parsed
 use Rattle.jt_checks.proofs.arguments.reached.Given as goal
+use Rattle.jt_checks.proofs.{◌≡◌, ◌≤◌, length, drop, false, some_given, texts}
 
 abbrev pub invariant-loop-last : goal.invariant-loop-last
 invariant-loop-last l = record {

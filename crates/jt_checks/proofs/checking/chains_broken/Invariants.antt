@@ -1,7 +1,6 @@
-use Rattle.jt_checks.specs.internal.ScopeView.{cenv_in}
-use Rattle.jt_checks.proofs.{◌≡◌, drop, chain_view}
 use Rattle.jt_checks.specs.internal.UseRules as broken
 use Rattle.jt_checks.proofs.checking.chains_broken.Given as goal
+use Rattle.jt_checks.proofs.{cenv_in, ◌≡◌, drop, chain_view}
 
 abbrev pub invariant-loop-namespace : goal.invariant-loop-namespace
 invariant-loop-namespace l =

@@ -1,7 +1,6 @@
-use Rattle.std.proofs.Common.{◌^◌}
-use Rattle.jt_checks.specs.internal.ScopeView.{cenv_in}
-use Rattle.jt_checks.proofs.{◌≡◌, ◌+◌, ◌-◌, ◌<◌, min, drop, texts, libraries_counted}
 use Rattle.jt_checks.proofs.checking.count_in_libraries.Given as goal
+use Rattle.std.proofs.Common.{◌^◌, ◌-◌, min}
+use Rattle.jt_checks.proofs.{◌≡◌, ◌+◌, ◌<◌, drop, cenv_in, texts, libraries_counted}
 
 abbrev pub invariant-loop-library : goal.invariant-loop-library
 invariant-loop-library l = record {

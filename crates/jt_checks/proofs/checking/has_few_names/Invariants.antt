@@ -1,6 +1,5 @@
-use Rattle.jt_checks.specs.internal.ScopeView.{cenv_in}
-use Rattle.jt_checks.proofs.{◌≡◌, ◌+◌, ◌≤◌, drop, chain_view, names_counted}
 use Rattle.jt_checks.proofs.checking.has_few_names.Given as goal
+use Rattle.jt_checks.proofs.{cenv_in, ◌≡◌, ◌+◌, ◌≤◌, drop, chain_view, names_counted}
 
 abbrev pub invariant-loop-namespace : goal.invariant-loop-namespace
 invariant-loop-namespace l = record {

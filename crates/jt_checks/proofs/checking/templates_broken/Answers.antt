@@ -1,6 +1,5 @@
-use Rattle.std.proofs.lemmas.List.{drop_all}
-use Rattle.jt_checks.proofs.{arith, rules, templates_left, template_within, its_templates}
 use Rattle.jt_checks.proofs.checking.templates_broken.Goals as goal
+use Rattle.jt_checks.proofs.{drop_all, arith, rules, templates_left, template_within, its_templates}
 
 pub template_broken-requires-clause-within : goal.template_broken-requires-clause-within
 template_broken-requires-clause-within c = search (arith, rules, template_within)

@@ -1,7 +1,6 @@
-use Rattle.jt_checks.specs.internal.ScopeView.{in_scope, its_chain}
-use Rattle.jt_checks.proofs.{◌≡◌, drop, layers_along, chain_view}
 use Rattle.jt_checks.specs.internal.UseRules as broken
 use Rattle.jt_checks.proofs.checking.templates_broken.Given as goal
+use Rattle.jt_checks.proofs.{in_scope, its_chain, ◌≡◌, drop, layers_along, chain_view}
 
 abbrev pub invariant-loop-template : goal.invariant-loop-template
 invariant-loop-template l =

@@ -1,10 +1,8 @@
-use Rattle.std.specs.Prelude.{option_and_then}
-use Rattle.jt_ids.specs.FilterTable.{position_of}
-use Rattle.jt_eval.specs.Inside.{pairs_well}
-use Rattle.jt_checks.proofs.{◌∙◌, ◌&&◌, refl, string_bytes, rules, tests, list_all, YieldsList-from_slice}
-use Rattle.jt_checks.proofs.{all_from_yields_List, same_from_clauses, literal_text, expr_view, pairs_view, Entry}
-use Rattle.jt_checks.proofs.{named_at, argument_well}
 use Rattle.jt_checks.proofs.nested_calls.are_pairs_well.Goals as goal
+use Rattle.jt_ids.specs.FilterTable.{position_of, named_at}
+use Rattle.jt_eval.specs.Inside.{pairs_well, argument_well}
+use Rattle.jt_checks.proofs.{same_from_clauses, literal_text, option_and_then, ◌∙◌, ◌&&◌, refl, string_bytes, rules}
+use Rattle.jt_checks.proofs.{tests, list_all, expr_view, pairs_view, Entry, YieldsList-from_slice, all_from_yields_List}
 
 pub returns : goal.returns
 returns c =

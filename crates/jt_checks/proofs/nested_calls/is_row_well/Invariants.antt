@@ -1,5 +1,6 @@
-use Rattle.jt_checks.proofs.{◌≡◌, ◌+◌, drop, exprs_view, row_well}
 use Rattle.jt_checks.proofs.nested_calls.is_row_well.Given as goal
+use Rattle.jt_eval.specs.Inside.{row_well}
+use Rattle.jt_checks.proofs.{◌≡◌, ◌+◌, drop, exprs_view}
 
 abbrev pub invariant-loop-index : goal.invariant-loop-index
 invariant-loop-index l =

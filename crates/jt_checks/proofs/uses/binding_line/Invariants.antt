@@ -1,7 +1,6 @@
-use Rattle.std.specs.Prelude.{slice_get}
-use Rattle.jt_checks.proofs.{◌≡◌, drop, sites_view}
 use Rattle.jt_checks.specs.internal.UseRules as broken
 use Rattle.jt_checks.proofs.uses.binding_line.Given as goal
+use Rattle.jt_checks.proofs.{slice_get, ◌≡◌, drop, sites_view}
 
 abbrev pub invariant-loop-site : goal.invariant-loop-site
 invariant-loop-site l =

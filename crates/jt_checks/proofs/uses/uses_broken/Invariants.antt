@@ -1,6 +1,6 @@
-use Rattle.jt_checks.proofs.{in_scope, ◌≡◌, drop, sites_view}
 use Rattle.jt_checks.specs.internal.UseRules as broken
 use Rattle.jt_checks.proofs.uses.uses_broken.Given as goal
+use Rattle.jt_checks.proofs.{in_scope, ◌≡◌, drop, sites_view}
 
 abbrev pub invariant-loop-site : goal.invariant-loop-site
 invariant-loop-site l =

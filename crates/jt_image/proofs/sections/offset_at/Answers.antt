@@ -1,5 +1,4 @@
 use Rattle.std.proofs.Common.{arith, rules}
-use Rattle.jt_image.specs.InPlace.{instructions_in}
 use Rattle.jt_image.proofs.InstructionsInPlace.{place_whole}
 use Rattle.jt_image.proofs.TablesInPlace.{instructions_last}
 use Rattle.jt_image.proofs.sections.offset_at.Goals as goal

@@ -1,8 +1,7 @@
-use Rattle.std.proofs.Common.{◌≡◌, ◌++◌, ◌∷◌, [], ◌∙◌, sym, arith, rules}
+use Rattle.std.proofs.Common.{[], arith, rules}
 use Rattle.std.proofs.lemmas.Result.{err_from_is_err_and}
 use Rattle.std.proofs.lemmas.List.{map_push}
-use Rattle.jt_image.specs.declared.units.Header as declared
-use Rattle.jt_image.specs.InPlace.{section_in, sections_in, HasUnit}
+use Rattle.jt_image.specs.InPlace.{sections_in}
 use Rattle.jt_image.specs.internal.HeaderView.{header_view, headers_view}
 use Rattle.jt_image.specs.Reading.{each_at, section_at}
 use Rattle.jt_image.proofs.TableLoops.{each_goes_on, each_ends, each_is_done}

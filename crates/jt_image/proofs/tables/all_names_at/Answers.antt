@@ -14,7 +14,12 @@ use Rattle.jt_image.proofs.TableWalk.{walks_on}
 use Rattle.jt_image.proofs.tables.all_names_at.Goals as goal
 
 pub returns-in_err-name-clause-gives : goal.returns-in_err-name-clause-gives
-returns-in_err-name-clause-gives c = search (arith, rules, err_from_is_err_and, ends)
+returns-in_err-name-clause-gives c =
+    let p = err_from_is_err_and c.from_residual-in_err-name.result c.from_residual-in_err-name.ensures.1 in
+    let read = rw c.deref-in-names.ensures.value at c.in_err-name.ensures.gives in
+    rw (p.1, p.2) (ends (name_at c.args.globals) c.in_ok-count.count c.names.counter
+    (names_in c.args.bytes.now c.names.names.items) c.names.rest.now (all_names_at c.args.globals c.args.front.now)
+    c.in_err-name.field-0.0 c.names-test.true read c.names.invariant.walks.so_far)
 
 pub names-init : goal.names-init
 unfolding all_names_at
@@ -58,4 +63,7 @@ names-preserved c =
     }
 
 pub returns-clause-gives : goal.returns-clause-gives
-returns-clause-gives c = search (arith, rules, is_done)
+returns-clause-gives c =
+    is_done (name_at c.args.globals) c.in_ok-count.count c.names.counter
+    (names_in c.args.bytes.now c.names.names.items) c.names.rest.now (all_names_at c.args.globals c.args.front.now)
+    c.names-test.false c.names.invariant.walks.so_far

@@ -1,7 +1,7 @@
-use Rattle.std.proofs.Common.{[], arith, rules}
+use Rattle.std.proofs.Common.{◌≡◌, ◌++◌, ◌∷◌, [], sym, arith}
 use Rattle.std.proofs.lemmas.Result.{err_from_is_err_and}
 use Rattle.std.proofs.lemmas.List.{map_push}
-use Rattle.jt_image.specs.internal.HeaderView.{headers_view}
+use Rattle.jt_image.specs.internal.HeaderView.{header_view, headers_view}
 use Rattle.jt_image.specs.Reading.{many_at, header_at}
 use Rattle.jt_image.proofs.TableLoops.{goes_on, ends, is_done}
 use Rattle.jt_image.proofs.ReaderParts.{header_total-push, is_first-push}
@@ -17,7 +17,24 @@ returns-in_err-header-clause-gives c =
     c.headers-test.true f i.so_far)
 
 pub headers-preserved : goal.headers-preserved
-headers-preserved c = search (arith, rules, map_push, goes_on, header_total-push, is_first-push)
+headers-preserved c =
+    let i = c.headers.invariant in
+    let before = headers_view c.headers.headers.items in
+    let h = header_view c.in_ok-header.header in
+    let read = rw (i.first, i.total) at c.in_ok-header.ensures.gives in
+    let e : headers_view c.push.new.self.items ≡ before ++ h ∷ [] =
+    rw c.in_ok-push.ensures.items (map_push header_view c.headers.headers.items c.in_ok-header.header) in
+    record {
+      so_far =
+          rw e (goes_on header_at c.args.count c.headers.counter before c.headers.rest.now
+          (many_at header_at c.args.count [] c.args.bytes.now) h c.in_ok-header.after.now c.headers-test.true read
+          i.so_far);
+      total = rw e (omega (arith, i.total, header_total-push before h));
+      within = omega (arith, c.in_ok-header.ensures.within);
+      first = rw e (sym (is_first-push before h));
+    }
 
 pub returns-clause-gives : goal.returns-clause-gives
-returns-clause-gives c = search (arith, rules, is_done)
+returns-clause-gives c =
+    is_done header_at c.args.count c.headers.counter (headers_view c.headers.headers.items) c.headers.rest.now
+    (many_at header_at c.args.count [] c.args.bytes.now) c.headers-test.false c.headers.invariant.so_far

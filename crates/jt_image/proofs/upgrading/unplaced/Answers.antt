@@ -1,13 +1,24 @@
-use Rattle.std.proofs.Common.{arith, rules}
-use Rattle.std.proofs.lemmas.Result.{err_from_is_err_and}
-use Rattle.jt_image.proofs.UpgradeCorrect.{unplaced_len, is_unplaced}
+use Rattle.std.proofs.Common.{◌≡◌, length, sym, ap, ◌∙◌, arith}
+use Rattle.jt_image.specs.Code.{Code}
+use Rattle.jt_image.specs.Spelling.{spelling}
+use Rattle.jt_image.specs.InPlace.{code_in, Spells}
+use Rattle.jt_image.specs.Upgrading.{unplaced}
+use Rattle.jt_image.proofs.UpgradeInPlace.{placed_behind, upgraded_in_place}
 use Rattle.jt_image.proofs.upgrading.unplaced.Goals as goal
 
-pub returns-then-len-places_len-gt-MAX_BYTES-clause-named : goal.returns-then-len-places_len-gt-MAX_BYTES-clause-named
-returns-then-len-places_len-gt-MAX_BYTES-clause-named c = search (arith, rules, unplaced_len)
+in_place : (c : goal.After-drop-old)
+    → Spells c.args.bytes.items (placed_behind c.places_behind.result c.image.inside.offsets)
+    × (code_in c.args.bytes.items (placed_behind c.places_behind.result c.image.inside.offsets) ≡ unplaced c.args.image)
+in_place c =
+    let made = upgraded_in_place c.image.inside.bytes.items c.args.bytes.items c.image.inside.offsets
+    (rw c.deref.ensures.value at c.places_behind.ensures.bytes) c.image.invariant
+    (ap (λ (k : Code). k.version) c.image.view_is ∙ c.requires.version)
+    (c.requires.is ∙ ap (λ (k : Code). spelling (unplaced k)) (sym c.image.view_is)) c.requires.short
+    c.places_behind.result (c.places_behind.ensures.at ∙ omega (arith, ap length c.deref.ensures.value)) in
+    (made.0, made.1 ∙ ap unplaced c.image.view_is)
 
-pub returns-in_err-offsets-clause-named : goal.returns-in_err-offsets-clause-named
-returns-in_err-offsets-clause-named c = search (arith, rules, is_unplaced, unplaced_len, err_from_is_err_and)
+pub invariant_of-result : goal.invariant_of-result
+invariant_of-result c = (in_place c).0
 
-pub returns-clause-is : goal.returns-clause-is
-returns-clause-is c = search (arith, rules, is_unplaced, unplaced_len)
+pub returns : goal.returns
+returns c = (in_place c).1

@@ -1,7 +1,6 @@
-use Rattle.std.proofs.Common.{◌∷◌, [], List, refl, sym, ap, subst, ◌∙◌, IfSome}
-use Rattle.jt_inherit.specs.internal.Tags.{AreFirst}
-use Rattle.jt_inherit.proofs.Vocabulary.{append-nil, file_view, HasTwoTags, InTurn, IsAt, is_block, place_in, tags_view}
-use Rattle.jt_inherit.proofs.Vocabulary.{uses_in, FoundTag}
+use Rattle.jt_inherit.proofs.Vocabulary as words
+use words.{List, refl, sym, ap, subst, ◌∙◌, IfSome, AreFirst, append-nil, file_view, is_block, place_in, tags_view}
+use words.{uses_in, FoundTag}
 use Rattle.jt_inherit.proofs.TagPlaces.{second_shows}
 use Rattle.jt_inherit.proofs.breaking.block_twice.Goals as goal
 
@@ -13,7 +12,7 @@ returns c =
     let found = sym (ap (λ (l : List FoundTag). tags_view l) c.deref.ensures.value ∙ c.in_ok-tags.ensures) in
     let at = subst (λ o. IfSome o (AreFirst c.deref.result.now)) c.in-Some.is c.in_ok-places.ensures in (
       refl,
-      subst (λ z. HasTwoTags (is_block z) (t ∷ []) p.0 p.1) (sym c.in_ok-name.ensures.ok)
-          (subst (InTurn (IsAt test p.0) (IsAt test p.1)) (sym (append-nil (uses_in t)))
+      rw c.in_ok-name.ensures.ok
+          (rw (append-nil (uses_in t))
           (second_shows test p.0 p.1 (uses_in t) (ap (place_in 0) found ∙ at.0) (ap (place_in 1) found ∙ at.1))),
     )

@@ -1,6 +1,6 @@
-use Rattle.std.proofs.Common.{◌≡◌, refl, sym, ap, ◌∙◌, Some, string_bytes}
-use Rattle.jt_inherit.proofs.Vocabulary.{option_map, all_uses, binds_macro, its_sources, its_templates, place_in}
-use Rattle.jt_inherit.proofs.Vocabulary.{place_view, tags}
+use Rattle.jt_inherit.proofs.Vocabulary as words
+use words.{◌≡◌, refl, sym, ap, ◌∙◌, Some, string_bytes, option_map, all_uses, binds_macro, its_sources, its_templates}
+use words.{place_in, place_view, tags}
 use Rattle.jt_inherit.proofs.TagPlaces.{first_shows, macro_named}
 use Rattle.jt_inherit.proofs.breaking.missing_finding.Goals as goal
 

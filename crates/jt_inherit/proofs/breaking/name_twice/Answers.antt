@@ -1,6 +1,5 @@
-use Rattle.std.proofs.Common.{List, refl, sym, ap, subst, ◌∙◌, IfSome}
-use Rattle.jt_inherit.specs.internal.Tags.{AreFirst}
-use Rattle.jt_inherit.proofs.Vocabulary.{HasTwoTags, all_uses, defines, its_templates, place_in, tags_view, FoundTag}
+use Rattle.jt_inherit.proofs.Vocabulary as words
+use words.{refl, sym, ap, subst, ◌∙◌, IfSome, AreFirst, all_uses, defines, its_templates, place_in}
 use Rattle.jt_inherit.proofs.TagPlaces.{second_shows}
 use Rattle.jt_inherit.proofs.breaking.name_twice.Goals as goal
 
@@ -8,12 +7,12 @@ pub returns : goal.returns
 returns c =
     let ts = its_templates c.args.store.now c.args.indices.now in
     let p = c.in-Some.places in
-    let found = sym (ap (λ (l : List FoundTag). tags_view l) c.deref.ensures.value ∙ c.in_ok-tags.ensures) in
+    let found = sym (rw c.deref.ensures.value c.in_ok-tags.ensures) in
     let at = subst (λ o. IfSome o (AreFirst c.deref.result.now)) c.in-Some.is c.in_ok-places.ensures in (
       refl,
       (
         refl,
-        subst (λ z. HasTwoTags (defines z) ts p.0 p.1) (sym c.in_ok-name.ensures.ok)
+        rw c.in_ok-name.ensures.ok
             (second_shows (defines c.args.name.now) p.0 p.1 (all_uses ts) (ap (place_in 0) found ∙ at.0)
             (ap (place_in 1) found ∙ at.1)),
       ),

@@ -1,11 +1,10 @@
-use Rattle.std.proofs.Common.{arith, rules}
+use Rattle.jt_inherit.proofs.Vocabulary.{arith, rules, err_from_is_err_and, found_templates}
 use Rattle.jt_inherit.proofs.NumberTables.{files_at}
-use Rattle.jt_inherit.proofs.Vocabulary.{err_from_is_err_and, found_templates}
 use Rattle.jt_inherit.proofs.PathsGrow.{all_short}
 use Rattle.jt_inherit.proofs.RingFound.{order_finds}
 use Rattle.jt_inherit.proofs.ChainIsUnique.{no_chain, one_chain}
-use Rattle.jt_inherit.proofs.ChainComplete.{its_findings, its_some, its_begins, its_order, its_whole, its_chain}
-use Rattle.jt_inherit.proofs.ChainComplete.{its_weight, its_count, all}
+use Rattle.jt_inherit.proofs.ChainComplete.{its_findings, some_namespaces, begins_chain, in_order, all_whole, chained}
+use Rattle.jt_inherit.proofs.ChainComplete.{weighs, few_namespaces, all}
 use Rattle.jt_inherit.proofs.chaining.chain_or_finding.Goals as goal
 
 pub returns-in_err-check_chains-clause-refused : goal.returns-in_err-check_chains-clause-refused
@@ -26,31 +25,32 @@ invariant_of-result g c =
     let made = c.in_ok-namespaces.ensures in
     record {
       once = d.found.known.read.once;
-      some = its_some d kept o ks made;
-      begins = its_begins d kept o ks made;
-      order = its_order d kept o ks made;
-      whole = its_whole d kept o ks made;
+      some = some_namespaces d.found (all d) kept o ks made;
+      begins = begins_chain d.found (all d) kept o ks made;
+      order = in_order d.found (all d) kept o ks made;
+      whole = all_whole d.found (all d) kept o ks made;
       indexed = files_at c.in_ok-found.found.store.files.items c.in_ok-found.found.store.indices
           c.in_ok-found.found.store.indexed;
     }
 
 pub returns-clause-chained : goal.returns-clause-chained
 returns-clause-chained g c =
-    its_chain c.in_ok-found.ensures.done c.in_ok-check_chains.ensures.kept c.in_ok-order.ensures.ordered
-    c.in_ok-namespaces.namespaces.items c.in_ok-namespaces.ensures
+    let d = c.in_ok-found.ensures.done in
+    chained d.found (all d) c.in_ok-check_chains.ensures.kept c.in_ok-order.ensures.ordered _ c.in_ok-namespaces.ensures
 
 pub returns-clause-weighs : goal.returns-clause-weighs
 returns-clause-weighs g c =
-    its_weight c.in_ok-found.ensures.done c.in_ok-check_chains.ensures.kept c.in_ok-order.ensures.ordered
-    c.in_ok-namespaces.namespaces.items c.in_ok-namespaces.ensures
+    let d = c.in_ok-found.ensures.done in
+    weighs d.found (all d) c.in_ok-check_chains.ensures.kept c.in_ok-order.ensures.ordered _ c.in_ok-namespaces.ensures
 
 pub returns-clause-short : goal.returns-clause-short
 returns-clause-short g c = search (arith, rules, all_short, found_templates)
 
 pub returns-clause-few : goal.returns-clause-few
 returns-clause-few g c =
-    its_count c.in_ok-found.ensures.done c.in_ok-check_chains.ensures.kept c.in_ok-order.ensures.ordered
-    c.in_ok-namespaces.namespaces.items c.in_ok-namespaces.ensures
+    let d = c.in_ok-found.ensures.done in
+    few_namespaces d.found (all d) c.in_ok-check_chains.ensures.kept c.in_ok-order.ensures.ordered _
+    c.in_ok-namespaces.ensures
 
 -- ---- one chain only, and none if there is an error
 
@@ -82,7 +82,7 @@ returns-in_err-namespaces-clause-only g c = search (arith, rules, err_from_is_er
 pub returns-clause-only : goal.returns-clause-only
 returns-clause-only g c =
     let d = c.in_ok-found.ensures.done in
-    let chain = its_chain d c.in_ok-check_chains.ensures.kept c.in_ok-order.ensures.ordered
-    c.in_ok-namespaces.namespaces.items c.in_ok-namespaces.ensures in
+    let chain = chained d.found (all d) c.in_ok-check_chains.ensures.kept c.in_ok-order.ensures.ordered _
+    c.in_ok-namespaces.ensures in
     λ x i. one_chain (g.L.Library.sources c.args.library.now) c.args.options c.args.entry.now _ x chain i
     d.found.known.only

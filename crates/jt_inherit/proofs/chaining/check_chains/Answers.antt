@@ -1,6 +1,4 @@
-use Rattle.std.proofs.Common.{sym, subst}
-use Rattle.jt_inherit.proofs.Vocabulary.{err_from_is_err_and, graph_of, AreIndices, templates_at, sources_in, IsBroken}
-use Rattle.jt_inherit.proofs.Vocabulary.{found_templates}
+use Rattle.jt_inherit.proofs.Vocabulary.{err_from_is_err_and, graph_of, AreIndices, found_templates}
 use Rattle.jt_inherit.proofs.ChainComplete.{at_number, way_at}
 use Rattle.jt_inherit.proofs.chaining.check_chains.Goals as goal
 
@@ -11,8 +9,7 @@ check_rules-requires c =
     let here = way_at f.extends_paths.items c.deref-extends_path-items.result.now i c.extends_path-item.result
     c.deref.result.now c.deref-extends_path-items.ensures.value c.loop-extends_path-test.true c.extends_path-item.is
     c.deref.ensures.value in
-    subst (AreIndices (found_templates f)) here.1
-    (at_number (AreIndices (found_templates f)) (graph_of f.extends_paths.items) i here.0 c.requires)
+    rw (← here.1) (at_number (AreIndices (found_templates f)) (graph_of f.extends_paths.items) i here.0 c.requires)
 
 pub returns-in_err-check_rules-clause-broken : goal.returns-in_err-check_rules-clause-broken
 returns-in_err-check_rules-clause-broken c =
@@ -26,6 +23,5 @@ returns-in_err-check_rules-clause-broken c =
       number = i;
       within = here.0;
       found =
-          subst (λ z. IsBroken (sources_in (found_templates f)) c.args.escaping (templates_at (found_templates f) z)
-          c.in_err-check_rules.field-0.0) (sym here.1) c.in_err-check_rules.ensures.broken;
+          rw here.1 c.in_err-check_rules.ensures.broken;
     })

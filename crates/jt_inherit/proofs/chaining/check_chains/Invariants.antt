@@ -1,5 +1,5 @@
-use Rattle.std.proofs.Common.{take}
-use Rattle.jt_inherit.proofs.Vocabulary.{AllByRecursion, graph_of, templates_at, sources_in, found_templates, KeepAll}
+use Rattle.jt_inherit.proofs.Vocabulary as words
+use words.{take, AllByRecursion, graph_of, templates_at, sources_in, found_templates, KeepAll}
 use Rattle.jt_inherit.proofs.chaining.check_chains.Given as goal
 
 abbrev pub invariant-loop-extends_path : goal.invariant-loop-extends_path

@@ -1,5 +1,4 @@
-use Rattle.std.proofs.Common.{◌≡◌, ◌++◌, drop, map}
-use Rattle.jt_inherit.proofs.Vocabulary.{listed_at, listed_view}
+use Rattle.jt_inherit.proofs.Vocabulary.{◌≡◌, ◌++◌, drop, map, listed_at, listed_view}
 use Rattle.jt_inherit.proofs.chaining.namespaces_in.Given as goal
 
 abbrev pub invariant-loop-number : goal.invariant-loop-number

@@ -1,6 +1,6 @@
-use Rattle.std.proofs.Common.{◌≡◌, length, ap, arith}
-use Rattle.jt_inherit.proofs.Vocabulary.{length-map, graph_of, found_templates, found_namespaces, found_paths, root_of}
-use Rattle.jt_inherit.proofs.Vocabulary.{namespace_name, files_view, namespace_at, key_view}
+use Rattle.jt_inherit.proofs.Vocabulary as words
+use words.{◌≡◌, length, ap, arith, length-map, graph_of, found_templates, found_namespaces, found_paths, root_of}
+use words.{namespace_name, files_view, namespace_at, key_view}
 use Rattle.jt_inherit.proofs.ChainComplete.{search_done}
 use Rattle.jt_inherit.proofs.DiscoveryInvariant.{found_first}
 use Rattle.jt_inherit.proofs.discovery.discover.Goals as goal
@@ -12,7 +12,7 @@ chains-init g c =
     let root = ap (λ l. namespace_name (namespace_at l 0)) i.namespaces in
     record {
       found =
-          found_first (g.L.Library.sources c.args.loader.now.library.now) c.args.loader.now.options c.args.entry.now
+          found_first (g.L.Library.sources c.args.library.now) c.args.options c.args.entry.now
           (root_of f) (found_templates f) (found_namespaces f) (graph_of f.extends_paths.items)
           (graph_of f.next.items) i.namespaces root (ap files_view i.files) (ap graph_of i.extends_paths)
           (ap graph_of i.next);

@@ -1,7 +1,7 @@
-use Rattle.std.proofs.Common.{rules, ◌≡◌, ◌<◌, ◌++◌, ◌∷◌, [], List, ℕ, sym, ap, subst, ◌∙◌, arith, length, Vec, Global}
-use Rattle.jt_inherit.proofs.Vocabulary.{length-map, err_from_is_err_and, graph_of, files_view, AreFound, HasPath}
-use Rattle.jt_inherit.proofs.Vocabulary.{found_namespaces, root_of, key_view, namespaces_view, of_namespaces}
-use Rattle.jt_inherit.proofs.Vocabulary.{indexed_among, map_push, SourceTexts, Options, Template, Namespace}
+use Rattle.jt_inherit.proofs.Vocabulary as words
+use words.{rules, ◌≡◌, ◌<◌, List, ℕ, sym, ap, subst, ◌∙◌, arith, length, Vec, Global, length-map, err_from_is_err_and}
+use words.{graph_of, HasPath, found_namespaces, root_of, key_view, namespaces_view, of_namespaces, indexed_among}
+use words.{map_push, SourceTexts, Options, Template, Namespace, its_files}
 use Rattle.jt_inherit.proofs.FindingsHold.{need_finds, next_finds, library_finds}
 use Rattle.jt_inherit.proofs.DiscoveryInvariant.{namespace_number, reached_here, reached_there, found_more, has_needs}
 use Rattle.jt_inherit.proofs.DiscoveryInvariant.{chosen_there, first_same, reached_from, way_there}
@@ -88,16 +88,15 @@ returns-clause-found g c =
     let p = its_path (sym c.in_ok-path.ensures.same) c.in_ok-extends_path.ensures in
     let r = c.in_ok-read_needs.ensures.read in
     let numbers = c.in_ok-next.ensures.next in
-    let ts = files_view c.read_needs.new.store.files.items in
+    let ts = its_files c.read_needs.new.store in
     let hs = namespaces_view c.next_namespaces.new.namespaces in
     let longer = ap graph_of c.in_ok-push.ensures.items
     ∙ map_push (λ (v : Vec ℕ Global). v.items) f.extends_paths.items c.in_ok-path.path.extends_path in
     let longer_next = ap graph_of c.in_ok-push-2.ensures.items
     ∙ map_push (λ (v : Vec ℕ Global). v.items) f.next.items c.in_ok-next.next in
-    subst (λ z. AreFound (g.L.Library.sources c.args.loader.now.library.now) c.args.loader.now.options z ts hs
-    (graph_of c.push.new.self.items) (graph_of c.push-2.new.self.items))
-    (sym (first_same c.requires.found at p told.told r numbers))
-    (rw (longer, longer_next) (found_more c.requires.found at p told.told r c.in_ok-read_needs.ensures.met numbers))
+    rw (first_same c.requires.found at p told.told r numbers)
+    (rw (longer, longer_next)
+    (found_more c.requires.found at p told.told r c.in_ok-read_needs.ensures.met numbers))
 
 pub returns-clause-root : goal.returns-clause-root
 returns-clause-root g c =

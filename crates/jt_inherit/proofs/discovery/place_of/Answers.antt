@@ -1,5 +1,4 @@
-use Rattle.std.proofs.Common.{rules, arith}
-use Rattle.jt_inherit.proofs.Vocabulary.{length-map}
+use Rattle.jt_inherit.proofs.Vocabulary.{rules, arith, length-map}
 use Rattle.jt_inherit.proofs.TagPlaces.{first_shows}
 use Rattle.jt_inherit.proofs.discovery.place_of.Goals as goal
 

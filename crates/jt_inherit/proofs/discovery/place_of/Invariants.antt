@@ -1,5 +1,5 @@
-use Rattle.std.proofs.Common.{◌≡◌, ◌<◌, ℕ, None}
-use Rattle.jt_inherit.proofs.Vocabulary.{namespace_at, found_namespaces, found_paths, found_templates, leading_at}
+use Rattle.jt_inherit.proofs.Vocabulary as words
+use words.{◌≡◌, ◌<◌, ℕ, None, namespace_at, found_namespaces, found_paths, found_templates, leading_at}
 use Rattle.jt_inherit.proofs.discovery.place_of.Given as goal
 
 abbrev pub invariant-loop-from : goal.invariant-loop-from

@@ -1,8 +1,7 @@
-use Rattle.std.proofs.Common.{◌≡◌, drop}
-use Rattle.jt_inherit.proofs.Vocabulary.{among, templates_at, files_view, names}
+use Rattle.jt_inherit.proofs.Vocabulary.{◌≡◌, drop, among, names, its_templates}
 use Rattle.jt_inherit.proofs.extends_path.number_on.Given as goal
 
 abbrev pub invariant-loop-number : goal.invariant-loop-number
 invariant-loop-number l =
-    among l.name (names (templates_at (files_view l.store.files.items) (drop l.number l.extends_path)))
-    ≡ among l.name (names (templates_at (files_view l.store.files.items) l.extends_path))
+    among l.name (names (its_templates l.store (drop l.number l.extends_path)))
+    ≡ among l.name (names (its_templates l.store l.extends_path))

@@ -1,6 +1,5 @@
-use Rattle.std.proofs.Common.{◌∙◌, ℕ, Some, sym, ap, arith, rules, string_bytes}
-use Rattle.jt_inherit.specs.internal.Placing.{extends_at}
-use Rattle.jt_inherit.proofs.Vocabulary.{Bor, Text, file_view, option_map}
+use Rattle.jt_inherit.proofs.Vocabulary as words
+use words.{◌∙◌, ℕ, Some, sym, ap, arith, rules, string_bytes, extends_at, Bor, Text, file_view, option_map}
 use Rattle.jt_inherit.proofs.TagPlaces.{extends_none, extends_tag}
 use Rattle.jt_inherit.proofs.extends_path.parent_name.Goals as goal
 

@@ -1,10 +1,8 @@
-use Rattle.std.proofs.Common.{rules, ◌≡◌, ◌+◌, ◌<◌, ◌∷◌, [], false, drop, length, sym, ap, subst, ◌∙◌, arith}
-use Rattle.std.proofs.Common.{string_bytes, None}
+use Rattle.jt_inherit.proofs.Vocabulary as words
+use words.{rules, ◌≡◌, ◌+◌, ◌<◌, ◌∷◌, [], false, drop, length, sym, ap, subst, ◌∙◌, arith, string_bytes, IsParent}
+use words.{length-map, slice_get_within, IsFaultOf, Text, among, templates_at, HasRead, is_no_library, IsCycle}
+use words.{IsNamedOn, file_view, names, its_files, its_templates}
 use Rattle.jt_inherit.specs.internal.ExtendsPaths.{IsAt}
-use Rattle.jt_inherit.specs.internal.Placing.{IsParent}
-use Rattle.jt_inherit.proofs.Vocabulary.{length-map, slice_get_within, IsFaultOf, files_view, Text, among, templates_at}
-use Rattle.jt_inherit.proofs.Vocabulary.{HasRead, HasPath, IsExtendsPath, is_no_library, IsCycle, IsNamedOn, file_view}
-use Rattle.jt_inherit.proofs.Vocabulary.{names}
 use Rattle.jt_inherit.proofs.FindingsHold.{asked_turn, cycle_placed, extends_told, fault_placed, long_placed}
 use Rattle.jt_inherit.proofs.FindingsHold.{refused_all, same_path, there_on}
 use Rattle.jt_inherit.proofs.StoreLookup.{library_known, library_read}
@@ -19,14 +17,12 @@ library_path-requires g c = search (arith, rules, is_library, names, library_kno
 
 pub returns-then-namespace : goal.returns-then-namespace
 returns-then-namespace g c =
-    let ts = files_view c.args.store.now.files.items in
+    let ts = its_files c.args.store.now in
     let k = c.args.namespace.now in
     let key = is_library k c.if-namespace.true in
     let at = subst (λ (n : Text). IsAt (names ts) n c.in_ok-library_path.field-0) c.deref.ensures
     c.in_ok-library_path.ensures in
-    subst (λ h. HasPath (g.L.Library.sources c.args.loader.now.library.now) c.args.loader.now.options ts ts h
-    c.in_ok-library_path.field-0.items) (sym key)
-    (library_read c.requires.known (string_bytes k.name) (sym (ap (is_no_library ts) key)
+    rw key (library_read c.requires.known (string_bytes k.name) (sym (ap (is_no_library ts) key)
     ∙ c.requires.library) at.0 at.1
     at.2)
 
@@ -36,7 +32,7 @@ cycle_finding-requires-clause-start g c = search (arith, rules)
 pub returns-in-Some : goal.returns-in-Some
 returns-in-Some g c =
     let l = c.path in
-    let ts = files_view l.store.files.items in
+    let ts = its_files l.store in
     let f = c.in_ok-cycle_finding.field-0 in
     let k = c.in-Some.start in
     let on = same_path (λ is n. IsNamedOn ts is n k) c.deref-in-path.ensures.value c.deref-in-path-2.ensures
@@ -55,7 +51,7 @@ returns-then-len-eq-MAX_TEMPLATES g c =
     let f = c.long_finding.result in
     let told = c.long_finding.ensures in
     let full : length l.extends_path.items ≡ 64 = search (arith, rules) in
-    let new = same_path (λ is n. among n (names (templates_at (files_view l.store.files.items) is)) ≡ false)
+    let new = same_path (λ is n. among n (names (its_templates l.store is)) ≡ false)
     c.deref-in-path.ensures.value c.deref-in-path-2.ensures c.in_default.ensures in
     refused_all l.invariant.read c.args.namespace.now c.if-namespace.false error.ChainTooLong f told.error
     (λ root r. long_breaks l.invariant.read.known r l.invariant.led full new)
@@ -65,10 +61,10 @@ returns-then-len-eq-MAX_TEMPLATES g c =
 pub returns-in-Err : goal.returns-in-Err
 returns-in-Err g c =
     let l = c.path in
-    let given = g.L.Library.sources c.args.loader.now.library.now in
+    let given = g.L.Library.sources c.args.library.now in
     let e = c.in-Err.error in
     let f = c.name_finding.result in
-    let fault = subst (λ x. IsFaultOf e given x c.args.loader.now.options) c.deref-in-path-3.ensures
+    let fault = subst (λ x. IsFaultOf e given x c.args.options) c.deref-in-path-3.ensures
     c.in-Err.ensures.refused in
     let told = c.name_finding.ensures in
     refused_all l.invariant.read c.args.namespace.now c.if-namespace.false e f told.0
@@ -82,20 +78,19 @@ index-requires g c = search (arith, rules, slice_get_within, names, length-map)
 pub returns-in-None : goal.returns-in-None
 returns-in-None g c =
     let l = c.path in
-    let us = files_view c.read.new.self.files.items in
+    let us = its_files c.read.new.self in
     let at = file_there c.read.new.self.files.items c.in-Ok.index c.in-Ok.ensures.index c.index.ensures in
-    let r = subst (λ n. HasRead (g.L.Library.sources c.args.loader.now.library.now) c.args.loader.now.options
-    (files_view l.store.files.items) us (n ∷ [])) c.deref-in-path-3.ensures c.in-Ok.ensures.read in
+    let r = subst (λ n. HasRead (g.L.Library.sources c.args.library.now) c.args.options
+    (its_files l.store) us (n ∷ [])) c.deref-in-path-3.ensures c.in-Ok.ensures.read in
     let named = at.1 ∙ c.deref-in-path-3.ensures in
-    let new = same_path (λ is n. among n (names (templates_at (files_view l.store.files.items) is)) ≡ false)
+    let new = same_path (λ is n. among n (names (its_templates l.store is)) ≡ false)
     c.deref-in-path.ensures.value c.deref-in-path-2.ensures c.in_default.ensures in
     let few : length l.extends_path.items < 64 = search (arith, rules) in
     let root = subst (IsParent (file_view c.index.result.now)) c.in-None.is c.in_ok-parent.ensures in
     record {
       read = read_step l.invariant.read r l.invariant.led c.in-Ok.index at.0 named c.in_ok-push.ensures.items;
       led =
-          subst (λ h. IsExtendsPath us h c.push.new.self.items None)
-          (sym (is_chain c.args.namespace.now c.if-namespace.false))
+          rw (is_chain c.args.namespace.now c.if-namespace.false)
           (way_step l.invariant.read r l.invariant.led c.in-Ok.index at.0 named c.in_ok-push.ensures.items new few
           (sym root));
     }
@@ -103,12 +98,12 @@ returns-in-None g c =
 pub path-preserved : goal.path-preserved
 path-preserved g c =
     let l = c.path in
-    let us = files_view c.read.new.self.files.items in
+    let us = its_files c.read.new.self in
     let at = file_there c.read.new.self.files.items c.in-Ok.index c.in-Ok.ensures.index c.index.ensures in
-    let r = subst (λ n. HasRead (g.L.Library.sources c.args.loader.now.library.now) c.args.loader.now.options
-    (files_view l.store.files.items) us (n ∷ [])) c.deref-in-path-3.ensures c.in-Ok.ensures.read in
+    let r = subst (λ n. HasRead (g.L.Library.sources c.args.library.now) c.args.options
+    (its_files l.store) us (n ∷ [])) c.deref-in-path-3.ensures c.in-Ok.ensures.read in
     let named = at.1 ∙ c.deref-in-path-3.ensures in
-    let new = same_path (λ is n. among n (names (templates_at (files_view l.store.files.items) is)) ≡ false)
+    let new = same_path (λ is n. among n (names (its_templates l.store is)) ≡ false)
     c.deref-in-path.ensures.value c.deref-in-path-2.ensures c.in_default.ensures in
     let few : length l.extends_path.items < 64 = search (arith, rules) in
     let p = c.in-Some-2.parent in

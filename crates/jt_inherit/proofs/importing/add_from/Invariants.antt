@@ -1,5 +1,4 @@
-use Rattle.std.proofs.Common.{◌≡◌, ◌++◌, drop}
-use Rattle.jt_inherit.proofs.Vocabulary.{given_view, macros_held, names_from, texts}
+use Rattle.jt_inherit.proofs.Vocabulary.{◌≡◌, ◌++◌, drop, given_view, macros_held, names_from, texts}
 use Rattle.jt_inherit.proofs.importing.add_from.Given as goal
 
 abbrev pub invariant-loop-name : goal.invariant-loop-name

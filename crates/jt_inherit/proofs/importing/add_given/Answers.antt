@@ -1,5 +1,4 @@
-use Rattle.std.proofs.Common.{arith, rules}
-use Rattle.jt_inherit.proofs.Vocabulary.{append-nil}
+use Rattle.jt_inherit.proofs.Vocabulary.{arith, rules, append-nil}
 use Rattle.jt_inherit.proofs.StoreLookup.{nothing_from}
 use Rattle.jt_inherit.proofs.importing.add_given.Goals as goal
 

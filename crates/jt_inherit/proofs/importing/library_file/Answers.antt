@@ -1,5 +1,4 @@
-use Rattle.std.proofs.Common.{get_or, rules, arith}
-use Rattle.jt_inherit.proofs.Vocabulary.{body_of, holds_macros}
+use Rattle.jt_inherit.proofs.Vocabulary.{get_or, rules, arith, body_of, holds_macros}
 use Rattle.jt_inherit.proofs.StoreLookup.{unread, index_read, is_library_read, macros_there}
 use Rattle.jt_inherit.proofs.importing.library_file.Goals as goal
 

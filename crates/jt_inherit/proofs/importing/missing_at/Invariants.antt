@@ -1,10 +1,8 @@
-use Rattle.std.proofs.Common.{◌≡◌, drop}
-use Rattle.jt_inherit.proofs.Vocabulary.{templates_at, sources_in, files_view, any_lacks_macros}
+use Rattle.jt_inherit.proofs.Vocabulary.{◌≡◌, drop, any_lacks_macros, its_templates, its_sources}
 use Rattle.jt_inherit.proofs.importing.missing_at.Given as goal
 
 abbrev pub invariant-loop-index : goal.invariant-loop-index
 invariant-loop-index l =
-    any_lacks_macros (sources_in (files_view l.store.files.items)) (templates_at
-    (files_view l.store.files.items) l.indices)
-    ≡ any_lacks_macros (sources_in (files_view l.store.files.items))
-    (templates_at (files_view l.store.files.items) (drop l.index-index l.indices))
+    any_lacks_macros (its_sources l.store) (its_templates l.store l.indices)
+    ≡ any_lacks_macros (its_sources l.store)
+    (its_templates l.store (drop l.index-index l.indices))

@@ -1,7 +1,6 @@
-use Rattle.std.proofs.Common.{◌++◌, List, ℕ, get_or, sym, ◌∙◌}
-use Rattle.std.proofs.lemmas.List.{at_drop_all}
-use Rattle.jt_inherit.proofs.Vocabulary.{append-nil, body_view, along, templates_at, sources_in, files_view}
-use Rattle.jt_inherit.proofs.Vocabulary.{imported_names, texts, along_turn, file_at, index_within}
+use Rattle.jt_inherit.proofs.Vocabulary as words
+use words.{◌++◌, List, ℕ, get_or, sym, ◌∙◌, at_drop_all, append-nil, body_view, along, templates_at, sources_in}
+use words.{files_view, imported_names, texts, along_turn, file_at, index_within, its_files}
 use Rattle.jt_inherit.proofs.DiscoveryInvariant.{indexed_templates}
 use Rattle.jt_inherit.proofs.BodyRules.{names_found}
 use Rattle.jt_inherit.proofs.importing.names_at.Goals as goal
@@ -23,7 +22,7 @@ loop-index-preserved c =
 
 pub returns : goal.returns
 returns c =
-    let ts = files_view c.args.store.now.files.items in
+    let ts = its_files c.args.store.now in
     let s = sources_in ts in
     let is = c.args.indices.now in
     let found = texts c.loop-index.given.items in

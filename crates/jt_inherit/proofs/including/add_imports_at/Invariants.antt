@@ -1,5 +1,4 @@
-use Rattle.std.proofs.Common.{◌≡◌, ◌++◌, drop}
-use Rattle.jt_inherit.proofs.Vocabulary.{imports_along, needs_view, files_view}
+use Rattle.jt_inherit.proofs.Vocabulary.{◌≡◌, ◌++◌, drop, imports_along, needs_view, files_view}
 use Rattle.jt_inherit.proofs.including.add_imports_at.Given as goal
 
 abbrev pub invariant-loop-index : goal.invariant-loop-index

@@ -1,5 +1,4 @@
-use Rattle.std.proofs.Common.{◌≡◌, ◌++◌, drop}
-use Rattle.jt_inherit.proofs.Vocabulary.{keyed_needs, needs_view}
+use Rattle.jt_inherit.proofs.Vocabulary.{◌≡◌, ◌++◌, drop, keyed_needs, needs_view}
 use Rattle.jt_inherit.proofs.including.needs_at.Given as goal
 
 abbrev pub invariant-loop-need : goal.invariant-loop-need

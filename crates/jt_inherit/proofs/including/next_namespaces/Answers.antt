@@ -1,7 +1,6 @@
-use Rattle.std.proofs.Common.{◌≡◌, ◌∷◌, [], List, sym, subst, ◌∙◌, inr, ⊎_elim, string_bytes}
-use Rattle.jt_inherit.specs.internal.Found.{AddsNext}
-use Rattle.jt_inherit.proofs.Vocabulary.{Text, Namespace, IsNextFault, TooMany, names, files_view, namespaces_view}
-use Rattle.jt_inherit.proofs.Vocabulary.{ChainError, KeyedNeed, chosen, keyed_needs, keyed_view}
+use Rattle.jt_inherit.proofs.Vocabulary as words
+use words.{◌≡◌, ◌∷◌, [], List, sym, subst, ◌∙◌, inr, ⊎_elim, string_bytes, Text, Namespace, IsNextFault, TooMany, names}
+use words.{namespaces_view, ChainError, chosen, keyed_view, its_files}
 use Rattle.jt_inherit.proofs.DiscoveryInvariant.{many_turn, next_turn}
 use Rattle.jt_inherit.specs.declared.error.ChainError.TheVariants as error
 use Rattle.jt_inherit.proofs.including.next_namespaces.Goals as goal
@@ -15,7 +14,7 @@ many_of is f =
 pub returns-in-Err-ChainTooLong-clause-refused : goal.returns-in-Err-ChainTooLong-clause-refused
 returns-in-Err-ChainTooLong-clause-refused c =
     let l = c.loop-need in
-    let ks = names (files_view c.args.store.now.files.items) in
+    let ks = names (its_files c.args.store.now) in
     let ns = c.deref-need-items.result.now in
     let old = namespaces_view c.args.namespaces.now in
     let many = many_turn old (namespaces_view l.namespaces) ks ns l.need-index c.need-item.result l.numbers.items _
@@ -25,18 +24,15 @@ returns-in-Err-ChainTooLong-clause-refused c =
     (many_of c.in-Err-ChainTooLong.field-0-is c.in-Err-ChainTooLong.ensures.refused)) in
     inr (
       _,
-      subst (λ (z : List KeyedNeed). TooMany old (chosen ks (keyed_needs z))
-          (string_bytes c.need-item.result.namespace.name)) c.deref-need-items.ensures.value many,
+      rw (← c.deref-need-items.ensures.value) many,
       c.in_ok-included_finding-in-Err-ChainTooLong.ensures,
     )
 
 pub loop-need-preserved : goal.loop-need-preserved
 loop-need-preserved c =
     let l = c.loop-need in
-    let ks = names (files_view c.args.store.now.files.items) in
+    let ks = names (its_files c.args.store.now) in
     next_turn (namespaces_view c.args.namespaces.now) (namespaces_view l.namespaces)
     (namespaces_view c.add_number.new.namespaces) ks c.deref-need-items.result.now l.need-index c.need-item.result
     l.numbers.items c.add_number.new.numbers.items c.loop-need-test.true l.invariant
-    (subst (λ n. AddsNext (namespaces_view l.namespaces) (namespaces_view c.add_number.new.namespaces)
-    (chosen ks (keyed_view n ∷ [])) l.numbers.items c.add_number.new.numbers.items) c.need-item.is
-    c.in-Ok.ensures.next)
+    (rw (← c.need-item.is) c.in-Ok.ensures.next)

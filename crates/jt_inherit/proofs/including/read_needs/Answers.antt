@@ -1,8 +1,6 @@
-use Rattle.std.proofs.Common.{◌≡◌, ◌+◌, ◌++◌, ◌∷◌, [], true, take, sym, ap, subst, ◌∙◌, string_bytes}
-use Rattle.jt_inherit.proofs.Vocabulary.{IsMet, among, keyed_needs, keyed_view, needed, names, files_view, among_front}
-use Rattle.jt_inherit.proofs.Vocabulary.{among_behind, of_texts, templates_at, KeyedNeed, AreIndices}
-use Rattle.jt_inherit.specs.internal.Found.{IsFaultAt}
-use Rattle.jt_inherit.specs.internal.Placing.{IsOfNeed}
+use Rattle.jt_inherit.proofs.Vocabulary as words
+use words.{◌≡◌, ◌+◌, ◌++◌, ◌∷◌, [], true, take, sym, ap, ◌∙◌, string_bytes, IsMet, among, keyed_needs, keyed_view}
+use words.{needed, names, among_front, among_behind, of_texts, templates_at, KeyedNeed, its_files}
 use Rattle.jt_inherit.proofs.DiscoveryInvariant.{met_turn, met_read, needed_turn, has_needs}
 use Rattle.jt_inherit.proofs.PathsGrow.{read_on, templates_grow}
 use Rattle.jt_inherit.proofs.FindingsHold.{unmet_need}
@@ -10,36 +8,31 @@ use Rattle.jt_inherit.proofs.including.read_needs.Goals as goal
 
 pub need_finding-requires : goal.need_finding-requires
 need_finding-requires g c =
-    subst (λ us. AreIndices us c.args.path.now.extends_path.items) (sym c.in-Err.ensures.same)
-    (has_needs c.requires.path c.loop-need.invariant.read).indices
+    rw c.in-Err.ensures.same (has_needs c.requires.path c.loop-need.invariant.read).indices
 
 pub returns-in-Err-clause-refused : goal.returns-in-Err-clause-refused
 returns-in-Err-clause-refused g c =
     let l = c.loop-need in
-    let given = g.L.Library.sources c.args.loader.now.library.now in
-    let ts = files_view c.args.store.now.files.items in
+    let given = g.L.Library.sources c.args.library.now in
+    let ts = its_files c.args.store.now in
     let is = c.args.path.now.extends_path.items in
     let r = l.invariant.read in
     let f = c.in_ok-need_finding-in-Err.field-0 in
     let need = c.need-item.result in
-    unmet_need given c.args.loader.now.options ts is c.deref-need-items.result.now l.need-index need c.in-Err.error f
+    unmet_need given c.args.options ts is c.deref-need-items.result.now l.need-index need c.in-Err.error f
     (ap keyed_needs c.deref-need-items.ensures.value ∙ c.requires.path.told) c.loop-need-test.true
-    (subst (λ n. IsFaultAt given c.args.loader.now.options (keyed_view n) c.in-Err.error) c.need-item.is
-    c.in-Err.ensures.refused)
-    (subst (λ n. IsOfNeed (templates_at ts is) (keyed_view n).name c.in-Err.error f) c.need-item.is
-    (subst (λ us. IsOfNeed us (string_bytes need.namespace.name) c.in-Err.error f)
-    (ap (λ us. templates_at us is) (c.in-Err.ensures.same ∙ r.grown)
-    ∙ templates_grow ts r.more is c.requires.path.indices)
-    c.in_ok-need_finding-in-Err.ensures))
+    (rw (← c.need-item.is) c.in-Err.ensures.refused)
+    (rw (← c.need-item.is) (rw (← (ap (λ us. templates_at us is) (c.in-Err.ensures.same ∙ r.grown)
+    ∙ templates_grow ts r.more is c.requires.path.indices)) c.in_ok-need_finding-in-Err.ensures))
 
 pub loop-need-preserved : goal.loop-need-preserved
 loop-need-preserved g c =
     let l = c.loop-need in
-    let given = g.L.Library.sources c.args.loader.now.library.now in
+    let given = g.L.Library.sources c.args.library.now in
     let ns = c.deref-need-items.result.now in
     let need = c.need-item.result in
     let front = needed true (keyed_needs (take l.need-index ns)) in
-    let us = files_view c.read_need.new.store.files.items in
+    let us = its_files c.read_need.new.store in
     let next = c.in-Ok.ensures in
     let turn : needed true (keyed_needs (take (l.need-index + 1) ns))
     ≡ front ++ string_bytes need.namespace.name ∷ [] =
@@ -53,5 +46,5 @@ loop-need-preserved g c =
       met =
           met_turn (IsMet given (names us)) ns l.need-index need c.loop-need-test.true
           (met_read next.read (keyed_needs (take l.need-index ns)) l.invariant.met)
-          (subst (λ n. IsMet given (names us) (keyed_view n)) c.need-item.is next.met);
+          (rw (← c.need-item.is) next.met);
     }

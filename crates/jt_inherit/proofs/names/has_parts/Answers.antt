@@ -1,8 +1,6 @@
-use Rattle.std.proofs.Common.{lit<, rules}
+use Rattle.jt_inherit.proofs.Vocabulary.{lit<, rules, cases_from_all, IsPart}
 use borrow.Author.Tests.{tests}
-use Rattle.std.proofs.lemmas.Iterator.{cases_from_all}
 use Rattle.std.proofs.lemmas.Iterator.Splits.{YieldsList-from_str_split}
-use Rattle.jt_inherit.proofs.Vocabulary.{IsPart}
 use Rattle.jt_inherit.proofs.ValidNames.{parts, tested_all}
 use Rattle.jt_inherit.proofs.names.has_parts.Goals as goal
 

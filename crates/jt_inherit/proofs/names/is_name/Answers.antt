@@ -1,4 +1,4 @@
-use Rattle.std.proofs.Common.{rules}
+use Rattle.jt_inherit.proofs.Vocabulary.{rules}
 use Rattle.jt_inherit.proofs.ValidNames.{named}
 use Rattle.jt_inherit.proofs.names.is_name.Goals as goal
 

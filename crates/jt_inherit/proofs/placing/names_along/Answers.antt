@@ -1,6 +1,6 @@
-use Rattle.std.proofs.Common.{◌+◌, ◌++◌, ◌∷◌, [], List, String, Global, drop, map, string_bytes, sym, ap, ◌∙◌}
-use Rattle.jt_inherit.proofs.Vocabulary.{append_assoc, Text, templates_at, Template, files_view, index_within, map_push}
-use Rattle.jt_inherit.proofs.Vocabulary.{names}
+use Rattle.jt_inherit.proofs.Vocabulary as words
+use words.{◌+◌, ◌++◌, ◌∷◌, [], List, String, Global, drop, map, string_bytes, sym, ap, ◌∙◌, append_assoc, Text}
+use words.{templates_at, Template, files_view, index_within, map_push, names}
 use Rattle.jt_inherit.proofs.PathsGrow.{templates_turn}
 use Rattle.jt_inherit.proofs.placing.names_along.Goals as goal
 
@@ -15,8 +15,8 @@ loop-index-preserved c =
     let rest = names (templates_at (files_view ps) (drop (k + 1) is)) in
     let here = templates_turn ps is k c.index.result.now c.loop-index-test.true
     (index_within ps is k c.loop-index-test.true c.requires) c.index.ensures in
-    ap (λ (z : List (String Global)). map string_bytes z ++ rest) c.in_ok-push.ensures.items
-    ∙ ap (λ (z : List Text). z ++ rest) (map_push (λ (z : String Global). string_bytes z) l.names.items s)
+    rw c.in_ok-push.ensures.items
+    (ap (λ (z : List Text). z ++ rest) (map_push (λ (z : String Global). string_bytes z) l.names.items s)
     ∙ append_assoc old (string_bytes s ∷ []) rest
     ∙ ap (λ (n : Text). old ++ n ∷ rest) (c.in_ok-from_str.ensures.ok ∙ c.deref.ensures)
-    ∙ ap (λ (us : List Template). old ++ names us) (sym here) ∙ l.invariant
+    ∙ ap (λ (us : List Template). old ++ names us) (sym here) ∙ l.invariant)

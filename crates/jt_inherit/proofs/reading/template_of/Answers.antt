@@ -1,8 +1,6 @@
-use Rattle.std.proofs.Common.{rules, ◌≡◌, ◌≤◌, None, length, ap, subst, arith, IsUtf8}
+use Rattle.jt_inherit.proofs.Vocabulary.{rules, ◌≤◌, length, ap, arith, IsUtf8, Held, max_source_len, cut_of, bytes_of}
 use Rattle.std.proofs.lemmas.Str.{IsUtf8-string_bytes}
 use Rattle.jt_scan.specs.Cut.{weight_of}
-use Rattle.jt_inherit.proofs.Vocabulary.{Held, max_source_len, cut_of, bytes_of, Spelled, pieces, IsRefusal}
-use Rattle.jt_inherit.proofs.Vocabulary.{body_unknown, Body, body_levels, body_of, reads_of}
 use Rattle.jt_inherit.proofs.SourceErrors.{limited, tree_found, only_tree, no_tree, unspelled}
 use Rattle.jt_inherit.proofs.TreeLengths.{taken, few_chars, few_bytes, cut_short}
 use Rattle.jt_parse.specs.declared.error.ParseError.TheVariants as parse_error
@@ -11,7 +9,7 @@ use Rattle.jt_inherit.proofs.reading.template_of.Goals as goal
 pub returns-in-Ok-parse-clause-weighs : goal.returns-in-Ok-parse-clause-weighs
 returns-in-Ok-parse-clause-weighs c =
     let utf8 : IsUtf8 c.in-Ok.source.text =
-    subst IsUtf8 (ap (λ (s : Held). s.text) c.source.view_is) (IsUtf8-string_bytes c.source.inside.text) in
+    rw (← (ap (λ (s : Held). s.text) c.source.view_is)) (IsUtf8-string_bytes c.source.inside.text) in
     let text = taken c.args.options c.args.text.now c.in-Ok.source
     (λ long. let no = c.in-Ok.ensures.long long in absurd (cc)) c.in-Ok.ensures.short in
     omega (
@@ -25,7 +23,7 @@ returns-in-Ok-parse-clause-weighs c =
 pub returns-in-Ok-parse-clause-short : goal.returns-in-Ok-parse-clause-short
 returns-in-Ok-parse-clause-short c =
     let utf8 : IsUtf8 c.in-Ok.source.text =
-    subst IsUtf8 (ap (λ (s : Held). s.text) c.source.view_is) (IsUtf8-string_bytes c.source.inside.text) in
+    rw (← (ap (λ (s : Held). s.text) c.source.view_is)) (IsUtf8-string_bytes c.source.inside.text) in
     let text = taken c.args.options c.args.text.now c.in-Ok.source
     (λ long. let no = c.in-Ok.ensures.long long in absurd (cc)) c.in-Ok.ensures.short in
     omega (
@@ -46,9 +44,7 @@ returns-in-Ok-parse-clause-only c =
     λ b t.
     only_tree c.args.options c.args.text.now c.in-Ok.source (c.in-Ok.ensures.short short) c.in-Ok-scan.segments.items
     c.in-Ok-scan.ensures.options c.in-Ok-scan.ensures.only c.in-Ok-parse.template
-    (subst (λ z. (d : Body) → Spelled d (pieces (reads_of z)) → body_levels d ≤ 100 → body_unknown d ≡ None
-    → body_of c.in-Ok-parse.template ≡ d)
-    c.as_slice.ensures.value c.in-Ok-parse.ensures.only) b t
+    (rw (← c.as_slice.ensures.value) c.in-Ok-parse.ensures.only) b t
 
 pub returns-clause-refused : goal.returns-clause-refused
 returns-clause-refused c =
@@ -59,8 +55,6 @@ returns-clause-refused c =
     c.in-Ok-scan.segments.items c.in-Ok-scan.ensures.options c.in-Ok-scan.ensures.only e in
     unspelled c.args.options c.args.text.now c.in-Ok.source (c.in-Ok.ensures.short short) c.in-Ok-scan.segments.items
     c.args.name.now e c.unparsed.result c.in-Ok-scan.ensures.cut c.in-Ok-scan.ensures.options
-    (subst (λ z. IsRefusal e (pieces (reads_of z))) c.as_slice.ensures.value c.in-Err-parse.ensures.refused)
-    (λ f. none f (subst (λ z. (d : Body) → Spelled d (pieces (reads_of z)) → body_levels d ≤ 100 → body_unknown d ≡ None
-    → e ≡ parse_error.NoMemory)
-    c.as_slice.ensures.value c.in-Err-parse.ensures.only))
+    (rw (← c.as_slice.ensures.value) c.in-Err-parse.ensures.refused)
+    (λ f. none f (rw (← c.as_slice.ensures.value) c.in-Err-parse.ensures.only))
     c.unparsed.ensures

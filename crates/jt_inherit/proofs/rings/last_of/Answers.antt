@@ -1,5 +1,4 @@
-use Rattle.std.proofs.Common.{◌-◌, ◌∙◌, ℕ, List, length, ap, Some, None}
-use Rattle.jt_inherit.proofs.Vocabulary.{slice_get}
+use Rattle.jt_inherit.proofs.Vocabulary.{◌-◌, ◌∙◌, ℕ, List, length, ap, Some, None, slice_get}
 use Rattle.jt_inherit.proofs.RingFound.{last_is}
 use Rattle.jt_inherit.proofs.rings.last_of.Goals as goal
 

@@ -1,5 +1,4 @@
-use Rattle.std.proofs.Common.{◌≡◌, ◌++◌, drop, map, string_bytes}
-use Rattle.jt_inherit.proofs.Vocabulary.{found_namespaces, name_at}
+use Rattle.jt_inherit.proofs.Vocabulary.{◌≡◌, ◌++◌, drop, map, string_bytes, found_namespaces, name_at}
 use Rattle.jt_inherit.proofs.rings.names_of.Given as goal
 
 abbrev pub invariant-loop-number : goal.invariant-loop-number

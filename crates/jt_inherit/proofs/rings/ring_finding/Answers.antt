@@ -1,6 +1,6 @@
-use Rattle.std.proofs.Common.{◌<◌, ◌∙◌, List, ℕ, length, map, refl, sym, ap, subst, arith, rules, Vec, Global}
-use Rattle.jt_inherit.proofs.Vocabulary.{AllByRecursion, length-map, graph_of, found_namespaces, found_paths, name_at}
-use Rattle.jt_inherit.proofs.Vocabulary.{found_templates, leading_at, namespace_at}
+use Rattle.jt_inherit.proofs.Vocabulary as words
+use words.{◌∙◌, ℕ, map, refl, ap, arith, rules, Vec, Global, length-map, graph_of, found_namespaces, found_paths}
+use words.{name_at, found_templates, leading_at, namespace_at}
 use Rattle.jt_inherit.proofs.RingFound.{ring_within}
 use Rattle.jt_inherit.proofs.rings.ring_finding.Goals as goal
 
@@ -12,8 +12,8 @@ leading_tag-requires-clause-from c =
       (ring_within (graph_of c.args.found.now.next.items) r.first r.others.items r.first c.requires.ring).2,
       c.last_of-last.ensures,
       length-map c.args.found.now.next.items (λ (v : Vec ℕ Global). v.items),
-      c.requires.next,
-      c.requires.paths,
+      c.requires.all.next,
+      c.requires.all.paths,
     )
 
 pub leading_tag-requires-clause-to : goal.leading_tag-requires-clause-to
@@ -26,9 +26,8 @@ pub names_of-requires : goal.names_of-requires
 names_of-requires c =
     let f = c.args.found.now in
     let r = c.args.ring.now in
-    subst (λ (l : List ℕ). AllByRecursion (λ k. k < length (found_namespaces f)) l) (sym c.deref.ensures.value)
-    (subst (λ n. AllByRecursion (λ k. k < n) r.others.items)
-    (length-map f.next.items (λ (v : Vec ℕ Global). v.items) ∙ c.requires.next)
+    rw c.deref.ensures.value
+    (rw (← (length-map f.next.items (λ (v : Vec ℕ Global). v.items) ∙ c.requires.all.next))
     (ring_within (graph_of f.next.items) r.first r.others.items r.first c.requires.ring).1)
 
 pub returns : goal.returns

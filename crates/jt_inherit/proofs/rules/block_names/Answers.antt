@@ -1,7 +1,5 @@
-use Rattle.std.proofs.Common.{rules, tests}
-use Rattle.std.proofs.lemmas.Iterator.{YieldsList-from_map_by}
+use Rattle.jt_inherit.proofs.Vocabulary.{rules, tests, YieldsList-from_map_by, YieldsList-from_slice}
 use Rattle.std.proofs.lemmas.Iterator.Consumers.{map_from_collect}
-use Rattle.jt_inherit.proofs.Vocabulary.{YieldsList-from_slice}
 use Rattle.jt_inherit.proofs.rules.block_names.Goals as goal
 
 pub returns : goal.returns

@@ -1,5 +1,5 @@
-use Rattle.std.proofs.Common.{List, ap, ◌∙◌, arith, rules}
-use Rattle.jt_inherit.proofs.Vocabulary.{is_some, lacks_body, templates_at, files_view, blocks_view, Block}
+use Rattle.jt_inherit.proofs.Vocabulary as words
+use words.{List, ap, ◌∙◌, arith, rules, is_some, lacks_body, templates_at, blocks_view, Block, its_files}
 use Rattle.jt_inherit.proofs.DiscoveryInvariant.{indexed_templates}
 use Rattle.jt_inherit.proofs.FindingsHold.{rule_broken}
 use Rattle.jt_inherit.proofs.BodyRules.{bodies_told, next_told}
@@ -7,7 +7,7 @@ use Rattle.jt_inherit.proofs.rules.check_rules.Goals as goal
 
 pub returns-in-Some-3-clause-broken : goal.returns-in-Some-3-clause-broken
 returns-in-Some-3-clause-broken c =
-    let ts = files_view c.args.store.now.files.items in
+    let ts = its_files c.args.store.now in
     let is = c.args.indices.now in
     rule_broken (bodies_told c.args.escaping ts (templates_at ts is) is (indexed_templates ts is c.requires)
     c.in_ok-blocks.blocks.items _ c.in_ok-blocks.ensures
@@ -16,7 +16,7 @@ returns-in-Some-3-clause-broken c =
 
 pub returns-in-Some-4-clause-broken : goal.returns-in-Some-4-clause-broken
 returns-in-Some-4-clause-broken c =
-    let ts = files_view c.args.store.now.files.items in
+    let ts = its_files c.args.store.now in
     let is = c.args.indices.now in
     rule_broken (next_told c.args.escaping ts (templates_at ts is) is (indexed_templates ts is c.requires)
     c.in_ok-blocks.blocks.items _ c.in_ok-blocks.ensures (c.in_ok-name-3.ensures ts)
@@ -24,7 +24,7 @@ returns-in-Some-4-clause-broken c =
 
 pub returns-clause-kept : goal.returns-clause-kept
 returns-clause-kept c =
-    let ts = files_view c.args.store.now.files.items in
+    let ts = its_files c.args.store.now in
     let is = c.args.indices.now in
     let indexed = indexed_templates ts is c.requires in
     record {

@@ -1,5 +1,4 @@
-use Rattle.std.proofs.Common.{arith, rules}
-use Rattle.jt_inherit.proofs.Vocabulary.{length-map, index_within}
+use Rattle.jt_inherit.proofs.Vocabulary.{arith, rules, length-map, index_within}
 use Rattle.jt_inherit.proofs.BodyRules.{double_found, double_none}
 use Rattle.jt_inherit.proofs.FindingsHold.{rule_broken}
 use Rattle.jt_inherit.proofs.TagPlaces.{twice_rule}

@@ -1,6 +1,6 @@
-use Rattle.std.proofs.Common.{◌∷◌, [], ◌&&◌, not, List, take, sym, ap, subst, ◌∙◌}
-use Rattle.jt_inherit.proofs.Vocabulary.{map-append, among, texts, block_names, Block, blocks_view, take_all}
-use Rattle.jt_inherit.proofs.BodyRules.{AreGiven, among_set, body_lacking, body_goes, take_next, all_given}
+use Rattle.jt_inherit.proofs.Vocabulary as words
+use words.{◌∷◌, [], take, sym, ap, ◌∙◌, map-append, among, texts, block_names, Block, blocks_view, take_all}
+use Rattle.jt_inherit.proofs.BodyRules.{among_set, body_lacking, body_goes, take_next, all_given}
 use Rattle.jt_inherit.proofs.rules.lacking_body.Goals as goal
 
 pub returns-then-is_lacking : goal.returns-then-is_lacking
@@ -9,8 +9,8 @@ returns-then-is_lacking c =
     let l = c.loop-block in
     sym (body_lacking ts c.args.blocks.now l.block-index c.block-item.result c.loop-block-test.true c.block-item.is
     (texts l.names.keys) l.invariant.0
-    (ap (λ k. not k && c.block-item.result.required) (sym c.in_ok-known.ensures.known) ∙ sym c.is_lacking.ensures
-    ∙ c.if-is_lacking.true))
+    (rw (← c.in_ok-known.ensures.known) (sym c.is_lacking.ensures
+    ∙ c.if-is_lacking.true)))
 
 pub loop-block-preserved : goal.loop-block-preserved
 loop-block-preserved c =
@@ -23,8 +23,8 @@ loop-block-preserved c =
           ∙ map-append (λ (b : Block). b.name.now) (take l.block-index c.args.blocks.now) (x ∷ []))),
       λ ts. body_goes ts c.args.blocks.now l.block-index x c.loop-block-test.true c.block-item.is (texts l.names.keys)
           l.invariant.0 (l.invariant.1 ts)
-          (ap (λ k. not k && x.required) (sym c.in_ok-known.ensures.known) ∙ sym c.is_lacking.ensures
-          ∙ c.if-is_lacking.false),
+          (rw (← c.in_ok-known.ensures.known) (sym c.is_lacking.ensures
+          ∙ c.if-is_lacking.false)),
     )
 
 pub returns : goal.returns
@@ -33,4 +33,4 @@ returns c =
     let l = c.loop-block in
     let whole = take_all l.block-index c.args.blocks.now c.loop-block-test.false in
     sym (all_given (blocks_view ts c.args.blocks.now)
-    (subst (λ (z : List Block). AreGiven (blocks_view ts z)) whole (l.invariant.1 ts)))
+    (rw (← whole) (l.invariant.1 ts)))

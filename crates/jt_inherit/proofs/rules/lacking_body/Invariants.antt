@@ -1,5 +1,4 @@
-use Rattle.std.proofs.Common.{◌≡◌, List, take}
-use Rattle.jt_inherit.proofs.Vocabulary.{Text, among, texts, Template, block_names, blocks_view}
+use Rattle.jt_inherit.proofs.Vocabulary.{◌≡◌, List, take, Text, among, texts, Template, block_names, blocks_view}
 use Rattle.jt_inherit.proofs.BodyRules.{AreGiven}
 use Rattle.jt_inherit.proofs.rules.lacking_body.Given as goal
 

@@ -1,6 +1,6 @@
-use Rattle.std.proofs.Common.{◌≡◌, ◌++◌, ◌∷◌, ◌&&◌, ◌||◌, [], List, not, sym, ap, ◌∙◌, arith, rules}
-use Rattle.jt_inherit.proofs.Vocabulary.{option_to_list, bytes_eq, append_assoc, body_view, lacks_next, block_view}
-use Rattle.jt_inherit.proofs.Vocabulary.{blocks_view, calls_super, Block, nil_from_length}
+use Rattle.jt_inherit.proofs.Vocabulary as words
+use words.{◌≡◌, ◌++◌, ◌∷◌, ◌&&◌, ◌||◌, [], List, not, sym, ap, ◌∙◌, arith, rules, option_to_list, bytes_eq}
+use words.{append_assoc, body_view, block_view, blocks_view, calls_super, Block, nil_from_length}
 use Rattle.jt_inherit.proofs.BodyRules.{any_text, has_given, next_more, next_lacking, all_next}
 use Rattle.jt_inherit.proofs.rules.lacking_next.Goals as goal
 
@@ -17,8 +17,7 @@ returns-then-is_lacking c =
     c.contains.ensures ∙ any_text b.name.now c.loop-block.given.keys ∙ v.2 ts b.name.now in
     let test = ap (λ z. not z && calls_super (body_view b.body.now)) (sym has)
     ∙ ap (λ z. not c.contains.result && z) (sym c.calls_super.ensures) ∙ sym c.is_lacking.ensures in
-    sym (ap (λ (l : List Block). lacks_next (blocks_view ts l)) whole
-    ∙ next_lacking ts qs b v.0 (test ∙ c.if-is_lacking.true))
+    sym (rw whole (next_lacking ts qs b v.0 (test ∙ c.if-is_lacking.true)))
 
 pub loop-block-preserved : goal.loop-block-preserved
 loop-block-preserved c =

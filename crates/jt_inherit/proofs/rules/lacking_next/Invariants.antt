@@ -1,5 +1,4 @@
-use Rattle.std.proofs.Common.{◌≡◌, ◌++◌, List, length}
-use Rattle.jt_inherit.proofs.Vocabulary.{Text, among, texts, Template, blocks_view, Block}
+use Rattle.jt_inherit.proofs.Vocabulary.{◌≡◌, ◌++◌, List, length, Text, among, texts, Template, blocks_view, Block}
 use Rattle.jt_inherit.proofs.BodyRules.{has_given, HaveNext}
 use Rattle.jt_inherit.proofs.rules.lacking_next.Given as goal
 

@@ -1,4 +1,4 @@
-use Rattle.std.proofs.Common.{not, ap, ◌∙◌}
+use Rattle.jt_inherit.proofs.Vocabulary.{not, ap, ◌∙◌}
 use Rattle.jt_inherit.proofs.BodyRules.{any_text, name_more, not_not}
 use Rattle.jt_inherit.proofs.rules.note.Goals as goal
 

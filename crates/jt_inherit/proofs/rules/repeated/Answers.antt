@@ -1,6 +1,4 @@
-use Rattle.std.proofs.Common.{[], get_or, sym, ◌∙◌}
-use Rattle.std.proofs.lemmas.List.{get_or_default}
-use Rattle.jt_inherit.proofs.Vocabulary.{Bor, Text, texts}
+use Rattle.jt_inherit.proofs.Vocabulary.{[], get_or, sym, ◌∙◌, get_or_default, Bor, Text, texts}
 use Rattle.jt_inherit.proofs.BodyRules.{repeat_found, repeat_goes}
 use Rattle.jt_inherit.proofs.rules.repeated.Goals as goal
 

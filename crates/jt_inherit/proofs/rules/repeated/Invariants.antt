@@ -1,5 +1,4 @@
-use Rattle.std.proofs.Common.{◌≡◌, false, take}
-use Rattle.jt_inherit.proofs.Vocabulary.{Text, among, repeated, texts}
+use Rattle.jt_inherit.proofs.Vocabulary.{◌≡◌, false, take, Text, among, repeated, texts}
 use Rattle.jt_inherit.proofs.rules.repeated.Given as goal
 
 abbrev pub invariant-loop-name : goal.invariant-loop-name

@@ -1,8 +1,5 @@
-use Rattle.std.proofs.Common.{◌∙◌, sym, ap, arith}
-use Rattle.std.proofs.lemmas.Grind.{common_steps}
-use Rattle.jt_ast.specs.ExpressionView.{expr_view}
+use Rattle.jt_inherit.proofs.Vocabulary.{◌∙◌, sym, ap, arith, common_steps, expr_view, pairs_view}
 use Rattle.jt_ast.proofs.ExpressionViews.{view_Map, view_Call, view_Filter, view_Test}
-use Rattle.jt_inherit.proofs.Vocabulary.{pairs_view}
 use Rattle.jt_chains.specs.Supers as spec
 use Rattle.jt_inherit.proofs.supers.+expressions.Goals as goal
 

@@ -1,5 +1,4 @@
-use Rattle.std.proofs.Common.{◌≡◌, drop}
-use Rattle.jt_inherit.proofs.Vocabulary.{exprs_view, pairs_view, row_super, pairs_super}
+use Rattle.jt_inherit.proofs.Vocabulary.{◌≡◌, drop, exprs_view, pairs_view, row_super, pairs_super}
 use Rattle.jt_inherit.proofs.supers.+expressions.Given as goal
 
 abbrev pub invariant-any_super-loop-item : goal.invariant-any_super-loop-item

@@ -1,4 +1,4 @@
-use Rattle.std.proofs.Common.{arith, rules}
+use Rattle.jt_inherit.proofs.Vocabulary.{arith, rules}
 use Rattle.jt_ast.proofs.StatementViews.{view_If}
 use Rattle.jt_inherit.proofs.supers.+lines.Goals as goal
 

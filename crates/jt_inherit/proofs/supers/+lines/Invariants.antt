@@ -1,9 +1,7 @@
-use Rattle.std.proofs.Common.{◌≡◌, ◌+◌, ◌*◌, drop}
+use Rattle.jt_inherit.proofs.Vocabulary.{◌≡◌, ◌+◌, ◌*◌, drop, branches_view, body_view, first_in, first_under}
 use denote.Param.Weighed.{most}
 use Rattle.jt_ast.specs.declared.statement.Stmt.{size-Stmt}
 use Rattle.jt_ast.proofs.RemainingParts.{Branch}
-use Rattle.jt_ast.specs.StatementView.{branches_view}
-use Rattle.jt_inherit.proofs.Vocabulary.{body_view, first_in, first_under}
 use Rattle.jt_inherit.proofs.supers.+lines.Given as goal
 
 abbrev pub decreases-statement_line : goal.decreases-statement_line

@@ -1,7 +1,4 @@
-use Rattle.std.proofs.Common.{◌≡◌, ◌++◌, drop}
-use Rattle.jt_uses.specs.UseView.{sites_view}
-use Rattle.jt_inherit.specs.internal.Tags.{with_name}
-use Rattle.jt_inherit.proofs.Vocabulary.{test_of, tags, tags_view}
+use Rattle.jt_inherit.proofs.Vocabulary.{◌≡◌, ◌++◌, drop, sites_view, with_name, test_of, tags, tags_view}
 use Rattle.jt_inherit.proofs.tags.add_tags.Given as goal
 
 abbrev pub invariant-loop-site : goal.invariant-loop-site

@@ -1,6 +1,5 @@
-use Rattle.std.proofs.Common.{ap, ◌∙◌}
-use Rattle.jt_inherit.proofs.Vocabulary.{map-append, templates_at, files_view, index_within, all_uses, tag_view, tags}
-use Rattle.jt_inherit.proofs.Vocabulary.{tags_view, test_of}
+use Rattle.jt_inherit.proofs.Vocabulary as words
+use words.{ap, ◌∙◌, map-append, templates_at, files_view, index_within, all_uses, tag_view, tags, tags_view, test_of}
 use Rattle.jt_inherit.proofs.TagPlaces.{tags_turn}
 use Rattle.jt_inherit.proofs.tags.tags_at.Goals as goal
 

@@ -1,9 +1,8 @@
-use Rattle.std.proofs.Common.{◌≡◌, ◌++◌, drop}
-use Rattle.jt_inherit.proofs.Vocabulary.{templates_at, files_view, all_uses, test_of, tags, tags_view}
+use Rattle.jt_inherit.proofs.Vocabulary.{◌≡◌, ◌++◌, drop, all_uses, test_of, tags, tags_view, its_templates}
 use Rattle.jt_inherit.proofs.tags.tags_at.Given as goal
 
 abbrev pub invariant-loop-index : goal.invariant-loop-index
 invariant-loop-index l =
     tags_view l.found.items
-    ++ tags (test_of l.wanted) (all_uses (templates_at (files_view l.store.files.items) (drop l.index-index l.indices)))
-    ≡ tags (test_of l.wanted) (all_uses (templates_at (files_view l.store.files.items) l.indices))
+    ++ tags (test_of l.wanted) (all_uses (its_templates l.store (drop l.index-index l.indices)))
+    ≡ tags (test_of l.wanted) (all_uses (its_templates l.store l.indices))

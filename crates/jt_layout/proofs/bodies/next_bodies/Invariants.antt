@@ -1,6 +1,7 @@
-use Rattle.jt_layout.proofs.Vocabulary.{List, drop, length, map, ◌≡◌, ◌≤◌, filter, bytes_eq, Text, Template, block_view}
-use Rattle.jt_layout.proofs.Vocabulary.{value_in, counted_from, next_given, nexts}
 use Rattle.jt_layout.proofs.bodies.next_bodies.Given as goal
+use Rattle.jt_semantics.specs.Layout.{counted_from}
+use Rattle.jt_layout.proofs.{List, drop, length, map, ◌≡◌, ◌≤◌, Template, next_given, filter, bytes_eq, Text}
+use Rattle.jt_layout.proofs.{block_view, value_in, nexts}
 
 abbrev pub invariant-loop-left : goal.invariant-loop-left
 invariant-loop-left l = record {

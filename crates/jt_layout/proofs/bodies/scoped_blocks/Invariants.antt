@@ -1,6 +1,6 @@
-use Rattle.jt_layout.proofs.Vocabulary.{List, drop, map, ◌&&◌, ◌||◌, ◌≡◌, list_any, is_some, bytes_eq, Text, Template}
-use Rattle.jt_layout.proofs.Vocabulary.{block_view, value_in}
 use Rattle.jt_layout.proofs.bodies.scoped_blocks.Given as goal
+use Rattle.std.specs.Option.{is_some}
+use Rattle.jt_layout.proofs.{List, drop, map, ◌&&◌, ◌||◌, ◌≡◌, Template, list_any, bytes_eq, Text, block_view, value_in}
 
 abbrev pub invariant-loop-block : goal.invariant-loop-block
 invariant-loop-block l =

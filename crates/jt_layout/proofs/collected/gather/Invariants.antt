@@ -1,5 +1,5 @@
-use Rattle.jt_layout.proofs.Vocabulary.{drop, length, ◌≤◌, AreNames, its_order}
 use Rattle.jt_layout.proofs.collected.gather.Given as goal
+use Rattle.jt_layout.proofs.{drop, length, ◌≤◌, AreNames, its_order}
 
 abbrev pub invariant-loop-left : goal.invariant-loop-left
 invariant-loop-left l = record {

@@ -1,8 +1,7 @@
-use Rattle.std.proofs.lemmas.Result.{IfOk-weaker}
-use Rattle.jt_layout.proofs.Vocabulary.{Global, Vec, ap, arith, rules, ◌∙◌, ◌≡◌, Bor, Text, needs_view, namespace_in}
-use Rattle.jt_layout.proofs.Vocabulary.{its_cenv}
-use Rattle.jt_layout.proofs.NamesInOrder.{all_stored}
 use Rattle.jt_layout.proofs.collected.names_of_chain.Goals as goal
+use Rattle.std.proofs.lemmas.Result.{IfOk-weaker}
+use Rattle.jt_chains.specs.Needs.{needs_view}
+use Rattle.jt_layout.proofs.{Global, Vec, ap, ◌∙◌, ◌≡◌, arith, rules, Bor, Text, namespace_in, its_cenv, all_stored}
 
 pub returns : goal.returns
 returns c =

@@ -1,14 +1,12 @@
-use Rattle.jt_chains.specs.Parts.{blocks_view}
-use Rattle.jt_chains.specs.View.{its_templates}
-use Rattle.jt_layout.proofs.Vocabulary.{ap, arith, length, map, rules, sym, ◌&&◌, ◌+◌, ◌∙◌, ◌≡◌, length-map, list_any}
-use Rattle.jt_layout.proofs.Vocabulary.{option_map, slice_get, bytes_eq, texts, name_of_namespace, all_bodies, macros}
-use Rattle.jt_layout.proofs.Vocabulary.{block_view, macro_view, namespace_in, global, first_of, unit, nexts, its_cenv}
-use Rattle.jt_layout.proofs.Vocabulary.{its_order}
-use Rattle.jt_layout.proofs.FirstOccurrences.{first_bodies, in_slots, length-counted, length-nexts, next_at}
-use Rattle.jt_layout.proofs.LayoutCorrect.{body_units, chain_unit, first_here, front_turn, is_called}
-use Rattle.jt_layout.proofs.LayoutCorrect.{known_here, new_here, scoped_laid, slot_here}
 use Rattle.jt_semantics.specs.Layout as layout
 use Rattle.jt_layout.proofs.layout.lay_chain.Goals as goal
+use Rattle.jt_chains.specs.Chain.{macros}
+use layout.{unit}
+use Rattle.jt_layout.proofs.{ap, length, map, sym, ◌&&◌, ◌+◌, ◌∙◌, ◌≡◌, all_bodies, blocks_view, its_templates, arith}
+use Rattle.jt_layout.proofs.{rules, length-map, list_any, option_map, slice_get, bytes_eq, texts, name_of_namespace}
+use Rattle.jt_layout.proofs.{block_view, macro_view, namespace_in, global, first_of, nexts, its_cenv, its_order}
+use Rattle.jt_layout.proofs.{first_bodies, in_slots, length-counted, length-nexts, next_at, body_units, chain_unit}
+use Rattle.jt_layout.proofs.{first_here, front_turn, is_called, known_here, new_here, scoped_laid, slot_here}
 
 pub returns : goal.returns
 returns c =
@@ -47,18 +45,18 @@ returns c =
             λ x. ap (option_map global) (c.in_ok-slots.ensures x) ∙ in_slots x f.slot (texts c.deref.result.now)
             ∙ ap (λ ns. layout.slot_in x (layout.globals_from f.slot ns))
             (ap texts c.deref.ensures.value ∙ c.requires.named)
-            ∙ ap (λ n. layout.slot_in x (layout.globals_from n (layout.names W O h))) (sym (slot_here _ _ _ _ _ s));
-        from = sym (slot_here _ _ _ _ _ s);
-        chain_unit = λ n e. chain_unit _ _ _ _ _ s n e;
+            ∙ ap (λ n. layout.slot_in x (layout.globals_from n (layout.names W O h))) (sym (slot_here s));
+        from = sym (slot_here s);
+        chain_unit = λ n e. chain_unit s n e;
         all_macros = facts.all_macros;
         by_names =
-            λ x. is_called _ _ _ _ _ s ts _ facts.all_macros defaults macro_unit x _
+            λ x. is_called s ts _ facts.all_macros defaults macro_unit x _
             (c.in_ok-called.ensures x
             ∙ ap (first_of x 0) (ap texts c.deref-3.ensures.value ∙ c.in_ok-macros.ensures
             ∙ ap (map (λ m. m.name.now)) c.deref-2.ensures.value));
         all_given = facts.all_given;
         all_blocks = facts.all_blocks;
-        body_units = λ k under. body_units _ _ _ _ _ s ts known.blocks.items facts.all_blocks _ k unit under;
+        body_units = λ k under. body_units s ts known.blocks.items facts.all_blocks _ k unit under;
         firsts = λ x. facts.first_bodies x ∙ first_bodies x 0 (all_bodies W.sources W.escaping h);
         nexts =
             λ k n e b cs d. next_at (layout.numbered_bodies W h) k n
@@ -66,14 +64,14 @@ returns c =
         all_next =
             ap length nexts_are ∙ length-nexts (layout.numbered_bodies W h)
             ∙ length-counted 0 (all_bodies W.sources W.escaping h) ∙ sym body_count;
-        scoped = λ x. scoped_laid _ _ _ _ _ s (known_here a i lt) x _ _
+        scoped = λ x. scoped_laid s (known_here a i lt) x _ _
             (c.in_ok-scoped.ensures ts x
             ∙ ap (list_any (λ k. k.scoped && bytes_eq k.name x))
             (ap (blocks_view ts) c.deref-6.ensures.value ∙ facts.all_blocks))
             facts.scope_names;
       };
       behind =
-          front_turn _ _ _ _ _ s (new_here a i lt) _
+          front_turn s (new_here a i lt) _
           (omega (
             arith,
             c.in_ok-behind_slot.ensures,

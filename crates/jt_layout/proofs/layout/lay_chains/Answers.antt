@@ -1,18 +1,16 @@
-use Rattle.jt_names.proofs.EachItem.{each_more}
-use Rattle.jt_layout.proofs.Vocabulary.{[], ap, arith, drop, length, length-append, rules, string_bytes, subst, sym}
-use Rattle.jt_layout.proofs.Vocabulary.{◌+◌, ◌<◌, ◌∙◌, ◌∷◌, at_drop_all, length-map, flat_map, name_of_namespace}
-use Rattle.jt_layout.proofs.Vocabulary.{a_chain, listed, same_namespace, namespace_view, namespace_in, AreLaid}
-use Rattle.jt_layout.proofs.Vocabulary.{IsLaidAt, names_at, its_cenv, its_order}
-use Rattle.jt_layout.proofs.LayoutCorrect.{left_turn, listed_left, names_handed}
 use Rattle.jt_semantics.specs.Layout as layout
 use Rattle.jt_layout.proofs.layout.lay_chains.Goals as goal
+use Rattle.jt_names.proofs.EachItem.{each_pushed}
+use Rattle.std.proofs.lemmas.List.{at_drop_all}
+use Rattle.jt_layout.proofs.{ap, drop, length, sym, ◌<◌, ◌∙◌, a_chain, listed, same_namespace, arith, rules}
+use Rattle.jt_layout.proofs.{string_bytes, length-map, flat_map, name_of_namespace, namespace_view, namespace_in}
+use Rattle.jt_layout.proofs.{IsLaidAt, names_at, its_cenv, its_order, left_turn, listed_left, names_handed}
 
 pub lay_chain-requires : goal.lay_chain-requires
 lay_chain-requires c =
     let a = c.args.facts.now.chain.now in
     let l = c.loop-namespace in
-    let lt : l.namespace < length a.namespaces.items =
-    omega (arith, c.loop-namespace-test.true, c.len-namespace-end.ensures, a.namespaces.ok.0) in
+    let lt : l.namespace < length a.namespaces.items = omega (arith, a.namespaces.ok.0) in
     let k = c.index.result.now in
     let is = name_of_namespace a.namespaces.items l.namespace k lt c.index.ensures in
     record {
@@ -33,23 +31,18 @@ pub loop-namespace-preserved : goal.loop-namespace-preserved
 loop-namespace-preserved c =
     let a = c.args.facts.now.chain.now in
     let l = c.loop-namespace in
-    let lt : l.namespace < length a.namespaces.items =
-    omega (arith, c.loop-namespace-test.true, c.len-namespace-end.ensures, a.namespaces.ok.0) in
+    let lt : l.namespace < length a.namespaces.items = omega (arith, a.namespaces.ok.0) in
     let is = name_of_namespace a.namespaces.items l.namespace c.index.result.now lt c.index.ensures in
-    let laid = c.in_ok-indexed.indexed.namespace_layout in
+    let pushed = each_pushed (IsLaidAt a) l.namespaces.items c.in_ok-indexed.indexed.namespace_layout l.namespace
+    c.in_ok-push.ensures.items l.invariant.all l.invariant.each c.in_ok-indexed.ensures.namespace_layout in
     record {
       stands = c.in_ok-indexed.ensures.behind;
       left = λ x u.
           let other = left_turn a l.namespace lt (a_chain x) u in
           c.take-names.ensures.others x (ap (λ h. same_namespace h (a_chain x)) (sym is) ∙ other.0)
           ∙ l.invariant.left x other.1;
-      all =
-          ap length c.in_ok-push.ensures.items ∙ length-append l.namespaces.items (laid ∷ [])
-          ∙ ap (λ n. n + 1) l.invariant.all;
-      each =
-          subst (AreLaid a) (sym c.in_ok-push.ensures.items)
-          (each_more (IsLaidAt a) l.namespaces.items laid l.invariant.each
-          (subst (λ i. IsLaidAt a i laid) (sym l.invariant.all) c.in_ok-indexed.ensures.namespace_layout));
+      all = pushed.0;
+      each = pushed.1;
     }
 
 pub returns-clause-units : goal.returns-clause-units
@@ -61,8 +54,6 @@ returns-clause-units c =
       l.invariant.stands.all,
       at_drop_all (λ hs. length (flat_map (layout.chain_keys (its_cenv a)) hs)) (its_order a) l.namespace (omega (
         arith,
-        c.loop-namespace-test.false,
-        c.len-namespace-end.ensures,
         a.namespaces.ok.0,
         length-map a.namespaces.items namespace_view,
       )),

@@ -1,6 +1,6 @@
-use Rattle.jt_layout.proofs.Vocabulary.{List, drop, length, map, ◌++◌, ◌+◌, ◌≡◌, Template, macro_view, defaults_of}
-use Rattle.jt_layout.proofs.Vocabulary.{defaults_from}
 use Rattle.jt_layout.proofs.macros.default_indices.Given as goal
+use Rattle.jt_semantics.specs.Layout.{defaults_of}
+use Rattle.jt_layout.proofs.{List, drop, length, map, ◌++◌, ◌+◌, ◌≡◌, Template, macro_view, defaults_from}
 
 abbrev pub invariant-loop-entry : goal.invariant-loop-entry
 invariant-loop-entry l = record {

@@ -1,6 +1,6 @@
-use Rattle.jt_layout.proofs.Vocabulary.{drop, length, map, ◌≡◌, ◌≤◌, Text, namespace_view, value_in, first_namespace}
-use Rattle.jt_layout.proofs.Vocabulary.{namespace_named}
 use Rattle.jt_layout.proofs.namespace_index.namespace_index.Given as goal
+use Rattle.jt_layout.proofs.{drop, length, map, ◌≡◌, ◌≤◌, Text, namespace_view, value_in, first_namespace}
+use Rattle.jt_layout.proofs.{namespace_named}
 
 abbrev pub invariant-loop-left : goal.invariant-loop-left
 invariant-loop-left l = record {

@@ -1,6 +1,6 @@
-use Rattle.jt_chains.specs.View.{namespace_in}
-use Rattle.jt_names.proofs.{map, ap, ◌∙◌, given_to, names_view, blocks_view, its_templates, first_of}
 use Rattle.jt_names.proofs.chains.facts_of_namespace.Goals as goal
+use Rattle.jt_chains.specs.Named.{names_view}
+use Rattle.jt_names.proofs.{given_to, namespace_in, map, ap, ◌∙◌, blocks_view, its_templates, first_of}
 
 pub returns : goal.returns
 returns c =

@@ -1,21 +1,9 @@
-use Rattle.std.proofs.Common.{length-append}
-use Rattle.jt_names.specs.FactsOfChains.{IsKnown}
-use Rattle.jt_names.specs.declared.facts.NamespaceFacts.{NamespaceFacts}
-use Rattle.jt_names.proofs.{◌+◌, ℕ, List, [], ◌∷◌, length, sym, ap, subst, ◌∙◌, EachKnown, each_more}
 use Rattle.jt_names.proofs.chains.facts_of_namespaces.Goals as goal
+use Rattle.jt_names.proofs.{IsKnown, each_pushed}
 
 pub loop-namespace-preserved : goal.loop-namespace-preserved
 loop-namespace-preserved c =
-    let chain = c.args.chain.now in
     let l = c.loop-namespace in
-    let one = c.in_ok-facts_of_namespace.field-0 in
-    let grown = c.in_ok-push.ensures.items in
-    let P : ℕ → NamespaceFacts → Type 0 = (λ i f. IsKnown chain i f) in
-    let last : P (length l.found.items) one = subst (λ i. P i one) (sym l.invariant.all)
-    c.in_ok-facts_of_namespace.ensures in
-    record {
-      all = ap length grown ∙ length-append l.found.items (one ∷ []) ∙ ap (λ n. n + 1) l.invariant.all;
-      each =
-          subst (λ (fs : List NamespaceFacts). EachKnown chain fs) (sym grown)
-          (each_more P l.found.items one l.invariant.each last);
-    }
+    let r = each_pushed (IsKnown c.args.chain.now) l.found.items c.in_ok-facts_of_namespace.field-0 l.namespace
+    c.in_ok-push.ensures.items l.invariant.all l.invariant.each c.in_ok-facts_of_namespace.ensures in
+    record { all = r.0; each = r.1 }

@@ -1,5 +1,5 @@
-use Rattle.jt_names.proofs.{◌≡◌, length, EachKnown}
 use Rattle.jt_names.proofs.chains.facts_of_namespaces.Given as goal
+use Rattle.jt_names.proofs.{EachKnown, ◌≡◌, length}
 
 abbrev pub invariant-loop-namespace : goal.invariant-loop-namespace
 invariant-loop-namespace l = record {

@@ -1,6 +1,6 @@
-use Rattle.jt_names.specs.Names.{AreIndices}
-use Rattle.jt_names.proofs.{◌≤◌, List, length, map, drop, Template, blocks_view}
 use Rattle.jt_names.proofs.index.first_bodies.Given as goal
+use Rattle.jt_chains.specs.Chain.{Template}
+use Rattle.jt_names.proofs.{AreIndices, ◌≤◌, List, length, map, drop, blocks_view}
 
 abbrev pub invariant-loop-left : goal.invariant-loop-left
 invariant-loop-left l = record {

@@ -1,5 +1,5 @@
-use Rattle.jt_names.proofs.{btree_map_updates_str}
 use Rattle.jt_names.proofs.index.set_entry.Goals as goal
+use Rattle.std.proofs.lemmas.Map.Text.{btree_map_updates_str}
 
 pub returns : goal.returns
 returns g c = λ x.

@@ -1,6 +1,6 @@
+use Rattle.jt_names.proofs.lists.add_names_of.Given as goal
 use Rattle.jt_ast.specs.StatementView.{names_view}
 use Rattle.jt_names.proofs.{◌≡◌, ◌++◌, drop, texts}
-use Rattle.jt_names.proofs.lists.add_names_of.Given as goal
 
 abbrev pub invariant-loop-name : goal.invariant-loop-name
 invariant-loop-name l =

@@ -1,6 +1,6 @@
+use Rattle.jt_names.proofs.lists.parameter_names.Given as goal
 use Rattle.jt_names.specs.Names.{parameter_names}
 use Rattle.jt_names.proofs.{◌≡◌, ◌++◌, drop, texts}
-use Rattle.jt_names.proofs.lists.parameter_names.Given as goal
 
 abbrev pub invariant-loop-parameter : goal.invariant-loop-parameter
 invariant-loop-parameter l =

@@ -1,5 +1,5 @@
-use Rattle.jt_names.proofs.{◌≡◌, drop, all_inserted, texts}
 use Rattle.jt_names.proofs.ordered.add_names.Given as goal
+use Rattle.jt_names.proofs.{◌≡◌, drop, all_inserted, texts}
 
 abbrev pub invariant-loop-name : goal.invariant-loop-name
 invariant-loop-name l =

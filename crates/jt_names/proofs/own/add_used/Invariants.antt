@@ -1,5 +1,5 @@
-use Rattle.jt_names.proofs.{◌≡◌, drop, filter_map, all_inserted, texts, sites_view, name_used}
 use Rattle.jt_names.proofs.own.add_used.Given as goal
+use Rattle.jt_names.proofs.{◌≡◌, drop, filter_map, all_inserted, texts, sites_view, name_used}
 
 abbrev pub invariant-loop-site : goal.invariant-loop-site
 invariant-loop-site l =

@@ -1,27 +1,8 @@
-use Rattle.std.proofs.lemmas.List.{at_drop_all}
-use Rattle.jt_ast.proofs.RemainingParts.{Branch}
-use Rattle.jt_ast.proofs.CollectedLists.{branch_added, choice_added, statement_added}
-use Rattle.jt_names.proofs.{List, ◌++◌, refl, sym, ap, ◌∙◌, append-nil, body_view, branches_view, set_by, set_in}
-use Rattle.jt_names.proofs.{set_under, texts}
 use Rattle.jt_names.proofs.sets.+sets.Goals as goal
-
-pub add_sets-loop-statement-preserved : goal.add_sets-loop-statement-preserved
-add_sets-loop-statement-preserved t c =
-    let l = c.loop-statement in
-    statement_added set_by set_in set_under (λ z b. refl) c.args.body.now l.statement-index c.statement-item.result
-    (texts l.found.items) (texts c.add_set.new.found.items) c.loop-statement-test.true c.statement-item.is
-    c.in_ok-add_set.ensures
-    ∙ l.invariant
-
-pub add_set-loop-body-preserved : goal.add_set-loop-body-preserved
-add_set-loop-body-preserved t c =
-    let l = c.loop-body in
-    let b = c.loop-body-item.result in
-    branch_added set_by set_in set_under (λ n e z zs. refl) c.deref-body-items.result.now l.body-index b
-    (texts l.found.items) (texts c.add_sets.new.found.items) c.loop-body-test.true c.loop-body-item.is
-    (c.in_ok-add_sets-in-If.ensures
-    ∙ ap (λ z. texts l.found.items ++ set_in (body_view z)) c.deref-in-loop-body.ensures.value)
-    ∙ l.invariant
+use Rattle.jt_ast.proofs.RemainingParts.{Branch}
+use Rattle.jt_ast.proofs.CollectedLists.{choice_added}
+use Rattle.jt_chains.specs.Uses.{set_by, set_in, set_under}
+use Rattle.jt_names.proofs.{branches_view, at_drop_all, List, ◌++◌, refl, sym, ◌∙◌, append-nil, texts}
 
 pub add_set-returns-in_ok-add_sets-in-If-2 : goal.add_set-returns-in_ok-add_sets-in-If-2
 add_set-returns-in_ok-add_sets-in-If-2 t c =

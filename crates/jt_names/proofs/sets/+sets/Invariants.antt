@@ -1,5 +1,6 @@
-use Rattle.jt_names.proofs.{◌≡◌, ◌++◌, drop, body_view, branches_view, set_in, set_under, texts}
 use Rattle.jt_names.proofs.sets.+sets.Given as goal
+use Rattle.jt_chains.specs.Uses.{set_in, set_under}
+use Rattle.jt_names.proofs.{body_view, branches_view, ◌≡◌, ◌++◌, drop, texts}
 
 abbrev pub invariant-add_sets-loop-statement : goal.invariant-add_sets-loop-statement
 invariant-add_sets-loop-statement l =

@@ -1,5 +1,5 @@
-use Rattle.jt_names.proofs.{◌≡◌, ◌++◌, drop, map, files_view, its_templates, known_of, facts_in}
 use Rattle.jt_names.proofs.templates.facts_of_templates.Given as goal
+use Rattle.jt_names.proofs.{◌≡◌, ◌++◌, drop, map, files_view, its_templates, known_of, facts_in}
 
 abbrev pub invariant-loop-file : goal.invariant-loop-file
 invariant-loop-file l =

@@ -1,27 +1,24 @@
-use Rattle.std.specs.List.{AllByRecursion}
-use Rattle.jt_chains.proofs.TemplatesByIndex.{namespace_along, namespace_indices, number_at}
-use Rattle.jt_names.proofs.{◌<◌, List, length, get_or, refl, sym, ap, subst, ◌∙◌, Bor, Text, all_inserted, ascending}
-use Rattle.jt_names.proofs.{texts, along, names_by, its_templates, body_at, all_known, facts_at, turn}
 use Rattle.jt_names.proofs.templates.names_of_namespace.Goals as goal
+use Rattle.jt_chains.proofs.TemplatesByIndex.{namespace_along, namespace_indices, number_at}
+use Rattle.jt_names.proofs.{Bor, AllByRecursion, ◌<◌, List, length, get_or, sym, ap, subst, ◌∙◌, Text, all_inserted}
+use Rattle.jt_names.proofs.{ascending, texts, along, names_by, its_templates, body_at, all_known, facts_at, turn}
 
 pub loop-index-init : goal.loop-index-init
 loop-index-init c =
     let chain = c.args.chain.now in
-    let ps = chain.templates.items in
     let is = c.deref-index-items.result.now in
     record {
       within =
           subst (λ n. AllByRecursion (λ i. i < n) is)
           (sym (all_known (its_templates chain) c.args.templates.now c.requires.known))
-          (namespace_indices ps ps chain.namespaces.items c.args.namespace c.index.result.now is refl
-          c.deref-index-items.ensures.value c.requires.stands c.index.ensures chain.once chain.whole);
+          (namespace_indices chain c.args.namespace c.index.result.now is c.deref-index-items.ensures.value
+          c.requires.stands c.index.ensures);
       names =
           ap (λ (ks : List (Bor Text)).
           all_inserted (along (its_templates chain) (λ n b. names_by c.args.of b) is) (texts ks))
           c.new-names.ensures.empty
-          ∙ ap ascending (namespace_along ps ps chain.namespaces.items c.args.namespace c.index.result.now is refl
-          c.deref-index-items.ensures.value c.requires.stands c.index.ensures chain.once chain.whole
-          (λ n b. names_by c.args.of b));
+          ∙ ap ascending (namespace_along chain c.args.namespace c.index.result.now is c.deref-index-items.ensures.value
+          c.requires.stands c.index.ensures (λ n b. names_by c.args.of b));
     }
 
 pub loop-index-preserved : goal.loop-index-preserved

@@ -1,9 +1,7 @@
-use Rattle.std.specs.List.{AllByRecursion}
-use Rattle.jt_chains.specs.Chain.{templates}
-use Rattle.jt_chains.specs.View.{its_sources, namespace_in}
-use Rattle.jt_names.proofs.{◌≡◌, ◌<◌, length, drop, flat_map, all_inserted, ascending, texts, along, names_by}
-use Rattle.jt_names.proofs.{its_templates}
 use Rattle.jt_names.proofs.templates.names_of_namespace.Given as goal
+use Rattle.jt_chains.specs.Chain.{templates}
+use Rattle.jt_names.proofs.{AllByRecursion, its_sources, namespace_in, ◌≡◌, ◌<◌, length, drop, flat_map, all_inserted}
+use Rattle.jt_names.proofs.{ascending, texts, along, names_by, its_templates}
 
 abbrev pub invariant-loop-index : goal.invariant-loop-index
 invariant-loop-index l = record {

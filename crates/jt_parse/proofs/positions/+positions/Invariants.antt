@@ -15,8 +15,8 @@ decreases-statement_placed l = 3 * size-Stmt l.statement.now
 abbrev pub decreases-body_placed : goal.decreases-body_placed
 decreases-body_placed l = 3 * most (λ x. size-Stmt x) l.body.now + 1
 
-abbrev pub decreases-inside_placed : goal.decreases-inside_placed
-decreases-inside_placed l = 3 * most (λ x. size-Stmt x) l.body.now + 2
+abbrev pub decreases-enclosed_placed : goal.decreases-enclosed_placed
+decreases-enclosed_placed l = 3 * most (λ x. size-Stmt x) l.body.now + 2
 
 abbrev pub decreases-choice_placed : goal.decreases-choice_placed
 decreases-choice_placed l =

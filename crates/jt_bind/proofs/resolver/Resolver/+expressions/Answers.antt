@@ -1,16 +1,14 @@
 use Rattle.jt_ast.proofs.ExpressionViews.{view_Call, view_Filter, view_Test}
-use Rattle.jt_ast.specs.ExpressionView.{expr_view}
 use Rattle.jt_value.specs.Tree as tree
 use Rattle.jt_ids.specs.declared.op_id.OpId.TheVariants as op
 use Rattle.jt_ir.specs.Slots as slots
 use Rattle.jt_ir.specs.declared.program.NaryOp.TheVariants as m
-use Rattle.jt_bind.specs.internal.{[], length, Some, exprs_view, pairs_view, filter_id, parameters_view, a_block}
-use Rattle.jt_bind.specs.internal.{keywords, filled, locals_from, own, expr_view as coded, values, row_in, asides_in}
-use Rattle.jt_bind.specs.internal.{filter_row_in}
-use Rattle.jt_bind.proofs.{drop_all, ◌∙◌, arith, add-one, IfOk-weaker, count_length, called_placed, call_depth}
-use Rattle.jt_bind.proofs.{filter_depth, test_depth, named_is, parameters_are, row_both, row_item, row_aside}
-use Rattle.jt_bind.proofs.{made_placed, invoked_placed, row_left, pairs_left, view_Made, view_Invoke}
-use Rattle.jt_bind.proofs.{conjunction_placed, disjunction_placed, view_Conjunction, view_Disjunction}
+use Rattle.jt_bind.specs.internal.{[], Some, exprs_view, pairs_view, filter_id, own, values, row_of, called_of}
+use Rattle.jt_bind.specs.internal.{filled_of, filter_row_of}
+use Rattle.jt_bind.proofs.{drop_all, ◌∙◌, arith, add-one, IfOk-weaker, count_length, call_depth, filter_depth}
+use Rattle.jt_bind.proofs.{test_depth, named_is, parameters_are, row_both, row_item, row_aside, made_placed}
+use Rattle.jt_bind.proofs.{invoked_placed, row_left, pairs_left, view_Made, view_Invoke, conjunction_placed}
+use Rattle.jt_bind.proofs.{disjunction_placed, view_Conjunction, view_Disjunction}
 use Rattle.jt_bind.proofs.resolver.Resolver.+expressions.Goals as goal
 
 pub resolve_row-loop-expr-preserved : goal.resolve_row-loop-expr-preserved
@@ -44,7 +42,7 @@ resolve_made-returns t c =
 
 pub resolve_applied-returns : goal.resolve_applied-returns
 resolve_applied-returns t c =
-    let es = row_in c.args.self.now.tables.now (exprs_view c.args.row.now) c.args.self.now.senv slots.none in
+    let es = row_of c.args.self.now (exprs_view c.args.row.now) slots.none in
     let done = c.resolve_row.new.done in
     rw c.into_part.ensures (made_placed _ _ done.items _ _ _
     (row_both _ es slots.none [] _ done.items _ _ _
@@ -186,19 +184,16 @@ resolve_filter-returns-in-None t c =
 pub resolve_filter-returns-in_ok-resolve_filter_row-in-Some :
     goal.resolve_filter-returns-in_ok-resolve_filter_row-in-Some
 resolve_filter-returns-in_ok-resolve_filter_row-in-Some t c =
-    let s = c.args.self.now.tables.now in
-    let senv = c.args.self.now.senv in
     let f = c.in-Some.filter in
-    let ts = exprs_view c.args.arguments.row.now in
-    let ps = pairs_view c.args.arguments.pairs.now in
-    let es = filter_row_in s (Some (filter_id f)) ts ps senv in
+    let escaping = c.args.self.now.senv.escaping in
+    let es = filter_row_of c.args.self.now (Some (filter_id f)) c.args.arguments in
     let done = c.resolve_filter_row.new.done in
     rw (c.into_part.ensures, named_is, ← c.filter_of.ensures, c.in-Some.is)
-    (made_placed (slots.filter (filter_id f) senv.escaping) _ done.items _ _ _
+    (made_placed (slots.filter (filter_id f) escaping) _ done.items _ _ _
     (row_both _ es slots.none [] _ done.items _ _ _
     (rw c.new.ensures.items at (c.in_ok-resolve_operand-in-Some.ensures es))
     c.in_ok-resolve_filter_row-in-Some.ensures)
-    (view_Made (m.Filter f senv.escaping) done))
+    (view_Made (m.Filter f escaping) done))
 
 pub resolve_filter_row-returns : goal.resolve_filter_row-returns
 resolve_filter_row-returns t c =
@@ -209,21 +204,17 @@ resolve_filter_row-returns t c =
 
 pub resolve_macro-returns : goal.resolve_macro-returns
 resolve_macro-returns t c =
-    let s = c.args.self.now.tables.now in
-    let senv = c.args.self.now.senv in
-    let signature = c.args.signature in
-    let ps = pairs_view c.args.arguments.pairs.now in
-    let left = filled (parameters_view signature.parameters.now) (length c.args.arguments.row.now)
-    signature.first_default (locals_from senv.free (keywords ps)) in
-    let es = row_in s (exprs_view c.args.arguments.row.now) senv (asides_in s ps senv left) in
-    let done = c.resolve_given.new.done in
+    let r = c.args.self.now in
+    let s = c.args.signature in
+    let left = filled_of r s c.args.arguments in
+    let es = called_of r s c.args.arguments in
     let full = c.fill.new.done in
     let p = values c.args.pool.now in
     let q = values c.resolve_given.new.pool in
-    rw c.into_part.ensures (invoked_placed signature.unit senv.escaping es full.items _ p q
-    (row_both es left slots.none [] done.items full.items p q q
+    rw c.into_part.ensures (invoked_placed s.unit r.senv.escaping es full.items _ p q
+    (row_both es left slots.none [] _ full.items p q q
     (rw c.new.ensures.items at (c.in_ok-resolve_given.ensures left)) (c.in_ok-fill.ensures q))
-    (view_Invoke signature.unit senv.escaping full))
+    (view_Invoke s.unit r.senv.escaping full))
 
 pub resolve_cycle-returns : goal.resolve_cycle-returns
 resolve_cycle-returns t c =
@@ -246,15 +237,8 @@ resolve_call-returns-in-Super t c = let is = rw c.in-Super.is at c.in_ok-signatu
     rw is (IfOk-weaker c.super_called.result _ _ (λ e h. h (values c.args.pool.now)) c.super_called.ensures)
 
 pub resolve_call-returns-in-Block : goal.resolve_call-returns-in-Block
-resolve_call-returns-in-Block t c =
-    let s = c.args.self.now.tables.now in
-    let senv = c.args.self.now.senv in
-    let row = c.args.arguments.row.now in
-    let ps = pairs_view c.args.arguments.pairs.now in
-    IfOk-weaker c.block_called.result _ _ (λ e h. called_placed s senv (expr_view c.args.called.now)
-    (a_block c.in-Block.name.now) row ps (coded e) _ _ (rw c.in-Block.is at c.in_ok-signature.ensures)
-    (h (row_in s (exprs_view row) senv) (asides_in s ps senv) (length row) (locals_from senv.free (keywords ps))
-    (values c.args.pool.now))) c.block_called.ensures
+resolve_call-returns-in-Block t c = let is = rw c.in-Block.is at c.in_ok-signature.ensures in
+    rw is (IfOk-weaker c.block_called.result _ _ (λ e h. h (values c.args.pool.now)) c.block_called.ensures)
 
 pub resolve_call-returns-in-Unknown : goal.resolve_call-returns-in-Unknown
 resolve_call-returns-in-Unknown t c = let is = rw c.in-Unknown.is at c.in_ok-signature.ensures in

@@ -1,5 +1,5 @@
 use Rattle.jt_bind.specs.internal.{ℕ, Expr, List, String, Arguments, ◌+◌, ◌*◌, drop, max, most, exprs_view, pairs_view}
-use Rattle.jt_bind.specs.internal.{size-Expr, Constant, SRow, values, RowLeads, row_in, asides_in, entries_in}
+use Rattle.jt_bind.specs.internal.{size-Expr, Constant, SRow, values, RowLeads, row_of, asides_of, entries_of}
 use Rattle.jt_bind.proofs.{Global}
 use Rattle.jt_bind.proofs.resolver.Resolver.+expressions.Given as goal
 
@@ -83,18 +83,18 @@ decreases-resolve_cycle l = 6 * row_size l.row.now + 3
 
 abbrev pub invariant-resolve_row-loop-expr : goal.invariant-resolve_row-loop-expr
 invariant-resolve_row-loop-expr l =
-    (left : SRow Constant) → RowLeads (row_in l.self.tables.now (exprs_view l.row) l.self.senv left)
-    (row_in l.self.tables.now (exprs_view (drop l.expr-index l.row)) l.self.senv left)
+    (left : SRow Constant) → RowLeads (row_of l.self (exprs_view l.row) left)
+    (row_of l.self (exprs_view (drop l.expr-index l.row)) left)
     l.initial.done.items l.done.items (values l.initial.pool) (values l.pool)
 
 abbrev pub invariant-resolve_asides-loop-value : goal.invariant-resolve_asides-loop-value
 invariant-resolve_asides-loop-value l =
-    (left : SRow Constant) → RowLeads (asides_in l.self.tables.now (pairs_view l.pairs) l.self.senv left)
-    (asides_in l.self.tables.now (pairs_view (drop l.value-index l.pairs)) l.senv left)
+    (left : SRow Constant) → RowLeads (asides_of l.self (pairs_view l.pairs) left)
+    (asides_of (record l.self { senv = l.senv }) (pairs_view (drop l.value-index l.pairs)) left)
     l.initial.done.items l.done.items (values l.initial.pool) (values l.pool)
 
 abbrev pub invariant-resolve_entries-loop-key : goal.invariant-resolve_entries-loop-key
 invariant-resolve_entries-loop-key l =
-    RowLeads (entries_in l.self.tables.now (pairs_view l.pairs) l.self.senv)
-    (entries_in l.self.tables.now (pairs_view (drop l.key-index l.pairs)) l.self.senv)
+    RowLeads (entries_of l.self (pairs_view l.pairs))
+    (entries_of l.self (pairs_view (drop l.key-index l.pairs)))
     l.initial.done.items l.done.items (values l.initial.pool) (values l.pool)

@@ -1,12 +1,12 @@
-use Rattle.jt_ast.proofs.StatementViews.{view_Data, view_Set, view_SetBlock, view_Autoescape, view_Include, view_Block}
+use Rattle.jt_ast.proofs.StatementViews.{view_Autoescape, view_Block, view_Data, view_Include, view_Set, view_SetBlock}
 use Rattle.jt_ir.specs.Slots as slots
-use Rattle.jt_bind.specs.internal.{filters_in, alone, ◌+◌, drop, pairs_view, filter_calls_view, body_view, place_view}
-use Rattle.jt_bind.specs.internal.{followed, bound_all, copied, place, texts, values, senv_in, templates_in, line_in}
-use Rattle.jt_bind.specs.internal.{body_in, scoped_in, values_in}
+use Rattle.jt_bind.specs.internal.{alone, ◌+◌, drop, pairs_view, filter_calls_view, body_view, place_view, followed}
+use Rattle.jt_bind.specs.internal.{copied, texts, values, templates_of, senv_of, table_of, line_of, body_of, scoped_of}
+use Rattle.jt_bind.specs.internal.{values_of, filters_of, bound_all}
 use Rattle.jt_bind.proofs.{drop_all, ap, ◌∙◌, arith, IfOk-weaker, lead_both, emits_of, emits_both, place_is}
 use Rattle.jt_bind.proofs.{followed_again, choice_same, branch_lead, choice_emitted, capture_emitted, print_emitted}
-use Rattle.jt_bind.proofs.{assign_emitted, loop_emitted, statements_left, branches_left, filter_shown, values_emitted}
-use Rattle.jt_bind.proofs.{scope_emitted, turns_as}
+use Rattle.jt_bind.proofs.{assign_emitted, loop_emitted, statements_left, branches_left, freed, filter_shown}
+use Rattle.jt_bind.proofs.{values_emitted, scope_emitted, turns_as}
 use Rattle.jt_bind.proofs.resolver.Resolver.+statements.Goals as goal
 
 -- ---- bodies
@@ -14,14 +14,13 @@ use Rattle.jt_bind.proofs.resolver.Resolver.+statements.Goals as goal
 pub resolve_body-loop-statement-preserved : goal.resolve_body-loop-statement-preserved
 resolve_body-loop-statement-preserved t c = λ left.
     let l = c.loop-statement in
-    let scope = c.args.self.now.tables.now in
+    let r = c.args.self.now in
     let ss = c.args.body.now in
-    let rest = body_in scope (body_view (drop (l.statement-index + 1) ss)) c.args.self.now.senv in
-    lead_both (templates_in scope) _ _ _ _ _ _ _ _ _ (rw (
+    lead_both (templates_of r) _ _ _ _ _ _ _ _ _ (rw (
       statements_left ss l.statement-index c.statement-item.result c.loop-statement-test.true c.statement-item.is,
       followed_again,
     ) at (l.invariant left))
-    (c.in_ok-resolve_statement.ensures (followed rest left))
+    (c.in_ok-resolve_statement.ensures (followed (body_of r (body_view (drop (l.statement-index + 1) ss))) left))
 
 pub resolve_body-returns : goal.resolve_body-returns
 resolve_body-returns t c = λ left.
@@ -35,43 +34,41 @@ resolve_whole-returns t c =
 
 pub resolve_scoped-returns : goal.resolve_scoped-returns
 resolve_scoped-returns t c =
-    let scope = c.args.self.now.tables.now in
+    let r = c.args.self.now in
     let b = body_view c.args.body.now in
-    let sp = senv_in scope c.args.self.now.senv in
     let same = ap texts c.deref.ensures.value ∙ c.in_ok-names.ensures in
-    IfOk-weaker c.resolve_body.result _ _ (λ u h. scope_emitted scope b sp c.inside.result _ _ _ _ _
-    (c.inside.ensures _ scope c.in_ok-inner.ensures ∙ ap (λ xs. bound_all xs sp) c.in_ok-names.ensures)
-    (emits_of (templates_in scope) _ _ _ _ _ _ (ap (λ xs. copied (place sp 1) sp.table sp.free xs slots.end) same)
+    IfOk-weaker c.resolve_body.result _ _ (λ u h. scope_emitted r b c.inside.result _ _ _ _ _
+    (c.inside.ensures _ r.tables.now c.in_ok-inner.ensures ∙ ap (λ xs. bound_all xs (senv_of r)) c.in_ok-names.ensures)
+    (emits_of (templates_of r) _ _ _ _ _ _
+    (ap (λ xs. copied (line_of r 1) (table_of r) r.senv.free xs slots.end) same)
     (c.in_ok-put_copies.ensures (values c.args.pool.now))) h)
     c.resolve_body.ensures
 
 pub resolve_within-returns : goal.resolve_within-returns
 resolve_within-returns t c =
-    let scope = c.args.self.now.tables.now in
+    let r = c.args.self.now in
     IfOk-weaker c.resolve_scoped.result _ _
-    (λ u h. emits_of (templates_in scope) _ _ _ _ _ _
-    (ap (scoped_in scope (body_view c.args.body.now)) (c.inside.ensures _ scope c.in_ok-inner.ensures)) h)
+    (λ u h. emits_of (templates_of r) _ _ _ _ _ _
+    (ap (scoped_of r (body_view c.args.body.now)) (c.inside.ensures _ r.tables.now c.in_ok-inner.ensures)) h)
     c.resolve_scoped.ensures
 
 -- ---- parts of statements
 
 pub resolve_branch-returns : goal.resolve_branch-returns
 resolve_branch-returns t c =
-    let scope = c.args.self.now.tables.now in
+    let r = c.args.self.now in
     record {
       between = values c.resolve_expression.new.pool;
-      stands =
-          ap (place_view (templates_in scope)) c.place.ensures
-          ∙ place_is scope c.args.self.now.senv c.args.branch.now.line;
+      stands = ap (place_view (templates_of r)) c.place.ensures ∙ place_is r c.args.branch.now.line;
       asked = c.in_ok-asked.ensures;
       taken =
-          emits_of (templates_in scope) _ _ _ _ _ _
-          (ap (λ z. body_in scope (body_view z) c.args.self.now.senv) c.deref.ensures.value) c.in_ok-taken.ensures;
+          emits_of (templates_of r) _ _ _ _ _ _ (ap (λ z. body_of r (body_view z)) c.deref.ensures.value)
+          c.in_ok-taken.ensures;
     }
 
 pub resolve_branches-loop-branch-init : goal.resolve_branches-loop-branch-init
 resolve_branches-loop-branch-init t c =
-    λ other. choice_same (templates_in c.args.self.now.tables.now) _ _ _ c.in_ok-with_capacity.ensures.items
+    λ other. choice_same (templates_of c.args.self.now) _ _ _ c.in_ok-with_capacity.ensures.items
 
 pub resolve_branches-loop-branch-preserved : goal.resolve_branches-loop-branch-preserved
 resolve_branches-loop-branch-preserved t c = λ other.
@@ -79,63 +76,60 @@ resolve_branches-loop-branch-preserved t c = λ other.
     let bs = c.args.branches.now in
     let here = rw (branches_left bs l.branch-index c.branch-item.result c.loop-branch-test.true c.branch-item.is) at
     (l.invariant other) in
-    branch_lead (templates_in c.args.self.now.tables.now) _ _ _ _ _ _ _ _ _ _ _ here c.in_ok-resolve_branch.ensures
+    branch_lead (templates_of c.args.self.now) _ _ _ _ _ _ _ _ _ _ _ here c.in_ok-resolve_branch.ensures
     c.in_ok-put_branch.ensures
 
 pub resolve_branches-returns : goal.resolve_branches-returns
 resolve_branches-returns t c =
     let l = c.loop-branch in
-    let scope = c.args.self.now.tables.now in
+    let r = c.args.self.now in
     let all = rw (drop_all l.branch-index c.args.branches.now (omega arith), ← c.into_part.ensures) at
-    (l.invariant (body_in scope (body_view c.args.other.now) c.args.self.now.senv)) in
+    (l.invariant (body_of r (body_view c.args.other.now))) in
     IfOk-weaker c.put_choice.result _ _
-    (λ u h. choice_emitted (templates_in scope) _ _ _ _ _ _ _ _ _ all c.in_ok-last.ensures h) c.put_choice.ensures
+    (λ u h. choice_emitted (templates_of r) _ _ _ _ _ _ _ _ _ all c.in_ok-last.ensures h) c.put_choice.ensures
 
 pub resolve_for-returns : goal.resolve_for-returns
 resolve_for-returns t c =
     IfOk-weaker c.put_loop.result _ _
-    (λ u h. loop_emitted c.args.self.now.tables.now c.args.self.now.senv c.args.tag.line _ _ _ _ _ _ _ _ _ _ _ _
-    c.in_ok-turns.ensures c.in_ok-last.ensures h)
+    (λ u h. loop_emitted c.args.self.now c.args.tag.line _ _ _ _ _ _ _ _ _ _ _ _ c.in_ok-turns.ensures
+    c.in_ok-last.ensures h)
     c.put_loop.ensures
 
 pub resolve_turns-returns : goal.resolve_turns-returns
 resolve_turns-returns t c =
-    let scope = c.args.self.now.tables.now in
-    let sp = senv_in scope c.args.self.now.senv in
-    turns_as scope (body_view c.args.body.now) _ _ _ _ _ _ _ _ _
-    (c.inside.ensures _ scope c.in_ok-inner.ensures ∙ ap (λ xs. bound_all xs sp) c.in_ok-names_of.ensures)
+    let r = c.args.self.now in
+    turns_as r (body_view c.args.body.now) _ _ _ _ _ _ _ _ _
+    (c.inside.ensures _ r.tables.now c.in_ok-inner.ensures
+    ∙ ap (λ xs. bound_all xs (senv_of r)) c.in_ok-names_of.ensures)
     c.in_ok-head.ensures
     (rw c.new.ensures.items at c.in_ok-resolve_scoped.ensures)
 
 pub resolve_with-returns : goal.resolve_with-returns
 resolve_with-returns t c =
-    let scope = c.args.self.now.tables.now in
-    let senv = c.args.self.now.senv in
+    let r = c.args.self.now in
     let qs = pairs_view c.args.pairs.now in
-    let b = body_view c.args.body.now in
     IfOk-weaker c.resolve_within.result _ _ (λ u h.
-    emits_of (templates_in scope) _ _ _ _ _ _ (ap
-    (λ w. values_in scope qs senv c.args.line (scoped_in scope b (bound_all w (senv_in scope senv))))
+    emits_of (templates_of r) _ _ _ _ _ _ (ap
+    (λ w. values_of r qs c.args.line (scoped_of r (body_view c.args.body.now) (bound_all w (senv_of r))))
     c.in_ok-keyword_names.ensures)
-    (values_emitted scope senv qs c.args.line _ _ _ _ _ _ _ c.in_ok-resolve_values.ensures h)) c.resolve_within.ensures
+    (values_emitted r qs c.args.line _ _ _ _ _ _ _ c.in_ok-resolve_values.ensures h)) c.resolve_within.ensures
 
 pub resolve_filter_block-returns : goal.resolve_filter_block-returns
 resolve_filter_block-returns t c =
-    let scope = c.args.self.now.tables.now in
-    let senv = c.args.self.now.senv in
-    let T = templates_in scope in
+    let r = c.args.self.now in
+    let T = templates_of r in
     let line = c.args.line in
     let fs = filter_calls_view c.args.filters.now in
     let b = body_view c.args.body.now in
-    let free = c.in_ok-inside.field-0 in
-    let inside = senv_in scope (record senv { free = free }) in
-    let first = alone (slots.capture senv.escaping (slots.local senv.free) (scoped_in scope b inside)) in
-    let second = alone (slots.print (line_in scope senv line) senv.escaping
-    (filters_in scope fs (record senv { free = free }) (slots.variable (slots.local senv.free)))) in
+    let kept = slots.local r.senv.free in
+    let i = freed r c.in_ok-inside.field-0 in
+    let first = alone (slots.capture r.senv.escaping kept (scoped_of r b (senv_of i))) in
+    let second = alone (slots.print (line_of r line) r.senv.escaping (filters_of i fs (slots.variable kept))) in
     IfOk-weaker c.put_filtered.result _ _
-    (λ u h. emits_of T (followed first second) _ _ _ _ _ (filter_shown scope senv line fs b free c.in_ok-inside.ensures)
+    (λ u h. emits_of T (followed first second) _ _ _ _ _
+    (filter_shown r line fs b c.in_ok-inside.field-0 c.in_ok-inside.ensures)
     (emits_both T first second _ _ _ _ _ _ c.in_ok-resolve_text.ensures
-    (print_emitted scope senv line _ _ _ _ _ _ c.in_ok-shown.ensures h)))
+    (print_emitted r line _ _ _ _ _ _ c.in_ok-shown.ensures h)))
     c.put_filtered.ensures
 
 pub resolve_text-returns : goal.resolve_text-returns
@@ -153,7 +147,7 @@ resolve_escaping-returns t c =
 pub resolve_statement-returns-in-Data : goal.resolve_statement-returns-in-Data
 resolve_statement-returns-in-Data t c =
     rw (c.in-Data.is, view_Data, ← c.deref.ensures)
-    (IfOk-weaker c.put_data.result _ _ (λ u h. h (templates_in c.args.self.now.tables.now)) c.put_data.ensures)
+    (IfOk-weaker c.put_data.result _ _ (λ u h. h (templates_of c.args.self.now)) c.put_data.ensures)
 
 pub resolve_statement-returns-in-Autoescape : goal.resolve_statement-returns-in-Autoescape
 resolve_statement-returns-in-Autoescape t c =
@@ -173,14 +167,12 @@ resolve_statement-returns-in-Block t c =
 
 -- ---- statements that set names
 
-pub resolve_if_set-returns-in_ok-targets-in-Set : goal.resolve_if_set-returns-in_ok-targets-in-Set
-resolve_if_set-returns-in_ok-targets-in-Set t c =
-    let scope = c.args.self.now.tables.now in
-    let senv = c.args.self.now.senv in
+pub resolve_if_set-returns-in_ok-given-in-Set : goal.resolve_if_set-returns-in_ok-given-in-Set
+resolve_if_set-returns-in_ok-given-in-Set t c =
     let v = c.in-Set in
     rw (v.is, view_Set, ← c.deref.ensures.value) (IfOk-weaker c.put_assign.result _ _
     (λ u h. rw (← c.in_ok-targets-in-Set.ensures)
-    (assign_emitted scope senv v.line _ _ _ _ _ _ _ c.in_ok-given-in-Set.ensures h)) c.put_assign.ensures)
+    (assign_emitted c.args.self.now v.line _ _ _ _ _ _ _ c.in_ok-given-in-Set.ensures h)) c.put_assign.ensures)
 
 pub resolve_if_set-returns-in-SetBlock : goal.resolve_if_set-returns-in-SetBlock
 resolve_if_set-returns-in-SetBlock t c =

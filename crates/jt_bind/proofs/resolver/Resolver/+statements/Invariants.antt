@@ -1,6 +1,6 @@
 use Rattle.jt_bind.specs.internal.{ℕ, List, Stmt, size-Stmt, ◌+◌, ◌*◌, max, drop, most, followed, body_view}
-use Rattle.jt_bind.specs.internal.{branches_view, Constant, SBody, values, BodyLeads, templates_in, ChoiceLeads}
-use Rattle.jt_bind.specs.internal.{body_in, choice_in}
+use Rattle.jt_bind.specs.internal.{branches_view, Constant, SBody, values, BodyLeads, templates_of, ChoiceLeads}
+use Rattle.jt_bind.specs.internal.{body_of, choice_of}
 use Rattle.jt_bind.proofs.{Branch}
 use Rattle.jt_bind.proofs.resolver.Resolver.+statements.Given as goal
 
@@ -58,14 +58,12 @@ decreases-resolve_branches l =
 
 abbrev pub invariant-resolve_body-loop-statement : goal.invariant-resolve_body-loop-statement
 invariant-resolve_body-loop-statement l =
-    (left : SBody Constant) → BodyLeads (templates_in l.self.tables.now)
-    (followed (body_in l.self.tables.now (body_view l.body) l.self.senv) left)
-    (followed (body_in l.self.tables.now (body_view (drop l.statement-index l.body)) l.self.senv) left)
-    l.initial.done.items l.done.items (values l.initial.pool) (values l.pool)
+    (left : SBody Constant) → BodyLeads (templates_of l.self) (followed (body_of l.self (body_view l.body)) left)
+    (followed (body_of l.self (body_view (drop l.statement-index l.body))) left) l.initial.done.items l.done.items
+    (values l.initial.pool) (values l.pool)
 
 abbrev pub invariant-resolve_branches-loop-branch : goal.invariant-resolve_branches-loop-branch
 invariant-resolve_branches-loop-branch l =
-    (other : SBody Constant) → ChoiceLeads (templates_in l.self.tables.now)
-    (choice_in l.self.tables.now (branches_view l.branches) l.self.senv other)
-    (choice_in l.self.tables.now (branches_view (drop l.branch-index l.branches)) l.self.senv other)
-    l.made.part.items (values l.initial.pool) (values l.pool)
+    (other : SBody Constant) → ChoiceLeads (templates_of l.self) (choice_of l.self (branches_view l.branches) other)
+    (choice_of l.self (branches_view (drop l.branch-index l.branches)) other) l.made.part.items
+    (values l.initial.pool) (values l.pool)

@@ -7,7 +7,7 @@ pub returns : goal.returns
 returns c = search (arith, rules, body_called, invoked_placed, view_Invoke)
 
 pub returns-in_default : goal.returns-in_default
-returns-in_default c = λ row asides n ks p.
+returns-in_default c = λ p.
     let s = c.args.self.now.tables.now in
     let es =
     resolve.reads (globals_in s) (parameters_in s c.args.name.now) in

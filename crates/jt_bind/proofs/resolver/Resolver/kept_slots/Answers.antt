@@ -1,6 +1,6 @@
 use Rattle.jt_ir.specs.declared.program.Slot as code_slot
 use Rattle.jt_bind.specs.internal.{is_some, reverse, ◌≡◌, ℕ, ◌+◌, ◌-◌, ◌<◌, ◌≤◌, ◌||◌, List, [], ◌∷◌, ◌++◌, map, drop}
-use Rattle.jt_bind.specs.internal.{length, get_or, option_map, kept_slots, senv_in, names_view, slot_view, slot_in}
+use Rattle.jt_bind.specs.internal.{length, get_or, option_map, kept_slots, table_of, names_view, slot_view, slot_in}
 use Rattle.jt_bind.specs.internal.{Text, Table, among, value_in, Bool, true, false, Option, Some, None, if◌then◌else◌}
 use Rattle.jt_bind.specs.internal.{String, string_bytes, refl, bytes_eq}
 use Rattle.jt_bind.proofs.{reverse-append, arith, sym, ap, ◌∙◌, names_left, Global}
@@ -38,7 +38,7 @@ loop-left-preserved c =
     let within : l.left ≤ length ks = l.invariant.within in
     let lt : i < length ks = omega arith in
     let next : l.left ≡ i + 1 = omega arith in
-    let t = (senv_in c.args.self.now.tables.now c.args.self.now.senv).table in
+    let t = table_of c.args.self.now in
     record {
       within = omega arith;
       kept =

@@ -1,4 +1,4 @@
-use Rattle.jt_bind.specs.internal.{is_some, reverse, ◌≡◌, ◌≤◌, map, drop, length, option_map, kept_slots, senv_in}
+use Rattle.jt_bind.specs.internal.{is_some, reverse, ◌≡◌, ◌≤◌, map, drop, length, option_map, kept_slots, table_of}
 use Rattle.jt_bind.specs.internal.{names_view, slot_view, Text, among, value_in}
 use Rattle.jt_bind.proofs.resolver.Resolver.kept_slots.Given as goal
 
@@ -6,7 +6,7 @@ abbrev pub invariant-loop-left : goal.invariant-loop-left
 invariant-loop-left l = record {
   within : l.left ≤ length l.names;
   kept : map (option_map slot_view) (reverse l.slots.items)
-      ≡ kept_slots (senv_in l.self.tables.now l.self.senv).table (names_view (drop l.left l.names));
+      ≡ kept_slots (table_of l.self) (names_view (drop l.left l.names));
   seen : (x : Text) → is_some (value_in l.after.indices x) ≡ among x (names_view (drop l.left l.names));
 }
 

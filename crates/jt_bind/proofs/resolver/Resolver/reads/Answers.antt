@@ -1,5 +1,5 @@
 use Rattle.jt_semantics.specs.Resolve as resolve
-use Rattle.jt_bind.specs.internal.{◌+◌, drop, option_map, texts, slot_view, read_from, senv_in}
+use Rattle.jt_bind.specs.internal.{◌+◌, drop, option_map, texts, slot_view, read_from, table_of}
 use Rattle.jt_bind.proofs.{drop_all, arith, reads_next, of_whole, row_both, row_item}
 use Rattle.jt_bind.proofs.resolver.Resolver.reads.Goals as goal
 
@@ -10,7 +10,7 @@ pub loop-name-preserved : goal.loop-name-preserved
 loop-name-preserved c = λ p.
     let l = c.loop-name in
     let ks = c.args.names.now in
-    let table = (senv_in c.args.self.now.tables.now c.args.self.now.senv).table in
+    let table = table_of c.args.self.now in
     row_both _ _ _ _ _ _ _ _ _ (l.invariant p)
     (of_whole _ _ _ _ _ _ _ (reads_next table ks l.name-index _ c.slot.result c.loop-name-test.true c.slot.ensures)
     (row_item (read_from (option_map slot_view c.slot.result))

@@ -1,9 +1,9 @@
-use Rattle.jt_bind.specs.internal.{filters_in, take, filter_calls_view, variable, slot_view, filtered_view, values}
+use Rattle.jt_bind.specs.internal.{filters_of, take, filter_calls_view, variable, slot_view, filtered_view, values}
 use Rattle.jt_bind.specs.internal.{IsPlaced}
 use Rattle.jt_bind.proofs.resolver.Resolver.resolve_filter_calls.Given as goal
 
 abbrev pub invariant-loop-filter_call : goal.invariant-loop-filter_call
 invariant-loop-filter_call l =
-    IsPlaced (filters_in l.self.tables.now (filter_calls_view (take l.filter_call-index l.filter_calls)) l.self.senv
+    IsPlaced (filters_of l.self (filter_calls_view (take l.filter_call-index l.filter_calls))
     (variable (slot_view l.fn.value)))
     (filtered_view l.resolved) (values l.initial.pool) (values l.pool)

@@ -1,5 +1,5 @@
-use Rattle.jt_bind.specs.internal.{◌+◌, drop, pairs_view, templates_in, values_in}
-use Rattle.jt_bind.proofs.{drop_all, ◌∙◌, arith, add-one, lead_both, assign_emitted, values_followed, pairs_left}
+use Rattle.jt_bind.specs.internal.{◌+◌, drop, pairs_view, Resolver, templates_of, values_of}
+use Rattle.jt_bind.proofs.{drop_all, ◌∙◌, arith, add-one, lead_both, assign_emitted, values_followed, pairs_left, freed}
 use Rattle.jt_bind.proofs.resolver.Resolver.resolve_values.Goals as goal
 
 pub returns : goal.returns
@@ -10,12 +10,11 @@ returns c = λ left.
 pub loop-value-preserved : goal.loop-value-preserved
 loop-value-preserved c = λ behind.
     let l = c.loop-value in
-    let scope = c.args.self.now.tables.now in
+    let r : Resolver = record c.args.self.now { senv = l.senv } in
     let ps = c.args.pairs.now in
-    let rest = pairs_view (drop (l.value-index + 1) ps) in
-    lead_both (templates_in scope) _ _ _ _ _ _ _ _ _ (rw (
+    lead_both (templates_of r) _ _ _ _ _ _ _ _ _ (rw (
       pairs_left ps l.value-index c.loop-value-item.result c.loop-value-test.true c.loop-value-item.is,
       ← (c.in_ok-senv.ensures ∙ add-one l.senv.free),
     ) at (l.invariant behind))
-    (assign_emitted scope l.senv c.args.line _ _ _ _ _ _ _ c.in_ok-given.ensures c.in_ok-put_assign.ensures
-    (values_in scope rest (record l.senv { free = c.in_ok-senv.field-0 }) c.args.line behind))
+    (assign_emitted r c.args.line _ _ _ _ _ _ _ c.in_ok-given.ensures c.in_ok-put_assign.ensures
+    (values_of (freed r c.in_ok-senv.field-0) (pairs_view (drop (l.value-index + 1) ps)) c.args.line behind))

@@ -27,9 +27,7 @@ module _ (s : Chains) (here : NamespaceLayout) (i : ℕ) (body : Block) (n : Opt
 
   -- The body at the index, and the bodies after it.
   left : drop i (numbered_in s) ≡ (i, block_view (files_in s) body) ∷ rest
-  left =
-      numbered_next s here.known.now.blocks.items laid.all_blocks i body lt
-      ∙ ap (λ (b : Block). (i, block_view (files_in s) b) ∷ rest) (sym is)
+  left = numbered_next s here.known.now.blocks.items laid.all_blocks i body lt is
 
   -- The next body of its block.
   next_is : n ≡ next_given (filter (λ (z : ℕ × BlockBody). bytes_eq z.1.name body.name.now) rest)

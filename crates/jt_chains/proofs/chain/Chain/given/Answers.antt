@@ -1,9 +1,7 @@
-use Rattle.jt_chains.proofs.Vocabulary.{ℕ, List, ◌++◌, refl, sym, ap, ◌∙◌, at_drop_all, append-nil, own, imports}
-use Rattle.jt_chains.proofs.Vocabulary.{names_view, macros_view}
-use Rattle.jt_chains.specs.View.{imports_along, its_templates, namespace_in, its_sources}
-use Rattle.jt_chains.specs.declared.parts.Macro.{Macro}
-use Rattle.jt_chains.proofs.TemplatesByIndex.{imports_from}
 use Rattle.jt_chains.proofs.chain.Chain.given.Goals as goal
+use Rattle.jt_chains.specs.declared.parts.Macro.{Macro}
+use Rattle.jt_chains.proofs.{imports_along, its_templates, namespace_in, its_sources, ℕ, List, ◌++◌, refl, sym, ap, ◌∙◌}
+use Rattle.jt_chains.proofs.{at_drop_all, append-nil, own, imports, names_view, macros_view, imports_from}
 
 pub returns-clause-there : goal.returns-clause-there
 returns-clause-there c = λ there.

@@ -1,6 +1,5 @@
-use Rattle.jt_chains.proofs.Vocabulary.{◌≡◌, ◌++◌, drop, own, names_view, macros_view}
-use Rattle.jt_chains.specs.View.{imports_along, its_templates, namespace_in}
 use Rattle.jt_chains.proofs.chain.Chain.given.Given as goal
+use Rattle.jt_chains.proofs.{imports_along, its_templates, namespace_in, ◌≡◌, ◌++◌, drop, own, names_view, macros_view}
 
 abbrev pub invariant-loop-one : goal.invariant-loop-one
 invariant-loop-one l =

@@ -1,7 +1,7 @@
-use Rattle.jt_chains.proofs.Vocabulary.{◌≡◌, List, [], ◌∷◌, string_bytes, refl, ap, ◌∙◌, Option, Some, None, body_of}
-use Rattle.jt_chains.proofs.Vocabulary.{Template, option_map, macro_view}
-use Rattle.std.specs.Option.{is_some}
 use Rattle.jt_chains.proofs.files.TemplateFile.gives.Goals as goal
+use Rattle.std.specs.Option.{is_some}
+use Rattle.jt_chains.proofs.{◌≡◌, List, [], ◌∷◌, string_bytes, refl, ap, ◌∙◌, Option, Some, None, body_of, Template}
+use Rattle.jt_chains.proofs.{option_map, macro_view}
 
 some_mapped : {X Y : Type 0} (f : X → Y) (o : Option X) → is_some o ≡ is_some (option_map f o)
 some_mapped f None = refl

@@ -1,7 +1,6 @@
-use Rattle.jt_chains.proofs.Vocabulary.{None, Some, refl, ap, ◌∙◌, ◌≡◌, arith, rules, option_map, slice_get, name_at}
-use Rattle.jt_chains.proofs.Vocabulary.{macro_view, slice_get_past, slice_get_read}
-use Rattle.jt_chains.proofs.LibraryMacros.{offered}
 use Rattle.jt_chains.proofs.files.TemplateFile.public_macro.Goals as goal
+use Rattle.jt_chains.proofs.{slice_get_past, slice_get_read, None, Some, refl, ap, ◌∙◌, ◌≡◌, arith, rules, option_map}
+use Rattle.jt_chains.proofs.{slice_get, name_at, macro_view, offered}
 
 pub returns-in_err-statement : goal.returns-in_err-statement
 returns-in_err-statement c = λ ts.

@@ -1,7 +1,5 @@
-use Rattle.std.proofs.Common.{◌≡◌, ◌+◌, ◌<◌, Option, Some, option_map, sym, ap, subst, ◌∙◌, arith}
-use Rattle.std.specs.Prelude.{slice_get}
+use Rattle.std.proofs.Common.{◌≡◌, Option, Some, option_map, sym, ◌∙◌, arith}
 use Rattle.std.specs.Option.{option_and_then}
-use Rattle.jt_image.specs.Code.{Code}
 use Rattle.jt_image.specs.View.{loc_view}
 use Rattle.jt_image.specs.Places.{place_of}
 use Rattle.jt_image.specs.Readers.{place_there}

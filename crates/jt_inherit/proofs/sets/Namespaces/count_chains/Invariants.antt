@@ -1,5 +1,4 @@
-use Rattle.std.proofs.Common.{◌≡◌, ◌+◌, ◌≤◌, length, drop}
-use Rattle.jt_inherit.proofs.Vocabulary.{chains_of, keys_view}
+use Rattle.jt_inherit.proofs.Vocabulary.{◌≡◌, ◌+◌, ◌≤◌, length, drop, chains_of, keys_view}
 use Rattle.jt_inherit.proofs.sets.Namespaces.count_chains.Given as goal
 
 abbrev pub invariant-loop-namespace : goal.invariant-loop-namespace

@@ -1,5 +1,4 @@
-use Rattle.std.proofs.Common.{◌∙◌, ap, string_bytes}
-use Rattle.jt_inherit.proofs.Vocabulary.{get_by_text, key_view}
+use Rattle.jt_inherit.proofs.Vocabulary.{◌∙◌, ap, string_bytes, get_by_text, key_view}
 use Rattle.jt_inherit.proofs.NumberTables.{namespace_found}
 use Rattle.jt_inherit.proofs.sets.Namespaces.find.Goals as goal
 

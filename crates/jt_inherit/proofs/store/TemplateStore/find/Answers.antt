@@ -1,4 +1,4 @@
-use Rattle.std.proofs.Common.{◌∙◌}
+use Rattle.jt_inherit.proofs.Vocabulary.{◌∙◌}
 use Rattle.jt_inherit.proofs.NumberTables.{file_found}
 use Rattle.jt_inherit.proofs.store.TemplateStore.find.Goals as goal
 

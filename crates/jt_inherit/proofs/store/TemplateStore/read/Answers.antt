@@ -1,5 +1,3 @@
-use Rattle.std.proofs.Common.{◌≡◌, ap, ◌∙◌}
-use Rattle.jt_inherit.proofs.Vocabulary.{among, Text, names, files_view}
 use Rattle.jt_inherit.proofs.PathsGrow.{one_read, nothing_read}
 use Rattle.jt_inherit.proofs.store.TemplateStore.read.Goals as goal
 
@@ -8,11 +6,10 @@ returns-in-Some-clause-read g c = nothing_read c.requires
 
 pub add-requires : goal.add-requires
 add-requires g c =
-    ap (λ (n : Text). among n (names (files_view c.args.self.now.files.items))) c.in_ok-file.ensures.named
-    ∙ c.in_default.ensures
+    rw c.in_ok-file.ensures.named c.in_default.ensures
 
 pub returns-clause-read : goal.returns-clause-read
 returns-clause-read g c =
-    one_read c.requires (ap (λ (n : Text). among n (names (files_view c.args.self.now.files.items)))
-    c.in_ok-file.ensures.named ∙ c.in_default.ensures) c.in_ok-file.ensures.read c.in_ok-file.ensures.only
+    one_read c.requires (rw c.in_ok-file.ensures.named c.in_default.ensures) c.in_ok-file.ensures.read
+    c.in_ok-file.ensures.only
     c.in_ok-file.ensures.within c.in_ok-add.ensures.added c.in_ok-file.ensures.named

@@ -1,5 +1,5 @@
-use Rattle.jt_layout.proofs.Vocabulary.{drop, ◌≡◌, flat_map, all_inserted, texts, names_at}
 use Rattle.jt_layout.proofs.collected.CollectedNames.add_included.Given as goal
+use Rattle.jt_layout.proofs.{drop, ◌≡◌, flat_map, all_inserted, texts, names_at}
 
 abbrev pub invariant-loop-include : goal.invariant-loop-include
 invariant-loop-include l =

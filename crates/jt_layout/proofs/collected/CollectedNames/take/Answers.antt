@@ -1,5 +1,6 @@
-use Rattle.jt_layout.proofs.Vocabulary.{None, arith, rules, string_bytes, btree_map_updates_str}
 use Rattle.jt_layout.proofs.collected.CollectedNames.take.Goals as goal
+use Rattle.std.proofs.lemmas.Map.Text.{btree_map_updates_str}
+use Rattle.jt_layout.proofs.{None, arith, rules, string_bytes}
 
 pub returns-in-Some-clause-others : goal.returns-in-Some-clause-others
 returns-in-Some-clause-others c =

@@ -1,6 +1,6 @@
+use Rattle.jt_names.proofs.facts.ChainFacts.count_in_library.Goals as goal
 use Rattle.jt_chains.proofs.TemplatesByIndex.{file_at}
 use Rattle.jt_names.proofs.{arith, rules, tests, length-map, all_known, library_known, no_library, nowhere}
-use Rattle.jt_names.proofs.facts.ChainFacts.count_in_library.Goals as goal
 
 pub index-requires : goal.index-requires
 index-requires c = grind (arith, all_known, length-map, tests)

@@ -1,5 +1,5 @@
-use Rattle.jt_names.proofs.{◌≡◌, ◌+◌, ◌≤◌, length, drop, Text, texts, value_in, first_of}
 use Rattle.jt_names.proofs.index.NameIndex.of.Given as goal
+use Rattle.jt_names.proofs.{◌≡◌, ◌+◌, ◌≤◌, length, drop, Text, texts, value_in, first_of}
 
 abbrev pub invariant-loop-left : goal.invariant-loop-left
 invariant-loop-left l = record {

@@ -1,50 +1,18 @@
-use Rattle.std.proofs.Common.{map, rules, ap, ◌∙◌, ◌∷◌}
+use Rattle.std.proofs.Common.{◌≡◌, ◌∷◌, map, rules, subst, Global, Vec}
 use Rattle.std.proofs.lemmas.Result.{err_from_is_err_and}
 use Rattle.jt_scan.specs.View.{token_view}
-use Rattle.jt_ast.specs.ExpressionView.{expr_view}
-use Rattle.jt_ast.specs.StatementView.{body_view, branches_view}
-use Rattle.jt_parse.specs.internal.Gives.{open_stmts_view, open_stmt_by}
-use Rattle.jt_parse.proofs.TagSteps.{elif_over, elif_refused, elif_ok}
+use Rattle.jt_ast.specs.StatementView.{body_view}
+use Rattle.jt_ast.specs.declared.statement.Stmt.{Stmt}
+use Rattle.jt_parse.specs.internal.Gives.{Refuses, open_stmt_view, open_stmts_view}
+use Rattle.jt_parse.specs.internal.Reading.{ElifTag}
 use Rattle.jt_parse.proofs.parser.Parser.elif_tag.Goals as goal
 
-pub returns-in_err-levels : goal.returns-in_err-levels
-returns-in_err-levels c =
+pub returns-in_err-kind : goal.returns-in_err-kind
+returns-in_err-kind c =
     let p = err_from_is_err_and c.from_residual.result c.from_residual.ensures.1 in
-    let f = c.in-Some.open_stmt in
-    rw (p.1, p.2)
-    (elif_over 100 c.args.line (map token_view c.args.tokens.now) (body_view c.args.self.now.body.items)
-    (body_view f.before.items) (branches_view c.in-Branch.branches.items) c.in-Branch.first
-    (expr_view c.in-Branch.condition)
-    (open_stmts_view c.args.self.now.open_stmts.items) (open_stmts_view c.pop_open_stmt.new.open_stmts.items)
-    (c.in-Some.ensures ∙ ap
-    (λ k. open_stmt_by (body_view f.before.items) f.line k ∷ open_stmts_view c.pop_open_stmt.new.open_stmts.items)
-    c.in-Branch.is)
-    c.depth.result c.depth.ensures _ c.args.line c.in_err-levels.ensures.refused.0 c.in_err-levels.ensures.refused.1)
-
-pub returns-in_err-next : goal.returns-in_err-next
-returns-in_err-next c =
-    let p = err_from_is_err_and c.from_residual-in_err-next.result c.from_residual-in_err-next.ensures.1 in
-    let f = c.in-Some.open_stmt in
-    rw (p.1, p.2)
-    (elif_refused 100 c.args.line (map token_view c.args.tokens.now) (body_view c.args.self.now.body.items)
-    (body_view f.before.items) (branches_view c.in-Branch.branches.items) c.in-Branch.first
-    (expr_view c.in-Branch.condition)
-    (open_stmts_view c.args.self.now.open_stmts.items) (open_stmts_view c.pop_open_stmt.new.open_stmts.items)
-    (c.in-Some.ensures ∙ ap
-    (λ k. open_stmt_by (body_view f.before.items) f.line k ∷ open_stmts_view c.pop_open_stmt.new.open_stmts.items)
-    c.in-Branch.is)
-    c.depth.result c.depth.ensures _ c.in_ok-levels.levels c.in_ok-levels.ensures.left.1 c.in_ok-levels.ensures.left.0
-    c.in_err-next.ensures)
-
-pub returns : goal.returns
-returns c =
-    let f = c.in-Some.open_stmt in
-    elif_ok 100 c.args.line (map token_view c.args.tokens.now) (body_view c.args.self.now.body.items)
-    (body_view f.before.items) (branches_view c.in-Branch.branches.items) c.in-Branch.first
-    (expr_view c.in-Branch.condition)
-    (open_stmts_view c.args.self.now.open_stmts.items) (open_stmts_view c.pop_open_stmt.new.open_stmts.items)
-    (c.in-Some.ensures ∙ ap
-    (λ k. open_stmt_by (body_view f.before.items) f.line k ∷ open_stmts_view c.pop_open_stmt.new.open_stmts.items)
-    c.in-Branch.is)
-    c.depth.result c.depth.ensures c.in_ok-next.next _ c.in_ok-levels.levels c.in_ok-levels.ensures.left.1
-    c.in_ok-levels.ensures.left.0 c.in_ok-next.ensures (search rules)
+    let ts = map token_view c.args.tokens.now in
+    let e : c.replace-body.result ≡ c.args.self.now.body = search rules in
+    rw (p.1, p.2, c.in-Some.ensures)
+    (subst (λ (b : Vec Stmt Global). Refuses (ElifTag 100 c.args.line ts (body_view b.items)
+    (open_stmt_view c.in-Some.field-0 ∷ open_stmts_view c.pop_open_stmt.new.open_stmts.items)) c.in_err-kind.field-0.0)
+    e (c.in_err-kind.ensures _ _ 100 ts _ c.expression-condition.ensures))

@@ -1,7 +1,0 @@
-use Rattle.std.proofs.Common.{arith, rules}
-use Rattle.jt_inherit.proofs.Vocabulary.{append_assoc}
-use Rattle.jt_inherit.proofs.TagPlaces.{call_found}
-use Rattle.jt_inherit.proofs.bodies.last_call.Goals as goal
-
-pub returns-in-Some-super_line : goal.returns-in-Some-super_line
-returns-in-Some-super_line c = search (arith, rules, call_found, append_assoc)

@@ -1,0 +1,11 @@
+use Rattle.jt_inherit.proofs.Vocabulary.{◌≡◌, ◌++◌, true, List, length, AllByRecursion, is_required, tag_view, FoundTag}
+use Rattle.jt_inherit.proofs.breaking.last_call.Given as goal
+
+abbrev pub decreases-loop-block : goal.decreases-loop-block
+decreases-loop-block l = length l.blocks.items
+
+abbrev pub invariant-loop-block : goal.invariant-loop-block
+invariant-loop-block l =
+    (behind : List FoundTag)
+    × (l.initial.blocks.items ≡ l.blocks.items ++ behind)
+    × AllByRecursion (λ t. is_required (tag_view t).1.made ≡ true) behind

@@ -1,0 +1,30 @@
+use Rattle.jt_inherit.proofs.Vocabulary as words
+use words.{ℕ, List, refl, sym, ap, subst, ◌∙◌, Text, Site, its_templates, IsLastCall, tag_view}
+use Rattle.jt_inherit.proofs.breaking.no_super.Goals as goal
+
+pub returns : goal.returns
+returns c =
+    let ts = its_templates c.args.store.now c.args.indices.now in
+    let call = c.in-Some.call in
+    let tag = tag_view call.block in
+    let found = subst (λ (l : List (Text × Site)). IsLastCall l tag call.line) c.in_ok-named.ensures
+    c.in-Some.ensures in
+    let at = c.in_ok-place.ensures in
+    let begun = c.in_ok-opened.ensures in (
+      refl,
+      (
+        refl,
+        rw c.in_ok-block.ensures.ok (record {
+          number = found.number;
+          tag = tag;
+          there = found.there;
+          calls = (
+            ap (λ (q : Text × ℕ). q.0) begun,
+            ap (λ (q : Text × ℕ). q.1) begun,
+            rw (ap (λ (q : Text × ℕ). q.1) at) found.calls,
+          );
+          template = ap (λ (q : Text × ℕ). q.0) at ∙ sym (ap (λ (q : Text × ℕ). q.0) begun);
+          last = found.last;
+        }),
+      ),
+    )

@@ -1,0 +1,28 @@
+use Rattle.jt_inherit.proofs.Vocabulary as words
+use words.{◌≡◌, refl, sym, ap, ◌∙◌, graph_of, AreIndices, namespace_at, leads_to, found_namespaces, found_templates}
+use words.{test_of}
+use Rattle.jt_inherit.proofs.ChainComplete.{at_number, way_at}
+use Rattle.jt_inherit.proofs.discovery.leading_tag.Goals as goal
+
+pub first_at-requires : goal.first_at-requires
+first_at-requires c =
+    let f = c.args.found.now in
+    let is = c.deref.result.now in
+    let here = way_at f.extends_paths.items f.extends_paths.items c.args.from c.index.result.now is refl
+    c.requires.from c.index.ensures c.deref.ensures.value in
+    rw (← here.1)
+    (at_number (AreIndices (found_templates f)) (graph_of f.extends_paths.items) c.args.from here.0 c.requires.indices)
+
+pub returns : goal.returns
+returns c =
+    let f = c.args.found.now in
+    let is = c.deref.result.now in
+    let ways = graph_of f.extends_paths.items in
+    let here = way_at f.extends_paths.items f.extends_paths.items c.args.from c.index.result.now is refl
+    c.requires.from c.index.ensures c.deref.ensures.value in
+    let test = test_of c.wanted_for-wanted.result in
+    let wanted : test ≡ leads_to (namespace_at (found_namespaces f) c.args.to) =
+    c.wanted_for-wanted.ensures
+    ∙ ap leads_to (sym (rw c.get.ensures)) in
+    let r = c.first_at.result in
+    rw (← wanted) (rw here.1 c.first_at.ensures)
