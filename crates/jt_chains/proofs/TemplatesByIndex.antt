@@ -17,7 +17,7 @@ use Vocabulary.{its_sources, namespace_in, ◌≡◌, ℕ, suc, ◌+◌, ◌<◌
 use Vocabulary.{drop, get_or, refl, ap, ◌∙◌, arith, Option, Some, rules, tests, zero, append_assoc, imports}
 use Vocabulary.{libraries_in, Template, sources_in, slice_get, flat_map, unwrap_or, option_map, length-map}
 use Vocabulary.{drop_more, bytes_eq-Decides, Text, body_of, body_at, along, layers_along}
-use Vocabulary.{AreIndices, includes_in, include_need, includes_along, file_view, files_view, name_at, namespace_at}
+use Vocabulary.{AreIndices, file_view, files_view, name_at, namespace_at}
 
 pub number_at : (P : ℕ → Type 0) (xs : List ℕ) (i : ℕ) → i < length xs → AllByRecursion P xs → P (get_or xs i 0)
 number_at P [] i lt a = absurd (omega arith)
@@ -153,10 +153,6 @@ module _ (ps qs : List TemplateFile) (is : List ℕ) (h : chain.Namespace) (same
   all_from : {A : Type 0} (g : Text → Body → List A)
       → along (files_view qs) g is ≡ flat_map (λ t. g t.name t.body) (templates s h)
   all_from g = rw same (along_templates g (files_view ps) is _ from)
-
-  pub includes_from : includes_along (files_view qs) is
-      ≡ flat_map (λ t. includes_in include_need t.body) (templates s h)
-  includes_from = all_from (λ n b. includes_in include_need b)
 
   pub layers_from : layers_along (files_view qs) is ≡ templates s h
   layers_from = all_from (λ n b. record { name = n; body = b } ∷ []) ∙ each_alone (templates s h)

@@ -165,8 +165,8 @@ fn libraries_at<'a>(
 }
 
 impl Chain {
-    /// Returns the names that stand for a macro or a library: those of `macros`, as macros of the
-    /// namespace, then those that the imports of the namespace bind.
+    /// Returns the defined names of a chain or a library: the names of `macros`, which are its own,
+    /// then the names that its imports bind.
     pub fn definitions<'a>(
         &'a self,
         alloc: Global,

@@ -1,14 +1,11 @@
 //! Collects the includes of templates.
 
-ghost use Rattle.std.specs.Prelude.{◌≡◌, ◌<◌, flat_map, length, IfOk};
+ghost use Rattle.std.specs.Prelude.{◌≡◌, IfOk};
 ghost use Rattle.jt_ast.specs.StatementView.{stmt_view, body_view};
-ghost use Rattle.jt_chains.specs.Chain.{templates};
 ghost use Rattle.jt_chains.specs.Includes.{includes_by, includes_in};
 ghost use Rattle.jt_chains.specs.Needs.{AddsNeeds, include_need, includes_along, needs_view};
 ghost use Rattle.jt_chains.specs.TemplateFiles.{files_view};
-ghost use Rattle.jt_chains.specs.View.{NoneBeyond, namespace_in, its_sources};
 
-use crate::chain::Chain;
 use crate::files::TemplateFile;
 use crate::parts::body_of_file;
 use jt_ast::{Branch, Stmt};
@@ -91,22 +88,4 @@ pub fn includes_at<'a>(
         add_includes(&mut found, body_of_file(files, *index))?;
     }
     Ok(found)
-}
-
-impl Chain {
-    /// Returns the includes of a chain, once for each tag, the entry template's first. Returns an
-    /// empty list if `namespace` is out of range.
-    #[tactic(auto, using(crate::proofs::TemplatesByIndex::includes_from, crate::proofs::TemplatesByIndex::nothing_along))]
-    pub fn includes(
-        &self,
-        alloc: Global,
-        namespace: usize,
-    ) -> Result<Vec<NeededTemplate<'_>>, AllocError>
-        ensures there { namespace < length self.now.namespaces.items → IfOk result (λ needs.
-            needs_view needs.items ≡ flat_map (λ t. includes_in include_need t.body)
-            (templates (its_sources self.now) (namespace_in self.now namespace))) }
-        ensures nowhere { NoneBeyond self.now namespace result }
-    {
-        includes_at(alloc, &self.templates, self.indices_of(namespace))
-    }
 }

@@ -12,14 +12,11 @@ use Rattle.jt_chains.specs.Chain.{BlockBody, MacroBody, Namespace, Sources, a_li
 use Rattle.jt_layout.specs.declared.front.FirstFree.{FirstFree}
 use Rattle.jt_layout.specs.declared.namespace_layout.NamespaceLayout.{NamespaceLayout}
 use Rattle.jt_layout.proofs.FirstOccurrences.{first_macro, length-counted, namespaces_left, no_macro}
-use Rattle.jt_chains.specs.Includes.{InOrder, includes_in, with_source}
+use Rattle.jt_chains.specs.Includes.{InOrder, needs_in, with_source}
 use Rattle.jt_rules.specs.CompileEnv.{CompileEnv}
 use Rattle.jt_semantics.proofs.EnvLookup.{namespace_is, namespace_same, same_is, same_text}
 use Rattle.std.specs.BTreeMap.{BTreeMap}
 use uses.{own_names}
-use Rattle.jt_chains.specs.declared.include_tags.NeededTemplate.{NeededTemplate}
-use Rattle.jt_chains.specs.Needs.{include_need, needed, needs_view}
-use Rattle.jt_chains.proofs.IncludeCollection.{by_templates}
 use Rattle.std.specs.Option.{is_some}
 use Rattle.jt_layout.proofs.Vocabulary
 use Vocabulary.{List, [], ap, drop, length, map, subst, sym, ◌++◌, ◌+◌, ◌<◌, ◌||◌, ◌∙◌, ◌∷◌, ◌≡◌, Global, Vec}
@@ -50,15 +47,13 @@ module _ (cenv : CompileEnv) (hs : List Namespace) where
 
   module _ (h : Namespace) (m : BTreeMap (Bor Text) (Vec (Bor Text) Global))
       (are : (x : Text) → names_at m x ≡ names_in cenv hs (a_chain x)) where
-    stored : (ks : List NeededTemplate) → flat_map (λ n. names_at m n.name.now) ks
-        ≡ flat_map (names_in cenv hs) (map a_chain (with_source cenv.sources (needed true (needs_view ks))))
+    stored : (ns : List Text) → flat_map (names_at m) ns
+        ≡ flat_map (names_in cenv hs) (map a_chain (with_source cenv.sources ns))
     stored [] = refl
-    stored (k ∷ ks) = search (arith, rules, are, no_source, stored ks)
+    stored (n ∷ ns) = search (arith, rules, are, no_source, stored ns)
 
-    pub all_stored : (ks : List NeededTemplate) (ns : List Text)
-        → needs_view ks ≡ flat_map (λ t. includes_in include_need t.body) (templates cenv.sources h)
-        → ns ≡ all_inserted (flat_map (λ n. names_at m n.name.now) ks)
-        (all_inserted (ascending (own_names cenv.sources h)) [])
+    pub all_stored : (ks ns : List Text) → ks ≡ flat_map (λ t. needs_in true t.body) (templates cenv.sources h)
+        → ns ≡ all_inserted (flat_map (names_at m) ks) (all_inserted (ascending (own_names cenv.sources h)) [])
         → ns ≡ all_names cenv hs h
     all_stored ks ns e f =
         search (
@@ -66,7 +61,6 @@ module _ (cenv : CompileEnv) (hs : List Namespace) where
           rules,
           flat_map-append,
           stored,
-          by_templates,
           no_names_of,
           append-nil,
           ascending_inserted,

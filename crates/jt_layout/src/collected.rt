@@ -14,7 +14,7 @@ ghost use Rattle.jt_layout.specs.internal.Layouts.{names_at};
 ghost use Rattle.jt_names.specs.FactsOfChains.{AllKnown};
 ghost use Rattle.jt_names.specs.Names.{Puts};
 
-use jt_chains::{Namespace, NeededTemplate};
+use jt_chains::Namespace;
 use jt_names::{ChainFacts, add_names, list_of, set_entry};
 use jt_value::NoMemory;
 use std::alloc::{AllocError, Global};
@@ -62,13 +62,13 @@ impl<'a> CollectedNames<'a> {
     fn add_included(
         &self,
         names: &mut BTreeSet<&'a str>,
-        included: &[NeededTemplate<'_>],
+        included: &[&str],
     ) -> Result<(), AllocError>
         ensures { IfOk result (λ u. Puts names.old names.new
-            (flat_map (λ n. names_at self.now.names n.name.now) included.now)) }
+            (flat_map (names_at self.now.names) (texts included.now))) }
     {
-        for include in included {
-            self.add_to(names, include.name)?;
+        for chain in included {
+            self.add_to(names, chain)?;
         }
         Ok(())
     }
@@ -108,10 +108,10 @@ fn names_of_chain<'a>(
         (drop (namespace + 1) (its_order facts.now.chain.now))
         (namespace_in facts.now.chain.now namespace)) }
 {
+    let known = facts.at(namespace);
     let mut names = BTreeSet::new(alloc);
-    add_names(&mut names, &facts.at(namespace).names)?;
-    let included = facts.chain.includes(alloc, namespace)?;
-    behind.add_included(&mut names, &included)?;
+    add_names(&mut names, &known.names)?;
+    behind.add_included(&mut names, &known.includes)?;
     list_of(alloc, names)
 }
 

@@ -7,8 +7,8 @@ use Rattle.jt_chains.specs.Indices.{index_of}
 use Rattle.jt_chains.specs.Uses.{own_names, body_names}
 use Rattle.jt_names.specs.declared.templates.TemplateFacts.{TemplateFacts}
 use Rattle.jt_names.proofs.Vocabulary
-use Vocabulary.{sources_in, slice_get, Bor, is_none, nat_le, files_view, ◌≡◌, ◌≤◌, ◌<◌, ℕ, true, false, List, [], ◌∷◌}
-use Vocabulary.{length, get_or, sym, ap, ◌∙◌, refl, arith, rules, flat_map, append-nil, length-map, Text, ascending}
+use Vocabulary.{sources_in, slice_get, Bor, is_none, nat_le, files_view, ◌≡◌, ◌≤◌, ℕ, true, false, List, [], ◌∷◌}
+use Vocabulary.{length, sym, ap, ◌∙◌, refl, arith, rules, flat_map, append-nil, length-map, Text, ascending}
 use Vocabulary.{body_at, texts, None, Bool, if◌then◌else◌}
 
 -- The index of a template that was not read is no index.

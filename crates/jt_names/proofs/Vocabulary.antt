@@ -11,7 +11,7 @@ pub use Rattle.jt_names.specs.FactsOfChains.{EachKnown, IsKnown}
 pub use Rattle.jt_names.specs.FactsOfTemplates.{AreKnown, IsKnownTemplate}
 pub use Rattle.jt_names.specs.Names.{AreIndices, first_of, value_in}
 pub use Rattle.jt_names.specs.declared.own.NamesOf.{NamesOf}
-pub use Rattle.jt_names.specs.internal.UsedNames.{name_used, names_by, used}
+pub use Rattle.jt_names.specs.internal.UsedNames.{name_included, name_used, names_by, used}
 pub use Rattle.jt_uses.specs.UseView.{sites_view}
 pub use Rattle.jt_uses.specs.Uses.{Site}
 pub use Rattle.std.proofs.Common.{Bool, List, None, Option, Some, [], ap, arith, drop, false, get_or, if◌then◌else◌}

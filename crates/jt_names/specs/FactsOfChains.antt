@@ -1,8 +1,9 @@
 -- What is known of a chain and of the chains and libraries that it reaches.
-use Rattle.std.specs.Prelude.{◌≡◌, ◌<◌, ℕ, List, length, map, option_map, get_or}
+use Rattle.std.specs.Prelude.{◌≡◌, ◌<◌, ℕ, true, List, length, map, flat_map, option_map, get_or}
 use Rattle.jt_ast.specs.Expressions.{Text}
 use Rattle.jt_ast.specs.Texts.{ascending, texts}
-use Rattle.jt_chains.specs.Chain.{macros, given, given_to, all_bodies}
+use Rattle.jt_chains.specs.Chain.{macros, given, given_to, all_bodies, templates}
+use Rattle.jt_chains.specs.Includes.{needs_in}
 use Rattle.jt_chains.specs.Named.{given_view, names_view}
 use Rattle.jt_chains.specs.Parts.{macros_view, blocks_view}
 use Rattle.jt_chains.specs.Uses as uses
@@ -27,6 +28,8 @@ pub record IsKnown (c : Chain) (i : ℕ) (f : NamespaceFacts) : Type 0 where
   pub first_bodies :
       AreIndices 0 (map (λ b. b.name) (all_bodies (its_sources c) c.autoescape (namespace_in c i)))
       f.first_bodies.indices
+  pub all_includes : texts f.includes.items
+      ≡ flat_map (λ t. needs_in true t.body) (templates (its_sources c) (namespace_in c i))
 
 -- The facts are those of the first chains and libraries, in their order.
 abbrev pub EachKnown : Chain → List NamespaceFacts → Type 0

@@ -1,9 +1,10 @@
--- What is known of templates: their uses, the different names that they read or bind, their macros, and the bodies of
--- their blocks.
-use Rattle.std.specs.Prelude.{◌≡◌, ◌<◌, ℕ, List, length, get_or}
+-- What is known of templates: their uses, the different names that they read or bind, their macros, the bodies of
+-- their blocks, and the names of the templates that they include.
+use Rattle.std.specs.Prelude.{◌≡◌, ◌<◌, ℕ, true, List, length, get_or}
 use Rattle.jt_ast.specs.Texts.{ascending, texts}
 use Rattle.jt_chains.specs.Along.{body_at}
 use Rattle.jt_chains.specs.Chain.{blocks_in, macros_in}
+use Rattle.jt_chains.specs.Includes.{needs_in}
 use Rattle.jt_chains.specs.Parts.{blocks_view, macros_view, name_at}
 use Rattle.jt_chains.specs.Uses.{body_names}
 use Rattle.jt_chains.specs.View.{its_templates}
@@ -20,6 +21,7 @@ pub record IsKnownTemplate (c : Chain) (i : ℕ) (f : TemplateFacts) : Type 0 wh
       ≡ macros_in (name_at (its_templates c) i) (body_at (its_templates c) i)
   pub all_blocks : blocks_view (its_templates c) f.blocks.items
       ≡ blocks_in (name_at (its_templates c) i) (body_at (its_templates c) i) c.autoescape
+  pub includes : texts f.includes.items ≡ needs_in true (body_at (its_templates c) i)
 
 -- The facts are those of the templates, in their order.
 pub record AreKnown (c : Chain) (fs : List TemplateFacts) : Type 0 where

@@ -1,7 +1,10 @@
 //! Collects the facts of chains and libraries.
 
-ghost use Rattle.std.specs.Prelude.{◌≡◌, ◌<◌, length, IfOk};
+ghost use Rattle.std.specs.Prelude.{◌≡◌, ◌<◌, true, flat_map, length, IfOk};
+ghost use Rattle.jt_ast.specs.Texts.{texts};
+ghost use Rattle.jt_chains.specs.Chain as chains;
 ghost use Rattle.jt_chains.specs.Chain.{all_bodies, macros};
+ghost use Rattle.jt_chains.specs.Includes.{needs_in};
 ghost use Rattle.jt_chains.specs.Parts.{blocks_view, macros_view};
 ghost use Rattle.jt_chains.specs.View.{its_sources, its_templates, namespace_in};
 ghost use Rattle.jt_names.specs.FactsOfTemplates.{AreKnown};
@@ -58,7 +61,11 @@ fn facts_of_namespace<'a>(
 {
     let names = names_of_namespace(alloc, chain, templates, namespace, NamesOf::Template)?;
     let scope_names = names_of_namespace(alloc, chain, templates, namespace, NamesOf::Scopes)?;
-    let NamespaceParts { macros, blocks } = parts_of_namespace(alloc, chain, templates, namespace)?;
+    let NamespaceParts {
+        macros,
+        blocks,
+        includes,
+    } = parts_of_namespace(alloc, chain, templates, namespace)?;
     let defined = chain.definitions(alloc, namespace, &macros)?;
     let given = definitions_of(alloc, &defined)?;
     let first_bodies = first_bodies(alloc, &blocks)?;
@@ -70,14 +77,17 @@ fn facts_of_namespace<'a>(
         given,
         blocks,
         first_bodies,
+        includes,
     })
 }
 
-/// The macros of a chain or a library, and the bodies of its blocks.
+/// The macros of a chain or a library, the bodies of its blocks, and the names of the templates that
+/// it includes.
 #[derive(Drop)]
 struct NamespaceParts<'a> {
     macros: Vec<Macro<'a>>,
     blocks: Vec<Block<'a>>,
+    includes: Vec<&'a str>,
 }
 
 /// Returns the parts of the templates of a chain or a library, those of its first template first.
@@ -94,13 +104,22 @@ fn parts_of_namespace<'a>(
     ensures blocks { IfOk result (λ p. blocks_view (its_templates chain.now) p.blocks.items
         ≡ all_bodies (its_sources chain.now) chain.now.autoescape
         (namespace_in chain.now namespace)) }
+    ensures includes { IfOk result (λ p. texts p.includes.items
+        ≡ flat_map (λ t. needs_in true t.body)
+        (chains.templates (its_sources chain.now) (namespace_in chain.now namespace))) }
 {
     let mut macros = Vec::new(alloc);
     let mut blocks = Vec::new(alloc);
+    let mut includes = Vec::new(alloc);
     for index in &chain.namespaces[namespace].templates {
         let known = &templates[*index];
         macros.extend_from_slice(&known.macros)?;
         blocks.extend_from_slice(&known.blocks)?;
+        includes.extend_from_slice(&known.includes)?;
     }
-    Ok(NamespaceParts { macros, blocks })
+    Ok(NamespaceParts {
+        macros,
+        blocks,
+        includes,
+    })
 }

@@ -27,7 +27,7 @@ pub struct NamespaceFacts<'a> {
     pub scope_names: Vec<&'a str>,
     /// Its macros, the entry template's first.
     pub macros: Vec<Macro<'a>>,
-    /// All names that stand for a macro or a library, its own macros first, repeated names too.
+    /// All names that are defined as a macro or a library, its own macros first, repeated names too.
     pub defined: Vec<DefinedName<'a>>,
     /// The definition of each name that stands for a macro or a library.
     pub given: BTreeMap<&'a str, Definition<'a>>,
@@ -35,6 +35,8 @@ pub struct NamespaceFacts<'a> {
     pub blocks: Vec<Block<'a>>,
     /// The index of the first body of each block, by its name.
     pub first_bodies: NameIndex<'a>,
+    /// The names of the templates that it includes, once for each tag, the entry template's first.
+    pub includes: Vec<&'a str>,
 }
 
 /// What is known of a chain and of all that it reaches.

@@ -1,7 +1,7 @@
 //! Collects what is known of a chain, once: the facts of its templates, chains and libraries.
 //!
 //! - The facts, and how they are collected: `facts`, `templates` and `chains`.
-//! - The names that uses read or bind, also in scopes: `own`.
+//! - The names that uses read or bind, also in scopes, and the templates that they include: `own`.
 //! - The names that a body sets: `sets`.
 //! - Names in lists, in ascending order, and in maps: `lists`, `ordered` and `index`.
 //!

@@ -1,16 +1,17 @@
-//! Collects the different names that uses read or bind.
+//! Collects the different names that uses read or bind, and the names of included templates.
 
 ghost use Rattle.std.specs.Prelude.{◌≡◌, filter_map, option_map, IfOk};
 ghost use Rattle.jt_ast.specs.ExpressionView.{expr_view};
+ghost use Rattle.jt_ast.specs.Texts.{texts};
 ghost use Rattle.jt_chains.specs.Chain.{is_loop};
 ghost use Rattle.jt_uses.specs.UseView.{site_view, sites_view};
 ghost use Rattle.jt_names.specs.Names.{Puts};
-ghost use Rattle.jt_names.specs.internal.UsedNames.{name_used};
+ghost use Rattle.jt_names.specs.internal.UsedNames.{name_included, name_used};
 
 use crate::ordered::add_name;
 use jt_ast::Expr;
 use jt_uses::{Use, UseSite};
-use std::alloc::AllocError;
+use std::alloc::{AllocError, Global};
 use std::collections::BTreeSet;
 
 /// Returns whether an expression is the bare name `loop`.
@@ -59,4 +60,21 @@ pub(crate) fn add_used<'a>(
         }
     }
     Ok(())
+}
+
+/// Returns the names of the templates that uses include, once for each include, in their order.
+pub(crate) fn names_included<'a>(
+    alloc: Global,
+    uses: &[UseSite<'a>],
+) -> Result<Vec<&'a str>, AllocError>
+    ensures { IfOk result
+        (λ names. texts names.items ≡ filter_map name_included (sites_view uses.now)) }
+{
+    let mut found = Vec::new(alloc);
+    for site in uses {
+        if let Use::Includes { name, .. } = site.made {
+            found.push(name)?;
+        }
+    }
+    Ok(found)
 }

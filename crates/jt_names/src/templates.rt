@@ -12,7 +12,7 @@ ghost use Rattle.jt_names.specs.Names.{Puts};
 ghost use Rattle.jt_names.specs.internal.UsedNames.{names_by};
 
 use crate::ordered::{add_names, list_of};
-use crate::own::{NamesOf, add_used};
+use crate::own::{NamesOf, add_used, names_included};
 use jt_chains::{Block, Chain, Macro, blocks_of_file, file_named, macros_of_file};
 use jt_uses::{UseSite, uses_of};
 use std::alloc::{AllocError, Global};
@@ -29,6 +29,8 @@ pub struct TemplateFacts<'a> {
     pub macros: Vec<Macro<'a>>,
     /// The bodies of its blocks, nested ones included, in the order of the source.
     pub blocks: Vec<Block<'a>>,
+    /// The names of the templates that it includes, once for each tag, in the order of the source.
+    pub includes: Vec<&'a str>,
 }
 
 /// Returns what is known of the template at `index`.
@@ -44,6 +46,7 @@ fn facts_of_template(
     let mut names = BTreeSet::new(alloc);
     add_used(&mut names, NamesOf::Template, &uses)?;
     let names = list_of(alloc, names)?;
+    let includes = names_included(alloc, &uses)?;
     let macros = macros_of_file(alloc, &chain.templates, index)?;
     let blocks = blocks_of_file(alloc, &chain.templates, index, chain.autoescape)?;
     Ok(TemplateFacts {
@@ -51,6 +54,7 @@ fn facts_of_template(
         names,
         macros,
         blocks,
+        includes,
     })
 }
 

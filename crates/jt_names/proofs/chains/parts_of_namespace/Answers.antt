@@ -2,8 +2,9 @@ use Rattle.jt_names.proofs.chains.parts_of_namespace.Goals as goal
 use Rattle.jt_chains.proofs.TemplatesByIndex.{namespace_along}
 use Rattle.jt_chains.specs.Along.{blocks_along, macros_along}
 use Rattle.jt_chains.specs.Chain.{blocks_in, macros_in}
+use Rattle.jt_chains.specs.Includes.{needs_in}
 use Rattle.jt_chains.specs.Parts.{macros_view}
-use Rattle.jt_names.proofs.{all_within, its_templates, ap, ◌∙◌, ◌++◌, blocks_view}
+use Rattle.jt_names.proofs.{all_within, along, its_templates, texts, true, ap, ◌∙◌, ◌++◌, blocks_view}
 
 pub loop-index-init : goal.loop-index-init
 loop-index-init c =
@@ -23,4 +24,8 @@ loop-index-init c =
           ap (λ bs. blocks_view ts bs ++ blocks_along ts chain.autoescape is) c.new-blocks.ensures.items
           ∙ namespace_along chain c.args.namespace c.index.result.now is same c.requires.stands c.index.ensures
           (λ n b. blocks_in n b chain.autoescape);
+      all_includes =
+          ap (λ ns. texts ns ++ along ts (λ n b. needs_in true b) is) c.new-includes.ensures.items
+          ∙ namespace_along chain c.args.namespace c.index.result.now is same c.requires.stands c.index.ensures
+          (λ n b. needs_in true b);
     }

@@ -1,9 +1,10 @@
 use Rattle.jt_names.proofs.chains.parts_of_namespace.Given as goal
 use Rattle.jt_chains.specs.Along.{blocks_along, macros_along}
-use Rattle.jt_chains.specs.Chain.{all_bodies, macros}
+use Rattle.jt_chains.specs.Chain.{all_bodies, macros, templates}
+use Rattle.jt_chains.specs.Includes.{needs_in}
 use Rattle.jt_chains.specs.Parts.{macros_view}
 use Rattle.jt_names.proofs.{AllByRecursion, its_sources, its_templates, namespace_in, ◌≡◌, ◌<◌, ◌++◌, length, drop}
-use Rattle.jt_names.proofs.{blocks_view}
+use Rattle.jt_names.proofs.{blocks_view, along, flat_map, texts, true}
 
 abbrev pub invariant-loop-index : goal.invariant-loop-index
 invariant-loop-index l = record {
@@ -14,4 +15,7 @@ invariant-loop-index l = record {
   all_blocks : blocks_view (its_templates l.chain) l.blocks.items
       ++ blocks_along (its_templates l.chain) l.chain.autoescape (drop l.index-index l.index-items)
       ≡ all_bodies (its_sources l.chain) l.chain.autoescape (namespace_in l.chain l.namespace);
+  all_includes : texts l.includes.items
+      ++ along (its_templates l.chain) (λ n b. needs_in true b) (drop l.index-index l.index-items)
+      ≡ flat_map (λ t. needs_in true t.body) (templates (its_sources l.chain) (namespace_in l.chain l.namespace));
 }

@@ -6,7 +6,7 @@ use Rattle.jt_names.specs.declared.own.NamesOf.TheVariants.{Template}
 use Rattle.jt_uses.specs.Uses.{body_uses, outside}
 use Rattle.jt_chains.specs.Uses.{body_names}
 use Rattle.jt_names.proofs.{its_templates, body_at, body_view, files_view, sites_view, blocks_view, texts, all_inserted}
-use Rattle.jt_names.proofs.{name_used, names_inserted, filter_map, ap, sym, subst, ◌∙◌, ◌≡◌}
+use Rattle.jt_names.proofs.{name_included, names_of_includes, name_used, names_inserted, filter_map, ap, sym, subst, ◌∙◌, ◌≡◌}
 
 pub returns : goal.returns
 returns c =
@@ -28,10 +28,13 @@ returns c =
           c.new-names.ensures.empty;
       all_macros =
           subst (λ ps. macros_view (files_view ps) c.in_ok-macros.macros.items
-          ≡ macros_in (name_at (files_view ps) i) (body_at (files_view ps) i)) c.deref-2.ensures.value
+          ≡ macros_in (name_at (files_view ps) i) (body_at (files_view ps) i)) c.deref-3.ensures.value
           c.in_ok-macros.ensures;
       all_blocks =
           subst (λ ps. blocks_view (files_view ps) c.in_ok-blocks.blocks.items
-          ≡ blocks_in (name_at (files_view ps) i) (body_at (files_view ps) i) chain.autoescape) c.deref-3.ensures.value
+          ≡ blocks_in (name_at (files_view ps) i) (body_at (files_view ps) i) chain.autoescape) c.deref-4.ensures.value
           c.in_ok-blocks.ensures;
+      includes =
+          c.in_ok-includes.ensures ∙ ap (filter_map name_included) (ap sites_view c.deref-2.ensures.value ∙ uses)
+          ∙ names_of_includes b outside;
     }
