@@ -6,7 +6,7 @@ use Rattle.jt_inherit.proofs.tags.tags_at.Goals as goal
 pub loop-index-preserved : goal.loop-index-preserved
 loop-index-preserved c =
     let l = c.loop-index in
-    let ps = c.args.store.now.files.items in
+    let ps = c.args.files.now in
     let is = c.args.indices.now in
     tags_turn (test_of c.args.wanted) ps is l.index-index c.index.result.now (tags_view l.found.items)
     (tags_view c.in_ok-more.more.items) (tags_view c.append.new.self.items)
