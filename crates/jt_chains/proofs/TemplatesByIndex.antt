@@ -1,6 +1,6 @@
 -- Templates by their indices.
 use Rattle.jt_chains.specs.Chain as chain
-use chain.{a_library, imports_in, libraries, Sources, template, holds_macros, library_template, templates, blocks_in}
+use chain.{a_library, imports_in, libraries, Sources, template, holds_macros, library_template, templates}
 use chain.{max_templates, names_up}
 use Rattle.jt_ast.specs.Statements.{stmt, macro, Body, end, data_of}
 use Rattle.jt_ast.specs.Texts.{repeated, among}
@@ -13,10 +13,10 @@ use Rattle.jt_chains.specs.declared.chain.Chain.{Chain}
 use Rattle.jt_chains.specs.declared.files.TemplateFile.{TemplateFile}
 use Rattle.jt_chains.proofs.Vocabulary
 use Vocabulary.{namespace_view, AreWhole, names_at, slice_get_within, slice_get-map, slice_get_read, its_templates}
-use Vocabulary.{its_sources, namespace_in, ◌≡◌, ℕ, suc, ◌+◌, ◌<◌, Bool, true, false, List, [], ◌∷◌, ◌++◌, length, map}
+use Vocabulary.{its_sources, namespace_in, ◌≡◌, ℕ, suc, ◌+◌, ◌<◌, true, false, List, [], ◌∷◌, ◌++◌, length, map}
 use Vocabulary.{drop, get_or, refl, ap, ◌∙◌, arith, Option, Some, rules, tests, zero, append_assoc, imports}
-use Vocabulary.{libraries_in, Template, sources_in, macros_in, slice_get, flat_map, unwrap_or, option_map, length-map}
-use Vocabulary.{drop_more, bytes_eq-Decides, Text, body_of, body_at, along, macros_along, blocks_along, layers_along}
+use Vocabulary.{libraries_in, Template, sources_in, slice_get, flat_map, unwrap_or, option_map, length-map}
+use Vocabulary.{drop_more, bytes_eq-Decides, Text, body_of, body_at, along, layers_along}
 use Vocabulary.{AreIndices, includes_in, include_need, includes_along, file_view, files_view, name_at, namespace_at}
 
 pub number_at : (P : ℕ → Type 0) (xs : List ℕ) (i : ℕ) → i < length xs → AllByRecursion P xs → P (get_or xs i 0)
@@ -153,12 +153,6 @@ module _ (ps qs : List TemplateFile) (is : List ℕ) (h : chain.Namespace) (same
   all_from : {A : Type 0} (g : Text → Body → List A)
       → along (files_view qs) g is ≡ flat_map (λ t. g t.name t.body) (templates s h)
   all_from g = rw same (along_templates g (files_view ps) is _ from)
-
-  pub macros_from : macros_along (files_view qs) is ≡ chain.macros s h
-  macros_from = all_from macros_in
-
-  pub blocks_from : (escaping : Bool) → blocks_along (files_view qs) escaping is ≡ chain.all_bodies s escaping h
-  blocks_from escaping = all_from (λ n b. blocks_in n b escaping)
 
   pub includes_from : includes_along (files_view qs) is
       ≡ flat_map (λ t. includes_in include_need t.body) (templates s h)

@@ -6,10 +6,10 @@ ghost use Rattle.jt_ast.specs.StatementView.{stmt_view, body_view, given_view};
 ghost use Rattle.jt_ast.specs.Texts.{texts};
 ghost use Rattle.jt_chains.specs.Chain as chains;
 ghost use Rattle.jt_chains.specs.Chain.{macros, all_given_from, imports_in, libraries_in};
-ghost use Rattle.jt_chains.specs.Chain.{libraries, given, a_library};
+ghost use Rattle.jt_chains.specs.Chain.{libraries, own, imports, a_library};
 ghost use Rattle.jt_chains.specs.Along.{along};
 ghost use Rattle.jt_chains.specs.TemplateFiles.{files_view};
-ghost use Rattle.jt_chains.specs.Parts.{macro_view};
+ghost use Rattle.jt_chains.specs.Parts.{macro_view, macros_view};
 ghost use Rattle.jt_chains.specs.Indices.{index_of};
 ghost use Rattle.jt_chains.specs.Named.{Adds, names_view};
 ghost use Rattle.jt_chains.specs.View.{NoneBeyond, namespace_in, its_sources, its_templates};
@@ -165,17 +165,22 @@ fn libraries_at<'a>(
 }
 
 impl Chain {
-    /// Returns all names of a chain that stand for a macro or a library, its own macros first.
-    /// Returns none if `namespace` is out of range.
-    pub fn given(&self, alloc: Global, namespace: usize) -> Result<Vec<DefinedName<'_>>, AllocError>
-        ensures there { namespace < length self.now.namespaces.items → IfOk result (λ names.
+    /// Returns the names that stand for a macro or a library: those of `macros`, as macros of the
+    /// namespace, then those that the imports of the namespace bind.
+    pub fn definitions<'a>(
+        &'a self,
+        alloc: Global,
+        namespace: usize,
+        macros: &[Macro<'a>],
+    ) -> Result<Vec<DefinedName<'a>>, AllocError>
+        requires { namespace < length self.now.namespaces.items }
+        ensures { IfOk result (λ names.
             names_view (its_templates self.now) (namespace_in self.now namespace) names.items
-            ≡ given (its_sources self.now) (namespace_in self.now namespace)) }
-        ensures nowhere { NoneBeyond self.now namespace result }
+            ≡ own (namespace_in self.now namespace) (macros_view (its_templates self.now) macros.now)
+            ++ imports (its_sources self.now) (namespace_in self.now namespace)) }
     {
-        let macros = self.macros(alloc, namespace)?;
         let mut names = Vec::new(alloc);
-        for one in &macros {
+        for one in macros {
             names.push(DefinedName {
                 name: one.name,
                 given: Definition::Own(*one),

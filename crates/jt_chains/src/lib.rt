@@ -2,7 +2,7 @@
 //!
 //! - A chain with all that it reaches: `chain`.
 //! - Its templates: `layers` and `files`.
-//! - Its macros and the bodies of its blocks: `parts`.
+//! - The macros of templates and the bodies of their blocks: `parts`.
 //! - Includes and imports: `include_tags`.
 //! - The definitions of its names: `definitions`.
 //! - The table that finds the macros of a library by name: `tables`.
@@ -23,4 +23,4 @@ pub use definitions::{DefinedName, Definition, file_named, holds_macros, is_priv
 pub use files::TemplateFile;
 pub use include_tags::{NeededTemplate, includes_at};
 pub use layers::Layer;
-pub use parts::{Block, Macro, blocks_at, blocks_of_file, macro_names, macros_at};
+pub use parts::{Block, Macro, blocks_at, blocks_of_file, macro_names, macros_at, macros_of_file};

@@ -1,16 +1,14 @@
-//! Collects the macros of a chain and the bodies of its blocks.
+//! Collects the macros of templates and the bodies of their blocks.
 
-ghost use Rattle.std.specs.Prelude.{◌≡◌, ◌<◌, ◌++◌, length, map, IfOk};
+ghost use Rattle.std.specs.Prelude.{◌≡◌, ◌++◌, map, IfOk};
 ghost use Rattle.jt_ast.specs.StatementView.{stmt_view, body_view};
 ghost use Rattle.jt_ast.specs.Texts.{texts};
-ghost use Rattle.jt_chains.specs.Chain.{macros, macros_in, all_bodies, blocks_of, blocks_in};
+ghost use Rattle.jt_chains.specs.Chain.{macros_in, blocks_of, blocks_in};
 ghost use Rattle.jt_chains.specs.TemplateFiles.{files_view};
 ghost use Rattle.jt_chains.specs.Parts.{macros_view, blocks_view, name_at};
 ghost use Rattle.jt_chains.specs.Along.{body_at, macros_along, blocks_along};
 ghost use Rattle.jt_chains.specs.internal.AddsBlocks.{AddsBlocks};
-ghost use Rattle.jt_chains.specs.View.{NoneBeyond, namespace_in, its_sources, its_templates};
 
-use crate::chain::Chain;
 use crate::files::TemplateFile;
 use jt_ast::{Branch, Parameter, Stmt};
 use std::alloc::{AllocError, Global};
@@ -159,6 +157,18 @@ pub(crate) fn body_of_file(files: &[TemplateFile], index: usize) -> &[Stmt]
     }
 }
 
+/// Returns the macros of the template at `index`, or none if the index is out of range.
+pub fn macros_of_file<'a>(
+    alloc: Global,
+    files: &'a [TemplateFile],
+    index: usize,
+) -> Result<Vec<Macro<'a>>, AllocError>
+    ensures { IfOk result (λ found. macros_view (files_view files.now) found.items
+        ≡ macros_in (name_at (files_view files.now) index) (body_at (files_view files.now) index)) }
+{
+    macros_at(alloc, files, &[index])
+}
+
 /// Returns the macros of the templates at `indices`. An index out of range adds none.
 #[tactic(auto, using(crate::proofs::TemplatesByIndex::along_turn))]
 pub fn macros_at<'a>(
@@ -218,36 +228,4 @@ pub fn blocks_at<'a>(
         add_blocks(site, body_of_file(files, *index), &mut found)?;
     }
     Ok(found)
-}
-
-impl Chain {
-    /// Returns all macros of a chain, the entry template's first. Returns an empty list if
-    /// `namespace` is out of range.
-    #[tactic(auto, using(crate::proofs::TemplatesByIndex::macros_from, crate::proofs::TemplatesByIndex::nothing_along))]
-    pub fn macros(&self, alloc: Global, namespace: usize) -> Result<Vec<Macro<'_>>, AllocError>
-        ensures there { namespace < length self.now.namespaces.items → IfOk result (λ found.
-            macros_view (its_templates self.now) found.items
-            ≡ macros (its_sources self.now) (namespace_in self.now namespace)) }
-        ensures nowhere { NoneBeyond self.now namespace result }
-    {
-        macros_at(alloc, &self.templates, self.indices_of(namespace))
-    }
-
-    /// Returns the bodies of all blocks of a chain, the entry template's first. Returns an empty
-    /// list if `namespace` is out of range.
-    #[tactic(auto, using(crate::proofs::TemplatesByIndex::blocks_from, crate::proofs::TemplatesByIndex::nothing_along))]
-    pub fn blocks(&self, alloc: Global, namespace: usize) -> Result<Vec<Block<'_>>, AllocError>
-        ensures there { namespace < length self.now.namespaces.items → IfOk result (λ bodies.
-            blocks_view (its_templates self.now) bodies.items
-            ≡ all_bodies (its_sources self.now) self.now.autoescape
-            (namespace_in self.now namespace)) }
-        ensures nowhere { NoneBeyond self.now namespace result }
-    {
-        blocks_at(
-            alloc,
-            &self.templates,
-            self.indices_of(namespace),
-            self.autoescape,
-        )
-    }
 }

@@ -4,13 +4,12 @@ use Rattle.jt_chains.specs.Chain.{a_library, holds_macros, Template}
 use Rattle.jt_chains.specs.declared.files.TemplateFile.{TemplateFile}
 use Rattle.jt_chains.proofs.LibraryMacros.{library_has}
 use Rattle.jt_chains.specs.Indices.{index_of}
-use Rattle.jt_names.proofs.FactsOfTemplatesCorrect.{facts_at, all_known}
 use Rattle.jt_chains.specs.Uses.{own_names, body_names}
 use Rattle.jt_names.specs.declared.templates.TemplateFacts.{TemplateFacts}
 use Rattle.jt_names.proofs.Vocabulary
 use Vocabulary.{sources_in, slice_get, Bor, is_none, nat_le, files_view, ◌≡◌, ◌≤◌, ◌<◌, ℕ, true, false, List, [], ◌∷◌}
 use Vocabulary.{length, get_or, sym, ap, ◌∙◌, refl, arith, rules, flat_map, append-nil, length-map, Text, ascending}
-use Vocabulary.{body_at, Site, AreKnown, None, Bool, if◌then◌else◌}
+use Vocabulary.{body_at, texts, None, Bool, if◌then◌else◌}
 
 -- The index of a template that was not read is no index.
 pub missing : (ps : List TemplateFile) (n : Text)
@@ -33,11 +32,10 @@ module _ (ts : List Template) (n : Text) (i : ℕ) (e : i ≡ index_of ts n) whe
       (λ m b. ap (λ xs. length (ascending xs)) (sym (append-nil (body_names b)))) ts n i e
 
   -- The facts of a library's template have the number of its names.
-  pub library_known : (fs : List TemplateFacts) (f : TemplateFacts) → AreKnown ts fs → i < length ts → f ≡ get_or fs i f
+  pub library_known : (f : TemplateFacts) → texts f.names.items ≡ ascending (body_names (body_at ts i))
       → holds_macros (body_at ts i) ≡ true → length f.names.items ≡ length (ascending (names_in ts n))
-  library_known fs f known lt is h =
-      let facts = facts_at ts fs i f (omega (arith, lt, all_known ts fs known)) is known in
-      sym (length-map f.names.items (λ (k : Bor Text). k.now)) ∙ ap (λ (p : List Site × List Text). length p.1) facts
+  library_known f names h =
+      sym (length-map f.names.items (λ (k : Bor Text). k.now)) ∙ ap (λ (xs : List Text). length xs) names
       ∙ ap counted (sym h) ∙ library_counted
 
   -- A template that is no library has no names as a library.

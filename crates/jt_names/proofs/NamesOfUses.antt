@@ -16,11 +16,13 @@ use Rattle.jt_uses.specs.declared.site.Place.{Place}
 use Rattle.jt_names.specs.declared.own.NamesOf.TheVariants.{Template, Scopes}
 use Rattle.jt_uses.specs.declared.site.Enclosing.{Enclosing}
 use Rattle.jt_names.proofs.SortedNames.{inserted_alike, ascending_inserted}
+use Rattle.jt_chains.specs.declared.chain.Chain.{Chain}
 use Rattle.jt_names.specs.declared.templates.TemplateFacts.{TemplateFacts}
 use Rattle.jt_names.proofs.Vocabulary
 use Vocabulary.{is_loop, nat_lt, cons_option, option_map_or, among, used, name_used, names_by, NamesOf, ◌≡◌, Bool, true}
 use Vocabulary.{false, if◌then◌else◌, ℕ, ◌+◌, List, [], ◌∷◌, ◌++◌, length, map, refl, sym, ap, ◌∙◌, Option, Some, None}
-use Vocabulary.{arith, rules, filter_map, bytes_eq, Text, all_inserted, Site, sites_view, facts_in, known_of, texts}
+use Vocabulary.{arith, rules, filter_map, bytes_eq, Text, all_inserted, Site, sites_view, texts, body_at}
+use Vocabulary.{its_templates, IsKnownTemplate}
 
 -- ---- sums of weights
 
@@ -213,11 +215,15 @@ names_inserted of b ns =
           weightless (body_names b),
         )
 
--- What is known of a template has the names of its body.
-module _ (f : TemplateFacts) (b : Body) (ns : List Text) (e : known_of f ≡ facts_in b) where
-  pub known_scopes : all_inserted (filter_map (name_used Scopes) (sites_view f.uses.items)) ns
-      ≡ all_inserted (scope_names_in b) ns
-  known_scopes = search (arith, rules, names_inserted)
+-- The facts of a template have the names of its body.
+module _ (f : TemplateFacts) (c : Chain) (i : ℕ) (ns : List Text) (known : IsKnownTemplate c i f) where
+  abbrev its_body : Body
+  its_body = body_at (its_templates c) i
 
-  pub known_names : all_inserted (texts f.names.items) ns ≡ all_inserted (body_names b) ns
-  known_names = search (arith, rules, ascending_inserted)
+  pub known_scopes : all_inserted (filter_map (name_used Scopes) (sites_view f.uses.items)) ns
+      ≡ all_inserted (scope_names_in its_body) ns
+  known_scopes =
+      ap (λ ss. all_inserted (filter_map (name_used Scopes) ss) ns) known.uses ∙ names_inserted Scopes its_body ns
+
+  pub known_names : all_inserted (texts f.names.items) ns ≡ all_inserted (body_names its_body) ns
+  known_names = ap (λ xs. all_inserted xs ns) known.names ∙ ascending_inserted (body_names its_body) ns

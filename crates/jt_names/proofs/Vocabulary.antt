@@ -8,7 +8,7 @@ pub use Rattle.jt_chains.specs.Parts.{blocks_view}
 pub use Rattle.jt_chains.specs.TemplateFiles.{files_view}
 pub use Rattle.jt_chains.specs.View.{its_sources, its_templates, namespace_in}
 pub use Rattle.jt_names.specs.FactsOfChains.{EachKnown, IsKnown}
-pub use Rattle.jt_names.specs.FactsOfTemplates.{AreKnown, facts_in, known_of}
+pub use Rattle.jt_names.specs.FactsOfTemplates.{AreKnown, IsKnownTemplate}
 pub use Rattle.jt_names.specs.Names.{AreIndices, first_of, value_in}
 pub use Rattle.jt_names.specs.declared.own.NamesOf.{NamesOf}
 pub use Rattle.jt_names.specs.internal.UsedNames.{name_used, names_by, used}

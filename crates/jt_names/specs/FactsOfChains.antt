@@ -3,7 +3,7 @@ use Rattle.std.specs.Prelude.{◌≡◌, ◌<◌, ℕ, List, length, map, option
 use Rattle.jt_ast.specs.Expressions.{Text}
 use Rattle.jt_ast.specs.Texts.{ascending, texts}
 use Rattle.jt_chains.specs.Chain.{macros, given, given_to, all_bodies}
-use Rattle.jt_chains.specs.Named.{given_view}
+use Rattle.jt_chains.specs.Named.{given_view, names_view}
 use Rattle.jt_chains.specs.Parts.{macros_view, blocks_view}
 use Rattle.jt_chains.specs.Uses as uses
 use Rattle.jt_chains.specs.View.{its_sources, its_templates, namespace_in}
@@ -18,6 +18,8 @@ pub record IsKnown (c : Chain) (i : ℕ) (f : NamespaceFacts) : Type 0 where
   pub names : texts f.names.items ≡ ascending (uses.own_names (its_sources c) (namespace_in c i))
   pub scope_names : texts f.scope_names.items ≡ uses.scope_names (its_sources c) (namespace_in c i)
   pub all_macros : macros_view (its_templates c) f.macros.items ≡ macros (its_sources c) (namespace_in c i)
+  pub all_defined : names_view (its_templates c) (namespace_in c i) f.defined.items
+      ≡ given (its_sources c) (namespace_in c i)
   pub all_given : (x : Text) → option_map (given_view (its_templates c) (namespace_in c i)) (value_in f.given x)
       ≡ given_to x (given (its_sources c) (namespace_in c i))
   pub all_blocks : blocks_view (its_templates c) f.blocks.items
@@ -32,6 +34,6 @@ EachKnown c fs = (i : ℕ) (f : NamespaceFacts) → i < length fs → f ≡ get_
 
 -- The facts are those of the chain's templates, and of all chains and libraries that it reaches.
 pub record AllKnown (facts : ChainFacts) : Type 0 where
-  pub templates : AreKnown (its_templates facts.chain.now) facts.templates.items
+  pub templates : AreKnown facts.chain.now facts.templates.items
   pub all : length facts.namespaces.items ≡ length facts.chain.now.namespaces.items
   pub each : EachKnown facts.chain.now facts.namespaces.items

@@ -1,7 +1,9 @@
 //! Collects the facts of chains and libraries.
 
 ghost use Rattle.std.specs.Prelude.{◌≡◌, ◌<◌, length, IfOk};
-ghost use Rattle.jt_chains.specs.View.{its_templates};
+ghost use Rattle.jt_chains.specs.Chain.{all_bodies, macros};
+ghost use Rattle.jt_chains.specs.Parts.{blocks_view, macros_view};
+ghost use Rattle.jt_chains.specs.View.{its_sources, its_templates, namespace_in};
 ghost use Rattle.jt_names.specs.FactsOfTemplates.{AreKnown};
 ghost use Rattle.jt_names.specs.FactsOfChains.{AllKnown, IsKnown, EachKnown};
 
@@ -9,7 +11,7 @@ use crate::facts::{ChainFacts, NamespaceFacts};
 use crate::index::{definitions_of, first_bodies};
 use crate::own::NamesOf;
 use crate::templates::{TemplateFacts, facts_of_templates, names_of_namespace};
-use jt_chains::Chain;
+use jt_chains::{Block, Chain, Macro};
 use std::alloc::{AllocError, Global};
 
 /// Returns what is known of a chain and of all that it reaches.
@@ -32,7 +34,7 @@ fn facts_of_namespaces<'a>(
     chain: &'a Chain,
     templates: &[TemplateFacts<'a>],
 ) -> Result<Vec<NamespaceFacts<'a>>, AllocError>
-    requires { AreKnown (its_templates chain.now) templates.now }
+    requires { AreKnown chain.now templates.now }
     ensures all { IfOk result (λ fs. length fs.items ≡ length chain.now.namespaces.items) }
     ensures each { IfOk result (λ fs. EachKnown chain.now fs.items) }
 {
@@ -51,22 +53,54 @@ fn facts_of_namespace<'a>(
     namespace: usize,
 ) -> Result<NamespaceFacts<'a>, AllocError>
     requires stands { namespace < length chain.now.namespaces.items }
-    requires known { AreKnown (its_templates chain.now) templates.now }
+    requires known { AreKnown chain.now templates.now }
     ensures { IfOk result (λ f. IsKnown chain.now namespace f) }
 {
     let names = names_of_namespace(alloc, chain, templates, namespace, NamesOf::Template)?;
     let scope_names = names_of_namespace(alloc, chain, templates, namespace, NamesOf::Scopes)?;
-    let macros = chain.macros(alloc, namespace)?;
-    let listed = chain.given(alloc, namespace)?;
-    let given = definitions_of(alloc, &listed)?;
-    let blocks = chain.blocks(alloc, namespace)?;
+    let NamespaceParts { macros, blocks } = parts_of_namespace(alloc, chain, templates, namespace)?;
+    let defined = chain.definitions(alloc, namespace, &macros)?;
+    let given = definitions_of(alloc, &defined)?;
     let first_bodies = first_bodies(alloc, &blocks)?;
     Ok(NamespaceFacts {
         names,
         scope_names,
         macros,
+        defined,
         given,
         blocks,
         first_bodies,
     })
+}
+
+/// The macros of a chain or a library, and the bodies of its blocks.
+#[derive(Drop)]
+struct NamespaceParts<'a> {
+    macros: Vec<Macro<'a>>,
+    blocks: Vec<Block<'a>>,
+}
+
+/// Returns the parts of the templates of a chain or a library, those of its first template first.
+fn parts_of_namespace<'a>(
+    alloc: Global,
+    chain: &Chain,
+    templates: &[TemplateFacts<'a>],
+    namespace: usize,
+) -> Result<NamespaceParts<'a>, AllocError>
+    requires stands { namespace < length chain.now.namespaces.items }
+    requires known { AreKnown chain.now templates.now }
+    ensures macros { IfOk result (λ p. macros_view (its_templates chain.now) p.macros.items
+        ≡ macros (its_sources chain.now) (namespace_in chain.now namespace)) }
+    ensures blocks { IfOk result (λ p. blocks_view (its_templates chain.now) p.blocks.items
+        ≡ all_bodies (its_sources chain.now) chain.now.autoescape
+        (namespace_in chain.now namespace)) }
+{
+    let mut macros = Vec::new(alloc);
+    let mut blocks = Vec::new(alloc);
+    for index in &chain.namespaces[namespace].templates {
+        let known = &templates[*index];
+        macros.extend_from_slice(&known.macros)?;
+        blocks.extend_from_slice(&known.blocks)?;
+    }
+    Ok(NamespaceParts { macros, blocks })
 }

@@ -4,7 +4,8 @@
 ghost use Rattle.std.specs.Prelude.{◌≡◌, ◌<◌, length};
 ghost use Rattle.jt_ast.specs.Texts.{ascending};
 ghost use Rattle.jt_chains.specs.Along.{body_at};
-ghost use Rattle.jt_chains.specs.Chain.{a_library};
+ghost use Rattle.jt_chains.specs.Chain.{a_library, blocks_in};
+ghost use Rattle.jt_chains.specs.Parts.{blocks_view, name_at};
 ghost use Rattle.jt_chains.specs.Uses.{own_names};
 ghost use Rattle.jt_chains.specs.View.{its_sources, its_templates};
 ghost use Rattle.jt_uses.specs.Uses.{body_uses, outside};
@@ -13,7 +14,7 @@ ghost use Rattle.jt_names.specs.FactsOfChains.{AllKnown, IsKnown};
 
 use crate::index::NameIndex;
 use crate::templates::TemplateFacts;
-use jt_chains::{Block, Chain, Definition, Macro, file_named};
+use jt_chains::{Block, Chain, DefinedName, Definition, Macro, file_named};
 use jt_uses::UseSite;
 use std::collections::BTreeMap;
 
@@ -24,10 +25,13 @@ pub struct NamespaceFacts<'a> {
     pub names: Vec<&'a str>,
     /// The different names that its scopes bind, in ascending order.
     pub scope_names: Vec<&'a str>,
+    /// Its macros, the entry template's first.
     pub macros: Vec<Macro<'a>>,
+    /// All names that stand for a macro or a library, its own macros first, repeated names too.
+    pub defined: Vec<DefinedName<'a>>,
     /// The definition of each name that stands for a macro or a library.
     pub given: BTreeMap<&'a str, Definition<'a>>,
-    /// The bodies of its blocks.
+    /// The bodies of its blocks, the entry template's first.
     pub blocks: Vec<Block<'a>>,
     /// The index of the first body of each block, by its name.
     pub first_bodies: NameIndex<'a>,
@@ -61,6 +65,17 @@ impl<'a> ChainFacts<'a> {
             ≡ body_uses (body_at (its_templates self.now.chain.now) index) outside }
     {
         &self.templates[index].uses
+    }
+
+    /// Returns the bodies of the blocks of the template at `index`.
+    pub fn blocks_at(&self, index: usize) -> &[Block<'a>]
+        requires known { AllKnown self.now }
+        requires stands { index < length self.now.chain.now.templates.items }
+        ensures { blocks_view (its_templates self.now.chain.now) result.now
+            ≡ blocks_in (name_at (its_templates self.now.chain.now) index)
+            (body_at (its_templates self.now.chain.now) index) self.now.chain.now.autoescape }
+    {
+        &self.templates[index].blocks
     }
 
     /// Returns the number of different names that a library reads or binds, or 0 if there is no

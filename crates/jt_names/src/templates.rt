@@ -1,20 +1,19 @@
 //! Collects what is known of each template.
 
-ghost use Rattle.std.specs.Prelude.{◌≡◌, ◌<◌, length, flat_map, IfOk};
+ghost use Rattle.std.specs.Prelude.{◌≡◌, ◌<◌, ℕ, length, flat_map, IfOk};
 ghost use Rattle.std.specs.Option.{is_none};
 ghost use Rattle.jt_ast.specs.Texts.{ascending, texts};
-ghost use Rattle.jt_ast.specs.Statements.{Body};
-ghost use Rattle.jt_ast.specs.StatementView.{body_view};
+ghost use Rattle.jt_chains.specs.Along.{body_at};
 ghost use Rattle.jt_chains.specs.Chain as chains;
 ghost use Rattle.jt_chains.specs.View.{its_sources, its_templates, namespace_in};
-ghost use Rattle.jt_names.specs.FactsOfTemplates.{known_of, facts_in, AreKnown};
+ghost use Rattle.jt_chains.specs.declared.chain.Chain.{Chain};
+ghost use Rattle.jt_names.specs.FactsOfTemplates.{AreKnown, IsKnownTemplate};
 ghost use Rattle.jt_names.specs.Names.{Puts};
 ghost use Rattle.jt_names.specs.internal.UsedNames.{names_by};
 
 use crate::ordered::{add_names, list_of};
 use crate::own::{NamesOf, add_used};
-use jt_ast::Stmt;
-use jt_chains::{Chain, file_named};
+use jt_chains::{Block, Chain, Macro, blocks_of_file, file_named, macros_of_file};
 use jt_uses::{UseSite, uses_of};
 use std::alloc::{AllocError, Global};
 use std::collections::BTreeSet;
@@ -26,18 +25,33 @@ pub struct TemplateFacts<'a> {
     pub uses: Vec<UseSite<'a>>,
     /// The different names that it reads or binds, in ascending order.
     pub names: Vec<&'a str>,
+    /// Its macros, in order.
+    pub macros: Vec<Macro<'a>>,
+    /// The bodies of its blocks, nested ones included, in the order of the source.
+    pub blocks: Vec<Block<'a>>,
 }
 
-/// Returns what is known of a template.
-#[tactic(auto, using(crate::proofs::NamesOfUses::names_inserted))]
-fn facts_of_body(alloc: Global, body: &[Stmt]) -> Result<TemplateFacts<'_>, AllocError>
-    ensures { IfOk result (λ f. known_of f ≡ facts_in (body_view body.now)) }
+/// Returns what is known of the template at `index`.
+fn facts_of_template(
+    alloc: Global,
+    chain: &Chain,
+    index: usize,
+) -> Result<TemplateFacts<'_>, AllocError>
+    requires { index < length chain.now.templates.items }
+    ensures { IfOk result (λ f. IsKnownTemplate chain.now index f) }
 {
-    let uses = uses_of(alloc, body)?;
+    let uses = uses_of(alloc, chain.templates[index].template.body())?;
     let mut names = BTreeSet::new(alloc);
     add_used(&mut names, NamesOf::Template, &uses)?;
     let names = list_of(alloc, names)?;
-    Ok(TemplateFacts { uses, names })
+    let macros = macros_of_file(alloc, &chain.templates, index)?;
+    let blocks = blocks_of_file(alloc, &chain.templates, index, chain.autoescape)?;
+    Ok(TemplateFacts {
+        uses,
+        names,
+        macros,
+        blocks,
+    })
 }
 
 /// Returns what is known of each template.
@@ -45,11 +59,11 @@ pub(crate) fn facts_of_templates(
     alloc: Global,
     chain: &Chain,
 ) -> Result<Vec<TemplateFacts<'_>>, AllocError>
-    ensures { IfOk result (λ fs. AreKnown (its_templates chain.now) fs.items) }
+    ensures { IfOk result (λ fs. AreKnown chain.now fs.items) }
 {
     let mut found = Vec::with_capacity(alloc, chain.templates.len())?;
-    for file in &chain.templates {
-        found.push(facts_of_body(alloc, file.template.body())?)?;
+    for index in 0..chain.templates.len() {
+        found.push(facts_of_template(alloc, chain, index)?)?;
     }
     Ok(found)
 }
@@ -69,8 +83,8 @@ fn add_known<'a>(
     of: NamesOf,
     known: &TemplateFacts<'a>,
 ) -> Result<(), AllocError>
-    ensures { IfOk result (λ _. (b : Body) → known_of known.now ≡ facts_in b
-        → Puts names.old names.new (names_by of b)) }
+    ensures { IfOk result (λ _. (c : Chain) (i : ℕ) → IsKnownTemplate c i known.now
+        → Puts names.old names.new (names_by of (body_at (its_templates c) i))) }
 {
     match of {
         NamesOf::Template => add_names(names, &known.names),
@@ -87,7 +101,7 @@ pub(crate) fn names_of_namespace<'a>(
     of: NamesOf,
 ) -> Result<Vec<&'a str>, AllocError>
     requires stands { namespace < length chain.now.namespaces.items }
-    requires known { AreKnown (its_templates chain.now) templates.now }
+    requires known { AreKnown chain.now templates.now }
     ensures { IfOk result (λ ns. texts ns.items ≡ ascending (flat_map (λ t. names_by of t.body)
         (chains.templates (its_sources chain.now) (namespace_in chain.now namespace)))) }
 {

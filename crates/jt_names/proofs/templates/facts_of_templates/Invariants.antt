@@ -1,7 +1,10 @@
 use Rattle.jt_names.proofs.templates.facts_of_templates.Given as goal
-use Rattle.jt_names.proofs.{◌≡◌, ◌++◌, drop, map, files_view, its_templates, known_of, facts_in}
+use Rattle.jt_names.specs.declared.templates.TemplateFacts.{TemplateFacts}
+use Rattle.jt_names.proofs.{IsKnownTemplate, ◌≡◌, ◌<◌, ℕ, length, get_or}
 
-abbrev pub invariant-loop-file : goal.invariant-loop-file
-invariant-loop-file l =
-    map known_of l.found.items ++ map (λ t. facts_in t.body) (files_view (drop l.file-index l.file-items))
-    ≡ map (λ t. facts_in t.body) (its_templates l.chain)
+abbrev pub invariant-loop-index : goal.invariant-loop-index
+invariant-loop-index l = record {
+  all : length l.found.items ≡ l.index;
+  each : (i : ℕ) (f : TemplateFacts) → i < length l.found.items → f ≡ get_or l.found.items i f
+      → IsKnownTemplate l.chain i f;
+}

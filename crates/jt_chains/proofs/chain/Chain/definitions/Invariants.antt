@@ -1,15 +1,15 @@
-use Rattle.jt_chains.proofs.chain.Chain.given.Given as goal
+use Rattle.jt_chains.proofs.chain.Chain.definitions.Given as goal
 use Rattle.jt_chains.proofs.{imports_along, its_templates, namespace_in, ◌≡◌, ◌++◌, drop, own, names_view, macros_view}
 
 abbrev pub invariant-loop-one : goal.invariant-loop-one
 invariant-loop-one l =
     names_view (its_templates l.self) (namespace_in l.self l.namespace) l.names.items
-    ++ own (namespace_in l.self l.namespace) (macros_view (its_templates l.self) (drop l.one-index l.one-items))
-    ≡ own (namespace_in l.self l.namespace) (macros_view (its_templates l.self) l.one-items)
+    ++ own (namespace_in l.self l.namespace) (macros_view (its_templates l.self) (drop l.one-index l.macros))
+    ≡ own (namespace_in l.self l.namespace) (macros_view (its_templates l.self) l.macros)
 
 abbrev pub invariant-loop-index : goal.invariant-loop-index
 invariant-loop-index l =
     names_view (its_templates l.self) (namespace_in l.self l.namespace) l.names.items
     ++ imports_along l.self (drop l.index-index l.index-items)
-    ≡ names_view (its_templates l.self) (namespace_in l.self l.namespace) l.initial.names.items
+    ≡ own (namespace_in l.self l.namespace) (macros_view (its_templates l.self) l.macros)
     ++ imports_along l.self l.index-items
