@@ -70,11 +70,11 @@ chain_alone s (a_library n) b = by (s n) b
 at_listed : (P : Namespace → Type 0) (hs : List Namespace) → AllByRecursion P hs → (h : Namespace)
     → listed h hs ≡ true → P h
 at_listed P [] a h there = absurd (cc)
-at_listed P (k ∷ hs) a h there = by (same_namespace k h) refl
+at_listed P (k ∷ hs) a h there = by (same_namespace k h) refl (at_listed P hs a.1 h)
   where
-    by : (b : Bool) → same_namespace k h ≡ b → P h
-    by true e = subst P (same k h e) a.0
-    by false e = at_listed P hs a.1 h (sym (ap (λ b. b || listed h hs) e) ∙ there)
+    by : (b : Bool) → same_namespace k h ≡ b → (listed h hs ≡ true → P h) → P h
+    by true e rest = subst P (same k h e) a.0
+    by false e rest = rest (sym (ap (λ b. b || listed h hs) e) ∙ there)
 
 -- ---- a linked chain
 
@@ -122,7 +122,7 @@ module _ {given : SourceTexts} {entry : Text} {options : Options} {chain : Seen}
   shown holds = record { templates = chain.templates; read = l.read; only = l.only; holds = holds }
 
   -- A broken rule of one of its chains and libraries.
-  module _ {h : Namespace} (there : listed h chain.order ≡ true) where
+  module _ (h : Namespace) (there : listed h chain.order ≡ true) where
     here : Reaches (sources_of chain) options.autoescape (a_chain entry) h
     here = rw (← l.escaping) (at_listed _ chain.order l.reached h there)
 
@@ -141,7 +141,7 @@ module _ {given : SourceTexts} {entry : Text} {options : Options} {chain : Seen}
     broken_said : (e : ChainError) (p : TagPlace) (x : ChainSubject)
         → BrokenIn (sources_of chain) (templates (sources_of chain) h) x e p
         → Says given entry options (Some p) (Some x) e
-    broken_said e p (v.Macro library x) q = rw q.0 (shown (h, here, q.1))
+    broken_said e p (v.Macro library x) q = rw q.0 (shown (h, here, (q.1, q.2)))
     broken_said e p (v.NameTwice x first) q = rw q.0 (shown (h, here, q.1))
     broken_said e p (v.BlockTwice x first) q = rw q.0 (shown (h, here, q.1))
     broken_said e p (v.Block x) q = rw q.0 (shown (h, here, q.1))
@@ -176,7 +176,7 @@ module _ {given : SourceTexts} {entry : Text} {options : Options} (c : Chain)
   pub rule_finds : (i : ℕ) → i < length c.namespaces.items → (f : ChainFinding) → BreaksAt c i f
       → IsFinding given entry options f
   rule_finds i lt f b =
-      finds l
+      finds l (namespace_in c i)
       (namespace_among (chain_view c).order i (omega (arith, lt, length-map c.namespaces.items namespace_view))) f b
 
   pub only_memory : (other : Seen) → IsChain given entry options other → (f : ChainFinding)

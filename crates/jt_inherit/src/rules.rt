@@ -28,7 +28,7 @@ use crate::error::ChainError;
 use crate::finding::ChainFinding;
 use crate::importing::missing_at;
 use crate::supers::calls_super;
-use jt_chains::{Block, Chain, DefinedName, blocks_of_file};
+use jt_chains::{Block, Chain, DefinedName};
 use jt_names::ChainFacts;
 use std::alloc::{AllocError, Global};
 use std::collections::BTreeSet;
@@ -161,8 +161,7 @@ fn double_block(
 {
     let chain = facts.chain;
     for index in indices {
-        let blocks = blocks_of_file(alloc, &chain.templates, *index, chain.autoescape)?;
-        if let Some(name) = repeated_block(alloc, &blocks)? {
+        if let Some(name) = repeated_block(alloc, facts.blocks_at(*index))? {
             return Ok(Some(block_twice(alloc, &chain.templates[*index], name)?));
         }
     }
@@ -197,8 +196,7 @@ fn check_rules(alloc: Global, facts: &ChainFacts<'_>, namespace: usize) -> Resul
         return Err(missing_finding(alloc, &chain.templates, indices, missing)?);
     }
     let known = facts.at(namespace);
-    let defined = chain.given(alloc, namespace)?;
-    if let Some(name) = repeated_definition(alloc, &defined)? {
+    if let Some(name) = repeated_definition(alloc, &known.defined)? {
         return Err(name_twice(alloc, &chain.templates, indices, name)?);
     }
     if let Some(name) = lacking_body(alloc, &known.blocks)? {
