@@ -22,7 +22,7 @@ use Rattle.jt_inherit.proofs.PathsGrow.{have_sources, all_among, repeated_up, we
 use Rattle.jt_inherit.proofs.TopologicalOrder.{namespace_among, number_of, names_in_order, reached_in_order, no_cycle}
 use Rattle.jt_inherit.proofs.TopologicalOrder.{first_in_order, named_among}
 use Rattle.jt_graph.specs.Graph as graph
-use Rattle.jt_chains.specs.declared.chain.Namespace as held
+use Rattle.jt_chains.specs.declared.chain.Namespace as declared
 
 -- ---- chains by their numbers
 
@@ -156,7 +156,7 @@ module _ {given : SourceTexts} {options : Options} {entry : Text} {ts : List Tem
 
   -- ---- the order of namespaces
 
-  module _ {is : List ℕ} (o : IsOrder ns is) (namespaces : List held.Namespace)
+  module _ {is : List ℕ} (o : IsOrder ns is) (namespaces : List declared.Namespace)
       (made : map listed_view namespaces ≡ map (λ i. (namespace_at hs i, next_of ws i)) is) where
     abbrev pub its_order : List Namespace
     its_order = map namespace_view namespaces
@@ -334,7 +334,7 @@ module _ {given : SourceTexts} {options : Options} {entry : Text} {ts : List Tem
     pub begins_chain : begins_with_chain its_order ≡ true
     begins_chain = ap begins_with_chain begins.1
 
-    whole_along : (js : List ℕ) (ks : List held.Namespace) → AllByRecursion (λ i. i < length hs) js
+    whole_along : (js : List ℕ) (ks : List declared.Namespace) → AllByRecursion (λ i. i < length hs) js
         → map listed_view ks ≡ map (λ i. (namespace_at hs i, next_of ws i)) js → AreWhole ts ks
     whole_along [] [] w a = tt
     whole_along [] (k ∷ ks) w a = absurd (cc)

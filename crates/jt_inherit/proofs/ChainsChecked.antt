@@ -11,7 +11,7 @@ use words.{namespace_view, IsLinked, library_template}
 use Rattle.jt_chains.proofs.TemplatesByIndex.{indices_of_namespace}
 use Rattle.jt_chains.specs.View.{chain_view, its_sources, its_templates, namespace_in}
 use Rattle.jt_chains.specs.declared.chain.Chain.{Chain}
-use Rattle.jt_chains.specs.declared.chain.Namespace as held
+use Rattle.jt_chains.specs.declared.chain.Namespace as declared
 use Rattle.jt_inherit.specs.internal.Breaking.{BreaksAt, KeepsAt}
 use Rattle.jt_inherit.proofs.ChainIsUnique.{no_chain, one_chain}
 use Rattle.jt_inherit.proofs.DiscoveryInvariant.{none_lacking}
@@ -31,7 +31,7 @@ at_from ts (i ∷ is) (u ∷ us) e =
     let h : slice_get ts i ≡ Some u = cc in
     rw h (ap (λ l. u ∷ l) (at_from ts is us (cc)))
 
-pub own_templates : (c : Chain) (i : ℕ) (h : held.Namespace) (is : List ℕ) → is ≡ h.templates.items
+pub own_templates : (c : Chain) (i : ℕ) (h : declared.Namespace) (is : List ℕ) → is ≡ h.templates.items
     → i < length c.namespaces.items → h ≡ get_or c.namespaces.items i h
     → templates_at (its_templates c) is ≡ templates (its_sources c) (namespace_in c i)
 own_templates c i h is items lt at =

@@ -7,10 +7,9 @@ ghost use Rattle.jt_chains.specs.Rules as rules;
 ghost use Rattle.jt_chains.specs.View.{its_sources, its_templates};
 ghost use Rattle.jt_inherit.specs.internal.RuleTests as spec;
 ghost use Rattle.jt_inherit.specs.internal.Breaking.{Misses, lacks};
-ghost use Rattle.jt_inherit.specs.internal.Given.{IsGiven};
 
 use jt_ast::Stmt;
-use jt_chains::{Chain, TemplateFile, file_named};
+use jt_chains::{Chain, file_named};
 
 /// A macro that a library does not offer.
 #[derive(Clone, Copy)]
@@ -19,18 +18,11 @@ pub(crate) struct MissingMacro<'a> {
     pub(crate) name: &'a str,
 }
 
-/// Returns the template of a library of a chain, if it was read.
-fn file_of<'a>(chain: &'a Chain, library: &str) -> Option<&'a TemplateFile>
-    ensures { IsGiven (its_templates chain.now) library.now result }
-{
-    chain.templates.get(file_named(chain, library))
-}
-
 /// Returns whether the library was read and does not offer the macro to importers.
 fn lacks_macro(chain: &Chain, library: &str, name: &str) -> bool
     ensures { result ≡ lacks (its_sources chain.now) library.now name.now }
 {
-    match file_of(chain, library) {
+    match chain.templates.get(file_named(chain, library)) {
         Some(file) => file.is_library() && !file.gives(name),
         None => false,
     }

@@ -188,22 +188,23 @@ fn check_rules(alloc: Global, facts: &ChainFacts<'_>, namespace: usize) -> Resul
     ensures broken { IfErr result (BreaksAt facts.now.chain.now namespace) }
 {
     let chain = facts.chain;
+    let files = chain.templates.as_slice();
     let indices = indices_of(chain, namespace);
     if let Some(finding) = double_block(alloc, facts, indices)? {
         return Err(finding);
     }
     if let Some(missing) = missing_at(chain, indices) {
-        return Err(missing_finding(alloc, &chain.templates, indices, missing)?);
+        return Err(missing_finding(alloc, files, indices, missing)?);
     }
     let known = facts.at(namespace);
     if let Some(name) = repeated_definition(alloc, &known.defined)? {
-        return Err(name_twice(alloc, &chain.templates, indices, name)?);
+        return Err(name_twice(alloc, files, indices, name)?);
     }
     if let Some(name) = lacking_body(alloc, &known.blocks)? {
-        return Err(not_given(alloc, &chain.templates, indices, name)?);
+        return Err(not_given(alloc, files, indices, name)?);
     }
     if let Some(name) = lacking_next(alloc, &known.blocks)? {
-        return Err(no_super(alloc, &chain.templates, indices, name)?);
+        return Err(no_super(alloc, files, indices, name)?);
     }
     Ok(())
 }

@@ -1,6 +1,6 @@
-use Rattle.jt_inherit.proofs.Vocabulary.{◌&&◌, List, not, sym, ap, ◌∙◌, arith, texts, body_view, blocks_view, Block}
-use Rattle.jt_inherit.proofs.Vocabulary.{calls_super}
-use Rattle.jt_inherit.proofs.BodyRules.{any_text, all_next, given_goes, next_found, next_goes}
+use Rattle.jt_inherit.proofs.Vocabulary.{◌&&◌, not, sym, ap, ◌∙◌, arith, texts, body_view, blocks_view}
+use Rattle.jt_inherit.proofs.Vocabulary.{◌≡◌, calls_super, drop, subst}
+use Rattle.jt_inherit.proofs.BodyRules.{HaveNext, any_text, all_next, given_goes, next_found, next_goes}
 use Rattle.jt_inherit.proofs.rules.lacking_next.Goals as goal
 
 pub returns-then-is_lacking : goal.returns-then-is_lacking
@@ -40,4 +40,6 @@ returns c =
     λ ts.
     let l = c.loop-left in
     let le = c.loop-left-test.false in
-    sym (all_next (blocks_view ts c.args.blocks.now) ?)
+    let none : l.left ≡ 0 = omega arith in
+    sym (all_next (blocks_view ts c.args.blocks.now)
+    (subst (λ k. HaveNext (blocks_view ts (drop k c.args.blocks.now))) none (l.invariant.next ts)))
