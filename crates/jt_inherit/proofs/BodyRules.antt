@@ -237,7 +237,8 @@ module _ (ts : List Template) (xs : List Block) (k i : ℕ) (x : Block) (lt : i 
       (ap (λ b. not b && calls_super (block_view ts x).body) (sym (h x.name.now)) ∙ both)
 
   pub next_goes : (ks : List Text) → ((y : Text) → among y ks ≡ has_given y (blocks_view ts (drop k xs)))
-      → HaveNext (blocks_view ts (drop k xs)) → (not (among x.name.now ks) && calls_super (block_view ts x).body) ≡ false
+      → HaveNext (blocks_view ts (drop k xs))
+      → (not (among x.name.now ks) && calls_super (block_view ts x).body) ≡ false
       → HaveNext (blocks_view ts (drop i xs))
   next_goes ks h n off =
       rw from_here (next_more (block_view ts x) (blocks_view ts (drop k xs)) n

@@ -5,8 +5,8 @@ use words.{Some, None, rules, zero, suc, true, not, HasPath, names, slice_get, f
 use words.{append-nil, slice_get_within, Text, Body, body_of, among, repeated, Sources, a_library, Template}
 use words.{library_template, holds_macros, is_a_library, MacroBody, macros, macros_in, public_macro, sources_in}
 use words.{file_view, files_view, TemplateFile, only_one, macros_held, names_from, Options, SourceTexts, AreKnown}
-use words.{is_no_library, not-false, library_macros, ◌≤◌, ◌&&◌, ◌||◌, if◌then◌else◌, true, is_none, bytes_eq, or_from, same}
-use words.{lacks, index_of}
+use words.{is_no_library, not-false, library_macros, ◌≤◌, ◌&&◌, ◌||◌, if◌then◌else◌, is_none, bytes_eq, or_from}
+use words.{same, lacks, index_of}
 use Rattle.jt_inherit.proofs.PathsGrow.{file_there, nothing_read}
 use Rattle.jt_chains.specs.Rules.{lacks_one}
 use Rattle.jt_inherit.proofs.DiscoveryInvariant.{some_source}
@@ -73,7 +73,8 @@ lacks_same s r n (x ∷ xs) e = search (arith, rules, lacks_same s r n xs e)
 
 -- ---- the library of a name in a chain
 
-named_index : (ts : List Template) (n : Text) → index_of ts n < length ts → slice_get (names ts) (index_of ts n) ≡ Some n
+named_index : (ts : List Template) (n : Text) → index_of ts n < length ts
+    → slice_get (names ts) (index_of ts n) ≡ Some n
 named_index [] n lt = absurd (omega arith)
 named_index (t ∷ ts) n lt = by (bytes_eq t.name n) refl lt (named_index ts n)
   where
