@@ -2,18 +2,19 @@
 use Rattle.jt_inherit.proofs.Vocabulary as words
 use words.{◌≡◌, ℕ, zero, suc, ◌+◌, ◌<◌, Bool, true, false, not, cond, ◌&&◌, ◌||◌, List, [], ◌∷◌, ◌++◌, length, map}
 use words.{take, drop, get_or, refl, sym, ap, ◌∙◌, arith, rules, Some, or-false, or_assoc, or_comm, is_eq-slice_cmp}
-use words.{body_at, macros_along, blocks_along, BlockBody, from_given, named, slice_get, drop_more, map-append}
+use words.{body_at, BlockBody, from_given, named, slice_get, drop_more, map-append}
 use words.{slice_get-get_or, list_any, bytes_eq, Bor, among, repeated, texts, Text, end, option_to_list, templates_at}
 use words.{any_double, Template, blocks_in, lacks_body, lacks_next, block_names, block_view, blocks_view, Block}
-use words.{calls_super, of_texts, reflexive, same, symmetric, among_next, once_more, along, Sources, MacroBody}
-use words.{macros_in, their_blocks, their_macros, their_names, imported_names, along_templates, or_from, or_parts}
-use words.{or_right, take_more}
+use words.{calls_super, of_texts, reflexive, same, symmetric, among_next, once_more}
+use words.{or_from, or_parts}
+use words.{or_right, take_more, Namespace, map-map, take-append-drop}
 use Rattle.std.specs.BTreeSet.{BTreeSet}
 use Rattle.std.specs.Cmp.Lexicographic.{slice_cmp}
 use Rattle.std.specs.Ordering.{nat_cmp, is_eq}
-use Rattle.jt_chains.specs.Parts.{name_at, macros_view}
+use Rattle.jt_chains.specs.Named.{named_view, names_view}
+use Rattle.jt_chains.specs.Parts.{name_at}
 use Rattle.jt_chains.specs.Rules.{is_required, lacks_super, is_empty}
-use Rattle.jt_chains.specs.declared.parts.Macro.{Macro}
+use Rattle.jt_chains.specs.declared.definitions.DefinedName.{DefinedName}
 use Rattle.std.specs.BTreeSet as set
 
 -- ---- a set of texts
@@ -219,27 +220,37 @@ pub next_lacking : (ts : List Template) (qs : List Block) (b : Block) (rest : Li
     → lacks_next (blocks_view ts (qs ++ b ∷ rest)) ≡ true
 next_lacking ts qs b rest h = search (arith, rules, map-append, none_next)
 
-macros_seen : (ts : List Template) (ms : List Macro)
-    → map (λ (m : MacroBody). m.name) (macros_view ts ms) ≡ map (λ m. m.name.now) ms
-macros_seen ts [] = refl
-macros_seen ts (m ∷ ms) = rw (macros_seen ts ms)
+-- ---- lists of bodies, visited from the last to the first
 
--- The names of macros, followed by the names that imports bind.
-pub names_found : (s : Sources) (ts us : List Template) (is : List ℕ) → map (slice_get ts) is ≡ map Some us
-    → (ms : List Macro) → macros_view ts ms ≡ macros_along ts is
-    → map (λ m. m.name.now) ms ++ along ts (λ n b. imported_names s b) is ≡ their_names s us
-names_found s ts us is all ms v =
-    ap (λ l. l ++ along ts (λ n b. imported_names s b) is)
-    (sym (macros_seen ts ms)
-    ∙ ap (λ (l : List MacroBody). map (λ m. m.name) l) (v ∙ along_templates macros_in ts is us all))
-    ∙ ap (λ l. map (λ (m : MacroBody). m.name) (their_macros us) ++ l)
-    (along_templates (λ n b. imported_names s b) ts is us all)
+module _ (ts : List Template) (xs : List Block) (k i : ℕ) (x : Block) (lt : i < length xs) (is : x ≡ get_or xs i x)
+    (next : k ≡ i + 1) where
+  from_here : drop i xs ≡ x ∷ drop k xs
+  from_here = rw next (drop_more xs i x lt ∙ ap (λ (y : Block). y ∷ drop (i + 1) xs) (sym is))
 
-module _ (e : Bool) (ts us : List Template) (is : List ℕ) (all : map (slice_get ts) is ≡ map Some us) where
-  pub bodies_told : (bs : List Block) (b : Bool) → blocks_view ts bs ≡ blocks_along ts e is
-      → b ≡ lacks_body (blocks_view ts bs) → lacks_body (their_blocks e us) ≡ b
-  bodies_told bs b v h = ap lacks_body (sym (along_templates (λ n x. blocks_in n x e) ts is us all) ∙ sym v) ∙ sym h
+  pub next_found : (ks : List Text) → ((y : Text) → among y ks ≡ has_given y (blocks_view ts (drop k xs)))
+      → (not (among x.name.now ks) && calls_super (block_view ts x).body) ≡ true → lacks_next (blocks_view ts xs) ≡ true
+  next_found ks h both =
+      let whole : xs ≡ take i xs ++ x ∷ drop k xs =
+      sym (take-append-drop i xs) ∙ ap (λ (l : List Block). take i xs ++ l) from_here in
+      ap (λ (l : List Block). lacks_next (blocks_view ts l)) whole
+      ∙ next_lacking ts (take i xs) x (drop k xs)
+      (ap (λ b. not b && calls_super (block_view ts x).body) (sym (h x.name.now)) ∙ both)
 
-  pub next_told : (bs : List Block) (b : Bool) → blocks_view ts bs ≡ blocks_along ts e is
-      → b ≡ lacks_next (blocks_view ts bs) → lacks_next (their_blocks e us) ≡ b
-  next_told bs b v h = ap lacks_next (sym (along_templates (λ n x. blocks_in n x e) ts is us all) ∙ sym v) ∙ sym h
+  pub next_goes : (ks : List Text) → ((y : Text) → among y ks ≡ has_given y (blocks_view ts (drop k xs)))
+      → HaveNext (blocks_view ts (drop k xs))
+      → (not (among x.name.now ks) && calls_super (block_view ts x).body) ≡ false
+      → HaveNext (blocks_view ts (drop i xs))
+  next_goes ks h n off =
+      rw from_here (next_more (block_view ts x) (blocks_view ts (drop k xs)) n
+      (ap (λ b. not b && calls_super (block_view ts x).body) (sym (h x.name.now)) ∙ off))
+
+  pub given_goes : (ks ms : List Text) → ((y : Text) → among y ks ≡ has_given y (blocks_view ts (drop k xs)))
+      → ((y : Text) → among y ms ≡ ((bytes_eq x.name.now y && not x.required) || among y ks)) → (y : Text)
+      → among y ms ≡ has_given y (blocks_view ts (drop i xs))
+  given_goes ks ms h m y =
+      rw from_here (m y ∙ ap (λ b. (bytes_eq x.name.now y && not x.required) || b) (h y))
+
+-- The names of definitions.
+pub names_defined : (ts : List Template) (h : Namespace) (ds : List DefinedName)
+    → map (λ g. g.0) (names_view ts h ds) ≡ map (λ d. d.name.now) ds
+names_defined ts h ds = map-map (λ g. g.0) (named_view ts h) ds

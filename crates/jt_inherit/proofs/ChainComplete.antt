@@ -3,31 +3,26 @@
 use Rattle.jt_inherit.proofs.Vocabulary as words
 use words.{◌≡◌, ◌≢◌, ◌↔◌, ℕ, zero, suc, ◌+◌, ◌*◌, ◌<◌, ◌≤◌, ◌==◌, true, false, not, ◌&&◌, List, [], ◌∷◌, length, map}
 use words.{refl, sym, ap, subst, ◌∙◌, arith, inl, inr, ◌⊎◌, ⊎_elim, Some, None, Vec, Global, get_or, rules, names}
-use words.{slice_get_within, length-map, append-nil, map-map, slice_get, AllByRecursion, list_any, is_none, cases_lt}
+use words.{slice_get_within, length-map, map-map, slice_get, AllByRecursion, list_any, is_none, cases_lt}
 use words.{nat_tests, Graph, next_of, graph_of, Options, among, repeated, Text, AreIndices, templates_at, needs_along}
-use words.{Namespace, a_chain, listed, is_a_library, Template, templates, sources_in, SourceTexts, IsChain, lacks_body}
-use words.{lacks_next, chains_of, AreFound, IsFound, found_templates, found_namespaces, root_of, IsFollowed}
-use words.{AreFollowed, IsMet, found_paths, listed_view, included, InOrder, KeepAll, BreakOne, their_blocks}
-use words.{their_names, any_double, any_lacks_macros, IsName, Need, needed, namespace_at, IsFinding, Breaks}
-use words.{ChainFinding, Asks, Reaches, asked, is_whole, KeepsRules, templates_weight, chains_weight, templates_len}
-use words.{chains_len, Seen, AreKnown, IsExtendsPath, Discovery, ChainError, map_at, of_texts, same, chain_among}
+use words.{Namespace, a_chain, listed, is_a_library, Template, templates, sources_in, SourceTexts}
+use words.{chains_of, AreFound, IsFound, found_templates, found_namespaces, root_of, IsFollowed}
+use words.{AreFollowed, IsMet, found_paths, listed_view, included, InOrder}
+use words.{IsName, Need, needed, namespace_at}
+use words.{Asks, Reaches, asked, is_whole, templates_weight, chains_weight, templates_len}
+use words.{chains_len, Seen, AreKnown, IsExtendsPath, Discovery, map_at, of_texts, same, chain_among}
 use words.{of_namespaces, among_cases, no_more, indexed_among, and_from, and_right, both_ways, list_any-append}
-use words.{not-true, or_from, or_right, IsClosed, IsOrder, IsDone, begins_with_chain, namespace_view, AreWhole, FindsAt}
-use words.{given_templates}
-use Rattle.jt_chains.specs.Chain.{given as given_in}
-use Rattle.jt_inherit.proofs.FindingsHold.{rule_bare, rule_said}
-use Rattle.jt_inherit.proofs.RulesCarryOver.{given_names}
+use words.{not-true, or_from, or_right, IsClosed, IsOrder, IsDone, begins_with_chain, namespace_view, AreWhole}
+use words.{given_templates, IsLinked, KeepsLinkRules}
 use Rattle.jt_inherit.proofs.TreeWeights.{few_chains, all_weigh}
 use Rattle.jt_inherit.proofs.DiscoveryInvariant.{none_read, few_way, way_names, asked_way, indexed_templates}
-use Rattle.jt_inherit.proofs.DiscoveryInvariant.{included_is, whole_path, some_source, all_imported, none_given}
-use Rattle.jt_inherit.proofs.DiscoveryInvariant.{none_lacking}
-use Rattle.jt_inherit.proofs.PathsGrow.{shows, few_templates, all_at_indices, too_few, few_names, all_named}
+use Rattle.jt_inherit.proofs.DiscoveryInvariant.{included_is, whole_path, some_source}
+use Rattle.jt_inherit.proofs.PathsGrow.{few_templates, all_at_indices, too_few, few_names, all_named}
 use Rattle.jt_inherit.proofs.PathsGrow.{have_sources, all_among, repeated_up, weigh, names_indexed}
 use Rattle.jt_inherit.proofs.TopologicalOrder.{namespace_among, number_of, names_in_order, reached_in_order, no_cycle}
 use Rattle.jt_inherit.proofs.TopologicalOrder.{first_in_order, named_among}
 use Rattle.jt_graph.specs.Graph as graph
-use Rattle.jt_inherit.specs.declared.error.ChainError.TheVariants as error
-use Rattle.jt_chains.specs.declared.chain.Namespace as linked
+use Rattle.jt_chains.specs.declared.chain.Namespace as declared
 
 -- ---- chains by their numbers
 
@@ -106,40 +101,6 @@ module _ {given : SourceTexts} {options : Options} {ts : List Template}
       (omega (arith, few_way options.autoescape w, length-map us (λ (t : Template). t.name))))
       (ap not (have_sources s us held))))
 
-  -- The defined names of a namespace.
-  pub names_told : map (λ g. g.0) (given_in (sources_in ts) h) ≡ their_names (sources_in ts) (templates_at ts is)
-  names_told = search (arith, rules, given_names, whole_path, all_imported, append-nil, none_given)
-
-  -- A library lacks no macro that it imports, since it imports none.
-  chain_alone : any_lacks_macros (sources_in ts) (templates_at ts is) ≡ true → (n : Text) × (h ≡ a_chain n)
-  chain_alone b = search (arith, rules, none_lacking)
-
-  -- A broken rule on blocks, macros or imports.
-  pub one_breaks : (root : Text) → Reaches (sources_in ts) options.autoescape (a_chain root) h → (e : ChainError)
-      → BreakOne (sources_in ts) options.autoescape (templates_at ts is) e → Breaks e given root options
-  one_breaks root r error.DoubleBlock b =
-      shows known (h, r, rw (whole_path w) b)
-  one_breaks root r error.RequiredNotGiven b =
-      shows known (
-        h,
-        r,
-        and_from _ _ is_one
-            (rw (whole_path w) b),
-      )
-  one_breaks root r error.NoSuper b =
-      shows known (
-        h,
-        r,
-        and_from _ _ is_one
-            (rw (whole_path w) b),
-      )
-  one_breaks root r error.MacroTwice b =
-      search (arith, rules, shows, and_from, is_whole, sources_in, repeated, is_one, names_told)
-  one_breaks root r error.NoMacro b =
-      search (arith, rules, chain_alone, shows, any_lacks_macros, sources_in, whole_path)
-  one_breaks root r error.NoMemory b = tt
-  one_breaks root r e b = absurd b
-
   module _ (met : AllByRecursion (IsMet given (names ts)) (needs_along ts is)) where
     pub none_missing : list_any (λ n. is_none (sources_in ts n)) (asked (sources_in ts) options.autoescape false h)
         ≡ false
@@ -187,21 +148,6 @@ module _ {given : SourceTexts} {options : Options} {entry : Text} {ts : List Tem
   includes_next i lt =
       (number i lt).numbered ∙ ap (map Some) (sym (included_is (number i lt).led))
 
-  pub chain_finds : (x : ChainFinding) → FindsAt options.autoescape ts ws x → IsFinding given entry options x
-  chain_finds x b =
-      let i = b.number in
-      let lt : i < length hs = omega (arith, b.within, all) in
-      let h = namespace_at hs i in
-      let w = next_of ws i in
-      let here = reached h (namespace_among hs i lt) in
-      record {
-        broken = one_breaks f.known (number i lt).led entry here x.error b.found.broken;
-        says =
-            rule_said f.known here (number i lt).led (is_one f.known (number i lt).led) x.error
-            (rule_bare (sources_in ts) options.autoescape (templates_at ts w) x.error b.found.broken) x.place x.subject
-            b.found.said;
-      }
-
   -- ---- an edge of numbers is one of chains
 
   pub edge : (i j : ℕ) → graph.among j (next_of ns i) ≡ true
@@ -210,8 +156,7 @@ module _ {given : SourceTexts} {options : Options} {entry : Text} {ts : List Tem
 
   -- ---- the order of namespaces
 
-  module _ (kept : AllByRecursion (λ w. KeepAll (sources_in ts) options.autoescape (templates_at ts w)) ws)
-      {is : List ℕ} (o : IsOrder ns is) (namespaces : List linked.Namespace)
+  module _ {is : List ℕ} (o : IsOrder ns is) (namespaces : List declared.Namespace)
       (made : map listed_view namespaces ≡ map (λ i. (namespace_at hs i, next_of ws i)) is) where
     abbrev pub its_order : List Namespace
     its_order = map namespace_view namespaces
@@ -247,35 +192,31 @@ module _ {given : SourceTexts} {options : Options} {entry : Text} {ts : List Tem
 
     -- The path of a namespace.
     way_of : (h : Namespace) → listed h hs ≡ true
-        → (w : List ℕ) × IsExtendsPath ts h w None × KeepAll (sources_in ts) options.autoescape (templates_at ts w)
-        × AllByRecursion (IsMet given (names ts)) (needs_along ts w)
+        → (w : List ℕ) × IsExtendsPath ts h w None × AllByRecursion (IsMet given (names ts)) (needs_along ts w)
     way_of h a =
         let k = number_of hs h a in
         let n = number k.0 k.1 in (
           next_of ws k.0,
           subst (λ x. IsExtendsPath ts x (next_of ws k.0) None) k.2 n.led,
-          at_number _ ws k.0
-              (omega (arith, k.1, all)) kept,
           n.met,
         )
 
     way_reached : {h : Namespace} → Reaches (sources_in ts) options.autoescape (a_chain entry) h
-        → (w : List ℕ) × IsExtendsPath ts h w None × KeepAll (sources_in ts) options.autoescape (templates_at ts w)
-        × AllByRecursion (IsMet given (names ts)) (needs_along ts w)
+        → (w : List ℕ) × IsExtendsPath ts h w None × AllByRecursion (IsMet given (names ts)) (needs_along ts w)
     way_reached {h} r = way_of h (in_namespaces h (ordered r))
 
     named_met : (n : Need) → IsMet given (names ts) n → IsName n.name
     named_met n m =
         ⊎_elim (λ p. all_among IsName ts n.name (all_named given options ts f.known.read.each) p) (λ q. q.1) m
 
-    keeps : KeepsRules (sources_in ts) options.autoescape (a_chain entry)
+    keeps : KeepsLinkRules (sources_in ts) options.autoescape (a_chain entry)
     keeps = record {
       missing = λ x.
           let k = way_reached x.1 in
-          both_ways _ (none_missing f.known k.1 k.3) x.2;
+          both_ways _ (none_missing f.known k.1 k.2) x.2;
       bad_name = λ x.
           let k = way_reached x.1 in
-          x.2.2 (all_asked f.known k.1 k.3 IsName
+          x.2.2 (all_asked f.known k.1 k.2 IsName
           (all_at_indices _ ts k.0 (all_named given options ts f.known.read.each)) named_met x.2.0
           x.2.1);
       extends_cycle = λ x.
@@ -298,26 +239,9 @@ module _ {given : SourceTexts} {options : Options} {entry : Text} {ts : List Tem
           let most = f.few in
           omega (arith, le, gt, most))
           x;
-      double_block = λ x.
-          let k = way_reached x.1 in
-          both_ways _ (ap (any_double options.autoescape) (whole_path k.1) ∙ k.2.doubles) x.2;
-      required_not_given = λ x.
-          let k = way_reached x.1 in
-          both_ways _ (and_right _ _ (ap (λ us. lacks_body (their_blocks options.autoescape us)) (whole_path k.1)
-          ∙ k.2.bodies)) x.2;
-      no_super = λ x.
-          let k = way_reached x.1 in
-          both_ways _ (and_right _ _ (ap (λ us. lacks_next (their_blocks options.autoescape us)) (whole_path k.1)
-          ∙ k.2.next)) x.2;
       include_cycle =
           λ x. no_cycle _ _ _ in_order x.0 x.2.0 (ordered x.1)
           x.2.1 x.2.2;
-      macro_twice = λ x.
-          let k = way_reached x.1 in
-          both_ways _ (and_right _ _ (ap repeated (names_told f.known k.1) ∙ k.2.names)) x.2;
-      no_macro = λ x.
-          let k = way_reached x.1 in
-          both_ways _ (ap (any_lacks_macros (sources_in ts)) (whole_path k.1) ∙ k.2.macros_there) x.2.2;
       not_a_library = λ x.
           let k = way_reached x.1 in
           let l = (subst (λ h. IsExtendsPath ts h k.0 None) x.2.1 k.1).leads in
@@ -333,7 +257,7 @@ module _ {given : SourceTexts} {options : Options} {entry : Text} {ts : List Tem
         → (among n (names ts) ≡ true) ⊎ (given n ≡ None)
     complete n x =
         let k = way_reached x.1 in
-        all_asked f.known k.1 k.3 (λ x. (among x (names ts) ≡ true) ⊎ (given x ≡ None))
+        all_asked f.known k.1 k.2 (λ x. (among x (names ts) ≡ true) ⊎ (given x ≡ None))
         (all_at_indices _ ts k.0
         (each_known ts (λ x p. p)))
         (λ m p. ⊎_elim (λ q. inl q) (λ q. inr q.2) p) n x.2
@@ -368,15 +292,26 @@ module _ {given : SourceTexts} {options : Options} {entry : Text} {ts : List Tem
     all_reached (x ∷ os) w =
         (reached x (w x (indexed_among of_namespaces (x ∷ os) 0 x refl)), all_reached os (λ z a. w z (or_right _ _ a)))
 
-    pub chained : IsChain given entry options chain
-    chained = record {
+    -- The path of each chain and library is whole.
+    are_whole : (os : List Namespace) → ((x : Namespace) → listed x os ≡ true → listed x hs ≡ true)
+        → AllByRecursion (λ h. is_whole (sources_in ts) options.autoescape h ≡ true) os
+    are_whole [] w = tt
+    are_whole (x ∷ os) w = (
+      is_one f.known (way_of x (w x (indexed_among of_namespaces (x ∷ os) 0 x refl))).1,
+      are_whole os (λ z a. w z (or_right _ _ a)),
+    )
+
+    pub linked : IsLinked given entry options chain
+    linked = record {
       escaping = refl;
       read = f.known.read;
+      only = f.known.only;
       asked = templates_asked;
       included = begins.0;
       begins = begins.1;
       reached = all_reached its_order in_namespaces;
       order = in_order;
+      whole = are_whole its_order in_namespaces;
       rules = keeps;
     }
 
@@ -399,7 +334,7 @@ module _ {given : SourceTexts} {options : Options} {entry : Text} {ts : List Tem
     pub begins_chain : begins_with_chain its_order ≡ true
     begins_chain = ap begins_with_chain begins.1
 
-    whole_along : (js : List ℕ) (ks : List linked.Namespace) → AllByRecursion (λ i. i < length hs) js
+    whole_along : (js : List ℕ) (ks : List declared.Namespace) → AllByRecursion (λ i. i < length hs) js
         → map listed_view ks ≡ map (λ i. (namespace_at hs i, next_of ws i)) js → AreWhole ts ks
     whole_along [] [] w a = tt
     whole_along [] (k ∷ ks) w a = absurd (cc)
@@ -431,7 +366,3 @@ module _ {given : SourceTexts} {options : Options} {entry : Text} {f : Discovery
     (d : IsDone given options entry f) where
   pub all : length (found_paths f) ≡ length (found_namespaces f)
   all = length-map f.extends_paths.items (λ (v : Vec ℕ Global). v.items) ∙ d.all.paths
-
-  pub its_findings : (x : ChainFinding) → FindsAt options.autoescape (found_templates f) (found_paths f) x
-      → IsFinding given entry options x
-  its_findings = chain_finds d.found all

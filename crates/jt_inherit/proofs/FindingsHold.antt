@@ -10,10 +10,10 @@ use words.{extends_of, names_up, sources_in, included, IsName, Reaches, here, th
 use words.{ForSome, IsAt, HasTag, all_uses, is_extends, Says, may_be_bare, AreKnown, BreaksAll, IsExtendsPath, Leads}
 use words.{IsFaultOf, IsNamedOn, need_test, IsUnmet, tags, place_in, place_view, ChainError, ChainSubject, TagPlace}
 use words.{among_next, once_more, of_texts, key_view, ChainFinding, NamespaceKey, both_ways, flat_map-append, Need}
-use words.{AreIndices, is_whole, IsFinding, IsNoMemory, IsOfRule, RuleAt, BreakOne, IsBroken, is_include, Breaks}
+use words.{AreIndices, IsFinding, IsNoMemory, is_include, Breaks}
 use words.{IsNextFinding, TooMany, chosen, IsIncludedMore, Graph, next_of, is_a_library, namespace_at, leads_to}
 use words.{AreFound, is_no_library, and_from, IsBrokenAt, last_of, SaysAll, IsAsked, IsFirst, IsNameless, IsOfName}
-use words.{IsOfNeed, IsParentAt, IsOneMore, IsRingOf, NamedAt, IsOneChainMore, IsFaultAt, IsUnmetNeed, BrokenIn, ◌&&◌}
+use words.{IsOfNeed, IsParentAt, IsOneMore, IsRingOf, NamedAt, IsOneChainMore, IsFaultAt, IsUnmetNeed, ◌&&◌}
 use words.{IsItsName, IsNoLibrary, IsOfImport, LeadsAt}
 use Rattle.jt_inherit.proofs.DiscoveryInvariant.{some_source, none_read, asks_needed, whole_path, included_is, asked_at}
 use Rattle.jt_inherit.proofs.PathsGrow.{all_among, all_named, shows, names_lead, templates_lead, few_templates}
@@ -367,46 +367,6 @@ module _ {given : SourceTexts} {root : Text} {options : Options} where
             (need_used w.indices n) n.placed.1.0 n.placed.1.1 f.place f.subject n.placed.1.2;
       })
       unmet
-
--- The finding of a rule that the templates break, or lack of memory.
-pub rule_broken : {s : Sources} {escaping : Bool} {ts : List Template} {e : ChainError} {f : ChainFinding}
-    → BreakOne s escaping ts e → IsOfRule s ts e f → IsBroken s escaping ts f
-rule_broken {s} {escaping} {ts} {e} {f} b r = search (arith, rules)
-
-pub memory_broken : {s : Sources} {escaping : Bool} {ts : List Template} {f : ChainFinding} → IsNoMemory f
-    → IsBroken s escaping ts f
-memory_broken {s} {escaping} {ts} m = rw m (record { broken = tt; said = tt })
-
--- A broken rule on the blocks, macros and imports of a chain or library.
-module _ {given : SourceTexts} {root : Text} {options : Options} {ts : List Template}
-    (known : AreKnown given options ts) {h : Namespace}
-    (r : Reaches (sources_in ts) options.autoescape (a_chain root) h) {is : List ℕ}
-    (w : IsExtendsPath ts h is None) (whole : is_whole (sources_in ts) options.autoescape h ≡ true) where
-  broken_said : (e : ChainError) (p : TagPlace) (x : ChainSubject)
-      → BrokenIn (sources_in ts) (templates_at ts is) x e p → Says given root options (Some p) (Some x) e
-  broken_said e p (v.Macro library x) q = search (arith, rules, shown, whole_path)
-  broken_said e p (v.NameTwice x first) q = search (arith, rules, shown, whole_path)
-  broken_said e p (v.BlockTwice x first) q = search (arith, rules, shown, whole_path)
-  broken_said e p (v.Block x) q = search (arith, rules, shown, whole_path)
-  broken_said e p (v.Super x opened) q = search (arith, rules, shown, whole_path)
-  broken_said e p x q = absurd q
-
-  pub rule_said : (e : ChainError) → may_be_bare e ≡ true → (p : Option TagPlace) (x : Option ChainSubject)
-      → RuleAt (sources_in ts) (templates_at ts is) p x e → Says given root options p x e
-  rule_said e bare None None q = bare
-  rule_said e bare None (Some x) q = absurd q
-  rule_said e bare (Some p) None q = absurd q
-  rule_said e bare (Some p) (Some x) q = broken_said e p x q
-
--- The errors of a broken rule on blocks, macros and imports.
-pub rule_bare : (s : Sources) (escaping : Bool) (ts : List Template) (e : ChainError) → BreakOne s escaping ts e
-    → may_be_bare e ≡ true
-rule_bare s escaping ts error.Missing b = absurd b
-rule_bare s escaping ts error.BadName b = absurd b
-rule_bare s escaping ts error.ExtendsCycle b = absurd b
-rule_bare s escaping ts error.ChainTooLong b = absurd b
-rule_bare s escaping ts error.NotALibrary b = absurd b
-rule_bare s escaping ts e b = refl
 
 -- A chain or library leads to more chains than an entry may reach.
 module _ {given : SourceTexts} {options : Options} {root : Text} {ts : List Template}

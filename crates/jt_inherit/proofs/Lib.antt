@@ -15,6 +15,7 @@ pub mod ChainIsUnique
 pub mod StoreLookup
 pub mod TreeWeights
 pub mod ChainComplete
+pub mod ChainsChecked
 pub mod TagPlaces
 pub mod FindingsHold
 pub mod RingFound

@@ -5,7 +5,8 @@ use words.{Some, None, rules, zero, suc, true, not, HasPath, names, slice_get, f
 use words.{append-nil, slice_get_within, Text, Body, body_of, among, repeated, Sources, a_library, Template}
 use words.{library_template, holds_macros, is_a_library, MacroBody, macros, macros_in, public_macro, sources_in}
 use words.{file_view, files_view, TemplateFile, only_one, macros_held, names_from, Options, SourceTexts, AreKnown}
-use words.{is_no_library, not-false, library_macros}
+use words.{is_no_library, not-false, library_macros, ◌≤◌, ◌&&◌, ◌||◌, if◌then◌else◌, is_none, bytes_eq, or_from}
+use words.{same, lacks, index_of}
 use Rattle.jt_inherit.proofs.PathsGrow.{file_there, nothing_read}
 use Rattle.jt_chains.specs.Rules.{lacks_one}
 use Rattle.jt_inherit.proofs.DiscoveryInvariant.{some_source}
@@ -69,6 +70,48 @@ nothing_lacks s n (x ∷ xs) e =
 pub lacks_same : (s r : Sources) (n : Text) (xs : List (Text × Text)) → s n ≡ r n → lacks_one s n xs ≡ lacks_one r n xs
 lacks_same s r n [] e = refl
 lacks_same s r n (x ∷ xs) e = search (arith, rules, lacks_same s r n xs e)
+
+-- ---- the library of a name in a chain
+
+named_index : (ts : List Template) (n : Text) → index_of ts n < length ts
+    → slice_get (names ts) (index_of ts n) ≡ Some n
+named_index [] n lt = absurd (omega arith)
+named_index (t ∷ ts) n lt = by (bytes_eq t.name n) refl lt (named_index ts n)
+  where
+    by : (b : Bool) → bytes_eq t.name n ≡ b → (if b then 0 else suc (index_of ts n)) < suc (length ts)
+        → (index_of ts n < length ts → slice_get (names ts) (index_of ts n) ≡ Some n)
+        → slice_get (t.name ∷ names ts) (if b then 0 else suc (index_of ts n)) ≡ Some n
+    by true e q r = ap (λ (x : Text). Some x) (same t.name n e)
+    by false e q r = r (omega arith)
+
+no_index : (ts : List Template) (n : Text) → length ts ≤ index_of ts n → among n (names ts) ≡ false
+no_index [] n le = refl
+no_index (t ∷ ts) n le = by (bytes_eq t.name n) refl le (no_index ts n)
+  where
+    by : (b : Bool) → bytes_eq t.name n ≡ b → suc (length ts) ≤ (if b then 0 else suc (index_of ts n))
+        → (length ts ≤ index_of ts n → among n (names ts) ≡ false) → (bytes_eq t.name n || among n (names ts)) ≡ false
+    by true e q r = absurd (omega arith)
+    by false e q r = or_from _ _ e (r (omega arith))
+
+none_some : {A : Type 0} (o : Option A) → is_none o ≡ not (is_some o)
+none_some None = refl
+none_some (Some x) = refl
+
+-- The library of a name lacks the macros that the template of its index does not offer.
+module _ (ps : List TemplateFile) (n x : Text) (i : ℕ) (e : i ≡ index_of (files_view ps) n) where
+  pub file_lacks : repeated (names (files_view ps)) ≡ false → (p : TemplateFile) → i < length ps → p ≡ get_or ps i p
+      → lacks (sources_in (files_view ps)) n x
+      ≡ (holds_macros (body_of p.template) && not (is_some (public_macro x (macros_held p))))
+  file_lacks once p lt is =
+      let at : slice_get (names (files_view ps)) i ≡ Some n =
+      rw e (named_index (files_view ps) n (omega (arith, lt, e, length-map ps file_view))) in
+      rw (is_library_read ps once n i at p is _ refl) (ap (λ b. holds_macros (body_of p.template) && b)
+      (ap (λ ms. is_none (public_macro x ms)) (sym (macros_there ps once n i at p is)) ∙ none_some _))
+
+  pub no_file_lacks : length ps ≤ i → lacks (sources_in (files_view ps)) n x ≡ false
+  no_file_lacks le =
+      rw (unread (files_view ps) n
+      (no_index (files_view ps) n (omega (arith, le, e, length-map ps file_view)))) refl
 
 -- The template at the index of a name.
 of_name : (ts : List Template) (i : ℕ) (n : Text) → slice_get (names ts) i ≡ Some n

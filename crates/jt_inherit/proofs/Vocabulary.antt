@@ -74,6 +74,7 @@ pub use Rattle.jt_inherit.specs.Findings.{ForSome, HasTag, InTurn, IsAt, IsFindi
 pub use Rattle.jt_inherit.specs.Findings.{binds_macro, calls_super_at, defines, is_block, is_extends, is_import}
 pub use Rattle.jt_inherit.specs.Findings.{is_include, is_required, leads_to, may_be_bare, uses_in, LeadsTo, IsBrokenAt}
 pub use Rattle.jt_inherit.specs.Findings.{last_of, blocks_named}
+pub use Rattle.jt_inherit.specs.Linked.{IsLinked, KeepsLinkRules}
 pub use Rattle.jt_inherit.specs.Refusals.{Breaks, HasFault, IsUncut, IsUnspelled, Shows, IsMissing}
 pub use Rattle.jt_inherit.specs.Small.{chains_len, templates_len, source_len, libraries_len}
 pub use Rattle.jt_inherit.specs.SuperTags.{super_at, branches_super_at, stmt_super_at}
@@ -92,14 +93,13 @@ pub use Rattle.jt_inherit.specs.internal.Found.{found_namespaces, found_paths, f
 pub use Rattle.jt_inherit.specs.internal.Found.{root_of, twice, HasNeeds, IsUnmet, keyed_needs, keyed_view, IsFaultAt}
 pub use Rattle.jt_inherit.specs.internal.Found.{IsUnmetNeed, AddsNext, known_of, IsLedTo, IsDone}
 pub use Rattle.jt_inherit.specs.internal.Breaking.{IsOfRule, IsTwiceIn, RuleAt, IsBroken, BrokenIn, TwiceAt, lacks}
-pub use Rattle.jt_inherit.specs.internal.Breaking.{FindsAt}
 pub use Rattle.jt_inherit.specs.internal.RuleTests.{block_names, lacks_body, lacks_next, BreakOne, KeepAll, any_double}
 pub use Rattle.jt_inherit.specs.internal.RuleTests.{any_lacks_macros, imported_names, names_from, their_blocks}
-pub use Rattle.jt_inherit.specs.internal.RuleTests.{their_macros, their_names, named}
+pub use Rattle.jt_inherit.specs.internal.RuleTests.{their_macros, named}
 pub use Rattle.jt_inherit.specs.internal.ExtendsPaths.{AreKnown, BreaksAll, HasPath, HasRead, IsExtendsPath, IsWithin}
 pub use Rattle.jt_inherit.specs.internal.ExtendsPaths.{Leads, names, SaysAll, LeadsFrom}
 pub use Rattle.jt_inherit.specs.internal.Faults.{IsFaultOf, HasFaulty, IsFault, IsScan, IsParse}
-pub use Rattle.jt_inherit.specs.internal.Given.{its_files, its_sources, its_templates, macros_held}
+pub use Rattle.jt_inherit.specs.internal.Given.{its_files, its_templates, macros_held}
 pub use Rattle.jt_inherit.specs.internal.Placing.{is_no_library, leading_at, IsCycle, IsIncludedMore, IsNamedOn}
 pub use Rattle.jt_inherit.specs.internal.Placing.{need_test, last_number, name_at, IsRingOf, HasRing, IsAsked, IsFirst}
 pub use Rattle.jt_inherit.specs.internal.Placing.{IsNameless, IsOfName, IsOfNeed, IsParentAt, IsOneMore, NamedAt}

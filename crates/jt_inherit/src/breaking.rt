@@ -1,16 +1,15 @@
 //! Finds the tags that break a rule on the blocks, macros and imports of a chain or library.
 
 ghost use Rattle.std.specs.Prelude.{◌≡◌, true, IfOk, IfSome};
-ghost use Rattle.jt_chains.specs.Along.{AreIndices};
-ghost use Rattle.jt_chains.specs.TemplateFiles.{file_view};
+ghost use Rattle.jt_chains.specs.Along.{AreIndices, templates_at};
+ghost use Rattle.jt_chains.specs.Chain.{sources_in};
+ghost use Rattle.jt_chains.specs.TemplateFiles.{file_view, files_view};
 ghost use Rattle.jt_inherit.specs.internal.Breaking.{IsOfRule, IsTwiceIn, lacks};
-ghost use Rattle.jt_inherit.specs.internal.Given.{its_files, its_sources, its_templates};
 ghost use Rattle.jt_inherit.specs.internal.Tags.{IsLastCall, tag_view, tags_view};
 
 use crate::error::ChainError;
 use crate::finding::{ChainFinding, ChainSubject};
 use crate::importing::MissingMacro;
-use crate::store::TemplateStore;
 use crate::tags::{FoundTag, Wanted, first_at, tags_at, tags_of, two_places};
 use jt_chains::TemplateFile;
 use std::alloc::{AllocError, Global};
@@ -18,20 +17,20 @@ use std::alloc::{AllocError, Global};
 /// Returns the finding of an imported macro that its library does not offer.
 pub(crate) fn missing_finding(
     alloc: Global,
-    store: &TemplateStore,
+    files: &[TemplateFile],
     indices: &[usize],
     missing: MissingMacro<'_>,
 ) -> Result<ChainFinding, AllocError>
-    requires indices { AreIndices (its_files store.now) indices.now }
-    requires missing { lacks (its_sources store.now) missing.library.now missing.name.now ≡ true }
-    ensures { IfOk result (IsOfRule (its_sources store.now)
-        (its_templates store.now indices.now) ChainError.NoMacro) }
+    requires indices { AreIndices (files_view files.now) indices.now }
+    requires missing { lacks (sources_in (files_view files.now)) missing.library.now missing.name.now ≡ true }
+    ensures { IfOk result (IsOfRule (sources_in (files_view files.now))
+        (templates_at (files_view files.now) indices.now) ChainError.NoMacro) }
 {
     let wanted = Wanted::BindsMacro {
         library: missing.library,
         name: missing.name,
     };
-    let Some(place) = first_at(alloc, store, indices, wanted)? else {
+    let Some(place) = first_at(alloc, files, indices, wanted)? else {
         return Ok(ChainFinding::without_place(ChainError::NoMacro));
     };
     let library = String::from_str(alloc, missing.library)?;
@@ -46,15 +45,15 @@ pub(crate) fn missing_finding(
 /// Returns the finding of a name that two tags define.
 pub(crate) fn name_twice(
     alloc: Global,
-    store: &TemplateStore,
+    files: &[TemplateFile],
     indices: &[usize],
     name: &str,
 ) -> Result<ChainFinding, AllocError>
-    requires { AreIndices (its_files store.now) indices.now }
-    ensures { IfOk result (IsOfRule (its_sources store.now)
-        (its_templates store.now indices.now) ChainError.MacroTwice) }
+    requires { AreIndices (files_view files.now) indices.now }
+    ensures { IfOk result (IsOfRule (sources_in (files_view files.now))
+        (templates_at (files_view files.now) indices.now) ChainError.MacroTwice) }
 {
-    let tags = tags_at(alloc, store, indices, Wanted::Defines(name))?;
+    let tags = tags_at(alloc, files, indices, Wanted::Defines(name))?;
     let Some(places) = two_places(alloc, &tags)? else {
         return Ok(ChainFinding::without_place(ChainError::MacroTwice));
     };
@@ -95,15 +94,15 @@ pub(crate) fn block_twice(
 /// Returns the finding of a block whose nearest body is a required one.
 pub(crate) fn not_given(
     alloc: Global,
-    store: &TemplateStore,
+    files: &[TemplateFile],
     indices: &[usize],
     name: &str,
 ) -> Result<ChainFinding, AllocError>
-    requires { AreIndices (its_files store.now) indices.now }
-    ensures { IfOk result (IsOfRule (its_sources store.now)
-        (its_templates store.now indices.now) ChainError.RequiredNotGiven) }
+    requires { AreIndices (files_view files.now) indices.now }
+    ensures { IfOk result (IsOfRule (sources_in (files_view files.now))
+        (templates_at (files_view files.now) indices.now) ChainError.RequiredNotGiven) }
 {
-    let named = tags_at(alloc, store, indices, Wanted::Block(name))?;
+    let named = tags_at(alloc, files, indices, Wanted::Block(name))?;
     let Some(nearest) = named.first() else {
         return Ok(ChainFinding::without_place(ChainError::RequiredNotGiven));
     };
@@ -145,15 +144,15 @@ fn last_call(mut blocks: Vec<FoundTag<'_>>) -> Option<SuperCall<'_>>
 /// Returns the finding of a block that calls `super()` and has no next body.
 pub(crate) fn no_super(
     alloc: Global,
-    store: &TemplateStore,
+    files: &[TemplateFile],
     indices: &[usize],
     name: &str,
 ) -> Result<ChainFinding, AllocError>
-    requires { AreIndices (its_files store.now) indices.now }
-    ensures { IfOk result (IsOfRule (its_sources store.now)
-        (its_templates store.now indices.now) ChainError.NoSuper) }
+    requires { AreIndices (files_view files.now) indices.now }
+    ensures { IfOk result (IsOfRule (sources_in (files_view files.now))
+        (templates_at (files_view files.now) indices.now) ChainError.NoSuper) }
 {
-    let named = tags_at(alloc, store, indices, Wanted::Block(name))?;
+    let named = tags_at(alloc, files, indices, Wanted::Block(name))?;
     let Some(call) = last_call(named) else {
         return Ok(ChainFinding::without_place(ChainError::NoSuper));
     };

@@ -1,29 +1,25 @@
 //! Builds the chain of an entry.
 
-ghost use Rattle.std.specs.Prelude.{◌≡◌, ◌+◌, ◌*◌, ◌<◌, ◌≤◌, length, map, OnOk, IfOk, IfErr};
-ghost use Rattle.std.specs.Prelude.{MatchResult};
+ghost use Rattle.std.specs.Prelude.{◌≡◌, ◌+◌, ◌*◌, ◌≤◌, length, IfOk, IfErr, MatchResult};
 ghost use Rattle.std.specs.List.{AllByRecursion};
 ghost use Rattle.jt_ast.specs.Sizes.{body_bytes};
 ghost use Rattle.jt_ast.specs.Expressions.{Text};
 ghost use Rattle.jt_inherit.specs.Chains.{IsChain};
-ghost use Rattle.jt_inherit.specs.internal.Found.{AllFollowed, AllKeep, AreIndexed, listed_at};
-ghost use Rattle.jt_inherit.specs.internal.Found.{listed_view, found_templates, found_paths};
-ghost use Rattle.jt_inherit.specs.internal.Breaking.{FindsAt};
 ghost use Rattle.jt_inherit.specs.Findings.{IsFinding};
 ghost use Rattle.jt_inherit.specs.Refusals.{Breaks};
 ghost use Rattle.jt_chains.specs.Weights.{chains_weight};
 ghost use Rattle.jt_inherit.specs.Small.{chains_len, source_len};
 ghost use Rattle.jt_chains.specs.View.{Seen, chain_view, sources_of};
 
-use crate::discovery::{Discovery, discover};
 use crate::error::ChainError;
 use crate::finding::ChainFinding;
 use crate::library::Library;
-use crate::rings::order_of;
-use crate::rules::check_rules;
-use jt_chains::{Chain, Namespace};
+use crate::linking::link;
+use crate::rules::check_chains;
+use jt_chains::Chain;
+use jt_names::facts_of;
 use jt_scan::Options;
-use std::alloc::{AllocError, Global};
+use std::alloc::Global;
 
 /// Returns the chain of the entry, read from the library. It has the templates up to the root, and
 /// the chains and libraries that their includes and imports reach.
@@ -113,59 +109,7 @@ pub fn chain_or_finding<L: Library>(
     ensures few { IfOk result (λ found. 7 * length (chain_view found).order
         ≤ chains_weight (sources_of (chain_view found)) (chain_view found).order + 7) }
 {
-    let found = discover(alloc, entry, library, options)?;
-    check_chains(alloc, &found, options.autoescape)?;
-    let order = order_of(alloc, &found)?;
-    let namespaces = namespaces_in(alloc, &found, order)?;
-    Ok(Chain {
-        templates: found.store.files,
-        namespaces,
-        autoescape: options.autoescape,
-        indices: found.store.indices,
-    })
-}
-
-/// Refuses chains and libraries whose blocks, macros or imports break a rule.
-fn check_chains(alloc: Global, found: &Discovery, escaping: bool) -> Result<(), ChainFinding>
-    requires { AreIndexed found.now }
-    ensures kept { OnOk result (AllKeep escaping found.now) }
-    ensures broken { IfErr result
-        (FindsAt escaping (found_templates found.now) (found_paths found.now)) }
-{
-    for extends_path in &found.extends_paths {
-        check_rules(alloc, &found.store, extends_path, escaping)?;
-    }
-    Ok(())
-}
-
-/// Returns the chains and libraries of the numbers `order`, in order.
-fn namespaces_in(
-    alloc: Global,
-    found: &Discovery,
-    order: Vec<usize>,
-) -> Result<Vec<Namespace>, AllocError>
-    requires all { AllFollowed found.now }
-    requires within { AllByRecursion (λ i. i < length found.now.extends_paths.items) order.items }
-    ensures { IfOk result (λ namespaces.
-        map listed_view namespaces.items ≡ map (listed_at found.now) order.items) }
-{
-    let mut namespaces = Vec::with_capacity(alloc, order.len())?;
-    for number in &order {
-        namespaces.push(namespace_of(alloc, found, *number)?)?;
-    }
-    Ok(namespaces)
-}
-
-/// Returns the chain or library of a number.
-fn namespace_of(alloc: Global, found: &Discovery, number: usize) -> Result<Namespace, AllocError>
-    requires all { AllFollowed found.now }
-    requires within { number < length found.now.extends_paths.items }
-    ensures { IfOk result (λ h. listed_view h ≡ listed_at found.now number) }
-{
-    let namespace = found.namespaces.get(number);
-    Ok(Namespace {
-        name: String::from_str(alloc, &namespace.name)?,
-        is_library: namespace.is_library,
-        templates: Vec::from_slice(alloc, &found.extends_paths[number])?,
-    })
+    let chain = link(alloc, entry, library, options)?;
+    check_chains(alloc, &facts_of(alloc, &chain)?)?;
+    Ok(chain)
 }

@@ -7,6 +7,7 @@ ghost use Rattle.jt_inherit.specs.internal.Found.{AreIndexed, IsDone, IsFirst, I
 ghost use Rattle.jt_inherit.specs.internal.Found.{found_namespaces, found_paths, found_templates};
 ghost use Rattle.jt_inherit.specs.Findings as findings;
 ghost use Rattle.jt_inherit.specs.Findings.{IsFinding};
+ghost use Rattle.jt_inherit.specs.internal.Given.{IsGiven, its_files};
 ghost use Rattle.jt_inherit.specs.internal.Placing as spec;
 ghost use Rattle.jt_inherit.specs.internal.Placing.{IsNoLibrary, IsOfImport, LeadsAt};
 ghost use Rattle.jt_inherit.specs.internal.Placing.{leading_at, name_at};
@@ -16,12 +17,12 @@ ghost use Rattle.jt_inherit.specs.internal.Tags.{place_view, test_of};
 use crate::error::ChainError;
 use crate::extends_path::read_namespace;
 use crate::finding::{ChainFinding, ChainSubject, TagPlace};
-use crate::importing::library_file;
 use crate::including::{next_namespaces, read_needs, with_needs};
 use crate::library::Library;
 use crate::sets::{NamespaceKey, Namespaces};
 use crate::store::TemplateStore;
 use crate::tags::{Wanted, first_at};
+use jt_chains::TemplateFile;
 use jt_scan::Options;
 use std::alloc::{AllocError, Global};
 
@@ -93,7 +94,12 @@ pub(crate) fn leading_tag(
         (found_paths found.now) (namespace_at (found_namespaces found.now) to) from) }
 {
     let wanted = wanted_for(found.namespaces.get(to));
-    first_at(alloc, &found.store, &found.extends_paths[from], wanted)
+    first_at(
+        alloc,
+        &found.store.files,
+        &found.extends_paths[from],
+        wanted,
+    )
 }
 
 /// Returns the place of the first tag that leads to the chain or library of a number.
@@ -130,6 +136,14 @@ fn import_finding(
         place,
         subject: Some(ChainSubject::Template(name)),
     })
+}
+
+/// Returns the template of a library, if it was read.
+fn library_file<'a>(store: &'a TemplateStore, library: &str) -> Option<&'a TemplateFile>
+    ensures { IsGiven (its_files store.now) library.now result }
+{
+    let index = store.find(library)?;
+    Some(&store.files[index])
 }
 
 /// Returns whether a namespace is a library that was not read or holds something other than macros.

@@ -2,7 +2,8 @@
 //!
 //! `chain` (in `chaining`) reads each template once (`reading`, `store`) and follows its path to
 //! the root (`extends_path`). It finds the chains and libraries that are reached (`discovery`,
-//! `including`, `importing`) and checks the rules (`rules`, `supers`). Names are kept in order
+//! `including`) and orders them (`linking`, `rings`). Then it checks the rules on blocks, macros
+//! and imports over the facts of the chain (`rules`, `importing`, `supers`). Names are kept in order
 //! (`sets`). The trait `Library` (in `library`) supplies the sources. `refusal_laws` (in `laws`)
 //! states that a refusal is permanent. Read first: specs/Chains.antt, which defines the chain of an
 //! entry.
@@ -18,6 +19,7 @@ mod importing;
 mod including;
 mod laws;
 mod library;
+mod linking;
 mod names;
 mod placing;
 mod reading;
@@ -34,3 +36,5 @@ pub use finding::{ChainFinding, ChainSubject, TagPlace};
 pub use jt_chains::{Block, Chain, Layer, Macro, Namespace, TemplateFile};
 pub use laws::refusal_laws;
 pub use library::Library;
+pub use linking::link;
+pub use rules::check_chains;

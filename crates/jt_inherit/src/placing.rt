@@ -114,7 +114,12 @@ pub(crate) fn need_finding(
         (string_bytes need.now.namespace.name) error) }
 {
     let name = need.namespace.name.as_str();
-    let place = first_at(alloc, store, &path.extends_path, wanted_need(name, &error))?;
+    let place = first_at(
+        alloc,
+        &store.files,
+        &path.extends_path,
+        wanted_need(name, &error),
+    )?;
     let name = String::from_str(alloc, name)?;
     Ok(name_finding(AskedName { name, place }, error))
 }
@@ -131,7 +136,12 @@ pub(crate) fn included_finding(
         (string_bytes need.now.namespace.name)) }
 {
     let name = need.namespace.name.as_str();
-    let place = first_at(alloc, store, &path.extends_path, Wanted::Includes(name))?;
+    let place = first_at(
+        alloc,
+        &store.files,
+        &path.extends_path,
+        Wanted::Includes(name),
+    )?;
     let name = String::from_str(alloc, name)?;
     Ok(ChainFinding {
         error: ChainError::ChainTooLong,

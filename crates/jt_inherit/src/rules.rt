@@ -1,27 +1,35 @@
-//! Checks the rules on the blocks, macros and imports of a whole chain or library.
+//! Checks the rules on the blocks, macros and imports of chains and libraries.
 
-ghost use Rattle.std.specs.Prelude.{◌≡◌, ◌&&◌, ◌||◌, ◌++◌, List, false, not, IfOk, IfErr, OnOk};
-ghost use Rattle.std.specs.Prelude.{MatchOption};
+ghost use Rattle.std.specs.Prelude.{◌≡◌, ◌<◌, ◌&&◌, ◌||◌, List, false, length, map, not};
+ghost use Rattle.std.specs.Prelude.{IfOk, IfErr, MatchOption, MatchResult, OnOk};
 ghost use Rattle.std.specs.Option.{is_some};
 ghost use Rattle.std.specs.Str.{bytes_eq};
+ghost use Rattle.jt_scan.specs.declared.options.Options.{Options};
 ghost use Rattle.jt_ast.specs.Texts.{among, texts};
 ghost use Rattle.jt_ast.specs.Expressions.{Text};
 ghost use Rattle.jt_ast.specs.Texts.{repeated as texts_repeat};
+ghost use Rattle.jt_names.specs.FactsOfChains.{AllKnown};
+ghost use Rattle.jt_inherit.specs.Chains.{SourceTexts, IsChain};
+ghost use Rattle.jt_inherit.specs.Findings.{IsFinding};
+ghost use Rattle.jt_inherit.specs.Linked.{IsLinked};
 ghost use Rattle.jt_inherit.specs.internal.RuleTests.{block_names as spec_names};
-ghost use Rattle.jt_chains.specs.Along.{AreIndices};
-ghost use Rattle.jt_chains.specs.Chain.{Template};
+ghost use Rattle.jt_chains.specs.Along.{AreIndices, templates_at};
+ghost use Rattle.jt_chains.specs.Chain.{Namespace, Template, templates};
+ghost use Rattle.jt_chains.specs.Named.{names_view};
 ghost use Rattle.jt_inherit.specs.internal.RuleTests.{lacks_body, lacks_next};
 ghost use Rattle.jt_inherit.specs.internal.RuleTests as spec;
 ghost use Rattle.jt_chains.specs.Parts.{blocks_view};
-ghost use Rattle.jt_inherit.specs.internal.Breaking.{IsBroken};
-ghost use Rattle.jt_inherit.specs.internal.Given.{its_files, its_sources, its_templates};
+ghost use Rattle.jt_chains.specs.View.{Seen, chain_view, its_sources, its_templates, namespace_in};
+ghost use Rattle.jt_chains.specs.View.{sources_of};
+ghost use Rattle.jt_inherit.specs.internal.Breaking.{BreaksAt, IsDouble, KeepsAt};
 
 use crate::breaking::{block_twice, missing_finding, name_twice, no_super, not_given};
+use crate::error::ChainError;
 use crate::finding::ChainFinding;
-use crate::importing::{missing_at, names_at};
-use crate::store::TemplateStore;
+use crate::importing::missing_at;
 use crate::supers::calls_super;
-use jt_chains::Block;
+use jt_chains::{Block, Chain, DefinedName};
+use jt_names::ChainFacts;
 use std::alloc::{AllocError, Global};
 use std::collections::BTreeSet;
 
@@ -76,6 +84,25 @@ fn note_given<'a>(given: &mut BTreeSet<&'a str>, block: &Block<'a>) -> Result<()
     Ok(())
 }
 
+/// Returns the names of definitions, in their order.
+fn defined_names<'a>(alloc: Global, defined: &[DefinedName<'a>]) -> Result<Vec<&'a str>, AllocError>
+    ensures { IfOk result (λ names. texts names.items ≡ map (λ one. one.name.now) defined.now) }
+{
+    defined.iter().map(|one| one.name).collect(alloc)
+}
+
+/// Returns the name that is defined twice, if any.
+fn repeated_definition<'a>(
+    alloc: Global,
+    defined: &[DefinedName<'a>],
+) -> Result<Option<&'a str>, AllocError>
+    ensures { IfOk result (λ found. (ts : List Template) (h : Namespace)
+        → is_some found ≡ texts_repeat (map (λ g. g.0) (names_view ts h defined.now))) }
+{
+    let names = defined_names(alloc, defined)?;
+    repeated(alloc, &names)
+}
+
 /// Returns the name that two bodies of blocks have, if any.
 fn repeated_block<'a>(alloc: Global, blocks: &[Block<'a>]) -> Result<Option<&'a str>, AllocError>
     ensures { IfOk result (λ found. is_some found ≡ texts_repeat (spec_names blocks.now)) }
@@ -101,19 +128,19 @@ fn lacking_body<'a>(alloc: Global, blocks: &[Block<'a>]) -> Result<Option<&'a st
 
 /// Returns the name of a block with a body that calls `super()`, if each body after it is required.
 /// Visits the bodies from the last to the first.
-fn lacking_next<'a>(
-    alloc: Global,
-    mut bodies: Vec<Block<'a>>,
-) -> Result<Option<&'a str>, AllocError>
-    ensures { IfOk result (λ found. (ts : List Template)
-        → is_some found ≡ lacks_next (blocks_view ts bodies.entry.items)) }
+fn lacking_next<'a>(alloc: Global, blocks: &[Block<'a>]) -> Result<Option<&'a str>, AllocError>
+    ensures { IfOk result
+        (λ found. (ts : List Template) → is_some found ≡ lacks_next (blocks_view ts blocks.now)) }
 {
     let mut given: BTreeSet<&str> = BTreeSet::new(alloc);
-    while let Some(block) = bodies.pop() {
+    let mut left = blocks.len();
+    while left > 0 {
+        left -= 1;
+        let block = &blocks[left];
         if is_lacking(given.contains(block.name), calls_super(block.body)) {
             return Ok(Some(block.name));
         }
-        note_given(&mut given, &block)?;
+        note_given(&mut given, block)?;
     }
     Ok(None)
 }
@@ -121,55 +148,97 @@ fn lacking_next<'a>(
 /// Returns the finding of a template at `indices` with two blocks of one name, if any.
 fn double_block(
     alloc: Global,
-    store: &TemplateStore,
+    facts: &ChainFacts<'_>,
     indices: &[usize],
-    escaping: bool,
 ) -> Result<Option<ChainFinding>, AllocError>
-    requires { AreIndices (its_files store.now) indices.now }
+    requires known { AllKnown facts.now }
+    requires indices { AreIndices (its_templates facts.now.chain.now) indices.now }
     ensures { IfOk result (λ found. MatchOption found
-        (spec.any_double escaping (its_templates store.now indices.now) ≡ false)
-        (IsBroken (its_sources store.now) escaping (its_templates store.now indices.now))) }
+        (spec.any_double facts.now.chain.now.autoescape
+        (templates_at (its_templates facts.now.chain.now) indices.now) ≡ false)
+        (IsDouble (its_sources facts.now.chain.now) facts.now.chain.now.autoescape
+        (templates_at (its_templates facts.now.chain.now) indices.now))) }
 {
+    let chain = facts.chain;
     for index in indices {
-        let blocks = store.blocks_of(alloc, *index, escaping)?;
-        if let Some(name) = repeated_block(alloc, &blocks)? {
-            return Ok(Some(block_twice(alloc, &store.files[*index], name)?));
+        if let Some(name) = repeated_block(alloc, facts.blocks_at(*index))? {
+            return Ok(Some(block_twice(alloc, &chain.templates[*index], name)?));
         }
     }
     Ok(None)
 }
 
-/// Refuses a chain or library whose blocks, macros or imports break a rule, with the tag that
-/// breaks it. `indices` are its templates.
-#[tactic(auto, using(crate::proofs::FindingsHold::memory_broken, crate::proofs::FindingsHold::rule_broken))]
-pub(crate) fn check_rules(
-    alloc: Global,
-    store: &TemplateStore,
-    indices: &[usize],
-    escaping: bool,
-) -> Result<(), ChainFinding>
-    requires { AreIndices (its_files store.now) indices.now }
-    ensures kept { OnOk result (spec.KeepAll (its_sources store.now) escaping
-        (its_templates store.now indices.now)) }
-    ensures broken { IfErr result (IsBroken (its_sources store.now) escaping
-        (its_templates store.now indices.now)) }
+/// Returns the indices of the templates of a chain or library.
+fn indices_of(chain: &Chain, namespace: usize) -> &[usize]
+    requires { namespace < length chain.now.namespaces.items }
+    ensures indices { AreIndices (its_templates chain.now) result.now }
+    ensures own { templates_at (its_templates chain.now) result.now
+        ≡ templates (its_sources chain.now) (namespace_in chain.now namespace) }
 {
-    if let Some(finding) = double_block(alloc, store, indices, escaping)? {
+    &chain.namespaces[namespace].templates
+}
+
+/// Refuses a chain or library whose blocks, macros or imports break a rule, with the tag that
+/// breaks it.
+#[tactic(auto, using(crate::proofs::ChainsChecked::memory_broken, crate::proofs::ChainsChecked::rule_broken))]
+fn check_rules(alloc: Global, facts: &ChainFacts<'_>, namespace: usize) -> Result<(), ChainFinding>
+    requires known { AllKnown facts.now }
+    requires stands { namespace < length facts.now.chain.now.namespaces.items }
+    ensures kept { OnOk result (KeepsAt facts.now.chain.now namespace) }
+    ensures broken { IfErr result (BreaksAt facts.now.chain.now namespace) }
+{
+    let chain = facts.chain;
+    let files = chain.templates.as_slice();
+    let indices = indices_of(chain, namespace);
+    if let Some(finding) = double_block(alloc, facts, indices)? {
         return Err(finding);
     }
-    if let Some(missing) = missing_at(store, indices) {
-        return Err(missing_finding(alloc, store, indices, missing)?);
+    if let Some(missing) = missing_at(chain, indices) {
+        return Err(missing_finding(alloc, files, indices, missing)?);
     }
-    let names = names_at(alloc, store, indices)?;
-    if let Some(name) = repeated(alloc, &names)? {
-        return Err(name_twice(alloc, store, indices, name)?);
+    let known = facts.at(namespace);
+    if let Some(name) = repeated_definition(alloc, &known.defined)? {
+        return Err(name_twice(alloc, files, indices, name)?);
     }
-    let blocks = store.blocks_at(alloc, indices, escaping)?;
-    if let Some(name) = lacking_body(alloc, &blocks)? {
-        return Err(not_given(alloc, store, indices, name)?);
+    if let Some(name) = lacking_body(alloc, &known.blocks)? {
+        return Err(not_given(alloc, files, indices, name)?);
     }
-    if let Some(name) = lacking_next(alloc, blocks)? {
-        return Err(no_super(alloc, store, indices, name)?);
+    if let Some(name) = lacking_next(alloc, &known.blocks)? {
+        return Err(no_super(alloc, files, indices, name)?);
+    }
+    Ok(())
+}
+
+/// Refuses a chain with blocks, macros or imports that break a rule, its own or those of a chain or
+/// library that it reaches. `facts` are the facts of the chain.
+///
+/// # Errors
+///
+/// - The finding of the rule that is broken.
+/// - That of `NoMemory` if a growth is refused.
+pub fn check_chains(alloc: Global, facts: &ChainFacts<'_>) -> Result<(), ChainFinding>
+    requires { AllKnown facts.now }
+    // No rule of chains is broken.
+    ensures kept { (given : SourceTexts) (entry : Text) (options : Options)
+        → IsLinked given entry options (chain_view facts.now.chain.now)
+        → OnOk result (IsChain given entry options (chain_view facts.now.chain.now)) }
+    // The reported rule is broken, at the place and in the subject.
+    ensures refused { (given : SourceTexts) (entry : Text) (options : Options)
+        → IsLinked given entry options (chain_view facts.now.chain.now)
+        → IfErr result (IsFinding given entry options) }
+    // The entry has no other chain, up to the order of templates and chains. If it has one, the
+    // only possible error is lack of memory.
+    ensures only { (given : SourceTexts) (entry : Text) (options : Options)
+        → IsLinked given entry options (chain_view facts.now.chain.now)
+        → (other : Seen)
+        → IsChain given entry options other
+        → MatchResult result
+        (λ _. (name : Text)
+        → sources_of (chain_view facts.now.chain.now) name ≡ sources_of other name)
+        (λ f. f.error ≡ ChainError.NoMemory) }
+{
+    for namespace in 0..facts.chain.namespaces.len() {
+        check_rules(alloc, facts, namespace)?;
     }
     Ok(())
 }

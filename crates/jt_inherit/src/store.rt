@@ -8,7 +8,7 @@ ghost use Rattle.jt_inherit.specs.internal.Numbers.{AreNumbers, AreNumbers-prop,
 use crate::error::ChainError;
 use crate::library::Library;
 use crate::reading::read_file;
-use jt_chains::{Block, Macro, TemplateFile, blocks_at, blocks_of_file, macros_at};
+use jt_chains::TemplateFile;
 use jt_scan::Options;
 use std::alloc::{AllocError, Global};
 use std::collections::BTreeMap;
@@ -29,9 +29,6 @@ impl TemplateStore {
     ghost use Rattle.std.specs.Prelude.{◌++◌, ◌∷◌, [], slice_get, string_bytes, Some};
     ghost use Rattle.std.specs.Prelude.{OnErr, OnOk, IfOk, IfErr};
     ghost use Rattle.jt_ast.specs.Texts.{among};
-    ghost use Rattle.jt_chains.specs.Along.{blocks_along, body_at, macros_along};
-    ghost use Rattle.jt_chains.specs.Chain.{blocks_in};
-    ghost use Rattle.jt_chains.specs.Parts.{blocks_view, macros_view, name_at};
     ghost use Rattle.jt_chains.specs.TemplateFiles.{file_view};
     ghost use Rattle.jt_inherit.specs.internal.ExtendsPaths.{AreKnown, HasRead, names};
     ghost use Rattle.jt_inherit.specs.internal.Faults.{IsFaultOf};
@@ -69,45 +66,6 @@ impl TemplateStore {
         self.indices.insert(name, index)?;
         self.files.push(file)?;
         Ok(())
-    }
-
-    /// Returns the bodies of all blocks of the templates at `indices`.
-    pub(crate) fn blocks_at(
-        &self,
-        alloc: Global,
-        indices: &[usize],
-        escaping: bool,
-    ) -> Result<Vec<Block<'_>>, AllocError>
-        ensures { IfOk result (λ bodies. blocks_view (its_files self.now) bodies.items
-            ≡ blocks_along (its_files self.now) escaping indices.now) }
-    {
-        blocks_at(alloc, &self.files, indices, escaping)
-    }
-
-    /// Returns the bodies of all blocks of the template at `index`.
-    pub(crate) fn blocks_of(
-        &self,
-        alloc: Global,
-        index: usize,
-        escaping: bool,
-    ) -> Result<Vec<Block<'_>>, AllocError>
-        ensures { IfOk result (λ bodies. blocks_view (its_files self.now) bodies.items
-            ≡ blocks_in (name_at (its_files self.now) index) (body_at (its_files self.now) index)
-            escaping) }
-    {
-        blocks_of_file(alloc, &self.files, index, escaping)
-    }
-
-    /// Returns the macros of the templates at `indices`.
-    pub(crate) fn macros_at(
-        &self,
-        alloc: Global,
-        indices: &[usize],
-    ) -> Result<Vec<Macro<'_>>, AllocError>
-        ensures { IfOk result (λ found. macros_view (its_files self.now) found.items
-            ≡ macros_along (its_files self.now) indices.now) }
-    {
-        macros_at(alloc, &self.files, indices)
     }
 
     /// Returns the index of the template `name`, and reads the template if it was not read yet.

@@ -1,9 +1,8 @@
 //! Finds the tags that a finding names.
 
 ghost use Rattle.std.specs.Prelude.{◌≡◌, ◌++◌, true, option_map, IfOk, IfSome};
-ghost use Rattle.jt_chains.specs.Along.{AreIndices};
-ghost use Rattle.jt_chains.specs.TemplateFiles.{file_view};
-ghost use Rattle.jt_inherit.specs.internal.Given.{its_files, its_templates};
+ghost use Rattle.jt_chains.specs.Along.{AreIndices, templates_at};
+ghost use Rattle.jt_chains.specs.TemplateFiles.{file_view, files_view};
 ghost use Rattle.jt_inherit.specs.Findings as findings;
 ghost use Rattle.jt_inherit.specs.Findings.{all_uses, uses_in};
 ghost use Rattle.jt_inherit.specs.internal.Tags.{test_of, tags, tags_view, tag_view, place_view};
@@ -11,7 +10,6 @@ ghost use Rattle.jt_inherit.specs.internal.Tags.{AreFirst, place_in, with_name, 
 ghost use Rattle.jt_uses.specs.UseView.{use_view, sites_view};
 
 use crate::finding::TagPlace;
-use crate::store::TemplateStore;
 use crate::supers::super_line;
 use jt_chains::TemplateFile;
 use jt_uses::{Use, UseSite, uses_of};
@@ -155,17 +153,17 @@ pub(crate) fn tags_of<'a>(
 /// Returns the tags of the wanted uses of the templates at `indices`, in their order.
 pub(crate) fn tags_at<'a>(
     alloc: Global,
-    store: &'a TemplateStore,
+    files: &'a [TemplateFile],
     indices: &[usize],
     wanted: Wanted<'_>,
 ) -> Result<Vec<FoundTag<'a>>, AllocError>
-    requires { AreIndices (its_files store.now) indices.now }
+    requires { AreIndices (files_view files.now) indices.now }
     ensures { IfOk result (λ found. tags_view found.items ≡ tags (test_of wanted.entry)
-        (all_uses (its_templates store.now indices.now))) }
+        (all_uses (templates_at (files_view files.now) indices.now))) }
 {
     let mut found = Vec::new(alloc);
     for index in indices {
-        let mut more = tags_of(alloc, &store.files[*index], wanted)?;
+        let mut more = tags_of(alloc, &files[*index], wanted)?;
         found.append(&mut more)?;
     }
     Ok(found)
@@ -174,15 +172,15 @@ pub(crate) fn tags_at<'a>(
 /// Returns the place of the first wanted use of the templates at `indices`.
 pub(crate) fn first_at(
     alloc: Global,
-    store: &TemplateStore,
+    files: &[TemplateFile],
     indices: &[usize],
     wanted: Wanted<'_>,
 ) -> Result<Option<TagPlace>, AllocError>
-    requires { AreIndices (its_files store.now) indices.now }
+    requires { AreIndices (files_view files.now) indices.now }
     ensures { IfOk result (λ p. option_map place_view p ≡ place_in 0 (tags (test_of wanted.entry)
-        (all_uses (its_templates store.now indices.now)))) }
+        (all_uses (templates_at (files_view files.now) indices.now)))) }
 {
-    match tags_at(alloc, store, indices, wanted)?.first() {
+    match tags_at(alloc, files, indices, wanted)?.first() {
         Some(tag) => Ok(Some(tag.place(alloc)?)),
         None => Ok(None),
     }

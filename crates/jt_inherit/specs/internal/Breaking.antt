@@ -1,10 +1,12 @@
 -- The tags that break a rule on the blocks, macros and imports of templates. Only private clauses
 -- cite this module.
-use Rattle.std.specs.Prelude.{◌≡◌, ◌&&◌, Bool, false, true, List, [], ◌∷◌, Option, Some, None, string_bytes, ◌<◌, ℕ}
-use Rattle.std.specs.Prelude.{length}
+use Rattle.std.specs.Prelude.{◌≡◌, ◌&&◌, Bool, false, true, List, [], ◌∷◌, Option, Some, None, string_bytes, ℕ}
 use Rattle.std.specs.Option.{is_none}
 use Rattle.jt_ast.specs.Expressions.{Text}
-use Rattle.jt_chains.specs.Chain.{Sources, a_library, Template, is_a_library, macros, public_macro, sources_in}
+use Rattle.jt_chains.specs.Chain.{Sources, Namespace, a_library, Template, is_a_library, macros, public_macro}
+use Rattle.jt_chains.specs.Chain.{templates}
+use Rattle.jt_chains.specs.View.{its_sources, namespace_in}
+use Rattle.jt_chains.specs.declared.chain.Chain.{Chain}
 use Rattle.jt_inherit.specs.Findings.{ForSome, HasTag, HasTwoTags, IsNotGiven, HasNoSuper, binds_macro, is_block}
 use Rattle.jt_inherit.specs.Findings.{defines}
 use Rattle.jt_inherit.specs.declared.error.ChainError.{ChainError}
@@ -14,9 +16,7 @@ use Rattle.jt_inherit.specs.declared.finding.ChainSubject.{ChainSubject}
 use Rattle.jt_inherit.specs.declared.finding.ChainSubject.TheVariants as v
 use Rattle.jt_inherit.specs.declared.finding.TagPlace.{TagPlace}
 use Rattle.jt_inherit.specs.declared.importing.MissingMacro.{MissingMacro}
-use Rattle.jt_graph.specs.Graph.{next_of}
-use Rattle.jt_chains.specs.Along.{templates_at}
-use Rattle.jt_inherit.specs.internal.RuleTests.{BreakOne}
+use Rattle.jt_inherit.specs.internal.RuleTests.{BreakOne, KeepAll, any_double}
 
 -- The library was read, and does not offer the macro to importers.
 abbrev pub lacks : Sources → Text → Text → Bool
@@ -58,14 +58,18 @@ TwiceAt t p x = ⊥
 abbrev pub IsTwiceIn : Template → ChainFinding → Type 0
 IsTwiceIn t f = (f.error ≡ error.DoubleBlock) × TwiceAt t f.place f.subject
 
--- The templates break the rule of the error, with the tag that breaks it.
-pub record IsBroken (s : Sources) (escaping : Bool) (ts : List Template) (f : ChainFinding) : Type 0 where
-  pub broken : BreakOne s escaping ts f.error
-  pub said : RuleAt s ts f.place f.subject f.error
+-- One of the templates has two blocks of one name, at the places of the finding.
+abbrev pub IsDouble : Sources → Bool → List Template → ChainFinding → Type 0
+IsDouble s escaping ts f = (any_double escaping ts ≡ true) × IsOfRule s ts error.DoubleBlock f
 
--- The templates of some chain or library break the rule.
-pub record FindsAt (escaping : Bool) (ts : List Template) (extends_paths : List (List ℕ)) (f : ChainFinding) :
-    Type 0 where
-  pub number : ℕ
-  pub within : number < length extends_paths
-  pub found : IsBroken (sources_in ts) escaping (templates_at ts (next_of extends_paths number)) f
+-- The chain or library breaks the rule of the error, with the tag that breaks it.
+pub record IsBroken (s : Sources) (escaping : Bool) (h : Namespace) (f : ChainFinding) : Type 0 where
+  pub broken : BreakOne s escaping h f.error
+  pub said : RuleAt s (templates s h) f.place f.subject f.error
+
+-- The chain or library at an index keeps the rules, or breaks one.
+abbrev pub KeepsAt : Chain → ℕ → Type 0
+KeepsAt c i = KeepAll (its_sources c) c.autoescape (namespace_in c i)
+
+abbrev pub BreaksAt : Chain → ℕ → ChainFinding → Type 0
+BreaksAt c i = IsBroken (its_sources c) c.autoescape (namespace_in c i)

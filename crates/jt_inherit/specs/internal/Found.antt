@@ -14,7 +14,6 @@ use Rattle.jt_chains.specs.Chain.{Template, a_chain, a_library, namespace_name, 
 use Rattle.jt_inherit.specs.Chains.{SourceTexts}
 use Rattle.jt_inherit.specs.Findings.{IsNoMemory}
 use Rattle.jt_inherit.specs.internal.Faults.{IsFaultOf}
-use Rattle.jt_inherit.specs.internal.RuleTests.{KeepAll}
 use Rattle.jt_chains.specs.Names.{IsName}
 use Rattle.jt_chains.specs.Needs.{Need, need_namespace, includes_along, library_need, needed}
 use Rattle.jt_chains.specs.TemplateFiles.{namespace_view}
@@ -179,12 +178,6 @@ found_namespaces f = namespaces_view f.namespaces
 
 abbrev pub found_paths : Discovery → List (List ℕ)
 found_paths f = graph_of f.extends_paths.items
-
--- The templates of each chain and library keep the rules.
-abbrev pub AllKeep : Bool → Discovery → Type 0
-AllKeep escaping f =
-    let ts = found_templates f in
-    AllByRecursion (λ extends_path. KeepAll (sources_in ts) escaping (templates_at ts extends_path)) (found_paths f)
 
 -- The name of the entry.
 abbrev pub root_of : Discovery → Text

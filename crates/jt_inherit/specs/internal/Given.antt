@@ -4,20 +4,17 @@ use denote.Ref.{Bor}
 use Rattle.jt_ast.specs.Expressions.{Text}
 use Rattle.jt_ast.specs.StatementView.{body_of}
 use Rattle.jt_chains.specs.Along.{templates_at}
-use Rattle.jt_chains.specs.Chain.{Sources, Template, MacroBody, a_library, holds_macros, is_a_library, macros}
+use Rattle.jt_chains.specs.Chain.{Template, MacroBody, a_library, holds_macros, is_a_library, macros}
 use Rattle.jt_chains.specs.Chain.{sources_in}
 use Rattle.jt_chains.specs.TemplateFiles.{files_view}
 use Rattle.jt_chains.specs.Tables.{library_macros}
 use Rattle.jt_chains.specs.declared.files.TemplateFile.{TemplateFile}
 use Rattle.jt_inherit.specs.declared.store.TemplateStore.{TemplateStore}
 
--- ---- the templates in a store, their sources, and the templates at some indices
+-- ---- the templates in a store, and the templates at some indices
 
 abbrev pub its_files : TemplateStore → List Template
 its_files s = files_view s.files.items
-
-abbrev pub its_sources : TemplateStore → Sources
-its_sources s = sources_in (its_files s)
 
 abbrev pub its_templates : TemplateStore → List ℕ → List Template
 its_templates s is = templates_at (its_files s) is

@@ -6,8 +6,8 @@ use Rattle.std.specs.List.{list_any}
 use Rattle.jt_ast.specs.Expressions.{Text}
 use Rattle.jt_ast.specs.Texts.{repeated}
 use Rattle.jt_ast.specs.Statements.{import_as, import_from, Body, end, stmt}
-use Rattle.jt_chains.specs.Chain.{Sources, a_library, Template, BlockBody, MacroBody, blocks_in, macros_in, macros}
-use Rattle.jt_chains.specs.Chain.{public_macro}
+use Rattle.jt_chains.specs.Chain.{Sources, Namespace, a_library, Template, BlockBody, MacroBody, blocks_in, macros_in}
+use Rattle.jt_chains.specs.Chain.{macros, public_macro, templates, all_bodies, given}
 use Rattle.jt_chains.specs.Rules.{lacks_macros, is_required, lacks_super}
 use Rattle.jt_inherit.specs.declared.error.ChainError.{ChainError}
 use Rattle.jt_inherit.specs.declared.error.ChainError.TheVariants as error
@@ -54,26 +54,24 @@ module _ (escaping : Bool) (ts : List Template) where
 abbrev pub their_macros : List Template → List MacroBody
 their_macros ts = flat_map (λ t. macros_in t.name t.body) ts
 
--- The names of macros, then the names that imports bind.
-abbrev pub their_names : Sources → List Template → List Text
-their_names s ts = map (λ m. m.name) (their_macros ts) ++ flat_map (λ t. imported_names s t.body) ts
-
 abbrev pub any_lacks_macros : Sources → List Template → Bool
 any_lacks_macros s ts = list_any (λ t. lacks_macros s t.body) ts
 
-module _ (s : Sources) (escaping : Bool) (ts : List Template) where
+module _ (s : Sources) (escaping : Bool) (h : Namespace) where
+  -- The chain or library keeps the rules.
   pub record KeepAll : Type 0 where
-    pub doubles : any_double escaping ts ≡ false
-    pub bodies : lacks_body (their_blocks escaping ts) ≡ false
-    pub next : lacks_next (their_blocks escaping ts) ≡ false
-    pub names : repeated (their_names s ts) ≡ false
-    pub macros_there : any_lacks_macros s ts ≡ false
+    pub doubles : any_double escaping (templates s h) ≡ false
+    pub bodies : lacks_body (all_bodies s escaping h) ≡ false
+    pub next : lacks_next (all_bodies s escaping h) ≡ false
+    pub names : repeated (map (λ g. g.0) (given s h)) ≡ false
+    pub macros_there : any_lacks_macros s (templates s h) ≡ false
 
+  -- The chain or library breaks the rule of the error.
   abbrev pub BreakOne : ChainError → Type 0
-  BreakOne error.DoubleBlock = any_double escaping ts ≡ true
-  BreakOne error.RequiredNotGiven = lacks_body (their_blocks escaping ts) ≡ true
-  BreakOne error.NoSuper = lacks_next (their_blocks escaping ts) ≡ true
-  BreakOne error.MacroTwice = repeated (their_names s ts) ≡ true
-  BreakOne error.NoMacro = any_lacks_macros s ts ≡ true
+  BreakOne error.DoubleBlock = any_double escaping (templates s h) ≡ true
+  BreakOne error.RequiredNotGiven = lacks_body (all_bodies s escaping h) ≡ true
+  BreakOne error.NoSuper = lacks_next (all_bodies s escaping h) ≡ true
+  BreakOne error.MacroTwice = repeated (map (λ g. g.0) (given s h)) ≡ true
+  BreakOne error.NoMacro = any_lacks_macros s (templates s h) ≡ true
   BreakOne error.NoMemory = Unit {0}
   BreakOne e = ⊥

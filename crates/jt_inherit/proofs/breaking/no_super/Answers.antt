@@ -1,10 +1,10 @@
 use Rattle.jt_inherit.proofs.Vocabulary as words
-use words.{ℕ, List, refl, sym, ap, subst, ◌∙◌, Text, Site, its_templates, IsLastCall, tag_view}
+use words.{ℕ, List, refl, sym, ap, subst, ◌∙◌, Text, Site, files_view, templates_at, IsLastCall, tag_view}
 use Rattle.jt_inherit.proofs.breaking.no_super.Goals as goal
 
 pub returns : goal.returns
 returns c =
-    let ts = its_templates c.args.store.now c.args.indices.now in
+    let ts = templates_at (files_view c.args.files.now) c.args.indices.now in
     let call = c.in-Some.call in
     let tag = tag_view call.block in
     let found = subst (λ (l : List (Text × Site)). IsLastCall l tag call.line) c.in_ok-named.ensures

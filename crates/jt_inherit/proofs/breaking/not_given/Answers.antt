@@ -1,11 +1,12 @@
 use Rattle.jt_inherit.proofs.Vocabulary as words
-use words.{◌≡◌, ℕ, refl, sym, ap, ◌∙◌, Some, option_copied, blocks_named, slice_get, Text, its_templates, tag_view}
+use words.{◌≡◌, ℕ, refl, sym, ap, ◌∙◌, Some, option_copied, blocks_named, slice_get, Text, files_view, tag_view}
+use words.{templates_at}
 use Rattle.jt_inherit.proofs.TagPlaces.{first_view}
 use Rattle.jt_inherit.proofs.breaking.not_given.Goals as goal
 
 pub returns : goal.returns
 returns c =
-    let ts = its_templates c.args.store.now c.args.indices.now in
+    let ts = templates_at (files_view c.args.files.now) c.args.indices.now in
     let x = c.args.name.now in
     let nearest = c.in-Some.nearest.now in
     let found : slice_get c.in_ok-named.named.items 0 ≡ Some nearest =

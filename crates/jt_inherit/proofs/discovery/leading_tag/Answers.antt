@@ -7,22 +7,22 @@ use Rattle.jt_inherit.proofs.discovery.leading_tag.Goals as goal
 pub first_at-requires : goal.first_at-requires
 first_at-requires c =
     let f = c.args.found.now in
-    let is = c.deref.result.now in
+    let is = c.deref-2.result.now in
     let here = way_at f.extends_paths.items f.extends_paths.items c.args.from c.index.result.now is refl
-    c.requires.from c.index.ensures c.deref.ensures.value in
-    rw (← here.1)
+    c.requires.from c.index.ensures c.deref-2.ensures.value in
+    rw (c.deref.ensures.value, ← here.1)
     (at_number (AreIndices (found_templates f)) (graph_of f.extends_paths.items) c.args.from here.0 c.requires.indices)
 
 pub returns : goal.returns
 returns c =
     let f = c.args.found.now in
-    let is = c.deref.result.now in
+    let is = c.deref-2.result.now in
     let ways = graph_of f.extends_paths.items in
     let here = way_at f.extends_paths.items f.extends_paths.items c.args.from c.index.result.now is refl
-    c.requires.from c.index.ensures c.deref.ensures.value in
+    c.requires.from c.index.ensures c.deref-2.ensures.value in
     let test = test_of c.wanted_for-wanted.result in
     let wanted : test ≡ leads_to (namespace_at (found_namespaces f) c.args.to) =
     c.wanted_for-wanted.ensures
     ∙ ap leads_to (sym (rw c.get.ensures)) in
     let r = c.first_at.result in
-    rw (← wanted) (rw here.1 c.first_at.ensures)
+    rw (← wanted) (rw here.1 (rw c.deref.ensures.value at c.first_at.ensures))

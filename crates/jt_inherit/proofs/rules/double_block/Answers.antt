@@ -1,11 +1,34 @@
-use Rattle.jt_inherit.proofs.Vocabulary.{arith, rules, length-map, index_within}
+use Rattle.jt_inherit.proofs.Vocabulary.{arith, ap, ◌∙◌, is_some, length-map, file_view, index_within}
+use Rattle.jt_chains.specs.View.{its_sources, its_templates}
 use Rattle.jt_inherit.proofs.BodyRules.{double_found, double_none}
-use Rattle.jt_inherit.proofs.FindingsHold.{rule_broken}
 use Rattle.jt_inherit.proofs.TagPlaces.{twice_rule}
 use Rattle.jt_inherit.proofs.rules.double_block.Goals as goal
 
 pub returns-in-Some : goal.returns-in-Some
-returns-in-Some c = search (arith, rules, double_found, rule_broken, twice_rule, length-map, index_within)
+returns-in-Some c =
+    let whole = c.args.facts.now.chain.now in
+    let ps = whole.templates.items in
+    let is = c.args.indices.now in
+    let k = c.loop-index.index-index in
+    let lt = c.loop-index-test.true in
+    let within = index_within ps is k lt c.requires.indices in (
+      c.loop-index.invariant
+          ∙ double_found whole.autoescape (its_templates whole) is k lt (omega (arith, within, length-map ps file_view))
+          c.blocks_at.result.now (is_some c.in_ok-name.field-0) c.blocks_at.ensures c.in_ok-name.ensures
+          (ap is_some c.in-Some.is),
+      twice_rule (its_sources whole) ps is k c.index.result.now c.in_ok-block_twice.field-0 lt within c.index.ensures
+          c.in_ok-block_twice.ensures,
+    )
 
 pub loop-index-preserved : goal.loop-index-preserved
-loop-index-preserved c = search (arith, rules, double_none, length-map, index_within)
+loop-index-preserved c =
+    let whole = c.args.facts.now.chain.now in
+    let ps = whole.templates.items in
+    let is = c.args.indices.now in
+    let k = c.loop-index.index-index in
+    let lt = c.loop-index-test.true in
+    let within = index_within ps is k lt c.requires.indices in
+    c.loop-index.invariant
+    ∙ double_none whole.autoescape (its_templates whole) is k lt (omega (arith, within, length-map ps file_view))
+    c.blocks_at.result.now (is_some c.in_ok-name.field-0) c.blocks_at.ensures c.in_ok-name.ensures
+    (ap is_some c.in_default.is)

@@ -6,11 +6,11 @@ use Rattle.jt_inherit.proofs.tags.tags_at.Goals as goal
 pub loop-index-preserved : goal.loop-index-preserved
 loop-index-preserved c =
     let l = c.loop-index in
-    let ps = c.args.store.now.files.items in
+    let ps = c.args.files.now in
     let is = c.args.indices.now in
-    tags_turn (test_of c.args.wanted) ps is l.index-index c.index.result.now (tags_view l.found.items)
+    tags_turn (test_of c.args.wanted) ps is l.index-index c.index-files-index.result (tags_view l.found.items)
     (tags_view c.in_ok-more.more.items) (tags_view c.append.new.self.items)
     (tags (test_of c.args.wanted) (all_uses (templates_at (files_view ps) is)))
     c.loop-index-test.true (index_within ps is l.index-index c.loop-index-test.true c.requires)
-    c.index.ensures c.in_ok-more.ensures
+    c.index-files-index.is c.in_ok-more.ensures
     (ap tags_view c.in_ok-append.ensures.items ∙ map-append tag_view l.found.items c.in_ok-more.more.items) l.invariant

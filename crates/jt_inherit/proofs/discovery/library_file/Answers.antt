@@ -1,6 +1,6 @@
 use Rattle.jt_inherit.proofs.Vocabulary.{get_or, rules, arith, body_of, holds_macros}
 use Rattle.jt_inherit.proofs.StoreLookup.{unread, index_read, is_library_read, macros_there}
-use Rattle.jt_inherit.proofs.importing.library_file.Goals as goal
+use Rattle.jt_inherit.proofs.discovery.library_file.Goals as goal
 
 pub returns-in_err-index : goal.returns-in_err-index
 returns-in_err-index c = search (arith, rules, unread)

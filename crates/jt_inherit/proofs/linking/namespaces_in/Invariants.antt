@@ -1,5 +1,5 @@
 use Rattle.jt_inherit.proofs.Vocabulary.{◌≡◌, ◌++◌, drop, map, listed_at, listed_view}
-use Rattle.jt_inherit.proofs.chaining.namespaces_in.Given as goal
+use Rattle.jt_inherit.proofs.linking.namespaces_in.Given as goal
 
 abbrev pub invariant-loop-number : goal.invariant-loop-number
 invariant-loop-number l =
