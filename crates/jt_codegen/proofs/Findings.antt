@@ -12,10 +12,12 @@ use Rattle.jt_chains.specs.Weights.{chains_weight}
 use Rattle.jt_checks.specs.Findings as findings
 use Rattle.jt_checks.specs.Findings.{IsFoundAt, IsFoundIn, BreaksAt}
 use Rattle.jt_inherit.specs.Chains.{SourceTexts, IsChain}
+use Rattle.jt_inherit.specs.Findings as inherit_findings
 use Rattle.jt_inherit.specs.Refusals as inherit
 use Rattle.jt_inherit.specs.Small.{chains_len, source_len}
 use Rattle.jt_inherit.specs.declared.error.ChainError.{ChainError}
 use Rattle.jt_inherit.specs.declared.error.ChainError.TheVariants as chain_error
+use Rattle.jt_inherit.specs.declared.finding.ChainFinding.{ChainFinding}
 use Rattle.jt_rules.specs.CompileEnv.{CompileEnv, cenv_of}
 use Rattle.jt_rules.specs.Rules as rules
 use Rattle.jt_rules.specs.Rules.{ForSome, KeepsRules}
@@ -28,7 +30,7 @@ use Rattle.jt_codegen.specs.Compiled.{IsOnlyChain}
 use Rattle.jt_codegen.specs.Explaining.{IsBroken, IsFinding, IsOfChain, IsOfSource, IsPlaceOf, IsRuleOf}
 use Rattle.jt_codegen.specs.Passed.{error_of}
 use Rattle.jt_codegen.specs.Refusals.{Breaks}
-use Rattle.jt_codegen.specs.internal.Asked.{Asked, IsChainOf, IsProgramOf, PassesOf}
+use Rattle.jt_codegen.specs.internal.Asked.{Asked, IsChainOf, IsFaultOf, IsLinkedOf, IsProgramOf, PassesOf}
 use Rattle.jt_codegen.proofs.ChainImages.{limit_breaks, only_chain}
 use Rattle.jt_codegen.specs.declared.emission.EmitError.TheVariants as emit_error
 use Rattle.jt_codegen.specs.declared.finding.Finding.{Finding}
@@ -36,15 +38,25 @@ use Rattle.jt_codegen.specs.declared.finding.Limit.{Limit}
 use Rattle.jt_codegen.specs.declared.finding.Limit.TheVariants as limit
 use Rattle.jt_codegen.specs.declared.finding.Subject.TheVariants as v
 
--- The chain that is read is that of the entry.
-pub chain_asked : (given : SourceTexts) (entry : Text) (options : Options) (c : Seen) → IsChain given entry options c
-    → ((d : Seen) → IsChain given entry options d → (n : Text) → sources_of c n ≡ sources_of d n)
-    → chains_weight (sources_of c) c.order ≤ chains_len given (sources_of c) c.order
-    → AllByRecursion (λ template. body_bytes template.body ≤ source_len (given template.name)) c.templates
-    → 7 * length c.order ≤ chains_weight (sources_of c) c.order + 7
-    → IsChainOf (record { given = given; entry = entry; options = options }) c
-chain_asked given entry options c is one weighs short few =
-    record { only = only_chain given entry options c is one; weighs = weighs; short = short; few = few }
+-- A linked chain that breaks no rule of chains is that of the entry.
+pub linked_asked : (asked : Asked) (c : Seen) → IsLinkedOf asked c → IsChain asked.given asked.entry asked.options c
+    → ((d : Seen) → IsChain asked.given asked.entry asked.options d → (n : Text) → sources_of c n ≡ sources_of d n)
+    → IsChainOf asked c
+linked_asked asked c linked is one = record {
+  only = only_chain asked.given asked.entry asked.options c is one;
+  weighs = linked.weighs;
+  short = linked.short;
+  few = linked.few;
+}
+
+pub fault_asked : (asked : Asked) (f : ChainFinding) → inherit_findings.IsFinding asked.given asked.entry asked.options f
+    → ((d : Seen) → IsChain asked.given asked.entry asked.options d → f.error ≡ chain_error.NoMemory)
+    → IsFaultOf asked f
+fault_asked asked f finding only = record { finding = finding; only = only }
+
+pub no_memory_asked : (asked : Asked) (f : ChainFinding) → inherit_findings.IsNoMemory f → IsFaultOf asked f
+no_memory_asked asked f is =
+    fault_asked asked f (rw is (record { broken = tt; says = refl })) (λ d i. ap (λ (x : ChainFinding). x.error) is)
 
 -- What no item has, none of the items of a list has.
 some_not : {A : Type 0} (P : A → Type 0) (xs : List A) → ((x : A) → P x → ⊥) → ForSome P xs → ⊥

@@ -12,12 +12,13 @@ use crate::entries::fits_entries;
 use crate::error::CompileError;
 use crate::finding::Limit;
 use crate::image::image_of;
+use crate::linking::{checked_facts, linked_chain};
 use jt_image::{Image, MAX_ENTRIES, code_laws};
-use jt_inherit::{Library, chain};
+use jt_inherit::Library;
 use jt_ir::Program;
 use jt_lower::low_laws;
 use jt_scan::Options;
-use jt_scopes::resolve;
+use jt_scopes::resolve_facts;
 use jt_semantics::program_laws;
 use std::alloc::Global;
 
@@ -45,8 +46,9 @@ pub fn compile<L: Library>(
     ensures small { IfErr result
         (λ e. NamesLimit e → ¬ (IsSmall (L.sources library.now) entry.now options)) }
 {
-    let chain = chain(alloc, entry, library, options)?;
-    let program = resolve(alloc, &chain)?;
+    let chain = linked_chain(alloc, entry, library, options)?;
+    let facts = checked_facts(alloc, &chain)?;
+    let program = resolve_facts(alloc, &facts)?;
     let image = compile_program(alloc, &program)?;
     Ok(image)
 }

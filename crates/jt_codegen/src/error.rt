@@ -1,7 +1,7 @@
 //! Defines the errors of a compilation.
 
 use crate::emission::EmitError;
-use jt_inherit::ChainError;
+use jt_inherit::{ChainError, ChainFinding};
 use jt_rules::ScopeError;
 use thiserror::Error;
 
@@ -25,14 +25,14 @@ pub enum CompileError {
     StackTooDeep,
 }
 
-impl From<ChainError> for CompileError {
+impl From<ChainFinding> for CompileError {
     ghost use Rattle.std.specs.Prelude.{◌≡◌};
     ghost use Rattle.jt_codegen.specs.Refusals.{of_chain};
 
-    ghost from_gives = { λ refusal e. e ≡ of_chain refusal };
+    ghost from_gives = { λ finding e. e ≡ of_chain finding.error };
 
-    fn from(refusal: ChainError) -> CompileError {
-        match refusal {
+    fn from(finding: ChainFinding) -> CompileError {
+        match finding.error {
             ChainError::NoMemory => CompileError::NoMemory,
             other => CompileError::Chain(other),
         }

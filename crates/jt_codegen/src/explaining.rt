@@ -5,20 +5,25 @@ ghost use Rattle.jt_chains.specs.View.{chain_view};
 ghost use Rattle.jt_rules.specs.CompileEnv.{cenv_of};
 ghost use Rattle.jt_rules.specs.Rules.{KeepsRules};
 ghost use Rattle.jt_codegen.specs.Explaining.{IsExplained, IsOfChain, IsOfSource, IsUnknown};
-ghost use Rattle.jt_codegen.specs.internal.Asked.{Asked, IsChainOf};
+ghost use Rattle.jt_codegen.specs.internal.Asked.{Asked, IsChainOf, IsFaultOf, IsLinkedOf};
+ghost use Rattle.jt_codegen.specs.internal.Asked.{asked_of};
 ghost use Rattle.jt_inherit.specs.Findings.{Says};
+ghost use Rattle.jt_names.specs.FactsOfChains.{AllKnown};
 
 use crate::compiling::compile_program;
 use crate::emission::EmitError;
 use crate::error::CompileError;
 use crate::finding::{Explained, Finding, Subject};
+use crate::linking::{checked_facts, linked_chain};
 use crate::unknown::find_unknown;
+use jt_bind::resolved;
 use jt_chains::Chain;
+use jt_checks::find_broken;
 use jt_expr::Named;
-use jt_inherit::{ChainError, ChainFinding, Library, TagPlace, chain_or_finding};
+use jt_inherit::{ChainError, ChainFinding, Library, TagPlace};
+use jt_names::ChainFacts;
 use jt_parse::ParseError;
 use jt_scan::Options;
-use jt_scopes::{find_broken, resolve};
 use jt_value::NoMemory;
 use std::alloc::{AllocError, Global};
 
@@ -36,33 +41,84 @@ pub fn explain<L: Library>(
 ) -> Result<Explained, NoMemory>
     ensures { IfOk result (IsExplained (L.sources library.now) entry.now options) }
 {
-    let chain = match chain_or_finding(alloc, entry, library, options) {
-        Ok(chain) => chain,
-        Err(found) => {
-            let found = chain_finding(alloc, entry, library, options, found)?;
-            return Ok(Explained::Refused(found));
-        }
-    };
-    match find_broken(alloc, &chain)? {
-        Some(found) => Ok(Explained::Refused(Finding::of_rule(alloc, &found)?)),
-        None => explain_image(alloc, &chain),
+    match linked_chain(alloc, entry, library, options) {
+        Ok(chain) => explain_linked(alloc, entry, library, options, &chain),
+        Err(found) => explain_refused(alloc, entry, library, options, found),
     }
 }
 
-/// Explains whether the image of a chain that keeps the rules is within its limits.
+/// Explains whether a linked chain compiles.
 ///
 /// # Errors
 ///
 /// `NoMemory` if a growth is refused.
-fn explain_image(alloc: Global, chain: &Chain) -> Result<Explained, NoMemory>
-    requires of { (asked : Asked) × IsChainOf asked (chain_view chain.now) }
-    requires kept { KeepsRules (cenv_of (chain_view chain.now)) (chain_view chain.now).order }
-    ensures { (asked : Asked) → IsChainOf asked (chain_view chain.now) → IfOk result
-        (λ explained. IsExplained asked.given asked.entry asked.options explained) }
+fn explain_linked<L: Library>(
+    alloc: Global,
+    entry: &str,
+    library: &L,
+    options: Options,
+    chain: &Chain,
+) -> Result<Explained, NoMemory>
+    requires { IsLinkedOf (asked_of (L.sources library.now) entry.now options)
+        (chain_view chain.now) }
+    ensures { IfOk result (IsExplained (L.sources library.now) entry.now options) }
 {
-    let Ok(program) = resolve(alloc, chain) else {
-        return Err(NoMemory);
-    };
+    match checked_facts(alloc, chain) {
+        Ok(facts) => explain_facts(alloc, &facts),
+        Err(found) => explain_refused(alloc, entry, library, options, found),
+    }
+}
+
+/// Explains the error of a chain.
+///
+/// # Errors
+///
+/// `NoMemory` if that is the error, or if a growth is refused.
+fn explain_refused<L: Library>(
+    alloc: Global,
+    entry: &str,
+    library: &L,
+    options: Options,
+    found: ChainFinding,
+) -> Result<Explained, NoMemory>
+    requires { IsFaultOf (asked_of (L.sources library.now) entry.now options) found }
+    ensures { IfOk result (IsExplained (L.sources library.now) entry.now options) }
+{
+    let found = chain_finding(alloc, entry, library, options, found)?;
+    Ok(Explained::Refused(found))
+}
+
+/// Explains whether a chain compiles that keeps the rules of chains.
+///
+/// # Errors
+///
+/// `NoMemory` if a growth is refused.
+fn explain_facts(alloc: Global, facts: &ChainFacts<'_>) -> Result<Explained, NoMemory>
+    requires known { AllKnown facts.now }
+    requires of { (asked : Asked) × IsChainOf asked (chain_view facts.now.chain.now) }
+    ensures { (asked : Asked) → IsChainOf asked (chain_view facts.now.chain.now) → IfOk result
+        (IsExplained asked.given asked.entry asked.options) }
+{
+    match find_broken(alloc, facts)? {
+        Some(found) => Ok(Explained::Refused(Finding::of_rule(alloc, &found)?)),
+        None => explain_image(alloc, facts),
+    }
+}
+
+/// Explains whether the image of a chain that keeps all rules is within its limits.
+///
+/// # Errors
+///
+/// `NoMemory` if a growth is refused.
+fn explain_image(alloc: Global, facts: &ChainFacts<'_>) -> Result<Explained, NoMemory>
+    requires known { AllKnown facts.now }
+    requires of { (asked : Asked) × IsChainOf asked (chain_view facts.now.chain.now) }
+    requires kept { KeepsRules (cenv_of (chain_view facts.now.chain.now))
+        (chain_view facts.now.chain.now).order }
+    ensures { (asked : Asked) → IsChainOf asked (chain_view facts.now.chain.now) → IfOk result
+        (IsExplained asked.given asked.entry asked.options) }
+{
+    let program = resolved(alloc, facts)?;
     match compile_program(alloc, &program) {
         Ok(_image) => Ok(Explained::Compiles),
         Err(EmitError::Limit(limit)) => Ok(Explained::Refused(Finding::of_limit(limit))),

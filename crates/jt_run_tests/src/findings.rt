@@ -4,9 +4,11 @@ ghost use Rattle.std.specs.Prelude.{bytes_eq, option_map};
 ghost use Rattle.std.specs.List.{find};
 
 use crate::rows::rows_hold;
+use jt_checks::find_broken;
 use jt_inherit::{Library, chain};
+use jt_names::facts_of;
 use jt_scan::Options;
-use jt_scopes::{find_broken, resolve};
+use jt_scopes::resolve;
 use std::alloc::{AllocError, Global};
 use std::test::Fail;
 
@@ -45,7 +47,8 @@ fn found_in(alloc: Global, sources: &Sources<'_>) -> Result<String, Fail> {
     let Ok(chain) = chain(alloc, "t", sources, Options::new()) else {
         return Err(Fail::from("chain"));
     };
-    let Some(found) = find_broken(alloc, &chain)? else {
+    let facts = facts_of(alloc, &chain)?;
+    let Some(found) = find_broken(alloc, &facts)? else {
         return Ok(String::from_str(alloc, "nothing")?);
     };
     if resolve(alloc, &chain).err() != Some(found.rule) {
