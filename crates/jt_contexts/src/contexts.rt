@@ -10,7 +10,7 @@ ghost use Rattle.jt_contexts.specs.Json.{IsContext, Holds, Flaw, ItemsFlaw, Memb
 
 use crate::error::ContextError;
 use crate::numbers::number_value;
-use crate::reading::{ReadError, read_context};
+use crate::reading::read_context;
 use jt_value::{Context, Text, Value};
 use serde_json::Map;
 use std::alloc::Global;
@@ -35,8 +35,8 @@ pub fn context_from_json(alloc: Global, text: &str) -> Result<Context, ContextEr
 {
     match read_context(alloc, text) {
         Ok(context) => Ok(context),
-        Err(ReadError::NoMemory) => Err(ContextError::NoMemory),
-        Err(ReadError::NoContext) => converted(alloc, text),
+        Err(ContextError::NoMemory) => Err(ContextError::NoMemory),
+        Err(_) => converted(alloc, text),
     }
 }
 

@@ -11,73 +11,44 @@ ghost use Rattle.jt_contexts.specs.internal.KeyOrder.{text_cmp};
 ghost use Rattle.jt_contexts.specs.internal.Reading.{Spells, SpellsItems, SpellsMembers};
 
 use crate::earlier::Earlier;
+use crate::error::ContextError;
 use crate::numbers::whole_number;
 use crate::ordering::{FEW, Members};
-use json::{Invalid, Reader, Scratch, Token};
-use jt_value::{Context, NoMemory, Text, Value};
-use std::alloc::{AllocError, AllocFailed, Global};
+use json::{Reader, Scratch, Token};
+use jt_value::{Context, Text, Value};
+use std::alloc::Global;
 
 const MAX_DEPTH: usize = 127;
 
-/// The reason why one pass did not read a text.
-#[derive(Drop)]
-pub(crate) enum ReadError {
-    /// A refused growth.
-    NoMemory,
-    /// A text that spells no context.
-    NoContext,
-}
+/// The error of a text that this pass does not read. `converted` finds the reason.
+const NOT_READ: ContextError = ContextError::NotJson;
 
-impl From<Invalid> for ReadError {
-    fn from(_invalid: Invalid) -> ReadError {
-        ReadError::NoContext
-    }
-}
-
-impl From<NoMemory> for ReadError {
-    fn from(_refused: NoMemory) -> ReadError {
-        ReadError::NoMemory
-    }
-}
-
-impl From<AllocError> for ReadError {
-    fn from(_refused: AllocError) -> ReadError {
-        ReadError::NoMemory
-    }
-}
-
-impl<T: Drop> From<AllocFailed<T>> for ReadError {
-    fn from(_refused: AllocFailed<T>) -> ReadError {
-        ReadError::NoMemory
-    }
-}
-
-/// Reads the context that a text spells.
-pub(crate) fn read_context(alloc: Global, text: &str) -> Result<Context, ReadError>
+/// Reads the context that a text spells. Every error but `NoMemory` is `NOT_READ`.
+pub(crate) fn read_context(alloc: Global, text: &str) -> Result<Context, ContextError>
     ensures { IfOk result (λ c. IsContext text.now (pairs_of c)) }
 {
     let mut scratch = Scratch::new(alloc);
     let mut reader = Reader::new(text, &mut scratch)?;
     let Some(Token::BeginObject) = reader.next() else {
-        return Err(ReadError::NoContext);
+        return Err(NOT_READ);
     };
     let mut earlier = Earlier::new(alloc);
     let members = read_members(alloc, &mut reader, MAX_DEPTH - 1, &mut earlier)?;
     if reader.next().is_some() {
-        return Err(ReadError::NoContext);
+        return Err(NOT_READ);
     }
     context_of(alloc, members)
 }
 
 /// Builds the context of members that are in the order of their names.
-fn context_of(alloc: Global, members: Vec<(Text, Value)>) -> Result<Context, ReadError>
+fn context_of(alloc: Global, members: Vec<(Text, Value)>) -> Result<Context, ContextError>
     requires { IsStrictlySortedBy text_cmp (keys_of members.items) }
     ensures { IfOk result (λ c. pairs_of c ≡ pairs members.items) }
 {
     let mut context = Context::new(alloc);
     for (name, value) in members {
         if context.insert(name, value).is_err() {
-            return Err(ReadError::NoMemory);
+            return Err(ContextError::NoMemory);
         }
     }
     Ok(context)
@@ -91,16 +62,16 @@ fn read(
     reader: &mut Reader<'_>,
     depth: usize,
     earlier: &mut Earlier,
-) -> Result<Value, ReadError>
+) -> Result<Value, ContextError>
     ensures ok { IfOk result (λ v. Spells depth reader.old (view v) reader.new) }
     ensures shorter { OnOk result (length reader.new < length reader.old) }
 {
-    let token = reader.next().ok_or(ReadError::NoContext)?;
+    let token = reader.next().ok_or(NOT_READ)?;
     match token {
         Token::String(text) => Ok(earlier.text(alloc, text)?),
         Token::Number(text) => match whole_number(text) {
             Some(number) => Ok(Value::Int(number)),
-            None => Err(ReadError::NoContext),
+            None => Err(NOT_READ),
         },
         Token::Bool(truth) => Ok(Value::Bool(truth)),
         Token::Null => Ok(Value::None),
@@ -112,7 +83,7 @@ fn read(
             let members = read_members(alloc, reader, depth - 1, earlier)?;
             Ok(Value::from_entries(alloc, members)?)
         }
-        _ => Err(ReadError::NoContext),
+        _ => Err(NOT_READ),
     }
 }
 
@@ -124,7 +95,7 @@ fn read_items(
     reader: &mut Reader<'_>,
     depth: usize,
     earlier: &mut Earlier,
-) -> Result<Vec<Value>, ReadError>
+) -> Result<Vec<Value>, ContextError>
     ensures ok { IfOk result (λ vs. SpellsItems depth reader.old vs.items reader.new) }
     ensures shorter { OnOk result (length reader.new < length reader.old) }
 {
@@ -145,7 +116,7 @@ fn read_members(
     reader: &mut Reader<'_>,
     depth: usize,
     earlier: &mut Earlier,
-) -> Result<Vec<(Text, Value)>, ReadError>
+) -> Result<Vec<(Text, Value)>, ContextError>
     ensures ok { IfOk result (λ es. SpellsMembers depth reader.old es.items reader.new) }
     ensures ordered { IfOk result (λ es. IsStrictlySortedBy text_cmp (keys_of es.items)) }
     ensures shorter { OnOk result (length reader.new < length reader.old) }
