@@ -3,7 +3,7 @@ pub use Rattle.jt_ast.proofs.RemainingParts.{Branch}
 pub use Rattle.jt_ast.proofs.StatementViews.{view_Autoescape, view_For}
 pub use Rattle.jt_ast.specs.Expressions.{Text}
 pub use Rattle.jt_ast.specs.StatementView.{body_of, body_view, branches_view, given_view, stmt_view, stmts_of}
-pub use Rattle.jt_chains.specs.Along.{AreIndices, along, blocks_along, body_at, layers_along, macros_along}
+pub use Rattle.jt_chains.specs.Along.{AreIndices, along, body_at, layers_along}
 pub use Rattle.jt_chains.specs.Chain.{Template, imports, is_space, libraries_in, macros_in, own, sources_in}
 pub use Rattle.jt_chains.specs.Includes.{includes_by, includes_in, includes_under, need, needs_in}
 pub use Rattle.jt_chains.specs.Indices.{index_of, namespace_at}

@@ -176,7 +176,8 @@ impl Chain {
         requires { namespace < length self.now.namespaces.items }
         ensures { IfOk result (λ names.
             names_view (its_templates self.now) (namespace_in self.now namespace) names.items
-            ≡ own (namespace_in self.now namespace) (macros_view (its_templates self.now) macros.now)
+            ≡ own (namespace_in self.now namespace)
+            (macros_view (its_templates self.now) macros.now)
             ++ imports (its_sources self.now) (namespace_in self.now namespace)) }
     {
         let mut names = Vec::new(alloc);

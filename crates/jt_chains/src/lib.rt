@@ -23,4 +23,4 @@ pub use definitions::{DefinedName, Definition, file_named, holds_macros, is_priv
 pub use files::TemplateFile;
 pub use include_tags::{NeededTemplate, includes_at};
 pub use layers::Layer;
-pub use parts::{Block, Macro, blocks_at, blocks_of_file, macro_names, macros_at, macros_of_file};
+pub use parts::{Block, Macro, blocks_of_file, macro_names, macros_of_file};

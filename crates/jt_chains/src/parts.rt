@@ -6,7 +6,7 @@ ghost use Rattle.jt_ast.specs.Texts.{texts};
 ghost use Rattle.jt_chains.specs.Chain.{macros_in, blocks_of, blocks_in};
 ghost use Rattle.jt_chains.specs.TemplateFiles.{files_view};
 ghost use Rattle.jt_chains.specs.Parts.{macros_view, blocks_view, name_at};
-ghost use Rattle.jt_chains.specs.Along.{body_at, macros_along, blocks_along};
+ghost use Rattle.jt_chains.specs.Along.{body_at};
 ghost use Rattle.jt_chains.specs.internal.AddsBlocks.{AddsBlocks};
 
 use crate::files::TemplateFile;
@@ -166,23 +166,8 @@ pub fn macros_of_file<'a>(
     ensures { IfOk result (λ found. macros_view (files_view files.now) found.items
         ≡ macros_in (name_at (files_view files.now) index) (body_at (files_view files.now) index)) }
 {
-    macros_at(alloc, files, &[index])
-}
-
-/// Returns the macros of the templates at `indices`. An index out of range adds none.
-#[tactic(auto, using(crate::proofs::TemplatesByIndex::along_turn))]
-pub fn macros_at<'a>(
-    alloc: Global,
-    files: &'a [TemplateFile],
-    indices: &[usize],
-) -> Result<Vec<Macro<'a>>, AllocError>
-    ensures { IfOk result (λ found. macros_view (files_view files.now) found.items
-        ≡ macros_along (files_view files.now) indices.now) }
-{
     let mut found = Vec::new(alloc);
-    for index in indices {
-        add_macros(files, *index, body_of_file(files, *index), &mut found)?;
-    }
+    add_macros(files, index, body_of_file(files, index), &mut found)?;
     Ok(found)
 }
 
@@ -205,27 +190,11 @@ pub fn blocks_of_file<'a>(
         ≡ blocks_in (name_at (files_view files.now) index) (body_at (files_view files.now) index)
         escaping) }
 {
-    blocks_at(alloc, files, &[index], escaping)
-}
-
-/// Returns the bodies of all blocks of the templates at `indices`. An index out of range adds none.
-#[tactic(auto, using(crate::proofs::TemplatesByIndex::along_turn))]
-pub fn blocks_at<'a>(
-    alloc: Global,
-    files: &'a [TemplateFile],
-    indices: &[usize],
-    escaping: bool,
-) -> Result<Vec<Block<'a>>, AllocError>
-    ensures { IfOk result (λ bodies. blocks_view (files_view files.now) bodies.items
-        ≡ blocks_along (files_view files.now) escaping indices.now) }
-{
     let mut found = Vec::new(alloc);
-    for index in indices {
-        let site = BodySite {
-            template: *index,
-            escaping,
-        };
-        add_blocks(site, body_of_file(files, *index), &mut found)?;
-    }
+    let site = BodySite {
+        template: index,
+        escaping,
+    };
+    add_blocks(site, body_of_file(files, index), &mut found)?;
     Ok(found)
 }

@@ -49,7 +49,8 @@ linked_asked asked c linked is one = record {
   few = linked.few;
 }
 
-pub fault_asked : (asked : Asked) (f : ChainFinding) → inherit_findings.IsFinding asked.given asked.entry asked.options f
+pub fault_asked : (asked : Asked) (f : ChainFinding)
+    → inherit_findings.IsFinding asked.given asked.entry asked.options f
     → ((d : Seen) → IsChain asked.given asked.entry asked.options d → f.error ≡ chain_error.NoMemory)
     → IsFaultOf asked f
 fault_asked asked f finding only = record { finding = finding; only = only }

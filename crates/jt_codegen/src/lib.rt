@@ -2,11 +2,11 @@
 //!
 //! `compile` (`compiling`) goes from an entry to an image: the chain is linked, its facts are
 //! gathered once and checked (`linking`), and its program is emitted. Statements and routines are
-//! emitted in `emission`, `targets` and `entries`, tables and places are built in `tables`, `places`
-//! and `image`, limits are checked in `limits`, and refusals are in `error`. `explain` (`explaining`)
-//! finds the place of a broken rule and the names in it, or the limit that an image would pass
-//! (`finding`, `unknown`). Read first: compiling.rt, and specs/Compiled.antt, which states the
-//! guarantee.
+//! emitted in `emission`, `targets` and `entries`, tables and places are built in `tables`,
+//! `places` and `image`, limits are checked in `limits`, and refusals are in `error`. `explain`
+//! (`explaining`) finds the place of a broken rule and the names in it, or the limit that an image
+//! would pass (`finding`, `unknown`). Read first: compiling.rt, and specs/Compiled.antt, which
+//! states the guarantee.
 #![tactic(auto)]
 
 mod compiling;

@@ -29,7 +29,7 @@ pub use Rattle.jt_ast.specs.Texts.{among, repeated, texts}
 pub use Rattle.jt_chains.proofs.IncludeCollection.{by_templates, needed-append}
 pub use Rattle.jt_chains.proofs.TemplatesByIndex.{along_templates, along_turn, file_at, index_within, map_at, only_one}
 pub use Rattle.jt_chains.proofs.TemplatesByIndex.{given_templates}
-pub use Rattle.jt_chains.specs.Along.{AreIndices, along, templates_at, body_at, macros_along, blocks_along}
+pub use Rattle.jt_chains.specs.Along.{AreIndices, along, templates_at, body_at}
 pub use Rattle.jt_chains.specs.Chain.{MacroBody, Namespace, Sources, Template, a_chain, a_library, blocks_in}
 pub use Rattle.jt_chains.specs.Chain.{extends_of, holds_macros, is_a_library, libraries, libraries_in, library_template}
 pub use Rattle.jt_chains.specs.Chain.{listed, macros, macros_in, names_up, namespace_name, own, parent_of, public_macro}

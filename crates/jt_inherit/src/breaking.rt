@@ -22,7 +22,8 @@ pub(crate) fn missing_finding(
     missing: MissingMacro<'_>,
 ) -> Result<ChainFinding, AllocError>
     requires indices { AreIndices (files_view files.now) indices.now }
-    requires missing { lacks (sources_in (files_view files.now)) missing.library.now missing.name.now ≡ true }
+    requires missing { lacks (sources_in (files_view files.now)) missing.library.now
+        missing.name.now ≡ true }
     ensures { IfOk result (IsOfRule (sources_in (files_view files.now))
         (templates_at (files_view files.now) indices.now) ChainError.NoMacro) }
 {

@@ -3,10 +3,10 @@
 //! `chain` (in `chaining`) reads each template once (`reading`, `store`) and follows its path to
 //! the root (`extends_path`). It finds the chains and libraries that are reached (`discovery`,
 //! `including`) and orders them (`linking`, `rings`). Then it checks the rules on blocks, macros
-//! and imports over the facts of the chain (`rules`, `importing`, `supers`). Names are kept in order
-//! (`sets`). The trait `Library` (in `library`) supplies the sources. `refusal_laws` (in `laws`)
-//! states that a refusal is permanent. Read first: specs/Chains.antt, which defines the chain of an
-//! entry.
+//! and imports over the facts of the chain (`rules`, `importing`, `supers`). `sets` has the names
+//! that were found, in order. The trait `Library` (in `library`) supplies the sources.
+//! `refusal_laws` (in `laws`) states that a refusal is permanent. Read first: specs/Chains.antt,
+//! which defines the chain of an entry.
 #![tactic(auto)]
 
 mod breaking;

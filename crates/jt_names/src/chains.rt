@@ -81,8 +81,8 @@ fn facts_of_namespace<'a>(
     })
 }
 
-/// The macros of a chain or a library, the bodies of its blocks, and the names of the templates that
-/// it includes.
+/// The macros of a chain or a library, the bodies of its blocks, and the names of the templates
+/// that it includes.
 #[derive(Drop)]
 struct NamespaceParts<'a> {
     macros: Vec<Macro<'a>>,

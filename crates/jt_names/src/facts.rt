@@ -27,7 +27,7 @@ pub struct NamespaceFacts<'a> {
     pub scope_names: Vec<&'a str>,
     /// Its macros, the entry template's first.
     pub macros: Vec<Macro<'a>>,
-    /// All names that are defined as a macro or a library, its own macros first, repeated names too.
+    /// All names that mean a macro or a library, its own macros first, repeated names too.
     pub defined: Vec<DefinedName<'a>>,
     /// The definition of each name that stands for a macro or a library.
     pub given: BTreeMap<&'a str, Definition<'a>>,

@@ -45,7 +45,8 @@ pub fn resolve(alloc: Global, chain: &Chain) -> Result<Program, ScopeError>
 ///
 /// # Errors
 ///
-/// Those of `resolve`.
+/// - The rule that the chain breaks.
+/// - `NoMemory` if a growth is refused or a number overflows.
 pub fn resolve_facts(alloc: Global, facts: &ChainFacts<'_>) -> Result<Program, ScopeError>
     requires { AllKnown facts.now }
     ensures resolved { IfOk result (λ made. program_of made

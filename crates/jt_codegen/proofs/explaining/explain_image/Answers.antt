@@ -16,8 +16,8 @@ pub returns-in-Ok : goal.returns-in-Ok
 returns-in-Ok c = λ asked is. (
   c.in-Ok._image,
   c.in-Ok.ensures.compiled asked
-      (program_asked asked (chain_view c.args.facts.now.chain.now) is c.requires.kept (program_of c.in_ok-program.program)
-      c.in_ok-program.ensures),
+      (program_asked asked (chain_view c.args.facts.now.chain.now) is c.requires.kept
+      (program_of c.in_ok-program.program) c.in_ok-program.ensures),
 )
 
 pub returns-in-Err-Limit : goal.returns-in-Err-Limit

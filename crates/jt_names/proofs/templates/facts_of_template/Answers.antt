@@ -6,7 +6,8 @@ use Rattle.jt_names.specs.declared.own.NamesOf.TheVariants.{Template}
 use Rattle.jt_uses.specs.Uses.{body_uses, outside}
 use Rattle.jt_chains.specs.Uses.{body_names}
 use Rattle.jt_names.proofs.{its_templates, body_at, body_view, files_view, sites_view, blocks_view, texts, all_inserted}
-use Rattle.jt_names.proofs.{name_included, names_of_includes, name_used, names_inserted, filter_map, ap, sym, subst, ◌∙◌, ◌≡◌}
+use Rattle.jt_names.proofs.{name_included, names_of_includes, name_used, names_inserted, filter_map, ap, sym, subst}
+use Rattle.jt_names.proofs.{◌∙◌, ◌≡◌}
 
 pub returns : goal.returns
 returns c =

@@ -1,7 +1,7 @@
 use Rattle.jt_names.proofs.templates.names_of_namespace.Goals as goal
 use Rattle.jt_chains.proofs.TemplatesByIndex.{namespace_along, number_at}
-use Rattle.jt_names.proofs.{Bor, ◌<◌, List, length, get_or, ap, ◌∙◌, Text, all_inserted, ascending, texts, along, names_by}
-use Rattle.jt_names.proofs.{its_templates, all_within, turn}
+use Rattle.jt_names.proofs.{Bor, ◌<◌, List, length, get_or, ap, ◌∙◌, Text, all_inserted, ascending, texts, along}
+use Rattle.jt_names.proofs.{names_by, its_templates, all_within, turn}
 
 pub loop-index-init : goal.loop-index-init
 loop-index-init c =

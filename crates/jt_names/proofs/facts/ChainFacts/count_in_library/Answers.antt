@@ -7,8 +7,8 @@ index-requires c = grind (arith, length-map, tests)
 
 pub returns-in-Some : goal.returns-in-Some
 returns-in-Some c =
-    let facts = c.requires.templates.each c.file_named-index.result c.index.result.now (grind (arith, length-map, tests))
-    c.index.ensures in
+    let facts = c.requires.templates.each c.file_named-index.result c.index.result.now
+    (grind (arith, length-map, tests)) c.index.ensures in
     let names = facts.names in
     grind (arith, length-map, tests, file_at, library_known)
 
