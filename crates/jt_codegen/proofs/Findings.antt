@@ -1,20 +1,16 @@
 -- What an explanation states is true of the entry.
 use Rattle.std.proofs.Common.{◌≡◌, ℕ, List, [], ◌∷◌, Some, None, refl, sym, ap, ◌∙◌, subst, inl, inr}
-use Rattle.std.specs.Prelude.{◌≢◌, ◌⊎◌, ◌≤◌, ◌+◌, ◌*◌, length, Result, Ok, Err, IfOk}
-use Rattle.std.specs.List.{AllByRecursion}
+use Rattle.std.specs.Prelude.{◌≢◌, ◌⊎◌, Result, Ok, Err, IfOk, IfErr}
 use Rattle.jt_scan.specs.declared.options.Options.{Options}
 use Rattle.jt_ast.specs.Expressions.{Text}
-use Rattle.jt_ast.specs.Sizes.{body_bytes}
 use Rattle.jt_chains.specs.Chain.{Namespace, Template}
 use Rattle.jt_chains.specs.Indices.{namespace_at}
 use Rattle.jt_chains.specs.View.{Seen, sources_of}
-use Rattle.jt_chains.specs.Weights.{chains_weight}
 use Rattle.jt_checks.specs.Findings as findings
 use Rattle.jt_checks.specs.Findings.{IsFoundAt, IsFoundIn, BreaksAt}
 use Rattle.jt_inherit.specs.Chains.{SourceTexts, IsChain}
 use Rattle.jt_inherit.specs.Findings as inherit_findings
 use Rattle.jt_inherit.specs.Refusals as inherit
-use Rattle.jt_inherit.specs.Small.{chains_len, source_len}
 use Rattle.jt_inherit.specs.declared.error.ChainError.{ChainError}
 use Rattle.jt_inherit.specs.declared.error.ChainError.TheVariants as chain_error
 use Rattle.jt_inherit.specs.declared.finding.ChainFinding.{ChainFinding}
@@ -54,6 +50,13 @@ pub fault_asked : (asked : Asked) (f : ChainFinding)
     → ((d : Seen) → IsChain asked.given asked.entry asked.options d → f.error ≡ chain_error.NoMemory)
     → IsFaultOf asked f
 fault_asked asked f finding only = record { finding = finding; only = only }
+
+pub faults_asked : {A : Type 0} (asked : Asked) (r : Result A ChainFinding)
+    → IfErr r (inherit_findings.IsFinding asked.given asked.entry asked.options)
+    → ((d : Seen) → IsChain asked.given asked.entry asked.options d → IfErr r (λ f. f.error ≡ chain_error.NoMemory))
+    → IfErr r (IsFaultOf asked)
+faults_asked asked (Ok x) finding only = tt
+faults_asked asked (Err f) finding only = fault_asked asked f finding only
 
 pub no_memory_asked : (asked : Asked) (f : ChainFinding) → inherit_findings.IsNoMemory f → IsFaultOf asked f
 no_memory_asked asked f is =

@@ -3,8 +3,8 @@ use Rattle.jt_checks.specs.FindingView.{finding_view}
 use Rattle.jt_codegen.proofs.Findings.{rule_found}
 use Rattle.jt_codegen.proofs.explaining.explain_facts.Goals as goal
 
-pub returns-in-Some : goal.returns-in-Some
-returns-in-Some c = λ asked of.
+pub returns-in_ok-of_rule-in-Some : goal.returns-in_ok-of_rule-in-Some
+returns-in_ok-of_rule-in-Some c = λ asked of.
     rule_found asked.given asked.entry asked.options (chain_view c.args.facts.now.chain.now) of.only
     (finding_view c.in-Some.found)
     (rw c.in-Some.is at c.in_ok-found.ensures.found) (rw c.in-Some.is at c.in_ok-found.ensures.holds)

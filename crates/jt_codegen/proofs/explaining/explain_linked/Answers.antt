@@ -6,8 +6,8 @@ explain_facts-requires-clause-of g c =
     let asked = asked_of (g.L.Library.sources c.args.library.now) c.args.entry.now c.args.options in
     (asked, c.in-Ok.ensures.kept asked c.requires)
 
-pub returns : goal.returns
-returns g c =
+pub returns-in-Ok : goal.returns-in-Ok
+returns-in-Ok g c =
     let asked = asked_of (g.L.Library.sources c.args.library.now) c.args.entry.now c.args.options in
     c.explain_facts.ensures asked (c.in-Ok.ensures.kept asked c.requires)
 

@@ -1,7 +1,8 @@
-use Rattle.std.proofs.Common.{subst, sym}
+use Rattle.std.proofs.Common.{refl, subst, sym, None}
 use Rattle.std.proofs.lemmas.Result.{err_from_is_err_and}
 use Rattle.jt_chains.specs.View.{chain_view}
 use Rattle.jt_chains.specs.declared.chain.Chain.{Chain}
+use Rattle.jt_inherit.specs.declared.error.ChainError.TheVariants as chain_error
 use Rattle.jt_codegen.specs.internal.Asked.{IsLinkedOf}
 use Rattle.jt_codegen.proofs.Findings.{fault_asked, linked_asked, no_memory_asked}
 use Rattle.jt_codegen.proofs.linking.checked_facts.Goals as goal
@@ -16,7 +17,8 @@ returns-clause-kept c = λ asked of.
 pub returns-in_err-facts-clause-refused : goal.returns-in_err-facts-clause-refused
 returns-in_err-facts-clause-refused c =
     let p = err_from_is_err_and c.from_residual.result c.from_residual.ensures.1 in
-    rw (p.1, p.2) (λ asked of. no_memory_asked asked _ refl)
+    rw (p.1, p.2) (λ asked of.
+    no_memory_asked asked (record { error = chain_error.NoMemory; place = None; subject = None }) refl)
 
 pub returns-in_err-check_chains-clause-refused : goal.returns-in_err-check_chains-clause-refused
 returns-in_err-check_chains-clause-refused c =
