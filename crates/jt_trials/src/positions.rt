@@ -17,8 +17,8 @@ impl Positions {
         let (at, of) = of.split_once(' ').ok_or(Stop::Other)?;
         let (step, of) = of.split_once(' ').ok_or(Stop::Other)?;
         let places = Positions {
-            at: at.parse::<usize>().map_err(|_| Stop::Other)?,
-            step: step.parse::<usize>().map_err(|_| Stop::Other)?,
+            at: at.parse::<usize>()?,
+            step: step.parse::<usize>()?,
         };
         Ok((places, of))
     }

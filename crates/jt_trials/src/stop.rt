@@ -3,6 +3,7 @@
 use jt_value::NoMemory;
 use std::alloc::{AllocError, AllocFailed};
 use std::io;
+use std::num::ParseIntError;
 
 /// The reason why the trials stop early: a growth outside of the calls was refused, or any other
 /// error.
@@ -37,5 +38,11 @@ impl<T: Drop> From<AllocFailed<T>> for Stop {
 impl From<NoMemory> for Stop {
     fn from(_refused: NoMemory) -> Stop {
         Stop::NoMemory
+    }
+}
+
+impl From<ParseIntError> for Stop {
+    fn from(_error: ParseIntError) -> Stop {
+        Stop::Other
     }
 }
