@@ -14,6 +14,8 @@ from kit import rt
 
 lib = rt.rtlib
 WIDTH = 120
+# how many characters a body must save if it saves no line
+MARGIN = 12
 SIGNATURE = re.compile(r"^(\s*)(?:pub )?([^\s:(){}]+) : ")
 DEFINITION = re.compile(r"\s*(?:abbrev|unfoldable|data|record)\b")
 ERROR = re.compile(r"(?m)^\./proofs/(\S+\.antt):(\d+):\d+: error: (.*)$")
@@ -144,7 +146,17 @@ def bodies(lines, lemmas, equation):
     if re.search(r"∙|\b(cc|ap|sym|rw|simp)\b", equation.body):
         tactics.append("cc")
     forms = {it: equation.with_body(it) for it in tactics}
-    return [it for it, form in forms.items() if len(form) < equation.lines and max(map(len, form)) <= WIDTH]
+    return [it for it, form in forms.items() if is_shorter(form, equation) and max(map(len, form)) <= WIDTH]
+
+
+def is_shorter(form, equation):
+    """Returns whether a form has fewer lines than an equation, or fewer characters by MARGIN."""
+    return len(form) < equation.lines or characters(form) + MARGIN <= characters([equation.head, equation.body])
+
+
+def characters(lines):
+    """Returns the number of characters that are no white space."""
+    return sum(len(it) for line in lines for it in line.split())
 
 
 class File:
