@@ -149,8 +149,8 @@ module _ (b c z : List ℕ) (fits : IsBytes b) (more : length b ≤ length c)
 -- ---- the upgraded image
 
 -- These offsets in version 2, with this offset of the places.
-abbrev pub placed_behind : ℕ → Offsets → Offsets
-placed_behind places p =
+abbrev pub placed_after : ℕ → Offsets → Offsets
+placed_after places p =
     record {
       version = version.Two;
       globals = p.globals;
@@ -207,15 +207,15 @@ module _ (b c : List ℕ) (p : Offsets) (fits : IsBytes b) (h : Spells b p) (one
       (past c start_len (length b) (drop start_len b) z (record { len = longer; is = tail })
       (omega (arith, long, length-drop start_len b)))
 
-  pub upgraded_in_place : Spells c (placed_behind places p)
-      × (code_in c (placed_behind places p) ≡ unplaced (code_in b p))
+  pub upgraded_in_place : Spells c (placed_after places p)
+      × (code_in c (placed_after places p) ≡ unplaced (code_in b p))
   upgraded_in_place =
       let ns = all_moved b c z fits more tail (record { slot = 0; text = [] }) bare_name_at
       (λ x _ g. name_more x z g) p.names.items h.there.names in
       let cs = all_moved b c z fits more tail undefined constant_at (λ x f g. constant_more x z f g) p.constants.items
       h.there.constants in
       let us = units_moved b c z fits more tail p.units.items h.there.units h.code.units in
-      let q = placed_behind places p in
+      let q = placed_after places p in
       let none : (code_in c q).templates ≡ [] = ap (templates_in c) bare in
       let locs : (code_in c q).places ≡ Places (total_len k.units) =
       ap (λ (ts : List ℕ). locs_in version.Two (length ts) p.instructions (drop places c)) bare

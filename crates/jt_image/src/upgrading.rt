@@ -69,8 +69,8 @@ fn spelled(alloc: Global, image: &Image) -> Result<Vec<u8>, ImageError>
     Ok(bytes)
 }
 
-// Returns the offset of the places that an upgrade adds behind these bytes.
-fn places_behind(bytes: &[u8]) -> u32
+// Returns the offset of the places that an upgrade adds after these bytes.
+fn places_after(bytes: &[u8]) -> u32
     requires { length bytes.now ≤ max_bytes }
     ensures at { result ≡ length bytes.now + 2 }
     ensures bytes { (i : ℕ) → slice_index_or bytes.now i 0 < 256 }
@@ -90,7 +90,7 @@ fn unplaced(image: Image, bytes: Vec<u8>) -> Image
         mut offsets,
     } = image;
     offsets.version = Version::Two;
-    offsets.places = places_behind(&old);
+    offsets.places = places_after(&old);
     Image { bytes, offsets }
 }
 
