@@ -89,6 +89,7 @@ fn add_blocks<'a>(
 
 /// Adds the bodies of the blocks in a statement, nested ones included, in the order of the source.
 #[cycle(blocks)]
+#[tactic(auto, using(jt_ast::proofs::StatementViews::view_For, jt_ast::proofs::StatementViews::view_Autoescape))]
 fn add_statement<'a>(
     site: BodySite,
     statement: &'a Stmt,
