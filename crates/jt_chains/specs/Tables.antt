@@ -3,7 +3,6 @@ use Rattle.std.specs.Prelude.{◌≡◌, ℕ, suc, Bool, false, if◌then◌else
 use Rattle.std.specs.Prelude.{unwrap_or, option_and_then, is_some}
 use Rattle.std.specs.declared.string.String.{String}
 use Rattle.std.specs.declared.alloc.Global.{Global}
-use Rattle.std.specs.Coded.{Coded-set, coded_ℕ, Π_prop}
 use Rattle.std.specs.Str.{bytes_eq}
 use Rattle.std.specs.BTreeMap.{BTreeMap, get_by_text}
 use Rattle.jt_ast.specs.Expressions.{Text}
@@ -43,7 +42,3 @@ IsTable b o =
 -- A table of the indices of templates by their names.
 abbrev pub AreAt : List Template → Table → Type 0
 AreAt ts m = (n : Text) → unwrap_or (get_by_text m n) (length ts) ≡ index_of ts n
-
-pub AreAt-prop : (ts : List Template) (m : Table) → IsProp (AreAt ts m)
-AreAt-prop ts m =
-    Π_prop (λ n. Coded-set coded_ℕ (unwrap_or (get_by_text m n) (length ts)) (index_of ts n))
