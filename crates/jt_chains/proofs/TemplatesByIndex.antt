@@ -137,7 +137,8 @@ all_imports : (s : Sources) (h : chain.Namespace) → flat_map (λ t. imports_in
 all_imports s (chain.a_chain n) = refl
 all_imports s (a_library n) = search (arith, rules, no_imports)
 
-all_libraries : (s : Sources) (h : chain.Namespace) → flat_map (λ t. libraries_in t.body) (templates s h) ≡ libraries s h
+all_libraries : (s : Sources) (h : chain.Namespace)
+    → flat_map (λ t. libraries_in t.body) (templates s h) ≡ libraries s h
 all_libraries s (chain.a_chain n) = refl
 all_libraries s (a_library n) =
     let none : (b : Body) → holds_macros b ≡ true → libraries_in b ≡ [] = λ b e. (no_imports s b e).1 in

@@ -1,7 +1,7 @@
 //! Represents chains and libraries of templates as data.
 //!
 //! - A chain with all that it reaches: `chain`.
-//! - Its templates: `layers` and `files`, with the table that finds the macros of a library by name.
+//! - Its templates: `layers`, and `files` with the table that finds the macros of a library.
 //! - The macros of templates and the bodies of their blocks: `parts`.
 //! - Includes and imports: `include_tags`.
 //! - The definitions of its names: `definitions`.
