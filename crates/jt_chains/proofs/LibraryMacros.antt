@@ -44,12 +44,12 @@ pub library_at : (ts : List Template) (n : Text) (i : ℕ) → i ≡ index_of ts
 library_at =
     library_has (flat_map (λ t. macros_in t.name t.body)) macros_in refl (λ n b. sym (append-nil (macros_in n b)))
 
-pub library_nowhere : (ps : List TemplateFile) (n : Text) (i : ℕ) → length ps ≤ i → i ≡ index_of (files_view ps) n
-    → [] ≡ macros (sources_in (files_view ps)) (a_library n)
-library_nowhere ps n i past e =
+pub library_nowhere : (ps : List TemplateFile) (n x : Text) (i : ℕ) → length ps ≤ i → i ≡ index_of (files_view ps) n
+    → None ≡ public_macro x (macros (sources_in (files_view ps)) (a_library n))
+library_nowhere ps n x i past e =
     let none : slice_get (files_view ps) i ≡ None =
     slice_get_past (files_view ps) i (omega (arith, past, length-map ps file_view)) in
-    rw none at (library_at (files_view ps) n i e)
+    rw (← (rw none at (library_at (files_view ps) n i e))) (search (arith, rules))
 
 -- ---- macros by their names
 
@@ -77,6 +77,3 @@ module _ (x n : Text) where
       let all = map stmt_view ss in
       let found = simp slice_get-map at (at_index (slice_get all) 0 all (λ i. ap (slice_get all) (omega arith))) in
       rw (file.table.1 x, ← is) (search (arith, rules, found))
-
-pub no_public : (x : Text) → None ≡ public_macro x []
-no_public x = search (arith, rules)

@@ -194,7 +194,7 @@ impl Chain {
     }
 
     /// Returns the macro of this name that the library offers to importers.
-    #[tactic(auto, using(crate::proofs::TemplatesByIndex::file_at, crate::proofs::LibraryMacros::library_at, crate::proofs::LibraryMacros::library_nowhere, crate::proofs::LibraryMacros::no_public))]
+    #[tactic(auto, using(crate::proofs::TemplatesByIndex::file_at, crate::proofs::LibraryMacros::library_at, crate::proofs::LibraryMacros::library_nowhere))]
     pub fn library_macro(&self, library: &str, name: &str) -> Option<Macro<'_>>
         ensures { option_map (macro_view (its_templates self.now)) result
             ≡ chains.public_macro name.now (macros (its_sources self.now) (a_library library.now)) }

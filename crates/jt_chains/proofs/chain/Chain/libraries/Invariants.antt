@@ -1,7 +1,7 @@
 use Rattle.jt_chains.proofs.chain.Chain.libraries.Given as goal
 use Rattle.jt_chains.specs.Chain.{libraries}
-use Rattle.jt_chains.proofs.{◌≡◌, ◌++◌, ◌<◌, ◌≤◌, [], length, map, drop, along, libraries_in, its_templates, its_sources}
-use Rattle.jt_chains.proofs.{namespace_in}
+use Rattle.jt_chains.proofs.{◌≡◌, ◌++◌, ◌<◌, ◌≤◌, [], length, map, drop, along, libraries_in, its_templates}
+use Rattle.jt_chains.proofs.{its_sources, namespace_in}
 
 abbrev pub invariant-loop-index : goal.invariant-loop-index
 invariant-loop-index l = record {
