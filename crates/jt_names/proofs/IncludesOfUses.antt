@@ -1,9 +1,9 @@
 -- The templates that the uses of a body include are those of its include tags, in their order.
 use Rattle.std.proofs.lemmas.List.Elements.{filter_map-append}
 use Rattle.jt_ast.specs.Expressions.{Expr, Pairs, no_pairs, pair}
-use Rattle.jt_ast.specs.Statements.{FilterCall, Parameter, Stmt, print, choose, for_each, set, set_block, with_values, filter_block}
-use Rattle.jt_ast.specs.Statements.{autoescape, macro, import_from, block, Body, end, stmt, Branches, no_branches}
-use Rattle.jt_ast.specs.Statements.{branch}
+use Rattle.jt_ast.specs.Statements.{FilterCall, Parameter, Stmt, print, choose, for_each, set, set_block, with_values}
+use Rattle.jt_ast.specs.Statements.{filter_block, autoescape, macro, import_from, block, Body, end, stmt, Branches}
+use Rattle.jt_ast.specs.Statements.{no_branches, branch}
 use Rattle.jt_chains.specs.Includes.{needs_by, needs_in, needs_under}
 use Rattle.jt_uses.specs.Uses
 use Uses.{bound, parameters_bound, keys_bound, macros_bound, stmt_uses, body_uses, branch_uses, expr_uses, pair_uses}

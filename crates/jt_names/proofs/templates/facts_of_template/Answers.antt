@@ -12,8 +12,14 @@ returns c =
     record {
       uses = uses;
       names =
-          rw (c.in_ok-names.ensures, c.in_ok-add_used.ensures, c.deref.ensures.value, uses, names_inserted Template,
-          c.new-names.ensures.empty);
+          rw (
+            c.in_ok-names.ensures,
+            c.in_ok-add_used.ensures,
+            c.deref.ensures.value,
+            uses,
+            names_inserted Template,
+            c.new-names.ensures.empty,
+          );
       all_macros = rw c.deref-3.ensures.value at c.in_ok-macros.ensures;
       all_blocks = rw c.deref-4.ensures.value at c.in_ok-blocks.ensures;
       includes = rw (c.in_ok-includes.ensures, c.deref-2.ensures.value, uses, names_of_includes);
