@@ -1,13 +1,13 @@
 -- The macros of a library, by the index of its template and by their names.
 use Rattle.jt_ast.specs.declared.statement.Stmt as statement
 use Rattle.jt_chains.specs.Chain
-use Chain.{MacroBody, templates, holds_macros, library_template, macro_of, a_library, macros, is_private, public_macro}
+use Chain.{templates, holds_macros, library_template, macro_of, a_library, macros, public_macro}
 use Rattle.jt_ast.specs.Statements.{Body, end, stmt, macro, Stmt}
-use Rattle.jt_chains.specs.Tables.{macro_index, library_macros, as_macro, IsTable, Table, is_named}
+use Rattle.jt_chains.specs.Tables.{macro_index, library_macros, as_macro, is_named}
 use Rattle.jt_chains.specs.declared.files.TemplateFile.{TemplateFile}
 use Rattle.jt_chains.proofs.Vocabulary
-use Vocabulary.{option_and_then, slice_get_past, slice_get-map, map, ◌≡◌, ◌≤◌, ℕ, suc, length, Bool, true, false}
-use Vocabulary.{arith, rules, if◌then◌else◌, List, [], ◌∷◌, refl, sym, ap, ◌∙◌, Option, Some, None, flat_map}
+use Vocabulary.{option_and_then, slice_get_past, slice_get-map, map, ◌≡◌, ◌≤◌, ℕ, suc, length}
+use Vocabulary.{arith, rules, if◌then◌else◌, ◌+◌, List, [], ◌∷◌, refl, sym, ap, ◌∙◌, Option, None, flat_map}
 use Vocabulary.{unwrap_or, option_map, slice_get, append-nil, length-map, bytes_eq-Decides, Text, body_at}
 use Vocabulary.{Template, macros_in, sources_in, file_view, files_view, name_at, index_of, get_by_text, stmts_of}
 use Vocabulary.{body_view, body_of, stmt_view}
@@ -44,12 +44,12 @@ pub library_at : (ts : List Template) (n : Text) (i : ℕ) → i ≡ index_of ts
 library_at =
     library_has (flat_map (λ t. macros_in t.name t.body)) macros_in refl (λ n b. sym (append-nil (macros_in n b)))
 
-pub library_nowhere : (ps : List TemplateFile) (n : Text) (i : ℕ) → length ps ≤ i → i ≡ index_of (files_view ps) n
-    → [] ≡ macros (sources_in (files_view ps)) (a_library n)
-library_nowhere ps n i past e =
+pub library_nowhere : (ps : List TemplateFile) (n x : Text) (i : ℕ) → length ps ≤ i → i ≡ index_of (files_view ps) n
+    → None ≡ public_macro x (macros (sources_in (files_view ps)) (a_library n))
+library_nowhere ps n x i past e =
     let none : slice_get (files_view ps) i ≡ None =
     slice_get_past (files_view ps) i (omega (arith, past, length-map ps file_view)) in
-    rw none at (library_at (files_view ps) n i e)
+    rw (← (rw none at (library_at (files_view ps) n i e))) (search (arith, rules))
 
 -- ---- macros by their names
 
@@ -59,46 +59,21 @@ module _ (x n : Text) where
   macro_step (macro line y ps c) b = refl
   macro_step s b = search rules
 
-  -- The number of a later statement is one more than among the later ones.
-  later_macro : (k : ℕ) (b : Body) → macro_index x (suc k) b ≡ option_map suc (macro_index x k b)
-  later_macro k end = refl
-  later_macro k (stmt s b) = search (arith, rules, later_macro (suc k) b)
-
-  abbrev macro_at : List Stmt → Option ℕ → Option MacroBody
-  macro_at ss = option_and_then (λ i. option_and_then (as_macro n) (slice_get ss i))
-
-  at_index : (ss : List Stmt) → macro_at ss (macro_index x 0 (stmts_of ss)) ≡ macro_of x (macros_in n (stmts_of ss))
-  at_index [] = refl
-  at_index (s ∷ ss) =
-      ap (λ o. macro_at (s ∷ ss) (if is_named x s then Some 0 else o)) (later_macro 0 (stmts_of ss))
-      ∙ by (is_named x s) (macro_index x 0 (stmts_of ss))
-      ∙ ap (λ m. if is_named x s then as_macro n s else m) (at_index ss)
-      ∙ sym (macro_step s (stmts_of ss))
-    where
-      by : (c : Bool) (o : Option ℕ) → macro_at (s ∷ ss) (if c then Some 0 else option_map suc o)
-          ≡ (if c then as_macro n s else macro_at ss o)
-      by true o = refl
-      by false None = refl
-      by false (Some j) = refl
+  -- The first macro of a name is the statement at its index, where f has the statements from index k on.
+  at_index : (f : ℕ → Option Stmt) (k : ℕ) (ss : List Stmt) → ((i : ℕ) → f (k + i) ≡ slice_get ss i)
+      → option_and_then (λ i. option_and_then (as_macro n) (f i)) (macro_index x k (stmts_of ss))
+      ≡ macro_of x (macros_in n (stmts_of ss))
+  at_index f k [] at = refl
+  at_index f k (s ∷ ss) at =
+      let later : (i : ℕ) → f (suc k + i) ≡ slice_get ss i = λ i. ap f (omega arith) ∙ at (suc i) in
+      search (arith, rules, macro_step, at 0, at_index f (suc k) ss later)
 
   -- A lookup in the table of a library finds its first macro of the name.
-  pub looked_up : (ss : List Stmt) (t : Table) (o : Option ℕ) → IsTable (stmts_of ss) (Some t) → o ≡ get_by_text t x
-      → option_and_then (λ i. option_and_then (as_macro n) (slice_get ss i)) o
-      ≡ macro_of x (library_macros n (stmts_of ss))
-  looked_up ss t o is at =
-      ap (macro_at ss) (at ∙ is.1 x) ∙ at_index ss
-      ∙ ap (λ (c : Bool). macro_of x (if c then macros_in n (stmts_of ss) else [])) (sym is.0)
-
-  -- A lookup of a name that is not private finds the macro that the library offers.
-  pub offered : (file : TemplateFile) (ss : List statement.Stmt) (t : Table) (i : Option ℕ)
-      → body_view ss ≡ body_of file.template → file.macros ≡ Some t → i ≡ get_by_text t x → is_private x ≡ false
-      → option_and_then (λ j. option_and_then (as_macro n) (option_map stmt_view (slice_get ss j))) i
-      ≡ public_macro x (library_macros n (body_of file.template))
-  offered file ss t i is some at public =
-      let table : IsTable (body_of file.template) (Some t) = rw some at file.table in
-      simp slice_get-map at (looked_up (map stmt_view ss) t i (rw is table) at)
-      ∙ ap (λ z. macro_of x (library_macros n z)) is
-      ∙ ap (λ (c : Bool). if c then None else macro_of x (library_macros n (body_of file.template))) (sym public)
-
-pub no_public : (x : Text) → None ≡ public_macro x []
-no_public x = search (arith, rules)
+  pub looked_up : (file : TemplateFile) (ss : List statement.Stmt) → body_view ss ≡ body_of file.template
+      → option_and_then (λ i. option_and_then (as_macro n) (option_map stmt_view (slice_get ss i)))
+      (option_and_then (λ t. get_by_text t x) file.macros)
+      ≡ macro_of x (library_macros n (body_of file.template))
+  looked_up file ss is =
+      let all = map stmt_view ss in
+      let found = simp slice_get-map at (at_index (slice_get all) 0 all (λ i. ap (slice_get all) (omega arith))) in
+      rw (file.table.1 x, ← is) (search (arith, rules, found))

@@ -14,7 +14,7 @@ use Rattle.jt_chains.specs.declared.files.TemplateFile.{TemplateFile}
 use Rattle.jt_chains.proofs.Vocabulary
 use Vocabulary.{namespace_view, AreWhole, names_at, slice_get_within, slice_get-map, slice_get_read, its_templates}
 use Vocabulary.{its_sources, namespace_in, ◌≡◌, ℕ, suc, ◌+◌, ◌<◌, true, false, List, [], ◌∷◌, ◌++◌, length, map}
-use Vocabulary.{drop, get_or, refl, ap, ◌∙◌, arith, Option, Some, rules, tests, zero, append_assoc, imports}
+use Vocabulary.{drop, get_or, refl, ap, ◌∙◌, arith, Some, rules, tests, zero, append_assoc, imports}
 use Vocabulary.{libraries_in, Template, sources_in, slice_get, flat_map, unwrap_or, option_map, length-map}
 use Vocabulary.{drop_more, bytes_eq-Decides, Text, body_of, body_at, along, layers_along}
 use Vocabulary.{AreIndices, file_view, files_view, name_at, namespace_at}
@@ -51,16 +51,15 @@ module _ {A : Type 0} (g : Text → Body → List A) (ts : List Template) where
   pub along_templates : (is : List ℕ) (us : List Template) → AreFrom ts is us
       → along ts g is ≡ flat_map (λ t. g t.name t.body) us
   along_templates [] [] e = refl
-  along_templates [] (u ∷ us) e = absurd (cc)
-  along_templates (i ∷ is) [] e = absurd (cc)
   along_templates (i ∷ is) (u ∷ us) e =
       let h : slice_get ts i ≡ Some u = cc in
       rw (h, along_templates is us (cc))
+  along_templates is us e = absurd (cc)
 
 pub are_indices : (ts : List Template) (is : List ℕ) (us : List Template) → AreFrom ts is us → AreIndices ts is
 are_indices ts [] us e = tt
-are_indices ts (i ∷ is) [] e = absurd (cc)
 are_indices ts (i ∷ is) (u ∷ us) e = (slice_get_within ts i u (cc), are_indices ts is us (cc))
+are_indices ts is us e = absurd (cc)
 
 -- The view of the namespace at an index.
 pub name_of_namespace : (hs : List Namespace) (i : ℕ) (h : Namespace) → i < length hs → h ≡ get_or hs i h
@@ -96,21 +95,16 @@ pub given_templates : (s : Sources) (h : chain.Namespace) → Definition s (temp
 given_templates s (chain.a_chain n) = given_along s (names_up s max_templates (Some n))
 given_templates s (chain.a_library n) = search (arith, rules)
 
--- If names differ, the name at an index determines the template.
-template_named : (ts : List Template) (i : ℕ) (u : Template) → repeated (map (λ v. v.name) ts) ≡ false
-    → sources_in ts u.name ≡ Some u.body → option_map (λ (t : Template). t.name) (slice_get ts i) ≡ Some u.name
-    → slice_get ts i ≡ Some u
-template_named ts i u once g e = search (arith, rules, only_one)
-
+-- If names differ, the names at indices determine the templates.
 indexed_by_names : (ts : List Template) (is : List ℕ) (us : List Template) → repeated (map (λ u. u.name) ts) ≡ false
     → Definition (sources_in ts) us → names_at ts is ≡ map (λ t. Some t.name) us → AreFrom ts is us
 indexed_by_names ts [] [] once g e = refl
-indexed_by_names ts [] (u ∷ us) once g e = absurd (cc)
-indexed_by_names ts (i ∷ is) [] once g e = absurd (cc)
 indexed_by_names ts (i ∷ is) (u ∷ us) once g e =
-    let here = template_named ts i u once g.0 (cc) in
+    let named : option_map (λ (t : Template). t.name) (slice_get ts i) ≡ Some u.name = cc in
+    let here : slice_get ts i ≡ Some u = search (arith, rules, only_one, once, g.0, named) in
     let rest = indexed_by_names ts is us once g.1 (cc) in
     cc
+indexed_by_names ts is us once g e = absurd (cc)
 
 -- The names at the indices of a namespace are those of its templates.
 whole_at : (ts : List Template) (hs : List Namespace) (i : ℕ) (h : Namespace) → i < length hs → h ≡ get_or hs i h
@@ -139,44 +133,28 @@ no_imports s (stmt (data_of text) rest) h = no_imports s rest (search (rules, te
 no_imports s (stmt (macro line x ps b) rest) h = no_imports s rest h
 no_imports s (stmt other rest) h = absurd (cc)
 
-nothing_in : {A : Type 0} (g : Body → List A) → ((b : Body) → holds_macros b ≡ true → g b ≡ []) → (n : Text)
-    (o : Option Body)
-    → flat_map (λ t. g t.body) (library_template n o) ≡ []
-nothing_in g none n o = search (arith, rules, none)
+all_imports : (s : Sources) (h : chain.Namespace) → flat_map (λ t. imports_in s t.body) (templates s h) ≡ imports s h
+all_imports s (chain.a_chain n) = refl
+all_imports s (a_library n) = search (arith, rules, no_imports)
+
+all_libraries : (s : Sources) (h : chain.Namespace)
+    → flat_map (λ t. libraries_in t.body) (templates s h) ≡ libraries s h
+all_libraries s (chain.a_chain n) = refl
+all_libraries s (a_library n) =
+    let none : (b : Body) → holds_macros b ≡ true → libraries_in b ≡ [] = λ b e. (no_imports s b e).1 in
+    search (arith, rules, none)
 
 -- What the templates of a namespace have, by their indices.
-module _ (ps qs : List TemplateFile) (is : List ℕ) (h : chain.Namespace) (same : qs ≡ ps)
-    (from : AreFrom (files_view ps) is (templates (sources_in (files_view ps)) h)) where
-  abbrev s : Sources
-  s = sources_in (files_view ps)
+module _ (ts : List Template) (is : List ℕ) (h : chain.Namespace)
+    (from : AreFrom ts is (templates (sources_in ts) h)) where
+  pub layers_from : layers_along ts is ≡ templates (sources_in ts) h
+  layers_from = along_templates (λ n b. record { name = n; body = b } ∷ []) ts is _ from ∙ each_alone _
 
-  all_from : {A : Type 0} (g : Text → Body → List A)
-      → along (files_view qs) g is ≡ flat_map (λ t. g t.name t.body) (templates s h)
-  all_from g = rw same (along_templates g (files_view ps) is _ from)
+  pub imports_from : along ts (λ n b. imports_in (sources_in ts) b) is ≡ imports (sources_in ts) h
+  imports_from = along_templates (λ n b. imports_in (sources_in ts) b) ts is _ from ∙ all_imports (sources_in ts) h
 
-  pub layers_from : layers_along (files_view qs) is ≡ templates s h
-  layers_from = all_from (λ n b. record { name = n; body = b } ∷ []) ∙ each_alone (templates s h)
-
-  pub imports_from : along (files_view qs) (λ n b. imports_in s b) is ≡ imports s h
-  imports_from = all_from (λ n b. imports_in s b) ∙ by h
-    where
-      by : (k : chain.Namespace) → flat_map (λ t. imports_in s t.body) (templates s k) ≡ imports s k
-      by (chain.a_chain n) = refl
-      by (a_library n) = nothing_in (imports_in s) (λ b e. (no_imports s b e).0) n (s n)
-
-  pub libraries_from : along (files_view qs) (λ n b. libraries_in b) is ≡ libraries s h
-  libraries_from = all_from (λ n b. libraries_in b) ∙ by h
-    where
-      by : (k : chain.Namespace) → flat_map (λ t. libraries_in t.body) (templates s k) ≡ libraries s k
-      by (chain.a_chain n) = refl
-      by (a_library n) = nothing_in libraries_in (λ b e. (no_imports s b e).1) n (s n)
-
--- A list is empty if its view is collected at no index.
-pub nothing_along : {X A : Type 0} (f : X → A) (xs : List X) (g : Text → Body → List A) (ts : List Template)
-    (is : List ℕ)
-    → map f xs ≡ along ts g is → is ≡ [] → xs ≡ []
-nothing_along f [] g ts is e none = refl
-nothing_along f (x ∷ xs) g ts is e none = absurd (cc (ap (along ts g) none))
+  pub libraries_from : along ts (λ n b. libraries_in b) is ≡ libraries (sources_in ts) h
+  libraries_from = along_templates (λ n b. libraries_in b) ts is _ from ∙ all_libraries (sources_in ts) h
 
 -- What a chain or a library has, by the indices of its templates.
 module _ (c : Chain) (i : ℕ) (h : Namespace) (is : List ℕ) (same : is ≡ h.templates.items)
@@ -189,7 +167,7 @@ module _ (c : Chain) (i : ℕ) (h : Namespace) (is : List ℕ) (same : is ≡ h.
 
   pub namespace_along : {A : Type 0} (g : Text → Body → List A)
       → along (its_templates c) g is ≡ flat_map (λ t. g t.name t.body) (templates (its_sources c) (namespace_in c i))
-  namespace_along = all_from c.templates.items c.templates.items is _ refl from
+  namespace_along g = along_templates g (its_templates c) is _ from
 
   pub namespace_layers : layers_along (its_templates c) is ≡ templates (its_sources c) (namespace_in c i)
-  namespace_layers = layers_from c.templates.items c.templates.items is _ refl from
+  namespace_layers = layers_from (its_templates c) is _ from

@@ -1,10 +1,10 @@
 -- The templates at some indices, in this order, and the parts that they have.
-use Rattle.std.specs.Prelude.{ℕ, Bool, ◌<◌, List, [], ◌∷◌, ◌++◌, length, slice_get, unwrap_or, option_map}
+use Rattle.std.specs.Prelude.{ℕ, ◌<◌, List, [], ◌∷◌, ◌++◌, length, slice_get, unwrap_or, option_map}
 use Rattle.std.specs.List.{AllByRecursion}
 use Rattle.std.specs.Option.{option_to_list}
 use Rattle.jt_ast.specs.Expressions.{Text}
 use Rattle.jt_ast.specs.Statements.{Body, end}
-use Rattle.jt_chains.specs.Chain.{Template, MacroBody, BlockBody, macros_in, blocks_in}
+use Rattle.jt_chains.specs.Chain.{Template}
 use Rattle.jt_chains.specs.Parts.{name_at}
 
 module _ (ts : List Template) where
@@ -25,13 +25,6 @@ module _ (ts : List Template) where
   abbrev pub along : {A : Type 0} → (Text → Body → List A) → List ℕ → List A
   along g [] = []
   along g (i ∷ is) = g (name_at ts i) (body_at i) ++ along g is
-
-  -- The macros of the templates, and the bodies of their blocks.
-  abbrev pub macros_along : List ℕ → List MacroBody
-  macros_along = along macros_in
-
-  abbrev pub blocks_along : Bool → List ℕ → List BlockBody
-  blocks_along escaping = along (λ n b. blocks_in n b escaping)
 
   -- The templates at the indices, with an empty template for each index out of range.
   abbrev pub layers_along : List ℕ → List Template

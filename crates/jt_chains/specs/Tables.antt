@@ -1,9 +1,8 @@
 -- Tables of names: the first index of a name among templates, and among the macros of a library.
-use Rattle.std.specs.Prelude.{◌≡◌, ℕ, suc, Bool, true, false, if◌then◌else◌, List, [], length, Option, Some, None}
-use Rattle.std.specs.Prelude.{unwrap_or}
+use Rattle.std.specs.Prelude.{◌≡◌, ℕ, suc, Bool, false, if◌then◌else◌, List, [], length, Option, Some, None}
+use Rattle.std.specs.Prelude.{unwrap_or, option_and_then, is_some}
 use Rattle.std.specs.declared.string.String.{String}
 use Rattle.std.specs.declared.alloc.Global.{Global}
-use Rattle.std.specs.Coded.{×_prop, Coded-set, coded_ℕ, coded_bool, coded_option, Π_prop}
 use Rattle.std.specs.Str.{bytes_eq}
 use Rattle.std.specs.BTreeMap.{BTreeMap, get_by_text}
 use Rattle.jt_ast.specs.Expressions.{Text}
@@ -36,19 +35,10 @@ as_macro n s = None
 
 -- A library has a table of its macros, and no other template has one.
 abbrev pub IsTable : Body → Option Table → Type 0
-IsTable b None = holds_macros b ≡ false
-IsTable b (Some m) = (holds_macros b ≡ true) × ((x : Text) → get_by_text m x ≡ macro_index x 0 b)
-
-pub IsTable-prop : (b : Body) (o : Option Table) → IsProp (IsTable b o)
-IsTable-prop b None = Coded-set coded_bool (holds_macros b) false
-IsTable-prop b (Some m) =
-    ×_prop (Coded-set coded_bool (holds_macros b) true)
-    (Π_prop (λ x. Coded-set (coded_option coded_ℕ) (get_by_text m x) (macro_index x 0 b)))
+IsTable b o =
+    (is_some o ≡ holds_macros b)
+    × ((x : Text) → option_and_then (λ m. get_by_text m x) o ≡ (if holds_macros b then macro_index x 0 b else None))
 
 -- A table of the indices of templates by their names.
 abbrev pub AreAt : List Template → Table → Type 0
 AreAt ts m = (n : Text) → unwrap_or (get_by_text m n) (length ts) ≡ index_of ts n
-
-pub AreAt-prop : (ts : List Template) (m : Table) → IsProp (AreAt ts m)
-AreAt-prop ts m =
-    Π_prop (λ n. Coded-set coded_ℕ (unwrap_or (get_by_text m n) (length ts)) (index_of ts n))

@@ -1,2 +1,1 @@
-pub mod AddsBlocks
 pub mod AreFrom

@@ -6,7 +6,7 @@ ghost use Rattle.jt_chains.specs.Chain.{sources_in};
 ghost use Rattle.jt_chains.specs.Includes.{InOrder, InOrder-prop, begins_with_chain};
 ghost use Rattle.jt_chains.specs.TemplateFiles.{AreWhole, AreWhole-prop, files_view};
 ghost use Rattle.jt_chains.specs.TemplateFiles.{namespace_view};
-ghost use Rattle.jt_chains.specs.Tables.{AreAt, AreAt-prop};
+ghost use Rattle.jt_chains.specs.Tables.{AreAt};
 ghost use Rattle.jt_ast.specs.Texts.{repeated};
 
 use crate::files::TemplateFile;
@@ -42,6 +42,5 @@ pub struct Chain {
             (map namespace_view namespaces.items) },
     pub ghost whole: { AreWhole (files_view templates.items)
         namespaces.items } by { AreWhole-prop (files_view templates.items) namespaces.items },
-    pub ghost indexed: { AreAt (files_view templates.items)
-        indices } by { AreAt-prop (files_view templates.items) indices },
+    pub ghost indexed: { AreAt (files_view templates.items) indices },
 }

@@ -147,26 +147,10 @@ fn add_libraries<'a>(body: &'a [Stmt], found: &mut Vec<&'a str>) -> Result<(), A
     Ok(())
 }
 
-/// Returns the names of the libraries that the templates at `indices` import, once for each tag.
-#[tactic(auto, using(crate::proofs::TemplatesByIndex::along_turn))]
-fn libraries_at<'a>(
-    alloc: Global,
-    files: &'a [TemplateFile],
-    indices: &[usize],
-) -> Result<Vec<&'a str>, AllocError>
-    ensures { IfOk result (λ names. texts names.items
-        ≡ along (files_view files.now) (λ n b. libraries_in b) indices.now) }
-{
-    let mut found = Vec::new(alloc);
-    for index in indices {
-        add_libraries(body_of_file(files, *index), &mut found)?;
-    }
-    Ok(found)
-}
-
 impl Chain {
     /// Returns the defined names of a chain or a library: the names of `macros`, which are its own,
     /// then the names that its imports bind.
+    #[tactic(auto, using(crate::proofs::TemplatesByIndex::along_turn, crate::proofs::TemplatesByIndex::imports_from))]
     pub fn definitions<'a>(
         &'a self,
         alloc: Global,
@@ -195,18 +179,22 @@ impl Chain {
 
     /// Returns the names of the libraries that a chain imports, once for each import tag. Returns
     /// none if `namespace` is out of range.
-    #[tactic(auto, using(crate::proofs::TemplatesByIndex::libraries_from, crate::proofs::TemplatesByIndex::nothing_along))]
+    #[tactic(auto, using(crate::proofs::TemplatesByIndex::along_turn, crate::proofs::TemplatesByIndex::libraries_from))]
     pub fn libraries(&self, alloc: Global, namespace: usize) -> Result<Vec<&str>, AllocError>
         ensures there { namespace < length self.now.namespaces.items → IfOk result (λ names.
             texts names.items
             ≡ libraries (its_sources self.now) (namespace_in self.now namespace)) }
         ensures nowhere { NoneBeyond self.now namespace result }
     {
-        libraries_at(alloc, &self.templates, self.indices_of(namespace))
+        let mut found = Vec::new(alloc);
+        for index in self.indices_of(namespace) {
+            add_libraries(body_of_file(&self.templates, *index), &mut found)?;
+        }
+        Ok(found)
     }
 
     /// Returns the macro of this name that the library offers to importers.
-    #[tactic(auto, using(crate::proofs::TemplatesByIndex::file_at, crate::proofs::LibraryMacros::library_at, crate::proofs::LibraryMacros::library_nowhere, crate::proofs::LibraryMacros::no_public))]
+    #[tactic(auto, using(crate::proofs::TemplatesByIndex::file_at, crate::proofs::LibraryMacros::library_at, crate::proofs::LibraryMacros::library_nowhere))]
     pub fn library_macro(&self, library: &str, name: &str) -> Option<Macro<'_>>
         ensures { option_map (macro_view (its_templates self.now)) result
             ≡ chains.public_macro name.now (macros (its_sources self.now) (a_library library.now)) }

@@ -1,15 +1,19 @@
 //! Defines the templates that were read.
 
-ghost use Rattle.std.specs.Prelude.{◌≡◌, List, IfOk, option_map, is_some, string_bytes};
-ghost use Rattle.jt_ast.specs.StatementView.{stmt_view, body_of};
+ghost use Rattle.std.specs.Prelude.{◌≡◌, List, Some, if◌then◌else◌, IfOk, OnOk, option_map};
+ghost use Rattle.std.specs.Prelude.{is_some, string_bytes};
+ghost use Rattle.std.specs.BTreeMap.{get_by_text};
+ghost use Rattle.std.specs.Str.{bytes_eq};
+ghost use Rattle.std.proofs.Props.{props};
+ghost use Rattle.jt_ast.specs.Expressions.{Text};
+ghost use Rattle.jt_ast.specs.StatementView.{stmt_view, body_view, body_of};
 ghost use Rattle.jt_chains.specs.Chain as chain;
 ghost use Rattle.jt_chains.specs.Parts.{macro_view, name_at};
 ghost use Rattle.jt_chains.specs.Tables as spec;
-ghost use Rattle.jt_chains.specs.Tables.{IsTable, IsTable-prop, library_macros};
+ghost use Rattle.jt_chains.specs.Tables.{IsTable, library_macros};
 
-use crate::definitions::is_private;
+use crate::definitions::{holds_macros, is_private};
 use crate::parts::Macro;
-use crate::tables::macro_table;
 use jt_ast::{Stmt, Template};
 use std::alloc::{AllocError, Global};
 use std::collections::BTreeMap;
@@ -21,8 +25,7 @@ pub struct TemplateFile {
     pub template: Template,
     /// The index of the first macro statement of each name, if the template is a library.
     macros: Option<BTreeMap<String, usize>>,
-    ghost table: { IsTable (body_of template)
-        macros } by { IsTable-prop (body_of template) macros },
+    ghost table: { IsTable (body_of template) macros } by { Prim.hlevel props },
 }
 
 impl TemplateFile {
@@ -53,13 +56,10 @@ impl TemplateFile {
             ≡ chain.public_macro name.now
             (library_macros (name_at ts index) (body_of self.now.template)) }
     {
-        let Some(macros) = &self.macros else {
-            return None;
-        };
         if is_private(name) {
             return None;
         }
-        let statement = macros.get(name)?;
+        let statement = self.macros.as_ref()?.get(name)?;
         as_macro(index, self.template.body().get(*statement)?)
     }
 
@@ -92,4 +92,38 @@ fn as_macro(index: usize, statement: &Stmt) -> Option<Macro<'_>>
         }),
         _ => None,
     }
+}
+
+/// Maps a name to an index and replaces an earlier entry of the name.
+fn put(
+    alloc: Global,
+    table: &mut BTreeMap<String, usize>,
+    name: &str,
+    index: usize,
+) -> Result<(), AllocError>
+    ensures { OnOk result ((x : Text)
+        → get_by_text table.new x
+        ≡ (if bytes_eq name.now x then Some index else get_by_text table.old x)) }
+{
+    table.insert(String::from_str(alloc, name)?, index)?;
+    Ok(())
+}
+
+/// Returns a map from each macro name of a library to the index of its first macro statement, which
+/// replaces a linear search. Returns `None` if the statements are no library.
+fn macro_table(alloc: Global, body: &[Stmt]) -> Result<Option<BTreeMap<String, usize>>, AllocError>
+    ensures { IfOk result (λ t. IsTable (body_view body.now) t) }
+{
+    if !holds_macros(body) {
+        return Ok(None);
+    }
+    let mut table = BTreeMap::new(alloc);
+    let mut left = body.len();
+    while left > 0 {
+        left -= 1;
+        if let Stmt::Macro { name, .. } = &body[left] {
+            put(alloc, &mut table, name, left)?;
+        }
+    }
+    Ok(Some(table))
 }

@@ -34,6 +34,7 @@ fn add_includes<'a>(found: &mut Vec<NeededTemplate<'a>>, body: &'a [Stmt]) -> Re
 
 /// Adds the includes in a statement, in the order of the source.
 #[cycle(includes)]
+#[tactic(auto, using(jt_ast::proofs::StatementViews::view_For))]
 fn add_statement<'a>(
     found: &mut Vec<NeededTemplate<'a>>,
     statement: &'a Stmt,

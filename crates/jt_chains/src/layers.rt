@@ -21,25 +21,6 @@ pub struct Layer<'a> {
     pub body: &'a [Stmt],
 }
 
-/// Returns the templates at `indices`.
-fn layers_at<'a>(
-    alloc: Global,
-    files: &'a [TemplateFile],
-    indices: &[usize],
-) -> Result<Vec<Layer<'a>>, AllocError>
-    ensures { IfOk result (λ ls. map (layer_view (files_view files.now)) ls.items
-        ≡ layers_along (files_view files.now) indices.now) }
-{
-    let mut found = Vec::with_capacity(alloc, indices.len())?;
-    for index in indices {
-        found.push(Layer {
-            template: *index,
-            body: body_of_file(files, *index),
-        })?;
-    }
-    Ok(found)
-}
-
 impl Chain {
     /// Returns the indices of the templates of a chain, from the entry to the root. Returns none if
     /// `namespace` is out of range.
@@ -58,13 +39,21 @@ impl Chain {
 
     /// Returns the templates of a chain, from the entry to the root. Returns an empty list if
     /// `namespace` is out of range.
-    #[tactic(auto, using(crate::proofs::TemplatesByIndex::layers_from, crate::proofs::TemplatesByIndex::nothing_along))]
+    #[tactic(auto, using(crate::proofs::TemplatesByIndex::along_turn, crate::proofs::TemplatesByIndex::layers_from))]
     pub fn layers(&self, alloc: Global, namespace: usize) -> Result<Vec<Layer<'_>>, AllocError>
         ensures there { namespace < length self.now.namespaces.items → IfOk result (λ found.
             map (layer_view (its_templates self.now)) found.items
             ≡ templates (its_sources self.now) (namespace_in self.now namespace)) }
         ensures nowhere { NoneBeyond self.now namespace result }
     {
-        layers_at(alloc, &self.templates, self.indices_of(namespace))
+        let indices = self.indices_of(namespace);
+        let mut found = Vec::with_capacity(alloc, indices.len())?;
+        for index in indices {
+            found.push(Layer {
+                template: *index,
+                body: body_of_file(&self.templates, *index),
+            })?;
+        }
+        Ok(found)
     }
 }

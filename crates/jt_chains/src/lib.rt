@@ -1,11 +1,10 @@
 //! Represents chains and libraries of templates as data.
 //!
 //! - A chain with all that it reaches: `chain`.
-//! - Its templates: `layers` and `files`.
+//! - Its templates: `layers`, and `files` with the table that finds the macros of a library.
 //! - The macros of templates and the bodies of their blocks: `parts`.
 //! - Includes and imports: `include_tags`.
 //! - The definitions of its names: `definitions`.
-//! - The table that finds the macros of a library by name: `tables`.
 //!
 //! Read first: specs/Chain.antt; specs/Rules.antt has the rules C1 to C12.
 #![tactic(auto)]
@@ -16,7 +15,6 @@ mod files;
 mod include_tags;
 mod layers;
 mod parts;
-mod tables;
 
 pub use chain::{Chain, Namespace};
 pub use definitions::{DefinedName, Definition, file_named, holds_macros, is_private};

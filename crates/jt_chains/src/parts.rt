@@ -1,13 +1,12 @@
 //! Collects the macros of templates and the bodies of their blocks.
 
-ghost use Rattle.std.specs.Prelude.{◌≡◌, ◌++◌, map, IfOk};
+ghost use Rattle.std.specs.Prelude.{◌≡◌, ◌++◌, List, map, IfOk};
 ghost use Rattle.jt_ast.specs.StatementView.{stmt_view, body_view};
 ghost use Rattle.jt_ast.specs.Texts.{texts};
-ghost use Rattle.jt_chains.specs.Chain.{macros_in, blocks_of, blocks_in};
+ghost use Rattle.jt_chains.specs.Chain.{Template, macros_in, blocks_of, blocks_in};
 ghost use Rattle.jt_chains.specs.TemplateFiles.{files_view};
 ghost use Rattle.jt_chains.specs.Parts.{macros_view, blocks_view, name_at};
 ghost use Rattle.jt_chains.specs.Along.{body_at};
-ghost use Rattle.jt_chains.specs.internal.AddsBlocks.{AddsBlocks};
 
 use crate::files::TemplateFile;
 use jt_ast::{Branch, Parameter, Stmt};
@@ -41,36 +40,6 @@ struct BodySite {
     escaping: bool,
 }
 
-/// Adds the macros at the top level of a template.
-pub(crate) fn add_macros<'a>(
-    files: &'a [TemplateFile],
-    template: usize,
-    body: &'a [Stmt],
-    found: &mut Vec<Macro<'a>>,
-) -> Result<(), AllocError>
-    ensures { IfOk result (λ _. macros_view (files_view files.now) found.new.items
-        ≡ macros_view (files_view files.now) found.old.items
-        ++ macros_in (name_at (files_view files.now) template) (body_view body.now)) }
-{
-    for statement in body {
-        if let Stmt::Macro {
-            name,
-            parameters,
-            body,
-            ..
-        } = statement
-        {
-            found.push(Macro {
-                name: name.as_str(),
-                template,
-                parameters: parameters.as_slice(),
-                body: body.as_slice(),
-            })?;
-        }
-    }
-    Ok(())
-}
-
 /// Adds the bodies of the blocks in statements, nested ones included, in the order of the source.
 #[cycle(blocks)]
 fn add_blocks<'a>(
@@ -78,8 +47,9 @@ fn add_blocks<'a>(
     body: &'a [Stmt],
     found: &mut Vec<Block<'a>>,
 ) -> Result<(), AllocError>
-    ensures { IfOk result (λ _. AddsBlocks found.old.items found.new.items
-        (λ ts. blocks_in (name_at ts site.template) (body_view body.now) site.escaping)) }
+    ensures { IfOk result (λ _. (ts : List Template)
+        → blocks_view ts found.new.items ≡ blocks_view ts found.old.items
+        ++ blocks_in (name_at ts site.template) (body_view body.now) site.escaping) }
 {
     for statement in body {
         add_statement(site, statement, found)?;
@@ -89,13 +59,15 @@ fn add_blocks<'a>(
 
 /// Adds the bodies of the blocks in a statement, nested ones included, in the order of the source.
 #[cycle(blocks)]
+#[tactic(auto, using(jt_ast::proofs::StatementViews::view_For, jt_ast::proofs::StatementViews::view_Autoescape))]
 fn add_statement<'a>(
     site: BodySite,
     statement: &'a Stmt,
     found: &mut Vec<Block<'a>>,
 ) -> Result<(), AllocError>
-    ensures { IfOk result (λ _. AddsBlocks found.old.items found.new.items
-        (λ ts. blocks_of (name_at ts site.template) (stmt_view statement.now) site.escaping)) }
+    ensures { IfOk result (λ _. (ts : List Template)
+        → blocks_view ts found.new.items ≡ blocks_view ts found.old.items
+        ++ blocks_of (name_at ts site.template) (stmt_view statement.now) site.escaping) }
 {
     match statement {
         Stmt::Data(_)
@@ -167,7 +139,22 @@ pub fn macros_of_file<'a>(
         ≡ macros_in (name_at (files_view files.now) index) (body_at (files_view files.now) index)) }
 {
     let mut found = Vec::new(alloc);
-    add_macros(files, index, body_of_file(files, index), &mut found)?;
+    for statement in body_of_file(files, index) {
+        if let Stmt::Macro {
+            name,
+            parameters,
+            body,
+            ..
+        } = statement
+        {
+            found.push(Macro {
+                name: name.as_str(),
+                template: index,
+                parameters: parameters.as_slice(),
+                body: body.as_slice(),
+            })?;
+        }
+    }
     Ok(found)
 }
 

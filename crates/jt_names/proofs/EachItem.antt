@@ -1,7 +1,7 @@
 -- A property of each item of a list, by its index.
-use Rattle.std.proofs.Common.{length-append}
+use Rattle.std.proofs.lemmas.List.{length_push}
 use Rattle.jt_names.proofs.Vocabulary
-use Vocabulary.{◌≡◌, ◌<◌, ◌+◌, ℕ, suc, List, [], ◌∷◌, ◌++◌, length, get_or, arith, rules, ap, sym, subst, ◌∙◌}
+use Vocabulary.{◌≡◌, ◌<◌, ◌+◌, ℕ, suc, List, [], ◌∷◌, ◌++◌, length, get_or, arith, rules}
 
 each_more : {A : Type 0} (P : ℕ → A → Type 0) (xs : List A) (y : A)
     → ((i : ℕ) (t : A) → i < length xs → t ≡ get_or xs i t → P i t) → P (length xs) y
@@ -14,8 +14,7 @@ each_more a0 a1 y all last a5 t lt is = search (arith, rules)
 pub each_pushed : {A : Type 0} {ys : List A} (P : ℕ → A → Type 0) (xs : List A) (y : A) (n : ℕ) → ys ≡ xs ++ y ∷ []
     → length xs ≡ n → ((i : ℕ) (t : A) → i < length xs → t ≡ get_or xs i t → P i t) → P n y
     → (length ys ≡ n + 1) × ((i : ℕ) (t : A) → i < length ys → t ≡ get_or ys i t → P i t)
-each_pushed {A = A} P xs y n grown all each last = (
-  ap length grown ∙ length-append xs (y ∷ []) ∙ ap (λ k. k + 1) all,
-  subst (λ (zs : List A). (i : ℕ) (t : A) → i < length zs → t ≡ get_or zs i t → P i t) (sym grown)
-      (each_more P xs y each (subst (λ i. P i y) (sym all) last)),
+each_pushed P xs y n grown all each last = (
+  rw (grown, length_push, all),
+  rw grown (each_more P xs y each (rw all last)),
 )

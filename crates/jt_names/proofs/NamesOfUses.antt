@@ -202,18 +202,7 @@ names_inserted of b ns =
     by : (n : NamesOf) (q : Text)
         → weight (one q) (filter_map (name_used n) (body_uses b outside)) ≡ weight (one q) (names_by n b)
     by Template q = search (arith, rules, body_weighs, uses_weigh, bindings_counted)
-    by Scopes q =
-        let w = body_weighs (read_by Scopes q) (bound_by Scopes q) b outside in
-        let uses = uses_weigh Scopes q (body_uses b outside) in
-        omega (
-          arith,
-          uses,
-          w,
-          bindings_counted b,
-          weightless (set_in b),
-          weightless (scope_names_in b),
-          weightless (body_names b),
-        )
+    by Scopes q = search (arith, rules, body_weighs, uses_weigh, bindings_counted, weightless)
 
 -- The facts of a template have the names of its body.
 module _ (f : TemplateFacts) (c : Chain) (i : ℕ) (ns : List Text) (known : IsKnownTemplate c i f) where
@@ -222,8 +211,7 @@ module _ (f : TemplateFacts) (c : Chain) (i : ℕ) (ns : List Text) (known : IsK
 
   pub known_scopes : all_inserted (filter_map (name_used Scopes) (sites_view f.uses.items)) ns
       ≡ all_inserted (scope_names_in its_body) ns
-  known_scopes =
-      ap (λ ss. all_inserted (filter_map (name_used Scopes) ss) ns) known.uses ∙ names_inserted Scopes its_body ns
+  known_scopes = rw (known.uses, names_inserted Scopes)
 
   pub known_names : all_inserted (texts f.names.items) ns ≡ all_inserted (body_names its_body) ns
-  known_names = ap (λ xs. all_inserted xs ns) known.names ∙ ascending_inserted (body_names its_body) ns
+  known_names = rw (known.names, ascending_inserted)

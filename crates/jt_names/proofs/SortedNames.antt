@@ -11,7 +11,7 @@ use Rattle.std.proofs.lemmas.Slice.Eq.{bytes_eq-Decides}
 use Rattle.std.proofs.lemmas.Bool.{or_right}
 use Rattle.jt_names.proofs.Vocabulary
 use Vocabulary.{Bor, ◌||◌, inserted, among, ◌≡◌, Bool, true, false, if◌then◌else◌, List, [], ◌∷◌, ◌++◌, refl, sym, ap}
-use Vocabulary.{subst, ◌∙◌, arith, rules, bytes_eq, Text, all_inserted, ascending, texts}
+use Vocabulary.{◌∙◌, arith, rules, bytes_eq, Text, all_inserted, ascending, texts}
 
 -- The insertion of a concatenation inserts the names of its first part, then those of its second
 -- part.
@@ -80,7 +80,7 @@ swapped x y ns = by (cmp x y) refl
   where
     by : (o : Ordering) → cmp x y ≡ o → inserted y (inserted x ns) ≡ inserted x (inserted y ns)
     by Less e = ordered x y ns e
-    by Equal e = subst (λ z. inserted z (inserted x ns) ≡ inserted x (inserted z ns)) (same x y e) refl
+    by Equal e = rw (same x y e)
     by Greater e = sym (ordered y x ns (turned x y Greater e))
 
 pub past : (y : Text) (xs ns : List Text) → inserted y (all_inserted xs ns) ≡ all_inserted xs (inserted y ns)

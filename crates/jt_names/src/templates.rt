@@ -1,17 +1,11 @@
 //! Collects what is known of each template.
 
-ghost use Rattle.std.specs.Prelude.{◌≡◌, ◌<◌, ℕ, length, flat_map, IfOk};
+ghost use Rattle.std.specs.Prelude.{◌≡◌, ◌<◌, length, IfOk};
 ghost use Rattle.std.specs.Option.{is_none};
-ghost use Rattle.jt_ast.specs.Texts.{ascending, texts};
-ghost use Rattle.jt_chains.specs.Along.{body_at};
-ghost use Rattle.jt_chains.specs.Chain as chains;
-ghost use Rattle.jt_chains.specs.View.{its_sources, its_templates, namespace_in};
-ghost use Rattle.jt_chains.specs.declared.chain.Chain.{Chain};
+ghost use Rattle.jt_chains.specs.View.{its_sources};
 ghost use Rattle.jt_names.specs.FactsOfTemplates.{AreKnown, IsKnownTemplate};
-ghost use Rattle.jt_names.specs.Names.{Puts};
-ghost use Rattle.jt_names.specs.internal.UsedNames.{names_by};
 
-use crate::ordered::{add_names, list_of};
+use crate::ordered::list_of;
 use crate::own::{NamesOf, add_used, names_included};
 use jt_chains::{Block, Chain, Macro, blocks_of_file, file_named, macros_of_file};
 use jt_uses::{UseSite, uses_of};
@@ -78,40 +72,4 @@ pub fn is_missing(chain: &Chain, name: &str) -> bool
     ensures { result ≡ is_none (its_sources chain.now name.now) }
 {
     chain.templates.as_slice().len() <= file_named(chain, name)
-}
-
-/// Adds names of a template.
-#[tactic(auto, using(crate::proofs::NamesOfUses::known_scopes, crate::proofs::NamesOfUses::known_names))]
-fn add_known<'a>(
-    names: &mut BTreeSet<&'a str>,
-    of: NamesOf,
-    known: &TemplateFacts<'a>,
-) -> Result<(), AllocError>
-    ensures { IfOk result (λ _. (c : Chain) (i : ℕ) → IsKnownTemplate c i known.now
-        → Puts names.old names.new (names_by of (body_at (its_templates c) i))) }
-{
-    match of {
-        NamesOf::Template => add_names(names, &known.names),
-        NamesOf::Scopes => add_used(names, of, &known.uses),
-    }
-}
-
-/// Returns the different names of the templates of a chain or a library, in ascending order.
-pub(crate) fn names_of_namespace<'a>(
-    alloc: Global,
-    chain: &Chain,
-    templates: &[TemplateFacts<'a>],
-    namespace: usize,
-    of: NamesOf,
-) -> Result<Vec<&'a str>, AllocError>
-    requires stands { namespace < length chain.now.namespaces.items }
-    requires known { AreKnown chain.now templates.now }
-    ensures { IfOk result (λ ns. texts ns.items ≡ ascending (flat_map (λ t. names_by of t.body)
-        (chains.templates (its_sources chain.now) (namespace_in chain.now namespace)))) }
-{
-    let mut names = BTreeSet::new(alloc);
-    for index in &chain.namespaces[namespace].templates {
-        add_known(&mut names, of, &templates[*index])?;
-    }
-    list_of(alloc, names)
 }

@@ -1,31 +1,74 @@
 use Rattle.jt_names.proofs.chains.facts_of_namespace.Goals as goal
-use Rattle.jt_chains.specs.Chain.{imports, own}
-use Rattle.jt_chains.specs.Named.{names_view}
-use Rattle.jt_chains.specs.Parts.{macros_view}
-use Rattle.jt_names.proofs.{given_to, namespace_in, map, ap, ◌∙◌, ◌++◌, blocks_view, its_sources, its_templates}
-use Rattle.jt_names.proofs.{first_of}
+use Rattle.std.proofs.Common.{append_assoc}
+use Rattle.std.proofs.lemmas.List.{drop_all, map-append}
+use Rattle.jt_ast.specs.Statements.{Body}
+use Rattle.jt_chains.proofs.TemplatesByIndex.{namespace_along, namespace_indices, number_at}
+use Rattle.jt_chains.specs.Chain.{templates}
+use Rattle.jt_chains.specs.TemplateFiles.{file_view}
+use Rattle.jt_names.proofs.{namespace_in, ap, sym, subst, ◌∙◌, its_sources, its_templates, Text, List, arith, rules}
+use Rattle.jt_names.proofs.{AllByRecursion, along, flat_map, ◌≡◌, ◌<◌, get_or, length, length-map, texts, append-nil}
+use Rattle.jt_names.proofs.{drop_more, inserted_both, known_names, known_scopes}
+
+pub loop-index-init : goal.loop-index-init
+loop-index-init c = record {
+  within =
+      subst (λ n. AllByRecursion (λ i. i < n) c.deref-index-items.result.now)
+      (length-map c.args.chain.now.templates.items file_view ∙ sym c.requires.known.all)
+      (namespace_indices c.args.chain.now c.args.namespace c.index.result.now _ c.deref-index-items.ensures.value
+      c.requires.stands c.index.ensures);
+  all_names = rw (c.new-names.ensures.empty, all);
+  in_scopes = rw (c.new-scope_names.ensures.empty, all);
+  all_macros = rw (c.new-macros.ensures.items, all);
+  all_blocks = rw (c.new-blocks.ensures.items, all);
+  all_includes = rw (c.new-includes.ensures.items, all);
+}
+  where
+    all : {A : Type 0} (g : Text → Body → List A)
+        → along (its_templates c.args.chain.now) g c.deref-index-items.result.now
+        ≡ flat_map (λ t. g t.name t.body)
+        (templates (its_sources c.args.chain.now) (namespace_in c.args.chain.now c.args.namespace))
+    all =
+        namespace_along c.args.chain.now c.args.namespace c.index.result.now _ c.deref-index-items.ensures.value
+        c.requires.stands c.index.ensures
+
+pub loop-index-preserved : goal.loop-index-preserved
+loop-index-preserved c =
+    let l = c.loop-index in
+    let is = c.deref-index-items.result.now in
+    let known = c.requires.known.each (get_or is l.index-index 0) c.index-templates-index.result
+    (number_at (λ j. j < length c.args.templates.now) is l.index-index c.loop-index-test.true l.invariant.within)
+    c.index-templates-index.is in
+    let lt = c.loop-index-test.true in
+    record {
+      within = l.invariant.within;
+      all_names = search (arith, rules, known_names, inserted_both, drop_more, known);
+      in_scopes = search (arith, rules, known_scopes, inserted_both, drop_more, known);
+      all_macros = search (arith, rules, drop_more, append_assoc, map-append, known);
+      all_blocks = search (arith, rules, drop_more, append_assoc, map-append, known);
+      all_includes = search (arith, rules, drop_more, append_assoc, map-append, known);
+    }
 
 pub returns : goal.returns
 returns c =
     let chain = c.args.chain.now in
-    let ts = its_templates chain in
-    let s = its_sources chain in
-    let h = namespace_in chain c.args.namespace in
-    let parts = c.in_ok-macros in
-    let macros_lent = ap (macros_view ts) c.deref.ensures.value ∙ parts.ensures.macros in
-    let blocks_lent = ap (blocks_view ts) c.deref-3.ensures.value ∙ parts.ensures.blocks in
-    let all_defined = c.in_ok-defined.ensures ∙ ap (λ ms. own h ms ++ imports s h) macros_lent in
+    let l = c.loop-index.invariant in
+    let ended = c.loop-index-test.false in
+    let macros = simp (drop_all, append-nil) at l.all_macros in
+    let blocks = simp (drop_all, append-nil) at l.all_blocks in
+    let defined = rw (c.deref-2.ensures.value, macros) at c.in_ok-defined.ensures in
     record {
-      names = c.in_ok-names.ensures;
-      scope_names = c.in_ok-scope_names.ensures;
-      all_macros = parts.ensures.macros;
-      all_defined = all_defined;
+      names = ap texts c.in_ok-list_of.ensures ∙ (simp drop_all at l.all_names);
+      scope_names = ap texts c.in_ok-list_of-2.ensures ∙ (simp drop_all at l.in_scopes);
+      all_macros = macros;
+      all_defined = defined;
       all_given =
-          λ x. c.in_ok-given.ensures ts h x ∙ ap (λ gs. given_to x (names_view ts h gs)) c.deref-2.ensures.value
-          ∙ ap (given_to x) all_defined;
-      all_blocks = parts.ensures.blocks;
+          λ x. rw (
+            c.in_ok-given.ensures (its_templates chain) (namespace_in chain c.args.namespace) x,
+            c.deref-3.ensures.value,
+            defined,
+          );
+      all_blocks = blocks;
       first_bodies =
-          λ x. c.in_ok-first_bodies.ensures ts x
-          ∙ ap (λ bs. first_of x 0 (map (λ b. b.name) bs)) blocks_lent;
-      all_includes = parts.ensures.includes;
+          λ x. rw (c.in_ok-first_bodies.ensures (its_templates chain) x, c.deref-4.ensures.value, blocks);
+      all_includes = simp (drop_all, append-nil) at l.all_includes;
     }

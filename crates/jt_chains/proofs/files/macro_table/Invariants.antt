@@ -1,4 +1,4 @@
-use Rattle.jt_chains.proofs.tables.macro_table.Given as goal
+use Rattle.jt_chains.proofs.files.macro_table.Given as goal
 use Rattle.jt_chains.specs.Tables.{macro_index}
 use Rattle.jt_chains.proofs.{◌≡◌, ◌≤◌, length, drop, get_by_text, Text, body_view}
 

@@ -1,4 +1,4 @@
-use Rattle.jt_chains.proofs.tables.put.Goals as goal
+use Rattle.jt_chains.proofs.files.put.Goals as goal
 use Rattle.std.specs.Str.{bytes_eq}
 use Rattle.std.proofs.lemmas.Map.Text.{btree_map_updates_text}
 use Rattle.jt_chains.proofs.{if◌then◌else◌, string_bytes, ap, ◌∙◌, Some, get_by_text}
