@@ -147,20 +147,12 @@ module _ (cenv : CompileEnv) where
     -- The keys of another namespace come after them.
     pub others : (k : Key) (rest : List Key) → same_namespace h (namespace_of k) ≡ false
         → index_of k (chain_keys cenv h ++ rest) ≡ length (chain_keys cenv h) + index_of k rest
-    others k rest e =
-        let entry = after_entry h k
-        (λ n q. key_apart (of_chain n) k (ap (λ g. same_namespace g (namespace_of k)) (sym q) ∙ e)) rest in
-        let macros = past (λ (m : MacroBody). of_macro h m.name) k (λ m. key_apart (of_macro h m.name) k e) ms
-        (body_keys h ++ rest) in
-        let bodies = past (λ (b : ℕ × BlockBody). of_body h b.0) k (λ b. key_apart (of_body h b.0) k e)
-        (numbered_bodies cenv h) rest in
-        omega (arith, entry, macros, bodies, count_keys, length-counted 0 bs)
+    others k rest e = search (arith, rules, after_entry, key_apart, past, count_keys, length-counted)
 
     pub macro_key : (x : Text) (j : ℕ) (rest : List Key)
         → ((ks : List Key) → index_of (of_macro h x) (macro_keys h ++ ks) ≡ j)
         → index_of (of_macro h x) (chain_keys cenv h ++ rest) ≡ length (entry_keys cenv h) + j
-    macro_key x j rest f =
-        omega (arith, after_entry h (of_macro h x) (λ n q. refl) rest, f (body_keys h ++ rest))
+    macro_key x j rest f = search (arith, rules, after_entry)
 
     pub body_key : (i : ℕ) (rest : List Key) → i < length bs
         → index_of (of_body h i) (chain_keys cenv h ++ rest) ≡ length (entry_keys cenv h) + (length ms + i)
@@ -269,10 +261,7 @@ module _ (c : Chain) (i : ℕ) (lt : i < length c.namespaces.items) where
   -- Each namespace after this one differs from it.
   pub left_turn : (x : Namespace) → listed x rest ≡ true
       → (same_namespace h x ≡ false) × (listed x (drop i (its_order c)) ≡ true)
-  left_turn x a = (
-    apart h rest new_here x a,
-    ap (listed x) (namespaces_left (its_order c) i inside) ∙ or_right (same_namespace h x) (listed x rest) a,
-  )
+  left_turn x a = search (arith, rules, apart, new_here, namespaces_left, inside, or_right)
 
 -- The names that are taken for a chain or a library.
 pub names_handed : (cenv : CompileEnv) (order : List Namespace) (b : Bool) (n : Text) (k : Namespace)
