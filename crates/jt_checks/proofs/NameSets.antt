@@ -1,9 +1,11 @@
 -- Lists of names: whether one is repeated, and whether all are in another list.
 use Rattle.jt_ast.specs.Texts.{inserted, ascending}
+use Rattle.jt_ast.specs.Statements.{Parameter}
+use Rattle.jt_checks.specs.internal.RuleTests.{all_known, parameter_names}
 use Rattle.jt_names.proofs.SortedNames.{absorbed, among_all, past}
 use Rattle.jt_checks.proofs.Vocabulary
-use Vocabulary.{sym, ◌≡◌, ℕ, suc, ◌≤◌, nat_lt, Bool, true, false, not, ◌||◌, List, [], ◌∷◌, length, refl, ap, ◌∙◌}
-use Vocabulary.{arith, rules, nat_tests, list_any, list_all, is_some, Bor, Text, among, repeated, texts, first_of}
+use Vocabulary.{sym, ◌≡◌, ℕ, suc, ◌≤◌, nat_lt, Bool, true, false, ◌||◌, List, [], ◌∷◌, length, refl, ap, ◌∙◌}
+use Vocabulary.{arith, rules, nat_tests, list_any, list_all, bytes_eq, is_some, Bor, Text, among, repeated, texts, first_of}
 
 inserted_new : (x : Text) (ns : List Text) → among x ns ≡ false → length (inserted x ns) ≡ suc (length ns)
 inserted_new x [] e = refl
@@ -37,7 +39,11 @@ pub among_first : (x : Text) (n : ℕ) (ks : List Text) → is_some (first_of x 
 among_first x n [] = refl
 among_first x n (k ∷ ks) = search (arith, rules, among_first x (suc n) ks)
 
-pub all_in : (known : List Text) (ks : List (Bor Text))
-    → list_all (λ (k : Bor Text). among k.now known) ks ≡ not (list_any (λ k. not (among k known)) (texts ks))
-all_in known [] = refl
-all_in known (k ∷ ks) = search (arith, rules, all_in known ks)
+pub all_in : (ps : List Parameter) (ks : List (Bor Text))
+    → list_all (λ (k : Bor Text). among k.now (parameter_names ps)) ks ≡ all_known ps (texts ks)
+all_in ps [] = refl
+all_in ps (k ∷ ks) = search (arith, rules, all_in ps ks)
+
+pub among_any : (x : Text) (ks : List (Bor Text)) → list_any (λ k. bytes_eq k.now x) ks ≡ among x (texts ks)
+among_any x [] = refl
+among_any x (k ∷ ks) = search (arith, rules, among_any x ks)

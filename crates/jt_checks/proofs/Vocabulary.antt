@@ -7,7 +7,7 @@ pub use Rattle.jt_ast.specs.Written.{literal_text}
 pub use Rattle.jt_chains.specs.Along.{layers_along}
 pub use Rattle.jt_chains.specs.View.{chain_view, namespace_in}
 pub use Rattle.jt_checks.specs.Findings.{BreaksAt, Holds}
-pub use Rattle.jt_checks.specs.internal.ScopeView.{cenv_in, in_scope, its_chain, name_in, names_of}
+pub use Rattle.jt_checks.specs.internal.ScopeView.{cenv_in, in_scope, its_chain, names_of}
 pub use Rattle.jt_eval.specs.Filters.{some_given}
 pub use Rattle.jt_names.specs.Names.{first_of}
 pub use Rattle.jt_rules.specs.CompileEnv.{CompileEnv}
@@ -16,7 +16,7 @@ pub use Rattle.jt_rules.specs.declared.error.ScopeError.{ScopeError}
 pub use Rattle.jt_uses.specs.UseView.{sites_view}
 pub use Rattle.jt_uses.specs.declared.site.Enclosing.{Enclosing}
 pub use Rattle.std.proofs.Common.{Bool, List, None, Option, Some, [], ap, arith, drop, false, get_or, if◌then◌else◌}
-pub use Rattle.std.proofs.Common.{length, map, nat_lt, not, refl, rules, string_bytes, suc, sym, take, tests, true, ℕ}
+pub use Rattle.std.proofs.Common.{length, map, min, nat_eq, nat_lt, not, refl, rules, string_bytes, suc, sym, take, tests, true, ℕ}
 pub use Rattle.std.proofs.Common.{◌&&◌, ◌+◌, ◌<◌, ◌||◌, ◌∙◌, ◌∷◌, ◌≡◌, ◌≤◌}
 pub use Rattle.std.proofs.lemmas.Bool.Decides.{nat_tests}
 pub use Rattle.std.proofs.lemmas.Iterator.{YieldsList-from_slice}

@@ -58,17 +58,18 @@ fn naming_of(filter: FilterId, name: &str) -> Option<ArgumentRole>
     filter.named_at(filter.position(name)?)
 }
 
-/// Returns whether each keyword argument that names something names it correctly. A named filter or
-/// test takes only the item.
-fn are_pairs_well(filter: FilterId, pairs: &[(String, Expr)]) -> bool
-    ensures { result ≡ inside.pairs_well filter (pairs_view pairs.now) }
-{
-    pairs.iter().all(|(name, value)| is_argument_well(naming_of(filter, name), value, 1))
-}
-
-/// Returns whether the arguments of a filter name other things correctly.
+/// Returns whether the arguments of a filter name other things correctly. A filter or test that a
+/// keyword argument names takes only the item.
 pub(crate) fn are_names_well(filter: FilterId, row: &[Expr], pairs: &[(String, Expr)]) -> bool
     ensures { result ≡ inside.names_well filter (exprs_view row.now) (pairs_view pairs.now) }
 {
-    is_row_well(filter, row) && are_pairs_well(filter, pairs)
+    if !is_row_well(filter, row) {
+        return false;
+    }
+    for (name, value) in pairs {
+        if !is_argument_well(naming_of(filter, name), value, 1) {
+            return false;
+        }
+    }
+    true
 }
