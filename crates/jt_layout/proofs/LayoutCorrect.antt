@@ -1,5 +1,7 @@
 -- The layout of a chain or a library is correct, and the names of chains are inserted in order.
 use Rattle.jt_chains.specs.Uses as uses
+use Rattle.jt_chains.specs.declared.chain.Namespace as written
+use mir.Val.{bool_byte}
 use Rattle.std.proofs.Common
 use Common.{◌==◌, Option, append_assoc, not, suc, zero, Bool, Some, false, if◌then◌else◌, refl, ℕ, true, length-append}
 use Rattle.std.proofs.lemmas.Bool.Decides.{nat_tests}
@@ -9,7 +11,7 @@ use Rattle.jt_semantics.specs.Layout.{names, of_body, of_macro, unit, names_in, 
 use Rattle.std.proofs.lemmas.Bool.{or_right}
 use Rattle.jt_chains.specs.declared.chain.Chain.{Chain}
 use Rattle.jt_chains.specs.Chain.{BlockBody, MacroBody, Namespace, Sources, a_library, macro_of, macros, templates}
-use Rattle.jt_layout.specs.declared.front.FirstFree.{FirstFree}
+use Rattle.jt_layout.specs.declared.layout.FirstFree.{FirstFree}
 use Rattle.jt_layout.specs.declared.namespace_layout.NamespaceLayout.{NamespaceLayout}
 use Rattle.jt_layout.proofs.FirstOccurrences.{first_macro, length-counted, namespaces_left, no_macro}
 use Rattle.jt_chains.specs.Includes.{InOrder, needs_in, with_source}
@@ -23,7 +25,8 @@ use Vocabulary.{List, [], ap, drop, length, map, subst, sym, ◌++◌, ◌+◌, 
 use Vocabulary.{ascending_inserted, inserted_both, all_bodies, Template, a_chain, listed, same_namespace, namespace_of}
 use Vocabulary.{IsCalled, None, arith, rules, length-map, flat_map, Text, block_view, macro_view, namespace_view}
 use Vocabulary.{namespace_in, Block, first_of, Stands, StandsAt, defaults_from, namespace_named, its_cenv, its_order}
-use Vocabulary.{flat_map-append, append-nil, all_names, bytes_eq, Bor, all_inserted, ascending, namespace_at, names_at}
+use Rattle.jt_layout.specs.internal.Layouts.{texts_of}
+use Vocabulary.{texts, flat_map-append, append-nil, all_names, bytes_eq, Bor, all_inserted, ascending, namespace_at, names_at}
 
 -- ---- names that are inserted in order, and the names of chains
 
@@ -72,12 +75,13 @@ module _ (cenv : CompileEnv) (order : List Namespace) (i : ℕ) (lt : i < length
   later = drop (i + 1) order
 
   -- The names of any remaining chain; a library changes none.
-  pub names_turn : (ns old : List Text) (n x : Text) → namespace_at order i ≡ a_chain n
-      → ns ≡ all_names cenv later (namespace_at order i) → old ≡ names_in cenv later (a_chain x)
-      → (if bytes_eq n x then ns else old) ≡ names_in cenv (drop i order) (a_chain x)
-  names_turn ns old n x is e g = rw (namespaces_left order i lt, is) (by (bytes_eq n x) refl)
+  pub names_turn : (n x : Text) (v : Vec (Bor Text) Global) (old new : Option (Vec (Bor Text) Global))
+      → namespace_at order i ≡ a_chain n → texts v.items ≡ all_names cenv later (namespace_at order i)
+      → new ≡ (if bytes_eq n x then Some v else old) → texts_of old ≡ names_in cenv later (a_chain x)
+      → texts_of new ≡ names_in cenv (drop i order) (a_chain x)
+  names_turn n x v old new is e f g = rw (namespaces_left order i lt, is, f) (by (bytes_eq n x) refl)
     where
-      by : (b : Bool) → bytes_eq n x ≡ b → (if b then ns else old)
+      by : (b : Bool) → bytes_eq n x ≡ b → texts_of (if b then Some v else old)
           ≡ (if b then all_names cenv later (a_chain x) else names_in cenv later (a_chain x))
       by true q = e ∙ ap (all_names cenv later) (is ∙ ap a_chain (same_text n x q))
       by false q = g
@@ -160,6 +164,10 @@ module _ (cenv : CompileEnv) where
         let macros = past (λ (m : MacroBody). of_macro h m.name) (of_body h i) (λ m. refl) ms (body_keys h ++ rest) in
         omega
         (arith, after_entry h (of_body h i) (λ n q. refl) rest, macros, body_at h 0 i i bs rest lt (omega arith))
+
+pub entries : (cenv : CompileEnv) (k : written.Namespace)
+    → length (entry_keys cenv (namespace_view k)) ≡ bool_byte (not k.is_library)
+entries cenv k = search (arith, rules)
 
 pub chain_key : (cenv : CompileEnv) (n : Text) (rest : List Key)
     → index_of (of_chain n) (chain_keys cenv (a_chain n) ++ rest) ≡ 0

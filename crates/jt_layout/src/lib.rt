@@ -9,7 +9,6 @@
 mod bodies;
 mod collected;
 mod count;
-mod front;
 mod layout;
 mod macros;
 mod namespace_index;

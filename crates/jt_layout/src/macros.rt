@@ -11,23 +11,17 @@ use jt_chains::Macro;
 use jt_value::NoMemory;
 use std::alloc::Global;
 
-/// The pool index of each macro's first default, and the first index after all defaults.
-#[derive(Drop)]
-pub(crate) struct Defaults {
-    pub(crate) indices: Vec<usize>,
-    pub(crate) end: usize,
-}
-
-/// Returns the pool indices of the defaults of macros, from `first` on.
+/// Returns the pool index of each macro's first default, from `first` on, and the first index after
+/// all defaults.
 pub(crate) fn default_indices(
     alloc: Global,
     macros: &[Macro<'_>],
     first: usize,
-) -> Result<Defaults, NoMemory>
+) -> Result<(Vec<usize>, usize), NoMemory>
     ensures indexed { IfOk result (λ d. (ts : List Template)
-        → d.indices.items ≡ defaults_from first (map (macro_view ts) macros.now)) }
+        → d.0.items ≡ defaults_from first (map (macro_view ts) macros.now)) }
     ensures ended { IfOk result (λ d. (ts : List Template)
-        → d.end ≡ first + length (defaults_of (map (macro_view ts) macros.now))) }
+        → d.1 ≡ first + length (defaults_of (map (macro_view ts) macros.now))) }
 {
     let mut indices = Vec::with_capacity(alloc, macros.len())?;
     let mut end = first;
@@ -35,5 +29,5 @@ pub(crate) fn default_indices(
         indices.push(end)?;
         end = checked_sum(end, entry.parameters.len())?;
     }
-    Ok(Defaults { indices, end })
+    Ok((indices, end))
 }

@@ -1,4 +1,4 @@
-use Rattle.jt_layout.proofs.collected.CollectedNames.take.Goals as goal
+use Rattle.jt_layout.proofs.collected.take_names.Goals as goal
 use Rattle.std.proofs.lemmas.Map.Text.{btree_map_updates_str}
 use Rattle.jt_layout.proofs.{None, arith, rules, string_bytes}
 
@@ -7,6 +7,6 @@ returns-in-Some-clause-others c =
     search (
       arith,
       rules,
-      btree_map_updates_str c.as_str.result.now c.args.self.now.names c.remove.new.self None c.remove.ensures.updates,
+      btree_map_updates_str c.as_str.result.now c.args.collected.now c.remove.new.self None c.remove.ensures.updates,
       string_bytes c.args.namespace.now.name,
     )
