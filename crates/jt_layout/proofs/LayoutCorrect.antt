@@ -17,6 +17,7 @@ use Rattle.jt_layout.proofs.FirstOccurrences.{first_macro, length-counted, names
 use Rattle.jt_chains.specs.Includes.{InOrder, needs_in, with_source}
 use Rattle.jt_rules.specs.CompileEnv.{CompileEnv}
 use Rattle.jt_semantics.proofs.EnvLookup.{namespace_is, namespace_same, same_is, same_text}
+use Rattle.jt_semantics.proofs.EnvMemoryAgreement.{names_library}
 use Rattle.std.specs.BTreeMap.{BTreeMap}
 use uses.{own_names}
 use Rattle.std.specs.Option.{is_some}
@@ -39,14 +40,10 @@ no_source : (cenv : CompileEnv) (hs : List Namespace) (n : Text) → is_some (ce
 no_source cenv [] n e = refl
 no_source cenv (k ∷ hs) n e = search (arith, rules, no_templates, no_source cenv hs n)
 
-pub no_names : (cenv : CompileEnv) (hs : List Namespace) (n : Text) → names_in cenv hs (a_library n) ≡ []
-no_names cenv [] n = refl
-no_names cenv (k ∷ hs) n = search (arith, rules, no_names cenv hs n)
-
 module _ (cenv : CompileEnv) (hs : List Namespace) where
   no_names_of : (ns : List Text) → flat_map (names_in cenv hs) (map a_library ns) ≡ []
   no_names_of [] = refl
-  no_names_of (n ∷ ns) = search (arith, rules, no_names, no_names_of ns)
+  no_names_of (n ∷ ns) = search (arith, rules, names_library, no_names_of ns)
 
   module _ (h : Namespace) (m : BTreeMap (Bor Text) (Vec (Bor Text) Global))
       (are : (x : Text) → names_at m x ≡ names_in cenv hs (a_chain x)) where
@@ -109,19 +106,11 @@ past : {A : Type 0} (f : A → Key) (k : Key) → ((x : A) → same_key (f x) k 
 past f k none [] rest = omega arith
 past f k none (x ∷ xs) rest = search (arith, rules, none x, past f k none xs rest)
 
-equal_numbers : (n m : ℕ) → n ≡ m → (n == m) ≡ true
-equal_numbers n m e = search (rules, e)
-
-different_numbers : (n m : ℕ) → n < m → (n == m) ≡ false
-different_numbers n m lt = grind (arith, nat_tests)
-
 body_at : (h : Namespace) (n i k : ℕ) (bs : List BlockBody) (rest : List Key) → i < length bs → k ≡ n + i
     → index_of (of_body h k) (map (λ b. of_body h b.0) (counted_from n bs) ++ rest) ≡ i
 body_at h n i k [] rest lt e = absurd (omega arith)
-body_at h n zero k (b ∷ bs) rest lt e = search (arith, rules, namespace_is, equal_numbers n k (omega arith))
-body_at h n (suc i) k (b ∷ bs) rest lt e =
-    let other = different_numbers n k (omega arith) in
-    search (arith, rules, namespace_is, other, body_at h (suc n) i k bs rest (omega arith) (omega arith))
+body_at h n zero k (b ∷ bs) rest lt e = grind (arith, nat_tests, namespace_is)
+body_at h n (suc i) k (b ∷ bs) rest lt e = grind (arith, nat_tests, namespace_is, body_at h (suc n) i k bs rest)
 
 module _ (cenv : CompileEnv) where
   abbrev pub macro_keys : Namespace → List Key
@@ -231,11 +220,11 @@ module _ {cenv : CompileEnv} {order : List Namespace} {h : Namespace} {rest : Li
 
 -- ---- one namespace at a time
 
--- The remaining namespaces are in the list, and in order.
-listed_in : (x : Namespace) (hs : List Namespace) (i : ℕ) → listed x (drop i hs) ≡ true → listed x hs ≡ true
-listed_in x hs zero e = e
-listed_in x [] (suc i) e = e
-listed_in x (h ∷ hs) (suc i) e = or_right (same_namespace h x) (listed x hs) (listed_in x hs i e)
+-- The namespace at an index is in the list, and the remaining ones are in order.
+listed_at : (hs : List Namespace) (i : ℕ) → i < length hs → listed (namespace_at hs i) hs ≡ true
+listed_at [] i lt = absurd (omega arith)
+listed_at (h ∷ hs) zero lt = search (arith, rules, namespace_is)
+listed_at (h ∷ hs) (suc i) lt = search (arith, rules, or_right, listed_at hs i)
 
 order_left : (s : Sources) (hs : List Namespace) (i : ℕ) → InOrder s hs → InOrder s (drop i hs)
 order_left s hs zero o = o
@@ -264,7 +253,7 @@ module _ (c : Chain) (i : ℕ) (lt : i < length c.namespaces.items) where
   listed_left = search (arith, rules, namespaces_left, inside, namespace_is)
 
   pub known_here : listed h (its_order c) ≡ true
-  known_here = listed_in h (its_order c) i listed_left
+  known_here = listed_at (its_order c) i inside
 
   -- Each namespace after this one differs from it.
   pub left_turn : (x : Namespace) → listed x rest ≡ true
@@ -277,5 +266,5 @@ pub names_handed : (cenv : CompileEnv) (order : List Namespace) (b : Bool) (n : 
     → k ≡ namespace_named b n
     → ((x : Text) → k ≡ a_chain x → old x ≡ names cenv order (a_chain x))
     → in_globals (namespace_named b n) (old n) ≡ names cenv order k
-names_handed cenv order true n k old e f = sym (no_names cenv order n) ∙ ap (names cenv order) (sym e)
+names_handed cenv order true n k old e f = sym (names_library cenv order n) ∙ ap (names cenv order) (sym e)
 names_handed cenv order false n k old e f = f n e ∙ ap (names cenv order) (sym e)
