@@ -1,11 +1,13 @@
--- Lists of names: whether one is repeated, and whether all are in another list.
+-- Lists of names: whether one is repeated, whether all are in another list, and the blocks of a scope.
 use Rattle.jt_ast.specs.Texts.{inserted, ascending}
 use Rattle.jt_ast.specs.Statements.{Parameter}
 use Rattle.jt_checks.specs.internal.RuleTests.{all_known, parameter_names}
 use Rattle.jt_names.proofs.SortedNames.{absorbed, among_all, past}
 use Rattle.jt_checks.proofs.Vocabulary
-use Vocabulary.{sym, ◌≡◌, ℕ, suc, ◌≤◌, nat_lt, Bool, true, false, ◌||◌, List, [], ◌∷◌, length, refl, ap, ◌∙◌}
-use Vocabulary.{arith, rules, nat_tests, list_any, list_all, bytes_eq, is_some, Bor, Text, among, repeated, texts, first_of}
+use Vocabulary.{sym, ◌≡◌, ℕ, suc, ◌≤◌, nat_lt, Bool, true, false, ◌||◌, List, [], ◌∷◌, length, refl, ap, ◌∙◌, arith}
+use Vocabulary.{rules, nat_tests, list_any, list_all, bytes_eq, is_some, Bor, Text, among, repeated, texts, first_of}
+use Vocabulary.{not, map, filter}
+use Rattle.jt_chains.specs.Chain.{BlockBody}
 
 inserted_new : (x : Text) (ns : List Text) → among x ns ≡ false → length (inserted x ns) ≡ suc (length ns)
 inserted_new x [] e = refl
@@ -47,3 +49,14 @@ all_in ps (k ∷ ks) = search (arith, rules, all_in ps ks)
 pub among_any : (x : Text) (ks : List (Bor Text)) → list_any (λ k. bytes_eq k.now x) ks ≡ among x (texts ks)
 among_any x [] = refl
 among_any x (k ∷ ks) = search (arith, rules, among_any x ks)
+
+-- ---- the bodies of a block
+
+some_left : (n : ℕ) → true ≡ not (nat_lt (suc n) 1)
+some_left n = grind (arith, nat_tests)
+
+-- A block has a body exactly if one of the bodies is found by its name.
+pub has_body : (x : Text) (n : ℕ) (bs : List BlockBody)
+    → is_some (first_of x n (map (λ b. b.name) bs)) ≡ not (nat_lt (length (filter (λ b. bytes_eq b.name x) bs)) 1)
+has_body x n [] = refl
+has_body x n (b ∷ bs) = search (arith, rules, has_body x (suc n) bs, nat_lt, some_left)

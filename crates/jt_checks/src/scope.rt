@@ -50,7 +50,7 @@ impl<'f, 'a> Scope<'f, 'a> {
     }
 
     /// Returns whether the chain has a block of this name.
-    #[tactic(auto, using(crate::proofs::Lookups::has_body))]
+    #[tactic(auto, using(crate::proofs::NameSets::has_body))]
     pub(crate) fn is_block(&self, name: &str) -> bool
         requires { HasFacts self.now }
         ensures { result ≡ in_scope is_block self.now name.now }

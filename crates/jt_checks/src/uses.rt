@@ -39,12 +39,8 @@ fn used(scope: &Scope<'_, '_>, name: &str) -> Option<ScopeError>
     requires { HasFacts scope.now }
     ensures { result ≡ in_scope rules.used scope.now name.now }
 {
-    read_alone(name).or(
-        scope
-            .given(name)
-            .is_some()
-            .then_some(ScopeError::MacroAsValue),
-    )
+    let is_macro = scope.given(name).is_some();
+    read_alone(name).or(is_macro.then_some(ScopeError::MacroAsValue))
 }
 
 /// Returns whether a callee is `loop` itself, a field of it other than `cycle`, or `cycle` outside
@@ -82,7 +78,8 @@ fn site_broken<'a>(
     site: &UseSite<'a>,
 ) -> Result<Option<ScopeError>, AllocError>
     requires { HasFacts scope.now }
-    ensures { IfOk result (λ o. o ≡ in_scope broken.site_broken scope.now (site_view site.now)) }
+    ensures { IfOk result (λ o. o ≡ in_scope rules.use_broken scope.now
+        (site_view site.now).made (site_view site.now).place.around) }
 {
     let around = site.place.around;
     match site.made {
