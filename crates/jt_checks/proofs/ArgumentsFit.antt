@@ -3,7 +3,7 @@ use Rattle.jt_ast.specs.Statements as statements
 use Rattle.jt_checks.specs.internal.RuleTests as rules
 use Rattle.jt_ids.specs.declared.filter_id.FilterId.TheVariants as filter
 use Rattle.jt_rules.specs.Arguments.{no_keywords}
-use Rattle.jt_ast.specs.StatementView.{parameter_view, parameters_view}
+use Rattle.jt_ast.specs.StatementView.{parameters_view}
 use Rattle.jt_filter_semantics.specs.FilterIds.{accepts, filter_of}
 use Rattle.jt_eval.specs.TheFilters.{the_filters, filter_parameters}
 use Rattle.jt_ast.specs.declared.expression.Expr.{Expr}
@@ -19,7 +19,7 @@ use Rattle.jt_checks.proofs.Vocabulary
 use Vocabulary.{literal_text, take_rest, drop_min, drop-map, ◌≡◌, suc, List, [], ◌∷◌, length, refl, ap}
 use Vocabulary.{arith, rules, nat_tests, exprs_view, pairs_view, Entry, ℕ, ◌<◌, Bool, true, false, ◌||◌}
 use Vocabulary.{take, drop, get_or, ◌∙◌, Option, Some, None, string_bytes, is_some, among, Text}
-use Vocabulary.{some_given, ◌≤◌, sym, ◌&&◌, ◌+◌, drop_more, expr_view}
+use Vocabulary.{some_given, ◌≤◌, ◌&&◌, ◌+◌, drop_more, expr_view}
 
 pub counted : (ts : List Expr) → count (exprs_view ts) ≡ length ts
 counted [] = refl
@@ -63,8 +63,7 @@ module _ (ks : List Text) where
 -- The parameters after the ones that positional arguments fill.
 pub dropped : (ps : List Parameter) (n m : ℕ) → m ≡ min n (length ps)
     → parameters_view (take (length ps - m) (drop m ps)) ≡ drop n (parameters_view ps)
-dropped ps n m e =
-    ap parameters_view (take_rest ps m ∙ ap (λ k. drop k ps) e ∙ drop_min n ps) ∙ sym (drop-map parameter_view n ps)
+dropped ps n m e = search (arith, rules, take_rest, drop_min, drop-map)
 
 pub known_filter : (f : FilterId) → filter_of (filter_id f) ≡ Some f
 unfolding filter_of
@@ -103,10 +102,10 @@ turned m n = grind (arith, nat_tests)
 
 -- The remaining arguments at an index are its argument and those after it.
 left : (ts : List Expr) (i : ℕ) (t : Expr) → i < length ts → t ≡ get_or ts i t → drop i ts ≡ t ∷ drop (i + 1) ts
-left ts i t lt is = drop_more ts i t lt ∙ ap (λ (z : Expr). z ∷ drop (i + 1) ts) (sym is)
+left ts i t lt is = search (arith, rules, drop_more)
 
 behind : {A : Type 0} (ts : List A) (i : ℕ) → i < length ts → suc (length (drop (i + 1) ts)) ≡ length ts - i
-behind ts i lt = let e = length-drop (i + 1) ts in omega (arith, lt, e)
+behind ts i lt = search (arith, length-drop)
 
 module _ (f : FilterId) (ts : List Expr) (i : ℕ) (t : Expr) (lt : i < length ts) (is : t ≡ get_or ts i t) where
   turn : row_well f (i + 1) (exprs_view (drop i ts))

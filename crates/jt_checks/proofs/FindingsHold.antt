@@ -3,25 +3,25 @@
 use Rattle.jt_checks.specs.internal.RuleTests as test
 use Rattle.std.specs.Bool.{Decides}
 use Rattle.std.proofs.lemmas.Bool.Decides.{Decides-and, Decides-or, Decides-not, Decides-ltb}
-use Rattle.jt_ast.specs.Expressions.{Expr, name, attribute}
+use Rattle.jt_ast.specs.Expressions.{Expr}
 use Rattle.std.proofs.lemmas.Slice.Eq.{bytes_eq-Decides}
 use Rattle.jt_uses.specs.Uses as uses
 use Rattle.jt_rules.specs.declared.error.ScopeError.TheVariants as error
 use Rattle.jt_checks.specs.internal.UseRules as broken
 use Rattle.std.proofs.lemmas.Option.{slice_get_within, slice_get-get_or}
-use Rattle.jt_rules.specs.Rules.{BrokenIn, Broken, Breaks, ForSome, BindsTooMany, KeepsRules, IsOnlyCalled}
+use Rattle.jt_rules.specs.Rules.{BrokenIn, Breaks, ForSome, BindsTooMany, KeepsRules, IsOnlyCalled}
 use Rattle.jt_rules.specs.Rules.{MisusesLoop, CannotBeCalled}
 use Rattle.jt_checks.specs.Findings
 use Findings.{subject_of, IsFoundAt, IsFoundIn, PassesBindings, Finding, Subject, lines_bound, is_binding, binds_name}
 use uses.{Site, Use, binds, calls, body_uses}
 use Rattle.jt_names.proofs.NamesOfUses.{bindings, bindings_counted, weight_of}
 use Rattle.jt_ast.specs.Statements.{body_bound, Body}
-use Rattle.jt_chains.specs.Chain.{Namespace, Template, templates, bodies, a_super, a_block, is_loop, Callee, no_callee}
+use Rattle.jt_chains.specs.Chain.{Namespace, Template, templates, Callee}
 use Rattle.std.proofs.Common.{◌++◌, cond}
 use Rattle.jt_checks.proofs.Vocabulary
-use Vocabulary.{chain_uses, Holds, ◌≡◌, ◌<◌, ◌≤◌, refl, ℕ, List, [], ◌∷◌, Option, Some, None, arith, rules, ◌⊎◌}
+use Vocabulary.{chain_uses, Holds, ◌≡◌, ◌≤◌, refl, ℕ, List, [], ◌∷◌, Option, Some, None, arith, rules, ◌⊎◌}
 use Vocabulary.{flat_map, option_map, option_or, inl, inr, Text, CompileEnv, names_counted, ScopeError, BreaksAt, ◌∙◌}
-use Vocabulary.{◌+◌, length, map, filter, Enclosing, codes, Bool, false, not, ◌||◌, nat_lt, nat_tests, bytes_eq}
+use Vocabulary.{◌+◌, length, map, filter, Enclosing, Bool, false, not, nat_lt, nat_tests}
 
 -- ---- The first rule that a use breaks is broken there
 
@@ -41,20 +41,12 @@ only_called : (x : Text) → Decides (test.is_only_called x) (IsOnlyCalled x)
 only_called x = search (arith, rules, Decides-or, bytes_eq-Decides)
 
 loop_misused : (f : Expr) (w : Enclosing) → Decides (test.misuses_loop f w) (MisusesLoop f w)
-loop_misused (name x) w = bytes_eq-Decides x (codes "loop")
-loop_misused (attribute a k) w =
-    let other = Decides-not (bytes_eq k (codes "cycle")) (bytes_eq-Decides k (codes "cycle")) in
-    Decides-and (is_loop a) (not (bytes_eq k (codes "cycle")) || not w.in_loop) (λ e. e, λ e. e)
-    (Decides-or (not (bytes_eq k (codes "cycle"))) (not w.in_loop) other (is_false w.in_loop))
-loop_misused f w = search (arith, rules)
+loop_misused f w = search (arith, rules, bytes_eq-Decides, Decides-and, Decides-or, Decides-not, is_false)
 
 module _ (cenv : CompileEnv) (namespace : Namespace) where
   never_called : (c : Callee) (w : Enclosing)
       → Decides (test.cannot_be_called cenv namespace c w) (CannotBeCalled cenv namespace c w)
-  never_called no_callee w = search (arith, rules)
-  never_called a_super w = is_false w.in_block
-  never_called (a_block x) w = none_there (bodies cenv.sources cenv.escaping namespace x)
-  never_called c w = search (arith, rules)
+  never_called c w = search (arith, rules, is_false, none_there)
 
   -- The first rule that a use breaks is broken there, or no rule is.
   pub use_judged : (u : Use) (w : Enclosing)
