@@ -1,4 +1,7 @@
 -- Arguments that fit the parameters of macros and filters, and what the arguments of a filter name.
+use Rattle.jt_eval.specs.Filters.{some_given}
+use Rattle.jt_ast.specs.Written.{literal_text}
+use Rattle.jt_ast.proofs.RemainingParts.{Entry}
 use Rattle.jt_ast.specs.Statements as statements
 use Rattle.jt_checks.specs.internal.RuleTests as rules
 use Rattle.jt_ids.specs.declared.filter_id.FilterId.TheVariants as filter
@@ -10,16 +13,15 @@ use Rattle.jt_ast.specs.declared.expression.Expr.{Expr}
 use Rattle.jt_chains.specs.Uses.{count, keywords}
 use Rattle.jt_ast.specs.declared.statement.Parameter.{Parameter}
 use mir.Val.{bool_byte}
-use Rattle.std.proofs.Common.{add-one, max, nat_lt, nat_eq, zero, ◌-◌, min, ◌==◌, length-drop}
+use Rattle.std.proofs.Common.{add-one, max, nat_lt, nat_eq, zero, ◌-◌, min, ◌==◌, length-drop, take, ◌&&◌}
 use Rattle.jt_ids.specs.FilterTable.{filter_id, with_only, named_at}
 use Rattle.jt_eval.specs.Inside.{argument_well, row_well}
 use Rattle.jt_ids.specs.declared.filter_id.FilterId.{FilterId}
 use Rattle.jt_ids.specs.declared.filter_id.ArgumentRole.{ArgumentRole}
 use Rattle.jt_checks.proofs.Vocabulary
-use Vocabulary.{literal_text, take_rest, drop_min, drop-map, ◌≡◌, suc, List, [], ◌∷◌, length, refl, ap}
-use Vocabulary.{arith, rules, nat_tests, exprs_view, pairs_view, Entry, ℕ, ◌<◌, Bool, true, false, ◌||◌}
-use Vocabulary.{take, drop, get_or, ◌∙◌, Option, Some, None, string_bytes, is_some, among, Text}
-use Vocabulary.{some_given, ◌≤◌, ◌&&◌, ◌+◌, drop_more, expr_view}
+use Vocabulary.{take_rest, drop_min, drop-map, ◌≡◌, suc, List, [], ◌∷◌, length, refl, ap, arith, rules, nat_tests}
+use Vocabulary.{exprs_view, pairs_view, ℕ, ◌<◌, Bool, true, false, ◌||◌, drop, get_or, ◌∙◌, Option, Some, None}
+use Vocabulary.{string_bytes, is_some, among, Text, ◌≤◌, ◌+◌, drop_more, expr_view}
 
 pub counted : (ts : List Expr) → count (exprs_view ts) ≡ length ts
 counted [] = refl

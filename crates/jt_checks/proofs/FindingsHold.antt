@@ -1,5 +1,7 @@
 -- Each test decides its rule. A finding is true of the chains in which it is found, and chains without a finding
 -- break no rule.
+use Rattle.jt_uses.specs.declared.site.Enclosing.{Enclosing}
+use Rattle.jt_rules.specs.declared.error.ScopeError.{ScopeError}
 use Rattle.jt_checks.specs.internal.RuleTests as test
 use Rattle.std.specs.Bool.{Decides}
 use Rattle.std.proofs.lemmas.Bool.Decides.{Decides-and, Decides-or, Decides-not, Decides-ltb}
@@ -9,7 +11,7 @@ use Rattle.jt_uses.specs.Uses as uses
 use Rattle.jt_rules.specs.declared.error.ScopeError.TheVariants as error
 use Rattle.jt_checks.specs.internal.UseRules as broken
 use Rattle.std.proofs.lemmas.Option.{slice_get_within, slice_get-get_or}
-use Rattle.jt_rules.specs.Rules.{BrokenIn, Breaks, ForSome, BindsTooMany, KeepsRules, IsOnlyCalled}
+use Rattle.jt_rules.specs.Rules.{BrokenIn, Breaks, ForSome, BindsTooMany, KeepsRules, IsOnlyCalled, chain_uses}
 use Rattle.jt_rules.specs.Rules.{MisusesLoop, CannotBeCalled}
 use Rattle.jt_checks.specs.Findings
 use Findings.{subject_of, IsFoundAt, IsFoundIn, PassesBindings, Finding, Subject, lines_bound, is_binding, binds_name}
@@ -19,9 +21,9 @@ use Rattle.jt_ast.specs.Statements.{body_bound, Body}
 use Rattle.jt_chains.specs.Chain.{Namespace, Template, templates, Callee}
 use Rattle.std.proofs.Common.{◌++◌, cond}
 use Rattle.jt_checks.proofs.Vocabulary
-use Vocabulary.{chain_uses, Holds, ◌≡◌, ◌≤◌, refl, ℕ, List, [], ◌∷◌, Option, Some, None, arith, rules, ◌⊎◌}
-use Vocabulary.{flat_map, option_map, option_or, inl, inr, Text, CompileEnv, names_counted, ScopeError, BreaksAt, ◌∙◌}
-use Vocabulary.{◌+◌, length, map, filter, Enclosing, Bool, false, not, nat_lt, nat_tests}
+use Vocabulary.{Holds, ◌≡◌, ◌≤◌, refl, ℕ, List, [], ◌∷◌, Option, Some, None, arith, rules, ◌⊎◌, flat_map, option_map}
+use Vocabulary.{option_or, inl, inr, Text, CompileEnv, names_counted, BreaksAt, ◌∙◌, ◌+◌, length, map, filter, Bool}
+use Vocabulary.{false, not, nat_lt, nat_tests}
 
 -- ---- The first rule that a use breaks is broken there
 

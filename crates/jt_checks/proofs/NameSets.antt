@@ -1,12 +1,14 @@
 -- Lists of names: whether one is repeated, whether all are in another list, and the blocks of a scope.
-use Rattle.jt_ast.specs.Texts.{inserted, ascending}
+use Rattle.std.specs.Str.{bytes_eq}
+use Rattle.std.specs.List.{list_all, list_any}
+use Rattle.jt_names.specs.Names.{first_of}
+use Rattle.jt_ast.specs.Texts.{inserted, ascending, repeated}
 use Rattle.jt_ast.specs.Statements.{Parameter}
 use Rattle.jt_checks.specs.internal.RuleTests.{all_known, parameter_names}
 use Rattle.jt_names.proofs.SortedNames.{absorbed, among_all, past}
 use Rattle.jt_checks.proofs.Vocabulary
 use Vocabulary.{sym, ◌≡◌, ℕ, suc, ◌≤◌, nat_lt, Bool, true, false, ◌||◌, List, [], ◌∷◌, length, refl, ap, ◌∙◌, arith}
-use Vocabulary.{rules, nat_tests, list_any, list_all, bytes_eq, is_some, Bor, Text, among, repeated, texts, first_of}
-use Vocabulary.{not, map, filter}
+use Vocabulary.{rules, nat_tests, is_some, Bor, Text, among, texts, not, map, filter}
 use Rattle.jt_chains.specs.Chain.{BlockBody}
 
 inserted_new : (x : Text) (ns : List Text) → among x ns ≡ false → length (inserted x ns) ≡ suc (length ns)

@@ -23,11 +23,11 @@ use uses.{own_names}
 use Rattle.std.specs.Option.{is_some}
 use Rattle.jt_layout.proofs.Vocabulary
 use Vocabulary.{List, [], ap, drop, length, map, subst, sym, ◌++◌, ◌+◌, ◌<◌, ◌||◌, ◌∙◌, ◌∷◌, ◌≡◌, Global, Vec}
-use Vocabulary.{ascending_inserted, inserted_both, all_bodies, Template, a_chain, listed, same_namespace, namespace_of}
-use Vocabulary.{IsCalled, None, arith, rules, length-map, flat_map, Text, block_view, macro_view, namespace_view}
-use Vocabulary.{namespace_in, Block, first_of, Stands, StandsAt, defaults_from, namespace_named, its_cenv, its_order}
-use Rattle.jt_layout.specs.internal.Layouts.{texts_of}
-use Vocabulary.{texts, flat_map-append, append-nil, all_names, bytes_eq, Bor, all_inserted, ascending, namespace_at, names_at}
+use Vocabulary.{ascending_inserted, inserted_both, all_bodies, Template, a_chain, listed, same_namespace, IsCalled}
+use Vocabulary.{None, arith, rules, length-map, flat_map, Text, block_view, macro_view, namespace_view, namespace_in}
+use Vocabulary.{Block, first_of, StandsAt, defaults_from, namespace_named, its_cenv, its_order, texts, flat_map-append}
+use Vocabulary.{append-nil, bytes_eq, Bor, all_inserted, ascending, namespace_at, names_at}
+use Rattle.jt_layout.specs.internal.Layouts.{texts_of, Stands, all_names, namespace_of}
 
 -- ---- names that are inserted in order, and the names of chains
 

@@ -4,7 +4,8 @@ use Rattle.jt_names.proofs.EachItem.{each_pushed}
 use Rattle.std.proofs.lemmas.List.{at_drop_all}
 use Rattle.jt_layout.proofs.{ap, drop, length, sym, ◌<◌, ◌∙◌, a_chain, listed, same_namespace, arith, rules}
 use Rattle.jt_layout.proofs.{string_bytes, length-map, flat_map, name_of_namespace, namespace_view, namespace_in}
-use Rattle.jt_layout.proofs.{IsLaidAt, names_at, its_cenv, its_order, left_turn, listed_left, names_handed, is_namespace, ◌≡◌}
+use Rattle.jt_layout.proofs.{IsLaidAt, names_at, its_cenv, its_order, left_turn, listed_left, names_handed}
+use Rattle.jt_layout.proofs.{is_namespace, ◌≡◌}
 
 pub lay_chain-requires : goal.lay_chain-requires
 lay_chain-requires c =
