@@ -6,11 +6,9 @@ ghost use Rattle.jt_layout.specs.internal.Layouts.{StandsAt, IsLaidAt, its_names
 ghost use Rattle.jt_layout.specs.NamespaceLayout.{IsLaidOut};
 ghost use Rattle.jt_names.specs.FactsOfChains.{AllKnown};
 
-use crate::bodies::{next_bodies, scoped_blocks};
 use crate::collected::{gather, take_names};
 use crate::count::checked_sum;
-use crate::macros::default_indices;
-use crate::namespace_index::namespace_index;
+use crate::indices::{default_indices, namespace_index, next_bodies, scoped_blocks};
 use crate::namespace_layout::NamespaceLayout;
 use crate::namespace_tables::NamespaceTables;
 use jt_chains::macro_names;

@@ -1,4 +1,4 @@
-use Rattle.jt_layout.proofs.bodies.scoped_blocks.Given as goal
+use Rattle.jt_layout.proofs.indices.scoped_blocks.Given as goal
 use Rattle.std.specs.Option.{is_some}
 use Rattle.jt_layout.proofs.{List, drop, map, ◌&&◌, ◌||◌, ◌≡◌, Template, list_any, bytes_eq, Text, block_view, value_in}
 

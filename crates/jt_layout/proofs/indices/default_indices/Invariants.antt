@@ -1,4 +1,4 @@
-use Rattle.jt_layout.proofs.macros.default_indices.Given as goal
+use Rattle.jt_layout.proofs.indices.default_indices.Given as goal
 use Rattle.jt_semantics.specs.Layout.{defaults_of}
 use Rattle.jt_layout.proofs.{List, drop, length, map, ◌++◌, ◌+◌, ◌≡◌, Template, macro_view, defaults_from}
 

@@ -1,4 +1,4 @@
-use Rattle.jt_layout.proofs.bodies.next_bodies.Goals as goal
+use Rattle.jt_layout.proofs.indices.next_bodies.Goals as goal
 use Rattle.jt_layout.proofs.{common_steps, arith, rules, given_turn, nexts_turn, required_turn}
 
 pub loop-left-preserved-then-block : goal.loop-left-preserved-then-block

@@ -1,4 +1,4 @@
-use Rattle.jt_layout.proofs.namespace_index.namespace_index.Given as goal
+use Rattle.jt_layout.proofs.indices.namespace_index.Given as goal
 use Rattle.jt_layout.proofs.{drop, length, map, ◌≡◌, ◌≤◌, Text, namespace_view, value_in, first_namespace}
 use Rattle.jt_layout.proofs.{namespace_named}
 

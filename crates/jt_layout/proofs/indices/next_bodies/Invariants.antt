@@ -1,4 +1,4 @@
-use Rattle.jt_layout.proofs.bodies.next_bodies.Given as goal
+use Rattle.jt_layout.proofs.indices.next_bodies.Given as goal
 use Rattle.jt_semantics.specs.Layout.{counted_from}
 use Rattle.jt_layout.proofs.{List, drop, length, map, ◌≡◌, ◌≤◌, Template, next_given, filter, bytes_eq, Text}
 use Rattle.jt_layout.proofs.{block_view, value_in, nexts}
