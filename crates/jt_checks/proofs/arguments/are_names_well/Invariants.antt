@@ -1,4 +1,4 @@
-use Rattle.jt_checks.proofs.nested_calls.are_names_well.Given as goal
+use Rattle.jt_checks.proofs.arguments.are_names_well.Given as goal
 use Rattle.jt_eval.specs.Inside.{pairs_well}
 use Rattle.jt_checks.proofs.{◌≡◌, drop, pairs_view}
 

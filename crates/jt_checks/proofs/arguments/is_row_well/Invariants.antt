@@ -1,4 +1,4 @@
-use Rattle.jt_checks.proofs.nested_calls.is_row_well.Given as goal
+use Rattle.jt_checks.proofs.arguments.is_row_well.Given as goal
 use Rattle.jt_eval.specs.Inside.{row_well}
 use Rattle.jt_checks.proofs.{◌≡◌, ◌+◌, drop, exprs_view}
 
