@@ -1,27 +1,27 @@
 -- Arguments that fit the parameters of macros and filters, and what the arguments of a filter name.
+use Rattle.jt_eval.specs.Filters.{some_given}
+use Rattle.jt_ast.specs.Written.{literal_text}
+use Rattle.jt_ast.proofs.RemainingParts.{Entry}
 use Rattle.jt_ast.specs.Statements as statements
 use Rattle.jt_checks.specs.internal.RuleTests as rules
-use Rattle.jt_ast.specs.Expressions as trees
 use Rattle.jt_ids.specs.declared.filter_id.FilterId.TheVariants as filter
 use Rattle.jt_rules.specs.Arguments.{no_keywords}
-use Rattle.std.proofs.lemmas.Bool.{or_right}
-use Rattle.jt_ast.specs.StatementView.{parameter_view, parameters_view}
-use Rattle.jt_filter_semantics.specs.FilterIds.{filter_of}
-use Rattle.jt_eval.specs.TheFilters.{the_filters, filter_written, filter_parameters}
+use Rattle.jt_ast.specs.StatementView.{parameters_view}
+use Rattle.jt_filter_semantics.specs.FilterIds.{accepts, filter_of}
+use Rattle.jt_eval.specs.TheFilters.{the_filters, filter_parameters}
 use Rattle.jt_ast.specs.declared.expression.Expr.{Expr}
 use Rattle.jt_chains.specs.Uses.{count, keywords}
 use Rattle.jt_ast.specs.declared.statement.Parameter.{Parameter}
-use Rattle.jt_checks.specs.internal.Fitting.{filter_takes}
-use Rattle.std.proofs.Common.{Result, Ok, Err, IfOk, nat_eq, zero, ◌-◌, min, ◌==◌, length-drop}
+use mir.Val.{bool_byte}
+use Rattle.std.proofs.Common.{add-one, max, nat_lt, nat_eq, zero, ◌-◌, min, ◌==◌, length-drop, take, ◌&&◌}
 use Rattle.jt_ids.specs.FilterTable.{filter_id, with_only, named_at}
-use Rattle.jt_eval.specs.Inside.{names_well, argument_well, row_well}
+use Rattle.jt_eval.specs.Inside.{argument_well, row_well}
 use Rattle.jt_ids.specs.declared.filter_id.FilterId.{FilterId}
 use Rattle.jt_ids.specs.declared.filter_id.ArgumentRole.{ArgumentRole}
 use Rattle.jt_checks.proofs.Vocabulary
-use Vocabulary.{literal_text, take_rest, drop_min, drop-map, length-map, ◌≡◌, suc, List, [], ◌∷◌, length, refl, ap}
-use Vocabulary.{arith, rules, nat_tests, exprs_view, pairs_view, Entry, ℕ, ◌<◌, Bool, true, false, ◌||◌, if◌then◌else◌}
-use Vocabulary.{take, drop, get_or, ◌∙◌, Option, Some, None, string_bytes, list_all, is_some, option_map, among, Text}
-use Vocabulary.{some_given, ◌≤◌, sym, not, ◌&&◌, list_any, repeated, Exprs, ScopeError, ◌+◌, drop_more, expr_view}
+use Vocabulary.{take_rest, drop_min, drop-map, ◌≡◌, suc, List, [], ◌∷◌, length, refl, ap, arith, rules, nat_tests}
+use Vocabulary.{exprs_view, pairs_view, ℕ, ◌<◌, Bool, true, false, ◌||◌, drop, get_or, ◌∙◌, Option, Some, None}
+use Vocabulary.{string_bytes, is_some, among, Text, ◌≤◌, ◌+◌, drop_more, expr_view}
 
 pub counted : (ts : List Expr) → count (exprs_view ts) ≡ length ts
 counted [] = refl
@@ -31,115 +31,67 @@ pub keyless : (ps : List Entry) → no_keywords (pairs_view ps) ≡ nat_eq (leng
 keyless [] = refl
 keyless (p ∷ ps) = search (arith, rules, nat_eq, nat_tests)
 
-abbrev pub is_filled : List Text → Parameter → Bool
-is_filled ks p = among (string_bytes p.name) ks || is_some p.default
-
 module _ (ks : List Text) where
-  -- A named parameter is among those that are named.
-  given_at : (ps : List Parameter) (i : ℕ) (p : Parameter) → i < length ps → p ≡ get_or ps i p
-      → among (string_bytes p.name) ks ≡ true → some_given (parameters_view ps) ks ≡ true
-  given_at [] i p lt is e = absurd (omega arith)
-  given_at (q ∷ ps) zero p lt is e = search (arith, rules, string_bytes)
-  given_at (q ∷ ps) (suc i) p lt is e = search (arith, rules, or_right, string_bytes, given_at ps i p)
+  -- A parameter is reached exactly if it or one after it is named. If none is reached, all are filled.
+  some_reached : (ps : List statements.Parameter)
+      → (some_given ps ks ≡ nat_lt 0 (rules.reached ps ks))
+      × (some_given ps ks ≡ false → rules.is_filled ps 0 ks ≡ true)
+  some_reached [] = search (arith, rules)
+  some_reached (p ∷ ps) = search (arith, rules, some_reached ps)
 
-  -- If no parameter is named, none is reached.
-  pub none_reached : (ps : List statements.Parameter) → some_given ps ks ≡ false → rules.reached ps ks ≡ 0
-  none_reached [] e = refl
-  none_reached (p ∷ ps) e = ap (λ b. if b then suc (rules.reached ps ks) else 0) e
+  -- One parameter more, from the last one to the first.
+  pub one_more : (ps : List Parameter) (i : ℕ) (p : Parameter) → 0 < i → i ≤ length ps → p ≡ get_or ps (i - 1) p
+      → (b c d : Bool) (m n : ℕ) → b ≡ among (string_bytes p.name) ks → m ≡ bool_byte (b || nat_lt 0 n)
+      → c ≡ is_some p.default
+      → n ≡ rules.reached (parameters_view (drop i ps)) ks
+      → d ≡ rules.is_filled (parameters_view (drop i ps)) 0 ks
+      → (m ≤ 1) × (n + m ≡ rules.reached (parameters_view (drop (i - 1) ps)) ks)
+      × ((d && ((b || nat_eq n 0) || c)) ≡ rules.is_filled (parameters_view (drop (i - 1) ps)) 0 ks)
+  one_more ps zero p lt le is b c d m n e f g h k = absurd (omega arith)
+  one_more ps (suc i) p lt le is b c d m n e f g h k =
+      let its : drop (suc i - 1) ps ≡ p ∷ drop (suc i) ps = search (arith, rules, drop_more) in
+      let given = some_reached (parameters_view (drop (suc i) ps)) in
+      rw its (grind (arith, nat_tests))
 
-  -- The last named parameter.
-  pub last_reached : (ps : List Parameter) (i : ℕ) (p : Parameter) → i < length ps → p ≡ get_or ps i p
-      → among (string_bytes p.name) ks ≡ true
-      → some_given (parameters_view (drop (suc i) ps)) ks ≡ false → rules.reached (parameters_view ps) ks ≡ suc i
-  last_reached [] i p lt is e none = absurd (omega arith)
-  last_reached (q ∷ ps) zero p lt is e none = search (arith, rules, given_at, none_reached)
-  last_reached (q ∷ ps) (suc i) p lt is e none = search (arith, rules, given_at, last_reached ps i p)
-
-  mapped : {A B : Type 0} → (f : A → B) (o : Option A) → is_some (option_map f o) ≡ is_some o
-  mapped f (Some a) = refl
-  mapped f None = refl
-
-  -- Each parameter up to the last named one is filled.
-  filled_up_to : (ps : List Parameter) → list_all (is_filled ks) (take (rules.reached (parameters_view ps) ks) ps)
-      ≡ rules.is_filled (parameters_view ps) 0 ks
-  filled_up_to [] = refl
-  filled_up_to (p ∷ ps) = search (arith, rules, filled_up_to ps, string_bytes, mapped)
-
-  pub filled_among : (ps : List Parameter) (r : ℕ) → r ≡ rules.reached (parameters_view ps) ks
-      → list_all (is_filled ks) (take r ps) ≡ rules.is_filled (parameters_view ps) 0 ks
-  filled_among ps r e = ap (λ n. list_all (is_filled ks) (take n ps)) e ∙ filled_up_to ps
-
--- The parameters after the ones that positional arguments fill.
-pub filled_behind : (ps : List statements.Parameter) (n : ℕ) (ks : List Text)
-    → rules.is_filled ps n ks ≡ rules.is_filled (drop n ps) 0 ks
-filled_behind [] zero ks = refl
-filled_behind [] (suc n) ks = refl
-filled_behind (p ∷ ps) zero ks = refl
-filled_behind (p ∷ ps) (suc n) ks = filled_behind ps n ks
-
-pub equal_ok : {E : Type 0} → (r : Result Bool E) (u v : Bool) → u ≡ v → IfOk r (λ b. b ≡ u) → IfOk r (λ b. b ≡ v)
-equal_ok (Ok b) u v e h = h ∙ e
-equal_ok (Err x) u v e h = tt
+  -- Only the parameters after the ones that positional arguments fill are reached and filled.
+  pub left_only : (ps : List statements.Parameter) (n : ℕ)
+      → (max n (rules.reached ps ks) ≡ n + rules.reached (drop n ps) ks)
+      × (rules.is_filled ps n ks ≡ rules.is_filled (drop n ps) 0 ks)
+  left_only [] zero = search (arith, rules)
+  left_only [] (suc n) = search (arith, rules)
+  left_only (p ∷ ps) zero = search (arith, rules)
+  left_only (p ∷ ps) (suc n) = search (arith, rules, left_only ps n, some_reached)
 
 -- The parameters after the ones that positional arguments fill.
 pub dropped : (ps : List Parameter) (n m : ℕ) → m ≡ min n (length ps)
     → parameters_view (take (length ps - m) (drop m ps)) ≡ drop n (parameters_view ps)
-dropped ps n m e =
-    ap parameters_view (take_rest ps m ∙ ap (λ k. drop k ps) e ∙ drop_min n ps) ∙ sym (drop-map parameter_view n ps)
-
-pub filled_is : (ps : List Parameter) (n m : ℕ) (ks : List Text) → m ≡ min n (length ps)
-    → rules.is_filled (parameters_view (take (length ps - m) (drop m ps))) 0 ks
-    ≡ rules.is_filled (parameters_view ps) n ks
-filled_is ps n m ks e =
-    ap (λ l. rules.is_filled l 0 ks) (dropped ps n m e) ∙ sym (filled_behind (parameters_view ps) n ks)
-
-abbrev pub named_well : List Parameter → ℕ → List Text → Bool
-named_well ps n xs =
-    not (repeated xs) && not (list_any (λ k. not (among k (rules.parameter_names (drop n (parameters_view ps))))) xs)
-
-pub fits_is : (ps : List Parameter) (row : List Expr) (ks ns : List Text) → length row ≤ length ps → ns ≡ ks
-    → named_well ps (length row) ns ≡ rules.fits (parameters_view ps) (count (exprs_view row)) ks
-fits_is ps row ks ns le e = search (arith, rules, counted, length-map, nat_tests)
-
-pub too_many : (ps : List Parameter) (row : List Expr) (ks : List Text) → length ps < length row
-    → false ≡ rules.fits (parameters_view ps) (count (exprs_view row)) ks
-too_many ps row ks lt = search (arith, rules, counted, length-map, nat_tests)
-
-pub well_named : (ps : List Parameter) (n m : ℕ) (left ns : List Text) → m ≡ min n (length ps)
-    → left ≡ rules.parameter_names (parameters_view (take (length ps - m) (drop m ps))) → false ≡ repeated ns
-    → not (list_any (λ k. not (among k left)) ns) ≡ named_well ps n ns
-well_named ps n m left ns e f g = search (arith, rules, dropped)
+dropped ps n m e = search (arith, rules, take_rest, drop_min, drop-map)
 
 pub known_filter : (f : FilterId) → filter_of (filter_id f) ≡ Some f
 unfolding filter_of
 known_filter filter.Abs = refl
 known_filter f = refl
 
-abbrev pub taken_rightly : FilterId → ℕ → Exprs → trees.Pairs → Bool
-taken_rightly f n ts ps = filter_takes f (filter_parameters f) n (keywords ps) && names_well f ts ps
+pub without_keywords : (f : FilterId) (ts : List Expr) (ps : List Entry) → nat_eq (length ps) 0 ≡ true
+    → rules.filter_fits the_filters (filter_id f) (count (exprs_view ts)) (keywords (pairs_view ps))
+    ≡ accepts (Some f) (length ts + 1)
+unfolding the_filters
+without_keywords f ts [] e = rw (known_filter, counted) (grind (arith, nat_tests))
+without_keywords f ts (p ∷ ps) e = grind (arith, nat_tests)
 
-rule_of : Option FilterId → Exprs → trees.Pairs → Option ScopeError
-rule_of None ts ps = None
-rule_of (Some f) ts ps = rules.unless (taken_rightly f (count ts) ts ps)
-
--- The rule that a filter breaks, by its id.
-by_id : (o : Option FilterId) (ts : Exprs) (ps : trees.Pairs)
-    → rules.unless (rules.filter_right the_filters (option_map filter_id o) ts ps) ≡ rule_of o ts ps
-unfolding the_filters rule_of
-by_id None ts ps = refl
-by_id (Some f) ts ps = search (arith, rules, known_filter)
-
-pub filter_known : (x : Text) (f : FilterId) (n : ℕ) (ts : Exprs) (ps : trees.Pairs) (b : Bool) (r : Option ScopeError)
-    → Some f ≡ filter_written x ts ps → count ts ≡ n → b ≡ taken_rightly f n ts ps → r ≡ rules.unless b
-    → r ≡ rules.unless (rules.filter_right the_filters (the_filters.named x ts ps) ts ps)
-unfolding the_filters rule_of
-filter_known x f n ts ps b r is same e h = search (arith, rules, rule_of, by_id)
-
-pub filter_unknown : (x : Text) (ts : Exprs) (ps : trees.Pairs) → None ≡ filter_written x ts ps
-    → None ≡ rules.unless (rules.filter_right the_filters (the_filters.named x ts ps) ts ps)
-unfolding the_filters rule_of
-filter_unknown x ts ps is =
-    ap (λ (o : Option FilterId). rule_of o ts ps) is ∙ sym (by_id (filter_written x ts ps) ts ps)
+-- A filter takes arguments if the parameters that are left do.
+pub fits_left : (f : FilterId) (ts : List Expr) (ps qs : List Parameter) (m : ℕ) (ks : List Text)
+    → parameters_view qs ≡ filter_parameters f → ps ≡ qs → m ≡ min (length ts) (length ps)
+    → (left : List statements.Parameter) → left ≡ parameters_view (take (length ps - m) (drop m ps))
+    → rules.filter_fits the_filters (filter_id f) (count (exprs_view ts)) ks
+    ≡ (accepts (Some f) (length ts + rules.reached left ks + 1)
+    && (rules.is_filled left 0 ks && rules.names_fit left ks))
+unfolding the_filters
+fits_left f ts ps qs m ks e g h left is =
+    let parts = left_only ks (filter_parameters f) (length ts) in
+    let same : left ≡ drop (length ts) (filter_parameters f) =
+    is ∙ dropped ps (length ts) m h ∙ ap (drop (length ts)) (ap parameters_view g ∙ e) in
+    rw (same, known_filter, counted, parts.0, parts.1, add-one) refl
 
 -- ---- names in the arguments of a filter, one argument at a time
 
@@ -152,10 +104,10 @@ turned m n = grind (arith, nat_tests)
 
 -- The remaining arguments at an index are its argument and those after it.
 left : (ts : List Expr) (i : ℕ) (t : Expr) → i < length ts → t ≡ get_or ts i t → drop i ts ≡ t ∷ drop (i + 1) ts
-left ts i t lt is = drop_more ts i t lt ∙ ap (λ (z : Expr). z ∷ drop (i + 1) ts) (sym is)
+left ts i t lt is = search (arith, rules, drop_more)
 
 behind : {A : Type 0} (ts : List A) (i : ℕ) → i < length ts → suc (length (drop (i + 1) ts)) ≡ length ts - i
-behind ts i lt = let e = length-drop (i + 1) ts in omega (arith, lt, e)
+behind ts i lt = search (arith, length-drop)
 
 module _ (f : FilterId) (ts : List Expr) (i : ℕ) (t : Expr) (lt : i < length ts) (is : t ≡ get_or ts i t) where
   turn : row_well f (i + 1) (exprs_view (drop i ts))

@@ -1,21 +1,61 @@
--- A finding is true of the chains in which it is found, and chains without a finding break no rule.
+-- Each test decides its rule. A finding is true of the chains in which it is found, and chains without a finding
+-- break no rule.
+use Rattle.jt_uses.specs.declared.site.Enclosing.{Enclosing}
+use Rattle.jt_rules.specs.declared.error.ScopeError.{ScopeError}
+use Rattle.jt_checks.specs.internal.RuleTests as test
+use Rattle.std.specs.Bool.{Decides}
+use Rattle.std.proofs.lemmas.Bool.Decides.{Decides-and, Decides-or, Decides-not, Decides-ltb}
+use Rattle.jt_ast.specs.Expressions.{Expr}
+use Rattle.std.proofs.lemmas.Slice.Eq.{bytes_eq-Decides}
 use Rattle.jt_uses.specs.Uses as uses
 use Rattle.jt_rules.specs.declared.error.ScopeError.TheVariants as error
 use Rattle.jt_checks.specs.internal.UseRules as broken
 use Rattle.std.proofs.lemmas.Option.{slice_get_within, slice_get-get_or}
-use Rattle.jt_rules.specs.Rules.{BrokenIn, Broken, Breaks, ForSome, BindsTooMany, KeepsRules}
+use Rattle.jt_rules.specs.Rules.{BrokenIn, Breaks, ForSome, BindsTooMany, KeepsRules, IsOnlyCalled, chain_uses}
+use Rattle.jt_rules.specs.Rules.{MisusesLoop, CannotBeCalled}
 use Rattle.jt_checks.specs.Findings
 use Findings.{subject_of, IsFoundAt, IsFoundIn, PassesBindings, Finding, Subject, lines_bound, is_binding, binds_name}
-use uses.{Site, Use, binds, body_uses}
+use uses.{Site, Use, binds, calls, body_uses}
 use Rattle.jt_names.proofs.NamesOfUses.{bindings, bindings_counted, weight_of}
-use Rattle.jt_checks.proofs.RuleTestsCorrect.{Judged, use_judged}
 use Rattle.jt_ast.specs.Statements.{body_bound, Body}
-use Rattle.jt_chains.specs.Chain.{Namespace, Template, templates}
+use Rattle.jt_chains.specs.Chain.{Namespace, Template, templates, Callee}
 use Rattle.std.proofs.Common.{◌++◌, cond}
 use Rattle.jt_checks.proofs.Vocabulary
-use Vocabulary.{chain_uses, Holds, ◌≡◌, ◌<◌, ◌≤◌, refl, ℕ, List, [], ◌∷◌, Option, Some, None, arith, rules, ◌⊎◌}
-use Vocabulary.{flat_map, option_map, option_or, inl, inr, Text, CompileEnv, names_counted, ScopeError, BreaksAt, ◌∙◌}
-use Vocabulary.{◌+◌, length, map, filter, Enclosing}
+use Vocabulary.{Holds, ◌≡◌, ◌≤◌, refl, ℕ, List, [], ◌∷◌, Option, Some, None, arith, rules, ◌⊎◌, flat_map, option_map}
+use Vocabulary.{option_or, inl, inr, Text, CompileEnv, names_counted, BreaksAt, ◌∙◌, ◌+◌, length, map, filter, Bool}
+use Vocabulary.{false, not, nat_lt, nat_tests}
+
+-- ---- The first rule that a use breaks is broken there
+
+-- What is found has the property, or if nothing is found, no rule is broken.
+abbrev pub Judged : {A : Type 0} → Option A → (A → Type 0) → (ScopeError → Type 0) → Type 0
+Judged None P N = (rule : ScopeError) → N rule → ⊥
+Judged (Some x) P N = P x
+
+is_false : (b : Bool) → Decides (not b) (b ≡ false)
+is_false b = search (arith, rules)
+
+none_there : {A : Type 0} (xs : List A) → Decides (nat_lt (length xs) 1) (xs ≡ [])
+none_there [] = search (arith, rules, nat_tests)
+none_there (x ∷ xs) = search (arith, rules, nat_tests)
+
+only_called : (x : Text) → Decides (test.is_only_called x) (IsOnlyCalled x)
+only_called x = search (arith, rules, Decides-or, bytes_eq-Decides)
+
+loop_misused : (f : Expr) (w : Enclosing) → Decides (test.misuses_loop f w) (MisusesLoop f w)
+loop_misused f w = search (arith, rules, bytes_eq-Decides, Decides-and, Decides-or, Decides-not, is_false)
+
+module _ (cenv : CompileEnv) (namespace : Namespace) where
+  never_called : (c : Callee) (w : Enclosing)
+      → Decides (test.cannot_be_called cenv namespace c w) (CannotBeCalled cenv namespace c w)
+  never_called c w = search (arith, rules, is_false, none_there)
+
+  -- The first rule that a use breaks is broken there, or no rule is.
+  pub use_judged : (u : Use) (w : Enclosing)
+      → Judged (test.use_broken cenv namespace u w) (λ rule. BreaksAt cenv namespace rule u w)
+      (λ rule. BreaksAt cenv namespace rule u w)
+  use_judged (calls f ts ps) w = search (arith, rules, loop_misused, never_called)
+  use_judged u w = search (arith, rules, bytes_eq-Decides, only_called, Decides-ltb)
 
 -- ---- The uses of a body bind as many names as the body is said to bind
 
@@ -24,7 +64,6 @@ lines = map (λ s. s.place.line)
 
 one_more : (u : Use) (w : Enclosing) (s : Site) (ss : List Site)
     → length (lines (cond (is_binding u) (s ∷ ss) ss)) ≡ weight_of (λ x. 0) (λ c x. 0) u w + length (lines ss)
-one_more (binds x) w s ss = omega arith
 one_more u w s ss = search (arith, rules)
 
 lines_are : (ss : List Site) → length (lines_bound ss) ≡ bindings ss
@@ -42,14 +81,12 @@ record Same (A B : Type 0) : Type 0 where
 
 never : {A : Type 0} (xs : List A) → ForSome (λ x. ⊥) xs → ⊥
 never [] h = h
-never (x ∷ xs) (inl h) = h
-never (x ∷ xs) (inr h) = never xs h
+never (x ∷ xs) h = search (rules, never xs)
 
 module _ {A : Type 0} (P : A → Type 0) where
   some_as : (Q : A → Type 0) → ((x : A) → P x → Q x) → (xs : List A) → ForSome P xs → ForSome Q xs
   some_as Q f [] h = h
-  some_as Q f (x ∷ xs) (inl p) = inl (f x p)
-  some_as Q f (x ∷ xs) (inr h) = inr (some_as Q f xs h)
+  some_as Q f (x ∷ xs) h = search (rules, f, some_as Q f xs)
 
   -- An item of a concatenation is an item of one of its lists.
   append_same : (xs ys : List A) → Same (ForSome P (xs ++ ys)) (ForSome P xs ⊎ ForSome P ys)
@@ -102,7 +139,7 @@ module _ (cenv : CompileEnv) (namespace : Namespace) where
   site_decided : (n : Text) (s : Site)
       → Decided (broken.site_finding cenv namespace n s) (λ f. IsNamed n f s) (λ rule. SiteBreaks rule s)
   site_decided n s = record {
-    is = by (subject_of s.made) (broken.site_broken cenv namespace s) refl
+    is = by (subject_of s.made) (test.use_broken cenv namespace s.made s.place.around) refl
         (use_judged cenv namespace s.made s.place.around);
   }
     where
@@ -127,15 +164,13 @@ module _ (cenv : CompileEnv) (namespace : Namespace) where
           (λ f. (t.name ≡ f.template) × PassesBindings cenv namespace f t) (λ rule. OfNumber rule t)
       by (Some l) e =
           let within = slice_get_within (lines_bound (body_uses t.body uses.outside)) 4096 l e in
-          let counted = lines_counted t.body in
-          let many : 4096 < body_bound t.body = omega arith in
-          (refl, record { rule = refl; broken = many; line = e; subject = refl })
+          (refl, record { rule = refl; broken = omega (arith, lines_counted t.body); line = e; subject = refl })
       by None e = λ rule. none rule
         where
           none : (rule : ScopeError) → OfNumber rule t → ⊥
           none error.TooManySlots lt =
-              let counted = lines_counted t.body in
-              let over = slice_get-get_or (lines_bound (body_uses t.body uses.outside)) 4096 0 (omega arith) in
+              let over = slice_get-get_or (lines_bound (body_uses t.body uses.outside)) 4096 0
+              (omega (arith, lines_counted t.body)) in
               absurd (cc)
           none rule h = h
 
@@ -216,11 +251,8 @@ module _ (cenv : CompileEnv) (order : List Namespace) where
   -- The rule of a finding is broken.
   pub found_is_broken : (f : Finding) → Holds f cenv order → Breaks f.rule cenv order
   found_is_broken f (inr h) = search (arith, rules)
-  found_is_broken f (inl found) = by f.rule (some_as (FoundIn f) (λ h. BrokenIn cenv h f.rule)
-      (λ h p. (broken_same cenv h f.rule).to
-      (some_as (IsFoundIn cenv h f) (TemplateBreaks cenv h f.rule) (found_breaks cenv h f) (templates cenv.sources h)
-      p))
-      order found)
+  found_is_broken f (inl found) = by f.rule (some_as (FoundIn f) _ (λ h p. (broken_same cenv h f.rule).to
+      (some_as (IsFoundIn cenv h f) _ (found_breaks cenv h f) (templates cenv.sources h) p)) order found)
     where
       by : (rule : ScopeError) → ForSome (λ h. BrokenIn cenv h rule) order → Breaks rule cenv order
       by error.LoopOutside h = h
@@ -229,8 +261,4 @@ module _ (cenv : CompileEnv) (order : List Namespace) where
   -- If no rule is found and the names are few, no rule is broken.
   pub none_is_broken : None ≡ broken.chains_broken cenv order → names_counted cenv order ≤ 65535
       → KeepsRules cenv order
-  none_is_broken e few = record { none = λ rule h. (decided None e).is rule (by rule h) }
-    where
-      by : (rule : ScopeError) → Broken rule cenv order → ForSome (λ h. BrokenIn cenv h rule) order
-      by error.LoopOutside h = h
-      by rule h = search (arith, rules)
+  none_is_broken e few = record { none = λ rule h. (decided None e).is rule (search (arith, rules)) }

@@ -1,13 +1,10 @@
 pub mod Vocabulary
 pub mod ArgumentsFit
-pub mod Lookups
-pub mod RuleTestsCorrect
 pub mod FindingsHold
 pub mod NameSets
 pub mod LoopSteps
 pub use Vocabulary.*
 pub use ArgumentsFit.*
-pub use Lookups.*
 pub use FindingsHold.*
 pub use NameSets.*
 pub use LoopSteps.*

@@ -1,9 +1,15 @@
--- Lists of names: whether one is repeated, and whether all are in another list.
-use Rattle.jt_ast.specs.Texts.{inserted, ascending}
+-- Lists of names: whether one is repeated, whether all are in another list, and the blocks of a scope.
+use Rattle.std.specs.Str.{bytes_eq}
+use Rattle.std.specs.List.{list_all, list_any}
+use Rattle.jt_names.specs.Names.{first_of}
+use Rattle.jt_ast.specs.Texts.{inserted, ascending, repeated}
+use Rattle.jt_ast.specs.Statements.{Parameter}
+use Rattle.jt_checks.specs.internal.RuleTests.{all_known, parameter_names}
 use Rattle.jt_names.proofs.SortedNames.{absorbed, among_all, past}
 use Rattle.jt_checks.proofs.Vocabulary
-use Vocabulary.{sym, ◌≡◌, ℕ, suc, ◌≤◌, nat_lt, Bool, true, false, not, ◌||◌, List, [], ◌∷◌, length, refl, ap, ◌∙◌}
-use Vocabulary.{arith, rules, nat_tests, list_any, list_all, is_some, Bor, Text, among, repeated, texts, first_of}
+use Vocabulary.{sym, ◌≡◌, ℕ, suc, ◌≤◌, nat_lt, Bool, true, false, ◌||◌, List, [], ◌∷◌, length, refl, ap, ◌∙◌, arith}
+use Vocabulary.{rules, nat_tests, is_some, Bor, Text, among, texts, not, map, filter}
+use Rattle.jt_chains.specs.Chain.{BlockBody}
 
 inserted_new : (x : Text) (ns : List Text) → among x ns ≡ false → length (inserted x ns) ≡ suc (length ns)
 inserted_new x [] e = refl
@@ -37,7 +43,22 @@ pub among_first : (x : Text) (n : ℕ) (ks : List Text) → is_some (first_of x 
 among_first x n [] = refl
 among_first x n (k ∷ ks) = search (arith, rules, among_first x (suc n) ks)
 
-pub all_in : (known : List Text) (ks : List (Bor Text))
-    → list_all (λ (k : Bor Text). among k.now known) ks ≡ not (list_any (λ k. not (among k known)) (texts ks))
-all_in known [] = refl
-all_in known (k ∷ ks) = search (arith, rules, all_in known ks)
+pub all_in : (ps : List Parameter) (ks : List (Bor Text))
+    → list_all (λ (k : Bor Text). among k.now (parameter_names ps)) ks ≡ all_known ps (texts ks)
+all_in ps [] = refl
+all_in ps (k ∷ ks) = search (arith, rules, all_in ps ks)
+
+pub among_any : (x : Text) (ks : List (Bor Text)) → list_any (λ k. bytes_eq k.now x) ks ≡ among x (texts ks)
+among_any x [] = refl
+among_any x (k ∷ ks) = search (arith, rules, among_any x ks)
+
+-- ---- the bodies of a block
+
+some_left : (n : ℕ) → true ≡ not (nat_lt (suc n) 1)
+some_left n = grind (arith, nat_tests)
+
+-- A block has a body exactly if one of the bodies is found by its name.
+pub has_body : (x : Text) (n : ℕ) (bs : List BlockBody)
+    → is_some (first_of x n (map (λ b. b.name) bs)) ≡ not (nat_lt (length (filter (λ b. bytes_eq b.name x) bs)) 1)
+has_body x n [] = refl
+has_body x n (b ∷ bs) = search (arith, rules, has_body x (suc n) bs, nat_lt, some_left)

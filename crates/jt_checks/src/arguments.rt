@@ -1,22 +1,22 @@
-//! Checks that arguments fit the parameters of a callee.
+//! Checks that arguments fit the parameters of a callee, and the filters, tests and keys that the
+//! arguments of a filter name.
 
-ghost use Rattle.std.specs.Prelude.{◌≡◌, ◌<◌, ◌≤◌, ◌^◌, ◌&&◌, not, length, drop, IfOk};
-ghost use Rattle.std.specs.List.{list_any};
-ghost use Rattle.jt_ast.specs.ExpressionView.{exprs_view, pairs_view};
-ghost use Rattle.jt_ast.specs.Texts.{among, repeated, texts};
-ghost use Rattle.jt_ast.specs.StatementView.{names_view, parameter_view, parameters_view};
+ghost use Rattle.std.specs.Prelude.{◌≡◌, option_and_then, ◌≤◌, Some, None, if◌then◌else◌, length, IfOk, IfSome};
+ghost use Rattle.jt_ast.specs.Written.{literal_text};
+ghost use Rattle.jt_ast.specs.ExpressionView.{expr_view, exprs_view, pairs_view};
+ghost use Rattle.jt_ast.specs.Texts.{repeated, texts};
+ghost use Rattle.jt_ast.specs.StatementView.{parameters_view};
 ghost use Rattle.jt_chains.specs.Uses.{count, keywords};
-ghost use Rattle.jt_eval.specs.TheFilters.{the_filters, filter_parameters};
-ghost use Rattle.jt_eval.specs.Inside.{names_well};
+ghost use Rattle.jt_eval.specs.TheFilters.{the_filters};
 ghost use Rattle.jt_eval.specs.Tests.{test_named};
+ghost use Rattle.jt_ids.specs.FilterTable.{filter_id, named_at, position_of};
+ghost use Rattle.jt_eval.specs.Inside as inside;
 ghost use Rattle.jt_rules.specs.Arguments.{test_takes};
 ghost use Rattle.jt_checks.specs.internal.RuleTests as rules;
-ghost use Rattle.jt_checks.specs.internal.Fitting.{filter_takes};
 
-use crate::nested_calls::are_names_well;
-use jt_ast::{Expr, Parameter};
+use jt_ast::{Expr, Parameter, literal_text};
 use jt_eval::{filter_of, filter_parameters, test_of};
-use jt_ids::FilterId;
+use jt_ids::{ArgumentRole, FilterId};
 use jt_names::{NameIndex, add_names, keyword_names, parameter_names};
 use jt_rules::ScopeError;
 use std::alloc::{AllocError, Global};
@@ -38,32 +38,17 @@ pub(crate) fn any_repeated(alloc: Global, names: &[&str]) -> Result<bool, AllocE
     Ok(distinct.len() < names.len())
 }
 
-/// Returns whether each name is in `known`.
-fn all_known(alloc: Global, names: &[&str], known: &[&str]) -> Result<bool, AllocError>
+/// Returns whether names occur once each, and name only parameters that are `left`.
+fn names_fit(alloc: Global, left: &[Parameter], names: &[&str]) -> Result<bool, AllocError>
     ensures { IfOk result
-        (λ b. b ≡ not (list_any (λ k. not (among k (texts known.now))) (texts names.now))) }
-{
-    let index = NameIndex::of(alloc, known, 0)?;
-    Ok(names.iter().all(|name| index.index_of(name).is_some()))
-}
-
-/// Returns whether names occur once each, and name only parameters after the first `filled` ones.
-fn names_fit(
-    alloc: Global,
-    parameters: &[Parameter],
-    filled: usize,
-    names: &[&str],
-) -> Result<bool, AllocError>
-    ensures { IfOk result (λ b. b ≡ (not (repeated (texts names.now)) && not (list_any
-        (λ k. not (among k (rules.parameter_names (drop filled (parameters_view parameters.now)))))
-        (texts names.now)))) }
+        (λ b. b ≡ rules.names_fit (parameters_view left.now) (texts names.now)) }
 {
     if any_repeated(alloc, names)? {
         return Ok(false);
     }
-    let from = filled.min(parameters.len());
-    let left = parameter_names(alloc, &parameters[from..])?;
-    all_known(alloc, names, &left)
+    let known = parameter_names(alloc, left)?;
+    let index = NameIndex::of(alloc, &known, 0)?;
+    Ok(names.iter().all(|name| index.index_of(name).is_some()))
 }
 
 /// Returns whether arguments fit the parameters of a macro.
@@ -80,7 +65,7 @@ pub(crate) fn fits(
         return Ok(false);
     }
     let names = keyword_names(alloc, pairs)?;
-    names_fit(alloc, parameters, row.len(), &names)
+    names_fit(alloc, &parameters[row.len()..], &names)
 }
 
 /// Returns the rule that the arguments of a test break.
@@ -93,34 +78,24 @@ pub(crate) fn test_broken(name: &str, row: &[Expr], pairs: &[(String, Expr)]) ->
     unless(test.takes(row.len() + 1) && pairs.is_empty())
 }
 
-/// Returns whether the parameter's name is among the names.
-fn is_given(parameter: &Parameter, names: &[&str]) -> bool
-    ensures { result ≡ among (parameter_view parameter.now).name (texts names.now) }
+/// Returns the number of parameters up to the last one that is named, which is included, or `None`
+/// if one of them is not named and has no default.
+fn reached(parameters: &[Parameter], names: &[&str]) -> Option<usize>
+    ensures within { IfSome result (λ n. n ≤ length parameters.now) }
+    ensures value { result ≡ (if rules.is_filled (parameters_view parameters.now) 0 (texts names.now)
+        then Some (rules.reached (parameters_view parameters.now) (texts names.now)) else None) }
 {
-    names.iter().any(|name| *name == parameter.name.as_str())
-}
-
-/// Returns the number of parameters up to the last one that is named, which is included.
-fn reached(parameters: &[Parameter], names: &[&str]) -> usize
-    ensures value { result ≡ rules.reached (parameters_view parameters.now) (texts names.now) }
-    ensures within { result ≤ length parameters.now }
-{
-    let mut last = parameters.len();
-    while 0 < last {
-        if is_given(&parameters[last - 1], names) {
-            return last;
-        }
-        last -= 1;
+    let mut count = 0;
+    let mut filled = true;
+    let mut left = parameters.len();
+    while left > 0 {
+        left -= 1;
+        let parameter = &parameters[left];
+        let named = (&*names).contains(&parameter.name.as_str());
+        filled &= named | (count == 0) | parameter.default.is_some();
+        count += usize::from(named | (count > 0));
     }
-    0
-}
-
-/// Returns whether each parameter up to the last one that is named is named or has a default.
-fn is_filled(parameters: &[Parameter], names: &[&str]) -> bool
-    ensures { result ≡ rules.is_filled (parameters_view parameters.now) 0 (texts names.now) }
-{
-    let counted = &parameters[..reached(parameters, names)];
-    counted.iter().all(|parameter| is_given(parameter, names) || parameter.default.is_some())
+    filled.then_some(count)
 }
 
 /// Returns the rule that the arguments of a filter break.
@@ -134,68 +109,98 @@ pub(crate) fn filter_broken(
         (the_filters.named name.now (exprs_view row.now) (pairs_view pairs.now))
         (exprs_view row.now) (pairs_view pairs.now))) }
 {
-    match filter_of(name, row, pairs) {
-        Some(filter) => Ok(unless(filter_accepts(alloc, filter, row, pairs)?)),
-        None => Ok(None),
-    }
+    let Some(filter) = filter_of(name, row, pairs) else {
+        return Ok(None);
+    };
+    let right = filter_fits(alloc, filter, row, pairs)? && are_names_well(filter, row, pairs);
+    Ok(unless(right))
 }
 
-/// Returns whether a filter takes these arguments, and these name other things correctly.
-fn filter_accepts(
+/// Returns whether a filter takes these positional and keyword arguments.
+fn filter_fits(
     alloc: Global,
     filter: FilterId,
     row: &[Expr],
     pairs: &[(String, Expr)],
 ) -> Result<bool, AllocError>
-    ensures { IfOk result (λ b. b ≡ (filter_takes filter (filter_parameters filter)
-        (length row.now) (keywords (pairs_view pairs.now))
-        && names_well filter (exprs_view row.now) (pairs_view pairs.now))) }
-{
-    if !filter_fits(alloc, filter, row.len(), pairs)? {
-        return Ok(false);
-    }
-    Ok(are_names_well(filter, row, pairs))
-}
-
-/// Returns whether a filter takes `filled` positional arguments and these keyword arguments.
-fn filter_fits(
-    alloc: Global,
-    filter: FilterId,
-    filled: usize,
-    pairs: &[(String, Expr)],
-) -> Result<bool, AllocError>
-    requires { filled < 2 ^ 63 }
-    ensures { IfOk result (λ b. b
-        ≡ filter_takes filter (filter_parameters filter) filled (keywords (pairs_view pairs.now))) }
+    ensures { IfOk result (λ b. b ≡ rules.filter_fits the_filters (filter_id filter)
+        (count (exprs_view row.now)) (keywords (pairs_view pairs.now))) }
 {
     if pairs.is_empty() {
-        return Ok(filter.takes(filled + 1));
+        return Ok(filter.takes(row.len() + 1));
     }
     let parameters = filter_parameters(alloc, filter)?;
     let names = keyword_names(alloc, pairs)?;
-    filter_takes(alloc, filter, &parameters, filled, &names)
+    let left = &parameters[row.len().min(parameters.len())..];
+    let Some(named) = reached(left, &names) else {
+        return Ok(false);
+    };
+    if !filter.takes(row.len() + named + 1) {
+        return Ok(false);
+    }
+    names_fit(alloc, left, &names)
 }
 
-/// Returns whether a filter with these parameters takes `filled` positional arguments and the
-/// keywords `names`.
-fn filter_takes(
-    alloc: Global,
-    filter: FilterId,
-    parameters: &[Parameter],
-    filled: usize,
-    names: &[&str],
-) -> Result<bool, AllocError>
-    requires { filled < 2 ^ 63 }
-    ensures { IfOk result
-        (λ b. b ≡ filter_takes filter (parameters_view parameters.now) filled (texts names.now)) }
+/// Returns whether the named filter or test takes `values` values, the item included, and `map` may
+/// call the filter. An unknown name passes: the parser refuses it.
+#[tactic(auto, using(crate::proofs::ArgumentsFit::alone, crate::proofs::ArgumentsFit::turned))]
+fn is_called_well(naming: ArgumentRole, name: &str, values: usize) -> bool
+    ensures { result ≡ inside.called_well naming name.now values }
 {
-    let from = filled.min(parameters.len());
-    let values = filled.max(reached(parameters, names)) + 1;
-    if !filter.takes(values) {
-        return Ok(false);
+    match naming {
+        ArgumentRole::Filter => FilterId::named(name, None).is_none_or(
+            |filter| filter.may_be_inner() && filter.takes(values),
+        ),
+        ArgumentRole::Test => test_of(name).is_none_or(|test| test.takes(values)),
+        ArgumentRole::Key => true,
     }
-    if !is_filled(&parameters[from..], names) {
-        return Ok(false);
+}
+
+/// Returns whether an argument that names something is a text literal. A named filter or test must
+/// also take `values` values.
+fn is_argument_well(naming: Option<ArgumentRole>, argument: &Expr, values: usize) -> bool
+    ensures { result ≡ inside.argument_well naming (literal_text (expr_view argument.now)) values }
+{
+    let Some(naming) = naming else {
+        return true;
+    };
+    literal_text(argument).is_some_and(|name| is_called_well(naming, name, values))
+}
+
+/// Returns whether each positional argument that names something names it correctly. A named filter
+/// or test takes the item and the arguments after its name.
+#[tactic(auto, using(crate::proofs::ArgumentsFit::row_wrong, crate::proofs::ArgumentsFit::row_right))]
+fn is_row_well(filter: FilterId, row: &[Expr]) -> bool
+    ensures { result ≡ inside.row_well filter 1 (exprs_view row.now) }
+{
+    for (index, argument) in row.iter().enumerate() {
+        let values = row.len() - index;
+        if !is_argument_well(filter.named_at(index + 1), argument, values) {
+            return false;
+        }
     }
-    names_fit(alloc, parameters, filled, names)
+    true
+}
+
+/// Returns the role of a keyword argument, if it names something.
+fn naming_of(filter: FilterId, name: &str) -> Option<ArgumentRole>
+    ensures { result ≡ option_and_then (named_at filter) (position_of filter name.now) }
+{
+    filter.named_at(filter.position(name)?)
+}
+
+/// Returns whether the arguments of a filter name other things correctly. A filter or test that a
+/// keyword argument names takes only the item.
+fn are_names_well(filter: FilterId, row: &[Expr], pairs: &[(String, Expr)]) -> bool
+    ensures { result ≡ inside.names_well filter (exprs_view row.now) (pairs_view pairs.now) }
+{
+    if !is_row_well(filter, row) {
+        return false;
+    }
+    for (name, value) in pairs {
+        if !is_argument_well(naming_of(filter, name), value, 1) {
+            return false;
+        }
+    }
+    true
 }

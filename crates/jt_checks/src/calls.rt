@@ -1,13 +1,13 @@
 //! Finds what calls name, and checks the static rules of a call by its callee.
 
-ghost use Rattle.std.specs.Prelude.{◌≡◌, IfOk, option_map};
+ghost use Rattle.std.specs.Prelude.{◌≡◌, IfOk};
 ghost use Rattle.jt_ast.specs.ExpressionView.{expr_view, exprs_view, pairs_view};
 ghost use Rattle.jt_chains.specs.Chain as chain;
-ghost use Rattle.jt_chains.specs.Chain.{callee, named_form, named_alone, named_in, in_library};
+ghost use Rattle.jt_chains.specs.Chain.{callee, named_alone, named_in, in_library};
 ghost use Rattle.jt_checks.specs.internal.RuleTests as rules;
 ghost use Rattle.jt_checks.specs.internal.CalleeView.{Means};
 ghost use Rattle.jt_checks.specs.internal.ScopeView.{its_sources, its_given, given_in, in_scope};
-ghost use Rattle.jt_checks.specs.internal.ScopeView.{HasFacts, name_in};
+ghost use Rattle.jt_checks.specs.internal.ScopeView.{HasFacts};
 
 use crate::arguments::{fits, unless};
 use crate::scope::Scope;
@@ -34,17 +34,6 @@ pub(crate) enum Callee<'a> {
     Nothing,
 }
 
-/// Returns what a bare name means that stands for no macro and no library.
-fn form_of(name: &str) -> Callee<'_>
-    ensures { Means result (named_form name.now) }
-{
-    match name {
-        "range" => Callee::Range,
-        "super" => Callee::Super,
-        _ => Callee::Nothing,
-    }
-}
-
 /// Returns what a bare name means.
 fn callee_alone<'a>(scope: &Scope<'_, 'a>, name: &'a str) -> Callee<'a>
     requires { HasFacts scope.now }
@@ -56,7 +45,11 @@ fn callee_alone<'a>(scope: &Scope<'_, 'a>, name: &'a str) -> Callee<'a>
             Callee::Macro(found.parameters)
         }
         Some(Definition::Library(_)) => Callee::Nothing,
-        None => form_of(name),
+        None => match name {
+            "range" => Callee::Range,
+            "super" => Callee::Super,
+            _ => Callee::Nothing,
+        },
     }
 }
 
@@ -90,7 +83,6 @@ fn callee_of_field<'a>(scope: &Scope<'_, 'a>, of: &str, field: &'a str) -> Calle
 }
 
 /// Returns what a callee names.
-#[tactic(auto, using(crate::proofs::Lookups::attribute_callee))]
 pub(crate) fn callee_of<'a>(scope: &Scope<'_, 'a>, called: &'a Expr) -> Callee<'a>
     requires { HasFacts scope.now }
     ensures { Means result (callee (its_sources scope.now) (its_given scope.now)
@@ -98,9 +90,9 @@ pub(crate) fn callee_of<'a>(scope: &Scope<'_, 'a>, called: &'a Expr) -> Callee<'
 {
     match called {
         Expr::Name(name) => callee_alone(scope, name),
-        Expr::Attribute(value, field) => match name_of(value) {
-            Some(of) => callee_of_field(scope, of, field),
-            None => Callee::Nothing,
+        Expr::Attribute(value, field) => match &**value {
+            Expr::Name(of) => callee_of_field(scope, of, field),
+            _ => Callee::Nothing,
         },
         _ => Callee::Nothing,
     }
@@ -128,15 +120,5 @@ pub(crate) fn call_broken(
         Callee::Super | Callee::Block(_) => Ok(unless(row.is_empty() && pairs.is_empty())),
         Callee::Cycle => Ok(unless(0 < row.len() && pairs.is_empty())),
         Callee::Nothing => Ok(Some(ScopeError::NotCallable)),
-    }
-}
-
-/// Returns the name of an expression that is a bare name.
-pub(crate) fn name_of(expr: &Expr) -> Option<&str>
-    ensures { option_map (λ x. x.now) result ≡ name_in (expr_view expr.now) }
-{
-    match expr {
-        Expr::Name(name) => Some(name.as_str()),
-        _ => None,
     }
 }

@@ -170,31 +170,6 @@ fn has_few_names(alloc: Global, facts: &ChainFacts<'_>) -> Result<bool, AllocErr
     Ok(true)
 }
 
-/// Returns the libraries that a chain imports, each once, in ascending order.
-fn libraries<'a>(scope: &Scope<'_, 'a>) -> Result<Vec<&'a str>, AllocError>
-    requires { HasFacts scope.now }
-    ensures { IfOk result
-        (λ ns. texts ns.items ≡ ascending (in_scope (λ cenv h. libraries cenv.sources h)
-        scope.now)) }
-{
-    let found = scope.facts.chain.libraries(scope.alloc, scope.namespace)?;
-    in_order(scope.alloc, &found)
-}
-
-/// Returns the number of different names that the libraries read or bind, at most the greatest
-/// `usize`.
-fn count_in_libraries(facts: &ChainFacts<'_>, libraries: &[&str]) -> usize
-    requires { AllKnown facts.now }
-    ensures { result
-        ≡ capped (libraries_counted (cenv_in facts.now.chain.now) (texts libraries.now)) }
-{
-    let mut count = 0usize;
-    for library in libraries {
-        count = count.saturating_add(facts.count_in_library(library));
-    }
-    count
-}
-
 /// Returns the number of different names that a chain and the libraries that it imports read or
 /// bind, at most the greatest `usize`. A library has none of its own: its names count in the chains
 /// that import it.
@@ -202,10 +177,15 @@ fn count_names(scope: &Scope<'_, '_>) -> Result<usize, AllocError>
     requires { HasFacts scope.now }
     ensures { IfOk result (λ n. n ≡ capped (in_scope names_of scope.now)) }
 {
-    if scope.facts.chain.namespaces[scope.namespace].is_library {
+    let chain = scope.facts.chain;
+    if chain.namespaces[scope.namespace].is_library {
         return Ok(0);
     }
-    let imported = libraries(scope)?;
-    let others = count_in_libraries(scope.facts, &imported);
-    Ok(scope.known().names.len().saturating_add(others))
+    let imported = chain.libraries(scope.alloc, scope.namespace)?;
+    let libraries = in_order(scope.alloc, &imported)?;
+    let mut count = scope.known().names.len();
+    for library in &libraries {
+        count = count.saturating_add(scope.facts.count_in_library(library));
+    }
+    Ok(count)
 }

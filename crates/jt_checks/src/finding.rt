@@ -6,7 +6,6 @@ ghost use Rattle.jt_checks.specs.Findings as findings;
 ghost use Rattle.jt_checks.specs.FindingView.{subject_view};
 ghost use Rattle.jt_uses.specs.UseView.{site_view};
 
-use crate::calls::name_of;
 use jt_ast::Expr;
 use jt_rules::ScopeError;
 use jt_uses::{Use, UseSite};
@@ -47,18 +46,17 @@ pub struct Finding<'a> {
 }
 
 /// Returns the callee of a call as a subject.
-#[tactic(auto, using(crate::proofs::Lookups::attribute_called))]
 fn called(callee: &Expr) -> Subject<'_>
     ensures { subject_view result ≡ findings.called (expr_view callee.now) }
 {
     match callee {
         Expr::Name(name) => Subject::CalledName(name.as_str()),
-        Expr::Attribute(value, field) => match name_of(value) {
-            Some(of) => Subject::CalledField {
-                of,
+        Expr::Attribute(value, field) => match &**value {
+            Expr::Name(of) => Subject::CalledField {
+                of: of.as_str(),
                 field: field.as_str(),
             },
-            None => Subject::CalledExpression,
+            _ => Subject::CalledExpression,
         },
         _ => Subject::CalledExpression,
     }

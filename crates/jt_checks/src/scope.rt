@@ -16,7 +16,6 @@ pub(crate) struct Scope<'f, 'a> {
 }
 
 impl<'f, 'a> Scope<'f, 'a> {
-    ghost use Rattle.jt_checks.specs.internal.RuleTests as rules;
     ghost use Rattle.jt_checks.specs.internal.ScopeView.{HasFacts, given_as, given_in, in_scope};
     ghost use Rattle.jt_checks.specs.internal.ScopeView.{is_block, its_chain};
     ghost use Rattle.jt_names.specs.FactsOfChains.{IsKnown};
@@ -42,14 +41,6 @@ impl<'f, 'a> Scope<'f, 'a> {
         self.facts.at(self.namespace)
     }
 
-    /// Returns whether the name stands for a macro or a library.
-    pub(crate) fn is_macro(&self, name: &str) -> bool
-        requires { HasFacts self.now }
-        ensures { result ≡ in_scope rules.is_macro self.now name.now }
-    {
-        self.known().given.contains_key(name)
-    }
-
     /// Returns the definition of the name, if it stands for a macro or a library.
     pub(crate) fn given(&self, name: &str) -> Option<Definition<'a>>
         requires { HasFacts self.now }
@@ -59,7 +50,7 @@ impl<'f, 'a> Scope<'f, 'a> {
     }
 
     /// Returns whether the chain has a block of this name.
-    #[tactic(auto, using(crate::proofs::Lookups::has_body))]
+    #[tactic(auto, using(crate::proofs::NameSets::has_body))]
     pub(crate) fn is_block(&self, name: &str) -> bool
         requires { HasFacts self.now }
         ensures { result ≡ in_scope is_block self.now name.now }

@@ -39,27 +39,19 @@ fn used(scope: &Scope<'_, '_>, name: &str) -> Option<ScopeError>
     requires { HasFacts scope.now }
     ensures { result ≡ in_scope rules.used scope.now name.now }
 {
-    read_alone(name).or(scope.is_macro(name).then_some(ScopeError::MacroAsValue))
-}
-
-/// Returns the rule that a read of a field of `loop` breaks.
-fn field_broken(field: &str, around: Enclosing) -> Option<ScopeError>
-    ensures { result ≡ rules.field_broken field.now around }
-{
-    let right = around.in_loop && LoopField::by_name(field).is_some();
-    (!right).then_some(ScopeError::LoopOutside)
+    let is_macro = scope.given(name).is_some();
+    read_alone(name).or(is_macro.then_some(ScopeError::MacroAsValue))
 }
 
 /// Returns whether a callee is `loop` itself, a field of it other than `cycle`, or `cycle` outside
 /// a loop.
-fn misuses_loop(callee: &Expr, in_loop: bool) -> bool
-    ensures { (w : Enclosing) → w.in_loop ≡ in_loop
-        → result ≡ rules.misuses_loop (expr_view callee.now) w }
+fn misuses_loop(callee: &Expr, around: Enclosing) -> bool
+    ensures { result ≡ rules.misuses_loop (expr_view callee.now) around }
 {
     match callee {
         Expr::Name(name) => name.as_str() == "loop",
         Expr::Attribute(value, field) => {
-            is_loop_name(value) && (field.as_str() != "cycle" || !in_loop)
+            is_loop_name(value) && (field.as_str() != "cycle" || !around.in_loop)
         }
         _ => false,
     }
@@ -86,18 +78,22 @@ fn site_broken<'a>(
     site: &UseSite<'a>,
 ) -> Result<Option<ScopeError>, AllocError>
     requires { HasFacts scope.now }
-    ensures { IfOk result (λ o. o ≡ in_scope broken.site_broken scope.now (site_view site.now)) }
+    ensures { IfOk result (λ o. o ≡ in_scope rules.use_broken scope.now
+        (site_view site.now).made (site_view site.now).place.around) }
 {
     let around = site.place.around;
     match site.made {
         Use::Reads(name) | Use::Binds(name) => Ok(used(scope, name)),
-        Use::ReadsLoopField(field) => Ok(field_broken(field, around)),
+        Use::ReadsLoopField(field) => {
+            let right = around.in_loop && LoopField::by_name(field).is_some();
+            Ok((!right).then_some(ScopeError::LoopOutside))
+        }
         Use::Calls {
             callee,
             arguments,
             keywords,
         } => {
-            if misuses_loop(callee, around.in_loop) {
+            if misuses_loop(callee, around) {
                 return Ok(Some(ScopeError::LoopOutside));
             }
             let called = callee_of(scope, callee);
@@ -167,20 +163,14 @@ pub(crate) fn uses_broken<'a>(
     Ok(None)
 }
 
-/// Returns whether a use binds a name by `set`, `for`, `with` or as a parameter.
-fn binds_name(site: &UseSite<'_>) -> bool
-    ensures { result ≡ broken.binds_name (site_view site.now) }
-{
-    matches!(site.made, Use::Binds(_))
-}
-
-/// Returns the line of the binding after the first `count` ones, if there is one.
+/// Returns the line of the binding after the first `count` ones, if there is one. `set`, `for`,
+/// `with` and parameters bind names.
 pub(crate) fn binding_line(uses: &[UseSite<'_>], count: usize) -> Option<u32>
     ensures { result ≡ slice_get (broken.lines_bound (sites_view uses.now)) count }
 {
     let mut left = count;
     for site in uses {
-        if binds_name(site) {
+        if let Use::Binds(_) = site.made {
             if left == 0 {
                 return Some(site.place.line);
             }

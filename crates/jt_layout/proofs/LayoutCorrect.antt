@@ -1,5 +1,7 @@
 -- The layout of a chain or a library is correct, and the names of chains are inserted in order.
 use Rattle.jt_chains.specs.Uses as uses
+use Rattle.jt_chains.specs.declared.chain.Namespace as written
+use mir.Val.{bool_byte}
 use Rattle.std.proofs.Common
 use Common.{◌==◌, Option, append_assoc, not, suc, zero, Bool, Some, false, if◌then◌else◌, refl, ℕ, true, length-append}
 use Rattle.std.proofs.lemmas.Bool.Decides.{nat_tests}
@@ -9,21 +11,23 @@ use Rattle.jt_semantics.specs.Layout.{names, of_body, of_macro, unit, names_in, 
 use Rattle.std.proofs.lemmas.Bool.{or_right}
 use Rattle.jt_chains.specs.declared.chain.Chain.{Chain}
 use Rattle.jt_chains.specs.Chain.{BlockBody, MacroBody, Namespace, Sources, a_library, macro_of, macros, templates}
-use Rattle.jt_layout.specs.declared.front.FirstFree.{FirstFree}
+use Rattle.jt_layout.specs.declared.layout.FirstFree.{FirstFree}
 use Rattle.jt_layout.specs.declared.namespace_layout.NamespaceLayout.{NamespaceLayout}
 use Rattle.jt_layout.proofs.FirstOccurrences.{first_macro, length-counted, namespaces_left, no_macro}
 use Rattle.jt_chains.specs.Includes.{InOrder, needs_in, with_source}
 use Rattle.jt_rules.specs.CompileEnv.{CompileEnv}
 use Rattle.jt_semantics.proofs.EnvLookup.{namespace_is, namespace_same, same_is, same_text}
+use Rattle.jt_semantics.proofs.EnvMemoryAgreement.{names_library}
 use Rattle.std.specs.BTreeMap.{BTreeMap}
 use uses.{own_names}
 use Rattle.std.specs.Option.{is_some}
 use Rattle.jt_layout.proofs.Vocabulary
 use Vocabulary.{List, [], ap, drop, length, map, subst, sym, ◌++◌, ◌+◌, ◌<◌, ◌||◌, ◌∙◌, ◌∷◌, ◌≡◌, Global, Vec}
-use Vocabulary.{ascending_inserted, inserted_both, all_bodies, Template, a_chain, listed, same_namespace, namespace_of}
-use Vocabulary.{IsCalled, None, arith, rules, length-map, flat_map, Text, block_view, macro_view, namespace_view}
-use Vocabulary.{namespace_in, Block, first_of, Stands, StandsAt, defaults_from, namespace_named, its_cenv, its_order}
-use Vocabulary.{flat_map-append, append-nil, all_names, bytes_eq, Bor, all_inserted, ascending, namespace_at, names_at}
+use Vocabulary.{ascending_inserted, inserted_both, all_bodies, Template, a_chain, listed, same_namespace, IsCalled}
+use Vocabulary.{None, arith, rules, length-map, flat_map, Text, block_view, macro_view, namespace_view, namespace_in}
+use Vocabulary.{Block, first_of, StandsAt, defaults_from, namespace_named, its_cenv, its_order, texts, flat_map-append}
+use Vocabulary.{append-nil, bytes_eq, Bor, all_inserted, ascending, namespace_at, names_at}
+use Rattle.jt_layout.specs.internal.Layouts.{texts_of, Stands, all_names, namespace_of}
 
 -- ---- names that are inserted in order, and the names of chains
 
@@ -36,14 +40,10 @@ no_source : (cenv : CompileEnv) (hs : List Namespace) (n : Text) → is_some (ce
 no_source cenv [] n e = refl
 no_source cenv (k ∷ hs) n e = search (arith, rules, no_templates, no_source cenv hs n)
 
-pub no_names : (cenv : CompileEnv) (hs : List Namespace) (n : Text) → names_in cenv hs (a_library n) ≡ []
-no_names cenv [] n = refl
-no_names cenv (k ∷ hs) n = search (arith, rules, no_names cenv hs n)
-
 module _ (cenv : CompileEnv) (hs : List Namespace) where
   no_names_of : (ns : List Text) → flat_map (names_in cenv hs) (map a_library ns) ≡ []
   no_names_of [] = refl
-  no_names_of (n ∷ ns) = search (arith, rules, no_names, no_names_of ns)
+  no_names_of (n ∷ ns) = search (arith, rules, names_library, no_names_of ns)
 
   module _ (h : Namespace) (m : BTreeMap (Bor Text) (Vec (Bor Text) Global))
       (are : (x : Text) → names_at m x ≡ names_in cenv hs (a_chain x)) where
@@ -72,12 +72,13 @@ module _ (cenv : CompileEnv) (order : List Namespace) (i : ℕ) (lt : i < length
   later = drop (i + 1) order
 
   -- The names of any remaining chain; a library changes none.
-  pub names_turn : (ns old : List Text) (n x : Text) → namespace_at order i ≡ a_chain n
-      → ns ≡ all_names cenv later (namespace_at order i) → old ≡ names_in cenv later (a_chain x)
-      → (if bytes_eq n x then ns else old) ≡ names_in cenv (drop i order) (a_chain x)
-  names_turn ns old n x is e g = rw (namespaces_left order i lt, is) (by (bytes_eq n x) refl)
+  pub names_turn : (n x : Text) (v : Vec (Bor Text) Global) (old new : Option (Vec (Bor Text) Global))
+      → namespace_at order i ≡ a_chain n → texts v.items ≡ all_names cenv later (namespace_at order i)
+      → new ≡ (if bytes_eq n x then Some v else old) → texts_of old ≡ names_in cenv later (a_chain x)
+      → texts_of new ≡ names_in cenv (drop i order) (a_chain x)
+  names_turn n x v old new is e f g = rw (namespaces_left order i lt, is, f) (by (bytes_eq n x) refl)
     where
-      by : (b : Bool) → bytes_eq n x ≡ b → (if b then ns else old)
+      by : (b : Bool) → bytes_eq n x ≡ b → texts_of (if b then Some v else old)
           ≡ (if b then all_names cenv later (a_chain x) else names_in cenv later (a_chain x))
       by true q = e ∙ ap (all_names cenv later) (is ∙ ap a_chain (same_text n x q))
       by false q = g
@@ -105,19 +106,11 @@ past : {A : Type 0} (f : A → Key) (k : Key) → ((x : A) → same_key (f x) k 
 past f k none [] rest = omega arith
 past f k none (x ∷ xs) rest = search (arith, rules, none x, past f k none xs rest)
 
-equal_numbers : (n m : ℕ) → n ≡ m → (n == m) ≡ true
-equal_numbers n m e = search (rules, e)
-
-different_numbers : (n m : ℕ) → n < m → (n == m) ≡ false
-different_numbers n m lt = grind (arith, nat_tests)
-
 body_at : (h : Namespace) (n i k : ℕ) (bs : List BlockBody) (rest : List Key) → i < length bs → k ≡ n + i
     → index_of (of_body h k) (map (λ b. of_body h b.0) (counted_from n bs) ++ rest) ≡ i
 body_at h n i k [] rest lt e = absurd (omega arith)
-body_at h n zero k (b ∷ bs) rest lt e = search (arith, rules, namespace_is, equal_numbers n k (omega arith))
-body_at h n (suc i) k (b ∷ bs) rest lt e =
-    let other = different_numbers n k (omega arith) in
-    search (arith, rules, namespace_is, other, body_at h (suc n) i k bs rest (omega arith) (omega arith))
+body_at h n zero k (b ∷ bs) rest lt e = grind (arith, nat_tests, namespace_is)
+body_at h n (suc i) k (b ∷ bs) rest lt e = grind (arith, nat_tests, namespace_is, body_at h (suc n) i k bs rest)
 
 module _ (cenv : CompileEnv) where
   abbrev pub macro_keys : Namespace → List Key
@@ -147,20 +140,12 @@ module _ (cenv : CompileEnv) where
     -- The keys of another namespace come after them.
     pub others : (k : Key) (rest : List Key) → same_namespace h (namespace_of k) ≡ false
         → index_of k (chain_keys cenv h ++ rest) ≡ length (chain_keys cenv h) + index_of k rest
-    others k rest e =
-        let entry = after_entry h k
-        (λ n q. key_apart (of_chain n) k (ap (λ g. same_namespace g (namespace_of k)) (sym q) ∙ e)) rest in
-        let macros = past (λ (m : MacroBody). of_macro h m.name) k (λ m. key_apart (of_macro h m.name) k e) ms
-        (body_keys h ++ rest) in
-        let bodies = past (λ (b : ℕ × BlockBody). of_body h b.0) k (λ b. key_apart (of_body h b.0) k e)
-        (numbered_bodies cenv h) rest in
-        omega (arith, entry, macros, bodies, count_keys, length-counted 0 bs)
+    others k rest e = search (arith, rules, after_entry, key_apart, past, count_keys, length-counted)
 
     pub macro_key : (x : Text) (j : ℕ) (rest : List Key)
         → ((ks : List Key) → index_of (of_macro h x) (macro_keys h ++ ks) ≡ j)
         → index_of (of_macro h x) (chain_keys cenv h ++ rest) ≡ length (entry_keys cenv h) + j
-    macro_key x j rest f =
-        omega (arith, after_entry h (of_macro h x) (λ n q. refl) rest, f (body_keys h ++ rest))
+    macro_key x j rest f = search (arith, rules, after_entry)
 
     pub body_key : (i : ℕ) (rest : List Key) → i < length bs
         → index_of (of_body h i) (chain_keys cenv h ++ rest) ≡ length (entry_keys cenv h) + (length ms + i)
@@ -168,6 +153,10 @@ module _ (cenv : CompileEnv) where
         let macros = past (λ (m : MacroBody). of_macro h m.name) (of_body h i) (λ m. refl) ms (body_keys h ++ rest) in
         omega
         (arith, after_entry h (of_body h i) (λ n q. refl) rest, macros, body_at h 0 i i bs rest lt (omega arith))
+
+pub entries : (cenv : CompileEnv) (k : written.Namespace)
+    → length (entry_keys cenv (namespace_view k)) ≡ bool_byte (not k.is_library)
+entries cenv k = search (arith, rules)
 
 pub chain_key : (cenv : CompileEnv) (n : Text) (rest : List Key)
     → index_of (of_chain n) (chain_keys cenv (a_chain n) ++ rest) ≡ 0
@@ -231,11 +220,11 @@ module _ {cenv : CompileEnv} {order : List Namespace} {h : Namespace} {rest : Li
 
 -- ---- one namespace at a time
 
--- The remaining namespaces are in the list, and in order.
-listed_in : (x : Namespace) (hs : List Namespace) (i : ℕ) → listed x (drop i hs) ≡ true → listed x hs ≡ true
-listed_in x hs zero e = e
-listed_in x [] (suc i) e = e
-listed_in x (h ∷ hs) (suc i) e = or_right (same_namespace h x) (listed x hs) (listed_in x hs i e)
+-- The namespace at an index is in the list, and the remaining ones are in order.
+listed_at : (hs : List Namespace) (i : ℕ) → i < length hs → listed (namespace_at hs i) hs ≡ true
+listed_at [] i lt = absurd (omega arith)
+listed_at (h ∷ hs) zero lt = search (arith, rules, namespace_is)
+listed_at (h ∷ hs) (suc i) lt = search (arith, rules, or_right, listed_at hs i)
 
 order_left : (s : Sources) (hs : List Namespace) (i : ℕ) → InOrder s hs → InOrder s (drop i hs)
 order_left s hs zero o = o
@@ -264,15 +253,12 @@ module _ (c : Chain) (i : ℕ) (lt : i < length c.namespaces.items) where
   listed_left = search (arith, rules, namespaces_left, inside, namespace_is)
 
   pub known_here : listed h (its_order c) ≡ true
-  known_here = listed_in h (its_order c) i listed_left
+  known_here = listed_at (its_order c) i inside
 
   -- Each namespace after this one differs from it.
   pub left_turn : (x : Namespace) → listed x rest ≡ true
       → (same_namespace h x ≡ false) × (listed x (drop i (its_order c)) ≡ true)
-  left_turn x a = (
-    apart h rest new_here x a,
-    ap (listed x) (namespaces_left (its_order c) i inside) ∙ or_right (same_namespace h x) (listed x rest) a,
-  )
+  left_turn x a = search (arith, rules, apart, new_here, namespaces_left, inside, or_right)
 
 -- The names that are taken for a chain or a library.
 pub names_handed : (cenv : CompileEnv) (order : List Namespace) (b : Bool) (n : Text) (k : Namespace)
@@ -280,5 +266,5 @@ pub names_handed : (cenv : CompileEnv) (order : List Namespace) (b : Bool) (n : 
     → k ≡ namespace_named b n
     → ((x : Text) → k ≡ a_chain x → old x ≡ names cenv order (a_chain x))
     → in_globals (namespace_named b n) (old n) ≡ names cenv order k
-names_handed cenv order true n k old e f = sym (no_names cenv order n) ∙ ap (names cenv order) (sym e)
+names_handed cenv order true n k old e f = sym (names_library cenv order n) ∙ ap (names cenv order) (sym e)
 names_handed cenv order false n k old e f = f n e ∙ ap (names cenv order) (sym e)

@@ -10,9 +10,8 @@ pub use Rattle.jt_chains.specs.View.{its_templates, namespace_in}
 pub use Rattle.jt_chains.specs.declared.parts.Block.{Block}
 pub use Rattle.jt_ir.specs.Slots.{global}
 pub use Rattle.jt_layout.specs.NamespaceLayout.{IsCalled, IsNamespaceAt}
-pub use Rattle.jt_layout.specs.internal.Layouts.{AreLaid, AreNames, IsLaidAt, Stands, StandsAt, all_names}
-pub use Rattle.jt_layout.specs.internal.Layouts.{defaults_from, first_namespace, its_cenv, its_order, names_at}
-pub use Rattle.jt_layout.specs.internal.Layouts.{namespace_named, namespace_of, nexts}
+pub use Rattle.jt_layout.specs.internal.Layouts.{AreLaid, AreNames, IsLaidAt, StandsAt, defaults_from, first_namespace}
+pub use Rattle.jt_layout.specs.internal.Layouts.{its_cenv, its_order, names_at, namespace_named, nexts}
 pub use Rattle.jt_names.proofs.SortedNames.{ascending_inserted, inserted_both}
 pub use Rattle.jt_names.specs.Names.{first_of, value_in}
 pub use Rattle.jt_semantics.specs.Resolve.{first_body, next_given}

@@ -1,8 +1,6 @@
 //! Collects the names of chains, from the last chain to the first.
 
-ghost use Rattle.std.specs.Prelude.{◌≡◌, ◌<◌, ◌+◌, false, [], length, drop, flat_map};
-ghost use Rattle.std.specs.Prelude.{IfOk, if◌then◌else◌, string_bytes};
-ghost use Rattle.std.specs.Str.{bytes_eq};
+ghost use Rattle.std.specs.Prelude.{◌≡◌, ◌<◌, ◌+◌, false, length, drop, IfOk, string_bytes};
 ghost use Rattle.jt_ast.specs.Texts.{texts};
 ghost use Rattle.jt_ast.specs.Expressions.{Text};
 ghost use Rattle.jt_chains.specs.Chain.{a_chain, same_namespace};
@@ -21,74 +19,41 @@ use std::alloc::{AllocError, Global};
 use std::collections::{BTreeMap, BTreeSet};
 
 /// The names of each chain, by the name of the chain. Libraries have no globals.
-#[derive(Drop)]
-pub(crate) struct CollectedNames<'a> {
-    pub(crate) names: BTreeMap<&'a str, Vec<&'a str>>,
+pub(crate) type CollectedNames<'a> = BTreeMap<&'a str, Vec<&'a str>>;
+
+/// Removes and returns the names of a chain. Returns an empty list for a library, or if no names are
+/// stored.
+pub(crate) fn take_names<'a>(
+    alloc: Global,
+    collected: &mut CollectedNames<'a>,
+    namespace: &Namespace,
+) -> Vec<&'a str>
+    ensures taken { texts result.items ≡ in_globals (namespace_view namespace.now)
+        (names_at collected.old (string_bytes namespace.now.name)) }
+    ensures others { (x : Text)
+        → same_namespace (namespace_view namespace.now) (a_chain x) ≡ false
+        → names_at collected.new x ≡ names_at collected.old x }
+{
+    if namespace.is_library {
+        return Vec::new(alloc);
+    }
+    match collected.remove(namespace.name.as_str()) {
+        Some(names) => names,
+        None => Vec::new(alloc),
+    }
 }
 
-impl<'a> CollectedNames<'a> {
-    /// Returns an empty collection.
-    fn new(alloc: Global) -> Self
-        ensures { (x : Text) → names_at result.names x ≡ [] }
-    {
-        CollectedNames {
-            names: BTreeMap::new(alloc),
-        }
-    }
-
-    /// Stores the names of a chain and replaces earlier ones.
-    fn put(&mut self, chain: &'a str, names: Vec<&'a str>) -> Result<(), NoMemory>
-        ensures { IfOk result (λ u. (x : Text)
-            → names_at self.new.names x
-            ≡ (if bytes_eq chain.now x then texts names.entry.items else names_at self.old.names
-            x)) }
-    {
-        set_entry(&mut self.names, chain, names)?;
-        Ok(())
-    }
-
-    /// Adds the names of a chain to a set, if they are stored.
-    fn add_to(&self, names: &mut BTreeSet<&'a str>, chain: &str) -> Result<(), AllocError>
-        ensures { IfOk result
-            (λ u. Puts names.old names.new (names_at self.now.names chain.now)) }
-    {
-        match self.names.get(chain) {
-            Some(others) => add_names(names, others),
-            None => Ok(()),
-        }
-    }
-
-    /// Adds the names of included chains to a set. No names are stored for a missing chain.
-    fn add_included(
-        &self,
-        names: &mut BTreeSet<&'a str>,
-        included: &[&str],
-    ) -> Result<(), AllocError>
-        ensures { IfOk result (λ u. Puts names.old names.new
-            (flat_map (names_at self.now.names) (texts included.now))) }
-    {
-        for chain in included {
-            self.add_to(names, chain)?;
-        }
-        Ok(())
-    }
-
-    /// Removes and returns the names of a chain. Returns an empty list for a library, or if no
-    /// names are stored.
-    pub(crate) fn take(&mut self, alloc: Global, namespace: &Namespace) -> Vec<&'a str>
-        ensures taken { texts result.items ≡ in_globals (namespace_view namespace.now)
-            (names_at self.old.names (string_bytes namespace.now.name)) }
-        ensures others { (x : Text)
-            → same_namespace (namespace_view namespace.now) (a_chain x) ≡ false
-            → names_at self.new.names x ≡ names_at self.old.names x }
-    {
-        if namespace.is_library {
-            return Vec::new(alloc);
-        }
-        match self.names.remove(namespace.name.as_str()) {
-            Some(names) => names,
-            None => Vec::new(alloc),
-        }
+/// Adds the names of a chain to a set, if they are stored. No names are stored for a missing chain.
+fn add_stored<'a>(
+    names: &mut BTreeSet<&'a str>,
+    stored: &CollectedNames<'a>,
+    chain: &str,
+) -> Result<(), AllocError>
+    ensures { IfOk result (λ u. Puts names.old names.new (names_at stored.now chain.now)) }
+{
+    match stored.get(chain) {
+        Some(others) => add_names(names, others),
+        None => Ok(()),
     }
 }
 
@@ -103,7 +68,7 @@ fn names_of_chain<'a>(
     requires known { AllKnown facts.now }
     requires stands { namespace < length facts.now.chain.now.namespaces.items }
     requires behind { AreNames facts.now.chain.now
-        (drop (namespace + 1) (its_order facts.now.chain.now)) behind.now.names }
+        (drop (namespace + 1) (its_order facts.now.chain.now)) behind.now }
     ensures { IfOk result (λ ns. texts ns.items ≡ all_names (its_cenv facts.now.chain.now)
         (drop (namespace + 1) (its_order facts.now.chain.now))
         (namespace_in facts.now.chain.now namespace)) }
@@ -111,7 +76,9 @@ fn names_of_chain<'a>(
     let known = facts.at(namespace);
     let mut names = BTreeSet::new(alloc);
     add_names(&mut names, &known.names)?;
-    behind.add_included(&mut names, &known.includes)?;
+    for chain in &known.includes {
+        add_stored(&mut names, behind, chain)?;
+    }
     list_of(alloc, names)
 }
 
@@ -122,10 +89,9 @@ pub(crate) fn gather<'a>(
     facts: &ChainFacts<'a>,
 ) -> Result<CollectedNames<'a>, NoMemory>
     requires { AllKnown facts.now }
-    ensures { IfOk result
-        (λ g. AreNames facts.now.chain.now (its_order facts.now.chain.now) g.names) }
+    ensures { IfOk result (λ g. AreNames facts.now.chain.now (its_order facts.now.chain.now) g) }
 {
-    let mut collected = CollectedNames::new(alloc);
+    let mut collected = BTreeMap::new(alloc);
     let mut left = facts.chain.namespaces.len();
     while left > 0 {
         left -= 1;
@@ -134,7 +100,7 @@ pub(crate) fn gather<'a>(
             continue;
         }
         let names = names_of_chain(alloc, facts, left, &collected)?;
-        collected.put(itself.name.as_str(), names)?;
+        set_entry(&mut collected, itself.name.as_str(), names)?;
     }
     Ok(collected)
 }

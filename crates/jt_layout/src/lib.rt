@@ -6,13 +6,10 @@
 //! tables.
 #![tactic(auto)]
 
-mod bodies;
 mod collected;
 mod count;
-mod front;
+mod indices;
 mod layout;
-mod macros;
-mod namespace_index;
 mod namespace_layout;
 mod namespace_tables;
 

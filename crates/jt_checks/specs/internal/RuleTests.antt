@@ -8,7 +8,8 @@ use Rattle.jt_ids.specs.LoopTable.{field_named}
 use Rattle.jt_ast.specs.Expressions as trees
 use Rattle.jt_ast.specs.Expressions.{Expr, name, attribute, Exprs, Text}
 use Rattle.jt_ast.specs.Statements.{Parameter}
-use Rattle.jt_ast.specs.Texts.{repeated}
+use Rattle.jt_ast.specs.Texts.{among, repeated}
+use Rattle.std.specs.List.{list_any}
 use Rattle.jt_chains.specs.Uses.{count, keywords}
 use Rattle.jt_chains.specs.Chain.{Namespace, bodies, given, given_to, Callee, a_super, a_block, no_callee, callee}
 use Rattle.jt_chains.specs.Chain.{is_loop}
@@ -28,6 +29,14 @@ use Rattle.jt_rules.specs.declared.error.ScopeError.TheVariants as error
 -- The rule that arguments break if they are not right.
 abbrev pub unless : Bool → Option ScopeError
 unless right = then_some (not right) error.BadArguments
+
+-- True if each of these names is that of a parameter.
+abbrev pub all_known : List Parameter → List Text → Bool
+all_known ps names = not (list_any (λ k. not (among k (parameter_names ps))) names)
+
+-- True if names occur once each, and each is that of a parameter.
+abbrev pub names_fit : List Parameter → List Text → Bool
+names_fit ps names = not (repeated names) && all_known ps names
 
 -- True if the name is a callee, or a part of one.
 abbrev pub is_only_called : Text → Bool

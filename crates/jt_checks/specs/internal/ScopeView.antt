@@ -1,6 +1,6 @@
 -- The view of a scope in contracts, and the rules in it. Only private clauses cite this module.
-use Rattle.std.specs.Prelude.{ℕ, ◌+◌, ◌-◌, ◌^◌, min, length, nat_lt, not, Bool, List, Option, Some, None}
-use Rattle.jt_ast.specs.Expressions.{Expr, name, Text}
+use Rattle.std.specs.Prelude.{ℕ, ◌+◌, ◌-◌, ◌^◌, min, length, nat_lt, not, Bool, List, Option}
+use Rattle.jt_ast.specs.Expressions.{Text}
 use Rattle.jt_ast.specs.Texts.{ascending}
 use Rattle.jt_chains.specs.Chain.{Namespace, a_chain, a_library, Sources, Definition, given, given_to, bodies}
 use Rattle.jt_chains.specs.Chain.{libraries}
@@ -57,8 +57,3 @@ names_of cenv (a_library n) = 0
 -- The number, or the greatest 64-bit number if that is less.
 abbrev pub capped : ℕ → ℕ
 capped n = min n (2 ^ 64 - 1)
-
--- The name of an expression that is a bare name.
-abbrev pub name_in : Expr → Option Text
-name_in (name x) = Some x
-name_in e = None

@@ -39,25 +39,19 @@ first g [] = None
 first g (x ∷ xs) = option_or (g x) (first g xs)
 
 module _ (cenv : CompileEnv) (namespace : Namespace) where
-  -- The rule that a use breaks.
-  abbrev pub site_broken : Site → Option ScopeError
-  site_broken s = rules.use_broken cenv namespace s.made s.place.around
-
   -- The finding at a use, in the template of this name.
   abbrev pub site_finding : Text → Site → Option Finding
-  site_finding n s = finding_of n s.place.line (subject_of s.made) (site_broken s)
+  site_finding n s =
+      finding_of n s.place.line (subject_of s.made) (rules.use_broken cenv namespace s.made s.place.around)
 
   -- The first finding at uses.
   abbrev pub uses_broken : Text → List Site → Option Finding
   uses_broken n = first (site_finding n)
 
-  -- The first finding in a template, by its name and its uses.
-  abbrev pub found_in : Text → List Site → Option Finding
-  found_in n ss =
-      option_or (uses_broken n ss) (option_map (finding_over n) (slice_get (lines_bound ss) max_bindings))
-
+  -- The first finding in a template.
   abbrev pub template_broken : Template → Option Finding
-  template_broken t = found_in t.name (body_uses t.body outside)
+  template_broken t =
+      option_or (uses_broken t.name (body_uses t.body outside)) (option_map (finding_over t.name) (line_over t.body))
 
   abbrev pub templates_broken : List Template → Option Finding
   templates_broken = first template_broken

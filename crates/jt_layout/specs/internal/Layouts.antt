@@ -19,7 +19,7 @@ use Rattle.jt_semantics.specs.Layout.{unit, first_in, first_slot, default_in, de
 use Rattle.jt_semantics.specs.Resolve.{next_given}
 use Rattle.jt_names.specs.Names.{value_in}
 use Rattle.jt_layout.specs.NamespaceLayout.{IsLaid}
-use Rattle.jt_layout.specs.declared.front.FirstFree.{FirstFree}
+use Rattle.jt_layout.specs.declared.layout.FirstFree.{FirstFree}
 use Rattle.jt_layout.specs.declared.namespace_layout.NamespaceLayout.{NamespaceLayout}
 
 -- The chain or the library of a name.

@@ -1,9 +1,16 @@
+use Rattle.std.proofs.lemmas.Iterator.Search.{all_from_yields_List}
+use Rattle.std.proofs.lemmas.Iterator.{YieldsList-from_slice}
+use Rattle.jt_ast.specs.StatementView.{parameters_view}
+use Rattle.jt_checks.specs.internal.RuleTests.{all_known, parameter_names}
 use Rattle.jt_checks.proofs.arguments.names_fit.Goals as goal
-use Rattle.jt_checks.proofs.{sym, ◌∙◌, ap, texts, equal_ok, well_named}
+use Rattle.jt_checks.proofs.{◌∙◌, ◌≡◌, arith, rules, tests, Bor, Text, among, texts, among_first, all_in}
 
 pub returns : goal.returns
 returns c =
-    equal_ok c.all_known.result _ _
-    (well_named c.args.parameters.now c.args.filled c.min-from.result _ _ c.min-from.ensures
-    (ap texts c.deref.ensures.value ∙ c.in_ok-left.ensures) (sym c.if-branch.false ∙ c.in_ok-any_repeated.ensures))
-    c.all_known.ensures
+    let ps = parameters_view c.args.left.now in
+    let known : c.all.result ≡ all_known ps (texts c.args.names.now) =
+    all_from_yields_List (λ (k : Bor Text). among k.now (parameter_names ps)) _ _ _ c.all.ensures.ran
+    (YieldsList-from_slice c.args.names.now cc)
+    (λ x b q k. search (rules, tests, c.in_ok-index.ensures, c.in_ok-known.ensures, c.deref.ensures.value, among_first))
+    ∙ all_in ps c.args.names.now in
+    search (arith, rules)

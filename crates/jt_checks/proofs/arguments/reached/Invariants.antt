@@ -1,12 +1,14 @@
-use Rattle.jt_ast.specs.StatementView as parsed
+use Rattle.jt_ast.specs.StatementView.{parameters_view}
+use Rattle.jt_rules.specs.Arguments as rules
 use Rattle.jt_checks.proofs.arguments.reached.Given as goal
-use Rattle.jt_checks.proofs.{◌≡◌, ◌≤◌, length, drop, false, some_given, texts}
+use Rattle.jt_checks.proofs.{◌≡◌, ◌+◌, ◌≤◌, length, drop, texts}
 
-abbrev pub invariant-loop-last : goal.invariant-loop-last
-invariant-loop-last l = record {
-  within : l.last ≤ length l.parameters;
-  none : some_given (parsed.parameters_view (drop l.last l.parameters)) (texts l.names) ≡ false;
+abbrev pub invariant-loop-left : goal.invariant-loop-left
+invariant-loop-left l = record {
+  within : l.count + l.left ≤ length l.parameters;
+  count : l.count ≡ rules.reached (parameters_view (drop l.left l.parameters)) (texts l.names);
+  filled : l.filled ≡ rules.is_filled (parameters_view (drop l.left l.parameters)) 0 (texts l.names);
 }
 
-abbrev pub decreases-loop-last : goal.decreases-loop-last
-decreases-loop-last l = l.last
+abbrev pub decreases-loop-left : goal.decreases-loop-left
+decreases-loop-left l = l.left

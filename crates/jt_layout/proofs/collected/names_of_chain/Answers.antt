@@ -1,13 +1,18 @@
 use Rattle.jt_layout.proofs.collected.names_of_chain.Goals as goal
 use Rattle.std.proofs.lemmas.Result.{IfOk-weaker}
+use Rattle.std.proofs.lemmas.List.{drop_all}
 use Rattle.jt_ast.specs.Texts.{texts}
 use Rattle.jt_layout.proofs.{Global, Vec, ap, ◌∙◌, ◌≡◌, arith, rules, Bor, Text, namespace_in, its_cenv, all_stored}
+use Rattle.jt_layout.proofs.{inserted_both, drop_more}
+
+pub loop-chain-preserved : goal.loop-chain-preserved
+loop-chain-preserved c = search (arith, rules, inserted_both, drop_more)
 
 pub returns : goal.returns
 returns c =
     let chain = c.args.facts.now.chain.now in
-    IfOk-weaker c.list_of.result (λ (v : Vec (Bor Text) Global). v.items ≡ c.add_included.new.names.keys) _
-    (λ v p. all_stored (its_cenv chain) _ (namespace_in chain c.args.namespace) c.args.behind.now.names
-    c.requires.behind (texts c.deref-2.result.now) _
-    (ap texts c.deref-2.ensures.value ∙ c.at-known.ensures.all_includes)
-    (search (arith, rules))) c.list_of.ensures
+    IfOk-weaker c.list_of.result (λ (v : Vec (Bor Text) Global). v.items ≡ c.loop-chain.names.keys) _
+    (λ v p. all_stored (its_cenv chain) _ (namespace_in chain c.args.namespace) c.args.behind.now c.requires.behind
+    (texts c.deref-chain-items.result.now) _
+    (ap texts c.deref-chain-items.ensures.value ∙ c.at-known.ensures.all_includes)
+    (search (arith, rules, drop_all, c.new-names.ensures.empty, c.at-known.ensures.names, c.deref.ensures.value))) c.list_of.ensures

@@ -6,7 +6,7 @@ use Rattle.jt_layout.proofs.{ap, length, map, sym, ◌&&◌, ◌+◌, ◌∙◌,
 use Rattle.jt_layout.proofs.{rules, length-map, list_any, option_map, slice_get, bytes_eq, texts, name_of_namespace}
 use Rattle.jt_layout.proofs.{block_view, macro_view, namespace_in, global, first_of, nexts, its_cenv, its_order}
 use Rattle.jt_layout.proofs.{first_bodies, in_slots, length-counted, length-nexts, next_at, body_units, chain_unit}
-use Rattle.jt_layout.proofs.{first_here, front_turn, is_called, known_here, new_here, scoped_laid, slot_here}
+use Rattle.jt_layout.proofs.{first_here, entries, front_turn, is_called, known_here, new_here, scoped_laid, slot_here}
 
 pub returns : goal.returns
 returns c =
@@ -30,7 +30,7 @@ returns c =
     let is = name_of_namespace a.namespaces.items i k lt c.index-itself.ensures in
     let macro_unit : c.in_ok-macro_unit.macro_unit ≡ f.unit + length (layout.entry_keys W h) =
     omega
-    (arith, c.in_ok-macro_unit.ensures, c.entries_of.ensures W, ap (λ z. length (layout.entry_keys W z)) is) in
+    (arith, c.in_ok-macro_unit.ensures, c.from.ensures, entries W k, ap (λ z. length (layout.entry_keys W z)) is) in
     let unit : c.in_ok-body_unit.body_unit
     ≡ f.unit + (length (layout.entry_keys W h) + length (macros W.sources h)) =
     omega (arith, c.in_ok-body_unit.ensures, c.len.ensures, known.macros.ok.0, macro_count) in
@@ -74,13 +74,13 @@ returns c =
           front_turn s (new_here a i lt) _
           (omega (
             arith,
-            c.in_ok-behind_slot.ensures,
+            c.in_ok-checked_sum.ensures,
             c.len-2.ensures,
             c.args.names.ok.0,
             length-map c.args.names.items (λ k. k.now),
             ap length c.requires.named,
           ))
-          (omega (arith, unit, c.in_ok-behind_unit.ensures, c.len-3.ensures, known.blocks.ok.0, body_count))
+          (omega (arith, unit, c.in_ok-checked_sum-2.ensures, c.len-3.ensures, known.blocks.ok.0, body_count))
           (c.in_ok-defaults.ensures.ended ts
           ∙ ap (λ z. f.default + length (layout.defaults_of z))
           (ap (map (macro_view ts)) c.deref-4.ensures.value ∙ facts.all_macros));
