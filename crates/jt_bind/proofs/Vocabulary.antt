@@ -6,8 +6,7 @@ pub use Rattle.std.proofs.lemmas.List.{reverse-append, take-map, take_at, take_m
 pub use Rattle.std.proofs.lemmas.Result.{IfOk-weaker}
 pub use Rattle.std.proofs.lemmas.Simd.{map-map}
 pub use Rattle.jt_ast.proofs.RemainingParts.{Branch, branches_left, names_left, pairs_left, row_left, statements_left}
-pub use Rattle.jt_ir.proofs.ExpressionViews.{Entry, filters_push, row_push, view_Conjunction, view_Disjunction}
-pub use Rattle.jt_ir.proofs.ExpressionViews.{view_Field, view_Invoke, view_Made, view_Variable}
-pub use Rattle.jt_ir.proofs.StatementViews.{SBranch, body_push, choice_push, joined, view_Assign, view_Capture}
-pub use Rattle.jt_ir.proofs.StatementViews.{view_For, view_If, view_PutPooled, view_Run}
+pub use Rattle.jt_ir.proofs.ExpressionViews.{Entry, filters_push, row_push, view_Field, view_Invoke, view_Made}
+pub use Rattle.jt_ir.proofs.ExpressionViews.{view_Variable}
+pub use Rattle.jt_ir.proofs.StatementViews.{SBranch, view_Capture, view_For, view_If}
 pub use Rattle.jt_layout.proofs.FirstOccurrences.{namespaces_left}
