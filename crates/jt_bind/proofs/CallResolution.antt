@@ -22,14 +22,14 @@ use internal.{invoked_body, reads, first_locals, parameter_view, parameters_view
 use internal.{value_or, filled, filled_some, filters_of, ◌++◌, take, filter_id, Exprs, Pairs, Tree, filter_call_view}
 use internal.{filter_calls_view, expr_values, row_values, SlotExpr, NaryOp, row_view, Resolver, IsPlaced, RowLeads}
 use Rattle.jt_bind.proofs.Vocabulary
-use Vocabulary.{ap, ◌∙◌, arith, inl, inr, rules, add-one, drop_more, sym, drop-map, append-nil, take_more, map-append}
-use Vocabulary.{Entry}
+use Vocabulary.{ap, ◌∙◌, arith, inl, inr, rules, add-one, drop_more, sym, drop-map, append-nil, append_assoc, take_more}
+use Vocabulary.{map-append, Entry}
 use Rattle.jt_ast.specs.declared.statement.Parameter.{Parameter}
 use Rattle.jt_filter_semantics.specs.FilterIds.{filter_of}
 use Rattle.jt_ids.specs.declared.filter_id.FilterId.{FilterId}
 use Rattle.jt_ast.specs.declared.statement.FilterCall.{FilterCall}
 use Rattle.jt_eval.specs.TheFilters.{the_filters, filter_parameters, filter_written, parameters_of}
-use Rattle.jt_bind.proofs.Concatenation.{grown_by, both_pooled}
+use Rattle.jt_bind.proofs.Concatenation.{grown_by}
 
 -- ---- the namespace of a called macro
 
@@ -186,5 +186,5 @@ pub filter_placed : (k : NaryOp) (c : SlotExpr Constant) (es : SRow Constant) (x
     → IsPlaced (slots.made k (slots.item c es)) (slots.made k (slots.item x (row_view row slots.none))) p r
 filter_placed k c es x row p q r h g = record {
   shown = rw (h.shown, g.shown, grown_by p (expr_values c) q h.pooled);
-  pooled = both_pooled p (expr_values c) (row_values es) q r h.pooled (rw append-nil at g.pooled);
+  pooled = let added = rw append-nil at g.pooled in rw (added, h.pooled, append_assoc);
 }

@@ -28,10 +28,6 @@ use Rattle.jt_ir.proofs.StatementViews.{view_Run}
 pub grown_by : (p xs q : List Tree) → q ≡ p ++ xs → length q ≡ length p + length xs
 grown_by p xs q e = ap length e ∙ length-append p xs
 
--- The values of two parts.
-pub both_pooled : (p xs ys q r : List Tree) → q ≡ p ++ xs → r ≡ q ++ ys → r ≡ p ++ (xs ++ ys)
-both_pooled p xs ys q r e f = f ∙ ap (λ l. l ++ ys) e ∙ append_assoc p xs ys
-
 -- ---- parts of any kind
 
 module _ {Part Item Shown : Type 0} {front : List Item → Shown → Shown} {placed : Part → ℕ → Shown}
@@ -82,11 +78,6 @@ followed_again (slots.stmt s rest) b c = ap (slots.stmt s) (followed_again rest 
 pub followed_values : (a b : SBody Constant) → body_values (followed a b) ≡ body_values a ++ body_values b
 followed_values slots.end b = refl
 followed_values (slots.stmt s rest) b = search (arith, rules, followed_values rest b, append_assoc)
-
--- A pool with one more value.
-pub value_push : (is ks : List Value) (x : Value) (v : Tree) → ks ≡ is ++ x ∷ [] → view x ≡ v
-    → map view ks ≡ map view is ++ v ∷ []
-value_push is ks x v e f = rw (e, map-append, f)
 
 module _ (templates : List Text) where
   -- ---- concatenation of parts

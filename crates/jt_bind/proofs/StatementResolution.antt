@@ -4,11 +4,12 @@ use Rattle.jt_ast.specs.Expressions as expressions
 use Rattle.jt_ast.specs.Statements as trees
 use Rattle.jt_ir.specs.Slots as slots
 use Rattle.jt_bind.specs.declared.senv.StaticEnv as code_senv
-use Rattle.jt_semantics.specs.Resolve.{StaticEnv, placed_body, resolved_body, handed_on, left_out, place, resolved_values}
+use Rattle.jt_semantics.specs.Resolve.{StaticEnv, placed_body, resolved_body, handed_on, left_out, place}
+use Rattle.jt_semantics.specs.Resolve.{resolved_values, copied}
 use Rattle.jt_bind.specs.internal
 use internal.{alone, Place, ◌≡◌, ℕ, suc, ◌+◌, ◌<◌, List, [], ◌∷◌, length, drop, get_or, refl, Option, Bor, Tree, Pairs}
 use internal.{no_pairs, pair, Text, Namespace, set_in, CompileEnv, texts, Constant, Slot, SlotExpr, SBody, local}
-use internal.{global, one, Targets, SlotStmt, Table, slot_in, read_from, followed, copied, assigned, slot_after, Turns}
+use internal.{global, one, Targets, SlotStmt, Table, slot_in, read_from, followed, assigned, slot_after, Turns}
 use internal.{Resolver, IsPlaced, BodyLeads, Emits, IsHead, AreTurns, condition_in, templates_of, senv_of, table_of}
 use internal.{line_of, stmt_of, body_of, scoped_of, values_of, filters_of, inside_of, flat_map, Bool, true, false, Some}
 use internal.{None, if◌then◌else◌, option_map, is_none, a_chain, listed, of_body, names, first_slot, unit}

@@ -4,12 +4,11 @@ ghost use Rattle.jt_value.specs.Tree as tree;
 ghost use Rattle.jt_ast.specs.Statements as trees;
 ghost use Rattle.jt_ir.specs.Slots as slots;
 ghost use Rattle.jt_ir.specs.declared.program.SlotStmt.TheVariants as s;
-ghost use Rattle.std.specs.Prelude.{◌++◌, ◌∷◌, ◌≡◌};
+ghost use Rattle.std.specs.Prelude.{if◌then◌else◌, ◌++◌, ◌∷◌, ◌≡◌};
 ghost use Rattle.jt_semantics.specs.Resolve as resolve;
-ghost use Rattle.std.specs.Prelude.{if◌then◌else◌};
 ghost use Rattle.jt_bind.specs.internal.{alone, IfOk, List, [], IsShown, PutsStmt, templates_of};
-ghost use Rattle.jt_bind.specs.internal.{Emits, line_of, place_of, Constant, PutsNone};
-ghost use Rattle.jt_bind.specs.internal.{assigned, slot_after, slot_in, slot_view, table_of, texts};
+ghost use Rattle.jt_bind.specs.internal.{Emits, line_of, place_of, Constant, PutsNone, assigned};
+ghost use Rattle.jt_bind.specs.internal.{slot_after, slot_in, slot_view, table_of, texts};
 
 use crate::Result;
 use crate::held::Held;
@@ -47,6 +46,52 @@ impl<'t, 'f, 's, 'a> Resolver<'t, 'f, 's, 'a> {
     {
         let filters = Vec::new(*done.allocator());
         put_filtered(&self.senv, line, Filtered { value, filters }, done)
+    }
+
+    /// Returns a read of the name if `with_context` is true, or else the undefined value.
+    fn handed(&self, with_context: bool, name: &str) -> SlotExpr
+        ensures { PutsNone (resolve.read_from
+            (slot_in name.now (if with_context then table_of self.now else []))) result }
+    {
+        if with_context {
+            reading(self.slot(name))
+        } else {
+            reading(None)
+        }
+    }
+
+    /// Emits assignments of the names' values to consecutive slots from `first` on. The values are
+    /// undefined if `with_context` is false.
+    #[inline(never)]
+    pub(crate) fn put_values(
+        &self,
+        line: u32,
+        with_context: bool,
+        names: &[&str],
+        first: Slot,
+        done: &mut SlotBody,
+    ) -> Result<()>
+        ensures { IfOk result (λ u. (p : List tree.Tree) → Emits (templates_of self.now)
+            (assigned (line_of self.now line) (if with_context then table_of self.now else [])
+            (slot_view first) (texts names.now)) done.old.items done.new.items p p) }
+    {
+        let mut slot = first;
+        for name in names {
+            let value = self.handed(with_context, *name);
+            put_assign(&self.senv, line, Targets::One(slot), value, done)?;
+            slot = next_slot(slot)?;
+        }
+        Ok(())
+    }
+}
+
+/// Returns the slot after `slot`.
+fn next_slot(slot: Slot) -> Result<Slot>
+    ensures { IfOk result (λ s. slot_view s ≡ slot_after (slot_view slot)) }
+{
+    match slot {
+        Slot::Local(local) => Ok(Slot::Local(checked_sum(local, 1)?)),
+        Slot::Global(global) => Ok(Slot::Global(checked_sum(global, 1)?)),
     }
 }
 
@@ -87,54 +132,6 @@ pub(crate) fn put_assign(
         value,
     })?;
     Ok(())
-}
-
-/// Returns the slot after `slot`.
-fn next_slot(slot: Slot) -> Result<Slot>
-    ensures { IfOk result (λ s. slot_view s ≡ slot_after (slot_view slot)) }
-{
-    match slot {
-        Slot::Local(local) => Ok(Slot::Local(checked_sum(local, 1)?)),
-        Slot::Global(global) => Ok(Slot::Global(checked_sum(global, 1)?)),
-    }
-}
-
-impl<'t, 'f, 's, 'a> Resolver<'t, 'f, 's, 'a> {
-    /// Returns a read of the name if `with_context` is true, or else the undefined value.
-    fn handed(&self, with_context: bool, name: &str) -> SlotExpr
-        ensures { PutsNone (resolve.read_from
-            (slot_in name.now (if with_context then table_of self.now else []))) result }
-    {
-        if with_context {
-            reading(self.slot(name))
-        } else {
-            reading(None)
-        }
-    }
-
-    /// Emits assignments of the names' values to consecutive slots from `first` on. The values are
-    /// undefined if `with_context` is false.
-    #[inline(never)]
-    pub(crate) fn put_values(
-        &self,
-        line: u32,
-        with_context: bool,
-        names: &[&str],
-        first: Slot,
-        done: &mut SlotBody,
-    ) -> Result<()>
-        ensures { IfOk result (λ u. (p : List tree.Tree) → Emits (templates_of self.now)
-            (assigned (line_of self.now line) (if with_context then table_of self.now else [])
-            (slot_view first) (texts names.now)) done.old.items done.new.items p p) }
-    {
-        let mut slot = first;
-        for name in names {
-            let value = self.handed(with_context, *name);
-            put_assign(&self.senv, line, Targets::One(slot), value, done)?;
-            slot = next_slot(slot)?;
-        }
-        Ok(())
-    }
 }
 
 /// Appends a resolved branch to others.

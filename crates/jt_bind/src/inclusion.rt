@@ -4,8 +4,8 @@ ghost use Rattle.jt_semantics.specs.Resolve as resolve;
 ghost use Rattle.jt_ast.specs.Statements as trees;
 ghost use Rattle.std.specs.Prelude.{if◌then◌else◌, ◌≡◌};
 ghost use Rattle.jt_bind.specs.internal.{Bool, IfOk, List, ℕ, is_ignored, passes_context, Chains};
-ghost use Rattle.jt_bind.specs.internal.{stmt_of, templates_of, globals_in, senv_in, senv_of, Emits};
-ghost use Rattle.jt_bind.specs.internal.{Tree};
+ghost use Rattle.jt_bind.specs.internal.{stmt_of, templates_of, globals_in, senv_in, senv_of};
+ghost use Rattle.jt_bind.specs.internal.{Emits, Tree};
 
 use crate::Result;
 use crate::emission::{SlotBody, put_run};

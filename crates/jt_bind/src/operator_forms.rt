@@ -6,10 +6,9 @@ ghost use Rattle.jt_ir.specs.Slots as slots;
 ghost use Rattle.jt_ids.specs.declared.op_id.OpId.TheVariants as op;
 ghost use Rattle.jt_value.specs.Tree as tree;
 ghost use Rattle.std.specs.Prelude.{IfErr, pos, ◌≡◌, ◌≤◌, ◌^◌};
-ghost use Rattle.jt_bind.specs.internal.{IfOk, List, literal_view, parameter_view};
-ghost use Rattle.jt_bind.specs.internal.{form_view, shortcut_view, IsAdded, IsShown, MadeOfOne};
-ghost use Rattle.jt_bind.specs.internal.{turn_in, values, default_value, literal, Constant, Tree};
-ghost use Rattle.jt_bind.specs.internal.{view};
+ghost use Rattle.jt_bind.specs.internal.{IfOk, List, literal_view, parameter_view, form_view};
+ghost use Rattle.jt_bind.specs.internal.{shortcut_view, IsAdded, IsShown, MadeOfOne, turn_in};
+ghost use Rattle.jt_bind.specs.internal.{values, default_value, literal, Constant, Tree, view};
 
 use crate::Result;
 use crate::held::Held;

@@ -5,9 +5,8 @@ ghost use Rattle.jt_semantics.specs.Resolve as resolve;
 ghost use Rattle.std.specs.Prelude.{◌≡◌};
 ghost use Rattle.jt_bind.specs.internal.{senv_of, layer_at, IfOk, body_view, texts, Puts, sets_of};
 ghost use Rattle.jt_bind.specs.internal.{AreRoutines, IsRoutine, blocks_in, cenv_in, entry_in};
-ghost use Rattle.jt_bind.specs.internal.{macros_in, routines_in, cenv_in, order_in, senv_in};
-ghost use Rattle.jt_bind.specs.internal.{templates_in, templates_of, top_in, values, Emits};
-ghost use Rattle.jt_bind.specs.internal.{layers_in};
+ghost use Rattle.jt_bind.specs.internal.{macros_in, routines_in, order_in, senv_in, templates_in};
+ghost use Rattle.jt_bind.specs.internal.{templates_of, top_in, values, Emits, layers_in};
 
 use crate::Result;
 use crate::emission::SlotBody;
@@ -72,6 +71,7 @@ impl<'t, 'f, 's, 'a> Resolver<'t, 'f, 's, 'a> {
 
     /// Resolves the statements of a template of a chain, and appends them. If the template is not
     /// the root, only the statements that set names are resolved.
+    #[tactic(auto, using(crate::proofs::Concatenation::emits_of))]
     fn resolve_layer(
         &self,
         body: &'a [Stmt],

@@ -7,9 +7,9 @@ ghost use Rattle.jt_semantics.specs.Resolve as resolve;
 ghost use Rattle.jt_ast.specs.Statements as trees;
 ghost use Rattle.jt_ir.specs.Slots as slots;
 ghost use Rattle.std.specs.Prelude.{if◌then◌else◌};
-ghost use Rattle.jt_bind.specs.internal.{values_of, condition_in, IfOk, [], option_map};
-ghost use Rattle.jt_bind.specs.internal.{pairs_view, body_view, branches_view, filter_calls_view};
-ghost use Rattle.jt_bind.specs.internal.{names_view, texts, AreTurns, IsBranch, Puts, PutsStmt, line_of};
+ghost use Rattle.jt_bind.specs.internal.{values_of, condition_in, IfOk, [], option_map, pairs_view};
+ghost use Rattle.jt_bind.specs.internal.{body_view, branches_view, filter_calls_view, names_view};
+ghost use Rattle.jt_bind.specs.internal.{texts, AreTurns, IsBranch, Puts, PutsStmt, line_of};
 ghost use Rattle.jt_bind.specs.internal.{body_of, expr_of, inside_of, scoped_of, senv_of, stmt_of};
 ghost use Rattle.jt_bind.specs.internal.{templates_of, values, Emits, IsAsked, IsHead, slot_view};
 

@@ -1,5 +1,6 @@
 -- The resolved statements and routines of a chain, and the resolved parts in the environment of a
 -- resolver. Only private clauses cite this module.
+use Rattle.jt_ir.specs.Pool.{placed_routine, placed_routines, routines_values}
 use Rattle.jt_bind.specs.declared.emission.LoopHead.{LoopHead}
 use Rattle.jt_bind.specs.internal.Selected.{Chains}
 use Rattle.jt_ast.specs.Statements as trees
@@ -17,9 +18,8 @@ use Rattle.jt_bind.specs.internal.Vocabulary
 use Vocabulary.{ℕ, Bool, List, [], map, length, Option, option_map, Tree, Text, Template, layer_view, Layer, Constant}
 use Vocabulary.{condition_values, body_values, placed_condition, placed_body, SBody, Front, place_view, targets_view}
 use Vocabulary.{expr_view, choice_view, SlotBranch, SlotStmt, followed, Turns, StaticEnv, MacroBody, BlockBody, Vec}
-use Vocabulary.{Value, macros, routines_values, placed_routine, placed_routines, routine_view, Routine, Stmt}
-use Vocabulary.{exprs_view, pairs_view, parameters_view, count, keywords, set_in, CompileEnv, Namespace, SRow, Table}
-use Vocabulary.{filled_some, locals_from, Signature, Arguments, Resolver}
+use Vocabulary.{Value, macros, routine_view, Routine, Stmt, exprs_view, pairs_view, parameters_view, count, keywords}
+use Vocabulary.{set_in, CompileEnv, Namespace, SRow, Table, filled_some, locals_from, Signature, Arguments, Resolver}
 use Rattle.jt_bind.specs.internal.Scoped.{files_in, IsPlaced, BodyLeads, cenv_in, order_in, namespace_in, templates_in}
 use Rattle.jt_bind.specs.internal.Scoped.{numbered_in, values, IsAdded, RowLeads, senv_in, Leads, Appended}
 use Rattle.std.specs.declared.alloc.Global.{Global}

@@ -3,7 +3,7 @@ pub use Rattle.std.specs.Option.{is_none}
 pub use Rattle.std.specs.Prelude.{Bool, Box, IfOk, List, None, Option, Some, String, Vec, [], codes, drop, false}
 pub use Rattle.std.specs.Prelude.{filter, flat_map, get_or, if◌then◌else◌, is_some, length, map, max, option_map, pos}
 pub use Rattle.std.specs.Prelude.{refl, reverse, string_bytes, suc, take, true, unwrap_or, zero, ℕ, ◌*◌, ◌++◌, ◌+◌, ◌-◌}
-pub use Rattle.std.specs.Prelude.{◌<◌, ◌==◌, ◌||◌, ◌∷◌, ◌≡◌, ◌≤◌}
+pub use Rattle.std.specs.Prelude.{◌<◌, ◌==◌, ◌∷◌, ◌≡◌, ◌≤◌}
 pub use Rattle.std.specs.Str.{bytes_eq}
 pub use Rattle.std.specs.declared.rc.Rc.{Rc}
 pub use denote.Param.Weighed.{most}
@@ -33,8 +33,7 @@ pub use Rattle.jt_ids.specs.declared.loop_field.LoopField.TheVariants.{Index0}
 pub use Rattle.jt_ir.specs.Locals.{body_locals, condition_locals, expr_locals, row_locals, slot_locals, slots_locals}
 pub use Rattle.jt_ir.specs.Locals.{stmt_locals}
 pub use Rattle.jt_ir.specs.Pool.{Constant, body_values, condition_values, expr_values, known, own, placed_body}
-pub use Rattle.jt_ir.specs.Pool.{placed_condition, placed_expr, placed_routine, placed_routines, placed_row}
-pub use Rattle.jt_ir.specs.Pool.{placed_stmt, routines_values, row_values, stmt_values}
+pub use Rattle.jt_ir.specs.Pool.{placed_condition, placed_expr, placed_row, placed_stmt, row_values, stmt_values}
 pub use Rattle.jt_ir.specs.Slots.{NaryOp, SBody, SRow, Slot, SlotExpr, Targets, absent, end, global, invoke, item}
 pub use Rattle.jt_ir.specs.Slots.{local, none, one, several, variable}
 pub use Rattle.jt_ir.specs.View.{Front, choice_view, entry_front, expr_view, filtered_view, filters_after, nary_op_view}
@@ -48,7 +47,7 @@ pub use Rattle.jt_names.specs.Names.{value_in}
 pub use Rattle.jt_rules.specs.CompileEnv.{CompileEnv, cenv_of}
 pub use Rattle.jt_semantics.specs.Layout.{Table, block_parameters, counted_from, defaults_of, first_slot, keys, names}
 pub use Rattle.jt_semantics.specs.Layout.{numbered_of, of_body, slot_in, unit}
-pub use Rattle.jt_semantics.specs.Resolve.{Part, alone, bound_all, bound_table, copied, filled, filled_some, first_body}
+pub use Rattle.jt_semantics.specs.Resolve.{Part, alone, bound_all, bound_table, filled, filled_some, first_body}
 pub use Rattle.jt_semantics.specs.Resolve.{first_locals, followed, fresh, invoked_body, kept_slots, locals_from}
 pub use Rattle.jt_semantics.specs.Resolve.{next_given, read_from, reads, resolved_chain, set_targets, value_or}
 pub use Rattle.jt_value.specs.Place.{Place}

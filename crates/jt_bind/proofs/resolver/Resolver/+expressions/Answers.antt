@@ -3,7 +3,8 @@ use Rattle.jt_ast.proofs.ExpressionViews.{view_Call, view_Filter, view_Test}
 use Rattle.jt_ids.specs.declared.op_id.OpId.TheVariants as op
 use Rattle.jt_ir.specs.Slots as slots
 use Rattle.jt_ir.specs.declared.program.NaryOp.TheVariants as m
-use Rattle.jt_bind.specs.internal.{None, Some, exprs_view, filled_of, filter_id, filter_row_of, own, pairs_view, row_of, values}
+use Rattle.jt_bind.specs.internal.{None, Some, exprs_view, filled_of, filter_id, filter_row_of, own, pairs_view, row_of}
+use Rattle.jt_bind.specs.internal.{values}
 use Rattle.jt_bind.proofs
 use proofs.{drop_all, ◌∙◌, arith, add-one, IfOk-weaker, count_length, call_depth, filter_depth, test_depth, named_is}
 use proofs.{parameters_are, lead_both, row_entry, made_placed, invoked_placed, row_left, pairs_left}

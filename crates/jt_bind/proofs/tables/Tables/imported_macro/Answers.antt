@@ -1,7 +1,7 @@
 use Rattle.jt_ast.specs.Expressions as trees
 use Rattle.jt_bind.specs.internal
-use internal.{◌≡◌, Some, refl, a_library, macros, macro_of, given_to, library_of, of_namespace}
-use internal.{cenv_in, given_in, callee_in}
+use internal.{◌≡◌, Some, refl, a_library, macros, macro_of, given_to, library_of, of_namespace, cenv_in, given_in}
+use internal.{callee_in}
 use Rattle.jt_bind.proofs
 use proofs.{sym, ap, ◌∙◌, arith, rules, IfOk-weaker, called_there, member_is, no_library, private_is, public_is}
 use Rattle.jt_bind.proofs.tables.Tables.imported_macro.Goals as goal
