@@ -3,34 +3,34 @@ use Rattle.jt_ir.specs.Slots.{SlotStmt}
 use Rattle.jt_ir.proofs.ExpressionViews.{row_left}
 use Rattle.jt_ir.specs.Slots as slots
 use Rattle.jt_ir.specs.declared.program.Slot as code_slot
-use Rattle.jt_bind.specs.internal.{entry_front, up_to, Reaches, ◌≡◌, ℕ, ◌+◌, ◌<◌, List, [], ◌∷◌, length, map, drop}
-use Rattle.jt_bind.specs.internal.{get_or, refl, max, Option, Some, None, option_map, Text, slots_locals, expr_locals}
-use Rattle.jt_bind.specs.internal.{row_locals, condition_locals, stmt_locals, body_locals, Constant, placed_expr}
-use Rattle.jt_bind.specs.internal.{placed_row, placed_condition, placed_stmt, placed_body, SlotExpr, SRow, SBody, Front}
-use Rattle.jt_bind.specs.internal.{slot_view, expr_view, row_view, choice_view, filters_after, SlotFilter}
-use Rattle.jt_bind.specs.internal.{target_locals, branches_locals}
+use Rattle.jt_bind.specs.internal
+use internal.{entry_front, up_to, Reaches, ◌≡◌, ℕ, ◌+◌, ◌<◌, List, [], ◌∷◌, length, map, drop, get_or, refl, max}
+use internal.{Option, Some, None, option_map, Text, slots_locals, expr_locals, row_locals, condition_locals}
+use internal.{stmt_locals, body_locals, Constant, placed_expr, placed_row, placed_condition, placed_stmt, placed_body}
+use internal.{SlotExpr, SRow, SBody, Front, slot_view, expr_view, row_view, choice_view, filters_after, SlotFilter}
+use internal.{target_locals, branches_locals}
 use Rattle.jt_bind.proofs.Vocabulary.{sym, ap, ◌∙◌, arith, rules, drop_more, SBranch, Entry}
 
 -- ---- the count does not depend on pool indices
 
-both_counted : (a b c d : ℕ) → a ≡ b → c ≡ d → max a c ≡ max b d
-both_counted a b c d e f = ap (λ n. max n c) e ∙ ap (max b) f
+both_counted : {a b c d : ℕ} → a ≡ b → c ≡ d → max a c ≡ max b d
+both_counted e f = rw (e, f)
 
 mutual
   pub expr_counted : (e : SlotExpr Constant) (n : ℕ) → expr_locals (placed_expr e n) ≡ expr_locals e
   expr_counted (slots.made k es) n = row_counted es n
-  expr_counted (slots.conjunction a b) n = both_counted _ _ _ _ (expr_counted a _) (expr_counted b _)
-  expr_counted (slots.disjunction a b) n = both_counted _ _ _ _ (expr_counted a _) (expr_counted b _)
+  expr_counted (slots.conjunction a b) n = both_counted (expr_counted a _) (expr_counted b _)
+  expr_counted (slots.disjunction a b) n = both_counted (expr_counted a _) (expr_counted b _)
   expr_counted (slots.choice c a b) n =
-      both_counted _ _ _ _ (expr_counted c _) (both_counted _ _ _ _ (expr_counted a _) (expr_counted b _))
+      both_counted (expr_counted c _) (both_counted (expr_counted a _) (expr_counted b _))
   expr_counted (slots.invoke u escaping es) n = row_counted es n
   expr_counted a0 n = refl
 
   pub row_counted : (es : SRow Constant) (n : ℕ) → row_locals (placed_row es n) ≡ row_locals es
   row_counted slots.none n = refl
-  row_counted (slots.item e es) n = both_counted _ _ _ _ (expr_counted e _) (row_counted es _)
+  row_counted (slots.item e es) n = both_counted (expr_counted e _) (row_counted es _)
   row_counted (slots.aside i e es) n =
-      both_counted _ _ _ _ refl (both_counted _ _ _ _ (expr_counted e _) (row_counted es _))
+      both_counted refl (both_counted (expr_counted e _) (row_counted es _))
 
 pub condition_counted : (k : Option (SlotExpr Constant)) (n : ℕ)
     → condition_locals (placed_condition k n) ≡ condition_locals k
@@ -40,15 +40,15 @@ condition_counted (Some c) n = expr_counted c n
 mutual
   pub stmt_counted : (c : SlotStmt Constant) (n : ℕ) → stmt_locals (placed_stmt c n) ≡ stmt_locals c
   stmt_counted (slots.if_else p c a b) n =
-      both_counted _ _ _ _ (expr_counted c _) (both_counted _ _ _ _ (body_counted a _) (body_counted b _))
+      both_counted (expr_counted c _) (both_counted (body_counted a _) (body_counted b _))
   stmt_counted (slots.for_each p xs e c body other) n =
       search (arith, rules, both_counted, expr_counted, condition_counted, body_counted body, body_counted other)
-  stmt_counted (slots.capture escaping s body) n = both_counted _ _ _ _ refl (body_counted body n)
+  stmt_counted (slots.capture escaping s body) n = both_counted refl (body_counted body n)
   stmt_counted a0 n = search (arith, rules, expr_counted, both_counted, row_counted)
 
   pub body_counted : (b : SBody Constant) (n : ℕ) → body_locals (placed_body b n) ≡ body_locals b
   body_counted slots.end n = refl
-  body_counted (slots.stmt c rest) n = both_counted _ _ _ _ (stmt_counted c _) (body_counted rest _)
+  body_counted (slots.stmt c rest) n = both_counted (stmt_counted c _) (body_counted rest _)
 
 -- ---- numbers
 

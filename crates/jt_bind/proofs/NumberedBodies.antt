@@ -1,10 +1,11 @@
 -- The bodies of a chain's blocks, by their indices, and the routines of macros and bodies.
-use Rattle.jt_bind.specs.internal.{files_in, numbered_in, ◌≡◌, ℕ, zero, suc, ◌+◌, ◌<◌, ◌≤◌, Bool, true, false, List, []}
-use Rattle.jt_bind.specs.internal.{◌∷◌, length, drop, get_or, refl, Option, Some, if◌then◌else◌, map, filter, BlockBody}
-use Rattle.jt_bind.specs.internal.{all_bodies, Template, counted_from, first_body, next_given, block_view, Block}
-use Rattle.jt_bind.specs.internal.{Chains, cenv_in, namespace_in}
-use Rattle.jt_bind.proofs.Vocabulary.{length-drop, ap, ◌∙◌, arith, rules, sym, zero-add, add-zero, add-one, at_drop_all}
-use Rattle.jt_bind.proofs.Vocabulary.{length-map}
+use Rattle.jt_bind.specs.internal
+use internal.{files_in, numbered_in, ◌≡◌, ℕ, zero, suc, ◌+◌, ◌<◌, ◌≤◌, Bool, List, [], ◌∷◌, length, drop, get_or, refl}
+use internal.{Option, Some, if◌then◌else◌, map, filter, BlockBody, all_bodies, counted_from, first_body, next_given}
+use internal.{block_view, Block, Chains, cenv_in, namespace_in}
+use Rattle.jt_bind.proofs.Vocabulary
+use Vocabulary.{length-drop, ap, ◌∙◌, arith, rules, sym, zero-add, add-one, at_drop_all, drop-map, drop_more}
+use Vocabulary.{length-map}
 
 -- ---- items of a list by their indices
 
@@ -26,8 +27,7 @@ counted_end i xs le = drop_counted i 0 xs ∙ at_drop_all (counted_from (0 + i))
 
 next_of : (r : Bool) (k n m : ℕ) (o : Option ℕ) → (if r then o else Some k) ≡ Some n → k < m → (o ≡ Some n → n < m)
     → n < m
-next_of true k n m o e lt f = f e
-next_of false k n m o e lt f = (let same : k ≡ n = (cc) in omega arith)
+next_of r k n m o e lt f = search (arith, rules)
 
 -- The next body of a block that is not required is an item of the list.
 next_within : (p : ℕ × BlockBody → Bool) (k n : ℕ) (bs : List BlockBody)
@@ -36,14 +36,6 @@ next_within p k n [] e = absurd (cc)
 next_within p k n (b ∷ bs) e = search (arith, rules, next_within p (suc k) n bs, next_of)
 
 -- ---- the bodies of a chain's blocks, by their indices
-
-counted_next : (ts : List Template) (n : ℕ) (bs : List Block) (i : ℕ) (d : Block) → i < length bs
-    → drop i (counted_from n (map (block_view ts) bs))
-    ≡ (n + i, block_view ts (get_or bs i d)) ∷ drop (suc i) (counted_from n (map (block_view ts) bs))
-counted_next ts n [] i d lt = absurd (omega arith)
-counted_next ts n (b ∷ bs) zero d lt =
-    ap (λ (m : ℕ). (m, block_view ts b) ∷ counted_from (suc n) (map (block_view ts) bs)) (sym (add-zero n))
-counted_next ts n (b ∷ bs) (suc i) d lt = search (arith, rules, counted_next ts (suc n) bs i d, get_or)
 
 module _ (s : Chains) (us : List Block) (all : map (block_view (files_in s)) us
     ≡ all_bodies (cenv_in s).sources (cenv_in s).escaping (namespace_in s)) where
@@ -55,7 +47,9 @@ module _ (s : Chains) (us : List Block) (all : map (block_view (files_in s)) us
 
   pub numbered_next : (i : ℕ) (x : Block) → i < length us → x ≡ get_or us i x
       → drop i numbered ≡ (i, shown x) ∷ drop (i + 1) numbered
-  numbered_next i x lt is = search (arith, rules, counted_next, get_or, zero-add, add-one)
+  numbered_next i x lt is =
+      rw (← all, drop_counted i 0 (map shown us), drop_counted (i + 1) 0 (map shown us))
+      (simp (drop-map, drop_more us i x lt, ← is, zero-add, add-one))
 
   pub numbered_end : (i : ℕ) → length us ≤ i → drop i numbered ≡ []
   numbered_end i h = search (arith, rules, length-map, counted_end)

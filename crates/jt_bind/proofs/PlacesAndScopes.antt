@@ -1,15 +1,13 @@
 -- The places of tags, and the scopes around them with the slots of their names.
-use Rattle.jt_semantics.specs.Resolve.{StaticEnv}
+use Rattle.jt_semantics.specs.Resolve.{StaticEnv, slot_of}
 use Rattle.std.proofs.lemmas.Option.{slice_get-map}
-use Rattle.jt_value.specs.Place as place
 use Rattle.jt_ir.specs.declared.program.Slot as code_slot
 use Rattle.jt_ir.specs.declared.program.Slot.TheVariants as s
-use Rattle.jt_bind.specs.internal.{◌≡◌, ℕ, suc, ◌+◌, ◌<◌, false, List, [], ◌∷◌, length, drop, get_or, refl, Option}
-use Rattle.jt_bind.specs.internal.{Some, None, if◌then◌else◌, ◌++◌, map, Bool, true, take, bytes_eq, Bor, Text, Slot}
-use Rattle.jt_bind.specs.internal.{local, Table, slot_in, bound_table, slot_of, bound_all, texts, last_among}
-use Rattle.jt_bind.specs.internal.{option_map, unwrap_or, Rc, Template, name_at, place_view, slot_view, framed}
-use Rattle.jt_bind.specs.internal.{NameScope, value_in}
-use Rattle.jt_bind.proofs.Vocabulary.{sym, ap, ◌∙◌, add-one, arith, rules, Global, drop_more, map-append, take_more}
+use Rattle.jt_bind.specs.internal
+use internal.{◌≡◌, ℕ, suc, ◌+◌, ◌<◌, List, [], ◌∷◌, length, drop, get_or, refl, Option, Some, None, if◌then◌else◌, ◌++◌}
+use internal.{map, take, bytes_eq, Bor, Text, Slot, local, Table, slot_in, bound_table, bound_all, texts, last_among}
+use internal.{option_map, unwrap_or, Rc, Template, name_at, place_view, slot_view, framed, NameScope, value_in}
+use Rattle.jt_bind.proofs.Vocabulary.{sym, add-one, arith, rules, Global, drop_more, map-append, take_more}
 
 -- ---- names with numbers
 
@@ -36,9 +34,7 @@ placed_next ks i d x n n' f f' lt e h = search (arith, rules, add-one, drop_more
 pub place_shown : (ts : List Template) (i line : ℕ)
     → place_view (map (λ t. t.name) ts) (record { template = i; line = line })
     ≡ record { template = name_at ts i; line = line }
-place_shown ts i line =
-    ap (λ (x : Option Text). let p : place.Place = record { template = unwrap_or x []; line = line } in p)
-    (slice_get-map (λ (t : Template). t.name) ts i)
+place_shown ts i line = rw slice_get-map
 
 -- One more scope.
 pub framed_push : (fs : List NameScope) (f : NameScope) (t : Table)
@@ -59,38 +55,23 @@ senv_bound sp xs t n e f = search (arith, rules)
 
 -- ---- slots of names that are set
 
-slot_when : (d : Bool) (u v : Slot) (o : Option Slot) → v ≡ unwrap_or o (local 0)
-    → (if d then u else v) ≡ unwrap_or (if d then Some u else o) (local 0)
-slot_when true u v o e = refl
-slot_when false u v o e = e
-
 pub slot_of_found : (x : Text) (t : Table) → slot_of x t ≡ unwrap_or (slot_in x t) (local 0)
 slot_of_found x [] = refl
-slot_of_found x (b ∷ bs) = slot_when (bytes_eq b.0 x) b.1 (slot_of x bs) (slot_in x bs) (slot_of_found x bs)
+slot_of_found x (b ∷ bs) = search (arith, rules, slot_of_found x bs)
 
 pub viewed_or : (o : Option code_slot.Slot)
     → unwrap_or (option_map slot_view o) (local 0) ≡ slot_view (unwrap_or o (s.Local 0))
-viewed_or None = refl
-viewed_or (Some x) = refl
+viewed_or o = search (arith, rules)
 
 -- ---- names in a list of scopes
 
--- The scopes up to one of them.
-framed_more : (rs : List (Rc NameScope Global)) (i : ℕ) (r : Rc NameScope Global) (t : Table) → i < length rs
-    → framed (map (λ f. f.value) (take (i + 1) rs)) t
-    ≡ bound_table (texts (get_or rs i r).value.names.items) (get_or rs i r).value.first
-    (framed (map (λ f. f.value) (take i rs)) t)
-framed_more rs i r t lt = rw (take_more rs i r lt, map-append, framed_push) refl
-
 -- A name that the innermost scope has, or does not have.
-pub framed_found : (x : Text) (rs : List (Rc NameScope Global)) (i : ℕ) (f : NameScope) (r : Rc NameScope Global)
+pub framed_found : (x : Text) (rs : List (Rc NameScope Global)) (i n : ℕ) (f : NameScope) (r : Rc NameScope Global)
     (t : Table)
-    → i < length rs → f ≡ (get_or rs i r).value
-    → slot_in x (framed (map (λ f. f.value) (take (i + 1) rs)) t)
+    → i < length rs → n ≡ i + 1 → f ≡ (get_or rs i r).value
+    → slot_in x (framed (map (λ f. f.value) (take n rs)) t)
     ≡ found_or (value_in f.index.indices x) (slot_in x (framed (map (λ f. f.value) (take i rs)) t))
-framed_found x rs i f r t lt is =
+framed_found x rs i n f r t lt e is =
     let inner = framed (map (λ f. f.value) (take i rs)) t in
-    ap (slot_in x) (framed_more rs i r t lt)
-    ∙ ap (λ (g : NameScope). slot_in x (bound_table (texts g.names.items) g.first inner)) (sym is)
-    ∙ sym (bound_found x (texts f.names.items) f.first None (slot_in x inner) inner refl)
-    ∙ ap (λ o. found_or o (slot_in x inner)) (sym (f.indexed x))
+    rw (e, take_more rs i r lt, map-append, framed_push, ← is, f.indexed x)
+    (sym (bound_found x (texts f.names.items) f.first None (slot_in x inner) inner refl))

@@ -19,10 +19,10 @@ impl<'f, 'a> Tables<'f, 'a> {
         ensures { IfOk result (λ u. u ≡ first_unit_in self.now name.now) }
     {
         let here = self.here();
-        match here.known.first_bodies.index_of(name) {
-            Some(index) => Ok(Some(checked_sum(here.body_unit, index)?)),
-            None => Ok(None),
-        }
+        let Some(index) = here.known.first_bodies.index_of(name) else {
+            return Ok(None);
+        };
+        Ok(Some(checked_sum(here.body_unit, index)?))
     }
 
     /// Returns the parameters of the bodies of a block.
@@ -86,7 +86,7 @@ impl<'t, 'f, 's, 'a> Resolver<'t, 'f, 's, 'a> {
         };
         let unit = checked_sum(here.body_unit, next)?;
         let parameters = self.tables.block_parameters(body.name);
-        let row = first_locals(self.alloc, parameters.len())?;
+        let row = first_locals(self.alloc, parameters)?;
         Ok(SlotExpr::Invoke {
             routine: unit,
             escaping: self.senv.escaping,

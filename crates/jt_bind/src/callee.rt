@@ -100,6 +100,7 @@ impl<'f, 'a> Tables<'f, 'a> {
     }
 
     /// Returns the macro `name` of a library, if the library is laid out.
+    #[tactic(auto, using(crate::proofs::CallResolution::nowhere))]
     fn library_macro<'s>(&'s self, library: &str, name: &str) -> Result<Callee<'s>>
         ensures { IfOk result (λ k. IsLaidThere (cenv_in self.now) (order_in self.now)
             (chain.a_library library.now) name.now → IsMacroOf self.now

@@ -1,44 +1,42 @@
 //! Appends resolved statements to others.
 
 ghost use Rattle.jt_value.specs.Tree as tree;
+ghost use Rattle.jt_ast.specs.Statements as trees;
 ghost use Rattle.jt_ir.specs.Slots as slots;
 ghost use Rattle.jt_ir.specs.declared.program.SlotStmt.TheVariants as s;
-ghost use Rattle.std.specs.Prelude.{◌++◌, ◌∷◌, ◌≡◌};
-ghost use Rattle.jt_bind.specs.internal.{alone, IfOk, List, [], Text, IsShown, own, templates_of};
-ghost use Rattle.jt_bind.specs.internal.{values, Emits, line_of, place_of, Constant};
+ghost use Rattle.std.specs.Prelude.{if◌then◌else◌, ◌++◌, ◌∷◌, ◌≡◌};
+ghost use Rattle.jt_semantics.specs.Resolve as resolve;
+ghost use Rattle.jt_bind.specs.internal.{alone, IfOk, List, [], IsShown, PutsStmt, templates_of};
+ghost use Rattle.jt_bind.specs.internal.{Emits, line_of, place_of, Constant, PutsNone, assigned};
+ghost use Rattle.jt_bind.specs.internal.{slot_after, slot_in, slot_view, table_of, texts};
 
 use crate::Result;
 use crate::held::Held;
+use crate::lookup::reading;
 use crate::pool::Pool;
 use crate::resolver::Resolver;
 use crate::rows::Row;
 use crate::senv::StaticEnv;
 use jt_ir::{Filtered, Slot, SlotBranch, SlotExpr, SlotStmt, Targets};
+use jt_layout::checked_sum;
 use jt_value::Value;
-use std::alloc::Global;
 
 /// Resolved statements.
 pub(crate) type SlotBody = Vec<SlotStmt>;
 
-/// Emits a text outside tags.
-#[inline(never)]
-pub(crate) fn put_data(
-    alloc: Global,
-    text: &str,
-    done: &mut SlotBody,
-    pool: &mut Pool,
-) -> Result<()>
-    ensures { IfOk result (λ u. (templates : List Text)
-        → Emits templates (alone (slots.put_pooled (own (tree.text text.now)))) done.old.items
-        done.new.items (values pool.old) (values pool.new)) }
-{
-    let index = pool.len();
-    pool.push(Value::text(alloc, text)?)?;
-    done.push(SlotStmt::PutPooled(index))?;
-    Ok(())
-}
-
 impl<'t, 'f, 's, 'a> Resolver<'t, 'f, 's, 'a> {
+    /// Emits a text outside tags.
+    #[inline(never)]
+    pub(crate) fn put_data(&self, text: &str, done: &mut SlotBody, pool: &mut Pool) -> Result<()>
+        ensures { IfOk result (λ _. PutsStmt self.now (trees.data_of text.now) done.old done.new
+            pool.old pool.new) }
+    {
+        let index = pool.len();
+        pool.push(Value::text(self.alloc, text)?)?;
+        done.push(SlotStmt::PutPooled(index))?;
+        Ok(())
+    }
+
     /// Emits a print of a value.
     #[inline(never)]
     pub(crate) fn put_print(&self, line: u32, value: SlotExpr, done: &mut SlotBody) -> Result<()>
@@ -48,6 +46,52 @@ impl<'t, 'f, 's, 'a> Resolver<'t, 'f, 's, 'a> {
     {
         let filters = Vec::new(*done.allocator());
         put_filtered(&self.senv, line, Filtered { value, filters }, done)
+    }
+
+    /// Returns a read of the name if `with_context` is true, or else the undefined value.
+    fn handed(&self, with_context: bool, name: &str) -> SlotExpr
+        ensures { PutsNone (resolve.read_from
+            (slot_in name.now (if with_context then table_of self.now else []))) result }
+    {
+        if with_context {
+            reading(self.slot(name))
+        } else {
+            reading(None)
+        }
+    }
+
+    /// Emits assignments of the names' values to consecutive slots from `first` on. The values are
+    /// undefined if `with_context` is false.
+    #[inline(never)]
+    pub(crate) fn put_values(
+        &self,
+        line: u32,
+        with_context: bool,
+        names: &[&str],
+        first: Slot,
+        done: &mut SlotBody,
+    ) -> Result<()>
+        ensures { IfOk result (λ u. (p : List tree.Tree) → Emits (templates_of self.now)
+            (assigned (line_of self.now line) (if with_context then table_of self.now else [])
+            (slot_view first) (texts names.now)) done.old.items done.new.items p p) }
+    {
+        let mut slot = first;
+        for name in names {
+            let value = self.handed(with_context, *name);
+            put_assign(&self.senv, line, Targets::One(slot), value, done)?;
+            slot = next_slot(slot)?;
+        }
+        Ok(())
+    }
+}
+
+/// Returns the slot after `slot`.
+fn next_slot(slot: Slot) -> Result<Slot>
+    ensures { IfOk result (λ s. slot_view s ≡ slot_after (slot_view slot)) }
+{
+    match slot {
+        Slot::Local(local) => Ok(Slot::Local(checked_sum(local, 1)?)),
+        Slot::Global(global) => Ok(Slot::Global(checked_sum(global, 1)?)),
     }
 }
 

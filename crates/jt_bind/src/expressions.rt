@@ -14,9 +14,9 @@ ghost use Rattle.jt_bind.specs.internal.{filter_id, own, nary_op_view};
 use crate::Result;
 use crate::callee::{Callee, Signature};
 use crate::held::{Held, boxed};
-use crate::lookup::{absent, no_value, reading, told};
+use crate::lookup::{absent, reading, told};
 use crate::operator_forms::{
-    OperatorForm, chosen, form_of, item_in_turn, literal_value, on_one, range_of, turned,
+    OperatorForm, chosen, form_of, item_in_turn, literal_value, on_one, range_of, shortcut, turned,
     unary_operation,
 };
 use crate::pool::{Pool, add_text, add_value};
@@ -41,10 +41,13 @@ impl<'t, 'f, 's, 'a> Resolver<'t, 'f, 's, 'a> {
             Expr::Constant(literal) => self.resolve_constant(literal, pool),
             Expr::Name(name) => Ok(reading(self.slot(name.as_str()))),
             Expr::Group(inside) => self.resolve_expression(inside, pool),
-            Expr::List(row) => self.resolve_made(NaryOp::List, row, pool),
+            Expr::List(row) => self.resolve_made(NaryOp::List, row, &[], pool),
             Expr::Map(pairs) => self.resolve_map(pairs, pool),
             Expr::Attribute(value, key) => self.resolve_attribute(value, key, pool),
-            Expr::Item(value, index) => { self.resolve_operation(OpId::Item, value, index, pool) }
+            Expr::Item(value, index) => {
+                let op = NaryOp::Operator(OpId::Item);
+                self.resolve_made(op, slice::from_ref(value), slice::from_ref(index), pool)
+            }
             Expr::Call {
                 callee: called,
                 arguments: row,
@@ -65,7 +68,7 @@ impl<'t, 'f, 's, 'a> Resolver<'t, 'f, 's, 'a> {
             } => self.resolve_test(value, *polarity, name, row, pool),
             Expr::Unary(operator, operand) => {
                 let op = NaryOp::Operator(unary_operation(*operator));
-                self.resolve_applied(op, operand, &[], pool)
+                self.resolve_made(op, slice::from_ref(operand), &[], pool)
             }
             Expr::Binary {
                 operator,
@@ -90,39 +93,25 @@ impl<'t, 'f, 's, 'a> Resolver<'t, 'f, 's, 'a> {
         add_value(pool, literal_value(self.alloc, constant)?)
     }
 
-    /// Resolves expressions and applies an operation to them.
+    /// Resolves expressions and those after them, and applies an operation to all.
     #[cycle(expressions)]
     #[inline(never)]
-    fn resolve_made(&self, op: NaryOp, row: &[Expr], pool: &mut Pool) -> Result<SlotExpr>
-        ensures { IfOk result (λ e. IsAdded (slots.made (nary_op_view op)
-            (row_of self.now (exprs_view row.now) slots.none)) e pool.old pool.new) }
-    {
-        let mut items = Held {
-            part: Vec::new(self.alloc),
-        };
-        self.resolve_row(row, &mut items.part, pool)?;
-        Ok(SlotExpr::Made(op, items.into_part()))
-    }
-
-    /// Resolves a value and expressions after it, and applies an operation to them.
-    #[cycle(expressions)]
-    #[inline(never)]
-    fn resolve_applied(
+    fn resolve_made(
         &self,
         op: NaryOp,
-        value: &Expr,
-        row: &[Expr],
+        first: &[Expr],
+        rest: &[Expr],
         pool: &mut Pool,
     ) -> Result<SlotExpr>
         ensures { IfOk result (λ e. IsAdded (slots.made (nary_op_view op)
-            (slots.item (expr_of self.now (expr_view value.now))
-            (row_of self.now (exprs_view row.now) slots.none))) e pool.old pool.new) }
+            (row_of self.now (exprs_view first.now) (row_of self.now (exprs_view rest.now)
+            slots.none))) e pool.old pool.new) }
     {
         let mut operands = Held {
-            part: Vec::with_capacity(self.alloc, row.len() + 1)?,
+            part: Vec::with_capacity(self.alloc, first.len() + rest.len())?,
         };
-        self.resolve_operand(value, &mut operands.part, pool)?;
-        self.resolve_row(row, &mut operands.part, pool)?;
+        self.resolve_row(first, &mut operands.part, pool)?;
+        self.resolve_row(rest, &mut operands.part, pool)?;
         Ok(SlotExpr::Made(op, operands.into_part()))
     }
 
@@ -153,26 +142,10 @@ impl<'t, 'f, 's, 'a> Resolver<'t, 'f, 's, 'a> {
         let mut operands = Held {
             part: Vec::with_capacity(self.alloc, 2)?,
         };
-        self.resolve_operand(value, &mut operands.part, pool)?;
+        self.resolve_row(slice::from_ref(value), &mut operands.part, pool)?;
         let item_key = add_text(self.alloc, key, pool)?;
         put_argument(&mut operands.part, None, item_key)?;
         Ok(SlotExpr::Made(NaryOp::Operator(OpId::Item), operands.into_part()))
-    }
-
-    /// Resolves the operands of an operation and applies it to them.
-    #[cycle(expressions)]
-    #[inline(never)]
-    fn resolve_operation(
-        &self,
-        op: OpId,
-        left: &Expr,
-        right: &Expr,
-        pool: &mut Pool,
-    ) -> Result<SlotExpr>
-        ensures { IfOk result (λ e. IsAdded (resolve.operation_of op (expr_of self.now
-            (expr_view left.now)) (expr_of self.now (expr_view right.now))) e pool.old pool.new) }
-    {
-        self.resolve_applied(NaryOp::Operator(op), left, slice::from_ref(right), pool)
     }
 
     /// Resolves a binary operator.
@@ -188,21 +161,19 @@ impl<'t, 'f, 's, 'a> Resolver<'t, 'f, 's, 'a> {
         ensures { IfOk result (λ e. IsResolved self.now (trees.binary operator (expr_view left.now)
             (expr_view right.now)) e pool.old pool.new) }
     {
+        let (first, rest) = (slice::from_ref(left), slice::from_ref(right));
         match form_of(self.senv.escaping, operator) {
-            OperatorForm::Operation(op) => self.resolve_operation(op, left, right, pool),
+            OperatorForm::Operation(op) => {
+                self.resolve_made(NaryOp::Operator(op), first, rest, pool)
+            }
             OperatorForm::Negation(op) => {
-                let inside = self.resolve_operation(op, left, right, pool)?;
+                let inside = self.resolve_made(NaryOp::Operator(op), first, rest, pool)?;
                 on_one(self.alloc, OpId::Not, inside)
             }
-            OperatorForm::Conjunction => {
+            OperatorForm::Shortcut { is_conjunction } => {
                 let first = self.resolve_boxed(left, pool)?;
                 let second = self.resolve_boxed(right, pool)?;
-                Ok(SlotExpr::Conjunction(first.into_part(), second.into_part()))
-            }
-            OperatorForm::Disjunction => {
-                let first = self.resolve_boxed(left, pool)?;
-                let second = self.resolve_boxed(right, pool)?;
-                Ok(SlotExpr::Disjunction(first.into_part(), second.into_part()))
+                Ok(shortcut(is_conjunction, first, second))
             }
         }
     }
@@ -216,7 +187,7 @@ impl<'t, 'f, 's, 'a> Resolver<'t, 'f, 's, 'a> {
     {
         let asked = self.resolve_boxed(condition, pool)?;
         let first = self.resolve_boxed(value, pool)?;
-        let second = boxed(self.alloc, no_value())?;
+        let second = boxed(self.alloc, reading(None))?;
         Ok(chosen(asked, first, second))
     }
 
@@ -267,19 +238,8 @@ impl<'t, 'f, 's, 'a> Resolver<'t, 'f, 's, 'a> {
         let Some(id) = test_of(name) else {
             return turned(self.alloc, polarity.is_negated(), absent());
         };
-        let test = self.resolve_applied(NaryOp::Test(id), value, row, pool)?;
+        let test = self.resolve_made(NaryOp::Test(id), slice::from_ref(value), row, pool)?;
         turned(self.alloc, polarity.is_negated(), test)
-    }
-
-    /// Resolves an expression and appends it as an argument.
-    #[cycle(expressions)]
-    #[inline(never)]
-    fn resolve_operand(&self, value: &Expr, done: &mut Row, pool: &mut Pool) -> Result<()>
-        ensures { IfOk result (λ u. RowPuts (slots.item (expr_of self.now (expr_view value.now)))
-            done.old done.new pool.old pool.new) }
-    {
-        let next = self.resolve_expression(value, pool)?;
-        put_argument(done, None, next)
     }
 
     /// Resolves a filter.
@@ -295,23 +255,19 @@ impl<'t, 'f, 's, 'a> Resolver<'t, 'f, 's, 'a> {
         ensures { IfOk result (λ e. IsResolved self.now (trees.filter (expr_view value.now) name.now
             (by_position arguments.entry) (by_name arguments.entry)) e pool.old pool.new) }
     {
-        match filter_of(name, arguments.row, arguments.pairs) {
-            None => Ok(absent()),
-            Some(filter) => {
-                let mut given = Held {
-                    part: Vec::new(self.alloc),
-                };
-                self.resolve_operand(value, &mut given.part, pool)?;
-                self.resolve_filter_row(filter, arguments, &mut given.part, pool)?;
-                Ok(SlotExpr::Made(
-                    NaryOp::Filter {
-                        filter,
-                        escaping: self.senv.escaping,
-                    },
-                    given.into_part(),
-                ))
-            }
-        }
+        let Some(filter) = filter_of(name, arguments.row, arguments.pairs) else {
+            return Ok(absent());
+        };
+        let mut given = Held {
+            part: Vec::new(self.alloc),
+        };
+        self.resolve_row(slice::from_ref(value), &mut given.part, pool)?;
+        self.resolve_filter_row(filter, arguments, &mut given.part, pool)?;
+        let op = NaryOp::Filter {
+            filter,
+            escaping: self.senv.escaping,
+        };
+        Ok(SlotExpr::Made(op, given.into_part()))
     }
 
     /// Resolves the arguments of a filter after its value and appends them.
@@ -347,7 +303,7 @@ impl<'t, 'f, 's, 'a> Resolver<'t, 'f, 's, 'a> {
             Callee::Macro(signature) => self.resolve_macro(signature, arguments, pool),
             Callee::Range => {
                 let op = NaryOp::Operator(range_of(arguments.row.len()));
-                self.resolve_made(op, arguments.row, pool)
+                self.resolve_made(op, arguments.row, &[], pool)
             }
             Callee::Super => self.super_called(),
             Callee::Block(name) => self.block_called(name),
@@ -390,7 +346,7 @@ impl<'t, 'f, 's, 'a> Resolver<'t, 'f, 's, 'a> {
             (expr_of self.now (trees.list_of (exprs_view row.now)))
             (turn_in (length row.now))) e pool.old pool.new) }
     {
-        let items = self.resolve_made(NaryOp::List, row, pool)?;
+        let items = self.resolve_made(NaryOp::List, row, &[], pool)?;
         item_in_turn(self.alloc, items, row.len(), pool)
     }
 

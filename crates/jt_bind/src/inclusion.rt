@@ -3,19 +3,17 @@
 ghost use Rattle.jt_semantics.specs.Resolve as resolve;
 ghost use Rattle.jt_ast.specs.Statements as trees;
 ghost use Rattle.std.specs.Prelude.{if◌then◌else◌, ◌≡◌};
-ghost use Rattle.jt_bind.specs.internal.{Bool, IfOk, List, [], ℕ, is_ignored, passes_context};
-ghost use Rattle.jt_bind.specs.internal.{texts, Chains, line_of, stmt_of, table_of, templates_of};
-ghost use Rattle.jt_bind.specs.internal.{PutsNone, globals_in, senv_in, senv_of, Emits, slot_in};
-ghost use Rattle.jt_bind.specs.internal.{Tree};
+ghost use Rattle.jt_bind.specs.internal.{Bool, IfOk, List, ℕ, is_ignored, passes_context, Chains};
+ghost use Rattle.jt_bind.specs.internal.{stmt_of, templates_of, globals_in, senv_in, senv_of};
+ghost use Rattle.jt_bind.specs.internal.{Emits, Tree};
 
 use crate::Result;
-use crate::emission::{SlotBody, put_assign, put_run};
-use crate::lookup::{absent, no_value, reading};
+use crate::emission::{SlotBody, put_run};
+use crate::lookup::absent;
 use crate::resolver::Resolver;
 use crate::senv::StaticEnv;
 use jt_ast::{IncludeContext, Missing};
-use jt_ir::{Slot, SlotExpr, Targets};
-use jt_layout::{NamespaceLayout, checked_sum};
+use jt_ir::Slot;
 
 /// Returns the environment in which a block's arguments are read. It is the environment of the tag
 /// if `scoped` is true, or else one without scopes, so that names are globals.
@@ -40,48 +38,6 @@ impl<'t, 'f, 's, 'a> Resolver<'t, 'f, 's, 'a> {
         self.put_print(line, absent(), done)
     }
 
-    /// Returns the value that an included chain gets for a name: with context the value of the
-    /// name, or else the undefined value.
-    fn handed(&self, with_context: bool, name: &str) -> SlotExpr
-        ensures { PutsNone (resolve.read_from
-            (slot_in name.now (if with_context then table_of self.now else []))) result }
-    {
-        if with_context {
-            reading(self.slot(name))
-        } else {
-            no_value()
-        }
-    }
-
-    /// Emits assignments that pass the names of this environment to the globals of an included
-    /// chain.
-    fn pass_globals(
-        &self,
-        line: u32,
-        with_context: bool,
-        there: &NamespaceLayout<'_, '_>,
-        done: &mut SlotBody,
-    ) -> Result<()>
-        ensures { IfOk result (λ u. (p : List Tree)
-            → Emits (templates_of self.now) (resolve.handed_on (line_of self.now line)
-            (if with_context then table_of self.now else []) there.now.first_slot
-            (texts there.now.names.items)) done.old.items done.new.items p p) }
-    {
-        let mut global = there.first_slot;
-        for name in there.names.iter() {
-            let value = self.handed(with_context, *name);
-            put_assign(
-                &self.senv,
-                line,
-                Targets::One(Slot::Global(global)),
-                value,
-                done,
-            )?;
-            global = checked_sum(global, 1)?;
-        }
-        Ok(())
-    }
-
     /// Emits an include: the names that are passed, then the run of the included chain.
     #[inline(never)]
     pub(crate) fn put_include(
@@ -103,7 +59,8 @@ impl<'t, 'f, 's, 'a> Resolver<'t, 'f, 's, 'a> {
             return put_run(self.tables.units(), Vec::new(self.alloc), done);
         };
         let there = self.tables.at(index);
-        self.pass_globals(line, names.passes_context(), there, done)?;
+        let first = Slot::Global(there.first_slot);
+        self.put_values(line, names.passes_context(), &there.names, first, done)?;
         put_run(there.unit, Vec::new(self.alloc), done)
     }
 

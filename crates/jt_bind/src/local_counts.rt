@@ -1,14 +1,13 @@
 //! Counts the locals that resolved statements use: one more than the last one that is stored or
 //! loaded. A function that takes `last`, the last local before, returns the last one after a part.
 
-ghost use Rattle.jt_bind.specs.internal.Counts as counts;
 ghost use Rattle.jt_ir.specs.Locals as locals;
 ghost use Rattle.jt_ir.specs.Slots as slots;
 ghost use Rattle.jt_ir.specs.View.{body_view};
 ghost use Rattle.std.specs.Prelude.{◌≡◌};
 ghost use Rattle.jt_bind.specs.internal.{IfOk, List, map, max, option_map, Text, expr_view};
 ghost use Rattle.jt_bind.specs.internal.{filtered_view, row_view, slot_view, targets_view};
-ghost use Rattle.jt_bind.specs.internal.{stmt_view};
+ghost use Rattle.jt_bind.specs.internal.{stmt_view, branches_locals, target_locals, up_to, Reaches};
 
 use crate::Result;
 use jt_ir::{Filtered, Slot, SlotBranch, SlotExpr, SlotStmt, Targets};
@@ -16,7 +15,7 @@ use jt_layout::checked_sum;
 
 /// Returns the later of two locals, if there are any.
 fn later(left: Option<usize>, right: Option<usize>) -> Option<usize>
-    ensures { counts.up_to result ≡ max (counts.up_to left) (counts.up_to right) }
+    ensures { up_to result ≡ max (up_to left) (up_to right) }
 {
     match (left, right) {
         (Some(left), Some(right)) => Some(left.max(right)),
@@ -27,7 +26,7 @@ fn later(left: Option<usize>, right: Option<usize>) -> Option<usize>
 
 /// Counts the locals up to one, if there is one.
 fn count_of(last: Option<usize>) -> Result<usize>
-    ensures { IfOk result (λ n. n ≡ counts.up_to last) }
+    ensures { IfOk result (λ n. n ≡ up_to last) }
 {
     match last {
         Some(local) => checked_sum(local, 1),
@@ -37,7 +36,7 @@ fn count_of(last: Option<usize>) -> Result<usize>
 
 /// Returns the local of a slot, if there is a slot that is a local.
 fn local_of(slot: Option<Slot>) -> Option<usize>
-    ensures { counts.up_to result ≡ counts.target_locals (option_map slot_view slot) }
+    ensures { up_to result ≡ target_locals (option_map slot_view slot) }
 {
     match slot {
         Some(Slot::Local(local)) => Some(local),
@@ -47,8 +46,9 @@ fn local_of(slot: Option<Slot>) -> Option<usize>
 }
 
 /// Returns the last local after slots.
+#[tactic(auto, using(crate::proofs::LocalCounts::slots_step))]
 fn last_of_slots(slots: &[Option<Slot>], last: Option<usize>) -> Option<usize>
-    ensures { counts.up_to result ≡ max (counts.up_to last)
+    ensures { up_to result ≡ max (up_to last)
         (locals.slots_locals (map (option_map slot_view) slots.now)) }
 {
     let mut latest = last;
@@ -60,7 +60,7 @@ fn last_of_slots(slots: &[Option<Slot>], last: Option<usize>) -> Option<usize>
 
 /// Returns the last local after targets.
 fn last_of_targets(targets: &Targets, last: Option<usize>) -> Option<usize>
-    ensures { counts.up_to result ≡ max (counts.up_to last)
+    ensures { up_to result ≡ max (up_to last)
         (locals.targets_locals (targets_view targets.now)) }
 {
     match targets {
@@ -72,7 +72,7 @@ fn last_of_targets(targets: &Targets, last: Option<usize>) -> Option<usize>
 /// Returns the last local after an expression.
 #[cycle(expressions)]
 fn last_of_expr(expr: &SlotExpr, last: Option<usize>) -> Option<usize>
-    ensures { counts.up_to result ≡ max (counts.up_to last)
+    ensures { up_to result ≡ max (up_to last)
         (locals.expr_locals (expr_view expr.now)) }
 {
     match expr {
@@ -95,7 +95,7 @@ fn last_of_expr(expr: &SlotExpr, last: Option<usize>) -> Option<usize>
 /// Returns the last local after a list of expressions.
 #[cycle(expressions)]
 fn last_of_row(row: &[(Option<usize>, SlotExpr)], last: Option<usize>) -> Option<usize>
-    ensures { counts.up_to result ≡ max (counts.up_to last)
+    ensures { up_to result ≡ max (up_to last)
         (locals.row_locals (row_view row.now slots.none)) }
 {
     let mut latest = last;
@@ -107,7 +107,7 @@ fn last_of_row(row: &[(Option<usize>, SlotExpr)], last: Option<usize>) -> Option
 
 /// Returns the last local after a value and the filters after it.
 fn last_of_filtered(filtered: &Filtered, last: Option<usize>) -> Option<usize>
-    ensures { counts.up_to result ≡ max (counts.up_to last)
+    ensures { up_to result ≡ max (up_to last)
         (locals.expr_locals (filtered_view filtered.now)) }
 {
     let mut latest = last_of_expr(&filtered.value, last);
@@ -119,7 +119,7 @@ fn last_of_filtered(filtered: &Filtered, last: Option<usize>) -> Option<usize>
 
 /// Returns the last local after a condition, if there is one.
 fn last_of_condition(condition: &Option<SlotExpr>, last: Option<usize>) -> Option<usize>
-    ensures { counts.up_to result ≡ max (counts.up_to last)
+    ensures { up_to result ≡ max (up_to last)
         (locals.condition_locals (option_map expr_view condition.now)) }
 {
     match condition {
@@ -131,8 +131,8 @@ fn last_of_condition(condition: &Option<SlotExpr>, last: Option<usize>) -> Optio
 /// Returns the last local after the branches of an `if`.
 #[cycle(statements)]
 fn last_of_branches(branches: &[SlotBranch<SlotStmt>], last: Option<usize>) -> Option<usize>
-    ensures { (templates : List Text) → counts.up_to result ≡ max (counts.up_to last)
-        (counts.branches_locals templates branches.now) }
+    ensures { (templates : List Text) → up_to result ≡ max (up_to last)
+        (branches_locals templates branches.now) }
 {
     let mut latest = last;
     for branch in branches {
@@ -146,7 +146,7 @@ fn last_of_branches(branches: &[SlotBranch<SlotStmt>], last: Option<usize>) -> O
 #[cycle(statements)]
 fn last_of_stmt(statement: &SlotStmt, last: Option<usize>) -> Option<usize>
     ensures { (templates : List Text)
-        → counts.Reaches (stmt_view templates statement.now) last result }
+        → Reaches (stmt_view templates statement.now) last result }
 {
     match statement {
         SlotStmt::PutPooled(_) => last,
@@ -188,7 +188,7 @@ fn last_of_stmt(statement: &SlotStmt, last: Option<usize>) -> Option<usize>
 #[cycle(statements)]
 fn last_of_body(body: &[SlotStmt], last: Option<usize>) -> Option<usize>
     ensures { (templates : List Text)
-        → counts.Reaches (body_view templates body.now) last result }
+        → Reaches (body_view templates body.now) last result }
 {
     let mut latest = last;
     for statement in body {

@@ -31,13 +31,6 @@ pub(crate) fn reading(slot: Option<Slot>) -> SlotExpr
     value_or(slot, 0)
 }
 
-/// Returns the undefined value, for a name without a value.
-pub(crate) fn no_value() -> SlotExpr
-    ensures { PutsNone resolve.no_value result }
-{
-    SlotExpr::Pooled(0)
-}
-
 /// Returns the expression of a name that has no meaning.
 pub(crate) fn absent() -> SlotExpr
     ensures { PutsNone slots.absent result }
@@ -51,7 +44,7 @@ pub(crate) fn told(field: Option<LoopField>) -> SlotExpr
 {
     match field {
         Some(field) => SlotExpr::Field(field),
-        None => absent(),
+        None => SlotExpr::Absent,
     }
 }
 

@@ -4,11 +4,11 @@ ghost use Rattle.jt_semantics.specs.Operators as operators;
 ghost use Rattle.jt_semantics.specs.Resolve as resolve;
 ghost use Rattle.jt_ir.specs.Slots as slots;
 ghost use Rattle.jt_ids.specs.declared.op_id.OpId.TheVariants as op;
-ghost use Rattle.std.specs.Prelude.{◌≡◌};
-ghost use Rattle.jt_bind.specs.internal.{IfOk, List, literal_view, parameter_view, IsNumber};
-ghost use Rattle.jt_bind.specs.internal.{form_view, IsAdded, IsShown, MadeOfOne, MadeOfTwo};
-ghost use Rattle.jt_bind.specs.internal.{turn_in, values, default_value, literal, Constant, Tree};
-ghost use Rattle.jt_bind.specs.internal.{view};
+ghost use Rattle.jt_value.specs.Tree as tree;
+ghost use Rattle.std.specs.Prelude.{IfErr, pos, ◌≡◌, ◌≤◌, ◌^◌};
+ghost use Rattle.jt_bind.specs.internal.{IfOk, List, literal_view, parameter_view, form_view};
+ghost use Rattle.jt_bind.specs.internal.{shortcut_view, IsAdded, IsShown, MadeOfOne, turn_in};
+ghost use Rattle.jt_bind.specs.internal.{values, default_value, literal, Constant, Tree, view};
 
 use crate::Result;
 use crate::held::Held;
@@ -26,10 +26,9 @@ pub(crate) enum OperatorForm {
     Operation(OpId),
     /// The negated operation on both operands.
     Negation(OpId),
-    /// The left operand if it is false, or else the right one.
-    Conjunction,
-    /// The left operand if it is true, or else the right one.
-    Disjunction,
+    /// The left operand if it is false in a conjunction, or true in a disjunction, or else the
+    /// right one.
+    Shortcut { is_conjunction: bool },
 }
 
 /// Returns the value of a literal.
@@ -82,8 +81,12 @@ pub(crate) fn form_of(escaping: bool, operator: BinaryOperator) -> OperatorForm
     ensures { form_view result ≡ operators.form escaping operator }
 {
     match operator {
-        BinaryOperator::Or => OperatorForm::Disjunction,
-        BinaryOperator::And => OperatorForm::Conjunction,
+        BinaryOperator::Or => OperatorForm::Shortcut {
+            is_conjunction: false,
+        },
+        BinaryOperator::And => OperatorForm::Shortcut {
+            is_conjunction: true,
+        },
         BinaryOperator::Equal => OperatorForm::Operation(OpId::Equal),
         BinaryOperator::NotEqual => OperatorForm::Operation(OpId::NotEqual),
         BinaryOperator::Less => OperatorForm::Operation(OpId::Less),
@@ -125,7 +128,8 @@ pub(crate) fn on_one(alloc: Global, op: OpId, operand: SlotExpr) -> Result<SlotE
 /// Returns the expression that applies `op` to `left` and `right`.
 #[inline(never)]
 pub(crate) fn on_two(alloc: Global, op: OpId, left: SlotExpr, right: SlotExpr) -> Result<SlotExpr>
-    ensures { IfOk result (MadeOfTwo (resolve.operation_of op) left right) }
+    ensures { IfOk result (λ e. (a b : slots.SlotExpr Constant) (p q r : List Tree)
+        → IsShown a left p q → IsShown b right q r → IsShown (resolve.operation_of op a b) e p r) }
 {
     Ok(SlotExpr::Made(
         NaryOp::Operator(op),
@@ -142,6 +146,23 @@ pub(crate) fn turned(alloc: Global, negated: bool, inside: SlotExpr) -> Result<S
         on_one(alloc, OpId::Not, inside)
     } else {
         Ok(inside)
+    }
+}
+
+/// Returns the conjunction of two operands if `is_conjunction` is true, or else their disjunction.
+pub(crate) fn shortcut(
+    is_conjunction: bool,
+    left: Held<Box<SlotExpr>>,
+    right: Held<Box<SlotExpr>>,
+) -> SlotExpr
+    ensures { (a b : slots.SlotExpr Constant) (p q r : List Tree) → IsShown a left.part.value p q
+        → IsShown b right.part.value q r
+        → IsShown (resolve.in_form (shortcut_view is_conjunction) a b) result p r }
+{
+    if is_conjunction {
+        SlotExpr::Conjunction(left.into_part(), right.into_part())
+    } else {
+        SlotExpr::Disjunction(left.into_part(), right.into_part())
     }
 }
 
@@ -195,7 +216,8 @@ pub(crate) fn item_in_turn(
 
 /// Returns a count as a value.
 fn number_of(count: usize) -> Result<Value>
-    ensures { IsNumber count result }
+    ensures value { IfOk result (λ v. view v ≡ tree.number (pos count)) }
+    ensures large { IfErr result (λ _. 2 ^ 63 ≤ count) }
 {
     match i64::try_from(count) {
         Ok(count) => Ok(Value::Int(count)),

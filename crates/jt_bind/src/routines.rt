@@ -3,11 +3,10 @@
 
 ghost use Rattle.jt_semantics.specs.Resolve as resolve;
 ghost use Rattle.std.specs.Prelude.{◌≡◌};
-ghost use Rattle.jt_bind.specs.internal.{senv_of, layer_at, IfOk, Text, body_view, texts, Puts};
-ghost use Rattle.jt_bind.specs.internal.{routine_of, sets_of, AreRoutines, RoutineIs, blocks_in};
-ghost use Rattle.jt_bind.specs.internal.{entry_in, macros_in, routines_in, cenv_in, namespace_in};
-ghost use Rattle.jt_bind.specs.internal.{order_in, senv_in, templates_in, top_in, values, Emits};
-ghost use Rattle.jt_bind.specs.internal.{layers_in, a_chain};
+ghost use Rattle.jt_bind.specs.internal.{senv_of, layer_at, IfOk, body_view, texts, Puts, sets_of};
+ghost use Rattle.jt_bind.specs.internal.{AreRoutines, IsRoutine, blocks_in, cenv_in, entry_in};
+ghost use Rattle.jt_bind.specs.internal.{macros_in, routines_in, order_in, senv_in, templates_in};
+ghost use Rattle.jt_bind.specs.internal.{templates_of, top_in, values, Emits, layers_in};
 
 use crate::Result;
 use crate::emission::SlotBody;
@@ -43,8 +42,10 @@ impl<'t, 'f, 's, 'a> Resolver<'t, 'f, 's, 'a> {
         parameters: Vec<&'a str>,
         pool: &mut Pool,
     ) -> Result<Routine>
-        ensures { IfOk result (λ r. RoutineIs self.now.tables.now (routine_of self.now
-            (texts parameters.entry.items) (body_view body.now)) r pool.old pool.new) }
+        ensures { IfOk result (λ r. IsRoutine (templates_of self.now) (resolve.resolved_routine
+            (cenv_in self.now.tables.now) (order_in self.now.tables.now)
+            (texts parameters.entry.items) (body_view body.now) (senv_of self.now)) r
+            (values pool.old) (values pool.new)) }
     {
         let count = parameters.len();
         let mut done = Vec::new(self.alloc);
@@ -70,6 +71,7 @@ impl<'t, 'f, 's, 'a> Resolver<'t, 'f, 's, 'a> {
 
     /// Resolves the statements of a template of a chain, and appends them. If the template is not
     /// the root, only the statements that set names are resolved.
+    #[tactic(auto, using(crate::proofs::Concatenation::emits_of))]
     fn resolve_layer(
         &self,
         body: &'a [Stmt],
@@ -110,25 +112,7 @@ fn resolve_layers<'a>(
     Ok(())
 }
 
-/// Resolves the routine of a chain, without its macros and blocks.
-fn resolve_chain<'a>(alloc: Global, tables: &Tables<'_, 'a>, pool: &mut Pool) -> Result<Routine>
-    ensures { IfOk result (λ r. (n : Text) → namespace_in tables.now ≡ a_chain n → RoutineIs
-        tables.now (resolve.chain_routine (cenv_in tables.now) (order_in tables.now) n) r pool.old
-        pool.new) }
-{
-    tables.stands();
-    let layers = tables.chain().layers(alloc, tables.namespace())?;
-    let mut done = Vec::new(alloc);
-    resolve_layers(alloc, tables, &layers, &mut done, pool)?;
-    let locals = body_locals(&done)?;
-    Ok(Routine {
-        parameters: 0,
-        locals,
-        body: done,
-    })
-}
-
-/// Resolves the routine of a chain and appends it. A library has none: it is never rendered.
+/// Resolves the routine of a chain, without its macros and blocks, and appends it. A library has none: it is never rendered.
 fn resolve_entry<'a>(
     alloc: Global,
     tables: &Tables<'_, 'a>,
@@ -142,7 +126,16 @@ fn resolve_entry<'a>(
     if here.is_library {
         return Ok(());
     }
-    routines.push(resolve_chain(alloc, tables, pool)?)?;
+    tables.stands();
+    let layers = tables.chain().layers(alloc, tables.namespace())?;
+    let mut done = Vec::new(alloc);
+    resolve_layers(alloc, tables, &layers, &mut done, pool)?;
+    let locals = body_locals(&done)?;
+    routines.push(Routine {
+        parameters: 0,
+        locals,
+        body: done,
+    })?;
     Ok(())
 }
 

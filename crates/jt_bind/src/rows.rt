@@ -2,7 +2,7 @@
 
 ghost use Rattle.jt_semantics.specs.Resolve as resolve;
 ghost use Rattle.std.specs.Prelude.{◌++◌, ◌∷◌, ◌≡◌};
-ghost use Rattle.jt_bind.specs.internal.{IfOk, List, [], length, Text, texts, table_of, IsRow};
+ghost use Rattle.jt_bind.specs.internal.{IfOk, [], texts, table_of, IsRow};
 
 use crate::Result;
 use crate::lookup::reading;
@@ -26,13 +26,12 @@ impl<'t, 'f, 's, 'a> Resolver<'t, 'f, 's, 'a> {
     }
 }
 
-/// Returns reads of the first `count` locals.
-pub(crate) fn first_locals(alloc: Global, count: usize) -> Result<Row>
-    ensures { IfOk result (λ row. (xs : List Text) → length xs ≡ count → IsRow
-        (resolve.first_locals 0 xs) row) }
+/// Returns reads of the first locals, one for each name.
+pub(crate) fn first_locals(alloc: Global, names: &[&str]) -> Result<Row>
+    ensures { IfOk result (IsRow (resolve.first_locals 0 (texts names.now))) }
 {
     let mut row = Vec::new(alloc);
-    for local in 0..count {
+    for local in 0..names.len() {
         row.push((None, SlotExpr::Variable(Slot::Local(local))))?;
     }
     Ok(row)

@@ -7,16 +7,16 @@ ghost use Rattle.jt_semantics.specs.Resolve as resolve;
 ghost use Rattle.jt_ast.specs.Statements as trees;
 ghost use Rattle.jt_ir.specs.Slots as slots;
 ghost use Rattle.std.specs.Prelude.{if◌then◌else◌};
-ghost use Rattle.jt_bind.specs.internal.{values_of, condition_in, IfOk, [], option_map, ℕ};
-ghost use Rattle.jt_bind.specs.internal.{pairs_view, body_view, branches_view, filter_calls_view};
-ghost use Rattle.jt_bind.specs.internal.{names_view, texts, BranchIs, Puts, PutsStmt, TurnsAre};
+ghost use Rattle.jt_bind.specs.internal.{values_of, condition_in, IfOk, [], option_map, pairs_view};
+ghost use Rattle.jt_bind.specs.internal.{body_view, branches_view, filter_calls_view, names_view};
+ghost use Rattle.jt_bind.specs.internal.{texts, AreTurns, IsBranch, Puts, PutsStmt, line_of};
 ghost use Rattle.jt_bind.specs.internal.{body_of, expr_of, inside_of, scoped_of, senv_of, stmt_of};
 ghost use Rattle.jt_bind.specs.internal.{templates_of, values, Emits, IsAsked, IsHead, slot_view};
 
 use crate::Result;
 use crate::emission::{
-    LoopHead, SlotBody, Turns, put_assign, put_branch, put_capture, put_choice, put_data,
-    put_filtered, put_loop,
+    LoopHead, SlotBody, Turns, put_assign, put_branch, put_capture, put_choice, put_filtered,
+    put_loop,
 };
 use crate::held::Held;
 use crate::pool::Pool;
@@ -47,7 +47,7 @@ impl<'t, 'f, 's, 'a> Resolver<'t, 'f, 's, 'a> {
     }
 
     /// Resolves a statement and appends it to `done`.
-    #[tactic(auto, using(jt_ast::proofs::StatementViews::view_If, jt_ast::proofs::StatementViews::view_Print, jt_ast::proofs::StatementViews::view_For, jt_ast::proofs::StatementViews::view_With, jt_ast::proofs::StatementViews::view_FilterBlock, jt_ast::proofs::StatementViews::view_Macro, jt_ast::proofs::StatementViews::view_Import, jt_ast::proofs::StatementViews::view_From, jt_ast::proofs::StatementViews::view_Extends, crate::proofs::BodyConcatenation::emits_nothing))]
+    #[tactic(auto, using(jt_ast::proofs::StatementViews::view_If, jt_ast::proofs::StatementViews::view_Print, jt_ast::proofs::StatementViews::view_For, jt_ast::proofs::StatementViews::view_With, jt_ast::proofs::StatementViews::view_FilterBlock, jt_ast::proofs::StatementViews::view_Data, jt_ast::proofs::StatementViews::view_Autoescape, jt_ast::proofs::StatementViews::view_Macro, jt_ast::proofs::StatementViews::view_Import, jt_ast::proofs::StatementViews::view_From, jt_ast::proofs::StatementViews::view_Extends, crate::proofs::Concatenation::emits_nothing))]
     #[cycle(statements)]
     #[inline(never)]
     pub(crate) fn resolve_statement(
@@ -60,7 +60,7 @@ impl<'t, 'f, 's, 'a> Resolver<'t, 'f, 's, 'a> {
             pool.old pool.new) }
     {
         match statement {
-            Stmt::Data(text) => put_data(self.alloc, text, done, pool),
+            Stmt::Data(text) => self.put_data(text, done, pool),
             Stmt::Print(line, value) => self.resolve_print(*line, value, done, pool),
             Stmt::If(branches, other) => self.resolve_branches(branches, other, done, pool),
             Stmt::For {
@@ -197,7 +197,10 @@ impl<'t, 'f, 's, 'a> Resolver<'t, 'f, 's, 'a> {
         branch: &'a Branch<Stmt>,
         pool: &mut Pool,
     ) -> Result<SlotBranch<SlotStmt>>
-        ensures { IfOk result (λ b. BranchIs self.now branch.now b pool.old pool.new) }
+        ensures { IfOk result (λ b. IsBranch (templates_of self.now)
+            (line_of self.now branch.now.line) (expr_of self.now (expr_view branch.now.condition))
+            (body_of self.now (body_view branch.now.body.items)) b (values pool.old)
+            (values pool.new)) }
     {
         let asked = self.resolve_expression(&branch.condition, pool)?;
         let taken = self.resolve_whole(&branch.body, pool)?;
@@ -218,9 +221,13 @@ impl<'t, 'f, 's, 'a> Resolver<'t, 'f, 's, 'a> {
         tag: ForTag<'a>,
         pool: &mut Pool,
     ) -> Result<Held<Turns>>
-        ensures { IfOk result (λ t. TurnsAre self.now (names_view tag.entry.names.now)
-            (expr_view tag.entry.over.now) (option_map expr_view tag.entry.condition.now)
-            (body_view body.now) t.part pool.old pool.new) }
+        ensures { IfOk result (λ t. AreTurns self.now.tables.now (resolve.fresh_targets
+            self.now.senv.free (names_view tag.entry.names.now))
+            (expr_of self.now (expr_view tag.entry.over.now)) (condition_in self.now.tables.now
+            (option_map expr_view tag.entry.condition.now)
+            (inside_of self.now (names_view tag.entry.names.now))) (scoped_of self.now
+            (body_view body.now) (inside_of self.now (names_view tag.entry.names.now))) t.part
+            (values pool.old) (values pool.new)) }
     {
         let inner = entered(self.alloc, &self.senv, names_of(self.alloc, tag.names)?)?;
         let inside = Resolver {
@@ -335,7 +342,7 @@ impl<'t, 'f, 's, 'a> Resolver<'t, 'f, 's, 'a> {
             (senv_of self.now)) done.old done.new pool.old pool.new) }
     {
         let names = set_names(self.alloc, body)?;
-        self.put_copies(&names, done)?;
+        self.put_values(1, true, &names, Slot::Local(self.senv.free), done)?;
         let inner = entered(self.alloc, &self.senv, names)?;
         let inside = Resolver {
             senv: self.senv.inside(&inner),
@@ -388,8 +395,9 @@ impl<'t, 'f, 's, 'a> Resolver<'t, 'f, 's, 'a> {
         done: &mut SlotBody,
         pool: &mut Pool,
     ) -> Result<()>
-        ensures { IfOk result (λ u. (line : ℕ) → PutsStmt self.now (trees.autoescape line escaping
-            (body_view body.now)) done.old done.new pool.old pool.new) }
+        ensures { IfOk result (λ _. Puts self.now (scoped_of self.now (body_view body.now)
+            (record (senv_of self.now) { escaping = escaping })) done.old done.new pool.old
+            pool.new) }
     {
         let mut inside = *self;
         inside.senv.escaping = escaping;

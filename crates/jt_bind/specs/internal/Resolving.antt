@@ -1,22 +1,147 @@
--- The resolved parts of a chain in the environment of a resolver, and the parts that it appends.
--- Only private clauses cite this module.
-use Rattle.std.specs.declared.alloc.Global.{Global}
-use Rattle.jt_ast.specs.ExpressionView.{expr_view}
-use Rattle.jt_ast.specs.declared.statement.Branch.{Branch}
-use Rattle.jt_ir.specs.declared.program.SlotExpr.{SlotExpr}
-use Rattle.jt_value.specs.Place as place
-use Rattle.jt_ast.specs.Expressions as expressions
+-- The resolved statements and routines of a chain, and the resolved parts in the environment of a
+-- resolver. Only private clauses cite this module.
+use Rattle.jt_ir.specs.Pool.{placed_routine, placed_routines, routines_values}
+use Rattle.jt_bind.specs.declared.emission.LoopHead.{LoopHead}
+use Rattle.jt_bind.specs.internal.Selected.{Chains}
 use Rattle.jt_ast.specs.Statements as trees
-use Rattle.jt_chains.specs.Chain as chain
+use Rattle.jt_ast.specs.Expressions as expressions
+use Rattle.jt_value.specs.Place as place
 use Rattle.jt_ir.specs.Slots as slots
 use Rattle.jt_semantics.specs.Resolve as resolve
-use Rattle.jt_bind.specs.internal.Vocabulary.{Stmt, ℕ, List, [], length, Option, Vec, Value, Text, exprs_view}
-use Rattle.jt_bind.specs.internal.Vocabulary.{pairs_view, parameters_view, body_view, count, keywords, set_in}
-use Rattle.jt_bind.specs.internal.Vocabulary.{CompileEnv, Namespace, Constant, SBody, SRow, SlotBranch, SlotStmt, Table}
-use Rattle.jt_bind.specs.internal.Vocabulary.{filled_some, locals_from, Signature, Turns, Arguments, Resolver}
+use Rattle.jt_semantics.specs.Programs as programs
+use Rattle.jt_chains.specs.Chain as chain
+use Rattle.jt_ast.specs.Statements.{Branches}
+use Rattle.jt_ir.specs.declared.program.SlotExpr.{SlotExpr}
+use Rattle.jt_ir.specs.declared.program.Place.{Place}
+use Rattle.std.specs.Prelude.{◌≡◌, ◌+◌, ◌++◌, if◌then◌else◌}
+use Rattle.jt_bind.specs.internal.Vocabulary
+use Vocabulary.{ℕ, Bool, List, [], map, length, Option, option_map, Tree, Text, Template, layer_view, Layer, Constant}
+use Vocabulary.{condition_values, body_values, placed_condition, placed_body, SBody, Front, place_view, targets_view}
+use Vocabulary.{expr_view, choice_view, SlotBranch, SlotStmt, followed, Turns, StaticEnv, MacroBody, BlockBody, Vec}
+use Vocabulary.{Value, macros, routine_view, Routine, Stmt, exprs_view, pairs_view, parameters_view, count, keywords}
+use Vocabulary.{set_in, CompileEnv, Namespace, SRow, Table, filled_some, locals_from, Signature, Arguments, Resolver}
+use Rattle.jt_bind.specs.internal.Scoped.{files_in, IsPlaced, BodyLeads, cenv_in, order_in, namespace_in, templates_in}
+use Rattle.jt_bind.specs.internal.Scoped.{numbered_in, values, IsAdded, RowLeads, senv_in, Leads, Appended}
+use Rattle.std.specs.declared.alloc.Global.{Global}
 use Rattle.jt_semantics.specs.Expressions.{filter_parameters}
-use Rattle.jt_bind.specs.internal.Scoped.{values, IsAdded, RowLeads, cenv_in, order_in, senv_in, templates_in}
-use Rattle.jt_bind.specs.internal.Stated.{Emits, IsBranch, AreTurns, condition_in}
+
+-- ---- the values at the end of a pool that grows from one list of values to another
+
+-- The statements `whole` are emitted: `after` is `before` followed by them, and the pool grows by
+-- their values, whatever is left to come after them.
+abbrev pub Emits : List Text → SBody Constant → List SlotStmt → List SlotStmt → List Tree
+    → List Tree → Type 0
+Emits templates whole before after old new =
+    (left : SBody Constant) → BodyLeads templates (followed whole left) left before after old new
+
+-- A condition, if there is one.
+pub record IsAsked (k : Option (slots.SlotExpr Constant)) (condition : Option SlotExpr) (old new : List Tree) : Type
+    0 where
+  pub shown : option_map expr_view condition ≡ placed_condition k (length old)
+  pub pooled : new ≡ old ++ condition_values k
+
+-- The head of a loop: targets, items and condition.
+pub record IsHead (xs : slots.Targets) (c : slots.SlotExpr Constant) (k : Option (slots.SlotExpr Constant))
+    (h : LoopHead) (old new : List Tree) : Type 0 where
+  pub given : List Tree
+  pub takes : targets_view h.targets ≡ xs
+  pub goes_over : IsPlaced c (expr_view h.items) old given
+  pub asked : IsAsked k h.condition given new
+
+-- A function that puts a body, whose values are in the pool from an index on, before other statements.
+abbrev pub StandsFor : SBody Constant → Front → ℕ → Type 0
+StandsFor whole f n =
+    (left : SBody Constant) → f (placed_body left (n + length (body_values whole))) ≡ placed_body (followed whole left) n
+
+-- A branch: the place of its tag, its condition and its statements.
+pub record IsBranch (templates : List Text) (at : place.Place) (c : slots.SlotExpr Constant) (whole : SBody Constant)
+    (b : SlotBranch SlotStmt) (old new : List Tree) : Type 0 where
+  pub between : List Tree
+  pub stands : place_view templates b.place ≡ at
+  pub asked : IsPlaced c (expr_view b.condition) old between
+  pub taken : Emits templates whole [] b.body.items between new
+
+-- Branches are resolved; of the `if`, only the `else` part remains.
+pub record ChoiceLeads (templates : List Text) (whole other : SBody Constant) (branches : List (SlotBranch SlotStmt))
+    (old new : List Tree) : Type 0 where
+  pub shown : (f : Front) → StandsFor other f (length new) → StandsFor whole (choice_view templates branches f) (length old)
+  pub pooled : new ++ body_values other ≡ old ++ body_values whole
+
+-- The place of a tag in the code.
+abbrev pub place_of : StaticEnv → ℕ → Place
+place_of p line = record { template = p.template; line = line }
+
+-- ---- the parts of a chain
+
+module _ (s : Chains) where
+  abbrev pub condition_in : Option expressions.Expr → resolve.StaticEnv
+      → Option (slots.SlotExpr Constant)
+  condition_in k sp = resolve.resolved_condition (cenv_in s) (order_in s) k sp
+
+  -- A template of a chain at its top: all its statements if it is the root, or only the statements
+  -- that set names.
+  abbrev pub layer_at : resolve.StaticEnv → trees.Body → Bool → SBody Constant
+  layer_at top b is_root =
+      if is_root
+      then resolve.resolved_body (cenv_in s) (order_in s) b top
+      else resolve.resolved_sets (cenv_in s) (order_in s) b top
+
+  abbrev pub layer_in : Template → Bool → SBody Constant
+  layer_in t is_root =
+      layer_at (resolve.top_senv (cenv_in s) (order_in s) (namespace_in s) t.name) t.body is_root
+
+  -- The templates of a chain.
+  abbrev pub chained_in : List Template → SBody Constant
+  chained_in = resolve.resolved_chain (cenv_in s) (order_in s) (namespace_in s)
+
+  abbrev pub layers_in : List Layer → SBody Constant
+  layers_in ls = chained_in (map (layer_view (files_in s)) ls)
+
+  -- The parts of a loop: targets, items, condition and body.
+  pub record AreTurns (xs : slots.Targets) (c : slots.SlotExpr Constant) (k : Option (slots.SlotExpr Constant))
+      (whole : SBody Constant) (t : Turns) (old new : List Tree) : Type 0 where
+    pub between : List Tree
+    pub headed : IsHead xs c k t.head.value old between
+    pub taken : Emits (templates_in s) whole [] t.body.items between new
+
+-- ---- the routines of chains, with the indices of the pool that they fill
+
+-- A routine, and the values that it appends to a pool.
+pub record IsRoutine (templates : List Text) (c : slots.Routine Constant) (r : Routine) (old new : List Tree) : Type
+    0 where
+  pub shown : routine_view templates r ≡ placed_routine c (length old)
+  pub pooled : new ≡ old ++ body_values c.body
+
+-- Routines are appended; of `whole`, the part `left` remains.
+abbrev pub RoutinesLead : List Text → Appended (List (slots.Routine Constant)) Routine
+RoutinesLead templates = Leads (λ rs left. map (routine_view templates) rs ++ left) placed_routines routines_values
+
+-- The routines `whole` are appended, whatever is left to come after them.
+abbrev pub AreRoutines : List Text → List (slots.Routine Constant) → List Routine → List Routine → List Tree
+    → List Tree → Type 0
+AreRoutines templates whole before after old new =
+    (left : List (slots.Routine Constant)) → RoutinesLead templates (whole ++ left) left before after old new
+
+module _ (s : Chains) where
+  -- The routine of a chain, which a library lacks; the routines of macros; the routines of the
+  -- bodies of blocks; and all of them.
+  abbrev pub entry_in : List (slots.Routine Constant)
+  entry_in = programs.entry_routines (cenv_in s) (order_in s) (namespace_in s)
+
+  abbrev pub macro_in : MacroBody → slots.Routine Constant
+  macro_in = resolve.macro_routine (cenv_in s) (order_in s) (namespace_in s)
+
+  abbrev pub macros_in : List (slots.Routine Constant)
+  macros_in = map macro_in (macros (cenv_in s).sources (namespace_in s))
+
+  abbrev pub bodies_in : List (ℕ × BlockBody) → List (slots.Routine Constant)
+  bodies_in = programs.body_routines (cenv_in s) (order_in s) (namespace_in s)
+
+  abbrev pub blocks_in : List (slots.Routine Constant)
+  blocks_in = bodies_in (numbered_in s)
+
+  abbrev pub routines_in : List (slots.Routine Constant)
+  routines_in = programs.chain_routines (cenv_in s) (order_in s) (namespace_in s)
 
 -- A part of a list is appended, and its values to a pool; the part `left` remains.
 abbrev pub RowAdds : SRow Constant → SRow Constant → Vec (Option ℕ × SlotExpr) Global
@@ -146,21 +271,3 @@ module _ (r : Resolver) where
   -- The statements of a body that set names.
   abbrev pub sets_of : trees.Body → SBody Constant
   sets_of b = resolve.resolved_sets cenv order b senv_of
-
-  -- A routine with these parameters.
-  abbrev pub routine_of : List Text → trees.Body → slots.Routine Constant
-  routine_of xs b = resolve.resolved_routine cenv order xs b senv_of
-
-  -- A branch of an `if`.
-  abbrev pub BranchIs : Branch Stmt → SlotBranch SlotStmt → Vec Value Global → Vec Value Global
-      → Type 0
-  BranchIs b made old new =
-      IsBranch templates_of (line_of b.line) (expr_of (expr_view b.condition))
-      (body_of (body_view b.body.items)) made (values old) (values new)
-
-  -- The items of a loop whose targets have these names, its condition and its body.
-  abbrev pub TurnsAre : List Text → expressions.Expr → Option expressions.Expr → trees.Body → Turns
-      → Vec Value Global → Vec Value Global → Type 0
-  TurnsAre xs e k b made old new =
-      AreTurns r.tables.now (resolve.fresh_targets r.senv.free xs) (expr_of e)
-      (condition_in r.tables.now k (inside_of xs)) (scoped_of b (inside_of xs)) made (values old) (values new)

@@ -1,29 +1,108 @@
 -- The resolved parts of a chain, by the layouts in the code and with the indices of the pool that is
 -- filled. Only private clauses cite this module.
+use Rattle.jt_semantics.specs.Layout.{default_index, globals, numbered_bodies, of_macro}
+use Rattle.jt_chains.specs.Chain as chain
+use Rattle.jt_bind.specs.declared.callee.Callee.TheVariants as kind
+use Rattle.jt_semantics.specs.Operators as operators
+use Rattle.jt_bind.specs.declared.operator_forms.OperatorForm.TheVariants as form
+use Rattle.jt_ids.specs.declared.op_id.OpId.TheVariants as op
+use Rattle.jt_chains.specs.declared.definitions.Definition as found
+use Rattle.jt_ast.specs.Expressions as trees
+use Rattle.jt_ir.specs.Slots as slots
+use Rattle.jt_semantics.specs.Resolve as resolve
+use Rattle.std.specs.Prelude.{◌≡◌, if◌then◌else◌, ◌<◌, ◌∷◌, ◌++◌}
+use Rattle.jt_bind.specs.internal.Vocabulary
+use Vocabulary.{ℕ, true, List, Option, Some, None, option_map, Text, parameters_view, Namespace, listed, MacroBody}
+use Vocabulary.{macros, macro_of, Definition, one_macro, library, CompileEnv, of_body, unit, Signature, Callee, Bool}
+use Vocabulary.{given, Template, pos, [], map, drop, length, get_or, filter, Vec, Rc, bytes_eq, Bor, Tree, number}
+use Vocabulary.{Index0, view, Value, BlockBody, callee, name_at, namespace_at, cenv_of, Constant, own, expr_values}
+use Vocabulary.{row_values, body_values, placed_expr, placed_row, placed_body, SRow, SBody, expr_view, row_view}
+use Vocabulary.{SlotStmt, Table, numbered_of, block_parameters, Part, bound_table, bound_all, texts, NameScope}
+use Vocabulary.{StaticEnv, NamespaceLayout, Place, slot_in, suc, max, slot_locals, Front, expr_locals, body_locals}
+use Vocabulary.{Slot, end, SlotBranch}
+use Rattle.jt_bind.specs.declared.operator_forms.OperatorForm.{OperatorForm}
 use Rattle.std.specs.declared.alloc.Global.{Global}
 use Rattle.jt_ir.specs.View.{body_view}
 use Rattle.jt_ir.specs.declared.program.SlotExpr.{SlotExpr}
 use Rattle.jt_chains.specs.Named.{given_view}
 use Rattle.jt_chains.specs.View.{chain_view}
 use Rattle.jt_layout.specs.NamespaceLayout.{IsLaid}
-use Rattle.jt_ids.specs.declared.op_id.OpId.TheVariants as op
-use Rattle.jt_chains.specs.Chain as chain
-use Rattle.jt_chains.specs.declared.definitions.Definition as found
-use Rattle.jt_ast.specs.Expressions as trees
-use Rattle.jt_ir.specs.Slots as slots
-use Rattle.jt_semantics.specs.Resolve as resolve
-use Rattle.std.specs.Prelude.{◌≡◌, ◌<◌, ◌∷◌, ◌++◌}
-use Rattle.jt_bind.specs.internal.Vocabulary.{given, Template, ℕ, pos, List, [], map, drop, length, get_or, filter}
-use Rattle.jt_bind.specs.internal.Vocabulary.{Option, Some, None, Vec, Rc, bytes_eq, Bor, Tree, number, Index0, view}
-use Rattle.jt_bind.specs.internal.Vocabulary.{Value, Text, Namespace, BlockBody, Definition, callee, macros, macro_of}
-use Rattle.jt_bind.specs.internal.Vocabulary.{name_at, namespace_at, CompileEnv, cenv_of, Constant, own, expr_values}
-use Rattle.jt_bind.specs.internal.Vocabulary.{row_values, body_values, placed_expr, placed_row, placed_body, SRow}
-use Rattle.jt_bind.specs.internal.Vocabulary.{SBody, expr_view, row_view, SlotStmt, Table, globals, numbered_bodies}
-use Rattle.jt_bind.specs.internal.Vocabulary.{numbered_of, block_parameters, Part, bound_table, bound_all, texts}
-use Rattle.jt_bind.specs.internal.Vocabulary.{NameScope, StaticEnv, NamespaceLayout, Callee}
 use Rattle.jt_bind.specs.declared.scope_entry.EnteredScope.{EnteredScope}
 use Rattle.jt_bind.specs.internal.Selected.{Chains}
-use Rattle.jt_bind.specs.internal.Callees.{IsCallee, of_namespace, unit_of}
+
+-- ---- the callee of a call, and its representation in the code
+
+-- The macro as a callee, if the chain or library has it.
+abbrev pub of_namespace : Namespace → Option MacroBody → chain.Callee
+of_namespace h None = chain.no_callee
+of_namespace h (Some m) = chain.a_macro h m
+
+-- The library that a definition names, if it is one.
+abbrev pub library_of : Option Definition → Option Text
+library_of None = None
+library_of (Some (one_macro h m)) = None
+library_of (Some (library n)) = Some n
+
+module _ (cenv : CompileEnv) (order : List Namespace) where
+  -- The signature of a macro of a chain or a library.
+  pub record IsSignature (h : Namespace) (s : Signature) (m : MacroBody) : Type 0 where
+    pub takes : parameters_view s.parameters.now ≡ m.parameters
+    pub runs : s.unit ≡ unit cenv order (of_macro h m.name)
+    pub defaults : s.first_default ≡ default_index cenv order h m.name
+
+  abbrev pub IsCallee : Callee → chain.Callee → Type 0
+  IsCallee (kind.Macro s) k =
+      (h : Namespace) × (m : MacroBody) × (IsSignature h s m × (k ≡ chain.a_macro h m))
+  IsCallee kind.Range k = k ≡ chain.a_range
+  IsCallee kind.Super k = k ≡ chain.a_super
+  IsCallee (kind.Block x) k = k ≡ chain.a_block x.now
+  IsCallee kind.Cycle k = k ≡ chain.a_cycle
+  IsCallee kind.Unknown k = k ≡ chain.no_callee
+
+  -- A chain or a library that has a macro of the name is in the order.
+  abbrev pub IsLaidThere : Namespace → Text → Type 0
+  IsLaidThere h x =
+      (m : MacroBody) → macro_of x (macros cenv.sources h) ≡ Some m → listed h order ≡ true
+
+  -- The unit of a body.
+  abbrev pub unit_of : Namespace → Option ℕ → Option ℕ
+  unit_of h i = option_map (λ j. unit cenv order (of_body h j)) i
+
+-- ---- the form of an operator in the code
+
+abbrev pub shortcut_view : Bool → operators.OperatorForm
+shortcut_view is_conjunction = if is_conjunction then operators.conjunction else operators.disjunction
+
+abbrev pub form_view : OperatorForm → operators.OperatorForm
+form_view (form.Operation o) = operators.operation o
+form_view (form.Negation o) = operators.negation o
+form_view (form.Shortcut is_conjunction) = shortcut_view is_conjunction
+
+-- ---- the number of locals that parts of resolved statements use
+
+-- The number of locals up to one, if there is one.
+abbrev pub up_to : Option ℕ → ℕ
+up_to None = 0
+up_to (Some i) = suc i
+
+-- The locals of a slot, if there is one.
+abbrev pub target_locals : Option Slot → ℕ
+target_locals None = 0
+target_locals (Some s) = slot_locals s
+
+-- The locals of the branches of an `if`.
+abbrev pub branches_locals : List Text → List (SlotBranch SlotStmt) → ℕ
+branches_locals templates [] = 0
+branches_locals templates (b ∷ bs) =
+    max (max (expr_locals (expr_view b.condition)) (body_locals (body_view templates b.body.items end)))
+    (branches_locals templates bs)
+
+-- The last local before statements is `last`, and the last one after them is `result`.
+abbrev pub Reaches : Front → Option ℕ → Option ℕ → Type 0
+Reaches front last result =
+    (behind : SBody ℕ) → max (up_to result) (body_locals behind) ≡ max (up_to last) (body_locals (front behind))
+
+-- ---- pools
 
 -- The values of a pool.
 abbrev pub values : Vec Value Global → List Tree
@@ -46,7 +125,7 @@ abbrev pub IsAdded : slots.SlotExpr Constant → SlotExpr → Vec Value Global �
     → Type 0
 IsAdded c e old new = IsShown c e (values old) (values new)
 
--- An expression made of one placed expression, and one made of two, which are placed in order.
+-- An expression made of one placed expression.
 abbrev pub MadeOfOne : (slots.SlotExpr Constant → slots.SlotExpr Constant) → SlotExpr → SlotExpr
     → Type 0
 MadeOfOne made operand e =
@@ -54,42 +133,54 @@ MadeOfOne made operand e =
     → IsShown a operand p q
     → IsShown (made a) e p q
 
-abbrev pub MadeOfTwo : (slots.SlotExpr Constant → slots.SlotExpr Constant
-    → slots.SlotExpr Constant) → SlotExpr → SlotExpr → SlotExpr → Type 0
-MadeOfTwo made left right e =
-    (a b : slots.SlotExpr Constant) (p q r : List Tree)
-    → IsShown a left p q
-    → IsShown b right q r
-    → IsShown (made a b) e p r
-
 -- An expression that appends no values.
 abbrev pub PutsNone : slots.SlotExpr Constant → SlotExpr → Type 0
 PutsNone c e = (p : List Tree) → IsShown c e p p
 
+-- Parts are appended, and their values to a pool; of `whole`, the part `left` remains. The view puts
+-- what was appended before parts with indices of the pool.
+pub record Leads {Part Item Shown : Type 0} (shown_before : List Item → Shown → Shown) (placed : Part → ℕ → Shown)
+    (kept : Part → List Tree) (whole left : Part) (before after : List Item) (old new : List Tree) : Type 0 where
+  pub shown : shown_before after (placed left (length new)) ≡ shown_before before (placed whole (length old))
+  pub pooled : new ++ kept left ≡ old ++ kept whole
+
+-- A relation between a whole and what is left of it, the items before and after, and the values of the pool.
+abbrev pub Appended : Type 0 → Type 0 → Type 1
+Appended Part Item = Part → Part → List Item → List Item → List Tree → List Tree → Type 0
+
 -- Expressions are appended; of the list `whole`, the part `left` remains.
-pub record RowLeads (whole left : SRow Constant) (before after : List (Option ℕ × SlotExpr)) (old new : List Tree) :
-    Type 0 where
-  pub shown :
-      row_view after (placed_row left (length new))
-      ≡ row_view before (placed_row whole (length old))
-  pub pooled : new ++ row_values left ≡ old ++ row_values whole
+abbrev pub RowLeads : Appended (SRow Constant) (Option ℕ × SlotExpr)
+RowLeads = Leads row_view placed_row row_values
+
+-- The list with an expression before it, as an item or as one that is stored in a local.
+abbrev pub entry : Option ℕ → slots.SlotExpr Constant → SRow Constant → SRow Constant
+entry None e left = slots.item e left
+entry (Some i) e left = slots.aside i e left
 
 -- A whole list of expressions that appends no values.
 abbrev pub IsRow : SRow Constant → Vec (Option ℕ × SlotExpr) Global → Type 0
 IsRow whole row = (p : List Tree) → RowLeads whole slots.none [] row.items p p
 
 -- Statements are appended; of the body `whole`, the part `left` remains.
-pub record BodyLeads (templates : List Text) (whole left : SBody Constant) (before after : List SlotStmt)
-    (old new : List Tree) : Type 0 where
-  pub shown :
-      body_view templates after (placed_body left (length new))
-      ≡ body_view templates before (placed_body whole (length old))
-  pub pooled : new ++ body_values left ≡ old ++ body_values whole
+abbrev pub BodyLeads : List Text → Appended (SBody Constant) SlotStmt
+BodyLeads templates = Leads (body_view templates) placed_body body_values
 
 -- The index of a loop's turn modulo n.
 abbrev pub turn_in : ℕ → slots.SlotExpr Constant
 turn_in n =
     resolve.operation_of op.Remainder (slots.field Index0) (slots.pooled (own (number (pos n))))
+
+-- The slot after a slot.
+abbrev pub slot_after : slots.Slot → slots.Slot
+slot_after (slots.local i) = slots.local (suc i)
+slot_after (slots.global i) = slots.global (suc i)
+
+-- The assignments of the values of names to consecutive slots from one on.
+abbrev pub assigned : Place → Table → slots.Slot → List Text → SBody Constant
+assigned p table s [] = slots.end
+assigned p table s (x ∷ xs) =
+    slots.stmt (slots.assign p (slots.one s) (resolve.read_from (slot_in x table)))
+    (assigned p table (slot_after s) xs)
 
 -- ---- static environments
 
@@ -100,11 +191,6 @@ framed (f ∷ fs) table = framed fs (bound_table (texts f.names.items) f.first t
 
 abbrev pub seen_through : List (Rc NameScope Global) → Table → Table
 seen_through fs table = framed (map (λ f. f.value) fs) table
-
--- The scopes of an environment, and one with these names further inside.
-abbrev pub HasInside : StaticEnv → List Text → List (Rc NameScope Global) → Type 0
-HasInside p xs fs =
-    (t : Table) → seen_through fs t ≡ bound_table xs p.free (seen_through p.name_scopes.now t)
 
 -- The first body of the list, and the bodies of its block after it.
 abbrev pub part_from : List (ℕ × BlockBody) → Option Part
@@ -153,17 +239,14 @@ module _ (s : Chains) where
   abbrev pub callee_in : trees.Expr → chain.Callee
   callee_in f = callee cenv_in.sources given_in f
 
-  -- A callee by its representation in the code, and the callee of an expression.
-  abbrev pub Calls : Callee → chain.Callee → Type 0
-  Calls = IsCallee cenv_in order_in
-
+  -- The callee of an expression by its representation in the code.
   abbrev pub IsCalled : trees.Expr → Callee → Type 0
-  IsCalled f k = Calls k (callee_in f)
+  IsCalled f k = IsCallee cenv_in order_in k (callee_in f)
 
   -- The macro of a name in a chain or library, and its representation in the code.
   abbrev pub IsMacroOf : Namespace → Text → Callee → Type 0
   IsMacroOf h x k =
-      Calls k (of_namespace h (macro_of x (macros cenv_in.sources h)))
+      IsCallee cenv_in order_in k (of_namespace h (macro_of x (macros cenv_in.sources h)))
 
   -- The bodies of the blocks with their numbers, and the parameters of the bodies of a block.
   abbrev pub numbered_in : List (ℕ × BlockBody)

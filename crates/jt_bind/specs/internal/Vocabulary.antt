@@ -1,9 +1,9 @@
 -- The words that the clauses and the proofs of this crate take from the definitions of other crates.
 pub use Rattle.std.specs.Option.{is_none}
-pub use Rattle.std.specs.Prelude.{Bool, Box, Err, IfOk, List, None, Ok, Option, Result, Some, String, Vec, [], codes}
-pub use Rattle.std.specs.Prelude.{drop, false, filter, flat_map, get_or, if◌then◌else◌, is_some, length, map, max}
-pub use Rattle.std.specs.Prelude.{option_map, pos, refl, reverse, slice_get, string_bytes, suc, take, true, unwrap_or}
-pub use Rattle.std.specs.Prelude.{zero, ℕ, ◌*◌, ◌++◌, ◌+◌, ◌-◌, ◌<◌, ◌==◌, ◌^◌, ◌||◌, ◌∷◌, ◌≡◌, ◌≤◌}
+pub use Rattle.std.specs.Prelude.{Bool, Box, IfOk, List, None, Option, Some, String, Vec, [], codes, drop, false}
+pub use Rattle.std.specs.Prelude.{filter, flat_map, get_or, if◌then◌else◌, is_some, length, map, max, option_map, pos}
+pub use Rattle.std.specs.Prelude.{refl, reverse, string_bytes, suc, take, true, unwrap_or, zero, ℕ, ◌*◌, ◌++◌, ◌+◌, ◌-◌}
+pub use Rattle.std.specs.Prelude.{◌<◌, ◌==◌, ◌∷◌, ◌≡◌, ◌≤◌}
 pub use Rattle.std.specs.Str.{bytes_eq}
 pub use Rattle.std.specs.declared.rc.Rc.{Rc}
 pub use denote.Param.Weighed.{most}
@@ -15,10 +15,9 @@ pub use Rattle.jt_ast.specs.StatementView.{names_view, parameter_view, parameter
 pub use Rattle.jt_ast.specs.Texts.{among, texts}
 pub use Rattle.jt_ast.specs.declared.expression.Expr.{Expr, size-Expr}
 pub use Rattle.jt_ast.specs.declared.statement.Stmt.{Stmt, size-Stmt}
-pub use Rattle.jt_chains.specs.Chain.{BlockBody, Definition, MacroBody, Namespace, Sources, Template, a_chain}
-pub use Rattle.jt_chains.specs.Chain.{a_library, a_macro, all_bodies, callee, given, given_to, in_library, is_private}
-pub use Rattle.jt_chains.specs.Chain.{library, listed, macro_of, macros, no_callee, of_library, one_macro, public_macro}
-pub use Rattle.jt_chains.specs.Chain.{templates}
+pub use Rattle.jt_chains.specs.Chain.{BlockBody, Definition, MacroBody, Namespace, Template, a_chain, a_library}
+pub use Rattle.jt_chains.specs.Chain.{a_macro, all_bodies, callee, given, given_to, library, listed, macro_of, macros}
+pub use Rattle.jt_chains.specs.Chain.{one_macro, templates}
 pub use Rattle.jt_chains.specs.Indices.{namespace_at}
 pub use Rattle.jt_chains.specs.Layers.{layer_view}
 pub use Rattle.jt_chains.specs.Parts.{block_view, macro_view, name_at}
@@ -28,19 +27,17 @@ pub use Rattle.jt_chains.specs.declared.layers.Layer.{Layer}
 pub use Rattle.jt_chains.specs.declared.parts.Block.{Block}
 pub use Rattle.jt_chains.specs.declared.parts.Macro.{Macro}
 pub use Rattle.jt_eval.specs.Filters.{default_value, some_given}
-pub use Rattle.jt_eval.specs.TheFilters.{filter_parameters, filter_written, parameters_of}
 pub use Rattle.jt_eval.specs.Values.{literal}
 pub use Rattle.jt_ids.specs.FilterTable.{filter_id}
 pub use Rattle.jt_ids.specs.declared.loop_field.LoopField.TheVariants.{Index0}
 pub use Rattle.jt_ir.specs.Locals.{body_locals, condition_locals, expr_locals, row_locals, slot_locals, slots_locals}
 pub use Rattle.jt_ir.specs.Locals.{stmt_locals}
 pub use Rattle.jt_ir.specs.Pool.{Constant, body_values, condition_values, expr_values, known, own, placed_body}
-pub use Rattle.jt_ir.specs.Pool.{placed_condition, placed_expr, placed_routine, placed_routines, placed_row}
-pub use Rattle.jt_ir.specs.Pool.{placed_stmt, routines_values, row_values, stmt_values}
+pub use Rattle.jt_ir.specs.Pool.{placed_condition, placed_expr, placed_row, placed_stmt, row_values, stmt_values}
 pub use Rattle.jt_ir.specs.Slots.{NaryOp, SBody, SRow, Slot, SlotExpr, Targets, absent, end, global, invoke, item}
 pub use Rattle.jt_ir.specs.Slots.{local, none, one, several, variable}
 pub use Rattle.jt_ir.specs.View.{Front, choice_view, entry_front, expr_view, filtered_view, filters_after, nary_op_view}
-pub use Rattle.jt_ir.specs.View.{place_view, program_of, routine_view, row_view, slot_view, stmt_view, targets_view}
+pub use Rattle.jt_ir.specs.View.{place_view, routine_view, row_view, slot_view, stmt_view, targets_view}
 pub use Rattle.jt_ir.specs.declared.program.Routine.{Routine}
 pub use Rattle.jt_ir.specs.declared.program.SlotBranch.{SlotBranch}
 pub use Rattle.jt_ir.specs.declared.program.SlotFilter.{SlotFilter}
@@ -48,16 +45,11 @@ pub use Rattle.jt_ir.specs.declared.program.SlotStmt.{SlotStmt, size-SlotStmt}
 pub use Rattle.jt_layout.specs.declared.namespace_layout.NamespaceLayout.{NamespaceLayout}
 pub use Rattle.jt_names.specs.Names.{value_in}
 pub use Rattle.jt_rules.specs.CompileEnv.{CompileEnv, cenv_of}
-pub use Rattle.jt_semantics.specs.Layout.{Table, block_parameters, chain_keys, counted_from, default_index}
-pub use Rattle.jt_semantics.specs.Layout.{defaults_of, first_slot, globals, index_of, keys, names, names_in}
-pub use Rattle.jt_semantics.specs.Layout.{numbered_bodies, numbered_of, of_body, of_chain, of_macro, slot_in}
-pub use Rattle.jt_semantics.specs.Layout.{unit}
-pub use Rattle.jt_semantics.specs.Resolve.{Part, alone, bound_all, bound_table, chain_routine, copied, filled}
-pub use Rattle.jt_semantics.specs.Resolve.{filled_some, first_body, first_locals, followed, fresh, handed_on}
-pub use Rattle.jt_semantics.specs.Resolve.{invoked_body, invoked_super, kept_slots, left_out, locals_from, next_given}
-pub use Rattle.jt_semantics.specs.Resolve.{place, read_from, reads, resolved_chain}
-pub use Rattle.jt_semantics.specs.Resolve.{resolved_routine, resolved_values, set_targets, slot_of}
-pub use Rattle.jt_semantics.specs.Resolve.{value_or}
+pub use Rattle.jt_semantics.specs.Layout.{Table, block_parameters, counted_from, defaults_of, first_slot, keys, names}
+pub use Rattle.jt_semantics.specs.Layout.{numbered_of, of_body, slot_in, unit}
+pub use Rattle.jt_semantics.specs.Resolve.{Part, alone, bound_all, bound_table, filled, filled_some, first_body}
+pub use Rattle.jt_semantics.specs.Resolve.{first_locals, followed, fresh, invoked_body, kept_slots, locals_from}
+pub use Rattle.jt_semantics.specs.Resolve.{next_given, read_from, reads, resolved_chain, set_targets, value_or}
 pub use Rattle.jt_value.specs.Place.{Place}
 pub use Rattle.jt_value.specs.Tree.{Tree, number}
 pub use Rattle.jt_value.specs.View.{view}

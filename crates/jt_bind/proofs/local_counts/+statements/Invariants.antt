@@ -1,6 +1,6 @@
 use Rattle.jt_ir.specs.View.{body_view}
-use Rattle.jt_bind.specs.internal.{◌≡◌, ℕ, ◌+◌, ◌*◌, List, drop, max, most, Text, body_locals, SBody, size-SlotStmt}
-use Rattle.jt_bind.specs.internal.{branches_locals, up_to}
+use Rattle.jt_bind.specs.internal
+use internal.{◌≡◌, ℕ, ◌+◌, ◌*◌, List, drop, max, most, Text, body_locals, SBody, size-SlotStmt, branches_locals, up_to}
 use Rattle.jt_bind.proofs.{SBranch}
 use Rattle.jt_bind.proofs.local_counts.+statements.Given as goal
 

@@ -9,4 +9,4 @@ returns c =
     IfOk-weaker c.on_two.result _ _
     (λ e h. h (slots.field Index0) (slots.pooled (own (tree.number (pos c.args.count)))) (values c.args.pool.now) _ _
     (record { shown = view_Field Index0; pooled = sym (append-nil (values c.args.pool.now)) })
-    (rw c.in_ok-number.ensures at c.in_ok-items.ensures)) c.on_two.ensures
+    (rw c.in_ok-number.ensures.value at c.in_ok-items.ensures)) c.on_two.ensures

@@ -1,7 +1,8 @@
 use Rattle.jt_semantics.specs.Resolve.{StaticEnv}
-use Rattle.jt_bind.specs.internal.{ℕ, List, BlockBody, files_in, map, block_view, part_from, texts, templates_in}
-use Rattle.jt_bind.specs.internal.{top_in, numbered_in, part_at, Some, cenv_in, order_in, parameters_in, body_view}
-use Rattle.jt_bind.proofs.{ap, ◌∙◌, arith, routines_lead, one_routine, routine_as, numbered_next, numbered_end}
+use Rattle.jt_bind.specs.internal
+use internal.{ℕ, List, BlockBody, files_in, map, block_view, part_from, texts, templates_in, top_in, numbered_in}
+use internal.{part_at, Some, cenv_in, order_in, parameters_in, body_view}
+use Rattle.jt_bind.proofs.{ap, ◌∙◌, arith, lead_both, one_routine, routine_as, numbered_next, numbered_end}
 use Rattle.jt_bind.proofs.routines.resolve_blocks.Goals as goal
 
 pub loop-index-preserved : goal.loop-index-preserved
@@ -14,7 +15,7 @@ loop-index-preserved c = λ left.
     let next = numbered_next scope c.deref-block-items.result.now all l.index c.block-item.result
     c.loop-index-test.true c.block-item.is in
     let x = c.block-item.result in
-    routines_lead T _ _ _ _ _ _ _ _ _ (rw next at (l.invariant left))
+    lead_both (rw next at (l.invariant left))
     (one_routine T _ _ _ _ _ _
     (routine_as T (cenv_in scope) (order_in scope) _ (parameters_in scope x.name.now) (body_view x.body.now) _ _ _ _ _
     c.in_ok-resolve_routine.ensures (ap texts c.in_ok-parameters.ensures.items ∙ c.block_parameters.ensures)

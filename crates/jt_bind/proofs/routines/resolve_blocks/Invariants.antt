@@ -1,5 +1,5 @@
-use Rattle.jt_bind.specs.internal.{List, ◌++◌, bodies_in, numbered_in, drop, values, templates_in, RoutinesLead}
-use Rattle.jt_bind.specs.internal.{blocks_in}
+use Rattle.jt_bind.specs.internal
+use internal.{List, ◌++◌, bodies_in, numbered_in, drop, values, templates_in, RoutinesLead, blocks_in}
 use Rattle.jt_bind.proofs.{Planned}
 use Rattle.jt_bind.proofs.routines.resolve_blocks.Given as goal
 

@@ -1,5 +1,5 @@
-use Rattle.jt_bind.specs.internal.{chained_in, files_in, map, drop, layer_view, followed, Constant, SBody, values}
-use Rattle.jt_bind.specs.internal.{BodyLeads, templates_in}
+use Rattle.jt_bind.specs.internal
+use internal.{chained_in, files_in, map, drop, layer_view, followed, Constant, SBody, values, BodyLeads, templates_in}
 use Rattle.jt_bind.proofs.routines.resolve_layers.Given as goal
 
 abbrev pub invariant-loop-index : goal.invariant-loop-index

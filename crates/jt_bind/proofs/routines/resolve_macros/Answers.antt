@@ -1,13 +1,14 @@
-use Rattle.jt_bind.specs.internal.{◌++◌, map, macro_view, files_in, macro_in, cenv_in, order_in, templates_in, top_in}
-use Rattle.jt_bind.specs.internal.{parameters_view, body_view}
-use Rattle.jt_bind.proofs.{ap, ◌∙◌, sym, arith, drop_all, drop_more, lead_first, one_routine, routine_as, routines_lead}
+use Rattle.jt_bind.specs.internal
+use internal.{◌++◌, map, macro_view, files_in, macro_in, cenv_in, order_in, templates_in, top_in, parameters_view}
+use internal.{body_view}
+use Rattle.jt_bind.proofs.{ap, ◌∙◌, arith, drop_all, drop_more, lead_of, lead_none, lead_both, one_routine, routine_as}
 use Rattle.jt_bind.proofs.routines.resolve_macros.Goals as goal
 
 pub loop-called-init : goal.loop-called-init
 loop-called-init c = λ left.
     let s = c.args.tables.now in
     let all = ap (map (macro_view (files_in s))) c.deref-called-items.ensures.value ∙ c.here-here.ensures.all_macros in
-    lead_first (templates_in s) _ _ _ _ (ap (λ ms. map (macro_in s) ms ++ left) (sym all))
+    lead_of (ap (λ ms. map (macro_in s) ms ++ left) all) lead_none
 
 pub loop-called-preserved : goal.loop-called-preserved
 loop-called-preserved c = λ left.
@@ -15,7 +16,7 @@ loop-called-preserved c = λ left.
     let s = c.args.tables.now in
     let T = templates_in s in
     let x = c.called-item.result in
-    routines_lead T _ _ _ _ _ _ _ _ _
+    lead_both
     (rw (drop_more c.deref-called-items.result.now l.called-index x c.loop-called-test.true, ← c.called-item.is) at
     (l.invariant left))
     (one_routine T (macro_in s (macro_view (files_in s) x)) _ _ _ _ _

@@ -1,5 +1,5 @@
-use Rattle.jt_bind.specs.internal.{List, ◌++◌, drop, map, macro_view, values, RoutinesLead, files_in, macro_in}
-use Rattle.jt_bind.specs.internal.{macros_in, templates_in}
+use Rattle.jt_bind.specs.internal
+use internal.{List, ◌++◌, drop, map, macro_view, values, RoutinesLead, files_in, macro_in, macros_in, templates_in}
 use Rattle.jt_bind.proofs.{Planned}
 use Rattle.jt_bind.proofs.routines.resolve_macros.Given as goal
 

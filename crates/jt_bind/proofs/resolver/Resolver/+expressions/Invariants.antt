@@ -1,5 +1,6 @@
-use Rattle.jt_bind.specs.internal.{ℕ, Expr, List, String, Arguments, ◌+◌, ◌*◌, drop, max, most, exprs_view, pairs_view}
-use Rattle.jt_bind.specs.internal.{size-Expr, Constant, SRow, values, RowLeads, row_of, asides_of, entries_of}
+use Rattle.jt_bind.specs.internal
+use internal.{ℕ, Expr, List, String, Arguments, ◌+◌, ◌*◌, drop, max, most, exprs_view, pairs_view, size-Expr, Constant}
+use internal.{SRow, values, RowLeads, row_of, asides_of, entries_of}
 use Rattle.jt_bind.proofs.{Global}
 use Rattle.jt_bind.proofs.resolver.Resolver.+expressions.Given as goal
 
@@ -30,19 +31,13 @@ abbrev pub decreases-resolve_given : goal.decreases-resolve_given
 decreases-resolve_given l = 6 * given_size l.arguments + 2
 
 abbrev pub decreases-resolve_made : goal.decreases-resolve_made
-decreases-resolve_made l = 6 * row_size l.row.now + 2
-
-abbrev pub decreases-resolve_applied : goal.decreases-resolve_applied
-decreases-resolve_applied l = 6 * max (size-Expr l.value.now) (row_size l.row.now) + 2
+decreases-resolve_made l = 6 * max (row_size l.first.now) (row_size l.rest.now) + 2
 
 abbrev pub decreases-resolve_map : goal.decreases-resolve_map
 decreases-resolve_map l = 6 * pairs_size l.pairs.now + 2
 
 abbrev pub decreases-resolve_attribute : goal.decreases-resolve_attribute
 decreases-resolve_attribute l = 6 * size-Expr l.value.now + 2
-
-abbrev pub decreases-resolve_operation : goal.decreases-resolve_operation
-decreases-resolve_operation l = 6 * max (size-Expr l.left.now) (size-Expr l.right.now) + 3
 
 abbrev pub decreases-resolve_binary : goal.decreases-resolve_binary
 decreases-resolve_binary l = 6 * max (size-Expr l.left.now) (size-Expr l.right.now) + 4
@@ -59,9 +54,6 @@ decreases-resolve_boxed l = 6 * size-Expr l.expr.now + 1
 
 abbrev pub decreases-resolve_test : goal.decreases-resolve_test
 decreases-resolve_test l = 6 * max (size-Expr l.value.now) (row_size l.row.now) + 3
-
-abbrev pub decreases-resolve_operand : goal.decreases-resolve_operand
-decreases-resolve_operand l = 6 * size-Expr l.value.now + 1
 
 abbrev pub decreases-resolve_filter : goal.decreases-resolve_filter
 decreases-resolve_filter l =

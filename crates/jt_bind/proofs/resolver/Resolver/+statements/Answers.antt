@@ -1,12 +1,12 @@
-use Rattle.jt_ast.proofs.StatementViews.{view_Autoescape, view_Block, view_Data, view_Include, view_Set, view_SetBlock}
+use Rattle.jt_ast.proofs.StatementViews.{view_Block, view_Include, view_Set, view_SetBlock}
 use Rattle.jt_ir.specs.Slots as slots
-use Rattle.jt_bind.specs.internal.{alone, ◌+◌, drop, pairs_view, filter_calls_view, body_view, place_view, followed}
-use Rattle.jt_bind.specs.internal.{copied, texts, values, templates_of, senv_of, table_of, line_of, body_of, scoped_of}
-use Rattle.jt_bind.specs.internal.{values_of, filters_of, bound_all}
-use Rattle.jt_bind.proofs.{drop_all, ap, ◌∙◌, arith, IfOk-weaker, lead_both, emits_of, emits_both, place_is}
-use Rattle.jt_bind.proofs.{followed_again, choice_same, branch_lead, choice_emitted, capture_emitted, print_emitted}
-use Rattle.jt_bind.proofs.{assign_emitted, loop_emitted, statements_left, branches_left, freed, filter_shown}
-use Rattle.jt_bind.proofs.{values_emitted, scope_emitted, turns_as}
+use Rattle.jt_bind.specs.internal
+use internal.{alone, ◌+◌, drop, pairs_view, filter_calls_view, body_view, followed, values, templates_of, senv_of}
+use internal.{line_of, body_of, scoped_of, filters_of, values_of, bound_all}
+use Rattle.jt_bind.proofs
+use proofs.{drop_all, ap, arith, IfOk-weaker, lead_both, emits_of, emits_both, place_is, followed_again, choice_same}
+use proofs.{branch_lead, choice_emitted, capture_emitted, print_emitted, assign_emitted, loop_emitted, statements_left}
+use proofs.{branches_left, freed, filter_shown, values_emitted, scope_emitted, turns_as}
 use Rattle.jt_bind.proofs.resolver.Resolver.+statements.Goals as goal
 
 -- ---- bodies
@@ -16,7 +16,7 @@ resolve_body-loop-statement-preserved t c = λ left.
     let l = c.loop-statement in
     let r = c.args.self.now in
     let ss = c.args.body.now in
-    lead_both (templates_of r) _ _ _ _ _ _ _ _ _ (rw (
+    lead_both (rw (
       statements_left ss l.statement-index c.statement-item.result c.loop-statement-test.true c.statement-item.is,
       followed_again,
     ) at (l.invariant left))
@@ -35,13 +35,10 @@ resolve_whole-returns t c =
 pub resolve_scoped-returns : goal.resolve_scoped-returns
 resolve_scoped-returns t c =
     let r = c.args.self.now in
-    let b = body_view c.args.body.now in
-    let same = ap texts c.deref.ensures.value ∙ c.in_ok-names.ensures in
-    IfOk-weaker c.resolve_body.result _ _ (λ u h. scope_emitted r b c.inside.result _ _ _ _ _
-    (c.inside.ensures _ r.tables.now c.in_ok-inner.ensures ∙ ap (λ xs. bound_all xs (senv_of r)) c.in_ok-names.ensures)
-    (emits_of (templates_of r) _ _ _ _ _ _
-    (ap (λ xs. copied (line_of r 1) (table_of r) r.senv.free xs slots.end) same)
-    (c.in_ok-put_copies.ensures (values c.args.pool.now))) h)
+    IfOk-weaker c.resolve_body.result _ _
+    (λ u h. scope_emitted r (body_view c.args.body.now) c.inside.result _ _ _ _ _
+    (rw c.in_ok-names.ensures at (c.inside.ensures _ r.tables.now c.in_ok-inner.ensures))
+    (rw (c.deref.ensures.value, c.in_ok-names.ensures) at (c.in_ok-put_values.ensures (values c.args.pool.now))) h)
     c.resolve_body.ensures
 
 pub resolve_within-returns : goal.resolve_within-returns
@@ -59,11 +56,9 @@ resolve_branch-returns t c =
     let r = c.args.self.now in
     record {
       between = values c.resolve_expression.new.pool;
-      stands = ap (place_view (templates_of r)) c.place.ensures ∙ place_is r c.args.branch.now.line;
+      stands = rw c.place.ensures (place_is r c.args.branch.now.line);
       asked = c.in_ok-asked.ensures;
-      taken =
-          emits_of (templates_of r) _ _ _ _ _ _ (ap (λ z. body_of r (body_view z)) c.deref.ensures.value)
-          c.in_ok-taken.ensures;
+      taken = rw c.deref.ensures.value at c.in_ok-taken.ensures;
     }
 
 pub resolve_branches-loop-branch-init : goal.resolve_branches-loop-branch-init
@@ -99,8 +94,7 @@ pub resolve_turns-returns : goal.resolve_turns-returns
 resolve_turns-returns t c =
     let r = c.args.self.now in
     turns_as r (body_view c.args.body.now) _ _ _ _ _ _ _ _ _
-    (c.inside.ensures _ r.tables.now c.in_ok-inner.ensures
-    ∙ ap (λ xs. bound_all xs (senv_of r)) c.in_ok-names_of.ensures)
+    (rw c.in_ok-names_of.ensures at (c.inside.ensures _ r.tables.now c.in_ok-inner.ensures))
     c.in_ok-head.ensures
     (rw c.new.ensures.items at c.in_ok-resolve_scoped.ensures)
 
@@ -138,21 +132,7 @@ resolve_text-returns t c =
     IfOk-weaker c.put_capture.result _ _ (λ u h. capture_emitted _ _ _ _ _ _ _ _ _ (rw c.into_part.ensures text) h)
     c.put_capture.ensures
 
-pub resolve_escaping-returns : goal.resolve_escaping-returns
-resolve_escaping-returns t c =
-    IfOk-weaker c.resolve_scoped.result _ _ (λ u h. λ line. h) c.resolve_scoped.ensures
-
 -- ---- statements
-
-pub resolve_statement-returns-in-Data : goal.resolve_statement-returns-in-Data
-resolve_statement-returns-in-Data t c =
-    rw (c.in-Data.is, view_Data, ← c.deref.ensures)
-    (IfOk-weaker c.put_data.result _ _ (λ u h. h (templates_of c.args.self.now)) c.put_data.ensures)
-
-pub resolve_statement-returns-in-Autoescape : goal.resolve_statement-returns-in-Autoescape
-resolve_statement-returns-in-Autoescape t c =
-    rw (c.in-Autoescape.is, view_Autoescape, ← c.deref-in-Autoescape.ensures.value)
-    (IfOk-weaker c.resolve_escaping.result _ _ (λ u h. h c.in-Autoescape.line) c.resolve_escaping.ensures)
 
 pub resolve_statement-returns-in-Include : goal.resolve_statement-returns-in-Include
 resolve_statement-returns-in-Include t c =

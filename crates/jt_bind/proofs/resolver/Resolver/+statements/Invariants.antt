@@ -1,6 +1,6 @@
-use Rattle.jt_bind.specs.internal.{ℕ, List, Stmt, size-Stmt, ◌+◌, ◌*◌, max, drop, most, followed, body_view}
-use Rattle.jt_bind.specs.internal.{branches_view, Constant, SBody, values, BodyLeads, templates_of, ChoiceLeads}
-use Rattle.jt_bind.specs.internal.{body_of, choice_of}
+use Rattle.jt_bind.specs.internal
+use internal.{ℕ, List, Stmt, size-Stmt, ◌+◌, ◌*◌, max, drop, most, followed, body_view, branches_view, Constant, SBody}
+use internal.{values, BodyLeads, templates_of, ChoiceLeads, body_of, choice_of}
 use Rattle.jt_bind.proofs.{Branch}
 use Rattle.jt_bind.proofs.resolver.Resolver.+statements.Given as goal
 

@@ -1,10 +1,10 @@
 use Rattle.jt_semantics.specs.Resolve as resolve
 use Rattle.jt_bind.specs.internal.{parameters_in, numbered_of, cenv_in, order_in, namespace_in, globals_in}
-use Rattle.jt_bind.proofs.{sym, ◌∙◌, arith, rules, body_called, none_called, invoked_placed, view_Invoke}
+use Rattle.jt_bind.proofs.{sym, ◌∙◌, arith, rules, body_called, none_called, invoked_placed}
 use Rattle.jt_bind.proofs.resolver.Resolver.block_called.Goals as goal
 
 pub returns : goal.returns
-returns c = search (arith, rules, body_called, invoked_placed, view_Invoke)
+returns c = search (arith, rules, body_called, invoked_placed)
 
 pub returns-in_default : goal.returns-in_default
 returns-in_default c = λ p.

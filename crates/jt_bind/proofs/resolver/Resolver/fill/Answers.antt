@@ -1,5 +1,7 @@
-use Rattle.jt_bind.proofs.{drop_all, arith, add-one, rules, of_whole, row_both, row_item, filled_behind}
-use Rattle.jt_bind.proofs.{parameters_behind, parameters_left}
+use Rattle.jt_bind.specs.internal.{None}
+use Rattle.jt_bind.proofs
+use proofs.{drop_all, arith, add-one, rules, lead_of, lead_both, row_entry, filled_behind, parameters_behind}
+use proofs.{parameters_left}
 use Rattle.jt_bind.proofs.resolver.Resolver.fill.Goals as goal
 
 pub returns : goal.returns
@@ -9,4 +11,4 @@ returns c = λ p.
     rw (filled_behind, parameters_behind _ qs _ c.behind-parameter-items.ensures, ← c.in_ok-default.ensures) all
 
 pub loop-parameter-preserved : goal.loop-parameter-preserved
-loop-parameter-preserved c = search (arith, rules, row_both, of_whole, add-one, parameters_left, row_item)
+loop-parameter-preserved c = search (arith, rules, lead_both, lead_of, add-one, parameters_left, row_entry None)

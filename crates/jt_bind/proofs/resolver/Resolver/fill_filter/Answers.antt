@@ -1,7 +1,8 @@
-use Rattle.jt_bind.specs.internal.{◌≡◌, ◌+◌, ◌∷◌, drop, pairs_view, keywords, parameter_view, parameters_view}
-use Rattle.jt_bind.specs.internal.{locals_from, values}
-use Rattle.jt_bind.proofs.{sym, ap, ◌∙◌, arith, drop_all, row_both, row_item, filled_some_behind, none_filled}
-use Rattle.jt_bind.proofs.{one_filled, parameters_behind, parameters_left}
+use Rattle.jt_bind.specs.internal
+use internal.{None, ◌≡◌, ◌+◌, ◌∷◌, drop, pairs_view, keywords, parameter_view, parameters_view, locals_from}
+use Rattle.jt_bind.proofs
+use proofs.{sym, ap, ◌∙◌, arith, drop_all, lead_both, row_entry, filled_some_behind, none_filled, one_filled}
+use proofs.{parameters_behind, parameters_left}
 use Rattle.jt_bind.proofs.resolver.Resolver.fill_filter.Goals as goal
 
 pub returns : goal.returns
@@ -32,5 +33,5 @@ loop-index-preserved c =
     let left : parameters_view (drop l.index qs) ≡ parameter_view x ∷ rest =
     parameters_left qs l.index x c.loop-index-test.true c.index-rest-index.is in
     let given = rw (c.behind-left.ensures, left) at (sym c.is_some_given.ensures ∙ c.if-not-is_some_given.false) in
-    row_both _ _ _ _ _ _ _ _ _ (rw (left, one_filled (parameter_view x) rest xs ks given) at l.invariant)
-    (row_item _ _ c.in_ok-value.value l.done.items _ (values l.pool) _ c.in_ok-value.ensures c.in_ok-push.ensures.items)
+    lead_both (rw (left, one_filled (parameter_view x) rest xs ks given) at l.invariant)
+    (row_entry None _ c.in_ok-value.ensures c.in_ok-push.ensures.items)

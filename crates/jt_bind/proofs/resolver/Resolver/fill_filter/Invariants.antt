@@ -1,5 +1,5 @@
-use Rattle.jt_bind.specs.internal.{drop, pairs_view, keywords, parameters_view, filled_some, locals_from, values}
-use Rattle.jt_bind.specs.internal.{RowLeads}
+use Rattle.jt_bind.specs.internal
+use internal.{drop, pairs_view, keywords, parameters_view, filled_some, locals_from, values, RowLeads}
 use Rattle.jt_bind.proofs.resolver.Resolver.fill_filter.Given as goal
 
 abbrev pub invariant-loop-index : goal.invariant-loop-index

@@ -1,7 +1,8 @@
 use Rattle.jt_ir.specs.Slots as slots
-use Rattle.jt_bind.specs.internal.{alone, parameters_in, if◌then◌else◌, Table, numbered_of, reads, first_body, cenv_in}
-use Rattle.jt_bind.specs.internal.{order_in, namespace_in, globals_in, senv_of, table_of, templates_of}
-use Rattle.jt_bind.proofs.{sym, ap, ◌∙◌, IfOk-weaker, emits_of, run_emitted, block_run, block_absent}
+use Rattle.jt_bind.specs.internal
+use internal.{if◌then◌else◌, Table, numbered_of, first_body, cenv_in, order_in, namespace_in, globals_in, senv_of}
+use internal.{table_of, templates_of}
+use Rattle.jt_bind.proofs.{sym, ◌∙◌, IfOk-weaker, emits_of, run_emitted, block_run, block_absent}
 use Rattle.jt_bind.proofs.resolver.Resolver.put_block.Goals as goal
 
 pub returns : goal.returns
@@ -11,10 +12,9 @@ returns c =
     let name = c.args.name.now in
     let table : Table = if c.args.scoped then table_of r else globals_in s in
     IfOk-weaker c.put_run.result _ _ (λ u h line required body p. emits_of (templates_of r) _ _ _ _ _ _
-    (ap (λ (t : Table). alone (slots.run c.in-Some.unit (reads t (parameters_in s name)))) (c.seen_by.ensures s)
-    ∙ block_run (cenv_in s) (order_in s) (senv_of r) (first_body (numbered_of (cenv_in s) (namespace_in s) name)) name
+    (block_run (cenv_in s) (order_in s) (senv_of r) (first_body (numbered_of (cenv_in s) (namespace_in s) name)) name
     table c.in-Some.unit (sym c.in-Some.is ∙ c.in_ok-unit.ensures))
-    (run_emitted (templates_of r) _ _ _ _ _ p p (c.in_ok-row.ensures p) h)) c.put_run.ensures
+    (run_emitted (templates_of r) _ _ _ _ _ p p (rw (c.seen_by.ensures s) at (c.in_ok-row.ensures p)) h)) c.put_run.ensures
 
 pub returns-in_default : goal.returns-in_default
 returns-in_default c =

@@ -1,9 +1,11 @@
 use Rattle.jt_ast.specs.Statements as trees
 use Rattle.jt_ir.specs.Slots as slots
-use Rattle.jt_bind.specs.internal.{refl, [], is_ignored, passes_context, first_slot, names, a_chain, texts, cenv_in}
-use Rattle.jt_bind.specs.internal.{order_in, templates_of, stmt_of}
-use Rattle.jt_bind.proofs.{sym, ap, ◌∙◌, IfOk-weaker, emits_of, emits_both, run_emitted, no_row, absent_names}
-use Rattle.jt_bind.proofs.{absent_unit, include_shown, include_missing}
+use Rattle.jt_bind.specs.internal
+use internal.{refl, [], is_ignored, passes_context, first_slot, names, a_chain, texts, cenv_in, order_in, templates_of}
+use internal.{stmt_of}
+use Rattle.jt_bind.proofs
+use proofs.{sym, ap, ◌∙◌, IfOk-weaker, emits_of, emits_both, run_emitted, no_row, absent_names, absent_unit}
+use proofs.{include_shown, include_missing}
 use Rattle.jt_bind.proofs.resolver.Resolver.put_include.Goals as goal
 
 pub returns-in_default : goal.returns-in_default
@@ -33,7 +35,7 @@ returns c =
     (texts chain.names.items) chain.unit (sym c.is_missing.ensures ∙ c.if-is_missing.false)
     (laid.from ∙ ap (first_slot cenv order) is) (laid.named ∙ ap (names cenv order) is) (laid.chain_unit x is)
     ∙ ap (λ seen. stmt_of r (trees.include c.args.line x (is_ignored c.args.missing) seen)) c.passes_context.ensures)
-    (emits_both (templates_of r) _ _ _ _ _ _ _ _ (c.in_ok-pass_globals.ensures p)
+    (emits_both (templates_of r) _ _ _ _ _ _ _ _ (rw c.deref.ensures.value at (c.in_ok-put_values.ensures p))
     (run_emitted (templates_of r) _ slots.none _ _ _ p p (no_row _ c.new-2.ensures.items p) h)))
     c.put_run-2.ensures
 

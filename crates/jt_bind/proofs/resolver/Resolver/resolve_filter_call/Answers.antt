@@ -1,12 +1,11 @@
-use Rattle.jt_bind.specs.internal.{◌≡◌, map, take, view, expr_values, values}
-use Rattle.jt_bind.proofs.{sym, ap, ◌∙◌, take_at, take-map, filters_push, named_is, filter_placed}
+use Rattle.jt_bind.specs.internal.{◌≡◌, expr_values, values}
+use Rattle.jt_bind.proofs.{take_at, take-map, filters_push, named_is, filter_placed}
 use Rattle.jt_bind.proofs.resolver.Resolver.resolve_filter_call.Goals as goal
 
 pub returns-in_default : goal.returns-in_default
 returns-in_default c = λ k p n h.
-    let cut : values c.truncate.new.self ≡ p = ap (map view) c.truncate.ensures.items
-    ∙ sym (take-map view c.args.start c.args.pool.now.items) ∙ ap (take c.args.start) h.pooled
-    ∙ take_at p (expr_values k) c.args.start n in
+    let cut : values c.truncate.new.self ≡ p =
+    rw (c.truncate.ensures.items, ← take-map, h.pooled) (take_at p (expr_values k) c.args.start n) in
     rw (
       ← c.as_str.ensures.value,
       ← c.as_slice-row.ensures.value,

@@ -1,4 +1,4 @@
-use Rattle.jt_bind.specs.internal.{◌+◌, drop, pairs_view, Resolver, templates_of, values_of}
+use Rattle.jt_bind.specs.internal.{◌+◌, drop, pairs_view, Resolver, values_of}
 use Rattle.jt_bind.proofs.{drop_all, ◌∙◌, arith, add-one, lead_both, assign_emitted, values_followed, pairs_left, freed}
 use Rattle.jt_bind.proofs.resolver.Resolver.resolve_values.Goals as goal
 
@@ -12,7 +12,7 @@ loop-value-preserved c = λ behind.
     let l = c.loop-value in
     let r : Resolver = record c.args.self.now { senv = l.senv } in
     let ps = c.args.pairs.now in
-    lead_both (templates_of r) _ _ _ _ _ _ _ _ _ (rw (
+    lead_both (rw (
       pairs_left ps l.value-index c.loop-value-item.result c.loop-value-test.true c.loop-value-item.is,
       ← (c.in_ok-senv.ensures ∙ add-one l.senv.free),
     ) at (l.invariant behind))

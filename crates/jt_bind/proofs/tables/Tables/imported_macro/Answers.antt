@@ -1,8 +1,9 @@
 use Rattle.jt_ast.specs.Expressions as trees
-use Rattle.jt_bind.specs.internal.{◌≡◌, Some, option_map, Bor, Text, a_library, macros, macro_of, given_to, library_of}
-use Rattle.jt_bind.specs.internal.{of_namespace, cenv_in, given_in, callee_in}
-use Rattle.jt_bind.proofs.{sym, ap, ◌∙◌, arith, rules, IfOk-weaker, called_there, member_is, no_library, private_is}
-use Rattle.jt_bind.proofs.{public_is}
+use Rattle.jt_bind.specs.internal
+use internal.{◌≡◌, Some, refl, a_library, macros, macro_of, given_to, library_of, of_namespace, cenv_in, given_in}
+use internal.{callee_in}
+use Rattle.jt_bind.proofs
+use proofs.{sym, ap, ◌∙◌, arith, rules, IfOk-weaker, called_there, member_is, no_library, private_is, public_is}
 use Rattle.jt_bind.proofs.tables.Tables.imported_macro.Goals as goal
 
 pub returns-in_default : goal.returns-in_default
@@ -19,8 +20,7 @@ returns c =
     let sources = (cenv_in scope).sources in
     let o = given_to of (given_in scope) in
     let n = c.in-Some.library.now in
-    let some : library_of o ≡ Some n =
-    sym c.library_named.ensures ∙ ap (option_map (λ (z : Bor Text). z.now)) c.in-Some.is in
+    let some : library_of o ≡ Some n = rw (← c.library_named.ensures, c.in-Some.is) refl in
     let f = trees.attribute (trees.name of) x in
     let whole : callee_in scope f ≡ of_namespace (a_library n) (macro_of x (macros sources (a_library n))) =
     member_is sources (given_in scope) of x c.requires.not_self c.requires.not_loop
