@@ -15,8 +15,9 @@ use words.{IsNextFinding, TooMany, chosen, IsIncludedMore, Graph, next_of, is_a_
 use words.{AreFound, is_no_library, and_from, IsBrokenAt, last_of, SaysAll, IsAsked, IsFirst, IsNameless, IsOfName}
 use words.{IsOfNeed, IsParentAt, IsOneMore, IsRingOf, NamedAt, IsOneChainMore, IsFaultAt, IsUnmetNeed, ◌&&◌}
 use words.{IsItsName, IsNoLibrary, IsOfImport, LeadsAt}
+use words.{all_weaker, false_from_ne_true}
 use Rattle.jt_inherit.proofs.DiscoveryInvariant.{some_source, none_read, asks_needed, whole_path, included_is, asked_at}
-use Rattle.jt_inherit.proofs.PathsGrow.{all_among, all_named, shows, names_lead, templates_lead, few_templates}
+use Rattle.jt_inherit.proofs.PathsGrow.{all_among, shows, names_lead, templates_lead, few_templates}
 use Rattle.jt_inherit.proofs.PathsGrow.{all_templates, last_at, asked_breaks, among_passes, chains_listed, chain_breaks}
 use Rattle.jt_inherit.proofs.PathsGrow.{libraries_listed, reach_more}
 use Rattle.jt_inherit.proofs.NumberTables.{is_chain}
@@ -128,12 +129,8 @@ module _ {given : SourceTexts} {options : Options} {root : Text} {ts : List Temp
   missing_unread n f = some_source ts n ∙ none_read given options ts n known.read.each f
 
   bad_unread : (n : Text) → (IsName n → ⊥) → is_some (sources_in ts n) ≡ false
-  bad_unread n f = by (is_some (sources_in ts n)) refl
-    where
-      by : (b : Bool) → is_some (sources_in ts n) ≡ b → is_some (sources_in ts n) ≡ false
-      by true e =
-          absurd (f (all_among IsName ts n (all_named given options ts known.read.each) (sym (some_source ts n) ∙ e)))
-      by false e = e
+  bad_unread n f = false_from_ne_true _ (λ e.
+      f (all_among IsName ts n (all_weaker (λ t q. q.named) ts known.read.each) (sym (some_source ts n) ∙ e)))
 
   -- An error of a source may come without a tag.
   fault_bare : (n : Text) (e : ChainError) → IsFaultOf e given n options → IsNameless e → may_be_bare e ≡ true

@@ -26,8 +26,8 @@ returns-then-namespace g c =
     ∙ c.requires.library) at.0 at.1
     at.2)
 
-pub cycle_finding-requires-clause-start : goal.cycle_finding-requires-clause-start
-cycle_finding-requires-clause-start g c = search (arith, rules)
+pub cycle_finding-requires : goal.cycle_finding-requires
+cycle_finding-requires g c = search (arith, rules)
 
 pub returns-in-Some : goal.returns-in-Some
 returns-in-Some g c =

@@ -6,10 +6,6 @@ use Rattle.jt_inherit.proofs.PathsGrow.{read_on, templates_grow}
 use Rattle.jt_inherit.proofs.FindingsHold.{unmet_need}
 use Rattle.jt_inherit.proofs.including.read_needs.Goals as goal
 
-pub need_finding-requires : goal.need_finding-requires
-need_finding-requires g c =
-    rw c.in-Err.ensures.same (has_needs c.requires.path c.loop-need.invariant.read).indices
-
 pub returns-in-Err-clause-refused : goal.returns-in-Err-clause-refused
 returns-in-Err-clause-refused g c =
     let l = c.loop-need in
