@@ -145,8 +145,7 @@ module _ {X : Type 0} (xs : List X) (i : ℕ) (x : X) (lt : i < length xs) (is :
     is_new e = first_new 0 (f x) before _ (sym (first_after 0) ∙ e ∙ ap (λ k. Some k) (sym count))
 
     is_known : (first_of (f x) 0 (map f xs) ≡ Some i → ⊥) → among (f x) before ≡ true
-    is_known n = true_from_ne_false _ (λ h.
-        n (first_after 0 ∙ first_here 0 (f x) before _ h ∙ ap (λ k. Some k) count))
+    is_known n = search (arith, rules, true_from_ne_false, first_after, first_here, count)
 
     pub repeat_found : (first_of (f x) 0 (map f xs) ≡ Some i → ⊥) → repeated (map f xs) ≡ true
     repeat_found n = ap repeated (ap (map f) parted ∙ map-append f (take i xs) _) ∙ again (f x) before _ (is_known n)

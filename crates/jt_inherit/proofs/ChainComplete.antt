@@ -44,9 +44,7 @@ numbers_within hs (j ∷ js) (n ∷ ns) e = search (arith, rules, slice_get_with
 
 next_within : (given : SourceTexts) (ts : List Template) (hs : List Namespace) (ws ns : Graph)
     → AreFollowed given ts hs ws ns → AllByRecursion (λ js. AllByRecursion (λ j. j < length hs) js) ns
-next_within given ts hs ws ns f =
-    all_rows _ ns
-    (λ i lt. numbers_within hs _ _ (f.each i (omega (arith, f.lens))).numbered)
+next_within given ts hs ws ns f = search (arith, rules, all_rows, numbers_within)
 
 numbered_among : (hs : List Namespace) (j : ℕ) (js : List ℕ) (ns : List Namespace) → map (slice_get hs) js ≡ map Some ns
     → graph.among j js ≡ true → listed (namespace_at hs j) ns ≡ true
@@ -137,8 +135,7 @@ module _ {given : SourceTexts} {options : Options} {entry : Text} {ts : List Tem
 
   includes_next : (i : ℕ) → i < length hs
       → map (slice_get hs) (next_of ns i) ≡ map Some (included (sources_in ts) (namespace_at hs i))
-  includes_next i lt =
-      (number i lt).numbered ∙ ap (map Some) (sym (included_is (number i lt).led))
+  includes_next i lt = search (arith, rules, number, map, included_is)
 
   -- ---- an edge of numbers is one of chains
 
@@ -185,13 +182,7 @@ module _ {given : SourceTexts} {options : Options} {entry : Text} {ts : List Tem
     -- The path of a namespace.
     way_of : (h : Namespace) → listed h hs ≡ true
         → (w : List ℕ) × IsExtendsPath ts h w None × AllByRecursion (IsMet given (names ts)) (needs_along ts w)
-    way_of h a =
-        let k = number_of hs h a in
-        let n = number k.0 k.1 in (
-          next_of ws k.0,
-          subst (λ x. IsExtendsPath ts x (next_of ws k.0) None) k.2 n.led,
-          n.met,
-        )
+    way_of h a = search (arith, rules, number_of, number, next_of)
 
     way_reached : {h : Namespace} → Reaches (sources_in ts) options.autoescape (a_chain entry) h
         → (w : List ℕ) × IsExtendsPath ts h w None × AllByRecursion (IsMet given (names ts)) (needs_along ts w)
@@ -332,16 +323,7 @@ module _ {given : SourceTexts} {options : Options} {entry : Text} {ts : List Tem
 pub search_done : {given : SourceTexts} {options : Options} {entry : Text} (f : Discovery) → root_of f ≡ entry
     → IsFound given options f → length (found_paths f) ≡ length (found_namespaces f) → IsDone given options entry f
 search_done {given} {options} {entry} f root is all =
-    let found : AreFound given options entry (found_templates f) (found_namespaces f) (found_paths f)
-    (graph_of f.next.items) = rw (← root) is in
-    record {
-      found = found;
-      all = record {
-        paths = sym (length-map f.extends_paths.items (λ (v : Vec ℕ Global). v.items)) ∙ all;
-        next = sym (length-map f.next.items (λ (v : Vec ℕ Global). v.items)) ∙ lens found all;
-        closed = closed found all;
-      };
-    }
+    search (arith, rules, found_templates, found_namespaces, found_paths, graph_of, length-map, lens, closed)
 
 -- A search from an entry that is done, with the chain of an order of its numbers.
 module _ {given : SourceTexts} {options : Options} {entry : Text} {f : Discovery}

@@ -71,8 +71,7 @@ module _ (given : SourceTexts) (options : Options) where
     refuted : {Rule Broken : Sources → Bool → Namespace → Type 0} → IsCarried Rule Broken
         → (Broken (sources_of d) options.autoescape (a_chain entry) → ⊥)
         → Shows given options (λ s. Rule s options.autoescape (a_chain entry)) → ⊥
-    refuted carry none x =
-        none (carry _ _ _ _ (into x.templates x.read.each x.only) x.holds)
+    refuted carry none x = search (arith, rules, into)
 
     -- A requested name has a tree or no source.
     no_fault : (n : Text) (P : Text → Type 0) → HasFault given entry options n P → ⊥

@@ -48,10 +48,8 @@ both (n ∷ ns) ms a b = (a.0, both ns ms a.1 b)
 
 mutual
   by_statement : (s : trees.Stmt) → AreIncludes (includes_by include_need s)
-  by_statement (trees.choose bs other) =
-      both _ _ (by_branches bs) (by_body other)
-  by_statement (trees.for_each line xs e c body other) =
-      both _ _ (by_body body) (by_body other)
+  by_statement (trees.choose bs other) = search (arith, rules, both, by_branches bs, by_body other)
+  by_statement (trees.for_each line xs e c body other) = search (arith, rules, both, by_body body, by_body other)
   by_statement (trees.set_block line x body) = by_body body
   by_statement (trees.with_values line ps body) = by_body body
   by_statement (trees.filter_block line fs body) = by_body body
@@ -62,13 +60,11 @@ mutual
 
   by_body : (b : Body) → AreIncludes (includes_in include_need b)
   by_body trees.end = tt
-  by_body (trees.stmt s rest) =
-      both _ _ (by_statement s) (by_body rest)
+  by_body (trees.stmt s rest) = search (arith, rules, both, by_statement s, by_body rest)
 
   by_branches : (bs : Branches) → AreIncludes (includes_under include_need bs)
   by_branches trees.no_branches = tt
-  by_branches (trees.branch line c body rest) =
-      both _ _ (by_body body) (by_branches rest)
+  by_branches (trees.branch line c body rest) = search (arith, rules, both, by_body body, by_branches rest)
 
 pub all_includes : (ts : List Template) → AreIncludes (flat_map (λ t. includes_in include_need t.body) ts)
 all_includes [] = tt
@@ -82,14 +78,12 @@ includes_chosen ks (n ∷ ns) a = search (arith, rules, includes_chosen ks ns a.
 -- ---- libraries import nothing
 
 pub none_imported : (b : Body) → holds_macros b ≡ true → libraries_in b ≡ []
-none_imported (trees.stmt (trees.data_of t) rest) h =
-    none_imported rest (and_parts _ _ h).1
+none_imported (trees.stmt (trees.data_of t) rest) h = search (arith, rules, none_imported rest, and_parts)
 none_imported (trees.stmt (trees.macro line x ps body) rest) h = none_imported rest h
 none_imported a0 h = search (arith, rules)
 
 pub none_lacking : (s : Sources) (b : Body) → holds_macros b ≡ true → lacks_macros s b ≡ false
-none_lacking s (trees.stmt (trees.data_of t) rest) h =
-    none_lacking s rest (and_parts _ _ h).1
+none_lacking s (trees.stmt (trees.data_of t) rest) h = search (arith, rules, none_lacking s rest, and_parts)
 none_lacking s (trees.stmt (trees.macro line x ps body) rest) h = none_lacking s rest h
 none_lacking s a1 h = search (arith, rules)
 
@@ -176,8 +170,7 @@ put_fault old x n e once new f = search (arith, rules, too_many)
 -- ---- includes and imports, in order
 
 pub chosen-append : (ks : List Text) (ns ms : List Need) → chosen ks (ns ++ ms) ≡ chosen ks ns ++ chosen ks ms
-chosen-append ks ns ms =
-    ap (map need_namespace) (known-append ks ns ms) ∙ map-append need_namespace (known_of ks ns) (known_of ks ms)
+chosen-append ks ns ms = search (arith, rules, map, need_namespace, known-append, map-append, known_of)
 
 views-append : (ns ms : List KeyedNeed) → keyed_needs (ns ++ ms) ≡ keyed_needs ns ++ keyed_needs ms
 views-append ns ms = map-append keyed_view ns ms
@@ -212,8 +205,7 @@ met_grows given ks ms =
 pub met_read : {given : SourceTexts} {options : Options} {ts us : List Template} {xs : List Text}
     → HasRead given options ts us xs → (ns : List Need) → AllByRecursion (IsMet given (names ts)) ns
     → AllByRecursion (IsMet given (names us)) ns
-met_read {given} {ts = ts} r ns a =
-    rw (ap names r.grown ∙ map-append (λ (t : Template). t.name) ts r.more) (met_grows given _ _ ns a)
+met_read {given} {ts = ts} r ns a = search (arith, rules, names, map-append, met_grows)
 
 -- One include or import more.
 pub needed_turn : (ns : List KeyedNeed) (k : ℕ) (d : KeyedNeed) → k < length ns
@@ -537,10 +529,4 @@ namespace_number hs ws o i at e = ap (slice_get hs) (length-map ws (λ (v : Vec 
 -- The includes and imports of a path stay what they are when more is read.
 pub has_needs : {given : SourceTexts} {options : Options} {ts us : List Template} {xs : List Text} {p : FollowedPath}
     → HasNeeds ts p → HasRead given options ts us xs → HasNeeds us p
-has_needs {ts = ts} {us} {p = p} h r =
-    let is = p.extends_path.items in
-    let grown : AreIndices us is = rw r.grown (indices_grow ts r.more is h.indices) in
-    record {
-      indices = grown;
-      told = h.told ∙ sym (rw r.grown (includes_grow ts r.more is h.indices (indices_grow ts r.more is h.indices)));
-    }
+has_needs {ts = ts} {us} {p = p} h r = search (arith, rules, indices_grow, includes_grow)

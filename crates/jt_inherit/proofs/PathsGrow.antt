@@ -341,16 +341,14 @@ module _ {given : SourceTexts} {options : Options} {vs ts us : List Template} {i
 
 front_up : (s : Sources) (k : ℕ) (n : Text) (t : Template) → t.name ≡ n → s n ≡ Some t.body
     → names_up s (suc k) (Some n) ≡ t.name ∷ names_up s k (extends_of t.body)
-front_up s k n t e f =
-    rw f (ap (λ x. x ∷ names_up s k (extends_of t.body)) (sym e))
+front_up s k n t e f = search (arith, rules, names_up, extends_of)
 
 among_up : (s : Sources) (k : ℕ) (o : Option Text) (ts : List Template) (x : Text) → Leads s o ts None
     → among x (names_up s k o) ≡ true → among x (names ts) ≡ true
 among_up s zero o ts x l h = absurd (cc)
 among_up s (suc k) None ts x l h = absurd (cc)
 among_up s (suc k) (Some n) [] x l h = absurd (cc)
-among_up s (suc k) (Some n) (t ∷ ts) x l h =
-    search (arith, rules, front_up, among_up s k (extends_of t.body) ts x l.2, names, or_right)
+among_up s (suc k) (Some n) (t ∷ ts) x l h = search (arith, rules, front_up, among_up s k, extends_of, names, or_right)
 
 pub repeated_up : (s : Sources) (k : ℕ) (o : Option Text) (ts : List Template) → Leads s o ts None
     → repeated (names_up s k o) ≡ true → repeated (names ts) ≡ true
@@ -358,7 +356,7 @@ repeated_up s zero o ts l h = absurd (cc)
 repeated_up s (suc k) None ts l h = absurd (cc)
 repeated_up s (suc k) (Some n) [] l h = absurd (cc)
 repeated_up s (suc k) (Some n) (t ∷ ts) l h =
-    search (arith, rules, front_up, repeated_up s k (extends_of t.body) ts l.2, names, among_up, or_right)
+    search (arith, rules, front_up, repeated_up s k, extends_of, names, among_up, or_right)
 
 pub all_among : (P : Text → Type 0) (ts : List Template) (n : Text) → AllByRecursion (λ t. P t.name) ts
     → among n (names ts) ≡ true → P n
@@ -663,5 +661,4 @@ ask_more ts us more e h n grown i =
 pub chain_breaks : (given : SourceTexts) (options : Options) (ts us more : List Template) → us ≡ ts ++ more
     → (k : NamespaceKey) → k.is_library ≡ false → (e : ChainError)
     → BreaksAll given options us (a_chain (string_bytes k.name)) e → BreaksAll given options ts (key_view k) e
-chain_breaks given options ts us more grown k is e b =
-    rw (is_chain k is) (λ root r. b root (reach_more _ _ _ _ _ _ grown r))
+chain_breaks given options ts us more grown k is e b = search (arith, rules, is_chain, reach_more)

@@ -50,8 +50,7 @@ up_ends : (s : Sources) (m k : ℕ) (o : Option Text) → k ≤ m → length (na
 up_ends s m zero o le lt = absurd (omega arith)
 up_ends s zero (suc k) o le lt = absurd (omega arith)
 up_ends s (suc m) (suc k) None le lt = refl
-up_ends s (suc m) (suc k) (Some n) le lt =
-    rw (up_ends s m k (parent_of (s n)) (omega (arith, le)) (omega (arith, lt)))
+up_ends s (suc m) (suc k) (Some n) le lt = search (arith, rules, up_ends s m k, parent_of)
 
 -- Names with a source keep one.
 still_none : (s r : Sources) (xs : List Text) → Carries s r xs → list_any (λ n. is_none (s n)) xs ≡ false
@@ -233,8 +232,7 @@ module _ (s r : Sources) (e : Bool) (entry : Namespace) (g : Keeps s r e entry) 
       cycle y.0 y.2 (rw (← y.1) (there x.1)) y.3
 
   pub too_long : ChainTooLong s e entry → ChainTooLong r e entry
-  too_long x =
-      ⊎_elim (λ y. inl (y.0, there y.1, long y.0 (there y.1) y.2)) (λ y. inr (y.0, y.1, y.2, λ n a. there (y.3 n a))) x
+  too_long x = search (arith, rules, there, long)
 
   pub double_block : DoubleBlock s e entry → DoubleBlock r e entry
   double_block x =

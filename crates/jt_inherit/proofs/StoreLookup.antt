@@ -52,8 +52,7 @@ none_public x = search (arith, rules)
 pub nothing_lacks : (s : Sources) (n : Text) (xs : List (Text × Text)) → is_a_library (s n) ≡ false
     → lacks_one s n xs ≡ false
 nothing_lacks s n [] e = refl
-nothing_lacks s n (x ∷ xs) e =
-    rw e (nothing_lacks s n xs e)
+nothing_lacks s n (x ∷ xs) e = search (arith, rules, nothing_lacks s n xs e)
 
 -- A library with the same tree lacks the same macros.
 pub lacks_same : (s r : Sources) (n : Text) (xs : List (Text × Text)) → s n ≡ r n → lacks_one s n xs ≡ lacks_one r n xs
@@ -98,9 +97,7 @@ module _ (ps : List TemplateFile) (n x : Text) (i : ℕ) (e : i ≡ index_of (fi
       (ap (λ ms. is_none (public_macro x ms)) (sym (macros_there ps once n i at p is)) ∙ none_some _))
 
   pub no_file_lacks : length ps ≤ i → lacks (sources_in (files_view ps)) n x ≡ false
-  no_file_lacks le =
-      rw (unread (files_view ps) n
-      (no_index (files_view ps) n (omega (arith, le, e, length-map ps file_view)))) refl
+  no_file_lacks le = search (arith, rules, unread, files_view, no_index, length-map, file_view)
 
 -- The template at the index of a name.
 of_name : (ts : List Template) (i : ℕ) (n : Text) → slice_get (names ts) i ≡ Some n
@@ -124,7 +121,5 @@ pub library_read : {given : SourceTexts} {options : Options} {ts : List Template
     → (n : Text) → is_no_library ts (a_library n) ≡ false
     → {is : List ℕ} (i : ℕ) → is ≡ i ∷ [] → slice_get (names ts) i ≡ Some n → HasPath given options ts ts
     (a_library n) is
-library_read {given} {options} {ts} known n library {is} i e at = record {
-  read = nothing_read known;
-  led = search (arith, rules, of_name, only_one, append-nil, slice_get_within, not-false, names);
-}
+library_read {given} {options} {ts} known n library {is} i e at =
+    search (arith, rules, nothing_read, of_name, only_one, append-nil, slice_get_within, not-false, names)

@@ -8,11 +8,10 @@ pub use Rattle.std.proofs.lemmas.Bool.Decides.{nat_tests}
 pub use Rattle.std.proofs.lemmas.Iterator.{YieldsList-from_slice, cases_from_all, YieldsList-from_map_by}
 pub use Rattle.std.proofs.lemmas.Grind.{flat_map-append, common_steps}
 pub use Rattle.std.proofs.lemmas.List.{append-nil, append_assoc, drop_more, length-map, map-append, map_push}
-pub use Rattle.std.proofs.lemmas.List.{nil_from_length, take-append-drop, take_all, take_more, get_or_default}
-pub use Rattle.std.proofs.lemmas.List.{at_drop_all}
+pub use Rattle.std.proofs.lemmas.List.{take-append-drop, take_all, take_more, get_or_default}
 pub use Rattle.std.proofs.lemmas.List.Elements.{filter_agree, filter-append}
 pub use Rattle.std.proofs.lemmas.List.Folds.{list_any-append}
-pub use Rattle.std.proofs.lemmas.Map.Text.{btree_map_updates_text, is_eq-slice_cmp}
+pub use Rattle.std.proofs.lemmas.Map.Text.{btree_map_updates_text}
 pub use Rattle.std.proofs.lemmas.Option.{slice_get-get_or, slice_get-map, slice_get_within}
 pub use Rattle.std.proofs.lemmas.Simd.{map-map}
 pub use Rattle.std.proofs.lemmas.Str.{length-le-encodes}
@@ -29,9 +28,9 @@ pub use Rattle.jt_ast.specs.Statements.{Body, Branches, Stmt, autoescape, body_l
 pub use Rattle.jt_ast.specs.Statements.{filter_block, for_each, no_branches, set_block, stmt, with_values}
 pub use Rattle.jt_ast.specs.Texts.{among, repeated, texts}
 pub use Rattle.jt_chains.proofs.IncludeCollection.{by_templates, needed-append}
-pub use Rattle.jt_chains.proofs.TemplatesByIndex.{along_templates, along_turn, file_at, index_within, map_at, only_one}
+pub use Rattle.jt_chains.proofs.TemplatesByIndex.{along_templates, index_within, map_at, only_one}
 pub use Rattle.jt_chains.proofs.TemplatesByIndex.{given_templates}
-pub use Rattle.jt_chains.specs.Along.{AreIndices, along, templates_at, body_at}
+pub use Rattle.jt_chains.specs.Along.{AreIndices, templates_at, body_at}
 pub use Rattle.jt_chains.specs.Chain.{MacroBody, Namespace, Sources, Template, a_chain, a_library, blocks_in}
 pub use Rattle.jt_chains.specs.Chain.{extends_of, holds_macros, is_a_library, libraries, libraries_in, library_template}
 pub use Rattle.jt_chains.specs.Chain.{listed, macros, macros_in, names_up, namespace_name, own, parent_of, public_macro}
@@ -78,7 +77,7 @@ pub use Rattle.jt_inherit.specs.Findings.{is_include, is_required, leads_to, may
 pub use Rattle.jt_inherit.specs.Findings.{last_of, blocks_named}
 pub use Rattle.jt_inherit.specs.Linked.{IsLinked, KeepsLinkRules}
 pub use Rattle.jt_inherit.specs.Refusals.{Breaks, HasFault, IsUncut, IsUnspelled, Shows, IsMissing}
-pub use Rattle.jt_inherit.specs.Small.{chains_len, templates_len, source_len, libraries_len}
+pub use Rattle.jt_inherit.specs.Small.{chains_len, templates_len, libraries_len}
 pub use Rattle.jt_inherit.specs.SuperTags.{super_at, branches_super_at, stmt_super_at}
 pub use Rattle.jt_inherit.specs.declared.discovery.Discovery.{Discovery}
 pub use Rattle.jt_inherit.specs.declared.error.ChainError.{ChainError}
@@ -111,7 +110,7 @@ pub use Rattle.jt_inherit.specs.internal.Numbers.{key_view, keys_view, keyed}
 pub use Rattle.jt_inherit.specs.internal.Views.{namespaces_view}
 pub use Rattle.jt_inherit.specs.internal.SuperLines.{first_in, first_under, line_if, first_of}
 pub use Rattle.jt_inherit.specs.internal.Tags.{IsLastCall, place_in, place_view, tag_view, tags, tags_view, test_of}
-pub use Rattle.jt_inherit.specs.internal.Tags.{place_of, AreFirst, with_name}
+pub use Rattle.jt_inherit.specs.internal.Tags.{place_of, with_name}
 pub use Rattle.std.proofs.Common.{◌≡◌, ℕ, zero, suc, ◌<◌, ◌==◌, Bool, true, false, not, ◌||◌, List, [], ◌∷◌, length}
 pub use Rattle.std.proofs.Common.{map, refl, sym, ap, ◌∙◌, arith, Some, rules, ◌⊎◌, ◌≤◌, ◌-◌, subst, ⊎_elim, Option}
 pub use Rattle.std.proofs.Common.{String, Vec, Global, ◌&&◌, None, ◌+◌, ◌++◌, drop, get_or, inl, string_bytes, inr}
@@ -119,7 +118,7 @@ pub use Rattle.std.proofs.Common.{length-append, nat_lt, cond, take, ◌*◌, en
 pub use Rattle.std.proofs.Common.{IsUtf8, add-one, ◌≢◌, ◌↔◌, All, IsTrue, MatchBool, MatchOption, ◌^◌, lit<, tests}
 pub use Rattle.std.proofs.Common.{IfSome}
 pub use Rattle.jt_uses.specs.UseView.{sites_view}
-pub use Rattle.std.proofs.Math.Bool.{or_assoc, or_comm, or-false}
+pub use Rattle.std.proofs.Math.Bool.{or_assoc, or_comm}
 
 -- What holds of an error holds of the same error that `?` returns.
 pub passed_on : {T E : Type 0} (P : E → Type 0) {e : E} (r : Result T E) → IsErrAnd r (λ x. x ≡ e) → P e → IfErr r P

@@ -9,11 +9,6 @@ use Rattle.jt_inherit.proofs.DiscoveryInvariant.{chosen_there, first_same, reach
 use Rattle.jt_inherit.proofs.TopologicalOrder.{namespace_among}
 use Rattle.jt_inherit.proofs.discovery.follow.Goals as goal
 
--- The path by an equal list of indices.
-its_path : {given : SourceTexts} {options : Options} {ts us : List Template} {h : Namespace} {v w : Vec ℕ Global}
-    → v ≡ w → HasPath given options ts us h v.items → HasPath given options ts us h w.items
-its_path {given} {options} {ts} {us} {h} e = subst (λ (z : Vec ℕ Global). HasPath given options ts us h z.items) e
-
 -- The next chain or library to follow.
 next_here : (f : Discovery) {i : ℕ} (h : Namespace) → i ≡ f.extends_paths.len
     → slice_get (found_namespaces f) i ≡ Some h → slice_get (found_namespaces f) (length (found_paths f)) ≡ Some h
@@ -58,7 +53,7 @@ returns-in_err-read_needs-clause-refused g c =
     let f = c.args.found.now in
     let at = next_here f _ c.len-number.ensures c.get-namespace.ensures in
     let told = c.in_ok-path.ensures.told in
-    let p = its_path (sym c.in_ok-path.ensures.same) c.in_ok-extends_path.ensures in
+    let p = (rw (sym c.in_ok-path.ensures.same) at c.in_ok-extends_path.ensures) in
     passed_on _ c.from_residual-in_err-read_needs.result c.from_residual-in_err-read_needs.ensures.1 (need_finds p.read.known (reached_here c.requires.found at p) p.led c.in_err-read_needs.field-0.0
     c.in_err-read_needs.ensures.refused)
 
@@ -70,7 +65,7 @@ returns-in_err-next-clause-refused g c =
     let f = c.args.found.now in
     let at = next_here f _ c.len-number.ensures c.get-namespace.ensures in
     let told = c.in_ok-path.ensures.told in
-    let p = its_path (sym c.in_ok-path.ensures.same) c.in_ok-extends_path.ensures in
+    let p = (rw (sym c.in_ok-path.ensures.same) at c.in_ok-extends_path.ensures) in
     let r = c.in_ok-read_needs.ensures.read in
     passed_on _ c.from_residual-in_err-next.result c.from_residual-in_err-next.ensures.1 (next_finds r.known (reached_there c.requires.found at p told.told r)
     (way_there c.requires.found at p told.told r) _ (reached_from c.requires.found at p told.told r)
@@ -81,7 +76,7 @@ returns-clause-found g c =
     let f = c.args.found.now in
     let at = next_here f _ c.len-number.ensures c.get-namespace.ensures in
     let told = c.in_ok-path.ensures.told in
-    let p = its_path (sym c.in_ok-path.ensures.same) c.in_ok-extends_path.ensures in
+    let p = (rw (sym c.in_ok-path.ensures.same) at c.in_ok-extends_path.ensures) in
     let r = c.in_ok-read_needs.ensures.read in
     let numbers = c.in_ok-next.ensures.next in
     let ts = its_files c.read_needs.new.store in
@@ -99,5 +94,5 @@ returns-clause-root g c =
     let f = c.args.found.now in
     let at = next_here f _ c.len-number.ensures c.get-namespace.ensures in
     let told = c.in_ok-path.ensures.told in
-    let p = its_path (sym c.in_ok-path.ensures.same) c.in_ok-extends_path.ensures in
+    let p = (rw (sym c.in_ok-path.ensures.same) at c.in_ok-extends_path.ensures) in
     first_same c.requires.found at p told.told c.in_ok-read_needs.ensures.read c.in_ok-next.ensures.next

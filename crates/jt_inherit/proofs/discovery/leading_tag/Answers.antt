@@ -1,5 +1,5 @@
 use Rattle.jt_inherit.proofs.Vocabulary as words
-use words.{◌≡◌, refl, sym, ap, ◌∙◌, graph_of, AreIndices, namespace_at, leads_to, found_namespaces, found_templates}
+use words.{◌≡◌, refl, sym, ap, ◌∙◌, graph_of, namespace_at, leads_to, found_namespaces}
 use words.{test_of}
 use Rattle.jt_inherit.proofs.ChainComplete.{way_at}
 use Rattle.jt_inherit.proofs.discovery.leading_tag.Goals as goal

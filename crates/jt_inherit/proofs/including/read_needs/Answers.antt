@@ -1,7 +1,7 @@
 use Rattle.jt_inherit.proofs.Vocabulary as words
 use words.{◌≡◌, ◌+◌, ◌++◌, ◌∷◌, [], true, take, sym, ap, ◌∙◌, string_bytes, IsMet, among, keyed_needs, keyed_view}
 use words.{needed, names, among_front, among_behind, of_texts, templates_at, KeyedNeed, its_files}
-use Rattle.jt_inherit.proofs.DiscoveryInvariant.{met_turn, met_read, needed_turn, has_needs}
+use Rattle.jt_inherit.proofs.DiscoveryInvariant.{met_turn, met_read, needed_turn}
 use Rattle.jt_inherit.proofs.PathsGrow.{read_on, templates_grow}
 use Rattle.jt_inherit.proofs.FindingsHold.{unmet_need}
 use Rattle.jt_inherit.proofs.including.read_needs.Goals as goal

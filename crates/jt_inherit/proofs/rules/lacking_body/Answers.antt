@@ -1,4 +1,4 @@
-use Rattle.jt_inherit.proofs.Vocabulary.{◌≡◌, ◌<◌, ◌≤◌, Some, length, length-map, sym, ap, subst, ◌∙◌, arith, lacks_body, blocks_view, block_view}
+use Rattle.jt_inherit.proofs.Vocabulary.{◌<◌, ◌≤◌, length, length-map, sym, ap, subst, ◌∙◌, arith, lacks_body, blocks_view, block_view}
 use Rattle.jt_inherit.proofs.Vocabulary.{take_all}
 use Rattle.jt_chains.specs.View.{its_templates}
 use Rattle.jt_names.specs.Names.{first_of}
