@@ -521,11 +521,6 @@ pub found_first : (given : SourceTexts) (options : Options) (entry root : Text) 
 found_first given options entry root ts hs ws ns eh er et ew en =
     search (arith, rules, a_chain, asked, sources_in, only_among, of_namespaces, here, none_followed)
 
--- The next namespace to follow.
-pub namespace_number : (hs : List Namespace) (ws : List (Vec ℕ Global)) (o : Option Namespace) (i : ℕ) → i ≡ length ws
-    → slice_get hs i ≡ o → slice_get hs (length (graph_of ws)) ≡ o
-namespace_number hs ws o i at e = ap (slice_get hs) (length-map ws (λ (v : Vec ℕ Global). v.items) ∙ sym at) ∙ e
-
 -- The includes and imports of a path stay what they are when more is read.
 pub has_needs : {given : SourceTexts} {options : Options} {ts us : List Template} {xs : List Text} {p : FollowedPath}
     → HasNeeds ts p → HasRead given options ts us xs → HasNeeds us p

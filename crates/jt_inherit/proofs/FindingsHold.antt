@@ -319,10 +319,6 @@ asked_turn vs ws t n None e a = absurd a
 asked_turn vs ws t n (Some p) e a =
     (ws, t, e, a.1, rw e (tag_last _ p ws t a.2))
 
--- A fact about a path and a name, by an equal path and name.
-pub same_path : (P : List ℕ → Text → Type 0) {is js : List ℕ} {n m : Text} → js ≡ is → m ≡ n → P js m → P is n
-same_path P {is} {js} {n} {m} a b h = search (arith, rules)
-
 -- The finding of an included or imported template, by its index among them.
 pub unmet_need : (given : SourceTexts) (options : Options) (ts : List Template) (is : List ℕ) (ns : List KeyedNeed)
     (k : ℕ) (d : KeyedNeed) (e : ChainError) (f : ChainFinding)

@@ -4,7 +4,7 @@ use words.{graph_of, HasPath, found_namespaces, root_of, key_view, namespaces_vi
 use words.{map_push, SourceTexts, Options, Template, Namespace, its_files}
 use words.{Discovery, Some, slice_get, found_paths}
 use Rattle.jt_inherit.proofs.FindingsHold.{need_finds, next_finds, library_finds}
-use Rattle.jt_inherit.proofs.DiscoveryInvariant.{namespace_number, reached_here, reached_there, found_more, has_needs}
+use Rattle.jt_inherit.proofs.DiscoveryInvariant.{reached_here, reached_there, found_more, has_needs}
 use Rattle.jt_inherit.proofs.DiscoveryInvariant.{chosen_there, first_same, reached_from, way_there}
 use Rattle.jt_inherit.proofs.TopologicalOrder.{namespace_among}
 use Rattle.jt_inherit.proofs.discovery.follow.Goals as goal

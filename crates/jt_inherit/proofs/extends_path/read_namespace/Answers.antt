@@ -4,7 +4,7 @@ use words.{length-map, slice_get_within, IsFaultOf, Text, among, templates_at, H
 use words.{IsNamedOn, file_view, names, its_files, its_templates}
 use Rattle.jt_inherit.specs.internal.ExtendsPaths.{IsAt}
 use Rattle.jt_inherit.proofs.FindingsHold.{asked_turn, cycle_placed, extends_told, fault_placed, long_placed}
-use Rattle.jt_inherit.proofs.FindingsHold.{refused_all, same_path, there_on}
+use Rattle.jt_inherit.proofs.FindingsHold.{refused_all, there_on}
 use Rattle.jt_inherit.proofs.StoreLookup.{library_known, library_read}
 use Rattle.jt_inherit.proofs.NumberTables.{is_chain, is_library}
 use Rattle.jt_inherit.proofs.PathsGrow.{cycle_breaks, long_breaks, fault_breaks, file_there, path_turn, read_step}

@@ -28,7 +28,7 @@ loop-index-preserved c =
     omega (arith, c.loop-index-test.true, c.len-index-end.ensures, bodies.ok.0) in
     body_goes (its_templates c.args.facts.now.chain.now) bodies.items c.loop-index.index x lt c.index-block.ensures
     (λ e. elim c.else-block.branch [
-      else-block-via-then-block+else-eq w ↦ absurd (index_not _ _ (sym w.if-eq.ensures) (w.index_of.ensures
+      | else-block-via-then-block+else-eq w ↦ absurd (index_not _ _ (sym w.if-eq.ensures) (w.index_of.ensures
           ∙ known.first_bodies x.name.now
           ∙ ap (λ bs. first_of x.name.now 0 (names_of bs)) (sym known.all_blocks) ∙ e))
       | else-block-via-else-block w ↦ w.if-block.false

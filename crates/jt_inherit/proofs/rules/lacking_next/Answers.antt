@@ -32,7 +32,7 @@ loop-left-preserved-in-Continue-1 c =
       next = λ ts.
           next_goes ts c.args.blocks.now l.left _ x (omega arith) c.index-blocks-left.is (omega arith)
           (λ n. elim c.else-is_none.branch [
-            else-is_none-via-then-is_none+else-calls_super w ↦ sym w.calls_super.ensures ∙ w.if-calls_super.false
+            | else-is_none-via-then-is_none+else-calls_super w ↦ sym w.calls_super.ensures ∙ w.if-calls_super.false
             | else-is_none-via-else-is_none w ↦ absurd (both_ways _ n (sym (l.invariant.noted ts x.name.now)
                 ∙ ap is_some (sym c.index_of.ensures) ∙ c.is_none.ensures ∙ ap not w.if-is_none.false))
           ])
@@ -53,7 +53,7 @@ loop-left-preserved c =
       next = λ ts.
           next_goes ts c.args.blocks.now l.left _ x (omega arith) c.index-blocks-left.is (omega arith)
           (λ n. elim c.else-is_none.branch [
-            else-is_none-via-then-is_none+else-calls_super w ↦ sym w.calls_super.ensures ∙ w.if-calls_super.false
+            | else-is_none-via-then-is_none+else-calls_super w ↦ sym w.calls_super.ensures ∙ w.if-calls_super.false
             | else-is_none-via-else-is_none w ↦ absurd (both_ways _ n (sym (l.invariant.noted ts x.name.now)
                 ∙ ap is_some (sym c.index_of.ensures) ∙ c.is_none.ensures ∙ ap not w.if-is_none.false))
           ])

@@ -7,7 +7,7 @@ pub loop-index-preserved-in_default : goal.loop-index-preserved-in_default
 loop-index-preserved-in_default c =
     let l = c.loop-index in
     rw (← (templates_past c.args.files.now c.args.indices.now l.index-index c.loop-index-test.true
-        c.in_default.ensures.lookup.3)) l.invariant
+    c.in_default.ensures.lookup.3)) l.invariant
 
 pub loop-index-preserved : goal.loop-index-preserved
 loop-index-preserved c =
