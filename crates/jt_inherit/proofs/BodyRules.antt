@@ -1,42 +1,44 @@
 -- The rules on bodies of blocks, as they are checked one body at a time.
 use Rattle.jt_inherit.proofs.Vocabulary as words
-use words.{◌≡◌, ℕ, zero, suc, ◌+◌, ◌<◌, Bool, true, false, not, cond, ◌&&◌, ◌||◌, List, [], ◌∷◌, ◌++◌, length, map}
-use words.{take, drop, get_or, refl, sym, ap, ◌∙◌, arith, rules, Some, or-false, or_assoc, or_comm, is_eq-slice_cmp}
+use words.{◌≡◌, ℕ, zero, suc, ◌+◌, ◌<◌, Bool, true, false, not, ◌&&◌, ◌||◌, List, [], ◌∷◌, ◌++◌, length, map}
+use words.{take, drop, get_or, refl, sym, ap, ◌∙◌, arith, rules, Some}
 use words.{body_at, BlockBody, from_given, named, slice_get, drop_more, map-append}
-use words.{slice_get-get_or, list_any, bytes_eq, Bor, among, repeated, texts, Text, end, option_to_list, templates_at}
-use words.{any_double, Template, blocks_in, lacks_body, lacks_next, block_names, block_view, blocks_view, Block}
-use words.{calls_super, of_texts, reflexive, same, symmetric, among_next, once_more}
+use words.{slice_get-get_or, list_any, bytes_eq, among, repeated, Text, end, option_to_list, templates_at}
+use words.{any_double, Template, blocks_in, lacks_body, lacks_next, block_view, blocks_view, Block}
+use words.{calls_super, of_texts, reflexive, same, among_next, once_more}
 use words.{or_from, or_parts}
 use words.{or_right, take_more, Namespace, map-map, take-append-drop}
-use Rattle.std.specs.BTreeSet.{BTreeSet}
-use Rattle.std.specs.Cmp.Lexicographic.{slice_cmp}
-use Rattle.std.specs.Ordering.{nat_cmp, is_eq}
-use Rattle.jt_chains.specs.Named.{named_view, names_view}
+use words.{length-map, true_from_ne_false, and_right, both_ways, map_at}
+use Rattle.std.proofs.lemmas.List.{length-take-le}
+use Rattle.std.proofs.lemmas.Option.{get_or_from_slice_get}
 use Rattle.jt_chains.specs.Parts.{name_at}
 use Rattle.jt_chains.specs.Rules.{is_required, lacks_super, is_empty}
-use Rattle.jt_chains.specs.declared.definitions.DefinedName.{DefinedName}
-use Rattle.std.specs.BTreeSet as set
+use Rattle.jt_names.specs.Names.{first_of}
+use Rattle.std.specs.Option.{option_eq, is_some}
+use Rattle.std.proofs.Math.Dec.{eqb}
+use Rattle.std.proofs.lemmas.Bool.{eq-eqb, eqb-true}
+use words.{Option, None, if◌then◌else◌}
 
--- ---- a set of texts
+-- ---- the first position of a text
 
-pub any_text : (x : Text) (ks : List (Bor Text))
-    → list_any (λ k. is_eq (slice_cmp nat_cmp x k.now)) ks ≡ among x (texts ks)
-any_text x [] = refl
-any_text x (k ∷ ks) = search (arith, rules, is_eq-slice_cmp, symmetric, any_text x ks)
+-- The position of an item is the first one of its text exactly if the text does not come before.
+first_new : (n : ℕ) (x : Text) (xs ys : List Text) → first_of x n (xs ++ ys) ≡ Some (n + length xs)
+    → among x xs ≡ false
+first_new n x [] ys e = refl
+first_new n x (y ∷ xs) ys e = search (arith, rules, first_new (suc n) x xs ys)
 
-either : (a b : Bool) → cond a true b ≡ (a || b)
-either true b = refl
-either false b = refl
+first_here : (n : ℕ) (x : Text) (xs ys : List Text) → among x xs ≡ false
+    → first_of x n (xs ++ x ∷ ys) ≡ Some (n + length xs)
+first_here n x [] ys h = search (arith, rules, reflexive)
+first_here n x (y ∷ xs) ys h = search (arith, rules, or_parts, first_here (suc n) x xs ys)
 
--- A set after the insertion of a name.
-pub name_more : (m n : BTreeSet (Bor Text)) (k : Bor Text)
-    → set.Updates (λ (x y : Bor Text). slice_cmp nat_cmp x.now y.now) m n k true → (x : Text)
-    → among x (texts n.keys) ≡ (bytes_eq k.now x || among x (texts m.keys))
-name_more m n k u x =
-    let here = is_eq (slice_cmp nat_cmp k.now x) in
-    let old = list_any (λ (j : Bor Text). is_eq (slice_cmp nat_cmp x j.now)) m.keys in
-    sym (any_text x n.keys) ∙ u.0 (record { ref_ptr = (0, 0); now = x }) ∙ either here old
-    ∙ ap (λ b. b || old) (is_eq-slice_cmp k.now x) ∙ ap (λ b. bytes_eq k.now x || b) (any_text x m.keys)
+-- The result of a comparison with an index.
+pub index_is : (o : Option ℕ) (i : ℕ) → option_eq eqb o (Some i) ≡ true → o ≡ Some i
+index_is None i e = absurd (cc)
+index_is (Some j) i e = ap (λ k. Some k) (eqb-true j i e)
+
+pub index_not : (o : Option ℕ) (i : ℕ) → option_eq eqb o (Some i) ≡ false → o ≡ Some i → ⊥
+index_not o i e is = both_ways _ (rw is at e) (eq-eqb i i refl)
 
 -- ---- repeated names
 
@@ -118,73 +120,69 @@ none_next bs b cs n h = search (arith, rules, none_behind, reflexive, any_here, 
 
 -- ---- one element more
 
-pub parted : {X : Type 0} (xs : List X) (i : ℕ) (x : X) → i < length xs → x ≡ get_or xs i x
-    → (rest : List X) × (xs ≡ take i xs ++ x ∷ rest)
-parted [] i x lt is = absurd (omega arith)
-parted (y ∷ ys) zero x lt is = (ys, rw (← is))
-parted (y ∷ ys) (suc i) x lt is = search (arith, rules, parted ys i x)
+module _ {X : Type 0} (xs : List X) (i : ℕ) (x : X) (lt : i < length xs) (is : x ≡ get_or xs i x) where
+  from_here : drop i xs ≡ x ∷ drop (i + 1) xs
+  from_here = drop_more xs i x lt ∙ ap (λ y. y ∷ drop (i + 1) xs) (sym is)
 
-pub take_next : {X : Type 0} (xs : List X) (i : ℕ) (x : X) → i < length xs → x ≡ get_or xs i x
-    → take (i + 1) xs ≡ take i xs ++ x ∷ []
-take_next xs i x lt is = take_more xs i x lt ∙ ap (λ y. take i xs ++ y ∷ []) (sym is)
+  parted : xs ≡ take i xs ++ x ∷ drop (i + 1) xs
+  parted = sym (take-append-drop i xs) ∙ ap (λ l. take i xs ++ l) from_here
 
-pub among_snoc : (l : List Text) (n y : Text) → among y (l ++ n ∷ []) ≡ (among y l || bytes_eq n y)
-among_snoc [] n y = or-false (bytes_eq n y)
-among_snoc (z ∷ l) n y =
-    rw (among_snoc l n y) (sym (or_assoc (bytes_eq z y) (among y l) (bytes_eq n y)))
+  take_next : take (i + 1) xs ≡ take i xs ++ x ∷ []
+  take_next = take_more xs i x lt ∙ ap (λ y. take i xs ++ y ∷ []) (sym is)
 
--- A set after the insertion of a name.
-pub among_set : (ks ms pre : List Text) (n : Text) → ((y : Text) → among y ks ≡ among y pre)
-    → ((y : Text) → among y ms ≡ (bytes_eq n y || among y ks)) → (y : Text) → among y ms ≡ among y (pre ++ n ∷ [])
-among_set ks ms pre n h m y =
-    m y ∙ ap (λ c. bytes_eq n y || c) (h y) ∙ or_comm (bytes_eq n y) (among y pre) ∙ sym (among_snoc pre n y)
+  -- Its name comes before exactly if its position is not the first one of the name.
+  module _ (f : X → Text) where
+    abbrev before : List Text
+    before = map f (take i xs)
 
-module _ {X : Type 0} (f : X → Text) (xs : List X) (i : ℕ) (x : X) (lt : i < length xs) (is : x ≡ get_or xs i x) where
-  pub repeat_found : (ks : List Text) → ((y : Text) → among y ks ≡ among y (map f (take i xs))) → among (f x) ks ≡ true
-      → repeated (map f xs) ≡ true
-  repeat_found ks e h = search (arith, rules, parted, map-append, again)
+    first_after : (n : ℕ) → first_of (f x) n (map f xs) ≡ first_of (f x) n (before ++ f x ∷ map f (drop (i + 1) xs))
+    first_after n = ap (first_of (f x) n) (ap (map f) parted ∙ map-append f (take i xs) _)
 
-  pub repeat_goes : (ks ms : List Text) (b : Bool) → ((y : Text) → among y ks ≡ among y (map f (take i xs)))
-      → repeated (map f (take i xs)) ≡ false → b ≡ among (f x) ks
-      → ((y : Text) → among y ms ≡ (bytes_eq (f x) y || among y ks)) → b ≡ false
-      → ((y : Text) → among y ms ≡ among y (map f (take (i + 1) xs))) × (repeated (map f (take (i + 1) xs)) ≡ false)
-  repeat_goes ks ms b e o k m off =
-      let taken : map f (take (i + 1) xs) ≡ map f (take i xs) ++ f x ∷ [] =
-      ap (map f) (take_next xs i x lt is) ∙ map-append f (take i xs) (x ∷ []) in (
-        λ y. among_set ks ms _ (f x) e m y ∙ ap (among y) (sym taken),
-        ap repeated taken ∙ once_more of_texts (f x) (map f (take i xs)) o (sym (e (f x)) ∙ sym k ∙ off),
-      )
+    count : 0 + length before ≡ i
+    count = omega (arith, length-map (take i xs) f, length-take-le i xs (omega (arith, lt)))
+
+    is_new : first_of (f x) 0 (map f xs) ≡ Some i → among (f x) before ≡ false
+    is_new e = first_new 0 (f x) before _ (sym (first_after 0) ∙ e ∙ ap (λ k. Some k) (sym count))
+
+    is_known : (first_of (f x) 0 (map f xs) ≡ Some i → ⊥) → among (f x) before ≡ true
+    is_known n = search (arith, rules, true_from_ne_false, first_after, first_here, count)
+
+    pub repeat_found : (first_of (f x) 0 (map f xs) ≡ Some i → ⊥) → repeated (map f xs) ≡ true
+    repeat_found n = ap repeated (ap (map f) parted ∙ map-append f (take i xs) _) ∙ again (f x) before _ (is_known n)
+
+    pub repeat_goes : first_of (f x) 0 (map f xs) ≡ Some i → repeated before ≡ false
+        → repeated (map f (take (i + 1) xs)) ≡ false
+    repeat_goes e o =
+        ap repeated (ap (map f) take_next ∙ map-append f (take i xs) (x ∷ []))
+        ∙ once_more of_texts (f x) before o (is_new e)
 
 -- ---- lists of bodies
 
-pub names_seen : (ts : List Template) (xs : List Block) → names_of (blocks_view ts xs) ≡ block_names xs
-names_seen ts [] = refl
-names_seen ts (x ∷ xs) = rw (names_seen ts xs)
-
 module _ (ts : List Template) (xs : List Block) (i : ℕ) (x : Block) (lt : i < length xs) (is : x ≡ get_or xs i x) where
-  pub body_lacking : (ks : List Text) → ((y : Text) → among y ks ≡ among y (block_names (take i xs)))
-      → (not (among x.name.now ks) && x.required) ≡ true → lacks_body (blocks_view ts xs) ≡ true
-  body_lacking ks h both = search (arith, rules, parted, names_seen, map-append, none_given)
+  abbrev bs : List BlockBody
+  bs = blocks_view ts xs
 
-  pub body_goes : (ks : List Text) → ((y : Text) → among y ks ≡ among y (block_names (take i xs)))
-      → AreGiven (blocks_view ts (take i xs)) → (not (among x.name.now ks) && x.required) ≡ false
-      → AreGiven (blocks_view ts (take (i + 1) xs))
-  body_goes ks h g off =
-      let e : blocks_view ts (take (i + 1) xs) ≡ blocks_view ts (take i xs) ++ block_view ts x ∷ [] =
-      ap (blocks_view ts) (take_next xs i x lt is) ∙ map-append (block_view ts) (take i xs) (x ∷ []) in
-      let n : among x.name.now (names_of (blocks_view ts (take i xs))) ≡ among x.name.now ks =
-      ap (among x.name.now) (names_seen ts _) ∙ sym (h x.name.now) in
-      rw e (given_more _ _ g (rw n off))
+  within : i < length bs
+  within = omega (arith, lt, length-map xs (block_view ts))
 
-pub not_not : (b : Bool) → not (not b) ≡ b
-not_not true = refl
-not_not false = refl
+  at : block_view ts x ≡ get_or bs i (block_view ts x)
+  at = sym (get_or_from_slice_get bs i _ _ (map_at (block_view ts) xs i x lt is))
 
--- A set after the insertion of the name of a body that is not required.
-pub given_noted : (ks ms : List Text) (n : Text) (r : Bool) (x : Text)
-    → ((y : Text) → among y ms ≡ (bytes_eq n y || among y ks)) → not r ≡ true
-    → among x ms ≡ ((bytes_eq n x && not r) || among x ks)
-given_noted ks ms n r x m off = search (arith, rules)
+  pub body_lacking : x.required ≡ true → first_of x.name.now 0 (names_of bs) ≡ Some i → lacks_body bs ≡ true
+  body_lacking r e =
+      ap lacks_body (parted bs i (block_view ts x) within at)
+      ∙ none_given (take i bs) (block_view ts x) _ (is_new bs i (block_view ts x) within at (λ b. b.name) e) r
+
+  pub body_goes : (first_of x.name.now 0 (names_of bs) ≡ Some i → x.required ≡ false) → AreGiven (take i bs)
+      → AreGiven (take (i + 1) bs)
+  body_goes off g = rw (take_next bs i (block_view ts x) within at) (given_more (take i bs) (block_view ts x) g
+      (by x.required refl))
+    where
+      by : (r : Bool) → x.required ≡ r → (not (among x.name.now (names_of (take i bs))) && r) ≡ false
+      by false h = and_right _ _ refl
+      by true h =
+          ap (λ b. not b && true)
+          (is_known bs i (block_view ts x) within at (λ b. b.name) (λ e. both_ways _ (off e) h))
 
 -- ---- templates at indices, one more
 
@@ -194,63 +192,45 @@ nothing = record { name = []; body = end }
 module _ (e : Bool) (ts : List Template) (is : List ℕ) (k : ℕ) (lt : k < length is) (within : get_or is k 0 < length ts)
     (xs : List Block) (b : Bool)
     (seen : blocks_view ts xs ≡ blocks_in (name_at ts (get_or is k 0)) (body_at ts (get_or is k 0)) e)
-    (told : b ≡ repeated (block_names xs)) where
-  double_left : any_double e (templates_at ts (drop k is)) ≡ (b || any_double e (templates_at ts (drop (k + 1) is)))
-  double_left =
-      let i = get_or is k 0 in
-      let t = get_or ts i nothing in
-      let at : slice_get ts i ≡ Some t = slice_get-get_or ts i nothing within in
-      let found : blocks_in (name_at ts i) (body_at ts i) e ≡ blocks_in t.name t.body e =
-      rw at in
-      let twice : repeated (map (λ (x : BlockBody). x.name) (blocks_in t.name t.body e)) ≡ b =
-      rw (← found) (ap (λ l. repeated (names_of l)) (sym seen)
-      ∙ ap repeated (names_seen ts xs) ∙ sym told) in
-      rw (drop_more is k 0 lt) (ap (λ o. any_double e (option_to_list o ++ templates_at ts (drop (k + 1) is))) at
-      ∙ ap (λ c. c || any_double e (templates_at ts (drop (k + 1) is))) twice)
-
-  pub double_found : b ≡ true → any_double e (templates_at ts (drop k is)) ≡ true
-  double_found h = double_left ∙ ap (λ c. c || any_double e (templates_at ts (drop (k + 1) is))) h
-
-  pub double_none : b ≡ false
-      → any_double e (templates_at ts (drop k is)) ≡ any_double e (templates_at ts (drop (k + 1) is))
-  double_none h = double_left ∙ ap (λ c. c || any_double e (templates_at ts (drop (k + 1) is))) h
-
-pub next_lacking : (ts : List Template) (qs : List Block) (b : Block) (rest : List Block)
-    → (not (has_given b.name.now (blocks_view ts rest)) && calls_super (block_view ts b).body) ≡ true
-    → lacks_next (blocks_view ts (qs ++ b ∷ rest)) ≡ true
-next_lacking ts qs b rest h = search (arith, rules, map-append, none_next)
+    (told : b ≡ repeated (names_of (blocks_view ts xs))) where
+  pub double_left : any_double e (templates_at ts (drop k is)) ≡ (b || any_double e (templates_at ts (drop (k + 1) is)))
+  double_left = rw (told, seen, drop_more is k 0 lt, slice_get-get_or ts (get_or is k 0) nothing within) refl
 
 -- ---- lists of bodies, visited from the last to the first
 
 module _ (ts : List Template) (xs : List Block) (k i : ℕ) (x : Block) (lt : i < length xs) (is : x ≡ get_or xs i x)
     (next : k ≡ i + 1) where
-  from_here : drop i xs ≡ x ∷ drop k xs
-  from_here = rw next (drop_more xs i x lt ∙ ap (λ (y : Block). y ∷ drop (i + 1) xs) (sym is))
+  after_here : blocks_view ts (drop i xs) ≡ block_view ts x ∷ blocks_view ts (drop k xs)
+  after_here = rw next (ap (blocks_view ts) (from_here xs i x lt is))
 
-  pub next_found : (ks : List Text) → ((y : Text) → among y ks ≡ has_given y (blocks_view ts (drop k xs)))
-      → (not (among x.name.now ks) && calls_super (block_view ts x).body) ≡ true → lacks_next (blocks_view ts xs) ≡ true
-  next_found ks h both =
-      let whole : xs ≡ take i xs ++ x ∷ drop k xs =
-      sym (take-append-drop i xs) ∙ ap (λ (l : List Block). take i xs ++ l) from_here in
-      ap (λ (l : List Block). lacks_next (blocks_view ts l)) whole
-      ∙ next_lacking ts (take i xs) x (drop k xs)
-      (ap (λ b. not b && calls_super (block_view ts x).body) (sym (h x.name.now)) ∙ both)
+  pub next_found : has_given x.name.now (blocks_view ts (drop k xs)) ≡ false → calls_super (block_view ts x).body ≡ true
+      → lacks_next (blocks_view ts xs) ≡ true
+  next_found n h =
+      ap (λ (l : List Block). lacks_next (blocks_view ts l)) (sym (take-append-drop i xs))
+      ∙ ap lacks_next (map-append (block_view ts) (take i xs) (drop i xs)
+      ∙ ap (λ l. blocks_view ts (take i xs) ++ l) after_here)
+      ∙ none_next (blocks_view ts (take i xs)) (block_view ts x) (blocks_view ts (drop k xs)) n h
 
-  pub next_goes : (ks : List Text) → ((y : Text) → among y ks ≡ has_given y (blocks_view ts (drop k xs)))
-      → HaveNext (blocks_view ts (drop k xs))
-      → (not (among x.name.now ks) && calls_super (block_view ts x).body) ≡ false
+  pub next_goes : (has_given x.name.now (blocks_view ts (drop k xs)) ≡ false
+      → calls_super (block_view ts x).body ≡ false) → HaveNext (blocks_view ts (drop k xs))
       → HaveNext (blocks_view ts (drop i xs))
-  next_goes ks h n off =
-      rw from_here (next_more (block_view ts x) (blocks_view ts (drop k xs)) n
-      (ap (λ b. not b && calls_super (block_view ts x).body) (sym (h x.name.now)) ∙ off))
+  next_goes off n = rw after_here (next_more (block_view ts x) (blocks_view ts (drop k xs)) n (by _ refl))
+    where
+      by : (b : Bool) → has_given x.name.now (blocks_view ts (drop k xs)) ≡ b
+          → (not (has_given x.name.now (blocks_view ts (drop k xs))) && calls_super (block_view ts x).body) ≡ false
+      by true h = rw h
+      by false h = and_right _ _ (off h)
 
-  pub given_goes : (ks ms : List Text) → ((y : Text) → among y ks ≡ has_given y (blocks_view ts (drop k xs)))
-      → ((y : Text) → among y ms ≡ ((bytes_eq x.name.now y && not x.required) || among y ks)) → (y : Text)
-      → among y ms ≡ has_given y (blocks_view ts (drop i xs))
-  given_goes ks ms h m y =
-      rw from_here (m y ∙ ap (λ b. (bytes_eq x.name.now y && not x.required) || b) (h y))
+  pub given_goes : (old new : Bool) (y : Text) → old ≡ has_given y (blocks_view ts (drop k xs))
+      → new ≡ ((bytes_eq x.name.now y && not x.required) || old) → new ≡ has_given y (blocks_view ts (drop i xs))
+  given_goes old new y h m = rw after_here (m ∙ ap (λ b. (bytes_eq x.name.now y && not x.required) || b) h)
 
--- The names of definitions.
-pub names_defined : (ts : List Template) (h : Namespace) (ds : List DefinedName)
-    → map (λ g. g.0) (names_view ts h ds) ≡ map (λ d. d.name.now) ds
-names_defined ts h ds = map-map (λ g. g.0) (named_view ts h) ds
+-- The bodies that are given after the name of one that is not required was put into a map.
+pub given_put : (old new : Option ℕ) (b r : Bool) (i : ℕ) → new ≡ (if b then Some i else old) → r ≡ false
+    → is_some new ≡ ((b && not r) || is_some old)
+given_put old new true r i e h = rw e (rw h refl)
+given_put old new false r i e h = rw e refl
+
+pub given_kept : (old b r : Bool) → r ≡ true → old ≡ ((b && not r) || old)
+given_kept old true r h = rw h refl
+given_kept old false r h = refl

@@ -4,7 +4,7 @@ use Rattle.jt_inherit.proofs.Vocabulary as words
 use words.{◌≡◌, ◌≢◌, ◌↔◌, ℕ, zero, suc, ◌+◌, ◌*◌, ◌<◌, ◌≤◌, ◌==◌, true, false, not, ◌&&◌, List, [], ◌∷◌, length, map}
 use words.{refl, sym, ap, subst, ◌∙◌, arith, inl, inr, ◌⊎◌, ⊎_elim, Some, None, Vec, Global, get_or, rules, names}
 use words.{slice_get_within, length-map, map-map, slice_get, AllByRecursion, list_any, is_none, cases_lt}
-use words.{nat_tests, Graph, next_of, graph_of, Options, among, repeated, Text, AreIndices, templates_at, needs_along}
+use words.{nat_tests, Graph, next_of, graph_of, Options, among, repeated, Text, templates_at, needs_along}
 use words.{Namespace, a_chain, listed, is_a_library, Template, templates, sources_in, SourceTexts}
 use words.{chains_of, AreFound, IsFound, found_templates, found_namespaces, root_of, IsFollowed}
 use words.{AreFollowed, IsMet, found_paths, listed_view, included, InOrder}
@@ -14,10 +14,11 @@ use words.{chains_len, Seen, AreKnown, IsExtendsPath, Discovery, map_at, of_text
 use words.{of_namespaces, among_cases, no_more, indexed_among, and_from, and_right, both_ways, list_any-append}
 use words.{not-true, or_from, or_right, IsClosed, IsOrder, IsDone, begins_with_chain, namespace_view, AreWhole}
 use words.{given_templates, IsLinked, KeepsLinkRules}
+use words.{all_weaker}
 use Rattle.jt_inherit.proofs.TreeWeights.{few_chains, all_weigh}
 use Rattle.jt_inherit.proofs.DiscoveryInvariant.{none_read, few_way, way_names, asked_way, indexed_templates}
 use Rattle.jt_inherit.proofs.DiscoveryInvariant.{included_is, whole_path, some_source}
-use Rattle.jt_inherit.proofs.PathsGrow.{few_templates, all_at_indices, too_few, few_names, all_named}
+use Rattle.jt_inherit.proofs.PathsGrow.{few_templates, all_at_indices, too_few, few_names}
 use Rattle.jt_inherit.proofs.PathsGrow.{have_sources, all_among, repeated_up, weigh, names_indexed}
 use Rattle.jt_inherit.proofs.TopologicalOrder.{namespace_among, number_of, names_in_order, reached_in_order, no_cycle}
 use Rattle.jt_inherit.proofs.TopologicalOrder.{first_in_order, named_among}
@@ -25,11 +26,6 @@ use Rattle.jt_graph.specs.Graph as graph
 use Rattle.jt_chains.specs.declared.chain.Namespace as declared
 
 -- ---- chains by their numbers
-
-pub at_number : (P : List ℕ → Type 0) (ws : Graph) (i : ℕ) → i < length ws → AllByRecursion P ws → P (next_of ws i)
-at_number P [] i lt a = absurd (omega arith)
-at_number P (w ∷ ws) zero lt a = a.0
-at_number P (w ∷ ws) (suc i) lt a = at_number P ws i (omega arith) a.1
 
 -- The path at a number, and the number is one of a path.
 pub way_at : (vs us : List (Vec ℕ Global)) (i : ℕ) (v : Vec ℕ Global) (is : List ℕ) → us ≡ vs → i < length us
@@ -40,10 +36,6 @@ all_rows : (P : List ℕ → Type 0) (ws : Graph) → ((i : ℕ) → i < length 
 all_rows P [] f = tt
 all_rows P (w ∷ ws) f = (f 0 (omega arith), all_rows P ws (λ i lt. f (suc i) (omega arith)))
 
-pub ways_indexed : (given : SourceTexts) (ts : List Template) (hs : List Namespace) (ws ns : Graph)
-    → AreFollowed given ts hs ws ns → AllByRecursion (AreIndices ts) ws
-ways_indexed given ts hs ws ns f = all_rows _ ws (λ i lt. (f.each i lt).led.indices)
-
 numbers_within : (hs : List Namespace) (js : List ℕ) (ns : List Namespace) → map (slice_get hs) js ≡ map Some ns
     → AllByRecursion (λ j. j < length hs) js
 numbers_within hs [] ns e = tt
@@ -52,9 +44,7 @@ numbers_within hs (j ∷ js) (n ∷ ns) e = search (arith, rules, slice_get_with
 
 next_within : (given : SourceTexts) (ts : List Template) (hs : List Namespace) (ws ns : Graph)
     → AreFollowed given ts hs ws ns → AllByRecursion (λ js. AllByRecursion (λ j. j < length hs) js) ns
-next_within given ts hs ws ns f =
-    all_rows _ ns
-    (λ i lt. numbers_within hs _ _ (f.each i (omega (arith, f.lens))).numbered)
+next_within given ts hs ws ns f = search (arith, rules, all_rows, numbers_within)
 
 numbered_among : (hs : List Namespace) (j : ℕ) (js : List ℕ) (ns : List Namespace) → map (slice_get hs) js ≡ map Some ns
     → graph.among j js ≡ true → listed (namespace_at hs j) ns ≡ true
@@ -145,8 +135,7 @@ module _ {given : SourceTexts} {options : Options} {entry : Text} {ts : List Tem
 
   includes_next : (i : ℕ) → i < length hs
       → map (slice_get hs) (next_of ns i) ≡ map Some (included (sources_in ts) (namespace_at hs i))
-  includes_next i lt =
-      (number i lt).numbered ∙ ap (map Some) (sym (included_is (number i lt).led))
+  includes_next i lt = search (arith, rules, number, map, included_is)
 
   -- ---- an edge of numbers is one of chains
 
@@ -193,13 +182,7 @@ module _ {given : SourceTexts} {options : Options} {entry : Text} {ts : List Tem
     -- The path of a namespace.
     way_of : (h : Namespace) → listed h hs ≡ true
         → (w : List ℕ) × IsExtendsPath ts h w None × AllByRecursion (IsMet given (names ts)) (needs_along ts w)
-    way_of h a =
-        let k = number_of hs h a in
-        let n = number k.0 k.1 in (
-          next_of ws k.0,
-          subst (λ x. IsExtendsPath ts x (next_of ws k.0) None) k.2 n.led,
-          n.met,
-        )
+    way_of h a = search (arith, rules, number_of, number, next_of)
 
     way_reached : {h : Namespace} → Reaches (sources_in ts) options.autoescape (a_chain entry) h
         → (w : List ℕ) × IsExtendsPath ts h w None × AllByRecursion (IsMet given (names ts)) (needs_along ts w)
@@ -207,7 +190,7 @@ module _ {given : SourceTexts} {options : Options} {entry : Text} {ts : List Tem
 
     named_met : (n : Need) → IsMet given (names ts) n → IsName n.name
     named_met n m =
-        ⊎_elim (λ p. all_among IsName ts n.name (all_named given options ts f.known.read.each) p) (λ q. q.1) m
+        ⊎_elim (λ p. all_among IsName ts n.name (all_weaker (λ t q. q.named) ts f.known.read.each) p) (λ q. q.1) m
 
     keeps : KeepsLinkRules (sources_in ts) options.autoescape (a_chain entry)
     keeps = record {
@@ -217,7 +200,7 @@ module _ {given : SourceTexts} {options : Options} {entry : Text} {ts : List Tem
       bad_name = λ x.
           let k = way_reached x.1 in
           x.2.2 (all_asked f.known k.1 k.2 IsName
-          (all_at_indices _ ts k.0 (all_named given options ts f.known.read.each)) named_met x.2.0
+          (all_at_indices _ ts k.0 (all_weaker (λ t q. q.named) ts f.known.read.each)) named_met x.2.0
           x.2.1);
       extends_cycle = λ x.
           let k = way_reached x.1 in
@@ -286,20 +269,11 @@ module _ {given : SourceTexts} {options : Options} {entry : Text} {ts : List Tem
             let here = reached x (w x (indexed_among of_namespaces (x ∷ os) 0 x refl)) in
             (os, rw (first_in_order _ _ x os _ p a here))
 
-    all_reached : (os : List Namespace) → ((x : Namespace) → listed x os ≡ true → listed x hs ≡ true)
-        → AllByRecursion (λ h. Reaches (sources_in ts) options.autoescape (a_chain entry) h) os
-    all_reached [] w = tt
-    all_reached (x ∷ os) w =
-        (reached x (w x (indexed_among of_namespaces (x ∷ os) 0 x refl)), all_reached os (λ z a. w z (or_right _ _ a)))
-
-    -- The path of each chain and library is whole.
-    are_whole : (os : List Namespace) → ((x : Namespace) → listed x os ≡ true → listed x hs ≡ true)
-        → AllByRecursion (λ h. is_whole (sources_in ts) options.autoescape h ≡ true) os
-    are_whole [] w = tt
-    are_whole (x ∷ os) w = (
-      is_one f.known (way_of x (w x (indexed_among of_namespaces (x ∷ os) 0 x refl))).1,
-      are_whole os (λ z a. w z (or_right _ _ a)),
-    )
+    each_listed : {P : Namespace → Type 0} (os : List Namespace) → ((x : Namespace) → listed x os ≡ true → P x)
+        → AllByRecursion P os
+    each_listed [] w = tt
+    each_listed (x ∷ os) w =
+        (w x (indexed_among of_namespaces (x ∷ os) 0 x refl), each_listed os (λ z a. w z (or_right _ _ a)))
 
     pub linked : IsLinked given entry options chain
     linked = record {
@@ -309,9 +283,9 @@ module _ {given : SourceTexts} {options : Options} {entry : Text} {ts : List Tem
       asked = templates_asked;
       included = begins.0;
       begins = begins.1;
-      reached = all_reached its_order in_namespaces;
+      reached = each_listed its_order (λ x a. reached x (in_namespaces x a));
       order = in_order;
-      whole = are_whole its_order in_namespaces;
+      whole = each_listed its_order (λ x a. is_one f.known (way_of x (in_namespaces x a)).1);
       rules = keeps;
     }
 
@@ -349,17 +323,7 @@ module _ {given : SourceTexts} {options : Options} {entry : Text} {ts : List Tem
 pub search_done : {given : SourceTexts} {options : Options} {entry : Text} (f : Discovery) → root_of f ≡ entry
     → IsFound given options f → length (found_paths f) ≡ length (found_namespaces f) → IsDone given options entry f
 search_done {given} {options} {entry} f root is all =
-    let found : AreFound given options entry (found_templates f) (found_namespaces f) (found_paths f)
-    (graph_of f.next.items) = rw (← root) is in
-    record {
-      found = found;
-      all = record {
-        indices = ways_indexed given _ _ _ _ is.followed;
-        paths = sym (length-map f.extends_paths.items (λ (v : Vec ℕ Global). v.items)) ∙ all;
-        next = sym (length-map f.next.items (λ (v : Vec ℕ Global). v.items)) ∙ lens found all;
-        closed = closed found all;
-      };
-    }
+    search (arith, rules, found_templates, found_namespaces, found_paths, graph_of, length-map, lens, closed)
 
 -- A search from an entry that is done, with the chain of an order of its numbers.
 module _ {given : SourceTexts} {options : Options} {entry : Text} {f : Discovery}

@@ -7,7 +7,7 @@ use words.{Body, Sources, a_chain, Template, sources_in, SourceTexts, IsTree, Is
 use words.{HasFault, IsUncut, IsUnspelled, Asks, here, asked, KeepsRules, Seen, ChainError, same, or_right, names}
 use words.{repeated, Namespace, names_up, IsMissing}
 use Rattle.jt_inherit.proofs.DiscoveryInvariant.{some_source}
-use Rattle.jt_inherit.proofs.PathsGrow.{asks_more, asked_more, reaches_more, continues}
+use Rattle.jt_inherit.proofs.PathsGrow.{Keeps, asks_more, asked_more, reaches_more, continues}
 use Rattle.jt_inherit.specs.Laws.{IsReading, IsLasting, RefusalLaws}
 use Rattle.jt_inherit.proofs.RulesCarryOver.{repeated_front}
 use Rattle.jt_inherit.specs.declared.error.ChainError.TheVariants as error
@@ -37,8 +37,7 @@ source_named ts n b e = sym (some_source ts n) ∙ ap is_some e
 -- If the first rule is broken, the second one is when more is read.
 abbrev IsCarried : (Sources → Bool → Namespace → Type 0) → (Sources → Bool → Namespace → Type 0) → Type 0
 IsCarried Rule Broken =
-    (s r : Sources) (e : Bool) (entry : Namespace)
-    → ((n : Text) (b : Body) → Asks r e entry n → s n ≡ Some b → r n ≡ Some b) → Rule s e entry → Broken r e entry
+    (s r : Sources) (e : Bool) (entry : Namespace) → Keeps s r e entry → Rule s e entry → Broken r e entry
 
 module _ (given : SourceTexts) (options : Options) where
   has_source : (ts : List Template) (n : Text) (b : Body) → AllByRecursion (IsRead given options) ts
@@ -57,13 +56,14 @@ module _ (given : SourceTexts) (options : Options) where
     -- A requested name that was read in the only way has the same tree in the chain.
     module _ (ts : List Template) (read : AllByRecursion (IsRead given options) ts)
         (only : AllByRecursion (IsOnly given options) ts) where
-      pub into : (n : Text) (b : Body) → Asks (sources_of d) options.autoescape (a_chain entry) n
-          → sources_in ts n ≡ Some b → sources_of d n ≡ Some b
-      into n b i e =
-          let c = named_source _ n ((d_asked n).1 (i, has_source ts n b read e)) in
-          let one = source_read _ ts n b only e c.0
-          (source_read _ _ n c.0 is.read.each c.1) in
-          c.1 ∙ ap (λ (x : Body). Some x) one
+      into : Keeps (sources_in ts) (sources_of d) options.autoescape (a_chain entry)
+      into = record {
+        kept = λ n b i e.
+            let c = named_source _ n ((d_asked n).1 (i, has_source ts n b read e)) in
+            let one = source_read _ ts n b only e c.0
+            (source_read _ _ n c.0 is.read.each c.1) in
+            c.1 ∙ ap (λ (x : Body). Some x) one;
+      }
 
     -- ---- a broken rule
 
@@ -71,16 +71,12 @@ module _ (given : SourceTexts) (options : Options) where
     refuted : {Rule Broken : Sources → Bool → Namespace → Type 0} → IsCarried Rule Broken
         → (Broken (sources_of d) options.autoescape (a_chain entry) → ⊥)
         → Shows given options (λ s. Rule s options.autoescape (a_chain entry)) → ⊥
-    refuted carry none x =
-        none (carry (sources_in x.templates) (sources_of d) options.autoescape (a_chain entry)
-        (into x.templates x.read.each x.only) x.holds)
+    refuted carry none x = search (arith, rules, into)
 
     -- A requested name has a tree or no source.
     no_fault : (n : Text) (P : Text → Type 0) → HasFault given entry options n P → ⊥
     no_fault n P x =
-        let s = sources_in x.reached.templates in
-        let i = asks_more s (sources_of d) options.autoescape (a_chain entry)
-        (into x.reached.templates x.reached.read.each x.reached.only) n x.reached.holds in
+        let i = asks_more (into x.reached.templates x.reached.read.each x.reached.only) n x.reached.holds in
         let c = named_source _ n
         ((d_asked n).1 (i, λ none. let no : None ≡ Some x.source = sym none ∙ x.found in absurd (cc))) in
         let r = source_read _ _ n c.0 is.read.each c.1 in
@@ -90,16 +86,13 @@ module _ (given : SourceTexts) (options : Options) where
 
     pub no_chain : (e : ChainError) → Breaks e given entry options → e ≡ error.NoMemory
     no_chain error.Missing x =
-        let s = sources_in x.reached.templates in
         let g = into x.reached.templates x.reached.read.each x.reached.only in
         let h = x.reached.holds in
-        let p = reaches_more s (sources_of d) options.autoescape (a_chain entry) g here h.1 in
+        let p = reaches_more g here h.1 in
         absurd (d_keeps.missing (
           h.0,
           p,
-          any_at _ x.name _
-              (asked_more s (sources_of d) options.autoescape (a_chain entry) g false h.0 p x.name h.2)
-              (unread x.name x.found),
+          any_at _ x.name _ (asked_more g false h.0 p x.name h.2) (unread x.name x.found),
         ))
       where
         unread : (n : Text) → given n ≡ None → is_none (sources_of d n) ≡ true
@@ -128,13 +121,14 @@ module _ (given : SourceTexts) (options : Options) where
   module _ (entry : Text) (c d : Seen) (ic : IsChain given entry options c) (id : IsChain given entry options d)
       (only : AllByRecursion (IsOnly given options) c.templates) where
     -- A name that the other chain requests has the same tree in this one.
-    back : (n : Text) (b : Body) → Asks (sources_of c) options.autoescape (a_chain entry) n → sources_of d n ≡ Some b
-        → sources_of c n ≡ Some b
-    back n b i e =
-        let f = named_source _ n ((d_asked entry c ic n).1 (i, has_source d.templates n b id.read.each e)) in
-        let one = source_read _ _ n f.0 only f.1 b
-        (source_read _ _ n b id.read.each e) in
-        f.1 ∙ ap (λ (x : Body). Some x) (sym one)
+    back : Keeps (sources_of d) (sources_of c) options.autoescape (a_chain entry)
+    back = record {
+      kept = λ n b i e.
+          let f = named_source _ n ((d_asked entry c ic n).1 (i, has_source d.templates n b id.read.each e)) in
+          let one = source_read _ _ n f.0 only f.1 b
+          (source_read _ _ n b id.read.each e) in
+          f.1 ∙ ap (λ (x : Body). Some x) (sym one);
+    }
 
     pub one_chain : (n : Text) → sources_of c n ≡ sources_of d n
     one_chain n = by (sources_of c n) refl (sources_of d n) refl
@@ -142,57 +136,47 @@ module _ (given : SourceTexts) (options : Options) where
         by : (o : Option Body) → sources_of c n ≡ o → (q : Option Body) → sources_of d n ≡ q
             → sources_of c n ≡ sources_of d n
         by (Some b) e q f =
-            let i = asks_more (sources_of c) (sources_of d) options.autoescape (a_chain entry)
-            (into entry d id c.templates ic.read.each only) n
-            ((d_asked entry c ic n).0 (source_named _ n b e)).0 in
-            e ∙ sym (into entry d id c.templates ic.read.each only n b i e)
+            let g = into entry d id c.templates ic.read.each only in
+            let i = asks_more g n ((d_asked entry c ic n).0 (source_named _ n b e)).0 in
+            e ∙ sym (g.kept n b i e)
         by None e (Some b) f =
-            let i = asks_more (sources_of d) (sources_of c) options.autoescape (a_chain entry) back n
-            ((d_asked entry d id n).0 (source_named _ n b f)).0 in
-            let no : None ≡ Some b = sym e ∙ back n b i f in
+            let i = asks_more back n ((d_asked entry d id n).0 (source_named _ n b f)).0 in
+            let no : None ≡ Some b = sym e ∙ back.kept n b i f in
             absurd (cc)
         by None e None f = e ∙ sym f
 
 -- A template that was read in the only way has the same tree in each reading.
-same_tree : (given : SourceTexts) (options : Options) (s : Sources) → IsReading given options s → (ts : List Template)
-    → AllByRecursion (IsRead given options) ts → AllByRecursion (IsOnly given options) ts
-    → (n : Text) (b : Body) → sources_in ts n ≡ Some b → s n ≡ Some b
-same_tree given options s is ts read only n b e =
-    let other = is.each n b (source_read _ ts n b read e) in
-    let one : other.0 ≡ b = source_read _ ts n b only e other.0 (is.read n other.0 other.1) in
+same_tree : {given : SourceTexts} {options : Options} {s : Sources} → IsReading given options s
+    → {P : Sources → Type 0} (x : Shows given options P)
+    → (n : Text) (b : Body) → sources_in x.templates n ≡ Some b → s n ≡ Some b
+same_tree is x n b e =
+    let other = is.each n b (source_read _ x.templates n b x.read.each e) in
+    let one : other.0 ≡ b = source_read _ x.templates n b x.only e other.0 (is.read n other.0 other.1) in
     other.1 ∙ ap (λ (x : Body). Some x) one
 
 lasting : (Breaks : Sources → Bool → Namespace → Type 0) → IsCarried Breaks Breaks → IsLasting Breaks
-lasting Breaks carry given options entry s is x =
-    carry (sources_in x.templates) s options.autoescape (a_chain entry)
-    (λ n b i. same_tree given options s is x.templates x.read.each x.only n b) x.holds
+lasting Breaks carry given options entry s is x = carry _ _ _ _ (record { kept = λ n b i. same_tree is x n b }) x.holds
 
 -- A name that occurs twice on the path does so when more is read.
 cycle_lasts : IsLasting rules.ExtendsCycle
 cycle_lasts given options entry s is x =
     let r = sources_in x.templates in
-    let g = same_tree given options s is x.templates x.read.each x.only in
     let h = x.holds in
     let y = h.2 in
-    let more = continues r s y.2 (Some y.0) (λ n a. g n) in (
+    let more = continues r s y.2 (Some y.0) (λ n a. same_tree is x n) in (
       h.0,
-      reaches_more r s options.autoescape (a_chain entry) (λ n b i. g n b) here h.1,
+      reaches_more (record { kept = λ n b i. same_tree is x n b }) here h.1,
       (y.0, y.1, y.2, ap repeated more.longer ∙ repeated_front (names_up r y.2 (Some y.0)) more.more y.3),
     )
 
 missing_lasts : (given : SourceTexts) (options : Options) (entry : Text) (s : Sources) → IsReading given options s
     → IsMissing given entry options → rules.Missing s options.autoescape (a_chain entry)
 missing_lasts given options entry s is x =
-    let r = sources_in x.reached.templates in
-    let g = same_tree given options s is x.reached.templates x.reached.read.each x.reached.only in
+    let g : Keeps (sources_in x.reached.templates) s options.autoescape (a_chain entry) =
+    record { kept = λ n b i. same_tree is x.reached n b } in
     let h = x.reached.holds in
-    let p = reaches_more r s options.autoescape (a_chain entry) (λ n b i. g n b) here h.1 in (
-      h.0,
-      p,
-      any_at _ x.name _
-          (asked_more r s options.autoescape (a_chain entry) (λ n b i. g n b) false h.0 p x.name h.2)
-          (unread (s x.name) refl),
-    )
+    let p = reaches_more g here h.1 in
+    (h.0, p, any_at _ x.name _ (asked_more g false h.0 p x.name h.2) (unread (s x.name) refl))
   where
     unread : (o : Option Body) → s x.name ≡ o → is_none (s x.name) ≡ true
     unread None e = ap is_none e

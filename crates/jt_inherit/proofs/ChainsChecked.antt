@@ -27,9 +27,7 @@ at_from : (ts : List Template) (is : List ℕ) (us : List Template) → map (sli
 at_from ts [] [] e = refl
 at_from ts [] (u ∷ us) e = absurd (cc)
 at_from ts (i ∷ is) [] e = absurd (cc)
-at_from ts (i ∷ is) (u ∷ us) e =
-    let h : slice_get ts i ≡ Some u = cc in
-    rw h (ap (λ l. u ∷ l) (at_from ts is us (cc)))
+at_from ts (i ∷ is) (u ∷ us) e = search (arith, rules, slice_get, at_from ts is us)
 
 pub own_templates : (c : Chain) (i : ℕ) (h : declared.Namespace) (is : List ℕ) → is ≡ h.templates.items
     → i < length c.namespaces.items → h ≡ get_or c.namespaces.items i h
@@ -81,9 +79,7 @@ at_listed P (k ∷ hs) a h there = by (same_namespace k h) refl (at_listed P hs 
 module _ {given : SourceTexts} {entry : Text} {options : Options} {chain : Seen}
     (l : IsLinked given entry options chain) where
   entry_in : listed (a_chain entry) chain.order ≡ true
-  entry_in =
-      ap (listed (a_chain entry)) l.begins
-      ∙ ap (λ b. b || listed (a_chain entry) l.included) (reflexive (a_chain entry))
+  entry_in = search (arith, rules, listed, a_chain, reflexive)
 
   ordered : {h : Namespace} → Reaches (sources_of chain) chain.escaping (a_chain entry) h
       → listed h chain.order ≡ true
@@ -92,31 +88,10 @@ module _ {given : SourceTexts} {entry : Text} {options : Options} {chain : Seen}
   -- A chain whose namespaces keep the rules.
   module _ (kept : (h : Namespace) → listed h chain.order ≡ true → KeepAll (sources_of chain) chain.escaping h) where
     keeps : KeepsRules (sources_of chain) chain.escaping (a_chain entry)
-    keeps = record {
-      missing = l.rules.missing;
-      bad_name = l.rules.bad_name;
-      extends_cycle = l.rules.extends_cycle;
-      too_long = l.rules.too_long;
-      double_block = λ x. both_ways _ (kept x.0 (ordered x.1)).doubles x.2;
-      required_not_given = λ x. both_ways _ (and_right _ _ (kept x.0 (ordered x.1)).bodies) x.2;
-      no_super = λ x. both_ways _ (and_right _ _ (kept x.0 (ordered x.1)).next) x.2;
-      include_cycle = l.rules.include_cycle;
-      macro_twice = λ x. both_ways _ (and_right _ _ (kept x.0 (ordered x.1)).names) x.2;
-      no_macro = λ x. both_ways _ (kept x.0 (ordered x.1)).macros_there x.2.2;
-      not_a_library = l.rules.not_a_library;
-    }
+    keeps = search (arith, rules, both_ways, ordered, and_right)
 
     keeping : IsChain given entry options chain
-    keeping = record {
-      escaping = l.escaping;
-      read = l.read;
-      asked = l.asked;
-      included = l.included;
-      begins = l.begins;
-      reached = l.reached;
-      order = l.order;
-      rules = keeps;
-    }
+    keeping = search (arith, rules, keeps)
 
   shown : {P : Sources → Type 0} → P (sources_of chain) → Shows given options P
   shown holds = record { templates = chain.templates; read = l.read; only = l.only; holds = holds }
@@ -156,12 +131,7 @@ module _ {given : SourceTexts} {entry : Text} {options : Options} {chain : Seen}
     rule_said e bare (Some p) (Some x) q = broken_said e p x q
 
     finds : (f : ChainFinding) → IsBroken (sources_of chain) chain.escaping h f → IsFinding given entry options f
-    finds f broken =
-        let b : IsBroken (sources_of chain) options.autoescape h f = rw (← l.escaping) broken in
-        record {
-          broken = one_breaks f.error b.broken;
-          says = rule_said f.error (rule_bare _ _ h f.error b.broken) f.place f.subject b.said;
-        }
+    finds f broken = search (arith, rules, sources_of, one_breaks, rule_said, rule_bare)
 
 -- ---- the chains and libraries by their indices
 
@@ -175,9 +145,7 @@ module _ {given : SourceTexts} {entry : Text} {options : Options} (c : Chain)
 
   pub rule_finds : (i : ℕ) → i < length c.namespaces.items → (f : ChainFinding) → BreaksAt c i f
       → IsFinding given entry options f
-  rule_finds i lt f b =
-      finds l (namespace_in c i)
-      (namespace_among (chain_view c).order i (omega (arith, lt, length-map c.namespaces.items namespace_view))) f b
+  rule_finds i lt f b = search (arith, rules, finds, namespace_among, length-map, namespace_view)
 
   pub only_memory : (other : Seen) → IsChain given entry options other → (f : ChainFinding)
       → IsFinding given entry options f → f.error ≡ error.NoMemory

@@ -2,9 +2,9 @@
 use Rattle.jt_inherit.proofs.Vocabulary as words
 use words.{◌≡◌, Bool, true, false, List, [], ◌∷◌, ◌++◌, map, refl, ap, arith, rules, ℕ, zero, suc, ◌+◌, ◌<◌, ◌≤◌, not}
 use words.{◌||◌, length, take, drop, get_or, sym, subst, ◌∙◌, inl, inr, ◌⊎◌, ⊎_elim, Some, length-append, Option, None}
-use words.{Vec, Global, imports_in, all_given_from, includes_by, includes_under, flat_map, filter, AllByRecursion}
+use words.{Vec, Global, includes_by, includes_under, flat_map, filter, AllByRecursion}
 use words.{map-append, Text, Body, Branches, among, Sources, Namespace, a_chain, a_library, Template, holds_macros}
-use words.{libraries_in, macros, MacroBody, own, lacks_macros, chosen, names_from, imported_names, includes_in, Need}
+use words.{libraries_in, lacks_macros, chosen, includes_in, Need}
 use words.{include_need, library_need, needed, and_parts, HasRead, names, KeyedNeed, keyed_needs, keyed_view, Options}
 use words.{needed-append, slice_get, bytes_eq, append-nil, append_assoc, drop_more, repeated, SourceTexts, listed}
 use words.{AreNext, TooMany, IsNextFault, IsMet, chains_of, twice, need_namespace, ChainError, of_texts, reflexive}
@@ -14,7 +14,8 @@ use words.{unwrap_or, is_some, option_to_list, length-map, AreIndices, templates
 use words.{namespace_name, templates, libraries, sources_in, IsRead, IsFollowed, AreFollowed, AreFound, included}
 use words.{namespace_at, Reaches, here, asked, extends_path, IsExtendsPath, by_templates, along_templates, next_of}
 use words.{graph_of, same, indexed_among, filter_agree, AddsNext, known_of, IsLedTo}
-use Rattle.jt_inherit.proofs.PathsGrow.{last_at, read_on, indices_grow, names_to_root, templates_grow, way_grows}
+use words.{all_weaker, all_more, map_push, slice_get-get_or}
+use Rattle.jt_inherit.proofs.PathsGrow.{at_front, last_at, read_on, indices_grow, names_to_root, templates_grow, way_grows}
 use Rattle.jt_inherit.proofs.PathsGrow.{few_templates, templates_to_root, reach_more, ask_more, reaches_next}
 use Rattle.jt_ast.specs.Statements as trees
 use Rattle.jt_inherit.specs.declared.error.ChainError.TheVariants as error
@@ -47,10 +48,8 @@ both (n ∷ ns) ms a b = (a.0, both ns ms a.1 b)
 
 mutual
   by_statement : (s : trees.Stmt) → AreIncludes (includes_by include_need s)
-  by_statement (trees.choose bs other) =
-      both _ _ (by_branches bs) (by_body other)
-  by_statement (trees.for_each line xs e c body other) =
-      both _ _ (by_body body) (by_body other)
+  by_statement (trees.choose bs other) = search (arith, rules, both, by_branches bs, by_body other)
+  by_statement (trees.for_each line xs e c body other) = search (arith, rules, both, by_body body, by_body other)
   by_statement (trees.set_block line x body) = by_body body
   by_statement (trees.with_values line ps body) = by_body body
   by_statement (trees.filter_block line fs body) = by_body body
@@ -61,13 +60,11 @@ mutual
 
   by_body : (b : Body) → AreIncludes (includes_in include_need b)
   by_body trees.end = tt
-  by_body (trees.stmt s rest) =
-      both _ _ (by_statement s) (by_body rest)
+  by_body (trees.stmt s rest) = search (arith, rules, both, by_statement s, by_body rest)
 
   by_branches : (bs : Branches) → AreIncludes (includes_under include_need bs)
   by_branches trees.no_branches = tt
-  by_branches (trees.branch line c body rest) =
-      both _ _ (by_body body) (by_branches rest)
+  by_branches (trees.branch line c body rest) = search (arith, rules, both, by_body body, by_branches rest)
 
 pub all_includes : (ts : List Template) → AreIncludes (flat_map (λ t. includes_in include_need t.body) ts)
 all_includes [] = tt
@@ -81,45 +78,14 @@ includes_chosen ks (n ∷ ns) a = search (arith, rules, includes_chosen ks ns a.
 -- ---- libraries import nothing
 
 pub none_imported : (b : Body) → holds_macros b ≡ true → libraries_in b ≡ []
-none_imported (trees.stmt (trees.data_of t) rest) h =
-    none_imported rest (and_parts _ _ h).1
+none_imported (trees.stmt (trees.data_of t) rest) h = search (arith, rules, none_imported rest, and_parts)
 none_imported (trees.stmt (trees.macro line x ps body) rest) h = none_imported rest h
 none_imported a0 h = search (arith, rules)
 
-pub none_given : (s : Sources) (b : Body) → holds_macros b ≡ true → imported_names s b ≡ []
-none_given s (trees.stmt (trees.data_of t) rest) h =
-    none_given s rest (and_parts _ _ h).1
-none_given s (trees.stmt (trees.macro line x ps body) rest) h = none_given s rest h
-none_given s a1 h = search (arith, rules)
-
 pub none_lacking : (s : Sources) (b : Body) → holds_macros b ≡ true → lacks_macros s b ≡ false
-none_lacking s (trees.stmt (trees.data_of t) rest) h =
-    none_lacking s rest (and_parts _ _ h).1
+none_lacking s (trees.stmt (trees.data_of t) rest) h = search (arith, rules, none_lacking s rest, and_parts)
 none_lacking s (trees.stmt (trees.macro line x ps body) rest) h = none_lacking s rest h
 none_lacking s a1 h = search (arith, rules)
-
--- ---- the names that imports bind
-
-from_named : (n : Text) (ms : List MacroBody) (xs : List (Text × Text)) (s : Sources) → macros s (a_library n) ≡ ms
-    → map (λ g. g.0) (all_given_from s n xs) ≡ names_from ms xs
-from_named n ms [] s e = refl
-from_named n ms (x ∷ xs) s e = search (arith, rules, map-append, from_named n ms xs s e)
-
-pub imports_named : (s : Sources) (b : Body) → map (λ g. g.0) (imports_in s b) ≡ imported_names s b
-imports_named s trees.end = refl
-imports_named s (trees.stmt (trees.import_as line n x) rest) = rw (imports_named s rest)
-imports_named s (trees.stmt (trees.import_from line n xs) rest) =
-    search (arith, rules, map-append, from_named, imports_named s rest)
-imports_named s (trees.stmt t rest) = imports_named s rest
-
-pub all_imported : (s : Sources) (ts : List Template)
-    → map (λ g. g.0) (flat_map (λ t. imports_in s t.body) ts) ≡ flat_map (λ t. imported_names s t.body) ts
-all_imported s [] = refl
-all_imported s (t ∷ ts) = search (arith, rules, map-append, imports_named, all_imported s ts)
-
-pub own_named : (h : Namespace) (ms : List MacroBody) → map (λ g. g.0) (own h ms) ≡ map (λ m. m.name) ms
-own_named h [] = refl
-own_named h (m ∷ ms) = rw (own_named h ms)
 
 -- ---- known includes and imports
 
@@ -143,18 +109,12 @@ pub next_new : (old new : List Namespace) (x : Namespace) (i : ℕ) → new ≡ 
 next_new old new x i is once h few at =
     search (arith, rules, once_more of_namespaces, among_cases of_namespaces, last_at)
 
-pub at_front : (xs ys : List Namespace) (i : ℕ) (x : Namespace) → slice_get xs i ≡ Some x
-    → slice_get (xs ++ ys) i ≡ Some x
-at_front [] ys i x e = absurd (cc)
-at_front (y ∷ xs) ys zero x e = e
-at_front (y ∷ xs) ys (suc i) x e = at_front xs ys i x e
-
 pub numbers_grow : (xs ys : List Namespace) (is : List ℕ) (ns : List Namespace) → map (slice_get xs) is ≡ map Some ns
     → map (slice_get (xs ++ ys)) is ≡ map Some ns
 numbers_grow xs ys [] [] e = refl
 numbers_grow xs ys [] (n ∷ ns) e = absurd (cc)
 numbers_grow xs ys (i ∷ is) [] e = absurd (cc)
-numbers_grow xs ys (i ∷ is) (n ∷ ns) e = search (arith, rules, at_front, numbers_grow xs ys is ns)
+numbers_grow xs ys (i ∷ is) (n ∷ ns) e = search (arith, rules, at_front, slice_get_within, numbers_grow xs ys is ns)
 
 pub next_both : (a b c xs ys : List Namespace) (is js : List ℕ) → AreNext a b xs is → AreNext b c ys js
     → AreNext a c (xs ++ ys) (is ++ js)
@@ -210,8 +170,7 @@ put_fault old x n e once new f = search (arith, rules, too_many)
 -- ---- includes and imports, in order
 
 pub chosen-append : (ks : List Text) (ns ms : List Need) → chosen ks (ns ++ ms) ≡ chosen ks ns ++ chosen ks ms
-chosen-append ks ns ms =
-    ap (map need_namespace) (known-append ks ns ms) ∙ map-append need_namespace (known_of ks ns) (known_of ks ms)
+chosen-append ks ns ms = search (arith, rules, map, need_namespace, known-append, map-append, known_of)
 
 views-append : (ns ms : List KeyedNeed) → keyed_needs (ns ++ ms) ≡ keyed_needs ns ++ keyed_needs ms
 views-append ns ms = map-append keyed_view ns ms
@@ -239,16 +198,14 @@ chosen_all ks ns k d lt =
 
 pub met_grows : (given : SourceTexts) (ks ms : List Text) (ns : List Need) → AllByRecursion (IsMet given ks) ns
     → AllByRecursion (IsMet given (ks ++ ms)) ns
-met_grows given ks ms [] a = tt
-met_grows given ks ms (n ∷ ns) a =
-    (⊎_elim (λ p. inl (among_front of_texts _ ks ms p)) (λ q. inr q) a.0, met_grows given ks ms ns a.1)
+met_grows given ks ms =
+    all_weaker (λ n. ⊎_elim (λ p. inl (among_front of_texts n.name ks ms p)) (λ q. inr q))
 
 -- A template that is met stays so when more is read.
 pub met_read : {given : SourceTexts} {options : Options} {ts us : List Template} {xs : List Text}
     → HasRead given options ts us xs → (ns : List Need) → AllByRecursion (IsMet given (names ts)) ns
     → AllByRecursion (IsMet given (names us)) ns
-met_read {given} {ts = ts} r ns a =
-    rw (ap names r.grown ∙ map-append (λ (t : Template). t.name) ts r.more) (met_grows given _ _ ns a)
+met_read {given} {ts = ts} r ns a = search (arith, rules, names, map-append, met_grows)
 
 -- One include or import more.
 pub needed_turn : (ns : List KeyedNeed) (k : ℕ) (d : KeyedNeed) → k < length ns
@@ -262,12 +219,7 @@ pub met_turn : (P : Need → Type 0) (ns : List KeyedNeed) (k : ℕ) (d : KeyedN
     → AllByRecursion P (keyed_needs (take k ns)) → P (keyed_view (get_or ns k d))
     → AllByRecursion P (keyed_needs (take (k + 1) ns))
 met_turn P ns k d lt a p =
-    rw (take_more ns k d lt) (more (take k ns) a)
-  where
-    more : (ms : List KeyedNeed) → AllByRecursion P (keyed_needs ms)
-        → AllByRecursion P (keyed_needs (ms ++ get_or ns k d ∷ []))
-    more [] b = (p, tt)
-    more (m ∷ ms) b = (b.0, more ms b.1)
+    rw (take_more ns k d lt, map_push keyed_view (take k ns)) (all_more P _ _ a p)
 
 pub next_turn : (old mid new : List Namespace) (ks : List Text) (ns : List KeyedNeed) (k : ℕ) (d : KeyedNeed)
     (is js : List ℕ)
@@ -298,19 +250,11 @@ asked_at all (n ∷ ns) (suc k) d lt e =
 
 -- ---- templates at indices
 
-indexed_one : (ts : List Template) (i : ℕ) → i < length ts → (t : Template) × (slice_get ts i ≡ Some t)
-indexed_one [] i lt = absurd (omega arith)
-indexed_one (t ∷ ts) zero lt = (t, refl)
-indexed_one (t ∷ ts) (suc i) lt = indexed_one ts i (omega arith)
-
 pub indexed_templates : (ts : List Template) (is : List ℕ) → AreIndices ts is
     → map (slice_get ts) is ≡ map Some (templates_at ts is)
 indexed_templates ts [] a = refl
 indexed_templates ts (i ∷ is) a =
-    let p = indexed_one ts i a.0 in
-    let e = p.1 in
-    ap (λ o. o ∷ map (slice_get ts) is) e ∙ ap (λ l. Some p.0 ∷ l) (indexed_templates ts is a.1)
-    ∙ sym (ap (λ o. map Some (option_to_list o ++ templates_at ts is)) e)
+    rw (slice_get-get_or ts i (record { name = []; body = trees.end }) a.0, indexed_templates ts is a.1)
 
 pub includes_told : (ts : List Template) (is : List ℕ) → AreIndices ts is
     → needs_along ts is ≡ flat_map (λ t. includes_in include_need t.body) (templates_at ts is)
@@ -440,18 +384,8 @@ module _ (given : SourceTexts) (options : Options) (ts us : List Template) (hs m
             rw (same_chosen f) (numbers_grow hs ms n _ f.numbered);
       }
 
-next_front : (ws : List (List ℕ)) (w : List ℕ) (i : ℕ) → i < length ws → next_of (ws ++ w ∷ []) i ≡ next_of ws i
-next_front [] w i lt = absurd (omega arith)
-next_front (v ∷ ws) w zero lt = refl
-next_front (v ∷ ws) w (suc i) lt = next_front ws w i (omega arith)
-
 next_last : (ws : List (List ℕ)) (w : List ℕ) (i : ℕ) → i ≡ length ws → next_of (ws ++ w ∷ []) i ≡ w
 next_last ws w i e = ap (next_of (ws ++ w ∷ [])) e ∙ ap (λ o. unwrap_or o []) (last_at ws w)
-
-namespace_front : (hs ms : List Namespace) (i : ℕ) → i < length hs → namespace_at (hs ++ ms) i ≡ namespace_at hs i
-namespace_front [] ms i lt = absurd (omega arith)
-namespace_front (h ∷ hs) ms zero lt = refl
-namespace_front (h ∷ hs) ms (suc i) lt = namespace_front hs ms i (omega arith)
 
 pub none_followed : (given : SourceTexts) (ts : List Template) (hs : List Namespace) → AreFollowed given ts hs [] []
 none_followed given ts hs = record { few = omega arith; lens = refl; each = λ i lt. absurd (omega arith) }
@@ -467,15 +401,15 @@ followed_more given options ts us hs ms read {ws} {ns} f {h} at w n g = record {
   each = λ i lt. ⊎_elim
       (λ (l : i < length ws).
       rw (
-        namespace_front hs ms i (omega (arith, f.few)),
-        next_front ws w i l,
-        next_front ns n i (omega (arith, f.lens)),
+        at_front hs ms i (omega (arith, f.few)),
+        at_front ws (w ∷ []) i l,
+        at_front ns (n ∷ []) i (omega (arith, f.lens)),
       )
       (followed_grows given options ts us hs ms read (namespace_at hs i) (next_of ws i) (next_of ns i) (f.each i l)))
       (λ (l : length ws ≤ i).
       let e : i ≡ length ws = omega (arith, lt, length-append ws (w ∷ [])) in
       let there : namespace_at (hs ++ ms) i ≡ h = ap (namespace_at (hs ++ ms)) e
-      ∙ ap (λ o. unwrap_or o (a_chain [])) (at_front hs ms _ h at) in
+      ∙ ap (λ o. unwrap_or o (a_chain [])) (at_front hs ms _ (slice_get_within hs _ h at) ∙ at) in
       rw (there, next_last ws w i e, next_last ns n i (omega (arith, e, f.lens))) g)
       (cases_lt i (length ws));
 }
@@ -535,7 +469,7 @@ module _ {given : SourceTexts} {options : Options} {root : Text} {ts0 : List Tem
             let theirs = same_chosen given options ts0 all_read.more hs [] read (f.followed.each i lt) in (
               i,
               omega (arith, lt, length-append ws (is ∷ [])),
-              rw (next_front ws is i lt)
+              rw (at_front ws (is ∷ []) i lt)
                   (subst (λ vs. listed x (chosen (names vs) (needs_along vs (next_of ws i))) ≡ true)
                   (sym all_read.grown) (ap (listed x) theirs ∙ l.2)),
             )
@@ -564,7 +498,7 @@ module _ {given : SourceTexts} {options : Options} {root : Text} {ts0 : List Tem
               (λ q. ask_more _ _ _ _ _ _ all_read.grown (f.asked x q))
               (λ q. (h, reached_there, q)) (all_read.from x a);
           first =
-              rw n.grown (at_front hs n.more 0 _ f.first);
+              rw n.grown (at_front hs n.more 0 (slice_get_within hs 0 _ f.first) ∙ f.first);
           once = n.once;
           few = n.few;
           reached = λ x a. reached_from x (n.from x a);
@@ -577,7 +511,7 @@ module _ {given : SourceTexts} {options : Options} {root : Text} {ts0 : List Tem
 
     pub first_same : {hs2 : List Namespace} {next : List ℕ} → AreNext hs hs2 (chosen (names ts2) needs) next
         → namespace_name (namespace_at hs2 0) ≡ root
-    first_same n = search (arith, rules, namespace_name, unwrap_or, a_chain, slice_get, at_front)
+    first_same n = search (arith, rules, namespace_name, unwrap_or, a_chain, slice_get, at_front, slice_get_within)
 
 -- Only the entry's chain was found.
 pub found_first : (given : SourceTexts) (options : Options) (entry root : Text) (ts : List Template)
@@ -587,18 +521,7 @@ pub found_first : (given : SourceTexts) (options : Options) (entry root : Text) 
 found_first given options entry root ts hs ws ns eh er et ew en =
     search (arith, rules, a_chain, asked, sources_in, only_among, of_namespaces, here, none_followed)
 
--- The next namespace to follow.
-pub namespace_number : (hs : List Namespace) (ws : List (Vec ℕ Global)) (o : Option Namespace) (i : ℕ) → i ≡ length ws
-    → slice_get hs i ≡ o → slice_get hs (length (graph_of ws)) ≡ o
-namespace_number hs ws o i at e = ap (slice_get hs) (length-map ws (λ (v : Vec ℕ Global). v.items) ∙ sym at) ∙ e
-
 -- The includes and imports of a path stay what they are when more is read.
 pub has_needs : {given : SourceTexts} {options : Options} {ts us : List Template} {xs : List Text} {p : FollowedPath}
     → HasNeeds ts p → HasRead given options ts us xs → HasNeeds us p
-has_needs {ts = ts} {us} {p = p} h r =
-    let is = p.extends_path.items in
-    let grown : AreIndices us is = rw r.grown (indices_grow ts r.more is h.indices) in
-    record {
-      indices = grown;
-      told = h.told ∙ sym (rw r.grown (includes_grow ts r.more is h.indices (indices_grow ts r.more is h.indices)));
-    }
+has_needs {ts = ts} {us} {p = p} h r = search (arith, rules, indices_grow, includes_grow)

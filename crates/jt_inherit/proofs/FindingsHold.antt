@@ -15,8 +15,9 @@ use words.{IsNextFinding, TooMany, chosen, IsIncludedMore, Graph, next_of, is_a_
 use words.{AreFound, is_no_library, and_from, IsBrokenAt, last_of, SaysAll, IsAsked, IsFirst, IsNameless, IsOfName}
 use words.{IsOfNeed, IsParentAt, IsOneMore, IsRingOf, NamedAt, IsOneChainMore, IsFaultAt, IsUnmetNeed, ◌&&◌}
 use words.{IsItsName, IsNoLibrary, IsOfImport, LeadsAt}
+use words.{all_weaker, false_from_ne_true}
 use Rattle.jt_inherit.proofs.DiscoveryInvariant.{some_source, none_read, asks_needed, whole_path, included_is, asked_at}
-use Rattle.jt_inherit.proofs.PathsGrow.{all_among, all_named, shows, names_lead, templates_lead, few_templates}
+use Rattle.jt_inherit.proofs.PathsGrow.{all_among, shows, names_lead, templates_lead, few_templates}
 use Rattle.jt_inherit.proofs.PathsGrow.{all_templates, last_at, asked_breaks, among_passes, chains_listed, chain_breaks}
 use Rattle.jt_inherit.proofs.PathsGrow.{libraries_listed, reach_more}
 use Rattle.jt_inherit.proofs.NumberTables.{is_chain}
@@ -128,12 +129,8 @@ module _ {given : SourceTexts} {options : Options} {root : Text} {ts : List Temp
   missing_unread n f = some_source ts n ∙ none_read given options ts n known.read.each f
 
   bad_unread : (n : Text) → (IsName n → ⊥) → is_some (sources_in ts n) ≡ false
-  bad_unread n f = by (is_some (sources_in ts n)) refl
-    where
-      by : (b : Bool) → is_some (sources_in ts n) ≡ b → is_some (sources_in ts n) ≡ false
-      by true e =
-          absurd (f (all_among IsName ts n (all_named given options ts known.read.each) (sym (some_source ts n) ∙ e)))
-      by false e = e
+  bad_unread n f = false_from_ne_true _ (λ e.
+      f (all_among IsName ts n (all_weaker (λ t q. q.named) ts known.read.each) (sym (some_source ts n) ∙ e)))
 
   -- An error of a source may come without a tag.
   fault_bare : (n : Text) (e : ChainError) → IsFaultOf e given n options → IsNameless e → may_be_bare e ≡ true
@@ -181,8 +178,7 @@ module _ {given : SourceTexts} {options : Options} {root : Text} {ts : List Temp
       (q.1 ∙ root_is, λ k. f (rw root_is k))
   named_said n e f None a None (Some (v.Template m)) q = absurd q.2
   named_said n e f None a (Some p) (Some (v.Template m)) q = search (arith, rules)
-  named_said n e f (Some z) a p (Some (v.Template m)) q =
-      subst (λ y. Says given root options y (Some (v.Template m)) e) (sym q.0) (asked_said n e f z m q.1 a q.2)
+  named_said n e f (Some z) a p (Some (v.Template m)) q = search (arith, rules, asked_said)
   named_said n e f o a p x q = absurd q
 
   pub need_said : {us : List Template} → templates (sources_in ts) h ≡ us → (n : Text) (e : ChainError)
@@ -210,9 +206,7 @@ module _ {given : SourceTexts} {options : Options} {root : Text} {ts : List Temp
 
   -- The name of a chain whose path is empty.
   own_name : templates_at ts is ≡ [] → h ≡ n
-  own_name e =
-      let l = subst (λ us. Leads (sources_in ts) (Some h) us (Some n)) e w.leads in
-      cc
+  own_name e = search (arith, rules, sources_in)
 
   pub fault_placed : (e : ChainError) → IsFaultOf e given n options → (o : Option TagPlace)
       → IsAsked (templates_at ts is) n o → (p : Option TagPlace) (x : Option ChainSubject) → NamedAt o n e x p
@@ -312,8 +306,7 @@ pub refused_all : {given : SourceTexts} {options : Options} {ts us : List Templa
     → Reaches (sources_in us) options.autoescape (a_chain root) (a_chain (string_bytes k.name))
     → Says given root options f.place f.subject e)
     → BreaksAll given options ts (key_view k) f.error × SaysAll given options ts (key_view k) f
-refused_all {given} {options} {ts} {us} r k is e f told b s =
-    search (arith, rules, chain_breaks, reach_more, is_chain)
+refused_all {given} {options} {ts} {us} r k is e f told b s = search (arith, rules, chain_breaks, reach_more, is_chain)
 
 pub extends_told : (t : Template) (n : Text) (o : Option TagPlace) → IsParentAt t n o → extends_of t.body ≡ Some n
 extends_told t n None a = absurd a
@@ -325,10 +318,6 @@ pub asked_turn : (vs ws : List Template) (t : Template) (n : Text) (o : Option T
 asked_turn vs ws t n None e a = absurd a
 asked_turn vs ws t n (Some p) e a =
     (ws, t, e, a.1, rw e (tag_last _ p ws t a.2))
-
--- A fact about a path and a name, by an equal path and name.
-pub same_path : (P : List ℕ → Text → Type 0) {is js : List ℕ} {n m : Text} → js ≡ is → m ≡ n → P js m → P is n
-same_path P {is} {js} {n} {m} a b h = search (arith, rules)
 
 -- The finding of an included or imported template, by its index among them.
 pub unmet_need : (given : SourceTexts) (options : Options) (ts : List Template) (is : List ℕ) (ns : List KeyedNeed)
@@ -457,17 +446,7 @@ module _ {given : SourceTexts} {options : Options} {entry : Text} {ts : List Tem
       → IsOfImport ts ws h x → IsFinding given entry options x
   no_library (a_chain n) a x none told = absurd (cc)
   no_library (a_library n) a x none told =
-      let s = sources_in ts in
-      let here = f.reached (a_library n) a in
-      let there : is_some (s n) ≡ true =
-      ⊎_elim (λ (e : a_library n ≡ a_chain entry). absurd (cc)) (λ q. q) (reached_source here) in
-      let other = and_from _ _ there none in
-      record {
-        broken =
-            rw told.error (shows f.known (a_library n, here, (n, refl, other)));
-        says =
-            rw told.error (import_said n a other x.place told.place x.subject told.subject);
-      }
+      search (arith, rules, sources_in, is_some, reached_source, and_from, shows, import_said)
 
   pub library_finds : (h : Namespace) → listed h hs ≡ true → (x : ChainFinding) → IsNoLibrary ts ws h x
       → IsFinding given entry options x

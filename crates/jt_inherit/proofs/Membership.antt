@@ -30,8 +30,7 @@ module _ {A : Type 0} (m : Members A) where
 
   pub among_behind : (x : A) (xs ys : List A) → m.among x ys ≡ true → m.among x (xs ++ ys) ≡ true
   among_behind x [] ys h = h
-  among_behind x (y ∷ xs) ys h =
-      m.among_more x y (xs ++ ys) ∙ or_right (m.same y x) (m.among x (xs ++ ys)) (among_behind x xs ys h)
+  among_behind x (y ∷ xs) ys h = search (arith, rules, or_right, among_behind x xs ys h)
 
   pub among_next : (x : A) (xs ys : List A) → m.among x (xs ++ x ∷ ys) ≡ true
   among_next x xs ys = among_behind x xs (x ∷ ys) (m.among_more x x ys ∙ ap (λ b. b || m.among x ys) (m.reflexive x))
@@ -48,8 +47,7 @@ module _ {A : Type 0} (m : Members A) where
   pub indexed_among : (xs : List A) (i : ℕ) (x : A) → slice_get xs i ≡ Some x → m.among x xs ≡ true
   indexed_among [] i x e = absurd (cc)
   indexed_among (y ∷ xs) zero x e = search (arith, rules, m.among_more, m.reflexive)
-  indexed_among (y ∷ xs) (suc i) x e = m.among_more x y xs ∙ or_right (m.same y x) (m.among x xs)
-      (indexed_among xs i x e)
+  indexed_among (y ∷ xs) (suc i) x e = search (arith, rules, or_right, indexed_among xs i x e)
 
   not_next : (x y : A) (xs : List A) → m.among x xs ≡ false → m.same y x ≡ false → m.among x (xs ++ y ∷ []) ≡ false
   not_next x y [] h e = search (arith, rules, m.among_more, m.among_none, or_from)
@@ -66,8 +64,7 @@ module _ {A : Type 0} (m : Members A) where
 
   pub comes_again : (x : A) (xs : List A) → m.among x xs ≡ true → m.again (xs ++ x ∷ []) ≡ true
   comes_again x [] h = let e = m.among_none x in absurd (cc)
-  comes_again x (y ∷ xs) h =
-      search (arith, rules, m.again_more, m.among_more, comes_again x xs, m.equal, among_next, or_right)
+  comes_again x (y ∷ xs) h = search (arith, rules, comes_again x xs, among_next, or_right)
 
   -- ---- different members of a list are together no heavier than its items
 

@@ -32,6 +32,11 @@ of_texts =
       again_more = λ x xs. refl;
     }
 
+pub all_weaker : {X : Type 0} {P Q : X → Type 0} → ((x : X) → P x → Q x) → (xs : List X) → AllByRecursion P xs
+    → AllByRecursion Q xs
+all_weaker f [] a = tt
+all_weaker f (x ∷ xs) a = (f x a.0, all_weaker f xs a.1)
+
 pub all_more : {X : Type 0} (P : X → Type 0) (xs : List X) (x : X) → AllByRecursion P xs → P x
     → AllByRecursion P (xs ++ x ∷ [])
 all_more P [] x a p = (p, tt)

@@ -90,14 +90,12 @@ files_at ps m told x = search (arith, rules, file_at x 0 ps, length-map)
 pub any_namespace : (h : Namespace) (ks : List NamespaceKey)
     → list_any (λ k. same_namespace h (key_view k)) ks ≡ listed h (keys_view ks)
 any_namespace h [] = refl
-any_namespace h (k ∷ ks) =
-    search (arith, rules, list_any, same_namespace, key_view, namespaces.symmetric, any_namespace h ks)
+any_namespace h (k ∷ ks) = search (arith, rules, list_any, same_namespace, key_view, any_namespace h ks)
 
 pub namespace_found : (h : Namespace) (ks : List NamespaceKey) (r : Option ℕ)
     → r ≡ position_from (λ k. same_namespace h (key_view k)) 0 ks
     → MatchOption r (listed h (keys_view ks) ≡ false) (λ i. slice_get (keys_view ks) i ≡ Some h)
-namespace_found h ks a2 e =
-    search (arith, rules, any_namespace, first_none, first_found, slice_get-map, namespaces.same)
+namespace_found h ks a2 e = search (arith, rules, any_namespace, first_none, first_found, slice_get-map)
 
 -- ---- chains and libraries
 

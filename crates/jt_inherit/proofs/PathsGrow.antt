@@ -11,8 +11,8 @@ use words.{Shows, Reaches, asked, extends_path, Leads, AreKnown, IsExtendsPath, 
 use words.{IsNamedOn, of_texts, same, among_front, among_next, once_more, map_push, list_any, is_none, nat_tests}
 use words.{IsName, templates_weight, templates_len, or_from, or_right, filter, is_some, listed, library_template}
 use words.{libraries_in, included, with_source, Asks, here, through, BreaksAll, key_view, NamespaceKey, reflexive}
-use words.{flat_map-append, HasFaulty, LeadsFrom, all_more, comes_again, names_at, source_len}
-use Rattle.jt_ast.specs.Sizes.{body_bytes}
+use words.{flat_map-append, HasFaulty, LeadsFrom, all_more, comes_again, names_at}
+use Rattle.std.proofs.lemmas.Option.{slice_get_past}
 use Rattle.jt_inherit.proofs.NumberTables.{is_chain}
 use Rattle.jt_inherit.specs.declared.error.ChainError.TheVariants as error
 
@@ -88,10 +88,10 @@ pub indices_grow : (ts us : List Template) (is : List ℕ) → AreIndices ts is 
 indices_grow ts us [] a = tt
 indices_grow ts us (i ∷ is) a = (omega (arith, a.0, length-append ts us), indices_grow ts us is a.1)
 
-at_front : (ts us : List Template) (i : ℕ) → i < length ts → slice_get (ts ++ us) i ≡ slice_get ts i
-at_front [] us i lt = absurd (omega arith)
-at_front (t ∷ ts) us zero lt = refl
-at_front (t ∷ ts) us (suc i) lt = at_front ts us i (omega arith)
+pub at_front : {A : Type 0} (xs ys : List A) (i : ℕ) → i < length xs → slice_get (xs ++ ys) i ≡ slice_get xs i
+at_front [] ys i lt = absurd (omega arith)
+at_front (x ∷ xs) ys zero lt = refl
+at_front (x ∷ xs) ys (suc i) lt = at_front xs ys i (omega arith)
 
 pub templates_grow : (ts us : List Template) (is : List ℕ) → AreIndices ts is
     → templates_at (ts ++ us) is ≡ templates_at ts is
@@ -110,6 +110,11 @@ pub templates_turn : (ps : List TemplateFile) (is : List ℕ) (k : ℕ) (p : Tem
     → get_or is k 0 < length ps → p ≡ get_or ps (get_or is k 0) p
     → templates_at (files_view ps) (drop k is) ≡ file_view p ∷ templates_at (files_view ps) (drop (k + 1) is)
 templates_turn ps is k p lt within at = search (arith, rules, drop_more, map_at)
+
+-- Nothing is at an index out of range.
+pub templates_past : (ps : List TemplateFile) (is : List ℕ) (k : ℕ) → k < length is → length ps ≤ get_or is k 0
+    → templates_at (files_view ps) (drop k is) ≡ templates_at (files_view ps) (drop (k + 1) is)
+templates_past ps is k lt le = search (arith, rules, drop_more, slice_get_past, length-map)
 
 -- The template file at a number on a path has the name, or another one.
 pub named_here : (ps : List TemplateFile) (is : List ℕ) (k : ℕ) (p : TemplateFile) (n : Text) → k < length is
@@ -336,16 +341,14 @@ module _ {given : SourceTexts} {options : Options} {vs ts us : List Template} {i
 
 front_up : (s : Sources) (k : ℕ) (n : Text) (t : Template) → t.name ≡ n → s n ≡ Some t.body
     → names_up s (suc k) (Some n) ≡ t.name ∷ names_up s k (extends_of t.body)
-front_up s k n t e f =
-    rw f (ap (λ x. x ∷ names_up s k (extends_of t.body)) (sym e))
+front_up s k n t e f = search (arith, rules, names_up, extends_of)
 
 among_up : (s : Sources) (k : ℕ) (o : Option Text) (ts : List Template) (x : Text) → Leads s o ts None
     → among x (names_up s k o) ≡ true → among x (names ts) ≡ true
 among_up s zero o ts x l h = absurd (cc)
 among_up s (suc k) None ts x l h = absurd (cc)
 among_up s (suc k) (Some n) [] x l h = absurd (cc)
-among_up s (suc k) (Some n) (t ∷ ts) x l h =
-    search (arith, rules, front_up, among_up s k (extends_of t.body) ts x l.2, names, or_right)
+among_up s (suc k) (Some n) (t ∷ ts) x l h = search (arith, rules, front_up, among_up s k, extends_of, names, or_right)
 
 pub repeated_up : (s : Sources) (k : ℕ) (o : Option Text) (ts : List Template) → Leads s o ts None
     → repeated (names_up s k o) ≡ true → repeated (names ts) ≡ true
@@ -353,7 +356,7 @@ repeated_up s zero o ts l h = absurd (cc)
 repeated_up s (suc k) None ts l h = absurd (cc)
 repeated_up s (suc k) (Some n) [] l h = absurd (cc)
 repeated_up s (suc k) (Some n) (t ∷ ts) l h =
-    search (arith, rules, front_up, repeated_up s k (extends_of t.body) ts l.2, names, among_up, or_right)
+    search (arith, rules, front_up, repeated_up s k, extends_of, names, among_up, or_right)
 
 pub all_among : (P : Text → Type 0) (ts : List Template) (n : Text) → AllByRecursion (λ t. P t.name) ts
     → among n (names ts) ≡ true → P n
@@ -365,11 +368,6 @@ pub have_sources : (s : Sources) (ts : List Template) → AllByRecursion (λ t. 
 have_sources s [] a = refl
 have_sources s (t ∷ ts) a =
     or_from (is_none (s t.name)) (list_any (λ n. is_none (s n)) (names ts)) (ap is_none a.0) (have_sources s ts a.1)
-
-pub all_named : (given : SourceTexts) (options : Options) (ts : List Template)
-    → AllByRecursion (IsRead given options) ts → AllByRecursion (λ t. IsName t.name) ts
-all_named given options [] a = tt
-all_named given options (t ∷ ts) a = (a.0.named, all_named given options ts a.1)
 
 pub too_few : (n : ℕ) (b : Bool) → n ≤ 64 → ((n == 65) && b) ≡ false
 too_few n b le = search (arith, rules, nat_tests)
@@ -383,11 +381,6 @@ pub weigh : (given : SourceTexts) (ts : List Template) → AllByRecursion (IsWit
     → templates_weight ts ≤ templates_len given ts
 weigh given [] a = omega arith
 weigh given (t ∷ ts) a = omega (arith, a.0.weighs, weigh given ts a.1)
-
-pub all_short : (given : SourceTexts) (ts : List Template) → AllByRecursion (IsWithin given) ts
-    → AllByRecursion (λ t. body_bytes t.body ≤ source_len (given t.name)) ts
-all_short given [] a = tt
-all_short given (t ∷ ts) a = (a.0.short, all_short given ts a.1)
 
 pub names_indexed : (ts : List Template) (is : List ℕ) (us : List Template) → map (slice_get ts) is ≡ map Some us
     → names_at ts is ≡ map (λ t. Some t.name) us
@@ -425,13 +418,19 @@ up_none s k n e = search (arith, rules, template, flat_map, names_up, parent_of,
 abbrev pub Carries : Sources → Sources → List Text → Type 0
 Carries s r xs = (n : Text) → among n xs ≡ true → (b : Body) → s n ≡ Some b → r n ≡ Some b
 
-carries_up : (s r : Sources) (k : ℕ) (n : Text) (b : Body) → r n ≡ Some b
-    → Carries s r (names_up r (suc k) (Some n)) → Carries s r (names_up r k (extends_of b))
-carries_up s r k n b e g m a = search (arith, rules, or_right, bytes_eq, among, names_up, parent_of)
+-- Each name of a part of such a list keeps its source too.
+module _ {s r : Sources} where
+  pub carries_head : (n : Text) (xs : List Text) → Carries s r (n ∷ xs) → (b : Body) → s n ≡ Some b → r n ≡ Some b
+  carries_head n xs g = g n (rw (reflexive n))
 
-front_carried : (s r : Sources) (k : ℕ) (n : Text) → Carries s r (names_up r (suc k) (Some n)) → (b : Body)
-    → s n ≡ Some b → r n ≡ Some b
-front_carried s r k n g b e = g n (rw (reflexive n)) b e
+  pub carries_rest : (n : Text) (xs : List Text) → Carries s r (n ∷ xs) → Carries s r xs
+  carries_rest n xs g m a = g m (or_right _ _ a)
+
+  pub carries_front : (xs ys : List Text) → Carries s r (xs ++ ys) → Carries s r xs
+  carries_front xs ys g m a = g m (among_front of_texts m xs ys a)
+
+  pub carries_behind : (xs ys : List Text) → Carries s r (xs ++ ys) → Carries s r ys
+  carries_behind xs ys g m a = g m (among_behind of_texts m xs ys a)
 
 -- When more is read, a path and its templates begin with those before. They stay the same if each name had a source.
 pub record Continues (s r : Sources) (k : ℕ) (o : Option Text) : Type 0 where
@@ -448,7 +447,7 @@ continues s r zero o g =
 continues s r (suc k) None g =
     record { more = []; longer = refl; more_templates = []; more_there = refl; whole = λ h. (refl, refl) }
 continues s r (suc k) (Some n) g =
-    by (s n) refl (λ b e. continues s r k _ (carries_up s r k n b (front_carried s r k n g b e) g))
+    by (s n) refl (λ b e. continues s r k _ (rw (carries_head n _ g b e) at (carries_rest n _ g)))
   where
     by : (o : Option Body) → s n ≡ o → ((b : Body) → s n ≡ Some b → Continues s r k (extends_of b))
         → Continues s r (suc k) (Some n)
@@ -464,7 +463,7 @@ continues s r (suc k) (Some n) g =
           absurd (cc);
     }
     by (Some b) e f =
-        let at = front_carried s r k n g b e in
+        let at = carries_head n _ g b e in
         let p = f b e in
         record {
           more = p.more;
@@ -529,11 +528,14 @@ library_more s r n g = by (s n) refl
     by None e = (library_template n (r n), sym (rw e))
     by (Some b) e = search (arith, rules, reflexive, append-nil)
 
-module _ (s r : Sources) (e : Bool) (entry : Namespace)
-    (g : (n : Text) (b : Body) → Asks r e entry n → s n ≡ Some b → r n ≡ Some b) where
+-- Each name that is requested in the second sources keeps its source there.
+pub record Keeps (s r : Sources) (e : Bool) (entry : Namespace) : Type 0 where
+  pub kept : (n : Text) (b : Body) → Asks r e entry n → s n ≡ Some b → r n ≡ Some b
+
+module _ {s r : Sources} {e : Bool} {entry : Namespace} (g : Keeps s r e entry) where
   pub on_path : (h : Namespace) → Reaches r e entry h → Carries s r (extends_path r e h)
   on_path h p n a b =
-      g n b (
+      g.kept n b (
         h,
         p,
         among_front of_texts n (extends_path r e h)
@@ -549,7 +551,7 @@ module _ (s r : Sources) (e : Bool) (entry : Namespace)
   -- The libraries of a namespace keep their sources.
   pub on_libraries : (h : Namespace) → Reaches r e entry h → Carries s r (libraries r h)
   on_libraries h p n a b =
-      g n b (
+      g.kept n b (
         h,
         p,
         among_behind of_texts n (extends_path r e h)
@@ -612,7 +614,7 @@ module _ (s r : Sources) (e : Bool) (entry : Namespace)
     where
       by : (o : Option Body) → s n ≡ o → is_some o ≡ true → Asks r e entry n → is_some (r n) ≡ true
       by None q t i = absurd (cc)
-      by (Some b) q t i = ap is_some (g n b i q)
+      by (Some b) q t i = ap is_some (g.kept n b i q)
 
   pub included_more : (h : Namespace) → Reaches r e entry h → (m : Namespace) → listed m (included s h) ≡ true
       → listed m (included r h) ≡ true
@@ -647,17 +649,16 @@ module _ (s r : Sources) (e : Bool) (entry : Namespace)
 pub reach_more : (ts us more : List Template) (e : Bool) (h k : Namespace) → us ≡ ts ++ more
     → Reaches (sources_in ts) e h k → Reaches (sources_in us) e h k
 reach_more ts us more e h k grown r =
-    rw grown (reaches_more (sources_in ts) (sources_in (ts ++ more)) e h (λ n b i. more_sources ts more n b) here r)
+    rw grown (reaches_more (record { kept = λ n b i. more_sources ts more n b }) here r)
 
 pub ask_more : (ts us more : List Template) (e : Bool) (h : Namespace) (n : Text) → us ≡ ts ++ more
     → Asks (sources_in ts) e h n → Asks (sources_in us) e h n
 ask_more ts us more e h n grown i =
-    rw grown (asks_more (sources_in ts) (sources_in (ts ++ more)) e h (λ m b k. more_sources ts more m b) n i)
+    rw grown (asks_more (record { kept = λ m b k. more_sources ts more m b }) n i)
 
 -- An error that breaks each chain that reaches a namespace when more is read breaks each chain that
 -- reached it before.
 pub chain_breaks : (given : SourceTexts) (options : Options) (ts us more : List Template) → us ≡ ts ++ more
     → (k : NamespaceKey) → k.is_library ≡ false → (e : ChainError)
     → BreaksAll given options us (a_chain (string_bytes k.name)) e → BreaksAll given options ts (key_view k) e
-chain_breaks given options ts us more grown k is e b =
-    rw (is_chain k is) (λ root r. b root (reach_more _ _ _ _ _ _ grown r))
+chain_breaks given options ts us more grown k is e b = search (arith, rules, is_chain, reach_more)

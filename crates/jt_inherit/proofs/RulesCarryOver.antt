@@ -5,16 +5,17 @@ use words.{refl, sym, ap, subst, ◌∙◌, arith, inl, inr, ◌⊎◌, ⊎_elim
 use words.{imports, flat_map, list_any, is_none, append-nil, map-append, cases_lt, nat_tests, among, repeated, Text}
 use words.{Body, Sources, Namespace, a_chain, a_library, Template, templates, library_template, is_a_library, parent_of}
 use words.{names_up, blocks_in, MacroBody, macros, own, libraries_in, lacks_body, lacks_next, their_blocks}
-use words.{their_macros, any_double, any_lacks_macros, names_from, imported_names, Asks, Reaches, here, is_whole}
+use words.{any_double, any_lacks_macros, imports_in, all_given_from, public_macro, Asks, Reaches, here, is_whole}
 use words.{extends_path, of_texts, reflexive, among_behind, among_front, and_from, and_parts, flat_map-append}
 use words.{list_any-append, not-true, or_from, or_left, or_parts, or_right}
+use words.{or_cases}
+use Rattle.jt_chains.specs.Chain.{Definition, given_from}
 use Rattle.jt_chains.specs.Rules.{InSomeChain, BadName, ExtendsCycle, ChainTooLong, DoubleBlock, RequiredNotGiven}
 use Rattle.jt_chains.specs.Rules.{NoSuper, IncludeCycle, MacroTwice, NoMacro, NotALibrary}
-use Rattle.jt_inherit.proofs.PathsGrow.{Carries, continues, up_more, on_path, on_first}
+use Rattle.jt_inherit.proofs.PathsGrow.{Keeps, Carries, carries_head, carries_rest, carries_front, carries_behind, continues, up_more, on_path, on_first}
 use Rattle.jt_inherit.proofs.PathsGrow.{on_libraries, way_more, namespace_more, included_more, reaches_more}
 use Rattle.jt_inherit.proofs.PathsGrow.{reaches_next, asked_more}
-use Rattle.jt_inherit.proofs.DiscoveryInvariant.{all_imported, own_named}
-use Rattle.jt_inherit.proofs.StoreLookup.{none_from, nothing_lacks, lacks_same}
+use Rattle.jt_inherit.proofs.StoreLookup.{none_public, nothing_lacks, lacks_same}
 use Rattle.jt_ast.specs.Statements as trees
 use Rattle.jt_chains.specs.Rules as rules
 
@@ -49,26 +50,7 @@ up_ends : (s : Sources) (m k : ℕ) (o : Option Text) → k ≤ m → length (na
 up_ends s m zero o le lt = absurd (omega arith)
 up_ends s zero (suc k) o le lt = absurd (omega arith)
 up_ends s (suc m) (suc k) None le lt = refl
-up_ends s (suc m) (suc k) (Some n) le lt =
-    rw (up_ends s m k (parent_of (s n)) (omega (arith, le)) (omega (arith, lt)))
-
-either_true : (a b : Bool) → (a || b) ≡ true → (a ≡ true) ⊎ (b ≡ true)
-either_true true b h = inl refl
-either_true false b h = inr h
-
--- Each name of a part of a list keeps its source.
-module _ {s r : Sources} where
-  carries_head : (n : Text) (xs : List Text) → Carries s r (n ∷ xs) → (b : Body) → s n ≡ Some b → r n ≡ Some b
-  carries_head n xs g = g n (rw (reflexive n))
-
-  carries_rest : (n : Text) (xs : List Text) → Carries s r (n ∷ xs) → Carries s r xs
-  carries_rest n xs g m a = g m (or_right _ _ a)
-
-  carries_front : (xs ys : List Text) → Carries s r (xs ++ ys) → Carries s r xs
-  carries_front xs ys g m a = g m (among_front of_texts m xs ys a)
-
-  carries_behind : (xs ys : List Text) → Carries s r (xs ++ ys) → Carries s r ys
-  carries_behind xs ys g m a = g m (among_behind of_texts m xs ys a)
+up_ends s (suc m) (suc k) (Some n) le lt = search (arith, rules, up_ends s m k, parent_of)
 
 -- Names with a source keep one.
 still_none : (s r : Sources) (xs : List Text) → Carries s r xs → list_any (λ n. is_none (s n)) xs ≡ false
@@ -85,42 +67,53 @@ still_none s r (x ∷ xs) g h =
       reflexive,
     )
 
--- ---- sublists of names, in their order
+-- ---- sublists, in their order
 
-pub data Within : List Text → List Text → Type 0 where
+pub data Within {A : Type 0} : List A → List A → Type 0 where
   none : Within [] []
-  keep : {x : Text} {xs ys : List Text} → Within xs ys → Within (x ∷ xs) (x ∷ ys)
-  skip : {y : Text} {xs ys : List Text} → Within xs ys → Within xs (y ∷ ys)
+  keep : {x : A} {xs ys : List A} → Within xs ys → Within (x ∷ xs) (x ∷ ys)
+  skip : {y : A} {xs ys : List A} → Within xs ys → Within xs (y ∷ ys)
 
-within_same : (xs : List Text) → Within xs xs
-within_same [] = none
-within_same (x ∷ xs) = keep (within_same xs)
+module _ {A : Type 0} where
+  within_same : (xs : List A) → Within xs xs
+  within_same [] = none
+  within_same (x ∷ xs) = keep (within_same xs)
 
-within_both : {xs ys us vs : List Text} → Within xs ys → Within us vs → Within (xs ++ us) (ys ++ vs)
-within_both none b = b
-within_both (keep a) b = keep (within_both a b)
-within_both (skip a) b = skip (within_both a b)
+  within_both : {xs ys us vs : List A} → Within xs ys → Within us vs → Within (xs ++ us) (ys ++ vs)
+  within_both none b = b
+  within_both (keep a) b = keep (within_both a b)
+  within_both (skip a) b = skip (within_both a b)
 
-within_any : (ys : List Text) → Within [] ys
-within_any [] = none
-within_any (y ∷ ys) = skip (within_any ys)
+  within_any : (ys : List A) → Within [] ys
+  within_any [] = none
+  within_any (y ∷ ys) = skip (within_any ys)
 
-among_within : {xs ys : List Text} → Within xs ys → (z : Text) → among z xs ≡ true → among z ys ≡ true
-among_within none z a = a
-among_within (keep {x} {xs} {ys} r) z a = search (arith, rules, among_within r z, or_right)
-among_within (skip {y} {xs} {ys} r) z a = or_right _ _ (among_within r z a)
+  -- What occurs among the names of a sublist, or twice, does so among the names of the list.
+  module _ (f : A → Text) where
+    among_within : {xs ys : List A} → Within xs ys → (z : Text) → among z (map f xs) ≡ true → among z (map f ys) ≡ true
+    among_within none z a = a
+    among_within (keep {x} {xs} {ys} r) z a = search (arith, rules, among_within r z, or_right)
+    among_within (skip {y} {xs} {ys} r) z a = or_right _ _ (among_within r z a)
 
-repeated_within : {xs ys : List Text} → Within xs ys → repeated xs ≡ true → repeated ys ≡ true
-repeated_within none h = h
-repeated_within (keep {x} {xs} {ys} r) h = search (arith, rules, repeated_within r, among_within, or_right)
-repeated_within (skip {y} {xs} {ys} r) h = or_right _ _ (repeated_within r h)
+    repeated_within : {xs ys : List A} → Within xs ys → repeated (map f xs) ≡ true → repeated (map f ys) ≡ true
+    repeated_within none h = h
+    repeated_within (keep {x} {xs} {ys} r) h = search (arith, rules, repeated_within r, among_within, or_right)
+    repeated_within (skip {y} {xs} {ys} r) h = or_right _ _ (repeated_within r h)
 
 -- ---- the macros of libraries, if the imported ones keep their source
 
 module _ (s r : Sources) where
   in_from : (n : Text) (xs : List (Text × Text)) → ((b : Body) → s n ≡ Some b → r n ≡ Some b)
-      → Within (names_from (macros s (a_library n)) xs) (names_from (macros r (a_library n)) xs)
-  in_from n xs g = search (arith, rules, none_from, within_any, within_same)
+      → Within (all_given_from s n xs) (all_given_from r n xs)
+  in_from n [] g = none
+  in_from n (x ∷ xs) g = within_both (by (s n) refl) (in_from n xs g)
+    where
+      one : Sources → List (Text × Definition)
+      one q = given_from n x.1 (public_macro x.0 (macros q (a_library n)))
+
+      by : (o : Option Body) → s n ≡ o → Within (one s) (one r)
+      by None e = rw (e, none_public x.0) (within_any (one r))
+      by (Some b) e = rw (e, g b e) (within_same _)
 
   lacking_from : (n : Text) (xs : List (Text × Text)) → ((b : Body) → s n ≡ Some b → r n ≡ Some b)
       → rules.lacks_one s n xs ≡ true → rules.lacks_one r n xs ≡ true
@@ -132,7 +125,7 @@ module _ (s r : Sources) where
           let kept : r n ≡ s n = g b e ∙ sym e in
           lacks_same r s n xs kept ∙ h
 
-  in_imports : (b : Body) → Carries s r (libraries_in b) → Within (imported_names s b) (imported_names r b)
+  in_imports : (b : Body) → Carries s r (libraries_in b) → Within (imports_in s b) (imports_in r b)
   in_imports trees.end g = none
   in_imports (trees.stmt (trees.import_as line n x) rest) g =
       keep (in_imports rest (carries_rest n (libraries_in rest) g))
@@ -149,13 +142,13 @@ module _ (s r : Sources) where
       (lacking_from n xs (carries_head n (libraries_in rest) g) p))
       (λ q. or_right _ _
       (lacking rest (carries_rest n (libraries_in rest) g) q))
-      (either_true (rules.lacks_one s n xs) (rules.lacks_macros s rest) h)
+      (or_cases (rules.lacks_one s n xs) (rules.lacks_macros s rest) h)
   lacking (trees.stmt (trees.import_as line n x) rest) g h =
       lacking rest (carries_rest n (libraries_in rest) g) h
   lacking (trees.stmt t rest) g h = lacking rest g h
 
   all_imports : (ts : List Template) → Carries s r (flat_map (λ t. libraries_in t.body) ts)
-      → Within (flat_map (λ t. imported_names s t.body) ts) (flat_map (λ t. imported_names r t.body) ts)
+      → Within (flat_map (λ t. imports_in s t.body) ts) (flat_map (λ t. imports_in r t.body) ts)
   all_imports [] g = none
   all_imports (t ∷ ts) g = within_both
       (in_imports t.body (carries_front (libraries_in t.body) (flat_map (λ u. libraries_in u.body) ts) g))
@@ -171,28 +164,22 @@ module _ (s r : Sources) where
       (lacking t.body (carries_front (libraries_in t.body) rest g) p))
       (λ q. or_right _ _
       (all_lacking ts (carries_behind (libraries_in t.body) rest g) q))
-      (either_true (rules.lacks_macros s t.body) (any_lacks_macros s ts) h)
-
--- The names that stand for macros and libraries.
-pub given_names : (s : Sources) (h : Namespace)
-    → map (λ g. g.0) (given s h) ≡ map (λ m. m.name) (macros s h) ++ map (λ g. g.0) (imports s h)
-given_names s h = search (arith, rules, map-append, own, macros, own_named)
+      (or_cases (rules.lacks_macros s t.body) (any_lacks_macros s ts) h)
 
 -- ---- the rules
 
-module _ (s r : Sources) (e : Bool) (entry : Namespace)
-    (g : (n : Text) (b : Body) → Asks r e entry n → s n ≡ Some b → r n ≡ Some b) where
+module _ (s r : Sources) (e : Bool) (entry : Namespace) (g : Keeps s r e entry) where
   there : {h : Namespace} → Reaches s e entry h → Reaches r e entry h
-  there p = reaches_more s r e entry g here p
+  there p = reaches_more g here p
 
   pub bad_name : BadName s e entry → BadName r e entry
-  bad_name x = (x.0, there x.1, (x.2.0, asked_more s r e entry g true x.0 (there x.1) x.2.0 x.2.1, x.2.2))
+  bad_name x = (x.0, there x.1, (x.2.0, asked_more g true x.0 (there x.1) x.2.0 x.2.1, x.2.2))
 
   -- A path with 65 names is complete.
   full : (h : Namespace) → Reaches r e entry h → length (extends_path s e h) ≡ 65
       → extends_path r e h ≡ extends_path s e h
   full h p len =
-      let more = way_more s r e entry g h p in
+      let more = way_more g h p in
       more.1 ∙ ap (λ l. extends_path s e h ++ l)
       (no_more more.0 (omega (arith, len, most h, ap length more.1, length-append (extends_path s e h) more.0)))
       ∙ append-nil (extends_path s e h)
@@ -228,7 +215,7 @@ module _ (s r : Sources) (e : Bool) (entry : Namespace)
       by : (b : Bool) → repeated (extends_path s e (a_chain h)) ≡ b → (c : Bool)
           → (length (extends_path s e (a_chain h)) == 65) ≡ c → ExtendsCycle r e entry ⊎ ChainTooLong r e entry
       by true q c f =
-          let more = way_more s r e entry g (a_chain h) p in
+          let more = way_more g (a_chain h) p in
           inl (a_chain h, p, (h, refl, 65, ap repeated more.1 ∙ repeated_front (extends_path s e (a_chain h)) more.0 q))
       by false q true f =
           inr (inl (
@@ -245,13 +232,12 @@ module _ (s r : Sources) (e : Bool) (entry : Namespace)
       cycle y.0 y.2 (rw (← y.1) (there x.1)) y.3
 
   pub too_long : ChainTooLong s e entry → ChainTooLong r e entry
-  too_long x =
-      ⊎_elim (λ y. inl (y.0, there y.1, long y.0 (there y.1) y.2)) (λ y. inr (y.0, y.1, y.2, λ n a. there (y.3 n a))) x
+  too_long x = search (arith, rules, there, long)
 
   pub double_block : DoubleBlock s e entry → DoubleBlock r e entry
   double_block x =
       let p = there x.1 in
-      let more = namespace_more s r e entry g x.0 p in (
+      let more = namespace_more g x.0 p in (
         x.0,
         p,
         ap (any_double e) more.1
@@ -270,7 +256,7 @@ module _ (s r : Sources) (e : Bool) (entry : Namespace)
       not-true (list_any (λ n. is_none (s n)) (extends_path s e h)) w2.1 in
       let one = same_namespace_way h p sources in
       let still =
-      still_none s r (extends_path s e h) (λ n a. on_path s r e entry g h p n (ap (among n) one.0 ∙ a)) sources in (
+      still_none s r (extends_path s e h) (λ n a. on_path g h p n (ap (among n) one.0 ∙ a)) sources in (
         one.1,
         rw one.0 (and_from _
             _ w1.0
@@ -283,8 +269,8 @@ module _ (s r : Sources) (e : Bool) (entry : Namespace)
           → (extends_path r e k ≡ extends_path s e k) × (templates r k ≡ templates s k)
       same_namespace_way (a_chain n) q sources =
           let more = up_more s 65 64 (Some n) (omega arith) in (
-            ((continues s r 65 (Some n) (on_path s r e entry g (a_chain n) q)).whole sources).0,
-            ((continues s r 64 (Some n) (on_first s r e entry g n q)).whole
+            ((continues s r 65 (Some n) (on_path g (a_chain n) q)).whole sources).0,
+            ((continues s r 64 (Some n) (on_first g n q)).whole
                 (none_front (λ m. is_none (s m)) (names_up s 64 (Some n)) more.0
                 (ap (list_any (λ m. is_none (s m))) (sym more.1) ∙ sources))).1,
           )
@@ -294,7 +280,7 @@ module _ (s r : Sources) (e : Bool) (entry : Namespace)
           by None f =
               let no : false ≡ true = sym sources ∙ ap (λ o. is_none o || false) f in
               absurd (cc)
-          by (Some b) f = on_path s r e entry g (a_library n) q n (rw (reflexive n)) b f ∙ sym f
+          by (Some b) f = on_path g (a_library n) q n (rw (reflexive n)) b f ∙ sym f
 
   in_chain : (f : List Template → Bool) → InSomeChain s e entry (λ h. f (templates s h))
       → InSomeChain r e entry (λ h. f (templates r h))
@@ -306,26 +292,16 @@ module _ (s r : Sources) (e : Bool) (entry : Namespace)
   pub no_super : NoSuper s e entry → NoSuper r e entry
   no_super = in_chain (λ us. lacks_next (their_blocks e us))
 
-  -- The defined names are among those when more is read.
-  names_kept : (h : Namespace) → Reaches r e entry h → templates r h ≡ templates s h
-      → Within (map (λ x. x.0) (given s h)) (map (λ x. x.0) (given r h))
-  names_kept h p same_templates =
-      rw (given_names s h)
-      (rw (given_names r h) (within_both
-      (subst (λ (l : List MacroBody). Within (map (λ m. m.name) (macros s h)) (map (λ m. m.name) l))
-      (sym (ap their_macros same_templates)) (within_same (map (λ m. m.name) (macros s h))))
-      (by h p same_templates)))
+  -- The definitions are among those when more is read.
+  given_kept : (h : Namespace) → Reaches r e entry h → templates r h ≡ templates s h → Within (given s h) (given r h)
+  given_kept h p same_templates =
+      within_both (rw same_templates (within_same (own h (macros s h)))) (by h p same_templates)
     where
-      by : (k : Namespace) → Reaches r e entry k → templates r k ≡ templates s k
-          → Within (map (λ x. x.0) (imports s k)) (map (λ x. x.0) (imports r k))
+      by : (k : Namespace) → Reaches r e entry k → templates r k ≡ templates s k → Within (imports s k) (imports r k)
       by (a_library n) q t = none
       by (a_chain n) q t =
-          let ts = templates s (a_chain n) in
-          let us = templates r (a_chain n) in
-          rw (all_imported s ts)
-          (rw (all_imported r us ∙ ap (flat_map (λ (u : Template). imported_names r u.body)) t)
-          (all_imports s r ts (λ m a. on_libraries s r e entry g (a_chain n) q m
-          (ap (λ vs. among m (flat_map (λ (u : Template). libraries_in u.body) vs)) t ∙ a))))
+          rw t (all_imports s r (templates s (a_chain n)) (λ m a. on_libraries g (a_chain n) q m
+          (ap (λ vs. among m (flat_map (λ (u : Template). libraries_in u.body) vs)) t ∙ a)))
 
   pub macro_twice : MacroTwice s e entry → MacroTwice r e entry
   macro_twice x =
@@ -335,7 +311,7 @@ module _ (s r : Sources) (e : Bool) (entry : Namespace)
         x.0,
         p,
         and_from (is_whole r e x.0) (repeated (map (λ y. y.0) (given r x.0))) w.1
-            (repeated_within (names_kept x.0 p w.0) k.1),
+            (repeated_within (λ y. y.0) (given_kept x.0 p w.0) k.1),
       )
 
   pub no_macro : NoMacro s e entry → NoMacro r e entry
@@ -348,11 +324,11 @@ module _ (s r : Sources) (e : Bool) (entry : Namespace)
       by (a_library m) p n is t = absurd (cc)
       by (a_chain m) p n is t =
           let h = a_chain m in
-          let more = namespace_more s r e entry g h p in
+          let more = namespace_more g h p in
           let f : Template → List Text = λ u. libraries_in u.body in
           ap (any_lacks_macros r) more.1
           ∙ any_front (λ u. rules.lacks_macros r u.body) (templates s h) more.0
-          (all_lacking s r (templates s h) (λ k a. on_libraries s r e entry g h p k
+          (all_lacking s r (templates s h) (λ k a. on_libraries g h p k
           (rw more.1 (ap (among k) (flat_map-append f (templates s h) more.0)
           ∙ among_front of_texts k _ _ a))) t)
 
@@ -362,5 +338,5 @@ module _ (s r : Sources) (e : Bool) (entry : Namespace)
   pub include_cycle : IncludeCycle s e entry → IncludeCycle r e entry
   include_cycle x =
       let p = there x.1 in
-      let a = included_more s r e entry g x.0 p x.2.0 x.2.1 in
-      (x.0, p, (x.2.0, a, reaches_more s r e entry g (reaches_next p a) x.2.2))
+      let a = included_more g x.0 p x.2.0 x.2.1 in
+      (x.0, p, (x.2.0, a, reaches_more g (reaches_next p a) x.2.2))

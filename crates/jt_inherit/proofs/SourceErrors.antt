@@ -92,10 +92,6 @@ pub too_long : (options : Options) (given : Text) (e : ScanError)
     → IsUncut e options given × HasNoTree options given
 too_long options given e long short f = search (arith, rules, cases_lt)
 
-uncut_so : (options : Options) (given : Text) (e : ScanError) → (e ≡ scan_error.NoMemory → ⊥)
-    → scanner.IsRefusal e (chars (normalized options.keep_trailing_newline given)) → IsUncut e options given
-uncut_so options given a2 f r = search (arith, rules)
-
 -- ---- the template of a name
 
 -- The template is the only one of its name if its source spells no other tree.

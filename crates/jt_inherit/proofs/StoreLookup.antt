@@ -4,7 +4,7 @@ use words.{◌≡◌, ℕ, ◌<◌, length, get_or, arith, string_bytes, Bool, f
 use words.{Some, None, rules, zero, suc, true, not, HasPath, names, slice_get, flat_map, is_some, length-map}
 use words.{append-nil, slice_get_within, Text, Body, body_of, among, repeated, Sources, a_library, Template}
 use words.{library_template, holds_macros, is_a_library, MacroBody, macros, macros_in, public_macro, sources_in}
-use words.{file_view, files_view, TemplateFile, only_one, macros_held, names_from, Options, SourceTexts, AreKnown}
+use words.{file_view, files_view, TemplateFile, only_one, Options, SourceTexts, AreKnown}
 use words.{is_no_library, not-false, library_macros, ◌≤◌, ◌&&◌, ◌||◌, if◌then◌else◌, is_none, bytes_eq, or_from}
 use words.{same, lacks, index_of}
 use Rattle.jt_inherit.proofs.PathsGrow.{file_there, nothing_read}
@@ -42,29 +42,17 @@ module _ (ps : List TemplateFile) (once : repeated (names (files_view ps)) ≡ f
         → is_a_library (sources_in (files_view ps) n) ≡ b
     is_library_read b e = ap is_a_library source_is ∙ sym e
 
-    pub macros_there : macros_held p ≡ macros (sources_in (files_view ps)) (a_library n)
+    pub macros_there : library_macros (string_bytes p.name) (body_of p.template) ≡ macros (sources_in (files_view ps)) (a_library n)
     macros_there = search (arith, rules, held_read, string_bytes, body_of, there, library_template, source_is)
 
-no_macros : (s : Sources) (n : Text) → is_a_library (s n) ≡ false → macros s (a_library n) ≡ []
-no_macros s n e = search (arith, rules)
+pub none_public : (x : Text) → public_macro x [] ≡ None
+none_public x = search (arith, rules)
 
-no_macro : (x : Text) → public_macro x [] ≡ None
-no_macro x = search (arith, rules)
-
-pub none_from : (xs : List (Text × Text)) → names_from [] xs ≡ []
-none_from [] = refl
-none_from (x ∷ xs) = search (arith, rules, is_some, names_from, no_macro, none_from xs)
-
--- A name that is no library's binds no names and lacks no macros.
-pub nothing_from : (s : Sources) (n : Text) (xs : List (Text × Text)) → is_a_library (s n) ≡ false
-    → names_from (macros s (a_library n)) xs ≡ []
-nothing_from s n xs e = rw (no_macros s n e) (none_from xs)
-
+-- A name that is no library's lacks no macros.
 pub nothing_lacks : (s : Sources) (n : Text) (xs : List (Text × Text)) → is_a_library (s n) ≡ false
     → lacks_one s n xs ≡ false
 nothing_lacks s n [] e = refl
-nothing_lacks s n (x ∷ xs) e =
-    rw e (nothing_lacks s n xs e)
+nothing_lacks s n (x ∷ xs) e = search (arith, rules, nothing_lacks s n xs e)
 
 -- A library with the same tree lacks the same macros.
 pub lacks_same : (s r : Sources) (n : Text) (xs : List (Text × Text)) → s n ≡ r n → lacks_one s n xs ≡ lacks_one r n xs
@@ -101,7 +89,7 @@ none_some (Some x) = refl
 module _ (ps : List TemplateFile) (n x : Text) (i : ℕ) (e : i ≡ index_of (files_view ps) n) where
   pub file_lacks : repeated (names (files_view ps)) ≡ false → (p : TemplateFile) → i < length ps → p ≡ get_or ps i p
       → lacks (sources_in (files_view ps)) n x
-      ≡ (holds_macros (body_of p.template) && not (is_some (public_macro x (macros_held p))))
+      ≡ (holds_macros (body_of p.template) && not (is_some (public_macro x (library_macros (string_bytes p.name) (body_of p.template)))))
   file_lacks once p lt is =
       let at : slice_get (names (files_view ps)) i ≡ Some n =
       rw e (named_index (files_view ps) n (omega (arith, lt, e, length-map ps file_view))) in
@@ -109,9 +97,7 @@ module _ (ps : List TemplateFile) (n x : Text) (i : ℕ) (e : i ≡ index_of (fi
       (ap (λ ms. is_none (public_macro x ms)) (sym (macros_there ps once n i at p is)) ∙ none_some _))
 
   pub no_file_lacks : length ps ≤ i → lacks (sources_in (files_view ps)) n x ≡ false
-  no_file_lacks le =
-      rw (unread (files_view ps) n
-      (no_index (files_view ps) n (omega (arith, le, e, length-map ps file_view)))) refl
+  no_file_lacks le = search (arith, rules, unread, files_view, no_index, length-map, file_view)
 
 -- The template at the index of a name.
 of_name : (ts : List Template) (i : ℕ) (n : Text) → slice_get (names ts) i ≡ Some n
@@ -135,7 +121,5 @@ pub library_read : {given : SourceTexts} {options : Options} {ts : List Template
     → (n : Text) → is_no_library ts (a_library n) ≡ false
     → {is : List ℕ} (i : ℕ) → is ≡ i ∷ [] → slice_get (names ts) i ≡ Some n → HasPath given options ts ts
     (a_library n) is
-library_read {given} {options} {ts} known n library {is} i e at = record {
-  read = nothing_read known;
-  led = search (arith, rules, of_name, only_one, append-nil, slice_get_within, not-false, names);
-}
+library_read {given} {options} {ts} known n library {is} i e at =
+    search (arith, rules, nothing_read, of_name, only_one, append-nil, slice_get_within, not-false, names)

@@ -122,14 +122,12 @@ some_weaker P Q f (x ∷ xs) h = ⊎_elim (λ p. inl (f x p)) (λ q. inr (some_w
 
 uses-append : (ts us : List Template) → all_uses (ts ++ us) ≡ all_uses ts ++ all_uses us
 uses-append [] us = refl
-uses-append (t ∷ ts) us =
-    rw (uses-append ts us) (sym (append_assoc (uses_in t) (all_uses ts) (all_uses us)))
+uses-append (t ∷ ts) us = search (arith, rules, uses-append ts us, append_assoc, uses_in, all_uses)
 
 -- A tag of the first templates is one of them all.
 pub tag_front : (test : Use → Bool) (p : TagPlace) (ts us : List Template) → HasTag test ts p
     → HasTag test (ts ++ us) p
-tag_front test p ts us h =
-    rw (uses-append ts us) (some_front _ _ _ h)
+tag_front test p ts us h = search (arith, rules, uses-append, some_front)
 
 -- A tag of the last template is one of them all.
 pub tag_last : (test : Use → Bool) (p : TagPlace) (ts : List Template) (t : Template)
@@ -139,8 +137,7 @@ tag_last test p ts t h = search (arith, rules, uses-append, some_behind, all_use
 -- A weaker test passes at the same tag.
 pub tag_weaker : (test weak : Use → Bool) → ((u : Use) → test u ≡ true → weak u ≡ true) → (p : TagPlace)
     (ts : List Template) → HasTag test ts p → HasTag weak ts p
-tag_weaker test weak f p ts h =
-    some_weaker _ _ (λ x q. (q.0, q.1, f x.1.made q.2)) _ h
+tag_weaker test weak f p ts h = search (arith, rules, some_weaker)
 
 -- The `extends` tag asks for its parent.
 pub extends_asks : (all : Bool) (n : Text) (u : Use) → is_extends n u ≡ true → asks all n u ≡ true
@@ -195,46 +192,26 @@ module _ (all : Bool) (n : Text) (test : Use → Bool)
   mutual
     by_statement : (s : Stmt) (w : Enclosing) → among n (needs_by all s) ≡ true → ForSome (Passes test) (stmt_uses s w)
     by_statement (trees.include line m i c) w a = inl (passes m i c a)
-    by_statement (trees.choose bs other) w a =
-        either test n _ _ _ _ a
-        (λ p. by_branches bs w p) (λ q. by_body other w q)
+    by_statement (trees.choose bs other) w a = search (arith, rules, either, by_branches bs w, by_body other w)
     by_statement (trees.for_each line xs e c body other) w a =
-        some_behind _
-        (expr_uses e (place_at line w)
-        ++ (bound xs (place_at line (inside_scope w)) ++ condition_uses c (place_at line w)))
-        _
-        (either test n _ _ _ _ a
-        (λ p. by_body body (inside_loop w) p) (λ q. by_body other w q))
+        search (arith, rules, some_behind, either, by_body body, by_body other w)
     by_statement (trees.set_block line x body) w a = inr (by_body body (inside_scope w) a)
-    by_statement (trees.with_values line ps body) w a =
-        some_behind (Passes test) (pair_uses ps (place_at line w))
-        (keys_bound ps (place_at line (inside_scope w)) ++ body_uses body (inside_scope w))
-        (some_behind _ _ _
-        (by_body body (inside_scope w) a))
-    by_statement (trees.filter_block line fs body) w a =
-        some_behind (Passes test) (filter_call_uses fs (place_at line w)) (body_uses body (inside_scope w))
-        (by_body body (inside_scope w) a)
+    by_statement (trees.with_values line ps body) w a = search (arith, rules, some_behind, body_uses, by_body body)
+    by_statement (trees.filter_block line fs body) w a = search (arith, rules, some_behind, body_uses, by_body body)
     by_statement (trees.autoescape line on body) w a = by_body body (inside_scope w) a
-    by_statement (trees.macro line x ps body) w a =
-        inr (some_behind _ _
-        _ (by_body body (inside_macro w) a))
+    by_statement (trees.macro line x ps body) w a = search (arith, rules, some_behind, by_body body)
     by_statement (trees.block line x scoped required body) w a = inr (by_body body (inside_block w) a)
     by_statement s w a = absurd (cc)
 
     by_body : (b : Body) (w : Enclosing) → among n (needs_in all b) ≡ true → ForSome (Passes test) (body_uses b w)
     by_body trees.end w a = absurd (cc)
-    by_body (trees.stmt s rest) w a =
-        either test n _ _ _ _ a
-        (λ p. by_statement s w p) (λ q. by_body rest w q)
+    by_body (trees.stmt s rest) w a = search (arith, rules, either, by_statement s w, by_body rest w)
 
     by_branches : (bs : Branches) (w : Enclosing) → among n (needs_under all bs) ≡ true
         → ForSome (Passes test) (branch_uses bs w)
     by_branches trees.no_branches w a = absurd (cc)
     by_branches (trees.branch line c body rest) w a =
-        either test n _ _ _
-        _ a
-        (λ p. some_behind _ _ _ (by_body body w p))
-        (λ q. by_branches rest w q)
+        search (arith, rules, either, some_behind, by_body body w, by_branches rest w)
 
 -- ---- imports and parents
 
@@ -245,15 +222,10 @@ module _ (n : Text) (test : Use → Bool) (passes : test (uses.imports n) ≡ tr
   libraries_by : (b : Body) (w : Enclosing) → among n (libraries_in b) ≡ true → ForSome (Passes test) (body_uses b w)
   libraries_by trees.end w a = absurd (cc)
   libraries_by (trees.stmt (trees.import_as line m x) rest) w a =
-      ⊎_elim (λ p. inl (imports_by m p)) (λ q. inr (inr (libraries_by rest w q)))
-      (among_cases of_texts n (m ∷ []) (libraries_in rest) a)
+      search (arith, rules, imports_by, libraries_by rest w, among_cases, of_texts, libraries_in)
   libraries_by (trees.stmt (trees.import_from line m xs) rest) w a =
-      ⊎_elim (λ p. inl (imports_by m p))
-      (λ q.
-      inr (some_behind _ _ _ (libraries_by rest w q)))
-      (among_cases of_texts n (m ∷ []) (libraries_in rest) a)
-  libraries_by (trees.stmt s rest) w a =
-      some_behind (Passes test) (stmt_uses s w) (body_uses rest w) (libraries_by rest w a)
+      search (arith, rules, imports_by, some_behind, libraries_by rest w, among_cases, of_texts, libraries_in)
+  libraries_by (trees.stmt s rest) w a = search (arith, rules, some_behind, body_uses, libraries_by rest w a)
 
 extends_is : (b : Body) → option_map (λ q. q.0) (extends_at b) ≡ extends_of b
 extends_is trees.end = refl
@@ -263,12 +235,9 @@ extends_is (trees.stmt s rest) = extends_is rest
 extends_by : (n : Text) (line : ℕ) (b : Body) (w : Enclosing) → extends_at b ≡ Some (n, line)
     → ForSome (λ (s : Site). (line ≡ s.place.line) × Passes (is_extends n) s) (body_uses b w)
 extends_by n line trees.end w e = absurd (cc)
-extends_by n line (trees.stmt (trees.extends at m) rest) w e =
-    let same : ◌≡◌ {A = Text × ℕ} (m, at) (n, line) = cc in
-    inl (sym (ap (λ (q : Text × ℕ). q.1) same), ap (λ (q : Text × ℕ). bytes_eq q.0 n) same ∙ reflexive n)
+extends_by n line (trees.stmt (trees.extends at m) rest) w e = search (arith, rules, bytes_eq, reflexive)
 extends_by n line (trees.stmt s rest) w e =
-    some_behind (λ (z : Site). (line ≡ z.place.line) × Passes (is_extends n) z) (stmt_uses s w) (body_uses rest w)
-    (extends_by n line rest w e)
+    search (arith, rules, some_behind, is_extends, body_uses, extends_by n line rest w e)
 
 -- ---- the uses of templates
 

@@ -19,7 +19,7 @@ pub namespace_among : (hs : List Namespace) (i : ℕ) → i < length hs → list
 namespace_among [] i lt = absurd (omega arith)
 namespace_among (h ∷ hs) zero lt = rw (reflexive h)
 namespace_among (h ∷ hs) (suc i) lt =
-    or_right (same_namespace h (namespace_at hs i)) (listed (namespace_at hs i) hs) (namespace_among hs i (omega arith))
+    search (arith, rules, or_right, same_namespace, namespace_at, listed, namespace_among hs i)
 
 pub number_of : (hs : List Namespace) (x : Namespace) → listed x hs ≡ true
     → (i : ℕ) × (i < length hs) × (namespace_at hs i ≡ x)
@@ -42,8 +42,7 @@ one_number [] i j once p q e = absurd (omega arith)
 one_number (h ∷ hs) zero zero once p q e = refl
 one_number (h ∷ hs) zero (suc j) once p q e = search (arith, rules, namespace_among, or_parts)
 one_number (h ∷ hs) (suc i) zero once p q e = search (arith, rules, namespace_among, or_parts)
-one_number (h ∷ hs) (suc i) (suc j) once p q e =
-    ap suc (one_number hs i j (or_parts _ _ once).1 (omega arith) (omega arith) e)
+one_number (h ∷ hs) (suc i) (suc j) once p q e = search (arith, rules, one_number hs i j, or_parts)
 
 pub named_among : (hs : List Namespace) (j : ℕ) (is : List ℕ) → graph.among j is ≡ true
     → listed (namespace_at hs j) (map (namespace_at hs) is) ≡ true

@@ -71,8 +71,7 @@ fits_as c e h = rw (← h) (escape_fits c)
 octal_short : (c : ℕ) (s : Text) → digit_value c < 8 → AllDigits 8 s → length s ≤ 2
     → bytes (number_of 8 (c ∷ s) ∷ []) ≤ 2 + length s
 octal_short c [] h a l = omega (arith, ascii_has (number_of 8 (c ∷ [])) (omega arith))
-octal_short c (d ∷ []) h a l =
-    let k = below_eight d a.0 in omega (arith, ascii_has (number_of 8 (c ∷ d ∷ [])) (omega arith))
+octal_short c (d ∷ []) h a l = search (arith, rules, below_eight, ascii_has)
 octal_short c (d ∷ e ∷ s) h a l = omega (arith, (one_has (number_of 8 (c ∷ d ∷ e ∷ s))).1)
 
 -- ---- texts
@@ -119,8 +118,7 @@ means_short (literal.by_hexadecimal {c} {n} s {x} {v} e a l k m) =
       fits_as c (hexadecimal n) e,
       (one_has (number_of 16 s)).1,
     )
-means_short (literal.stayed {c} {x} {v} n m) =
-    omega (arith, means_short m, bytes-cons 92 (c ∷ x), bytes-cons c x, bytes-cons 92 (c ∷ v), bytes-cons c v)
+means_short (literal.stayed {c} {x} {v} n m) = search (arith, rules, means_short m, bytes-cons)
 
 pub closing_long : (k : TagKind) (mark : Mark) (rest : Text) → bytes rest ≤ bytes (closing_text k mark rest)
 closing_long k mark rest = search (arith, rules, bytes-append, bytes-cons)
@@ -140,8 +138,7 @@ space_short (c ∷ cs) = by (is_space c) refl (space_short cs)
 word_short : (w x rest : Text) → after_word w x ≡ Some rest → bytes rest ≤ bytes x
 word_short [] x rest e = let h : x ≡ rest = cc in omega (arith, ap bytes h)
 word_short (a ∷ w) [] rest e = cc
-word_short (a ∷ w) (c ∷ x) rest e =
-    by_test (c == a) _ _ _ e (λ h q. omega (arith, word_short w x rest q, bytes-cons c x)) (λ h q. cc)
+word_short (a ∷ w) (c ∷ x) rest e = search (arith, rules, by_test, word_short w x rest, bytes-cons)
 
 end_short : (opening : Mark) (o : Option (Mark × Text)) (ends : Marks) (rest : Text)
     → endraw_closed opening o ≡ Some (ends, rest) → (mark : Mark) × (o ≡ Some (mark, rest))
@@ -190,8 +187,7 @@ inside_short (token {s = s} {x = x} b t i) = omega (arith, inside_short i, token
 
 segment_short : {n : ℕ} {s : Segment} {x rest : Text} → IsSegment n s x rest → segment_bytes s + bytes rest ≤ bytes x
 segment_short (some_data {c} {d} {rest} n e) = omega (arith, bytes-append (c ∷ d) rest)
-segment_short (a_tag {k} {x = x} i r) =
-    omega (arith, inside_short i, behind_short x, bytes-cons 123 (second k ∷ x), bytes-cons (second k) x)
+segment_short (a_tag {k} {x = x} i r) = search (arith, rules, inside_short, behind_short, bytes-cons)
 segment_short (a_comment {x} {rest} n) = search (arith, rules, bytes-cons, bytes-append)
 segment_short (a_raw {ends = ends} {x = x} {d = d} {rest = rest} y i r h e) =
     search (arith, rules, inside_short, behind_short, bytes-append, endraw_short, bytes-cons)
@@ -210,8 +206,7 @@ few_chars keep source text u e = search (arith, rules, length-le-encodes, encode
 -- The characters of a text have at most as many bytes as its source.
 pub few_bytes : (keep : Bool) (source text : List ℕ) → IsUtf8 text → text ≡ normalized keep source
     → bytes (chars text) ≤ length source
-few_bytes keep source text u e =
-    omega (arith, ap length (encodes-chars text u), ap length e, never_longer keep source)
+few_bytes keep source text u e = search (arith, rules, length, encodes-chars, never_longer)
 
 -- The text of a source that is not refused for its length.
 pub taken : (options : Options) (given : Text) (s : Held) → (max_source_len < length given → ⊥)

@@ -22,7 +22,7 @@ mutual
   stmt_needs (choose bs other) =
       omega (arith, length-append (needs_under true bs) (needs_in true other), branch_needs bs, body_needs other)
   stmt_needs (for_each line xs e c body other) =
-      omega (arith, length-append (needs_in true body) (needs_in true other), body_needs body, body_needs other)
+      search (arith, rules, length-append, needs_in, body_needs body, body_needs other)
   stmt_needs (set_block line x body) = omega (arith, body_needs body)
   stmt_needs (with_values line ps body) = omega (arith, body_needs body)
   stmt_needs (filter_block line fs body) = omega (arith, body_needs body)
@@ -33,8 +33,7 @@ mutual
 
   body_needs : (b : Body) → 7 * length (needs_in true b) ≤ body_weight b
   body_needs end = omega arith
-  body_needs (stmt s rest) =
-      omega (arith, length-append (needs_by true s) (needs_in true rest), stmt_needs s, body_needs rest)
+  body_needs (stmt s rest) = search (arith, rules, length-append, needs_by, needs_in, stmt_needs s, body_needs rest)
 
   branch_needs : (bs : Branches) → 7 * length (needs_under true bs) ≤ branch_weight bs
   branch_needs no_branches = omega arith

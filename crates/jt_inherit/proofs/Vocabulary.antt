@@ -1,17 +1,18 @@
 -- The words that several proofs of this crate take from definitions and from other crates.
+use Rattle.std.proofs.lemmas.Result.{err_from_is_err_and}
+use Rattle.std.specs.Prelude.{Result, IfErr}
+use Rattle.std.specs.Result.{IsErrAnd}
 pub use Rattle.std.proofs.lemmas.Bool.{and_from, and_parts, and_right, both_ways, cases_lt, not-false, not-true}
-pub use Rattle.std.proofs.lemmas.Bool.{or_from, or_left, or_parts, or_right}
+pub use Rattle.std.proofs.lemmas.Bool.{or_cases, or_from, or_left, or_parts, or_right, false_from_ne_true, true_from_ne_false}
 pub use Rattle.std.proofs.lemmas.Bool.Decides.{nat_tests}
 pub use Rattle.std.proofs.lemmas.Iterator.{YieldsList-from_slice, cases_from_all, YieldsList-from_map_by}
 pub use Rattle.std.proofs.lemmas.Grind.{flat_map-append, common_steps}
 pub use Rattle.std.proofs.lemmas.List.{append-nil, append_assoc, drop_more, length-map, map-append, map_push}
-pub use Rattle.std.proofs.lemmas.List.{nil_from_length, take-append-drop, take_all, take_more, get_or_default}
-pub use Rattle.std.proofs.lemmas.List.{at_drop_all}
+pub use Rattle.std.proofs.lemmas.List.{take-append-drop, take_all, take_more, get_or_default}
 pub use Rattle.std.proofs.lemmas.List.Elements.{filter_agree, filter-append}
 pub use Rattle.std.proofs.lemmas.List.Folds.{list_any-append}
-pub use Rattle.std.proofs.lemmas.Map.Text.{btree_map_updates_text, is_eq-slice_cmp}
+pub use Rattle.std.proofs.lemmas.Map.Text.{btree_map_updates_text}
 pub use Rattle.std.proofs.lemmas.Option.{slice_get-get_or, slice_get-map, slice_get_within}
-pub use Rattle.std.proofs.lemmas.Result.{err_from_is_err_and}
 pub use Rattle.std.proofs.lemmas.Simd.{map-map}
 pub use Rattle.std.proofs.lemmas.Str.{length-le-encodes}
 pub use Rattle.std.specs.BTreeMap.{get_by_text}
@@ -27,9 +28,9 @@ pub use Rattle.jt_ast.specs.Statements.{Body, Branches, Stmt, autoescape, body_l
 pub use Rattle.jt_ast.specs.Statements.{filter_block, for_each, no_branches, set_block, stmt, with_values}
 pub use Rattle.jt_ast.specs.Texts.{among, repeated, texts}
 pub use Rattle.jt_chains.proofs.IncludeCollection.{by_templates, needed-append}
-pub use Rattle.jt_chains.proofs.TemplatesByIndex.{along_templates, along_turn, file_at, index_within, map_at, only_one}
+pub use Rattle.jt_chains.proofs.TemplatesByIndex.{along_templates, index_within, map_at, only_one}
 pub use Rattle.jt_chains.proofs.TemplatesByIndex.{given_templates}
-pub use Rattle.jt_chains.specs.Along.{AreIndices, along, templates_at, body_at}
+pub use Rattle.jt_chains.specs.Along.{AreIndices, templates_at, body_at}
 pub use Rattle.jt_chains.specs.Chain.{MacroBody, Namespace, Sources, Template, a_chain, a_library, blocks_in}
 pub use Rattle.jt_chains.specs.Chain.{extends_of, holds_macros, is_a_library, libraries, libraries_in, library_template}
 pub use Rattle.jt_chains.specs.Chain.{listed, macros, macros_in, names_up, namespace_name, own, parent_of, public_macro}
@@ -67,7 +68,7 @@ pub use Rattle.jt_scan.specs.declared.segment.TagKind.{TagKind}
 pub use Rattle.jt_uses.specs.Uses.{Site, Use, body_uses, outside}
 pub use Rattle.jt_inherit.proofs.Membership.{among_behind, among_cases, among_front, among_next, indexed_among, no_more}
 pub use Rattle.jt_inherit.proofs.Membership.{once_more, only_among, comes_again, lighter, total}
-pub use Rattle.jt_inherit.proofs.NameMembership.{of_texts, reflexive, same, symmetric, all_more}
+pub use Rattle.jt_inherit.proofs.NameMembership.{of_texts, reflexive, same, symmetric, all_more, all_weaker}
 pub use Rattle.jt_inherit.proofs.NamespaceMembership.{chain_among, of_namespaces, chains_both}
 pub use Rattle.jt_inherit.specs.Chains.{IsChain, IsOnly, IsRead, IsTree, SourceTexts, HasNoTree}
 pub use Rattle.jt_inherit.specs.Findings.{ForSome, HasTag, InTurn, IsAt, IsFinding, IsNoMemory, Says, all_uses, asks}
@@ -76,7 +77,7 @@ pub use Rattle.jt_inherit.specs.Findings.{is_include, is_required, leads_to, may
 pub use Rattle.jt_inherit.specs.Findings.{last_of, blocks_named}
 pub use Rattle.jt_inherit.specs.Linked.{IsLinked, KeepsLinkRules}
 pub use Rattle.jt_inherit.specs.Refusals.{Breaks, HasFault, IsUncut, IsUnspelled, Shows, IsMissing}
-pub use Rattle.jt_inherit.specs.Small.{chains_len, templates_len, source_len, libraries_len}
+pub use Rattle.jt_inherit.specs.Small.{chains_len, templates_len, libraries_len}
 pub use Rattle.jt_inherit.specs.SuperTags.{super_at, branches_super_at, stmt_super_at}
 pub use Rattle.jt_inherit.specs.declared.discovery.Discovery.{Discovery}
 pub use Rattle.jt_inherit.specs.declared.error.ChainError.{ChainError}
@@ -93,24 +94,23 @@ pub use Rattle.jt_inherit.specs.internal.Found.{found_namespaces, found_paths, f
 pub use Rattle.jt_inherit.specs.internal.Found.{root_of, twice, HasNeeds, IsUnmet, keyed_needs, keyed_view, IsFaultAt}
 pub use Rattle.jt_inherit.specs.internal.Found.{IsUnmetNeed, AddsNext, known_of, IsLedTo, IsDone}
 pub use Rattle.jt_inherit.specs.internal.Breaking.{IsOfRule, IsTwiceIn, RuleAt, IsBroken, BrokenIn, TwiceAt, lacks}
-pub use Rattle.jt_inherit.specs.internal.RuleTests.{block_names, lacks_body, lacks_next, BreakOne, KeepAll, any_double}
-pub use Rattle.jt_inherit.specs.internal.RuleTests.{any_lacks_macros, imported_names, names_from, their_blocks}
-pub use Rattle.jt_inherit.specs.internal.RuleTests.{their_macros, named}
+pub use Rattle.jt_inherit.specs.internal.RuleTests.{lacks_body, lacks_next, BreakOne, KeepAll, any_double}
+pub use Rattle.jt_inherit.specs.internal.RuleTests.{any_lacks_macros, their_blocks, named}
 pub use Rattle.jt_inherit.specs.internal.ExtendsPaths.{AreKnown, BreaksAll, HasPath, HasRead, IsExtendsPath, IsWithin}
 pub use Rattle.jt_inherit.specs.internal.ExtendsPaths.{Leads, names, SaysAll, LeadsFrom}
 pub use Rattle.jt_inherit.specs.internal.Faults.{IsFaultOf, HasFaulty, IsFault, IsScan, IsParse}
-pub use Rattle.jt_inherit.specs.internal.Given.{its_files, its_templates, macros_held}
+pub use Rattle.jt_inherit.specs.internal.Views.{its_files, its_templates}
 pub use Rattle.jt_inherit.specs.internal.Placing.{is_no_library, leading_at, IsCycle, IsIncludedMore, IsNamedOn}
 pub use Rattle.jt_inherit.specs.internal.Placing.{need_test, last_number, name_at, IsRingOf, HasRing, IsAsked, IsFirst}
 pub use Rattle.jt_inherit.specs.internal.Placing.{IsNameless, IsOfName, IsOfNeed, IsParentAt, IsOneMore, NamedAt}
 pub use Rattle.jt_inherit.specs.internal.Placing.{IsOneChainMore, IsItsName, IsNoLibrary, IsOfImport, LeadsAt}
 pub use Rattle.jt_inherit.specs.internal.Placing.{extends_at, IsParent}
 pub use Rattle.jt_inherit.specs.internal.Numbers.{AreNumbers, is_named, is_kind}
-pub use Rattle.jt_inherit.specs.internal.SetView.{key_view, keys_view, keyed}
-pub use Rattle.jt_inherit.specs.internal.Sets.{namespaces_view}
+pub use Rattle.jt_inherit.specs.internal.Numbers.{key_view, keys_view, keyed}
+pub use Rattle.jt_inherit.specs.internal.Views.{namespaces_view}
 pub use Rattle.jt_inherit.specs.internal.SuperLines.{first_in, first_under, line_if, first_of}
 pub use Rattle.jt_inherit.specs.internal.Tags.{IsLastCall, place_in, place_view, tag_view, tags, tags_view, test_of}
-pub use Rattle.jt_inherit.specs.internal.Tags.{place_of, AreFirst, with_name}
+pub use Rattle.jt_inherit.specs.internal.Tags.{place_of, with_name}
 pub use Rattle.std.proofs.Common.{◌≡◌, ℕ, zero, suc, ◌<◌, ◌==◌, Bool, true, false, not, ◌||◌, List, [], ◌∷◌, length}
 pub use Rattle.std.proofs.Common.{map, refl, sym, ap, ◌∙◌, arith, Some, rules, ◌⊎◌, ◌≤◌, ◌-◌, subst, ⊎_elim, Option}
 pub use Rattle.std.proofs.Common.{String, Vec, Global, ◌&&◌, None, ◌+◌, ◌++◌, drop, get_or, inl, string_bytes, inr}
@@ -118,4 +118,8 @@ pub use Rattle.std.proofs.Common.{length-append, nat_lt, cond, take, ◌*◌, en
 pub use Rattle.std.proofs.Common.{IsUtf8, add-one, ◌≢◌, ◌↔◌, All, IsTrue, MatchBool, MatchOption, ◌^◌, lit<, tests}
 pub use Rattle.std.proofs.Common.{IfSome}
 pub use Rattle.jt_uses.specs.UseView.{sites_view}
-pub use Rattle.std.proofs.Math.Bool.{or_assoc, or_comm, or-false}
+pub use Rattle.std.proofs.Math.Bool.{or_assoc, or_comm}
+
+-- What holds of an error holds of the same error that `?` returns.
+pub passed_on : {T E : Type 0} (P : E → Type 0) {e : E} (r : Result T E) → IsErrAnd r (λ x. x ≡ e) → P e → IfErr r P
+passed_on P r a p = let q = err_from_is_err_and r a in rw (q.1, q.2) p

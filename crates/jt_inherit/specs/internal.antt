@@ -2,11 +2,9 @@ pub mod Breaking
 pub mod ExtendsPaths
 pub mod Faults
 pub mod Found
-pub mod Given
 pub mod Numbers
 pub mod Placing
 pub mod RuleTests
-pub mod SetView
-pub mod Sets
 pub mod SuperLines
 pub mod Tags
+pub mod Views

@@ -1,7 +1,7 @@
 //! Finds the tags that break a rule on the blocks, macros and imports of a chain or library.
 
 ghost use Rattle.std.specs.Prelude.{◌≡◌, true, IfOk, IfSome};
-ghost use Rattle.jt_chains.specs.Along.{AreIndices, templates_at};
+ghost use Rattle.jt_chains.specs.Along.{templates_at};
 ghost use Rattle.jt_chains.specs.Chain.{sources_in};
 ghost use Rattle.jt_chains.specs.TemplateFiles.{file_view, files_view};
 ghost use Rattle.jt_inherit.specs.internal.Breaking.{IsOfRule, IsTwiceIn, lacks};
@@ -21,8 +21,7 @@ pub(crate) fn missing_finding(
     indices: &[usize],
     missing: MissingMacro<'_>,
 ) -> Result<ChainFinding, AllocError>
-    requires indices { AreIndices (files_view files.now) indices.now }
-    requires missing { lacks (sources_in (files_view files.now)) missing.library.now
+    requires { lacks (sources_in (files_view files.now)) missing.library.now
         missing.name.now ≡ true }
     ensures { IfOk result (IsOfRule (sources_in (files_view files.now))
         (templates_at (files_view files.now) indices.now) ChainError.NoMacro) }
@@ -50,7 +49,6 @@ pub(crate) fn name_twice(
     indices: &[usize],
     name: &str,
 ) -> Result<ChainFinding, AllocError>
-    requires { AreIndices (files_view files.now) indices.now }
     ensures { IfOk result (IsOfRule (sources_in (files_view files.now))
         (templates_at (files_view files.now) indices.now) ChainError.MacroTwice) }
 {
@@ -99,7 +97,6 @@ pub(crate) fn not_given(
     indices: &[usize],
     name: &str,
 ) -> Result<ChainFinding, AllocError>
-    requires { AreIndices (files_view files.now) indices.now }
     ensures { IfOk result (IsOfRule (sources_in (files_view files.now))
         (templates_at (files_view files.now) indices.now) ChainError.RequiredNotGiven) }
 {
@@ -149,7 +146,6 @@ pub(crate) fn no_super(
     indices: &[usize],
     name: &str,
 ) -> Result<ChainFinding, AllocError>
-    requires { AreIndices (files_view files.now) indices.now }
     ensures { IfOk result (IsOfRule (sources_in (files_view files.now))
         (templates_at (files_view files.now) indices.now) ChainError.NoSuper) }
 {

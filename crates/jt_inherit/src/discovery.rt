@@ -3,15 +3,14 @@
 ghost use Rattle.std.specs.Prelude.{◌≡◌, ◌+◌, ◌<◌, false, length, OnOk, IfOk, IfErr, option_map};
 ghost use Rattle.std.specs.Prelude.{string_bytes};
 ghost use Rattle.jt_chains.specs.Indices.{namespace_at};
-ghost use Rattle.jt_inherit.specs.internal.Found.{AreIndexed, IsDone, IsFirst, IsFound, root_of};
+ghost use Rattle.jt_inherit.specs.internal.Found.{IsDone, IsFirst, IsFound, root_of};
 ghost use Rattle.jt_inherit.specs.internal.Found.{found_namespaces, found_paths, found_templates};
 ghost use Rattle.jt_inherit.specs.Findings as findings;
 ghost use Rattle.jt_inherit.specs.Findings.{IsFinding};
-ghost use Rattle.jt_inherit.specs.internal.Given.{IsGiven, its_files};
 ghost use Rattle.jt_inherit.specs.internal.Placing as spec;
 ghost use Rattle.jt_inherit.specs.internal.Placing.{IsNoLibrary, IsOfImport, LeadsAt};
 ghost use Rattle.jt_inherit.specs.internal.Placing.{leading_at, name_at};
-ghost use Rattle.jt_inherit.specs.internal.SetView.{key_view};
+ghost use Rattle.jt_inherit.specs.internal.Numbers.{key_view};
 ghost use Rattle.jt_inherit.specs.internal.Tags.{place_view, test_of};
 
 use crate::error::ChainError;
@@ -22,7 +21,6 @@ use crate::library::Library;
 use crate::sets::{NamespaceKey, Namespaces};
 use crate::store::TemplateStore;
 use crate::tags::{Wanted, first_at};
-use jt_chains::TemplateFile;
 use jt_scan::Options;
 use std::alloc::{AllocError, Global};
 
@@ -89,7 +87,6 @@ pub(crate) fn leading_tag(
 ) -> Result<Option<TagPlace>, AllocError>
     requires from { from < length found.now.extends_paths.items }
     requires to { to < length (found_namespaces found.now) }
-    requires indices { AreIndexed found.now }
     ensures { IfOk result (λ p. option_map place_view p ≡ leading_at (found_templates found.now)
         (found_paths found.now) (namespace_at (found_namespaces found.now) to) from) }
 {
@@ -104,8 +101,7 @@ pub(crate) fn leading_tag(
 
 /// Returns the place of the first tag that leads to the chain or library of a number.
 fn place_of(alloc: Global, found: &Discovery, number: usize) -> Result<Option<TagPlace>, AllocError>
-    requires number { number < length (found_namespaces found.now) }
-    requires indices { AreIndexed found.now }
+    requires { number < length (found_namespaces found.now) }
     ensures { IfOk result (LeadsAt (found_templates found.now) (found_paths found.now)
         (namespace_at (found_namespaces found.now) number)) }
 {
@@ -124,8 +120,7 @@ fn import_finding(
     found: &Discovery,
     number: usize,
 ) -> Result<ChainFinding, AllocError>
-    requires number { number < length (found_namespaces found.now) }
-    requires indices { AreIndexed found.now }
+    requires { number < length (found_namespaces found.now) }
     ensures { IfOk result (IsOfImport (found_templates found.now) (found_paths found.now)
         (namespace_at (found_namespaces found.now) number)) }
 {
@@ -138,14 +133,6 @@ fn import_finding(
     })
 }
 
-/// Returns the template of a library, if it was read.
-fn library_file<'a>(store: &'a TemplateStore, library: &str) -> Option<&'a TemplateFile>
-    ensures { IsGiven (its_files store.now) library.now result }
-{
-    let index = store.find(library)?;
-    Some(&store.files[index])
-}
-
 /// Returns whether a namespace is a library that was not read or holds something other than macros.
 fn is_no_library(found: &Discovery, namespace: &NamespaceKey) -> bool
     ensures { result ≡ spec.is_no_library (found_templates found.now) (key_view namespace.now) }
@@ -153,16 +140,15 @@ fn is_no_library(found: &Discovery, namespace: &NamespaceKey) -> bool
     if !namespace.is_library {
         return false;
     }
-    match library_file(&found.store, &namespace.name) {
-        Some(file) => !file.is_library(),
+    match found.store.find(&namespace.name) {
+        Some(index) => !found.store.files[index].is_library(),
         None => true,
     }
 }
 
 /// Refuses the library of a number if it holds something other than macros.
 fn check_library(alloc: Global, found: &Discovery, number: usize) -> Result<(), ChainFinding>
-    requires number { number < length (found_namespaces found.now) }
-    requires indices { AreIndexed found.now }
+    requires { number < length (found_namespaces found.now) }
     ensures kept { OnOk result (spec.is_no_library (found_templates found.now)
         (namespace_at (found_namespaces found.now) number) ≡ false) }
     ensures refused { IfErr result (IsNoLibrary (found_templates found.now) (found_paths found.now)

@@ -3,12 +3,11 @@
 ghost use Rattle.std.specs.Prelude.{◌≡◌, false, true, IfOk, MatchOption, option_map};
 ghost use Rattle.jt_ast.specs.StatementView.{body_view};
 ghost use Rattle.jt_ast.specs.Texts.{among};
-ghost use Rattle.jt_chains.specs.Along.{AreIndices};
 ghost use Rattle.jt_chains.specs.TemplateFiles.{file_view};
 ghost use Rattle.jt_inherit.specs.internal.ExtendsPaths.{AreKnown, IsAt, Reads, names};
-ghost use Rattle.jt_inherit.specs.internal.Given.{its_files, its_templates};
+ghost use Rattle.jt_inherit.specs.internal.Views.{its_files, its_templates};
 ghost use Rattle.jt_inherit.specs.internal.Placing.{IsNamedOn, IsParent, extends_at, is_no_library};
-ghost use Rattle.jt_inherit.specs.internal.SetView.{key_view};
+ghost use Rattle.jt_inherit.specs.internal.Numbers.{key_view};
 
 use crate::error::ChainError;
 use crate::finding::{ChainFinding, TagPlace};
@@ -25,17 +24,17 @@ use std::alloc::{AllocError, Global};
 const MAX_TEMPLATES: usize = 64;
 
 /// Returns the number on the path of the template of a name, or `None` if there is none.
-#[tactic(auto, using(crate::proofs::PathsGrow::named_here, crate::proofs::PathsGrow::passed_by, jt_chains::proofs::TemplatesByIndex::index_within))]
+#[tactic(auto, using(crate::proofs::PathsGrow::named_here, crate::proofs::PathsGrow::passed_by, crate::proofs::PathsGrow::templates_past))]
 fn number_on(store: &TemplateStore, extends_path: &[usize], name: &str) -> Option<usize>
-    requires { AreIndices (its_files store.now) extends_path.now }
     ensures { MatchOption result
         (among name.now (names (its_templates store.now extends_path.now)) ≡ false)
         (IsNamedOn (its_files store.now) extends_path.now name.now) }
 {
     for number in 0..extends_path.len() {
-        let index = extends_path[number];
-        if store.files[index].name.as_str() == name {
-            return Some(number);
+        if let Some(file) = store.files.get(extends_path[number]) {
+            if file.name.as_str() == name {
+                return Some(number);
+            }
         }
     }
     None

@@ -2,7 +2,7 @@
 
 ghost use Rattle.std.specs.Prelude.{◌≡◌};
 ghost use Rattle.jt_ast.specs.StatementView.{body_view, given_view};
-ghost use Rattle.jt_chains.specs.Along.{AreIndices, templates_at};
+ghost use Rattle.jt_chains.specs.Along.{templates_at};
 ghost use Rattle.jt_chains.specs.Rules as rules;
 ghost use Rattle.jt_chains.specs.View.{its_sources, its_templates};
 ghost use Rattle.jt_inherit.specs.internal.RuleTests as spec;
@@ -69,15 +69,16 @@ fn missing_in<'a>(chain: &Chain, body: &'a [Stmt]) -> Option<MissingMacro<'a>>
 }
 
 /// Returns the first macro that the templates at `indices` import and the library does not offer.
-#[tactic(auto, using(crate::proofs::PathsGrow::templates_turn, jt_chains::proofs::TemplatesByIndex::index_within))]
+#[tactic(auto, using(crate::proofs::PathsGrow::templates_turn, crate::proofs::PathsGrow::templates_past))]
 pub(crate) fn missing_at<'a>(chain: &'a Chain, indices: &[usize]) -> Option<MissingMacro<'a>>
-    requires { AreIndices (its_templates chain.now) indices.now }
     ensures { Misses (its_sources chain.now) (spec.any_lacks_macros (its_sources chain.now)
         (templates_at (its_templates chain.now) indices.now)) result }
 {
     for index in indices {
-        if let Some(found) = missing_in(chain, chain.templates[*index].template.body()) {
-            return Some(found);
+        if let Some(file) = chain.templates.get(*index) {
+            if let Some(found) = missing_in(chain, file.template.body()) {
+                return Some(found);
+            }
         }
     }
     None

@@ -11,12 +11,12 @@ ghost use Rattle.jt_inherit.specs.internal.Found.{IsPutFault, AreNamespaces, Are
 ghost use Rattle.jt_inherit.specs.internal.Found.{IsNextFault, IsNextFinding, chains_of, lead_to};
 ghost use Rattle.jt_inherit.specs.internal.Found.{leads_to, IsUnmet, HasNeeds, keyed_view};
 ghost use Rattle.jt_inherit.specs.internal.Found.{keyed_needs};
-ghost use Rattle.jt_inherit.specs.internal.Given.{its_files, its_templates};
+ghost use Rattle.jt_inherit.specs.internal.Views.{its_files, its_templates};
 ghost use Rattle.jt_chains.specs.Chain.{libraries_in, listed};
 ghost use Rattle.jt_chains.specs.Needs.{AddsNeeds, library_need, need_view, needed};
 ghost use Rattle.jt_chains.specs.TemplateFiles.{files_view};
-ghost use Rattle.jt_inherit.specs.internal.SetView.{key_view};
-ghost use Rattle.jt_inherit.specs.internal.Sets.{namespaces_view};
+ghost use Rattle.jt_inherit.specs.internal.Numbers.{key_view};
+ghost use Rattle.jt_inherit.specs.internal.Views.{namespaces_view};
 ghost use Rattle.jt_inherit.specs.internal.ExtendsPaths.{AreKnown, HasRead, names};
 
 use crate::error::ChainError;
@@ -66,8 +66,9 @@ fn add_imports<'a>(found: &mut Vec<NeededTemplate<'a>>, body: &'a [Stmt]) -> Res
 {
     for statement in body {
         match statement {
-            Stmt::Import { library, .. } => found.push(imported(library))?,
-            Stmt::From { library, .. } => found.push(imported(library))?,
+            Stmt::Import { library, .. } | Stmt::From { library, .. } => {
+                found.push(imported(library))?
+            }
             _ => {}
         }
     }

@@ -30,7 +30,7 @@ mod store;
 mod supers;
 mod tags;
 
-pub use chaining::{chain, chain_or_finding};
+pub use chaining::chain;
 pub use error::ChainError;
 pub use finding::{ChainFinding, ChainSubject, TagPlace};
 pub use jt_chains::{Block, Chain, Layer, Macro, Namespace, TemplateFile};

@@ -1,9 +1,8 @@
 //! Finds the place and the subject of an error at the name of a template.
 
 ghost use Rattle.std.specs.Prelude.{◌≡◌, ◌+◌, ◌<◌, map, drop, length, IfOk, string_bytes};
-ghost use Rattle.jt_chains.specs.Along.{AreIndices};
 ghost use Rattle.jt_inherit.specs.internal.ExtendsPaths.{names};
-ghost use Rattle.jt_inherit.specs.internal.Given.{its_files, its_templates};
+ghost use Rattle.jt_inherit.specs.internal.Views.{its_templates};
 ghost use Rattle.jt_inherit.specs.internal.Placing.{IsCycle, IsIncludedMore, IsLong, IsNamed};
 ghost use Rattle.jt_inherit.specs.internal.Placing.{IsOfNeed, need_test};
 ghost use Rattle.jt_inherit.specs.internal.Tags.{test_of};
@@ -55,13 +54,15 @@ fn names_along(
     store: &TemplateStore,
     indices: &[usize],
 ) -> Result<Vec<String>, AllocError>
-    requires { AreIndices (its_files store.now) indices.now }
     ensures { IfOk result (λ found. map string_bytes found.items
         ≡ names (its_templates store.now indices.now)) }
 {
     let mut names = Vec::with_capacity(alloc, indices.len())?;
     for index in indices {
-        names.push(String::from_str(alloc, &store.files[*index].name)?)?;
+        let Some(file) = store.files.get(*index) else {
+            continue;
+        };
+        names.push(String::from_str(alloc, &file.name)?)?;
     }
     Ok(names)
 }
@@ -74,8 +75,7 @@ pub(crate) fn cycle_finding(
     start: usize,
     asked: AskedName,
 ) -> Result<ChainFinding, AllocError>
-    requires indices { AreIndices (its_files store.now) extends_path.now }
-    requires start { start < length extends_path.now }
+    requires { start < length extends_path.now }
     ensures { IfOk result (IsCycle asked
         (names (its_templates store.now (drop (start + 1) extends_path.now)))) }
 {
@@ -109,7 +109,6 @@ pub(crate) fn need_finding(
     need: &KeyedNeed,
     error: ChainError,
 ) -> Result<ChainFinding, AllocError>
-    requires { AreIndices (its_files store.now) path.now.extends_path.items }
     ensures { IfOk result (IsOfNeed (its_templates store.now path.now.extends_path.items)
         (string_bytes need.now.namespace.name) error) }
 {
@@ -131,7 +130,6 @@ pub(crate) fn included_finding(
     path: &FollowedPath,
     need: &KeyedNeed,
 ) -> Result<ChainFinding, AllocError>
-    requires { AreIndices (its_files store.now) path.now.extends_path.items }
     ensures { IfOk result (IsIncludedMore (its_templates store.now path.now.extends_path.items)
         (string_bytes need.now.namespace.name)) }
 {

@@ -1,20 +1,17 @@
 //! Checks the rules on the blocks, macros and imports of chains and libraries.
 
-ghost use Rattle.std.specs.Prelude.{◌≡◌, ◌<◌, ◌&&◌, ◌||◌, List, false, length, map, not};
+ghost use Rattle.std.specs.Prelude.{◌≡◌, ◌<◌, List, false, length, map};
 ghost use Rattle.std.specs.Prelude.{IfOk, IfErr, MatchOption, MatchResult, OnOk};
 ghost use Rattle.std.specs.Option.{is_some};
-ghost use Rattle.std.specs.Str.{bytes_eq};
 ghost use Rattle.jt_scan.specs.declared.options.Options.{Options};
-ghost use Rattle.jt_ast.specs.Texts.{among, texts};
+ghost use Rattle.jt_ast.specs.Texts.{repeated as texts_repeat, texts};
 ghost use Rattle.jt_ast.specs.Expressions.{Text};
-ghost use Rattle.jt_ast.specs.Texts.{repeated as texts_repeat};
 ghost use Rattle.jt_names.specs.FactsOfChains.{AllKnown};
 ghost use Rattle.jt_inherit.specs.Chains.{SourceTexts, IsChain};
 ghost use Rattle.jt_inherit.specs.Findings.{IsFinding};
 ghost use Rattle.jt_inherit.specs.Linked.{IsLinked};
-ghost use Rattle.jt_inherit.specs.internal.RuleTests.{block_names as spec_names};
 ghost use Rattle.jt_chains.specs.Along.{AreIndices, templates_at};
-ghost use Rattle.jt_chains.specs.Chain.{Namespace, Template, templates};
+ghost use Rattle.jt_chains.specs.Chain.{Namespace, Template, all_bodies, templates};
 ghost use Rattle.jt_chains.specs.Named.{names_view};
 ghost use Rattle.jt_inherit.specs.internal.RuleTests.{lacks_body, lacks_next};
 ghost use Rattle.jt_inherit.specs.internal.RuleTests as spec;
@@ -29,66 +26,20 @@ use crate::finding::ChainFinding;
 use crate::importing::missing_at;
 use crate::supers::calls_super;
 use jt_chains::{Block, Chain, DefinedName};
-use jt_names::ChainFacts;
+use jt_names::{ChainFacts, NameIndex};
 use std::alloc::{AllocError, Global};
-use std::collections::BTreeSet;
-
-/// Adds a name and returns whether the set had it before.
-fn note<'a>(names: &mut BTreeSet<&'a str>, name: &'a str) -> Result<bool, AllocError>
-    ensures known { IfOk result (λ known. known ≡ among name.now (texts names.old.keys)) }
-    ensures noted { OnOk result ((x : Text) → among x (texts names.new.keys)
-        ≡ (bytes_eq name.now x || among x (texts names.old.keys))) }
-{
-    let added = names.insert(name)?;
-    Ok(!added)
-}
-
-/// Returns the names of bodies, in their order.
-fn block_names<'a>(alloc: Global, blocks: &[Block<'a>]) -> Result<Vec<&'a str>, AllocError>
-    ensures { IfOk result (λ names. texts names.items ≡ spec_names blocks.now) }
-{
-    blocks.iter().map(|block| block.name).collect(alloc)
-}
 
 /// Returns the first name that occurs before, if any.
 fn repeated<'a>(alloc: Global, names: &[&'a str]) -> Result<Option<&'a str>, AllocError>
     ensures { IfOk result (λ found. is_some found ≡ texts_repeat (texts names.now)) }
 {
-    let mut known = BTreeSet::new(alloc);
-    for name in names {
-        if note(&mut known, *name)? {
-            return Ok(Some(*name));
+    let firsts = NameIndex::of(alloc, names, 0)?;
+    for index in 0..names.len() {
+        if firsts.index_of(names[index]) != Some(index) {
+            return Ok(Some(names[index]));
         }
     }
     Ok(None)
-}
-
-/// Returns whether a body is required but does not exist.
-fn is_lacking(there: bool, asked: bool) -> bool
-    ensures { result ≡ (not there && asked) }
-{
-    !there && asked
-}
-
-/// Adds the name of a body, unless the body is a required one.
-#[tactic(auto, using(crate::proofs::BodyRules::given_noted))]
-fn note_given<'a>(given: &mut BTreeSet<&'a str>, block: &Block<'a>) -> Result<(), AllocError>
-    ensures { IfOk result (λ _. (x : Text)
-        → among x (texts given.new.keys)
-        ≡ ((bytes_eq block.now.name.now x && not block.now.required)
-        || among x (texts given.old.keys))) }
-{
-    if !block.required {
-        note(given, block.name)?;
-    }
-    Ok(())
-}
-
-/// Returns the names of definitions, in their order.
-fn defined_names<'a>(alloc: Global, defined: &[DefinedName<'a>]) -> Result<Vec<&'a str>, AllocError>
-    ensures { IfOk result (λ names. texts names.items ≡ map (λ one. one.name.now) defined.now) }
-{
-    defined.iter().map(|one| one.name).collect(alloc)
 }
 
 /// Returns the name that is defined twice, if any.
@@ -99,31 +50,35 @@ fn repeated_definition<'a>(
     ensures { IfOk result (λ found. (ts : List Template) (h : Namespace)
         → is_some found ≡ texts_repeat (map (λ g. g.0) (names_view ts h defined.now))) }
 {
-    let names = defined_names(alloc, defined)?;
+    let names: Vec<&'a str> = defined.iter().map(|one| one.name).collect(alloc)?;
     repeated(alloc, &names)
 }
 
 /// Returns the name that two bodies of blocks have, if any.
 fn repeated_block<'a>(alloc: Global, blocks: &[Block<'a>]) -> Result<Option<&'a str>, AllocError>
-    ensures { IfOk result (λ found. is_some found ≡ texts_repeat (spec_names blocks.now)) }
+    ensures { IfOk result (λ found. (ts : List Template)
+        → is_some found ≡ texts_repeat (map (λ b. b.name) (blocks_view ts blocks.now))) }
 {
-    let names = block_names(alloc, blocks)?;
+    let names: Vec<&'a str> = blocks.iter().map(|block| block.name).collect(alloc)?;
     repeated(alloc, &names)
 }
 
-/// Returns the name of the first block whose nearest body is a required one, if any.
-fn lacking_body<'a>(alloc: Global, blocks: &[Block<'a>]) -> Result<Option<&'a str>, AllocError>
-    ensures { IfOk result
-        (λ found. (ts : List Template) → is_some found ≡ lacks_body (blocks_view ts blocks.now)) }
+/// Returns the name of the first block of a chain or library whose nearest body is a required one,
+/// if any.
+fn lacking_body<'a>(facts: &ChainFacts<'a>, namespace: usize) -> Option<&'a str>
+    requires known { AllKnown facts.now }
+    requires stands { namespace < length facts.now.chain.now.namespaces.items }
+    ensures { is_some result ≡ lacks_body (all_bodies (its_sources facts.now.chain.now)
+        facts.now.chain.now.autoescape (namespace_in facts.now.chain.now namespace)) }
 {
-    let mut names = BTreeSet::new(alloc);
-    for block in blocks {
-        let known = note(&mut names, block.name)?;
-        if is_lacking(known, block.required) {
-            return Ok(Some(block.name));
+    let known = facts.at(namespace);
+    for index in 0..known.blocks.len() {
+        let block = &known.blocks[index];
+        if block.required && known.first_bodies.index_of(block.name) == Some(index) {
+            return Some(block.name);
         }
     }
-    Ok(None)
+    None
 }
 
 /// Returns the name of a block with a body that calls `super()`, if each body after it is required.
@@ -132,15 +87,17 @@ fn lacking_next<'a>(alloc: Global, blocks: &[Block<'a>]) -> Result<Option<&'a st
     ensures { IfOk result
         (λ found. (ts : List Template) → is_some found ≡ lacks_next (blocks_view ts blocks.now)) }
 {
-    let mut given: BTreeSet<&str> = BTreeSet::new(alloc);
+    let mut given = NameIndex::new(alloc);
     let mut left = blocks.len();
     while left > 0 {
         left -= 1;
         let block = &blocks[left];
-        if is_lacking(given.contains(block.name), calls_super(block.body)) {
+        if given.index_of(block.name).is_none() && calls_super(block.body) {
             return Ok(Some(block.name));
         }
-        note_given(&mut given, block)?;
+        if !block.required {
+            given.put(block.name, left)?;
+        }
     }
     Ok(None)
 }
@@ -200,7 +157,7 @@ fn check_rules(alloc: Global, facts: &ChainFacts<'_>, namespace: usize) -> Resul
     if let Some(name) = repeated_definition(alloc, &known.defined)? {
         return Err(name_twice(alloc, files, indices, name)?);
     }
-    if let Some(name) = lacking_body(alloc, &known.blocks)? {
+    if let Some(name) = lacking_body(facts, namespace) {
         return Err(not_given(alloc, files, indices, name)?);
     }
     if let Some(name) = lacking_next(alloc, &known.blocks)? {

@@ -6,7 +6,7 @@ ghost use Rattle.std.specs.Prelude.{◌≡◌, ◌^◌, ◌<◌, ◌++◌, ◌�
 ghost use Rattle.std.specs.Prelude.{Some, OnOk};
 ghost use Rattle.jt_chains.specs.Chain.{listed};
 ghost use Rattle.jt_inherit.specs.internal.Numbers.{AreNumbers, AreNumbers-prop, is_kind};
-ghost use Rattle.jt_inherit.specs.internal.SetView.{FindsIn, key_view, keys_view};
+ghost use Rattle.jt_inherit.specs.internal.Numbers.{FindsIn, key_view, keys_view};
 
 use std::alloc::{AllocError, Global};
 use std::collections::BTreeMap;
@@ -35,7 +35,7 @@ pub(crate) struct Namespaces {
 
 impl Namespaces {
     ghost use Rattle.jt_inherit.specs.internal.Found.{chains_of};
-    ghost use Rattle.jt_inherit.specs.internal.Sets.{namespaces_view};
+    ghost use Rattle.jt_inherit.specs.internal.Views.{namespaces_view};
 
     /// Returns an empty set.
     pub(crate) fn new(alloc: Global) -> Namespaces

@@ -32,8 +32,8 @@ impl TemplateStore {
     ghost use Rattle.jt_chains.specs.TemplateFiles.{file_view};
     ghost use Rattle.jt_inherit.specs.internal.ExtendsPaths.{AreKnown, HasRead, names};
     ghost use Rattle.jt_inherit.specs.internal.Faults.{IsFaultOf};
-    ghost use Rattle.jt_inherit.specs.internal.Given.{its_files};
-    ghost use Rattle.jt_inherit.specs.internal.SetView.{FindsIn};
+    ghost use Rattle.jt_inherit.specs.internal.Views.{its_files};
+    ghost use Rattle.jt_inherit.specs.internal.Numbers.{FindsIn};
     ghost use Rattle.jt_chains.specs.Names.{IsName};
 
     /// Returns a store without templates.

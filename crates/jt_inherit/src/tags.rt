@@ -1,7 +1,7 @@
 //! Finds the tags that a finding names.
 
 ghost use Rattle.std.specs.Prelude.{◌≡◌, ◌++◌, true, option_map, IfOk, IfSome};
-ghost use Rattle.jt_chains.specs.Along.{AreIndices, templates_at};
+ghost use Rattle.jt_chains.specs.Along.{templates_at};
 ghost use Rattle.jt_chains.specs.TemplateFiles.{file_view, files_view};
 ghost use Rattle.jt_inherit.specs.Findings as findings;
 ghost use Rattle.jt_inherit.specs.Findings.{all_uses, uses_in};
@@ -157,13 +157,15 @@ pub(crate) fn tags_at<'a>(
     indices: &[usize],
     wanted: Wanted<'_>,
 ) -> Result<Vec<FoundTag<'a>>, AllocError>
-    requires { AreIndices (files_view files.now) indices.now }
     ensures { IfOk result (λ found. tags_view found.items ≡ tags (test_of wanted.entry)
         (all_uses (templates_at (files_view files.now) indices.now))) }
 {
     let mut found = Vec::new(alloc);
     for index in indices {
-        let mut more = tags_of(alloc, &files[*index], wanted)?;
+        let Some(file) = files.get(*index) else {
+            continue;
+        };
+        let mut more = tags_of(alloc, file, wanted)?;
         found.append(&mut more)?;
     }
     Ok(found)
@@ -176,7 +178,6 @@ pub(crate) fn first_at(
     indices: &[usize],
     wanted: Wanted<'_>,
 ) -> Result<Option<TagPlace>, AllocError>
-    requires { AreIndices (files_view files.now) indices.now }
     ensures { IfOk result (λ p. option_map place_view p ≡ place_in 0 (tags (test_of wanted.entry)
         (all_uses (templates_at (files_view files.now) indices.now)))) }
 {

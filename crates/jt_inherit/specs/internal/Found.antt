@@ -19,8 +19,8 @@ use Rattle.jt_chains.specs.Needs.{Need, need_namespace, includes_along, library_
 use Rattle.jt_chains.specs.TemplateFiles.{namespace_view}
 use Rattle.jt_chains.specs.Indices.{namespace_at}
 use Rattle.jt_chains.specs.Rules.{max_chains, Asks, Reaches}
-use Rattle.jt_inherit.specs.internal.Given.{its_files}
-use Rattle.jt_inherit.specs.internal.Sets.{namespaces_view}
+use Rattle.jt_inherit.specs.internal.Views.{its_files}
+use Rattle.jt_inherit.specs.internal.Views.{namespaces_view}
 use Rattle.jt_inherit.specs.internal.ExtendsPaths.{AreKnown, IsExtendsPath, names}
 use Rattle.jt_inherit.specs.internal.Placing.{IsIncludedMore, IsOfNeed}
 use Rattle.jt_inherit.specs.declared.discovery.Discovery.{Discovery}
@@ -202,13 +202,8 @@ listed_view k = (namespace_view k, k.templates.items)
 abbrev pub listed_at : Discovery → ℕ → chain.Namespace × List ℕ
 listed_at f i = (namespace_at (found_namespaces f) i, next_of (found_paths f) i)
 
--- The paths have indices of templates.
-abbrev pub AreIndexed : Discovery → Type 0
-AreIndexed f = AllByRecursion (AreIndices (found_templates f)) (found_paths f)
-
 -- Each chain or library that was found was followed, and leads to ones that were found.
 pub record AllFollowed (f : Discovery) : Type 0 where
-  pub indices : AreIndexed f
   pub paths : length f.extends_paths.items ≡ length (found_namespaces f)
   pub next : length f.next.items ≡ length (found_namespaces f)
   pub closed : IsClosed (graph_of f.next.items)

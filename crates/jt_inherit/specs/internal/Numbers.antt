@@ -1,16 +1,30 @@
--- Tables of the numbers of templates, of chains and of libraries. Only private clauses cite this
--- module.
-use Rattle.std.specs.Prelude.{◌≡◌, Bool, List, string_bytes}
+-- The views of keys of chains and libraries, and tables of the numbers of templates, of chains and of libraries. Only
+-- private clauses cite this module.
+use Rattle.std.specs.Prelude.{◌≡◌, ℕ, Bool, false, List, map, slice_get, string_bytes, if◌then◌else◌, Option}
+use Rattle.std.specs.Prelude.{Some, MatchOption}
 use Rattle.std.specs.List.{position_from}
 use Rattle.std.specs.Coded.{Coded-set, coded_ℕ, coded_option, Π_prop}
 use Rattle.std.specs.BTreeMap.{get_by_text}
 use Rattle.std.specs.Str.{bytes_eq}
 use Rattle.jt_ast.specs.Expressions.{Text}
-use Rattle.jt_chains.specs.Chain.{same_namespace}
+use Rattle.jt_chains.specs.Chain.{Namespace, a_chain, a_library, same_namespace}
 use Rattle.jt_chains.specs.Tables.{Table}
 use Rattle.jt_chains.specs.declared.files.TemplateFile.{TemplateFile}
-use Rattle.jt_inherit.specs.internal.SetView.{key_view, keyed}
 use Rattle.jt_inherit.specs.declared.sets.NamespaceKey.{NamespaceKey}
+
+-- The library of a name, or its chain.
+abbrev pub keyed : Bool → Text → Namespace
+keyed library n = if library then a_library n else a_chain n
+
+abbrev pub key_view : NamespaceKey → Namespace
+key_view k = keyed k.is_library (string_bytes k.name)
+
+abbrev pub keys_view : List NamespaceKey → List Namespace
+keys_view = map key_view
+
+-- The number of an item in a list, or `None` if the list does not have it.
+abbrev pub FindsIn : {A : Type 0} → (A → List A → Bool) → List A → A → Option ℕ → Type 0
+FindsIn is xs x found = MatchOption found (is x xs ≡ false) (λ i. slice_get xs i ≡ Some x)
 
 -- ---- tests of keys
 

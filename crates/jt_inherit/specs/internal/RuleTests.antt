@@ -26,23 +26,6 @@ lacks_body bs = list_any (λ b. is_required (named b.name bs)) bs
 abbrev pub lacks_next : List BlockBody → Bool
 lacks_next bs = list_any (λ b. lacks_super (named b.name bs)) bs
 
-abbrev pub block_names : List Block → List Text
-block_names bs = map (λ b. b.name.now) bs
-
--- The names that a `from` tag binds to macros that the library offers.
-abbrev pub names_from : List MacroBody → List (Text × Text) → List Text
-names_from ms [] = []
-names_from ms (x ∷ xs) =
-    (if is_some (public_macro x.0 ms) then x.1 ∷ [] else []) ++ names_from ms xs
-
--- The names that the imports of a template bind.
-abbrev pub imported_names : Sources → Body → List Text
-imported_names s end = []
-imported_names s (stmt (import_as line n x) rest) = x ∷ imported_names s rest
-imported_names s (stmt (import_from line n xs) rest) =
-    names_from (macros s (a_library n)) xs ++ imported_names s rest
-imported_names s (stmt t rest) = imported_names s rest
-
 module _ (escaping : Bool) (ts : List Template) where
   abbrev pub their_blocks : List BlockBody
   their_blocks = flat_map (λ t. blocks_in t.name t.body escaping) ts
@@ -50,9 +33,6 @@ module _ (escaping : Bool) (ts : List Template) where
   -- A template has two blocks of one name.
   abbrev pub any_double : Bool
   any_double = list_any (λ t. repeated (map (λ b. b.name) (blocks_in t.name t.body escaping))) ts
-
-abbrev pub their_macros : List Template → List MacroBody
-their_macros ts = flat_map (λ t. macros_in t.name t.body) ts
 
 abbrev pub any_lacks_macros : Sources → List Template → Bool
 any_lacks_macros s ts = list_any (λ t. lacks_macros s t.body) ts

@@ -1,5 +1,5 @@
 use Rattle.jt_inherit.proofs.Vocabulary as words
-use words.{List, refl, sym, ap, subst, ◌∙◌, IfSome, AreFirst, append-nil, file_view, is_block, place_in, tags_view}
+use words.{List, refl, sym, ap, ◌∙◌, append-nil, file_view, is_block, place_in, tags_view}
 use words.{uses_in, FoundTag}
 use Rattle.jt_inherit.proofs.TagPlaces.{second_shows}
 use Rattle.jt_inherit.proofs.breaking.block_twice.Goals as goal
@@ -10,7 +10,7 @@ returns c =
     let test = is_block c.args.name.now in
     let p = c.in-Some.places in
     let found = sym (ap (λ (l : List FoundTag). tags_view l) c.deref.ensures.value ∙ c.in_ok-tags.ensures) in
-    let at = subst (λ o. IfSome o (AreFirst c.deref.result.now)) c.in-Some.is c.in_ok-places.ensures in (
+    let at = (rw c.in-Some.is at c.in_ok-places.ensures) in (
       refl,
       rw c.in_ok-name.ensures.ok
           (rw (append-nil (uses_in t))

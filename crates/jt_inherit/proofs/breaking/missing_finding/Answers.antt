@@ -14,5 +14,5 @@ returns c =
     sym c.in_ok-place.ensures ∙ ap (option_map place_view) c.in-Some.is in
     let named = macro_named (sources_in (files_view c.args.files.now)) ts p (string_bytes c.in_ok-library.library)
     (string_bytes c.in_ok-name.name) library name c.in_ok-library.ensures.ok c.in_ok-name.ensures.ok
-    (first_shows (binds_macro library name) p (all_uses ts) at) c.requires.missing in
+    (first_shows (binds_macro library name) p (all_uses ts) at) c.requires in
     (refl, (refl, named.0, named.1))

@@ -1,5 +1,5 @@
 use Rattle.jt_inherit.proofs.Vocabulary as words
-use words.{refl, sym, ap, subst, ◌∙◌, IfSome, AreFirst, all_uses, defines, files_view, place_in, templates_at}
+use words.{refl, sym, ap, ◌∙◌, all_uses, defines, files_view, place_in, templates_at}
 use Rattle.jt_inherit.proofs.TagPlaces.{second_shows}
 use Rattle.jt_inherit.proofs.breaking.name_twice.Goals as goal
 
@@ -8,7 +8,7 @@ returns c =
     let ts = templates_at (files_view c.args.files.now) c.args.indices.now in
     let p = c.in-Some.places in
     let found = sym (rw c.deref.ensures.value c.in_ok-tags.ensures) in
-    let at = subst (λ o. IfSome o (AreFirst c.deref.result.now)) c.in-Some.is c.in_ok-places.ensures in (
+    let at = (rw c.in-Some.is at c.in_ok-places.ensures) in (
       refl,
       (
         refl,

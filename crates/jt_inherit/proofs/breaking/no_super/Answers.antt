@@ -1,5 +1,5 @@
 use Rattle.jt_inherit.proofs.Vocabulary as words
-use words.{ℕ, List, refl, sym, ap, subst, ◌∙◌, Text, Site, files_view, templates_at, IsLastCall, tag_view}
+use words.{ℕ, refl, sym, ap, ◌∙◌, Text, files_view, templates_at, tag_view}
 use Rattle.jt_inherit.proofs.breaking.no_super.Goals as goal
 
 pub returns : goal.returns
@@ -7,8 +7,7 @@ returns c =
     let ts = templates_at (files_view c.args.files.now) c.args.indices.now in
     let call = c.in-Some.call in
     let tag = tag_view call.block in
-    let found = subst (λ (l : List (Text × Site)). IsLastCall l tag call.line) c.in_ok-named.ensures
-    c.in-Some.ensures in
+    let found = (rw c.in_ok-named.ensures at c.in-Some.ensures) in
     let at = c.in_ok-place.ensures in
     let begun = c.in_ok-opened.ensures in (
       refl,

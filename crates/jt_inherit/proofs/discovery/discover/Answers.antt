@@ -12,9 +12,7 @@ chains-init g c =
     let root = ap (λ l. namespace_name (namespace_at l 0)) i.namespaces in
     record {
       found =
-          found_first (g.L.Library.sources c.args.library.now) c.args.options c.args.entry.now
-          (root_of f) (found_templates f) (found_namespaces f) (graph_of f.extends_paths.items)
-          (graph_of f.next.items) i.namespaces root (ap files_view i.files) (ap graph_of i.extends_paths)
+          found_first _ _ _ _ _ _ _ _ i.namespaces root (ap files_view i.files) (ap graph_of i.extends_paths)
           (ap graph_of i.next);
       root = root;
     }

@@ -1,27 +1,27 @@
 use Rattle.jt_inherit.proofs.Vocabulary as words
-use words.{rules, ◌≡◌, ◌<◌, List, ℕ, sym, ap, subst, ◌∙◌, arith, length, Vec, Global, length-map, err_from_is_err_and}
+use words.{rules, ◌≡◌, ◌<◌, List, ℕ, sym, ap, subst, ◌∙◌, arith, length, Vec, Global, length-map, passed_on}
 use words.{graph_of, HasPath, found_namespaces, root_of, key_view, namespaces_view, of_namespaces, indexed_among}
 use words.{map_push, SourceTexts, Options, Template, Namespace, its_files}
+use words.{Discovery, Some, slice_get, found_paths}
 use Rattle.jt_inherit.proofs.FindingsHold.{need_finds, next_finds, library_finds}
-use Rattle.jt_inherit.proofs.DiscoveryInvariant.{namespace_number, reached_here, reached_there, found_more, has_needs}
+use Rattle.jt_inherit.proofs.DiscoveryInvariant.{reached_here, reached_there, found_more, has_needs}
 use Rattle.jt_inherit.proofs.DiscoveryInvariant.{chosen_there, first_same, reached_from, way_there}
 use Rattle.jt_inherit.proofs.TopologicalOrder.{namespace_among}
-use Rattle.jt_inherit.proofs.ChainComplete.{ways_indexed}
 use Rattle.jt_inherit.proofs.discovery.follow.Goals as goal
 
--- The path by an equal list of indices.
-its_path : {given : SourceTexts} {options : Options} {ts us : List Template} {h : Namespace} {v w : Vec ℕ Global}
-    → v ≡ w → HasPath given options ts us h v.items → HasPath given options ts us h w.items
-its_path {given} {options} {ts} {us} {h} e = subst (λ (z : Vec ℕ Global). HasPath given options ts us h z.items) e
+-- The next chain or library to follow.
+next_here : (f : Discovery) {i : ℕ} (h : Namespace) → i ≡ f.extends_paths.len
+    → slice_get (found_namespaces f) i ≡ Some h → slice_get (found_namespaces f) (length (found_paths f)) ≡ Some h
+next_here f {i} h e at =
+    let count : i ≡ length (found_paths f) =
+    omega (arith, f.extends_paths.ok.0, length-map f.extends_paths.items (λ (v : Vec ℕ Global). v.items)) in
+    rw (← count) at
 
 pub get-namespace-requires : goal.get-namespace-requires
 get-namespace-requires g c = search (arith, rules, length-map)
 
-pub check_library-requires-clause-indices : goal.check_library-requires-clause-indices
-check_library-requires-clause-indices g c = search (arith, rules, ways_indexed)
-
-pub check_library-requires-clause-number : goal.check_library-requires-clause-number
-check_library-requires-clause-number g c =
+pub check_library-requires : goal.check_library-requires
+check_library-requires g c =
     omega (arith, c.len-number.ensures, c.args.found.now.extends_paths.ok.0, c.requires.more)
 
 pub returns-in_err-check_library-clause-refused : goal.returns-in_err-check_library-clause-refused
@@ -29,8 +29,7 @@ returns-in_err-check_library-clause-refused g c =
     let f = c.args.found.now in
     let lt : c.len-number.result < length (found_namespaces f) =
     omega (arith, c.len-number.ensures, f.extends_paths.ok.0, c.requires.more) in
-    let p = err_from_is_err_and c.from_residual.result c.from_residual.ensures.1 in
-    rw (p.1, p.2)
+    passed_on _ c.from_residual.result c.from_residual.ensures.1
     (library_finds c.requires.found _ (namespace_among (found_namespaces f) c.len-number.result lt)
     c.in_err-check_library.field-0.0 c.in_err-check_library.ensures.refused)
 
@@ -40,14 +39,11 @@ read_namespace-requires-clause-library g c = search (arith, rules)
 pub returns-in_err-extends_path-clause-refused : goal.returns-in_err-extends_path-clause-refused
 returns-in_err-extends_path-clause-refused g c =
     let f = c.args.found.now in
-    let at = namespace_number (found_namespaces f) f.extends_paths.items _ c.len-number.result
-    (omega (arith, c.len-number.ensures, f.extends_paths.ok.0)) c.get-namespace.ensures in
-    let p =
-    err_from_is_err_and c.from_residual-in_err-extends_path.result c.from_residual-in_err-extends_path.ensures.1 in
+    let at = next_here f _ c.len-number.ensures c.get-namespace.ensures in
     let here = c.requires.found.reached (key_view c.get-namespace.result.now)
     (indexed_among of_namespaces (found_namespaces f) (length (graph_of f.extends_paths.items))
     (key_view c.get-namespace.result.now) at) in
-    rw (p.1, p.2) (record {
+    passed_on _ c.from_residual-in_err-extends_path.result c.from_residual-in_err-extends_path.ensures.1 (record {
       broken = c.in_err-extends_path.ensures.0 (root_of f) here;
       says = c.in_err-extends_path.ensures.1 (root_of f) here;
     })
@@ -55,12 +51,10 @@ returns-in_err-extends_path-clause-refused g c =
 pub returns-in_err-read_needs-clause-refused : goal.returns-in_err-read_needs-clause-refused
 returns-in_err-read_needs-clause-refused g c =
     let f = c.args.found.now in
-    let at = namespace_number (found_namespaces f) f.extends_paths.items _ c.len-number.result
-    (omega (arith, c.len-number.ensures, f.extends_paths.ok.0)) c.get-namespace.ensures in
+    let at = next_here f _ c.len-number.ensures c.get-namespace.ensures in
     let told = c.in_ok-path.ensures.told in
-    let p = its_path (sym c.in_ok-path.ensures.same) c.in_ok-extends_path.ensures in
-    let e = err_from_is_err_and c.from_residual-in_err-read_needs.result c.from_residual-in_err-read_needs.ensures.1 in
-    rw (e.1, e.2) (need_finds p.read.known (reached_here c.requires.found at p) p.led c.in_err-read_needs.field-0.0
+    let p = (rw (sym c.in_ok-path.ensures.same) at c.in_ok-extends_path.ensures) in
+    passed_on _ c.from_residual-in_err-read_needs.result c.from_residual-in_err-read_needs.ensures.1 (need_finds p.read.known (reached_here c.requires.found at p) p.led c.in_err-read_needs.field-0.0
     c.in_err-read_needs.ensures.refused)
 
 pub next_namespaces-requires-clause-path : goal.next_namespaces-requires-clause-path
@@ -69,23 +63,20 @@ next_namespaces-requires-clause-path g c = has_needs c.in_ok-path.ensures.told c
 pub returns-in_err-next-clause-refused : goal.returns-in_err-next-clause-refused
 returns-in_err-next-clause-refused g c =
     let f = c.args.found.now in
-    let at = namespace_number (found_namespaces f) f.extends_paths.items _ c.len-number.result
-    (omega (arith, c.len-number.ensures, f.extends_paths.ok.0)) c.get-namespace.ensures in
+    let at = next_here f _ c.len-number.ensures c.get-namespace.ensures in
     let told = c.in_ok-path.ensures.told in
-    let p = its_path (sym c.in_ok-path.ensures.same) c.in_ok-extends_path.ensures in
+    let p = (rw (sym c.in_ok-path.ensures.same) at c.in_ok-extends_path.ensures) in
     let r = c.in_ok-read_needs.ensures.read in
-    let e = err_from_is_err_and c.from_residual-in_err-next.result c.from_residual-in_err-next.ensures.1 in
-    rw (e.1, e.2) (next_finds r.known (reached_there c.requires.found at p told.told r)
+    passed_on _ c.from_residual-in_err-next.result c.from_residual-in_err-next.ensures.1 (next_finds r.known (reached_there c.requires.found at p told.told r)
     (way_there c.requires.found at p told.told r) _ (reached_from c.requires.found at p told.told r)
     (chosen_there c.requires.found at p told.told r) c.in_err-next.field-0.0 c.in_err-next.ensures.refused)
 
 pub returns-clause-found : goal.returns-clause-found
 returns-clause-found g c =
     let f = c.args.found.now in
-    let at = namespace_number (found_namespaces f) f.extends_paths.items _ c.len-number.result
-    (omega (arith, c.len-number.ensures, f.extends_paths.ok.0)) c.get-namespace.ensures in
+    let at = next_here f _ c.len-number.ensures c.get-namespace.ensures in
     let told = c.in_ok-path.ensures.told in
-    let p = its_path (sym c.in_ok-path.ensures.same) c.in_ok-extends_path.ensures in
+    let p = (rw (sym c.in_ok-path.ensures.same) at c.in_ok-extends_path.ensures) in
     let r = c.in_ok-read_needs.ensures.read in
     let numbers = c.in_ok-next.ensures.next in
     let ts = its_files c.read_needs.new.store in
@@ -101,8 +92,7 @@ returns-clause-found g c =
 pub returns-clause-root : goal.returns-clause-root
 returns-clause-root g c =
     let f = c.args.found.now in
-    let at = namespace_number (found_namespaces f) f.extends_paths.items _ c.len-number.result
-    (omega (arith, c.len-number.ensures, f.extends_paths.ok.0)) c.get-namespace.ensures in
+    let at = next_here f _ c.len-number.ensures c.get-namespace.ensures in
     let told = c.in_ok-path.ensures.told in
-    let p = its_path (sym c.in_ok-path.ensures.same) c.in_ok-extends_path.ensures in
+    let p = (rw (sym c.in_ok-path.ensures.same) at c.in_ok-extends_path.ensures) in
     first_same c.requires.found at p told.told c.in_ok-read_needs.ensures.read c.in_ok-next.ensures.next

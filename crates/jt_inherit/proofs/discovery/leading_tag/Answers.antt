@@ -1,17 +1,8 @@
 use Rattle.jt_inherit.proofs.Vocabulary as words
-use words.{◌≡◌, refl, sym, ap, ◌∙◌, graph_of, AreIndices, namespace_at, leads_to, found_namespaces, found_templates}
+use words.{◌≡◌, refl, sym, ap, ◌∙◌, graph_of, namespace_at, leads_to, found_namespaces}
 use words.{test_of}
-use Rattle.jt_inherit.proofs.ChainComplete.{at_number, way_at}
+use Rattle.jt_inherit.proofs.ChainComplete.{way_at}
 use Rattle.jt_inherit.proofs.discovery.leading_tag.Goals as goal
-
-pub first_at-requires : goal.first_at-requires
-first_at-requires c =
-    let f = c.args.found.now in
-    let is = c.deref-2.result.now in
-    let here = way_at f.extends_paths.items f.extends_paths.items c.args.from c.index.result.now is refl
-    c.requires.from c.index.ensures c.deref-2.ensures.value in
-    rw (c.deref.ensures.value, ← here.1)
-    (at_number (AreIndices (found_templates f)) (graph_of f.extends_paths.items) c.args.from here.0 c.requires.indices)
 
 pub returns : goal.returns
 returns c =

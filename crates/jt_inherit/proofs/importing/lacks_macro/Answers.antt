@@ -1,6 +1,6 @@
 use Rattle.jt_inherit.proofs.Vocabulary as words
 use words.{◌≡◌, ◌<◌, ◌≤◌, ◌&&◌, true, false, not, length, get_or, sym, ap, ◌∙◌, is_some, body_of, holds_macros}
-use words.{macros_held, public_macro}
+use words.{public_macro, library_macros, string_bytes}
 use Rattle.jt_inherit.proofs.StoreLookup.{file_lacks, no_file_lacks}
 use Rattle.jt_inherit.proofs.importing.lacks_macro.Goals as goal
 
@@ -16,7 +16,7 @@ returns-then-is_library c =
     let is : p ≡ get_or ps i p = rw c.deref.ensures.value at (found.1 p) in
     let held : holds_macros (body_of p.template) ≡ true = sym c.is_library.ensures ∙ c.if-is_library.true in
     sym (file_lacks ps c.args.library.now x i c.file_named.ensures whole.once p lt is
-    ∙ ap (λ b. b && not (is_some (public_macro x (macros_held p)))) held ∙ ap not (sym c.gives.ensures))
+    ∙ ap (λ b. b && not (is_some (public_macro x (library_macros (string_bytes p.name) (body_of p.template))))) held ∙ ap not (sym c.gives.ensures))
 
 pub returns-else-is_library : goal.returns-else-is_library
 returns-else-is_library c =
@@ -30,7 +30,7 @@ returns-else-is_library c =
     let is : p ≡ get_or ps i p = rw c.deref.ensures.value at (found.1 p) in
     let held : holds_macros (body_of p.template) ≡ false = sym c.is_library.ensures ∙ c.if-is_library.false in
     c.if-is_library.false ∙ sym (file_lacks ps c.args.library.now x i c.file_named.ensures whole.once p lt is
-    ∙ ap (λ b. b && not (is_some (public_macro x (macros_held p)))) held)
+    ∙ ap (λ b. b && not (is_some (public_macro x (library_macros (string_bytes p.name) (body_of p.template))))) held)
 
 pub returns-in-None : goal.returns-in-None
 returns-in-None c =

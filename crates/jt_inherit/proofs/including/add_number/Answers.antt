@@ -1,5 +1,5 @@
 use Rattle.jt_inherit.proofs.Vocabulary as words
-use words.{◌≡◌, ℕ, ◌∷◌, [], List, Some, ap, sym, ◌∙◌, err_from_is_err_and, Text, KeyedNeed, Template, keyed_view, names}
+use words.{◌≡◌, ℕ, ◌∷◌, [], List, Some, ap, sym, ◌∙◌, passed_on, Text, KeyedNeed, Template, keyed_view, names}
 use words.{of_texts, indexed_among, key_view, slice_get, its_files}
 use Rattle.jt_inherit.specs.internal.Found.{leads_to}
 use Rattle.jt_inherit.proofs.DiscoveryInvariant.{one_known}
@@ -15,8 +15,7 @@ leads ts n i x at is =
 pub returns-in_err-number-clause-refused : goal.returns-in_err-number-clause-refused
 returns-in_err-number-clause-refused c =
     let n = c.args.need.now in
-    let p = err_from_is_err_and c.from_residual.result c.from_residual.ensures.1 in
-    rw (p.1, p.2)
+    passed_on _ c.from_residual.result c.from_residual.ensures.1
     (rw (← (leads (its_files c.args.store.now) n c.in-Some._index _ c.in-Some.ensures c.deref.ensures))
     c.in_err-number.ensures.refused)
 

@@ -1,5 +1,5 @@
 use Rattle.jt_inherit.proofs.Vocabulary as words
-use words.{arith, string_bytes, length-map, err_from_is_err_and, key_view, namespaces_view}
+use words.{arith, string_bytes, length-map, passed_on, key_view, namespaces_view}
 use Rattle.jt_inherit.proofs.DiscoveryInvariant.{next_there, next_new, put_fault}
 use Rattle.jt_inherit.proofs.including.number_of.Goals as goal
 
@@ -10,8 +10,7 @@ returns-in-Some-clause-next c =
 
 pub returns-in_err-put_new-clause-refused : goal.returns-in_err-put_new-clause-refused
 returns-in_err-put_new-clause-refused c =
-    let p = err_from_is_err_and c.from_residual.result c.from_residual.ensures.1 in
-    rw (p.1, p.2)
+    passed_on _ c.from_residual.result c.from_residual.ensures.1
     (put_fault (namespaces_view c.args.namespaces.now) (key_view c.args.namespace.now)
     (string_bytes c.args.namespace.now.name) c.in_err-put_new.field-0.0
     c.requires.once c.in_default.ensures c.in_err-put_new.ensures.refused)

@@ -1,14 +1,10 @@
 use Rattle.jt_inherit.proofs.Vocabulary as words
 use words.{◌≡◌, ◌+◌, ◌++◌, ◌∷◌, [], true, take, sym, ap, ◌∙◌, string_bytes, IsMet, among, keyed_needs, keyed_view}
 use words.{needed, names, among_front, among_behind, of_texts, templates_at, KeyedNeed, its_files}
-use Rattle.jt_inherit.proofs.DiscoveryInvariant.{met_turn, met_read, needed_turn, has_needs}
+use Rattle.jt_inherit.proofs.DiscoveryInvariant.{met_turn, met_read, needed_turn}
 use Rattle.jt_inherit.proofs.PathsGrow.{read_on, templates_grow}
 use Rattle.jt_inherit.proofs.FindingsHold.{unmet_need}
 use Rattle.jt_inherit.proofs.including.read_needs.Goals as goal
-
-pub need_finding-requires : goal.need_finding-requires
-need_finding-requires g c =
-    rw c.in-Err.ensures.same (has_needs c.requires.path c.loop-need.invariant.read).indices
 
 pub returns-in-Err-clause-refused : goal.returns-in-Err-clause-refused
 returns-in-Err-clause-refused g c =

@@ -1,6 +1,5 @@
-use Rattle.jt_inherit.proofs.Vocabulary.{err_from_is_err_and}
+use Rattle.jt_inherit.proofs.Vocabulary.{passed_on, all_weaker}
 use Rattle.jt_inherit.proofs.NumberTables.{files_at}
-use Rattle.jt_inherit.proofs.PathsGrow.{all_short}
 use Rattle.jt_inherit.proofs.RingFound.{order_finds}
 use Rattle.jt_inherit.proofs.ChainIsUnique.{no_chain}
 use Rattle.jt_inherit.proofs.ChainComplete.{some_namespaces, begins_chain, in_order, all_whole, linked, weighs}
@@ -10,8 +9,8 @@ use Rattle.jt_inherit.proofs.linking.link.Goals as goal
 pub returns-in_err-order-clause-refused : goal.returns-in_err-order-clause-refused
 returns-in_err-order-clause-refused g c =
     let d = c.in_ok-found.ensures.done in
-    let p = err_from_is_err_and c.from_residual-in_err-order.result c.from_residual-in_err-order.ensures.1 in
-    rw (p.1, p.2) (order_finds d.found (all d) c.in_err-order.field-0.0 c.in_err-order.ensures.refused)
+    passed_on _ c.from_residual-in_err-order.result c.from_residual-in_err-order.ensures.1
+    (order_finds d.found (all d) c.in_err-order.field-0.0 c.in_err-order.ensures.refused)
 
 pub invariant_of-result : goal.invariant_of-result
 invariant_of-result g c =
@@ -41,7 +40,7 @@ returns-clause-weighs g c =
 
 pub returns-clause-short : goal.returns-clause-short
 returns-clause-short g c =
-    all_short (g.L.Library.sources c.args.library.now) _ c.in_ok-found.ensures.done.found.known.within
+    all_weaker (λ t w. w.short) _ c.in_ok-found.ensures.done.found.known.within
 
 pub returns-clause-few : goal.returns-clause-few
 returns-clause-few g c =
@@ -52,14 +51,12 @@ returns-clause-few g c =
 
 pub returns-in_err-found-clause-only : goal.returns-in_err-found-clause-only
 returns-in_err-found-clause-only g c =
-    let p = err_from_is_err_and c.from_residual.result c.from_residual.ensures.1 in
-    rw (p.1, p.2) (λ x i. no_chain (g.L.Library.sources c.args.library.now) c.args.options c.args.entry.now x i
-    c.in_err-found.field-0.0.error c.in_err-found.ensures.refused.broken)
+    λ x i. passed_on _ c.from_residual.result c.from_residual.ensures.1
+    (no_chain _ _ _ x i c.in_err-found.field-0.0.error c.in_err-found.ensures.refused.broken)
 
 pub returns-in_err-order-clause-only : goal.returns-in_err-order-clause-only
 returns-in_err-order-clause-only g c =
     let d = c.in_ok-found.ensures.done in
-    let p = err_from_is_err_and c.from_residual-in_err-order.result c.from_residual-in_err-order.ensures.1 in
     let e = c.in_err-order.field-0.0 in
-    rw (p.1, p.2) (λ x i. no_chain (g.L.Library.sources c.args.library.now) c.args.options c.args.entry.now x i e.error
-    (order_finds d.found (all d) e c.in_err-order.ensures.refused).broken)
+    λ x i. passed_on _ c.from_residual-in_err-order.result c.from_residual-in_err-order.ensures.1
+    (no_chain _ _ _ x i e.error (order_finds d.found (all d) e c.in_err-order.ensures.refused).broken)

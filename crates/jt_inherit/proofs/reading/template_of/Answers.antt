@@ -3,7 +3,6 @@ use Rattle.std.proofs.lemmas.Str.{IsUtf8-string_bytes}
 use Rattle.jt_scan.specs.Cut.{weight_of}
 use Rattle.jt_inherit.proofs.SourceErrors.{limited, tree_found, only_tree, no_tree, unspelled}
 use Rattle.jt_inherit.proofs.TreeLengths.{taken, few_chars, few_bytes, cut_short}
-use Rattle.jt_parse.specs.declared.error.ParseError.TheVariants as parse_error
 use Rattle.jt_inherit.proofs.reading.template_of.Goals as goal
 
 pub returns-in-Ok-parse-clause-weighs : goal.returns-in-Ok-parse-clause-weighs

@@ -1,6 +1,7 @@
-use Rattle.jt_inherit.proofs.Vocabulary.{◌≡◌, ◌<◌, ◌≤◌, subst, sym, arith, ⊎_elim, cases_lt, err_from_is_err_and}
+use Rattle.jt_inherit.proofs.Vocabulary.{◌≡◌, ◌<◌, ◌≤◌, subst, sym, arith, ⊎_elim, cases_lt, passed_on}
 use Rattle.jt_inherit.specs.internal.Breaking.{KeepsAt}
 use Rattle.jt_inherit.proofs.ChainsChecked.{checked, only_chain, only_memory, rule_finds}
+use Rattle.std.proofs.lemmas.Result.{err_from_is_err_and}
 use Rattle.jt_inherit.proofs.rules.check_chains.Goals as goal
 
 pub loop-namespace-preserved : goal.loop-namespace-preserved
@@ -28,17 +29,16 @@ returns-clause-only c = λ given entry options l other is.
 
 pub returns-in_err-check_rules-clause-refused : goal.returns-in_err-check_rules-clause-refused
 returns-in_err-check_rules-clause-refused c =
-    let p = err_from_is_err_and c.from_residual.result c.from_residual.ensures.1 in
-    rw (p.1, p.2) (λ given entry options l.
-    rule_finds c.args.facts.now.chain.now l c.loop-namespace.namespace
+    λ given entry options l. passed_on _ c.from_residual.result c.from_residual.ensures.1
+    (rule_finds c.args.facts.now.chain.now l c.loop-namespace.namespace
     (omega (arith, c.len-namespace-end.ensures, c.loop-namespace-test.true)) c.in_err-check_rules.field-0.0
     c.in_err-check_rules.ensures.broken)
 
 pub returns-in_err-check_rules-clause-only : goal.returns-in_err-check_rules-clause-only
 returns-in_err-check_rules-clause-only c =
-    let p = err_from_is_err_and c.from_residual.result c.from_residual.ensures.1 in
     let whole = c.args.facts.now.chain.now in
     let e = c.in_err-check_rules.field-0.0 in
+    let p = err_from_is_err_and c.from_residual.result c.from_residual.ensures.1 in
     rw (p.1, p.2) (λ given entry options l other is.
     only_memory whole l other is e
     (rule_finds whole l c.loop-namespace.namespace

@@ -1,6 +1,6 @@
-use Rattle.jt_inherit.proofs.Vocabulary.{arith, ap, ◌∙◌, is_some, length-map, file_view, index_within}
+use Rattle.jt_inherit.proofs.Vocabulary.{arith, ap, sym, true, false, ◌∙◌, is_some, length-map, file_view, index_within}
 use Rattle.jt_chains.specs.View.{its_sources, its_templates}
-use Rattle.jt_inherit.proofs.BodyRules.{double_found, double_none}
+use Rattle.jt_inherit.proofs.BodyRules.{double_left}
 use Rattle.jt_inherit.proofs.TagPlaces.{twice_rule}
 use Rattle.jt_inherit.proofs.rules.double_block.Goals as goal
 
@@ -13,9 +13,9 @@ returns-in-Some c =
     let lt = c.loop-index-test.true in
     let within = index_within ps is k lt c.requires.indices in (
       c.loop-index.invariant
-          ∙ double_found whole.autoescape (its_templates whole) is k lt (omega (arith, within, length-map ps file_view))
-          c.blocks_at.result.now (is_some c.in_ok-name.field-0) c.blocks_at.ensures c.in_ok-name.ensures
-          (ap is_some c.in-Some.is),
+          ∙ double_left whole.autoescape (its_templates whole) is k lt (omega (arith, within, length-map ps file_view))
+          c.blocks_at.result.now true c.blocks_at.ensures
+          (sym (ap is_some c.in-Some.is) ∙ c.in_ok-name.ensures (its_templates whole)),
       twice_rule (its_sources whole) ps is k c.index.result.now c.in_ok-block_twice.field-0 lt within c.index.ensures
           c.in_ok-block_twice.ensures,
     )
@@ -29,6 +29,6 @@ loop-index-preserved c =
     let lt = c.loop-index-test.true in
     let within = index_within ps is k lt c.requires.indices in
     c.loop-index.invariant
-    ∙ double_none whole.autoescape (its_templates whole) is k lt (omega (arith, within, length-map ps file_view))
-    c.blocks_at.result.now (is_some c.in_ok-name.field-0) c.blocks_at.ensures c.in_ok-name.ensures
-    (ap is_some c.in_default.is)
+    ∙ double_left whole.autoescape (its_templates whole) is k lt (omega (arith, within, length-map ps file_view))
+    c.blocks_at.result.now false c.blocks_at.ensures
+    (sym (ap is_some c.in_default.is) ∙ c.in_ok-name.ensures (its_templates whole))

@@ -1,36 +1,52 @@
-use Rattle.jt_inherit.proofs.Vocabulary as words
-use words.{◌∷◌, [], take, sym, ap, ◌∙◌, map-append, among, texts, block_names, Block, blocks_view, take_all}
-use Rattle.jt_inherit.proofs.BodyRules.{among_set, body_lacking, body_goes, take_next, all_given}
+use Rattle.jt_inherit.proofs.Vocabulary.{◌<◌, ◌≤◌, length, length-map, sym, ap, subst, ◌∙◌, arith, lacks_body, blocks_view, block_view}
+use Rattle.jt_inherit.proofs.Vocabulary.{take_all}
+use Rattle.jt_chains.specs.View.{its_templates}
+use Rattle.jt_names.specs.Names.{first_of}
+use Rattle.jt_inherit.proofs.BodyRules.{AreGiven, body_lacking, body_goes, all_given, names_of, index_is, index_not}
+use Rattle.jt_inherit.proofs.rules.lacking_body.Goals.{else-block-via-then-block+else-eq, else-block-via-else-block}
 use Rattle.jt_inherit.proofs.rules.lacking_body.Goals as goal
 
-pub returns-then-is_lacking : goal.returns-then-is_lacking
-returns-then-is_lacking c =
-    λ ts.
-    let l = c.loop-block in
-    sym (body_lacking ts c.args.blocks.now l.block-index c.block-item.result c.loop-block-test.true c.block-item.is
-    (texts l.names.keys) l.invariant.0
-    (rw (← c.in_ok-known.ensures.known) (sym c.is_lacking.ensures
-    ∙ c.if-is_lacking.true)))
+pub returns-then-eq : goal.returns-then-eq
+returns-then-eq c =
+    let known = c.at-known.ensures in
+    let bodies = c.at-known.result.now.blocks in
+    let x = c.index-block.result.now in
+    let lt : c.loop-index.index < length bodies.items =
+    omega (arith, c.loop-index-test.true, c.len-index-end.ensures, bodies.ok.0) in
+    sym (ap lacks_body (sym known.all_blocks)
+    ∙ body_lacking (its_templates c.args.facts.now.chain.now) bodies.items c.loop-index.index x lt c.index-block.ensures
+    c.if-block.true
+    (ap (λ bs. first_of x.name.now 0 (names_of bs)) known.all_blocks ∙ sym (known.first_bodies x.name.now)
+    ∙ sym c.index_of.ensures ∙ index_is _ _ (sym c.if-eq.ensures)))
 
-pub loop-block-preserved : goal.loop-block-preserved
-loop-block-preserved c =
-    let l = c.loop-block in
-    let x = c.block-item.result in (
-      λ y. among_set (texts l.names.keys) (texts c.note.new.names.keys)
-          (block_names (take l.block-index c.args.blocks.now)) x.name.now l.invariant.0 c.in_ok-known.ensures.noted y
-          ∙ ap (among y) (sym (ap block_names
-          (take_next c.args.blocks.now l.block-index x c.loop-block-test.true c.block-item.is)
-          ∙ map-append (λ (b : Block). b.name.now) (take l.block-index c.args.blocks.now) (x ∷ []))),
-      λ ts. body_goes ts c.args.blocks.now l.block-index x c.loop-block-test.true c.block-item.is (texts l.names.keys)
-          l.invariant.0 (l.invariant.1 ts)
-          (rw (← c.in_ok-known.ensures.known) (sym c.is_lacking.ensures
-          ∙ c.if-is_lacking.false)),
-    )
+pub loop-index-preserved : goal.loop-index-preserved
+loop-index-preserved c =
+    let known = c.at-known.ensures in
+    let bodies = c.at-known.result.now.blocks in
+    let x = c.index-block.result.now in
+    let lt : c.loop-index.index < length bodies.items =
+    omega (arith, c.loop-index-test.true, c.len-index-end.ensures, bodies.ok.0) in
+    body_goes (its_templates c.args.facts.now.chain.now) bodies.items c.loop-index.index x lt c.index-block.ensures
+    (λ e. elim c.else-block.branch [
+      | else-block-via-then-block+else-eq w ↦ absurd (index_not _ _ (sym w.if-eq.ensures) (w.index_of.ensures
+          ∙ known.first_bodies x.name.now
+          ∙ ap (λ bs. first_of x.name.now 0 (names_of bs)) (sym known.all_blocks) ∙ e))
+      | else-block-via-else-block w ↦ w.if-block.false
+    ])
+    c.loop-index.invariant
 
 pub returns : goal.returns
 returns c =
-    λ ts.
-    let l = c.loop-block in
-    let whole = take_all l.block-index c.args.blocks.now c.loop-block-test.false in
-    sym (all_given (blocks_view ts c.args.blocks.now)
-    (rw (← whole) (l.invariant.1 ts)))
+    let known = c.at-known.ensures in
+    let bodies = c.at-known.result.now.blocks in
+    let bs = blocks_view (its_templates c.args.facts.now.chain.now) bodies.items in
+    let le : length bs ≤ c.loop-index.index =
+    omega (
+      arith,
+      c.loop-index-test.false,
+      c.len-index-end.ensures,
+      bodies.ok.0,
+      length-map bodies.items (block_view (its_templates c.args.facts.now.chain.now)),
+    ) in
+    sym (ap lacks_body (sym known.all_blocks)
+    ∙ all_given bs (subst (λ l. AreGiven l) (take_all c.loop-index.index bs le) c.loop-index.invariant))

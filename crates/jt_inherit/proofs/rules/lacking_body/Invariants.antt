@@ -1,8 +1,7 @@
-use Rattle.jt_inherit.proofs.Vocabulary.{◌≡◌, List, take, Text, among, texts, Template, block_names, blocks_view}
+use Rattle.jt_inherit.proofs.Vocabulary.{take, blocks_view}
+use Rattle.jt_chains.specs.View.{its_templates}
 use Rattle.jt_inherit.proofs.BodyRules.{AreGiven}
 use Rattle.jt_inherit.proofs.rules.lacking_body.Given as goal
 
-abbrev pub invariant-loop-block : goal.invariant-loop-block
-invariant-loop-block l =
-    ((x : Text) → among x (texts l.names.keys) ≡ among x (block_names (take l.block-index l.blocks)))
-    × ((ts : List Template) → AreGiven (blocks_view ts (take l.block-index l.blocks)))
+abbrev pub invariant-loop-index : goal.invariant-loop-index
+invariant-loop-index l = AreGiven (take l.index (blocks_view (its_templates l.facts.chain.now) l.known.blocks.items))

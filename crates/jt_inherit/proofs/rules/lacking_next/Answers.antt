@@ -1,20 +1,43 @@
-use Rattle.jt_inherit.proofs.Vocabulary.{◌&&◌, not, sym, ap, ◌∙◌, arith, texts, body_view, blocks_view}
-use Rattle.jt_inherit.proofs.Vocabulary.{◌≡◌, calls_super, drop, subst}
-use Rattle.jt_inherit.proofs.BodyRules.{HaveNext, any_text, all_next, given_goes, next_found, next_goes}
+use Rattle.jt_inherit.proofs.Vocabulary.{◌≡◌, ◌-◌, not, sym, ap, ◌∙◌, arith, rules, drop, subst, blocks_view, is_some, both_ways, bytes_eq}
+use Rattle.jt_inherit.proofs.BodyRules.{HaveNext, all_next, given_goes, given_put, given_kept, next_found, next_goes}
+use Rattle.jt_names.specs.Names.{value_in}
+use Rattle.jt_inherit.proofs.rules.lacking_next.Goals.{else-is_none-via-then-is_none+else-calls_super, else-is_none-via-else-is_none}
 use Rattle.jt_inherit.proofs.rules.lacking_next.Goals as goal
 
-pub returns-then-is_lacking : goal.returns-then-is_lacking
-returns-then-is_lacking c =
+pub returns-then-calls_super : goal.returns-then-calls_super
+returns-then-calls_super c =
     λ ts.
     let l = c.loop-left in
     let x = c.index-blocks-left.result in
     let lt = c.loop-left-test.true in
     let within = l.invariant.within in
-    let test = ap (λ z. not z && calls_super (body_view x.body.now))
-    (sym (c.contains.ensures ∙ any_text x.name.now l.given.keys))
-    ∙ ap (λ z. not c.contains.result && z) (sym c.calls_super.ensures) ∙ sym c.is_lacking.ensures in
     sym (next_found ts c.args.blocks.now l.left _ x (omega arith) c.index-blocks-left.is (omega arith)
-    (texts l.given.keys) (l.invariant.noted ts) (test ∙ c.if-is_lacking.true))
+    (sym (l.invariant.noted ts x.name.now) ∙ ap is_some (sym c.index_of.ensures) ∙ c.is_none.ensures
+    ∙ ap not c.if-is_none.true)
+    (sym c.calls_super.ensures ∙ c.if-calls_super.true))
+
+pub loop-left-preserved-in-Continue-1 : goal.loop-left-preserved-in-Continue-1
+loop-left-preserved-in-Continue-1 c =
+    let l = c.loop-left in
+    let x = c.index-blocks-left.result in
+    let lt = c.loop-left-test.true in
+    let within = l.invariant.within in
+    record {
+      within = omega arith;
+      noted = λ ts y.
+          given_goes ts c.args.blocks.now l.left _ x (omega arith) c.index-blocks-left.is (omega arith) _ _ y
+          (l.invariant.noted ts y)
+          (given_put (value_in l.given.indices y) (value_in c.put.new.self.indices y) (bytes_eq x.name.now y) x.required
+          (l.left - 1) (c.in_ok-put.ensures y) (search (arith, rules)));
+      next = λ ts.
+          next_goes ts c.args.blocks.now l.left _ x (omega arith) c.index-blocks-left.is (omega arith)
+          (λ n. elim c.else-is_none.branch [
+            | else-is_none-via-then-is_none+else-calls_super w ↦ sym w.calls_super.ensures ∙ w.if-calls_super.false
+            | else-is_none-via-else-is_none w ↦ absurd (both_ways _ n (sym (l.invariant.noted ts x.name.now)
+                ∙ ap is_some (sym c.index_of.ensures) ∙ c.is_none.ensures ∙ ap not w.if-is_none.false))
+          ])
+          (l.invariant.next ts);
+    }
 
 pub loop-left-preserved : goal.loop-left-preserved
 loop-left-preserved c =
@@ -22,17 +45,19 @@ loop-left-preserved c =
     let x = c.index-blocks-left.result in
     let lt = c.loop-left-test.true in
     let within = l.invariant.within in
-    let test = ap (λ z. not z && calls_super (body_view x.body.now))
-    (sym (c.contains.ensures ∙ any_text x.name.now l.given.keys))
-    ∙ ap (λ z. not c.contains.result && z) (sym c.calls_super.ensures) ∙ sym c.is_lacking.ensures in
     record {
       within = omega arith;
-      noted = λ ts.
-          given_goes ts c.args.blocks.now l.left _ x (omega arith) c.index-blocks-left.is (omega arith)
-          (texts l.given.keys) _ (l.invariant.noted ts) c.in_ok-note_given.ensures;
+      noted = λ ts y.
+          given_goes ts c.args.blocks.now l.left _ x (omega arith) c.index-blocks-left.is (omega arith) _ _ y
+          (l.invariant.noted ts y) (given_kept _ (bytes_eq x.name.now y) x.required (search (arith, rules)));
       next = λ ts.
           next_goes ts c.args.blocks.now l.left _ x (omega arith) c.index-blocks-left.is (omega arith)
-          (texts l.given.keys) (l.invariant.noted ts) (l.invariant.next ts) (test ∙ c.if-is_lacking.false);
+          (λ n. elim c.else-is_none.branch [
+            | else-is_none-via-then-is_none+else-calls_super w ↦ sym w.calls_super.ensures ∙ w.if-calls_super.false
+            | else-is_none-via-else-is_none w ↦ absurd (both_ways _ n (sym (l.invariant.noted ts x.name.now)
+                ∙ ap is_some (sym c.index_of.ensures) ∙ c.is_none.ensures ∙ ap not w.if-is_none.false))
+          ])
+          (l.invariant.next ts);
     }
 
 pub returns : goal.returns

@@ -1,4 +1,5 @@
-use Rattle.jt_inherit.proofs.Vocabulary.{◌≡◌, ◌≤◌, List, drop, length, Text, among, texts, Template, blocks_view}
+use Rattle.jt_inherit.proofs.Vocabulary.{◌≡◌, ◌≤◌, List, drop, length, Text, Template, blocks_view, is_some}
+use Rattle.jt_names.specs.Names.{value_in}
 use Rattle.jt_inherit.proofs.BodyRules.{has_given, HaveNext}
 use Rattle.jt_inherit.proofs.rules.lacking_next.Given as goal
 
@@ -9,6 +10,6 @@ abbrev pub invariant-loop-left : goal.invariant-loop-left
 invariant-loop-left l = record {
   within : l.left ≤ length l.blocks;
   noted : (ts : List Template) (x : Text)
-      → among x (texts l.given.keys) ≡ has_given x (blocks_view ts (drop l.left l.blocks));
+      → is_some (value_in l.given.indices x) ≡ has_given x (blocks_view ts (drop l.left l.blocks));
   next : (ts : List Template) → HaveNext (blocks_view ts (drop l.left l.blocks));
 }

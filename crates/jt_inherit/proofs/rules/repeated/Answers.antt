@@ -1,26 +1,24 @@
-use Rattle.jt_inherit.proofs.Vocabulary.{[], get_or, sym, ◌∙◌, get_or_default, Bor, Text, texts}
-use Rattle.jt_inherit.proofs.BodyRules.{repeat_found, repeat_goes}
+use Rattle.jt_inherit.proofs.Vocabulary.{[], get_or, sym, ◌∙◌, get_or_default, Bor, Text, not-true, not-false}
+use Rattle.jt_inherit.proofs.BodyRules.{repeat_found, repeat_goes, index_is, index_not}
 use Rattle.jt_inherit.proofs.rules.repeated.Goals as goal
 
-pub returns-then-branch : goal.returns-then-branch
-returns-then-branch c =
-    let l = c.loop-name in
+pub returns-then-ne : goal.returns-then-ne
+returns-then-ne c =
     let xs = c.args.names.now in
-    let i = l.name-index in
+    let i = c.loop-index.index in
     let none : Bor Text = record { ref_ptr = (0, 0); now = [] } in
     let x = get_or xs i none in
-    sym (repeat_found (λ (b : Bor Text). b.now) xs i x c.loop-name-test.true
-    (get_or_default xs i none x c.loop-name-test.true) (texts l.known.keys) l.invariant.0
-    (sym c.in_ok-note.ensures.known ∙ c.if-branch.true))
+    sym (repeat_found xs i x c.loop-index-test.true (get_or_default xs i none x c.loop-index-test.true)
+    (λ (r : Bor Text). r.now)
+    (λ e. index_not _ _ (not-true _ (sym c.if-ne.ensures)) (c.index_of.ensures ∙ c.in_ok-firsts.ensures x.now ∙ e)))
 
-pub loop-name-preserved : goal.loop-name-preserved
-loop-name-preserved c =
-    let l = c.loop-name in
+pub loop-index-preserved : goal.loop-index-preserved
+loop-index-preserved c =
     let xs = c.args.names.now in
-    let i = l.name-index in
+    let i = c.loop-index.index in
     let none : Bor Text = record { ref_ptr = (0, 0); now = [] } in
     let x = get_or xs i none in
-    repeat_goes (λ (b : Bor Text). b.now) xs i x c.loop-name-test.true
-    (get_or_default xs i none x c.loop-name-test.true) (texts l.known.keys) (texts c.note.new.names.keys)
-    c.in_ok-note.field-0
-    l.invariant.0 l.invariant.1 c.in_ok-note.ensures.known c.in_ok-note.ensures.noted c.if-branch.false
+    repeat_goes xs i x c.loop-index-test.true (get_or_default xs i none x c.loop-index-test.true)
+    (λ (r : Bor Text). r.now)
+    (sym (c.in_ok-firsts.ensures x.now) ∙ sym c.index_of.ensures ∙ index_is _ _ (not-false _ (sym c.if-ne.ensures)))
+    c.loop-index.invariant

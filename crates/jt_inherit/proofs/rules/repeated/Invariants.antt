@@ -1,7 +1,5 @@
-use Rattle.jt_inherit.proofs.Vocabulary.{◌≡◌, false, take, Text, among, repeated, texts}
+use Rattle.jt_inherit.proofs.Vocabulary.{◌≡◌, false, take, repeated, texts}
 use Rattle.jt_inherit.proofs.rules.repeated.Given as goal
 
-abbrev pub invariant-loop-name : goal.invariant-loop-name
-invariant-loop-name l =
-    ((x : Text) → among x (texts l.known.keys) ≡ among x (texts (take l.name-index l.names)))
-    × (repeated (texts (take l.name-index l.names)) ≡ false)
+abbrev pub invariant-loop-index : goal.invariant-loop-index
+invariant-loop-index l = repeated (texts (take l.index l.names)) ≡ false

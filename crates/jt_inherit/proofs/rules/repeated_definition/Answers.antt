@@ -1,15 +1,17 @@
-use Rattle.jt_inherit.proofs.Vocabulary.{◌≡◌, map, sym, ap, ◌∙◌, repeated, texts}
-use Rattle.std.specs.Prelude.{Result, Ok, Err, IfOk}
-use Rattle.jt_inherit.proofs.BodyRules.{names_defined}
+use Rattle.jt_inherit.proofs.Vocabulary.{◌≡◌, map, sym, ap, ◌∙◌, rules, tests, texts, repeated, map-map, YieldsList-from_map_by}
+use Rattle.jt_inherit.proofs.Vocabulary.{YieldsList-from_slice}
+use Rattle.std.proofs.lemmas.Iterator.Consumers.{map_from_collect}
+use Rattle.std.proofs.lemmas.Result.{IfOk-weaker}
+use Rattle.std.specs.Prelude.{IfOk}
+use Rattle.jt_chains.specs.Named.{named_view}
 use Rattle.jt_inherit.proofs.rules.repeated_definition.Goals as goal
-
-ok_more : {A E : Type 0} {P Q : A → Type 0} (r : Result A E) → ((x : A) → P x → Q x) → IfOk r P → IfOk r Q
-ok_more (Ok x) f p = f x p
-ok_more (Err e) f p = tt
 
 pub returns : goal.returns
 returns c =
-    let seen : texts c.deref.result.now ≡ map (λ d. d.name.now) c.args.defined.now =
-    rw c.deref.ensures.value c.in_ok-names.ensures in
-    ok_more c.repeated.result
-    (λ found e ts h. e ∙ ap repeated (seen ∙ sym (names_defined ts h c.args.defined.now))) c.repeated.ensures
+    let told : IfOk c.collect.result (λ v. texts v.items ≡ map (λ b. b.name.now) c.args.defined.now) =
+    map_from_collect _ c.collect.ensures.ran (YieldsList-from_map_by _ (λ r. r.now)
+    (λ b. b.name.now) (YieldsList-from_slice c.args.defined.now cc) c.map.ensures.closure (λ x r q k. search (rules, tests))) in
+    let seen = (rw c.in_ok-names.was at told) in
+    IfOk-weaker c.repeated.result _ _
+    (λ found e ts h. e ∙ ap repeated (ap texts c.deref.ensures.value ∙ seen ∙ sym (map-map (λ g. g.0) (named_view ts h) c.args.defined.now)))
+    c.repeated.ensures
