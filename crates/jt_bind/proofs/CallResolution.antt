@@ -20,7 +20,7 @@ use internal.{library_of, of_namespace, unit_of, cenv_in, order_in, namespace_in
 use internal.{texts, count, Constant, absent, invoke, SRow, item, variable, local, slot_view, Table, slot_in, read_from}
 use internal.{invoked_body, reads, first_locals, parameter_view, parameters_view, some_given, default_value, own}
 use internal.{value_or, filled, filled_some, filters_of, ◌++◌, take, filter_id, Exprs, Pairs, Tree, filter_call_view}
-use internal.{filter_calls_view, expr_values, row_values, SlotExpr, NaryOp, row_view, Resolver, IsPlaced, RowLeads}
+use internal.{filter_calls_view, expr_values, SlotExpr, NaryOp, row_view, Resolver, IsPlaced, RowLeads}
 use Rattle.jt_bind.proofs.Vocabulary
 use Vocabulary.{ap, ◌∙◌, arith, inl, inr, rules, add-one, drop_more, sym, drop-map, append-nil, append_assoc, take_more}
 use Vocabulary.{map-append, Entry}
@@ -45,7 +45,8 @@ leads_there cenv order ordered h known k (inr r) =
     rw r.1 (libraries_stand cenv order ordered h known r.0 r.2).known
 
 -- A called macro is the first of its name in its namespace, and the namespace is laid out.
-pub called_there : (s : Chains) → s.namespace < length (order_in s) → (f : expressions.Expr) (k : Namespace) (b : MacroBody)
+pub called_there : (s : Chains) → s.namespace < length (order_in s)
+    → (f : expressions.Expr) (k : Namespace) (b : MacroBody)
     → callee_in s f ≡ a_macro k b
     → (macro_of b.name (macros (cenv_in s).sources k) ≡ Some b) × (listed k (order_in s) ≡ true)
 called_there s inside f k b e =

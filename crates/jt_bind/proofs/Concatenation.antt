@@ -10,13 +10,13 @@ use Rattle.jt_ir.specs.declared.program.SlotExpr.TheVariants as e
 use Rattle.jt_ir.specs.declared.program.NaryOp as code_op
 use Rattle.jt_bind.specs.internal
 use internal.{◌≡◌, ℕ, ◌+◌, List, [], ◌∷◌, ◌++◌, length, Bool, Some, None, Tree, Constant, SlotExpr, SRow, nary_op_view}
-use internal.{expr_view, entry, Leads, Appended, IsPlaced, RowLeads, alone, Place, files_in, map, refl, Option, Vec}
-use internal.{view, Value, Text, own, expr_values, condition_values, stmt_values, body_values, placed_stmt, placed_body}
-use internal.{SBody, slot_view, targets_view, place_view, stmt_view, filtered_view, followed, Turns, Resolver}
-use internal.{templates_of, Emits, IsBranch, AreTurns, ChoiceLeads, line_of, place_of}
+use internal.{expr_view, entry, Leads, IsPlaced, RowLeads, alone, Place, files_in, refl, Option, Vec, Text, own}
+use internal.{expr_values, condition_values, stmt_values, body_values, placed_stmt, placed_body, SBody, slot_view}
+use internal.{targets_view, place_view, stmt_view, filtered_view, followed, Turns, Resolver, templates_of, Emits}
+use internal.{IsBranch, AreTurns, ChoiceLeads, line_of, place_of}
 use Rattle.jt_bind.proofs.Vocabulary
-use Vocabulary.{ap, ◌∙◌, append_assoc, append-nil, length-append, arith, rules, Entry, row_push, Global, map-append}
-use Vocabulary.{SBranch, view_If, view_For, view_Capture, view_Made, view_Invoke}
+use Vocabulary.{ap, ◌∙◌, append_assoc, append-nil, length-append, arith, rules, Entry, row_push, Global, SBranch}
+use Vocabulary.{view_If, view_For, view_Capture, view_Made, view_Invoke}
 use Rattle.jt_ir.specs.View.{body_view}
 use Rattle.jt_ir.specs.declared.program.Filtered.{Filtered}
 use Rattle.jt_ir.proofs.StatementViews.{view_Print, body_push, choice_push, joined, view_Assign, view_PutPooled}
@@ -226,7 +226,8 @@ module _ (r : Resolver) (line : ℕ) where
       let second = grown_by h.given (condition_values k) w.between h.asked.pooled in
       let third = grown_by w.between (body_values turn) q body in
       stmt_emitted T (slots.for_each tag xs c k turn last)
-      (v.For (place_of r.senv line) t.head.value.targets t.head.value.items t.head.value.condition t.body other) ss ts p u
+      (v.For (place_of r.senv line) t.head.value.targets t.head.value.items t.head.value.condition t.body other) ss ts
+      p u
       (λ behind. rw (
         view_For,
         place_is,

@@ -128,7 +128,8 @@ pub include_shown : (r : Resolver) (line : ℕ) (x : Text) (missing context : Bo
     → n ≡ first_slot (cenv_in r.tables.now) (order_in r.tables.now) (a_chain x)
     → xs ≡ names (cenv_in r.tables.now) (order_in r.tables.now) (a_chain x)
     → u ≡ unit (cenv_in r.tables.now) (order_in r.tables.now) (of_chain x)
-    → followed (assigned (line_of r line) (if context then table_of r else []) (global n) xs) (alone (slots.run u slots.none))
+    → followed (assigned (line_of r line) (if context then table_of r else []) (global n) xs)
+    (alone (slots.run u slots.none))
     ≡ stmt_of r (trees.include line x missing context)
 include_shown r line x missing context n xs u there e f g = search (arith, rules, handed_assigned)
 

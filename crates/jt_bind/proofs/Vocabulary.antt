@@ -1,6 +1,6 @@
 -- The words that the proofs of this crate take from the proofs of other crates.
 pub use Rattle.std.proofs.Common.{Global, add-one, ap, append-nil, append_assoc, arith, inl, inr, length-append}
-pub use Rattle.std.proofs.Common.{length-drop, rules, subst, sym, zero-add, ◌∙◌}
+pub use Rattle.std.proofs.Common.{length-drop, rules, sym, zero-add, ◌∙◌}
 pub use Rattle.std.proofs.lemmas.List.{at_drop_all, drop-map, drop_all, drop_more, length-map, map-append}
 pub use Rattle.std.proofs.lemmas.List.{reverse-append, take-map, take_at, take_more}
 pub use Rattle.std.proofs.lemmas.Result.{IfOk-weaker}

@@ -7,7 +7,7 @@ ghost use Rattle.jt_ids.specs.declared.op_id.OpId.TheVariants as op;
 ghost use Rattle.jt_ir.specs.Slots as slots;
 ghost use Rattle.jt_bind.specs.internal.{filter_row_of, entries_of, IfOk, Some, length, exprs_view};
 ghost use Rattle.jt_bind.specs.internal.{is_negated, literal_view, pairs_view, IsResolved, RowAdds};
-ghost use Rattle.jt_bind.specs.internal.{RowPuts, asides_of, by_name, by_position, called_of};
+ghost use Rattle.jt_bind.specs.internal.{RowPuts, asides_of, by_name, by_position, filled_of};
 ghost use Rattle.jt_bind.specs.internal.{expr_of, given_of, row_of, IsAdded, turn_in, literal};
 ghost use Rattle.jt_bind.specs.internal.{filter_id, own, nary_op_view};
 
@@ -322,8 +322,8 @@ impl<'t, 'f, 's, 'a> Resolver<'t, 'f, 's, 'a> {
         pool: &mut Pool,
     ) -> Result<SlotExpr>
         ensures { IfOk result (λ e. IsAdded (slots.invoke signature.entry.unit
-            self.now.senv.escaping (called_of self.now signature.entry arguments.entry)) e pool.old
-            pool.new) }
+            self.now.senv.escaping (given_of self.now arguments.entry
+            (filled_of self.now signature.entry arguments.entry))) e pool.old pool.new) }
     {
         let mut given = Held {
             part: Vec::new(self.alloc),

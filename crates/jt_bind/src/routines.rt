@@ -112,7 +112,8 @@ fn resolve_layers<'a>(
     Ok(())
 }
 
-/// Resolves the routine of a chain, without its macros and blocks, and appends it. A library has none: it is never rendered.
+/// Resolves the routine of a chain, without its macros and blocks, and appends it. A library has
+/// none: it is never rendered.
 fn resolve_entry<'a>(
     alloc: Global,
     tables: &Tables<'_, 'a>,

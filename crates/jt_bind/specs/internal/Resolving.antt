@@ -18,7 +18,7 @@ use Rattle.jt_bind.specs.internal.Vocabulary
 use Vocabulary.{ℕ, Bool, List, [], map, length, Option, option_map, Tree, Text, Template, layer_view, Layer, Constant}
 use Vocabulary.{condition_values, body_values, placed_condition, placed_body, SBody, Front, place_view, targets_view}
 use Vocabulary.{expr_view, choice_view, SlotBranch, SlotStmt, followed, Turns, StaticEnv, MacroBody, BlockBody, Vec}
-use Vocabulary.{Value, macros, routine_view, Routine, Stmt, exprs_view, pairs_view, parameters_view, count, keywords}
+use Vocabulary.{Value, macros, routine_view, Routine, exprs_view, pairs_view, parameters_view, count, keywords}
 use Vocabulary.{set_in, CompileEnv, Namespace, SRow, Table, filled_some, locals_from, Signature, Arguments, Resolver}
 use Rattle.jt_bind.specs.internal.Scoped.{files_in, IsPlaced, BodyLeads, cenv_in, order_in, namespace_in, templates_in}
 use Rattle.jt_bind.specs.internal.Scoped.{numbered_in, values, IsAdded, RowLeads, senv_in, Leads, Appended}
@@ -51,7 +51,8 @@ pub record IsHead (xs : slots.Targets) (c : slots.SlotExpr Constant) (k : Option
 -- A function that puts a body, whose values are in the pool from an index on, before other statements.
 abbrev pub StandsFor : SBody Constant → Front → ℕ → Type 0
 StandsFor whole f n =
-    (left : SBody Constant) → f (placed_body left (n + length (body_values whole))) ≡ placed_body (followed whole left) n
+    (left : SBody Constant)
+    → f (placed_body left (n + length (body_values whole))) ≡ placed_body (followed whole left) n
 
 -- A branch: the place of its tag, its condition and its statements.
 pub record IsBranch (templates : List Text) (at : place.Place) (c : slots.SlotExpr Constant) (whole : SBody Constant)
@@ -64,7 +65,8 @@ pub record IsBranch (templates : List Text) (at : place.Place) (c : slots.SlotEx
 -- Branches are resolved; of the `if`, only the `else` part remains.
 pub record ChoiceLeads (templates : List Text) (whole other : SBody Constant) (branches : List (SlotBranch SlotStmt))
     (old new : List Tree) : Type 0 where
-  pub shown : (f : Front) → StandsFor other f (length new) → StandsFor whole (choice_view templates branches f) (length old)
+  pub shown : (f : Front) → StandsFor other f (length new)
+      → StandsFor whole (choice_view templates branches f) (length old)
   pub pooled : new ++ body_values other ≡ old ++ body_values whole
 
 -- The place of a tag in the code.
@@ -211,14 +213,11 @@ module _ (r : Resolver) where
   abbrev pub given_of : Arguments → SRow Constant → SRow Constant
   given_of a left = row_of (by_position a) (asides_of (by_name a) left)
 
-  -- The values of a macro's parameters after the positional ones, and all arguments of its call.
+  -- The values of a macro's parameters after the positional ones.
   abbrev pub filled_of : Signature → Arguments → SRow Constant
   filled_of s a =
       resolve.filled (parameters_view s.parameters.now) (length a.row.now) s.first_default
       (kept_of (by_name a))
-
-  abbrev pub called_of : Signature → Arguments → SRow Constant
-  called_of s a = given_of a (filled_of s a)
 
   -- The arguments of a filter, by its number, after its value.
   abbrev pub filter_row_of : Option ℕ → Arguments → SRow Constant

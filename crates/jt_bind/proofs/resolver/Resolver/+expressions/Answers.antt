@@ -73,7 +73,8 @@ pub resolve_binary-returns-in_ok-inside-in-Negation : goal.resolve_binary-return
 resolve_binary-returns-in_ok-inside-in-Negation t c =
     IfOk-weaker c.on_one.result _ _
     (λ e h. rw (← c.form_of.ensures, c.in-Negation.is) (h _ _ _
-    (rw (c.from_ref-first.ensures.value, c.from_ref-rest.ensures.value) at c.in_ok-inside-in-Negation.ensures))) c.on_one.ensures
+    (rw (c.from_ref-first.ensures.value, c.from_ref-rest.ensures.value) at c.in_ok-inside-in-Negation.ensures)))
+    c.on_one.ensures
 
 pub resolve_binary-returns-in_ok-second-in-Shortcut : goal.resolve_binary-returns-in_ok-second-in-Shortcut
 resolve_binary-returns-in_ok-second-in-Shortcut t c =

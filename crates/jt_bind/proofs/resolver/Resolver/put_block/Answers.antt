@@ -14,7 +14,8 @@ returns c =
     IfOk-weaker c.put_run.result _ _ (λ u h line required body p. emits_of (templates_of r) _ _ _ _ _ _
     (block_run (cenv_in s) (order_in s) (senv_of r) (first_body (numbered_of (cenv_in s) (namespace_in s) name)) name
     table c.in-Some.unit (sym c.in-Some.is ∙ c.in_ok-unit.ensures))
-    (run_emitted (templates_of r) _ _ _ _ _ p p (rw (c.seen_by.ensures s) at (c.in_ok-row.ensures p)) h)) c.put_run.ensures
+    (run_emitted (templates_of r) _ _ _ _ _ p p (rw (c.seen_by.ensures s) at (c.in_ok-row.ensures p)) h))
+    c.put_run.ensures
 
 pub returns-in_default : goal.returns-in_default
 returns-in_default c =

@@ -41,7 +41,8 @@ pub returns-in_default-get : goal.returns-in_default-get
 returns-in_default-get c =
     let s = c.args.self.now.tables.now in
     let outside : length c.deref.result.now ≤ c.in-Some.index = c.in_default-get.ensures.lookup.3 in
-    let no_body = numbered_end s _ c.here-here.ensures.all_blocks c.in-Some.index (rw c.deref.ensures.value at outside) in
+    let no_body = numbered_end s _ c.here-here.ensures.all_blocks c.in-Some.index
+    (rw c.deref.ensures.value at outside) in
     rw (c.in-Some.is, no_body) c.absent-in_default-get.ensures
 
 pub returns-in_default-index : goal.returns-in_default-index
