@@ -37,7 +37,7 @@ module _ {X : Type 0} (F : List Template → X) (f : Text → Body → X) (none 
 
   pub library_has : (ts : List Template) (n : Text) (i : ℕ) → i ≡ index_of ts n
       → of_held (slice_get ts i) ≡ F (templates (sources_in ts) (a_library n))
-  library_has ts n i e = ap (λ j. of_held (slice_get ts j)) e ∙ ap of_held (named ts n) ∙ held n (sources_in ts n)
+  library_has ts n i e = rw (e, named ts n) (held n (sources_in ts n))
 
 pub library_at : (ts : List Template) (n : Text) (i : ℕ) → i ≡ index_of ts n
     → library_macros (name_at ts i) (body_at ts i) ≡ macros (sources_in ts) (a_library n)

@@ -15,7 +15,7 @@ use Rattle.jt_chains.proofs.Vocabulary
 use Vocabulary.{namespace_view, AreWhole, names_at, slice_get_within, slice_get-map, slice_get_read, its_templates}
 use Vocabulary.{its_sources, namespace_in, ◌≡◌, ℕ, suc, ◌+◌, ◌<◌, true, false, List, [], ◌∷◌, ◌++◌, length, map}
 use Vocabulary.{drop, get_or, refl, ap, ◌∙◌, arith, Some, rules, tests, zero, append_assoc, imports}
-use Vocabulary.{libraries_in, Template, sources_in, slice_get, flat_map, unwrap_or, option_map, length-map}
+use Vocabulary.{libraries_in, Template, sources_in, slice_get, flat_map, option_map, length-map}
 use Vocabulary.{drop_more, bytes_eq-Decides, Text, body_of, body_at, along, layers_along}
 use Vocabulary.{AreIndices, file_view, files_view, name_at, namespace_at}
 
@@ -31,7 +31,7 @@ map_at f xs i x lt is = slice_get-map f xs i ∙ ap (option_map f) (slice_get_re
 -- The tree of the template file at an index.
 pub file_at : (ps : List TemplateFile) (i : ℕ) (p : TemplateFile) → i < length ps → p ≡ get_or ps i p
     → body_at (files_view ps) i ≡ body_of p.template
-file_at ps i p lt is = ap (λ o. unwrap_or (option_map (λ (t : Template). t.body) o) end) (map_at file_view ps i p lt is)
+file_at ps i p lt is = rw (map_at file_view ps i p lt is)
 
 -- An index of a template file is an index of its view.
 pub index_within : (ps : List TemplateFile) (is : List ℕ) (k : ℕ) → k < length is → AreIndices (files_view ps) is
@@ -64,7 +64,7 @@ are_indices ts is us e = absurd (cc)
 -- The view of the namespace at an index.
 pub name_of_namespace : (hs : List Namespace) (i : ℕ) (h : Namespace) → i < length hs → h ≡ get_or hs i h
     → namespace_at (map namespace_view hs) i ≡ namespace_view h
-name_of_namespace hs i h lt is = ap (λ o. unwrap_or o (chain.a_chain [])) (map_at namespace_view hs i h lt is)
+name_of_namespace hs i h lt is = rw (map_at namespace_view hs i h lt is)
 
 -- ---- templates by their names
 
@@ -112,7 +112,7 @@ whole_at : (ts : List Template) (hs : List Namespace) (i : ℕ) (h : Namespace) 
     → names_at ts h.templates.items
     ≡ map (λ t. Some t.name) (templates (sources_in ts) (namespace_at (map namespace_view hs) i))
 whole_at ts [] i h lt is w = absurd (omega arith)
-whole_at ts (k ∷ hs) zero h lt is w = ap (λ (z : Namespace). names_at ts z.templates.items) is ∙ w.0
+whole_at ts (k ∷ hs) zero h lt is w = rw is w.0
 whole_at ts (k ∷ hs) (suc i) h lt is w = whole_at ts hs i h (omega arith) is w.1
 
 pub indices_of_namespace : (ts : List Template) (hs : List Namespace) (i : ℕ) (h : Namespace) → i < length hs
@@ -123,7 +123,7 @@ indices_of_namespace ts hs i h lt is once w =
 
 each_alone : (ts : List Template) → flat_map (λ t. record { name = t.name; body = t.body } ∷ []) ts ≡ ts
 each_alone [] = refl
-each_alone (t ∷ ts) = ap (λ l. t ∷ l) (each_alone ts)
+each_alone (t ∷ ts) = rw (each_alone ts)
 
 -- ---- a library imports nothing
 

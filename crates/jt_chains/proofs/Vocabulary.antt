@@ -12,7 +12,7 @@ pub use Rattle.jt_chains.specs.TemplateFiles.{AreWhole, file_view, files_view, n
 pub use Rattle.jt_chains.specs.View.{imports_along, its_sources, its_templates, namespace_in}
 pub use Rattle.std.proofs.Common.{Bool, List, None, Option, Some, [], ap, append_assoc, arith, drop, false, get_or}
 pub use Rattle.std.proofs.Common.{if◌then◌else◌, length, map, not, refl, rules, string_bytes, suc, sym, tests}
-pub use Rattle.std.proofs.Common.{true, zero, ℕ, ◌&&◌, ◌++◌, ◌+◌, ◌<◌, ◌∙◌, ◌∷◌, ◌≡◌, ◌≤◌}
+pub use Rattle.std.proofs.Common.{true, zero, ℕ, ◌++◌, ◌+◌, ◌<◌, ◌∙◌, ◌∷◌, ◌≡◌, ◌≤◌}
 pub use Rattle.std.proofs.lemmas.List.{append-nil, drop_more, length-map}
 pub use Rattle.std.proofs.lemmas.Option.{slice_get-map, slice_get_past, slice_get_read, slice_get_within}
 pub use Rattle.std.proofs.lemmas.Slice.Eq.{bytes_eq-Decides}

@@ -5,7 +5,7 @@ ghost use Rattle.std.specs.List.{list_any};
 ghost use Rattle.jt_ast.specs.StatementView.{stmt_view, body_view, given_view};
 ghost use Rattle.jt_ast.specs.Texts.{texts};
 ghost use Rattle.jt_chains.specs.Chain as chains;
-ghost use Rattle.jt_chains.specs.Chain.{macros, all_given_from, imports_in, libraries_in};
+ghost use Rattle.jt_chains.specs.Chain.{macros, all_given_from, imports_in};
 ghost use Rattle.jt_chains.specs.Chain.{libraries, own, imports, a_library};
 ghost use Rattle.jt_chains.specs.Along.{along};
 ghost use Rattle.jt_chains.specs.TemplateFiles.{files_view};
@@ -131,22 +131,6 @@ fn add_imports<'a>(
     Ok(())
 }
 
-/// Adds the names of the libraries that a template imports, once for each import tag.
-fn add_libraries<'a>(body: &'a [Stmt], found: &mut Vec<&'a str>) -> Result<(), AllocError>
-    ensures { IfOk result (λ _. texts found.new.items
-        ≡ texts found.old.items ++ libraries_in (body_view body.now)) }
-{
-    for statement in body {
-        match statement {
-            Stmt::Import { library, .. } | Stmt::From { library, .. } => {
-                found.push(library.as_str())?
-            }
-            _ => {}
-        }
-    }
-    Ok(())
-}
-
 impl Chain {
     /// Returns the defined names of a chain or a library: the names of `macros`, which are its own,
     /// then the names that its imports bind.
@@ -188,7 +172,11 @@ impl Chain {
     {
         let mut found = Vec::new(alloc);
         for index in self.indices_of(namespace) {
-            add_libraries(body_of_file(&self.templates, *index), &mut found)?;
+            for statement in body_of_file(&self.templates, *index) {
+                if let Stmt::Import { library, .. } | Stmt::From { library, .. } = statement {
+                    found.push(library.as_str())?;
+                }
+            }
         }
         Ok(found)
     }

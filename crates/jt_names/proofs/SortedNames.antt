@@ -34,9 +34,8 @@ placed Greater x y ys = y ∷ inserted x ys
 
 at_head : (x y : Text) (ys : List Text) (o : Ordering) → cmp x y ≡ o → inserted x (y ∷ ys) ≡ placed o x y ys
 at_head x y ys o e =
-    ap (λ b. if b then y ∷ ys else if is_lt (cmp x y) then x ∷ y ∷ ys else y ∷ inserted x ys)
-    (nat_list_eq_equiv.symm y x ∙ sym (is_eq-slice_cmp x y))
-    ∙ by (cmp x y) ∙ ap (λ r. placed r x y ys) e
+    let alike : bytes_eq y x ≡ is_eq (cmp x y) = nat_list_eq_equiv.symm y x ∙ sym (is_eq-slice_cmp x y) in
+    rw (alike, e) (by o)
   where
     by : (r : Ordering)
         → (if is_eq r then y ∷ ys else if is_lt r then x ∷ y ∷ ys else y ∷ inserted x ys) ≡ placed r x y ys
