@@ -99,6 +99,7 @@ fn reached(parameters: &[Parameter], names: &[&str]) -> Option<usize>
 }
 
 /// Returns the rule that the arguments of a filter break.
+#[tactic(auto, using(crate::proofs::ArgumentsFit::known_filter), unfolding(jt_eval::specs::TheFilters::the_filters))]
 pub(crate) fn filter_broken(
     alloc: Global,
     name: &str,
