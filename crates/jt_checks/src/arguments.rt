@@ -1,7 +1,8 @@
 //! Checks that arguments fit the parameters of a callee, and the filters, tests and keys that the
 //! arguments of a filter name.
 
-ghost use Rattle.std.specs.Prelude.{◌≡◌, option_and_then, ◌≤◌, Some, None, if◌then◌else◌, length, IfOk, IfSome};
+ghost use Rattle.std.specs.Prelude.{◌≡◌, ◌≤◌, Some, None, if◌then◌else◌, length, IfOk, IfSome};
+ghost use Rattle.std.specs.Prelude.{option_and_then};
 ghost use Rattle.jt_ast.specs.Written.{literal_text};
 ghost use Rattle.jt_ast.specs.ExpressionView.{expr_view, exprs_view, pairs_view};
 ghost use Rattle.jt_ast.specs.Texts.{repeated, texts};
@@ -82,7 +83,8 @@ pub(crate) fn test_broken(name: &str, row: &[Expr], pairs: &[(String, Expr)]) ->
 /// if one of them is not named and has no default.
 fn reached(parameters: &[Parameter], names: &[&str]) -> Option<usize>
     ensures within { IfSome result (λ n. n ≤ length parameters.now) }
-    ensures value { result ≡ (if rules.is_filled (parameters_view parameters.now) 0 (texts names.now)
+    ensures value { result
+        ≡ (if rules.is_filled (parameters_view parameters.now) 0 (texts names.now)
         then Some (rules.reached (parameters_view parameters.now) (texts names.now)) else None) }
 {
     let mut count = 0;
@@ -99,6 +101,7 @@ fn reached(parameters: &[Parameter], names: &[&str]) -> Option<usize>
 }
 
 /// Returns the rule that the arguments of a filter break.
+#[tactic(auto, using(crate::proofs::ArgumentsFit::known_filter), unfolding(jt_eval::specs::TheFilters::the_filters))]
 pub(crate) fn filter_broken(
     alloc: Global,
     name: &str,

@@ -42,7 +42,7 @@ from h (k ∷ hs) =
 
 pub is_namespace : (h : Namespace) (order : List Namespace) (o : Option ℕ) → o ≡ first_namespace h 0 order
     → IsNamespaceAt order h o
-is_namespace h order o e = subst (IsNamespaceAt order h) (sym e) (from h order)
+is_namespace h order o e = rw e (from h order)
 
 -- ---- chains and libraries by their indices
 
@@ -52,7 +52,7 @@ namespace_get (h ∷ hs) zero = refl
 namespace_get (h ∷ hs) (suc i) = namespace_get hs i
 
 pub namespaces_left : (hs : List Namespace) (i : ℕ) → i < length hs → drop i hs ≡ namespace_at hs i ∷ drop (i + 1) hs
-namespaces_left hs i lt = drop_more hs i (a_chain []) lt ∙ ap (λ h. h ∷ drop (i + 1) hs) (namespace_get hs i)
+namespaces_left hs i lt = rw (← namespace_get hs i) (drop_more hs i (a_chain []) lt)
 
 -- ---- the first macro of a name
 

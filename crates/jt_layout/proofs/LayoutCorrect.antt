@@ -3,7 +3,7 @@ use Rattle.jt_chains.specs.Uses as uses
 use Rattle.jt_chains.specs.declared.chain.Namespace as written
 use mir.Val.{bool_byte}
 use Rattle.std.proofs.Common
-use Common.{◌==◌, Option, append_assoc, not, suc, zero, Bool, Some, false, if◌then◌else◌, refl, ℕ, true, length-append}
+use Common.{Option, append_assoc, not, suc, zero, Bool, Some, false, if◌then◌else◌, refl, ℕ, true, length-append}
 use Rattle.std.proofs.lemmas.Bool.Decides.{nat_tests}
 use Rattle.jt_semantics.specs.Layout.{of_chain, same_key, chain_keys, numbered_bodies, block_parameters, first_slot}
 use Rattle.jt_semantics.specs.Layout.{is_scoped, Key, default_index, entry_keys, first_default, in_globals, index_of}
@@ -22,7 +22,7 @@ use Rattle.std.specs.BTreeMap.{BTreeMap}
 use uses.{own_names}
 use Rattle.std.specs.Option.{is_some}
 use Rattle.jt_layout.proofs.Vocabulary
-use Vocabulary.{List, [], ap, drop, length, map, subst, sym, ◌++◌, ◌+◌, ◌<◌, ◌||◌, ◌∙◌, ◌∷◌, ◌≡◌, Global, Vec}
+use Vocabulary.{List, [], ap, drop, length, map, sym, ◌++◌, ◌+◌, ◌<◌, ◌∙◌, ◌∷◌, ◌≡◌, Global, Vec}
 use Vocabulary.{ascending_inserted, inserted_both, all_bodies, Template, a_chain, listed, same_namespace, IsCalled}
 use Vocabulary.{None, arith, rules, length-map, flat_map, Text, block_view, macro_view, namespace_view, namespace_in}
 use Vocabulary.{Block, first_of, StandsAt, defaults_from, namespace_named, its_cenv, its_order, texts, flat_map-append}
@@ -32,13 +32,10 @@ use Rattle.jt_layout.specs.internal.Layouts.{texts_of, Stands, all_names, namesp
 -- ---- names that are inserted in order, and the names of chains
 
 -- A missing chain has no templates, and so no names. A library has no globals.
-no_templates : (s : Sources) (n : Text) → is_some (s n) ≡ false → templates s (a_chain n) ≡ []
-no_templates s n e = search (arith, rules)
-
 no_source : (cenv : CompileEnv) (hs : List Namespace) (n : Text) → is_some (cenv.sources n) ≡ false
     → names_in cenv hs (a_chain n) ≡ []
 no_source cenv [] n e = refl
-no_source cenv (k ∷ hs) n e = search (arith, rules, no_templates, no_source cenv hs n)
+no_source cenv (k ∷ hs) n e = search (arith, rules, no_source cenv hs n)
 
 module _ (cenv : CompileEnv) (hs : List Namespace) where
   no_names_of : (ns : List Text) → flat_map (names_in cenv hs) (map a_library ns) ≡ []
@@ -98,7 +95,6 @@ apart h hs n k a = search (arith, rules, namespace_same)
 
 -- Routines of different namespaces have different keys.
 key_apart : (j k : Key) → same_namespace (namespace_of j) (namespace_of k) ≡ false → same_key j k ≡ false
-key_apart (of_chain n) k e = search (arith, rules)
 key_apart j k e = search (arith, rules)
 
 past : {A : Type 0} (f : A → Key) (k : Key) → ((x : A) → same_key (f x) k ≡ false) → (xs : List A) (rest : List Key)
@@ -150,9 +146,8 @@ module _ (cenv : CompileEnv) where
     pub body_key : (i : ℕ) (rest : List Key) → i < length bs
         → index_of (of_body h i) (chain_keys cenv h ++ rest) ≡ length (entry_keys cenv h) + (length ms + i)
     body_key i rest lt =
-        let macros = past (λ (m : MacroBody). of_macro h m.name) (of_body h i) (λ m. refl) ms (body_keys h ++ rest) in
-        omega
-        (arith, after_entry h (of_body h i) (λ n q. refl) rest, macros, body_at h 0 i i bs rest lt (omega arith))
+        let bodies = body_at h 0 i i bs rest lt (omega arith) in
+        search (arith, rules, after_entry, past)
 
 pub entries : (cenv : CompileEnv) (k : written.Namespace)
     → length (entry_keys cenv (namespace_view k)) ≡ bool_byte (not k.is_library)
@@ -170,7 +165,7 @@ module _ {cenv : CompileEnv} {order : List Namespace} {h : Namespace} {rest : Li
   behind = flat_map (chain_keys cenv) rest
 
   here : listed h (h ∷ rest) ≡ true
-  here = ap (λ b. b || listed h rest) (namespace_is h)
+  here = search (arith, rules, namespace_is)
 
   pub slot_here : first_slot cenv order h ≡ f.slot
   slot_here = search (arith, rules, namespace_is, here)
@@ -186,7 +181,7 @@ module _ {cenv : CompileEnv} {order : List Namespace} {h : Namespace} {rest : Li
       → l.defaults.items ≡ defaults_from f.default (map (macro_view ts) l.known.now.macros.items)
       → l.macro_unit ≡ f.unit + length (entry_keys cenv h) → (x : Text) (o : Option ℕ)
       → o ≡ first_of x 0 (map (λ m. m.name.now) l.known.now.macros.items) → IsCalled cenv order ts h l x o
-  is_called ts l all defaults units x None e = ap (macro_of x) (sym all) ∙ no_macro ts x l.known.now.macros.items 0 e
+  is_called ts l all defaults units x None e = search (arith, rules, no_macro)
   is_called ts l all defaults units x (Some k) e =
       let a = first_macro ts x l.known.now.macros.items k e in
       let key = macro_key cenv h x k behind (λ ks. rw (← all) (a.unit h ks)) in
@@ -242,12 +237,11 @@ module _ (c : Chain) (i : ℕ) (lt : i < length c.namespaces.items) where
   inside = omega (arith, lt, length-map c.namespaces.items namespace_view)
 
   pub first_here : (f : FirstFree) → StandsAt c i f → Stands (its_cenv c) (its_order c) (h ∷ rest) f
-  first_here f s = subst (λ hs. Stands (its_cenv c) (its_order c) hs f) (namespaces_left (its_order c) i inside) s
+  first_here f s = rw (namespaces_left (its_order c) i inside) at s
 
   pub new_here : not (listed h rest) ≡ true
   new_here =
-      (subst (InOrder (its_cenv c).sources) (namespaces_left (its_order c) i inside)
-      (order_left (its_cenv c).sources (its_order c) i c.order)).0
+      (rw (namespaces_left (its_order c) i inside) at (order_left (its_cenv c).sources (its_order c) i c.order)).0
 
   pub listed_left : listed h (drop i (its_order c)) ≡ true
   listed_left = search (arith, rules, namespaces_left, inside, namespace_is)
@@ -266,5 +260,4 @@ pub names_handed : (cenv : CompileEnv) (order : List Namespace) (b : Bool) (n : 
     → k ≡ namespace_named b n
     → ((x : Text) → k ≡ a_chain x → old x ≡ names cenv order (a_chain x))
     → in_globals (namespace_named b n) (old n) ≡ names cenv order k
-names_handed cenv order true n k old e f = sym (names_library cenv order n) ∙ ap (names cenv order) (sym e)
-names_handed cenv order false n k old e f = f n e ∙ ap (names cenv order) (sym e)
+names_handed cenv order b n k old e f = search (arith, rules, names_library)

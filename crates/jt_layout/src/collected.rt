@@ -21,8 +21,8 @@ use std::collections::{BTreeMap, BTreeSet};
 /// The names of each chain, by the name of the chain. Libraries have no globals.
 pub(crate) type CollectedNames<'a> = BTreeMap<&'a str, Vec<&'a str>>;
 
-/// Removes and returns the names of a chain. Returns an empty list for a library, or if no names are
-/// stored.
+/// Removes and returns the names of a chain. Returns an empty list for a library, or if no names
+/// are stored.
 pub(crate) fn take_names<'a>(
     alloc: Global,
     collected: &mut CollectedNames<'a>,

@@ -15,4 +15,5 @@ returns c =
     (λ v p. all_stored (its_cenv chain) _ (namespace_in chain c.args.namespace) c.args.behind.now c.requires.behind
     (texts c.deref-chain-items.result.now) _
     (ap texts c.deref-chain-items.ensures.value ∙ c.at-known.ensures.all_includes)
-    (search (arith, rules, drop_all, c.new-names.ensures.empty, c.at-known.ensures.names, c.deref.ensures.value))) c.list_of.ensures
+    (search (arith, rules, drop_all, c.new-names.ensures.empty, c.at-known.ensures.names, c.deref.ensures.value)))
+    c.list_of.ensures
