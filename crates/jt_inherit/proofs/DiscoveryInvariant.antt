@@ -15,7 +15,8 @@ use words.{namespace_name, templates, libraries, sources_in, IsRead, IsFollowed,
 use words.{namespace_at, Reaches, here, asked, extends_path, IsExtendsPath, by_templates, along_templates, next_of}
 use words.{graph_of, same, indexed_among, filter_agree, AddsNext, known_of, IsLedTo}
 use words.{all_weaker, all_more, map_push, slice_get-get_or}
-use Rattle.jt_inherit.proofs.PathsGrow.{at_front, last_at, read_on, indices_grow, names_to_root, templates_grow, way_grows}
+use Rattle.jt_inherit.proofs.PathsGrow.{at_front, last_at, read_on, indices_grow, names_to_root, templates_grow}
+use Rattle.jt_inherit.proofs.PathsGrow.{way_grows}
 use Rattle.jt_inherit.proofs.PathsGrow.{few_templates, templates_to_root, reach_more, ask_more, reaches_next}
 use Rattle.jt_ast.specs.Statements as trees
 use Rattle.jt_inherit.specs.declared.error.ChainError.TheVariants as error

@@ -12,7 +12,8 @@ use words.{or_cases}
 use Rattle.jt_chains.specs.Chain.{Definition, given_from}
 use Rattle.jt_chains.specs.Rules.{InSomeChain, BadName, ExtendsCycle, ChainTooLong, DoubleBlock, RequiredNotGiven}
 use Rattle.jt_chains.specs.Rules.{NoSuper, IncludeCycle, MacroTwice, NoMacro, NotALibrary}
-use Rattle.jt_inherit.proofs.PathsGrow.{Keeps, Carries, carries_head, carries_rest, carries_front, carries_behind, continues, up_more, on_path, on_first}
+use Rattle.jt_inherit.proofs.PathsGrow.{Keeps, Carries, carries_head, carries_rest, carries_front, carries_behind}
+use Rattle.jt_inherit.proofs.PathsGrow.{continues, up_more, on_path, on_first}
 use Rattle.jt_inherit.proofs.PathsGrow.{on_libraries, way_more, namespace_more, included_more, reaches_more}
 use Rattle.jt_inherit.proofs.PathsGrow.{reaches_next, asked_more}
 use Rattle.jt_inherit.proofs.StoreLookup.{none_public, nothing_lacks, lacks_same}

@@ -42,7 +42,8 @@ module _ (ps : List TemplateFile) (once : repeated (names (files_view ps)) ≡ f
         → is_a_library (sources_in (files_view ps) n) ≡ b
     is_library_read b e = ap is_a_library source_is ∙ sym e
 
-    pub macros_there : library_macros (string_bytes p.name) (body_of p.template) ≡ macros (sources_in (files_view ps)) (a_library n)
+    pub macros_there : library_macros (string_bytes p.name) (body_of p.template)
+        ≡ macros (sources_in (files_view ps)) (a_library n)
     macros_there = search (arith, rules, held_read, string_bytes, body_of, there, library_template, source_is)
 
 pub none_public : (x : Text) → public_macro x [] ≡ None
@@ -89,7 +90,8 @@ none_some (Some x) = refl
 module _ (ps : List TemplateFile) (n x : Text) (i : ℕ) (e : i ≡ index_of (files_view ps) n) where
   pub file_lacks : repeated (names (files_view ps)) ≡ false → (p : TemplateFile) → i < length ps → p ≡ get_or ps i p
       → lacks (sources_in (files_view ps)) n x
-      ≡ (holds_macros (body_of p.template) && not (is_some (public_macro x (library_macros (string_bytes p.name) (body_of p.template)))))
+      ≡ (holds_macros (body_of p.template)
+      && not (is_some (public_macro x (library_macros (string_bytes p.name) (body_of p.template)))))
   file_lacks once p lt is =
       let at : slice_get (names (files_view ps)) i ≡ Some n =
       rw e (named_index (files_view ps) n (omega (arith, lt, e, length-map ps file_view))) in

@@ -54,7 +54,8 @@ returns-in_err-read_needs-clause-refused g c =
     let at = next_here f _ c.len-number.ensures c.get-namespace.ensures in
     let told = c.in_ok-path.ensures.told in
     let p = (rw (sym c.in_ok-path.ensures.same) at c.in_ok-extends_path.ensures) in
-    passed_on _ c.from_residual-in_err-read_needs.result c.from_residual-in_err-read_needs.ensures.1 (need_finds p.read.known (reached_here c.requires.found at p) p.led c.in_err-read_needs.field-0.0
+    passed_on _ c.from_residual-in_err-read_needs.result c.from_residual-in_err-read_needs.ensures.1
+    (need_finds p.read.known (reached_here c.requires.found at p) p.led c.in_err-read_needs.field-0.0
     c.in_err-read_needs.ensures.refused)
 
 pub next_namespaces-requires-clause-path : goal.next_namespaces-requires-clause-path
@@ -67,7 +68,8 @@ returns-in_err-next-clause-refused g c =
     let told = c.in_ok-path.ensures.told in
     let p = (rw (sym c.in_ok-path.ensures.same) at c.in_ok-extends_path.ensures) in
     let r = c.in_ok-read_needs.ensures.read in
-    passed_on _ c.from_residual-in_err-next.result c.from_residual-in_err-next.ensures.1 (next_finds r.known (reached_there c.requires.found at p told.told r)
+    passed_on _ c.from_residual-in_err-next.result c.from_residual-in_err-next.ensures.1
+    (next_finds r.known (reached_there c.requires.found at p told.told r)
     (way_there c.requires.found at p told.told r) _ (reached_from c.requires.found at p told.told r)
     (chosen_there c.requires.found at p told.told r) c.in_err-next.field-0.0 c.in_err-next.ensures.refused)
 

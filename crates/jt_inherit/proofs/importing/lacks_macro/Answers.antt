@@ -16,7 +16,8 @@ returns-then-is_library c =
     let is : p ≡ get_or ps i p = rw c.deref.ensures.value at (found.1 p) in
     let held : holds_macros (body_of p.template) ≡ true = sym c.is_library.ensures ∙ c.if-is_library.true in
     sym (file_lacks ps c.args.library.now x i c.file_named.ensures whole.once p lt is
-    ∙ ap (λ b. b && not (is_some (public_macro x (library_macros (string_bytes p.name) (body_of p.template))))) held ∙ ap not (sym c.gives.ensures))
+    ∙ ap (λ b. b && not (is_some (public_macro x (library_macros (string_bytes p.name) (body_of p.template))))) held
+    ∙ ap not (sym c.gives.ensures))
 
 pub returns-else-is_library : goal.returns-else-is_library
 returns-else-is_library c =

@@ -1,4 +1,5 @@
-use Rattle.jt_inherit.proofs.Vocabulary.{◌<◌, ◌≤◌, length, length-map, sym, ap, subst, ◌∙◌, arith, lacks_body, blocks_view, block_view}
+use Rattle.jt_inherit.proofs.Vocabulary.{◌<◌, ◌≤◌, length, length-map, sym, ap, subst, ◌∙◌, arith, lacks_body}
+use Rattle.jt_inherit.proofs.Vocabulary.{blocks_view, block_view}
 use Rattle.jt_inherit.proofs.Vocabulary.{take_all}
 use Rattle.jt_chains.specs.View.{its_templates}
 use Rattle.jt_names.specs.Names.{first_of}

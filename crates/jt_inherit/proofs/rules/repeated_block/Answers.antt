@@ -1,4 +1,5 @@
-use Rattle.jt_inherit.proofs.Vocabulary.{◌≡◌, map, sym, ap, ◌∙◌, rules, tests, texts, repeated, map-map, YieldsList-from_map_by}
+use Rattle.jt_inherit.proofs.Vocabulary.{◌≡◌, map, sym, ap, ◌∙◌, rules, tests, texts, repeated, map-map}
+use Rattle.jt_inherit.proofs.Vocabulary.{YieldsList-from_map_by}
 use Rattle.jt_inherit.proofs.Vocabulary.{YieldsList-from_slice, block_view}
 use Rattle.std.proofs.lemmas.Iterator.Consumers.{map_from_collect}
 use Rattle.std.proofs.lemmas.Result.{IfOk-weaker}
@@ -8,9 +9,10 @@ use Rattle.jt_inherit.proofs.rules.repeated_block.Goals as goal
 pub returns : goal.returns
 returns c =
     let told : IfOk c.collect.result (λ v. texts v.items ≡ map (λ b. b.name.now) c.args.blocks.now) =
-    map_from_collect _ c.collect.ensures.ran (YieldsList-from_map_by _ (λ r. r.now)
-    (λ b. b.name.now) (YieldsList-from_slice c.args.blocks.now cc) c.map.ensures.closure (λ x r q k. search (rules, tests))) in
+    map_from_collect _ c.collect.ensures.ran (YieldsList-from_map_by _ (λ r. r.now) (λ b. b.name.now)
+    (YieldsList-from_slice c.args.blocks.now cc) c.map.ensures.closure (λ x r q k. search (rules, tests))) in
     let seen = (rw c.in_ok-names.was at told) in
     IfOk-weaker c.repeated.result _ _
-    (λ found e ts. e ∙ ap repeated (ap texts c.deref.ensures.value ∙ seen ∙ sym (map-map (λ b. b.name) (block_view ts) c.args.blocks.now)))
+    (λ found e ts. e ∙ ap repeated (ap texts c.deref.ensures.value ∙ seen
+    ∙ sym (map-map (λ b. b.name) (block_view ts) c.args.blocks.now)))
     c.repeated.ensures

@@ -1,4 +1,5 @@
-use Rattle.jt_inherit.proofs.Vocabulary.{ap, ◌∙◌, map-append, templates_at, files_view, all_uses, tag_view, tags, tags_view, test_of}
+use Rattle.jt_inherit.proofs.Vocabulary.{ap, ◌∙◌, map-append, templates_at, files_view, all_uses, tag_view, tags}
+use Rattle.jt_inherit.proofs.Vocabulary.{tags_view, test_of}
 use Rattle.jt_inherit.proofs.PathsGrow.{templates_past}
 use Rattle.jt_inherit.proofs.TagPlaces.{tags_turn}
 use Rattle.jt_inherit.proofs.tags.tags_at.Goals as goal
