@@ -346,8 +346,13 @@ impl<'t, 'f, 's, 'a> Resolver<'t, 'f, 's, 'a> {
             (expr_of self.now (trees.list_of (exprs_view row.now)))
             (turn_in (length row.now))) e pool.old pool.new) }
     {
-        let items = self.resolve_made(NaryOp::List, row, &[], pool)?;
-        item_in_turn(self.alloc, items, row.len(), pool)
+        // Without `resolve_made`, each level of nested calls has a frame less.
+        let mut items = Held {
+            part: Vec::with_capacity(self.alloc, row.len())?,
+        };
+        self.resolve_row(row, &mut items.part, pool)?;
+        let list = SlotExpr::Made(NaryOp::List, items.into_part());
+        item_in_turn(self.alloc, list, row.len(), pool)
     }
 
     /// Resolves a list of expressions and appends them.

@@ -170,7 +170,8 @@ resolve_macro-returns t c =
 
 pub resolve_cycle-returns : goal.resolve_cycle-returns
 resolve_cycle-returns t c =
-    IfOk-weaker c.item_in_turn.result _ _ (λ e h. h _ _ c.in_ok-items.ensures) c.item_in_turn.ensures
+    IfOk-weaker c.item_in_turn.result _ _ (λ e h. h _ _ (rw c.into_part.ensures (made_placed m.List _
+    (rw c.in_ok-with_capacity.ensures.items at (c.in_ok-resolve_row.ensures slots.none))))) c.item_in_turn.ensures
 
 pub resolve_call-returns-in-Macro : goal.resolve_call-returns-in-Macro
 resolve_call-returns-in-Macro t c = let m = rw c.in-Macro.is at c.in_ok-signature.ensures in
