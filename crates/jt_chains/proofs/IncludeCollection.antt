@@ -1,10 +1,12 @@
 -- Includes that are collected by one function, in terms of those collected by another one.
-use Rattle.jt_ast.specs.Statements.{Stmt, macro, Body, end, stmt, choose, for_each, set_block, with_values}
-use Rattle.jt_ast.specs.Statements.{filter_block, autoescape, block, Branches, no_branches, branch}
+use Rattle.jt_ast.specs.Statements
+use Statements.{Stmt, macro, Body, end, stmt, choose, for_each, set_block, with_values, filter_block, autoescape, block}
+use Statements.{Branches, no_branches, branch}
 use Rattle.std.proofs.lemmas.Grind.{flat_map-append}
+use Rattle.std.specs.Prelude.{flat_map}
+use Rattle.jt_chains.specs.Includes.{includes_by, includes_in, includes_under, need, needs_in}
 use Rattle.jt_chains.proofs.Vocabulary
-use Vocabulary.{◌≡◌, Bool, List, [], ◌∷◌, ◌++◌, refl, arith, rules, flat_map, append-nil, Template}
-use Vocabulary.{includes_by, includes_in, includes_under, need, needs_in, include_need, Need, needed}
+use Vocabulary.{◌≡◌, Bool, List, [], ◌∷◌, ◌++◌, refl, arith, rules, append-nil, Template, include_need, Need, needed}
 
 -- The names of includes are the needed ones.
 module _ (all : Bool) where

@@ -1,28 +1,30 @@
--- Templates by their indices.
+-- Templates by their indices, and the macros of libraries by the indices of their templates.
 use Rattle.jt_chains.specs.Chain as chain
-use chain.{a_library, imports_in, libraries, Sources, template, holds_macros, library_template, templates}
-use chain.{max_templates, names_up}
-use Rattle.jt_ast.specs.Statements.{stmt, macro, Body, end, data_of}
+use chain.{macro_of, macros, public_macro, a_library, imports_in, Sources, template, holds_macros, max_templates}
+use chain.{names_up, sources_in}
+use Rattle.jt_ast.specs.declared.statement.Stmt as statement
+use Rattle.jt_ast.specs.Statements.{stmt, macro, Body, end, data_of, Stmt}
 use Rattle.jt_ast.specs.Texts.{repeated, among}
 use Rattle.std.specs.List.{AllByRecursion}
+use Rattle.std.specs.Prelude.{is_none, nat_le, slice_get, flat_map, option_map, option_and_then}
 use Rattle.std.proofs.lemmas.Cmp.{nat_list_eq_equiv}
 use Rattle.std.proofs.lemmas.Bool.{or_parts}
+use Rattle.std.proofs.lemmas.List.Elements.{All-from_recursion}
+use Rattle.jt_chains.specs.TemplateFiles.{IsWhole, namespace_view, AreWhole, names_at, file_view}
 use Rattle.jt_chains.specs.declared.chain.Namespace.{Namespace}
 use Rattle.jt_chains.specs.internal.AreFrom.{AreFrom}
 use Rattle.jt_chains.specs.declared.chain.Chain.{Chain}
 use Rattle.jt_chains.specs.declared.files.TemplateFile.{TemplateFile}
+use Rattle.jt_chains.specs.Tables.{macro_index, library_macros, as_macro, is_named}
+use Rattle.std.proofs.lemmas.Option.{slice_get_within, slice_get-map, slice_get_read, slice_get_past}
+use Rattle.std.proofs.lemmas.Slice.Eq.{bytes_eq-Decides}
+use Rattle.jt_chains.specs.Indices.{namespace_at, index_of}
 use Rattle.jt_chains.proofs.Vocabulary
-use Vocabulary.{namespace_view, AreWhole, names_at, slice_get_within, slice_get-map, slice_get_read, its_templates}
-use Vocabulary.{its_sources, namespace_in, ◌≡◌, ℕ, suc, ◌+◌, ◌<◌, true, false, List, [], ◌∷◌, ◌++◌, length, map}
-use Vocabulary.{drop, get_or, refl, ap, ◌∙◌, arith, Some, rules, tests, zero, append_assoc, imports}
-use Vocabulary.{libraries_in, Template, sources_in, slice_get, flat_map, option_map, length-map}
-use Vocabulary.{drop_more, bytes_eq-Decides, Text, body_of, body_at, along, layers_along}
-use Vocabulary.{AreIndices, file_view, files_view, name_at, namespace_at}
-
-pub number_at : (P : ℕ → Type 0) (xs : List ℕ) (i : ℕ) → i < length xs → AllByRecursion P xs → P (get_or xs i 0)
-number_at P [] i lt a = absurd (omega arith)
-number_at P (y ∷ ys) zero lt a = a.0
-number_at P (y ∷ ys) (suc i) lt a = number_at P ys i (omega arith) a.1
+use Vocabulary.{libraries, templates, [], its_templates, its_sources, namespace_in, ◌≡◌, ℕ, suc, ◌+◌, ◌<◌, true, false}
+use Vocabulary.{List, ◌∷◌, ◌++◌, length, map, drop, get_or, refl, ap, ◌∙◌, arith, Some, rules, tests, zero}
+use Vocabulary.{append_assoc, imports, libraries_in, Template, length-map, drop_more, Text, body_of, body_at, along}
+use Vocabulary.{layers_along, AreIndices, files_view, name_at, ◌≤◌, if◌then◌else◌, Option, None, append-nil, macros_in}
+use Vocabulary.{get_by_text, stmts_of, body_view, stmt_view}
 
 pub map_at : {X Y : Type 0} (f : X → Y) (xs : List X) (i : ℕ) (x : X) → i < length xs → x ≡ get_or xs i x
     → slice_get (map f xs) i ≡ Some (f x)
@@ -37,7 +39,7 @@ file_at ps i p lt is = rw (map_at file_view ps i p lt is)
 pub index_within : (ps : List TemplateFile) (is : List ℕ) (k : ℕ) → k < length is → AreIndices (files_view ps) is
     → get_or is k 0 < length ps
 index_within ps is k lt a =
-    omega (arith, number_at (λ i. i < length (files_view ps)) is k lt a, length-map ps file_view)
+    omega (arith, All-from_recursion (λ i. i < length (files_view ps)) is a k 0 lt, length-map ps file_view)
 
 -- ---- concatenation
 
@@ -106,20 +108,13 @@ indexed_by_names ts (i ∷ is) (u ∷ us) once g e =
     cc
 indexed_by_names ts is us once g e = absurd (cc)
 
--- The names at the indices of a namespace are those of its templates.
-whole_at : (ts : List Template) (hs : List Namespace) (i : ℕ) (h : Namespace) → i < length hs → h ≡ get_or hs i h
-    → AreWhole ts hs
-    → names_at ts h.templates.items
-    ≡ map (λ t. Some t.name) (templates (sources_in ts) (namespace_at (map namespace_view hs) i))
-whole_at ts [] i h lt is w = absurd (omega arith)
-whole_at ts (k ∷ hs) zero h lt is w = rw is w.0
-whole_at ts (k ∷ hs) (suc i) h lt is w = whole_at ts hs i h (omega arith) is w.1
-
 pub indices_of_namespace : (ts : List Template) (hs : List Namespace) (i : ℕ) (h : Namespace) → i < length hs
     → h ≡ get_or hs i h → repeated (map (λ u. u.name) ts) ≡ false → AreWhole ts hs
     → AreFrom ts h.templates.items (templates (sources_in ts) (namespace_at (map namespace_view hs) i))
 indices_of_namespace ts hs i h lt is once w =
-    indexed_by_names ts h.templates.items _ once (given_templates (sources_in ts) _) (whole_at ts hs i h lt is w)
+    rw (name_of_namespace hs i h lt is)
+    (indexed_by_names ts h.templates.items _ once (given_templates (sources_in ts) (namespace_view h))
+    (rw (← is) at (All-from_recursion (IsWhole ts) hs w i h lt)))
 
 each_alone : (ts : List Template) → flat_map (λ t. record { name = t.name; body = t.body } ∷ []) ts ≡ ts
 each_alone [] = refl
@@ -171,3 +166,55 @@ module _ (c : Chain) (i : ℕ) (h : Namespace) (is : List ℕ) (same : is ≡ h.
 
   pub namespace_layers : layers_along (its_templates c) is ≡ templates (its_sources c) (namespace_in c i)
   namespace_layers = layers_from (its_templates c) is _ from
+
+-- ---- the template of a library
+
+-- The template at the index of a name is the template of that name.
+pub named : (ts : List Template) (n : Text)
+    → slice_get ts (index_of ts n) ≡ option_map (λ b. record { name = n; body = b }) (sources_in ts n)
+named [] n = refl
+named (t ∷ ts) n = search (arith, rules, bytes_eq-Decides, named ts n)
+
+-- The index of a template that was not read is no index.
+pub missing : (ps : List TemplateFile) (n : Text)
+    → nat_le (length ps) (index_of (files_view ps) n) ≡ is_none (sources_in (files_view ps) n)
+missing [] n = refl
+missing (p ∷ ps) n = search (arith, rules, missing ps n)
+
+pub library_at : (ts : List Template) (n : Text) (i : ℕ) → i ≡ index_of ts n
+    → library_macros (name_at ts i) (body_at ts i) ≡ macros (sources_in ts) (a_library n)
+library_at ts n i e = rw (e, named ts n) (search (arith, rules, append-nil))
+
+pub library_nowhere : (ps : List TemplateFile) (n x : Text) (i : ℕ) → length ps ≤ i → i ≡ index_of (files_view ps) n
+    → None ≡ public_macro x (macros (sources_in (files_view ps)) (a_library n))
+library_nowhere ps n x i past e =
+    let none : slice_get (files_view ps) i ≡ None =
+    slice_get_past (files_view ps) i (omega (arith, past, length-map ps file_view)) in
+    rw (← (rw none at (library_at (files_view ps) n i e))) (search (arith, rules))
+
+-- ---- macros by their names
+
+module _ (x n : Text) where
+  macro_step : (s : Stmt) (b : Body)
+      → macro_of x (macros_in n (stmt s b)) ≡ (if is_named x s then as_macro n s else macro_of x (macros_in n b))
+  macro_step (macro line y ps c) b = refl
+  macro_step s b = search rules
+
+  -- The first macro of a name is the statement at its index, where f has the statements from index k on.
+  at_index : (f : ℕ → Option Stmt) (k : ℕ) (ss : List Stmt) → ((i : ℕ) → f (k + i) ≡ slice_get ss i)
+      → option_and_then (λ i. option_and_then (as_macro n) (f i)) (macro_index x k (stmts_of ss))
+      ≡ macro_of x (macros_in n (stmts_of ss))
+  at_index f k [] at = refl
+  at_index f k (s ∷ ss) at =
+      let later : (i : ℕ) → f (suc k + i) ≡ slice_get ss i = λ i. ap f (omega arith) ∙ at (suc i) in
+      search (arith, rules, macro_step, at 0, at_index f (suc k) ss later)
+
+  -- A lookup in the table of a library finds its first macro of the name.
+  pub looked_up : (file : TemplateFile) (ss : List statement.Stmt) → body_view ss ≡ body_of file.template
+      → macro_of x (library_macros n (body_of file.template))
+      ≡ option_and_then (λ i. option_and_then (as_macro n) (option_map stmt_view (slice_get ss i)))
+      (option_and_then (λ t. get_by_text t x) file.macros)
+  looked_up file ss is =
+      let all = map stmt_view ss in
+      let found = simp slice_get-map at (at_index (slice_get all) 0 all (λ i. ap (slice_get all) (omega arith))) in
+      rw (file.table.1 x, ← is) (search (arith, rules, found))

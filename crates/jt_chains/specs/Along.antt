@@ -2,9 +2,8 @@
 use Rattle.std.specs.Prelude.{ℕ, ◌<◌, List, [], ◌∷◌, ◌++◌, length, slice_get, unwrap_or, option_map}
 use Rattle.std.specs.List.{AllByRecursion}
 use Rattle.std.specs.Option.{option_to_list}
-use Rattle.jt_ast.specs.Expressions.{Text}
 use Rattle.jt_ast.specs.Statements.{Body, end}
-use Rattle.jt_chains.specs.Chain.{Template}
+use Rattle.jt_chains.specs.Chain.{Template, Text}
 use Rattle.jt_chains.specs.Parts.{name_at}
 
 module _ (ts : List Template) where

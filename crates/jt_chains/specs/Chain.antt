@@ -4,8 +4,8 @@ use Rattle.std.specs.Prelude.{ℕ, zero, suc, ◌==◌, nat_lt, Bool, true, fals
 use Rattle.std.specs.Prelude.{flat_map, filter, Option, Some, None, codes, if◌then◌else◌}
 use Rattle.std.specs.List.{list_any}
 use Rattle.std.specs.Str.{bytes_eq}
-use Rattle.jt_ast.specs.Expressions.{Expr, name, attribute, Text}
-pub use Rattle.jt_ast.specs.Expressions.{is_loop}
+use Rattle.jt_ast.specs.Expressions.{Expr, name, attribute}
+pub use Rattle.jt_ast.specs.Expressions.{is_loop, Text}
 use Rattle.jt_ast.specs.Statements.{Parameter, Stmt, data_of, choose, for_each, set_block, with_values, filter_block}
 use Rattle.jt_ast.specs.Statements.{autoescape, macro, import_as, import_from, extends, block, Body, end, stmt}
 use Rattle.jt_ast.specs.Statements.{Branches, no_branches, branch}

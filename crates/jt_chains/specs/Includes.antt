@@ -1,12 +1,12 @@
 -- The chains that a chain includes, the libraries that it imports, and the order of both.
 use Rattle.std.specs.Prelude.{Bool, true, false, not, ◌||◌, IsTrue, if◌then◌else◌, List, [], ◌∷◌, ◌++◌, map, flat_map}
 use Rattle.std.specs.Prelude.{filter}
+use Rattle.std.specs.List.{AllByRecursion, AllByRecursion-prop}
 use Rattle.std.specs.Coded.{×_prop, Unit-prop, Coded-set, coded_bool}
 use Rattle.std.specs.Option.{is_some}
-use Rattle.jt_ast.specs.Expressions.{Text}
 use Rattle.jt_ast.specs.Statements.{Stmt, choose, for_each, set_block, with_values, filter_block, autoescape, macro}
 use Rattle.jt_ast.specs.Statements.{include, block, Body, end, stmt, Branches, no_branches, branch}
-use Rattle.jt_chains.specs.Chain.{Sources, Namespace, a_chain, a_library, listed, templates, libraries}
+use Rattle.jt_chains.specs.Chain.{Sources, Namespace, a_chain, a_library, listed, templates, libraries, Text}
 
 -- ---- the includes in statements, in the order of the source
 
@@ -64,12 +64,7 @@ included sources namespace =
 -- Each chain or library occurs once, before the ones that it leads to.
 
 abbrev pub AllIn : List Namespace → List Namespace → Type 0
-AllIn [] namespaces = Unit {0}
-AllIn (first ∷ rest) namespaces = IsTrue (listed first namespaces) × AllIn rest namespaces
-
-pub AllIn-prop : (ms hs : List Namespace) → IsProp (AllIn ms hs)
-AllIn-prop [] hs = Unit-prop
-AllIn-prop (m ∷ ms) hs = ×_prop (Coded-set coded_bool (listed m hs) true) (AllIn-prop ms hs)
+AllIn members namespaces = AllByRecursion (λ member. IsTrue (listed member namespaces)) members
 
 abbrev pub InOrder : Sources → List Namespace → Type 0
 InOrder sources [] = Unit {0}
@@ -79,8 +74,8 @@ InOrder sources (first ∷ rest) =
 pub InOrder-prop : (sources : Sources) (hs : List Namespace) → IsProp (InOrder sources hs)
 InOrder-prop sources [] = Unit-prop
 InOrder-prop sources (h ∷ hs) =
-    ×_prop (Coded-set coded_bool (not (listed h hs)) true)
-    (×_prop (AllIn-prop (included sources h) hs) (InOrder-prop sources hs))
+    ×_prop (Coded-set coded_bool _ _)
+    (×_prop (AllByRecursion-prop _ (λ m. Coded-set coded_bool _ _) (included sources h)) (InOrder-prop sources hs))
 
 -- The first namespace is a chain.
 abbrev pub begins_with_chain : List Namespace → Bool

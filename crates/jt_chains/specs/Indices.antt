@@ -1,8 +1,7 @@
 -- Chains and templates by their indices.
 use Rattle.std.specs.Prelude.{ℕ, suc, List, [], ◌∷◌, slice_get, unwrap_or, if◌then◌else◌}
 use Rattle.std.specs.Str.{bytes_eq}
-use Rattle.jt_ast.specs.Expressions.{Text}
-use Rattle.jt_chains.specs.Chain.{Namespace, a_chain, Template}
+use Rattle.jt_chains.specs.Chain.{Namespace, a_chain, Template, Text}
 
 abbrev pub namespace_at : List Namespace → ℕ → Namespace
 namespace_at namespaces i = unwrap_or (slice_get namespaces i) (a_chain [])

@@ -1,8 +1,7 @@
 -- The view in contracts of the names of a chain that stand for a macro or a library.
 use Rattle.std.specs.Prelude.{◌≡◌, ◌++◌, List, map}
-use Rattle.jt_ast.specs.Expressions.{Text}
 use Rattle.jt_chains.specs.Chain as chain
-use Rattle.jt_chains.specs.Chain.{Template, Namespace, a_library, one_macro, library}
+use Rattle.jt_chains.specs.Chain.{Template, Namespace, a_library, one_macro, library, Text}
 use Rattle.jt_chains.specs.Parts.{macro_view}
 use Rattle.jt_chains.specs.declared.definitions.Definition.{Definition}
 use Rattle.jt_chains.specs.declared.definitions.Definition.TheVariants as v

@@ -1,8 +1,7 @@
 -- The includes and imports of a template: the templates that they name.
 use Rattle.std.specs.Prelude.{◌≡◌, ℕ, Bool, false, true, if◌then◌else◌, List, [], ◌∷◌, ◌++◌, map, flat_map}
-use Rattle.jt_ast.specs.Expressions.{Text}
 use Rattle.jt_chains.specs.Along.{along}
-use Rattle.jt_chains.specs.Chain.{Namespace, a_chain, a_library, Template}
+use Rattle.jt_chains.specs.Chain.{Namespace, a_chain, a_library, Template, Text}
 use Rattle.jt_chains.specs.Includes.{includes_in, need}
 use Rattle.jt_chains.specs.declared.include_tags.NeededTemplate.{NeededTemplate}
 

@@ -1,8 +1,7 @@
 -- The views in contracts of the macros of a chain and of the bodies of its blocks.
 use Rattle.std.specs.Prelude.{ℕ, List, [], map, slice_get, unwrap_or, option_map}
-use Rattle.jt_ast.specs.Expressions.{Text}
 use Rattle.jt_ast.specs.StatementView.{parameters_view, body_view}
-use Rattle.jt_chains.specs.Chain.{Template, MacroBody, BlockBody}
+use Rattle.jt_chains.specs.Chain.{Template, MacroBody, BlockBody, Text}
 use Rattle.jt_chains.specs.declared.parts.Macro.{Macro}
 use Rattle.jt_chains.specs.declared.parts.Block.{Block}
 

@@ -4,11 +4,10 @@ use Rattle.std.specs.Prelude.{◌++◌, map, flat_map, length, Some, nat_lt}
 use Rattle.std.specs.Option.{is_some, is_none}
 use Rattle.std.specs.List.{list_any}
 use Rattle.jt_chains.specs.Names.{IsName}
-use Rattle.jt_ast.specs.Expressions.{Text}
 use Rattle.jt_ast.specs.Statements.{import_from, Body, end, stmt}
 use Rattle.jt_chains.specs.Chain.{Sources, Namespace, a_chain, a_library, listed, names_up, max_templates, templates}
 use Rattle.jt_chains.specs.Chain.{BlockBody, blocks_in, all_bodies, bodies, from_given, macros, public_macro, given}
-use Rattle.jt_chains.specs.Chain.{libraries, is_a_library}
+use Rattle.jt_chains.specs.Chain.{libraries, is_a_library, Text}
 use Rattle.jt_ast.specs.Texts.{among, repeated}
 use Rattle.jt_chains.specs.Includes.{included, needs_in}
 use Rattle.jt_chains.specs.Supers.{calls_super}

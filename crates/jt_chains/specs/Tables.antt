@@ -5,9 +5,8 @@ use Rattle.std.specs.declared.string.String.{String}
 use Rattle.std.specs.declared.alloc.Global.{Global}
 use Rattle.std.specs.Str.{bytes_eq}
 use Rattle.std.specs.BTreeMap.{BTreeMap, get_by_text}
-use Rattle.jt_ast.specs.Expressions.{Text}
 use Rattle.jt_ast.specs.Statements.{Stmt, macro, Body, end, stmt}
-use Rattle.jt_chains.specs.Chain.{Template, MacroBody, holds_macros, macros_in}
+use Rattle.jt_chains.specs.Chain.{Template, MacroBody, holds_macros, macros_in, Text}
 use Rattle.jt_chains.specs.Indices.{index_of}
 
 abbrev pub Table : Type 0

@@ -1,12 +1,11 @@
 -- The views of the parts of a chain in contracts, without their memory, and the invariants of each
 -- chain.
-use Rattle.std.specs.Prelude.{◌≡◌, ℕ, List, [], ◌∷◌, map, if◌then◌else◌, Option, Some, option_map, slice_get}
-use Rattle.std.specs.Prelude.{string_bytes, ⊤}
-use Rattle.std.specs.Coded.{×_prop, Unit-prop, Coded-set, coded_ℕ, coded_list, coded_option}
-use Rattle.jt_ast.specs.Expressions.{Text}
+use Rattle.std.specs.Prelude.{◌≡◌, ℕ, List, map, if◌then◌else◌, Option, Some, option_map, slice_get}
+use Rattle.std.specs.Prelude.{string_bytes}
+use Rattle.std.specs.List.{AllByRecursion}
 use Rattle.jt_ast.specs.StatementView.{body_of}
 use Rattle.jt_chains.specs.Chain as chain
-use Rattle.jt_chains.specs.Chain.{Template, templates, sources_in}
+use Rattle.jt_chains.specs.Chain.{Template, templates, sources_in, Text}
 use Rattle.jt_chains.specs.declared.files.TemplateFile.{TemplateFile}
 use Rattle.jt_chains.specs.declared.chain.Namespace.{Namespace}
 
@@ -26,17 +25,11 @@ namespace_view namespace =
 abbrev pub names_at : List Template → List ℕ → List (Option Text)
 names_at ts is = map (λ i. option_map (λ t. t.name) (slice_get ts i)) is
 
--- Each chain has the templates from its entry to the root, and a library has its own.
-abbrev pub AreWhole : List Template → List Namespace → Type 0
-AreWhole ts [] = ⊤
-AreWhole ts (first ∷ rest) =
-    (names_at ts first.templates.items
-    ≡ map (λ t. Some t.name) (templates (sources_in ts) (namespace_view first)))
-    × AreWhole ts rest
+-- A chain has the templates from its entry to the root, and a library has its own.
+abbrev pub IsWhole : List Template → Namespace → Type 0
+IsWhole ts namespace =
+    names_at ts namespace.templates.items
+    ≡ map (λ t. Some t.name) (templates (sources_in ts) (namespace_view namespace))
 
-pub AreWhole-prop : (ts : List Template) (hs : List Namespace) → IsProp (AreWhole ts hs)
-AreWhole-prop ts [] = Unit-prop
-AreWhole-prop ts (h ∷ hs) =
-    ×_prop
-    (Coded-set (coded_list (coded_option (coded_list coded_ℕ))) (names_at ts h.templates.items)
-    (map (λ t. Some t.name) (templates (sources_in ts) (namespace_view h)))) (AreWhole-prop ts hs)
+abbrev pub AreWhole : List Template → List Namespace → Type 0
+AreWhole ts = AllByRecursion (IsWhole ts)

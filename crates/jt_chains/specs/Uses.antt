@@ -1,13 +1,13 @@
 -- The names that trees read or bind.
 use Rattle.std.specs.Prelude.{if◌then◌else◌, List, [], ◌∷◌, ◌++◌, map, flat_map, Option, Some, None}
-use Rattle.jt_ast.specs.Expressions.{Expr, constant, name, group, list_of, map_of, attribute, item, call, filter, test}
-use Rattle.jt_ast.specs.Expressions.{unary, binary, when, choice, Exprs, no_exprs, expr, Pairs, no_pairs, pair, Text}
+use Rattle.jt_ast.specs.Expressions.{Expr, name, group, list_of, map_of, attribute, item, call, filter, test, unary}
+use Rattle.jt_ast.specs.Expressions.{binary, when, choice, Exprs, no_exprs, expr, Pairs, no_pairs, pair, Text}
 pub use Rattle.jt_ast.specs.Expressions.{count}
 use Rattle.jt_chains.specs.Chain.{is_loop, Sources, Namespace, templates}
 use Rattle.jt_ast.specs.Texts.{ascending}
-use Rattle.jt_ast.specs.Statements.{FilterCall, Stmt, data_of, print, choose, for_each, set, set_block, with_values}
-use Rattle.jt_ast.specs.Statements.{filter_block, autoescape, macro, include, import_as, import_from, extends, block}
-use Rattle.jt_ast.specs.Statements.{Body, end, stmt, Branches, no_branches, branch}
+use Rattle.jt_ast.specs.Statements.{FilterCall, Stmt, print, choose, for_each, set, set_block, with_values}
+use Rattle.jt_ast.specs.Statements.{filter_block, autoescape, macro, block, Body, end, stmt, Branches, no_branches}
+use Rattle.jt_ast.specs.Statements.{branch}
 
 -- The names of keyword arguments, or the keys of a map.
 abbrev pub keywords : Pairs → List Text
@@ -20,7 +20,6 @@ keywords (pair key value rest) = key ∷ keywords rest
 
 abbrev mutual
   pub expr_names : Expr → List Text
-  expr_names (constant literal) = []
   expr_names (name x) = x ∷ []
   expr_names (group inner) = expr_names inner
   expr_names (list_of items) = row_names items
@@ -35,6 +34,7 @@ abbrev mutual
   expr_names (binary op left right) = expr_names left ++ expr_names right
   expr_names (when condition value) = expr_names condition ++ expr_names value
   expr_names (choice condition value other) = expr_names condition ++ (expr_names value ++ expr_names other)
+  expr_names e = []
 
   pub row_names : Exprs → List Text
   row_names no_exprs = []
@@ -56,7 +56,6 @@ filter_call_names (f ∷ fs) = row_names f.arguments ++ (pair_names f.keywords +
 
 abbrev mutual
   pub stmt_names : Stmt → List Text
-  stmt_names (data_of text) = []
   stmt_names (print line value) = expr_names value
   stmt_names (choose branches other) = branch_names branches ++ body_names other
   stmt_names (for_each line targets over condition body other) =
@@ -67,11 +66,8 @@ abbrev mutual
   stmt_names (filter_block line filters body) = body_names body ++ filter_call_names filters
   stmt_names (autoescape line on body) = body_names body
   stmt_names (macro line macro_name parameters body) = map (λ p. p.name) parameters ++ body_names body
-  stmt_names (include line template ignore_missing with_context) = []
-  stmt_names (import_as line library alias) = []
-  stmt_names (import_from line library macros) = []
-  stmt_names (extends line parent) = []
   stmt_names (block line block_name scoped required body) = body_names body
+  stmt_names s = []
 
   pub body_names : Body → List Text
   body_names end = []

@@ -3,10 +3,9 @@ use Rattle.std.specs.Prelude.{◌≡◌, ◌≤◌, ℕ, Bool, List, [], map, le
 use Rattle.std.specs.declared.alloc.AllocError.{AllocError}
 use Rattle.std.specs.declared.alloc.Global.{Global}
 use Rattle.std.specs.declared.vec.Vec.{Vec}
-use Rattle.jt_ast.specs.Expressions.{Text}
 use Rattle.jt_chains.specs.Along.{along}
 use Rattle.jt_chains.specs.Chain as chains
-use Rattle.jt_chains.specs.Chain.{Sources, Namespace, Template, imports_in, sources_in}
+use Rattle.jt_chains.specs.Chain.{Sources, Namespace, Template, imports_in, sources_in, Text}
 use Rattle.jt_chains.specs.TemplateFiles.{files_view, namespace_view}
 use Rattle.jt_chains.specs.Indices.{namespace_at}
 use Rattle.jt_chains.specs.declared.chain.Chain.{Chain}

@@ -1,9 +1,8 @@
 -- The weights of chains, and the number of names that they read or bind.
 use Rattle.std.specs.Prelude.{ℕ, ◌+◌, ◌≤◌, List, [], ◌∷◌, length, Contains}
 use Rattle.std.specs.List.{AllByRecursion}
-use Rattle.jt_ast.specs.Expressions.{Text}
 use Rattle.jt_ast.specs.Statements.{body_weight}
-use Rattle.jt_chains.specs.Chain.{Sources, Namespace, Template, templates}
+use Rattle.jt_chains.specs.Chain.{Sources, Namespace, Template, templates, Text}
 use Rattle.jt_chains.specs.Uses.{own_names}
 use Rattle.jt_chains.specs.View.{Seen, sources_of}
 

@@ -2,10 +2,11 @@
 //! reach.
 
 ghost use Rattle.std.specs.Prelude.{◌≡◌, ◌<◌, true, false, length, map};
+ghost use Rattle.std.specs.List.{AllByRecursion-prop};
+ghost use Rattle.std.specs.Coded.{Coded-set, coded_ℕ, coded_list, coded_option};
 ghost use Rattle.jt_chains.specs.Chain.{sources_in};
 ghost use Rattle.jt_chains.specs.Includes.{InOrder, InOrder-prop, begins_with_chain};
-ghost use Rattle.jt_chains.specs.TemplateFiles.{AreWhole, AreWhole-prop, files_view};
-ghost use Rattle.jt_chains.specs.TemplateFiles.{namespace_view};
+ghost use Rattle.jt_chains.specs.TemplateFiles.{AreWhole, files_view, namespace_view};
 ghost use Rattle.jt_chains.specs.Tables.{AreAt};
 ghost use Rattle.jt_ast.specs.Texts.{repeated};
 
@@ -37,10 +38,9 @@ pub struct Chain {
     pub ghost some: { 0 < length namespaces.items },
     pub ghost begins: { begins_with_chain (map namespace_view namespaces.items) ≡ true },
     pub ghost order: { InOrder (sources_in (files_view templates.items))
-        (map namespace_view namespaces.items) } by { InOrder-prop
-            (sources_in (files_view templates.items))
-            (map namespace_view namespaces.items) },
+        (map namespace_view namespaces.items) } by { InOrder-prop _ _ },
     pub ghost whole: { AreWhole (files_view templates.items)
-        namespaces.items } by { AreWhole-prop (files_view templates.items) namespaces.items },
+        namespaces.items } by { AllByRecursion-prop _
+            (λ _. Coded-set (coded_list (coded_option (coded_list coded_ℕ))) _ _) _ },
     pub ghost indexed: { AreAt (files_view templates.items) indices },
 }

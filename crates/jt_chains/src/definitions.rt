@@ -71,10 +71,11 @@ pub fn holds_macros(body: &[Stmt]) -> bool
 pub fn file_named(chain: &Chain, name: &str) -> usize
     ensures { result ≡ index_of (its_templates chain.now) name.now }
 {
-    match chain.indices.get(name) {
-        Some(index) => *index,
-        None => chain.templates.as_slice().len(),
-    }
+    chain
+        .indices
+        .get(name)
+        .copied()
+        .unwrap_or(chain.templates.as_slice().len())
 }
 
 /// Returns whether a name is private: it begins with `_`.
@@ -182,15 +183,12 @@ impl Chain {
     }
 
     /// Returns the macro of this name that the library offers to importers.
-    #[tactic(auto, using(crate::proofs::TemplatesByIndex::file_at, crate::proofs::LibraryMacros::library_at, crate::proofs::LibraryMacros::library_nowhere))]
+    #[tactic(auto, using(crate::proofs::TemplatesByIndex::file_at, crate::proofs::TemplatesByIndex::library_at, crate::proofs::TemplatesByIndex::library_nowhere))]
     pub fn library_macro(&self, library: &str, name: &str) -> Option<Macro<'_>>
         ensures { option_map (macro_view (its_templates self.now)) result
             ≡ chains.public_macro name.now (macros (its_sources self.now) (a_library library.now)) }
     {
         let index = file_named(self, library);
-        match self.templates.get(index) {
-            Some(file) => file.public_macro(index, name),
-            None => None,
-        }
+        self.templates.get(index)?.public_macro(index, name)
     }
 }

@@ -1,7 +1,6 @@
 -- A property of each item of a list, by its index.
-use Rattle.std.proofs.lemmas.List.{length_push}
 use Rattle.jt_names.proofs.Vocabulary
-use Vocabulary.{◌≡◌, ◌<◌, ◌+◌, ℕ, suc, List, [], ◌∷◌, ◌++◌, length, get_or, arith, rules}
+use Vocabulary.{length_push, ◌≡◌, ◌<◌, ◌+◌, ℕ, suc, List, [], ◌∷◌, ◌++◌, length, get_or, arith, rules}
 
 each_more : {A : Type 0} (P : ℕ → A → Type 0) (xs : List A) (y : A)
     → ((i : ℕ) (t : A) → i < length xs → t ≡ get_or xs i t → P i t) → P (length xs) y

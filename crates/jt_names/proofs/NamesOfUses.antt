@@ -1,28 +1,34 @@
 -- The names that the uses of a body read or bind, and those that they bind in scopes, are those of the body, up to
--- their order; and the uses bind as many names as the body.
+-- their order; the uses bind as many names as the body; and they include the templates of its include tags, in order.
 use Rattle.jt_uses.specs.Uses as uses
-use Rattle.std.proofs.lemmas.Bool.Decides.{nat_tests}
-use Rattle.jt_ast.specs.Expressions.{Expr, group, list_of, map_of, attribute, item, call, filter, test, unary, binary}
-use Rattle.jt_ast.specs.Expressions.{when, choice, Exprs, no_exprs, expr, Pairs, no_pairs, pair}
-use Rattle.jt_ast.specs.Statements.{Parameter, FilterCall, Stmt, print, choose, for_each, set, set_block, with_values}
-use Rattle.jt_ast.specs.Statements.{filter_block, autoescape, macro, import_from, block, stmt, Branches, no_branches}
-use Rattle.jt_ast.specs.Statements.{branch, pairs_count, stmt_bound, branch_bound, Body, end, body_bound}
+use uses.{reads, binds, outside, place_at, expr_uses, row_uses, pair_uses, stmt_uses, branch_uses, filter_call_uses}
+use uses.{bound, keys_bound, parameters_bound, macros_bound, condition_uses, inside_callee, before_loop, Use, body_uses}
+use uses.{Site}
+use Rattle.jt_uses.proofs.ExpressionsBindNothing as below
+use below.{Passes}
 use Rattle.jt_chains.specs.Uses
 use Uses.{expr_names, row_names, pair_names, condition_names, filter_call_names, stmt_names, branch_names}
 use Uses.{scope_names_by, scope_names_under, scope_names_in, keywords, body_names, set_by, set_in, set_under}
-use uses.{reads, binds, outside, place_at, expr_uses, row_uses, pair_uses, stmt_uses, branch_uses, filter_call_uses}
-use uses.{bound, keys_bound, parameters_bound, macros_bound, condition_uses, inside_callee, before_loop, Use, body_uses}
+use Rattle.std.proofs.lemmas.Bool.Decides.{nat_tests}
+use Rattle.jt_ast.specs.Expressions
+use Expressions.{Expr, group, list_of, map_of, attribute, item, call, filter, test, unary, binary, when, choice, Exprs}
+use Expressions.{no_exprs, expr, Pairs, no_pairs, pair}
+use Rattle.jt_ast.specs.Statements
+use Statements.{Parameter, FilterCall, Stmt, print, choose, for_each, set, set_block, with_values, filter_block}
+use Statements.{autoescape, macro, import_from, block, stmt, Branches, no_branches, branch, pairs_count, stmt_bound}
+use Statements.{branch_bound, Body, end, body_bound}
 use Rattle.jt_uses.specs.declared.site.Place.{Place}
 use Rattle.jt_names.specs.declared.own.NamesOf.TheVariants.{Template, Scopes}
 use Rattle.jt_uses.specs.declared.site.Enclosing.{Enclosing}
 use Rattle.jt_names.proofs.SortedNames.{inserted_alike, ascending_inserted}
 use Rattle.jt_chains.specs.declared.chain.Chain.{Chain}
-use Rattle.jt_names.specs.declared.templates.TemplateFacts.{TemplateFacts}
+use Rattle.std.specs.Option.{option_map_or}
+use Rattle.jt_names.specs.declared.own.NamesOf.{NamesOf}
 use Rattle.jt_names.proofs.Vocabulary
-use Vocabulary.{is_loop, nat_lt, cons_option, option_map_or, among, used, name_used, names_by, NamesOf, ◌≡◌, Bool, true}
-use Vocabulary.{false, if◌then◌else◌, ℕ, ◌+◌, List, [], ◌∷◌, ◌++◌, length, map, refl, sym, ap, ◌∙◌, Option, Some, None}
-use Vocabulary.{arith, rules, filter_map, bytes_eq, Text, all_inserted, Site, sites_view, texts, body_at}
-use Vocabulary.{its_templates, IsKnownTemplate}
+use Vocabulary.{TemplateFacts, filter_map-append, needs_by, needs_in, needs_under, is_loop, nat_lt, cons_option, among}
+use Vocabulary.{used, name_used, names_by, ◌≡◌, Bool, true, false, if◌then◌else◌, ℕ, ◌+◌, List, [], ◌∷◌, ◌++◌, length}
+use Vocabulary.{map, refl, sym, ap, ◌∙◌, Option, Some, None, arith, rules, filter_map, bytes_eq, Text, all_inserted}
+use Vocabulary.{sites_view, texts, body_at, its_templates, IsKnownTemplate, name_included}
 
 -- ---- sums of weights
 
@@ -215,3 +221,61 @@ module _ (f : TemplateFacts) (c : Chain) (i : ℕ) (ns : List Text) (known : IsK
 
   pub known_names : all_inserted (texts f.names.items) ns ≡ all_inserted (body_names its_body) ns
   known_names = rw (known.names, ascending_inserted)
+
+-- ---- the included templates
+
+-- Expressions include nothing.
+passed : Passes name_included
+passed = search rules
+
+abbrev names_in : List Site → List Text
+names_in = filter_map name_included
+
+expr_none : (e : Expr) (p : Place) → names_in (expr_uses e p) ≡ []
+expr_none e p = (below.expr_none name_included passed e p).is
+
+bound_none : (xs : List Text) (p : Place) → names_in (bound xs p) ≡ []
+bound_none [] p = refl
+bound_none (x ∷ xs) p = bound_none xs p
+
+parameters_none : (ps : List Parameter) (p : Place) → names_in (parameters_bound ps p) ≡ []
+parameters_none [] p = refl
+parameters_none (x ∷ xs) p = parameters_none xs p
+
+keys_none : (ps : Pairs) (p : Place) → names_in (keys_bound ps p) ≡ []
+keys_none no_pairs p = refl
+keys_none (pair x e ps) p = keys_none ps p
+
+macros_none : (n : Text) (xs : List (Text × Text)) (p : Place) → names_in (macros_bound n xs p) ≡ []
+macros_none n [] p = refl
+macros_none n (x ∷ xs) p = macros_none n xs p
+
+mutual
+  stmt_includes : (s : Stmt) (w : Enclosing) → names_in (stmt_uses s w) ≡ needs_by true s
+  stmt_includes (print line e) w = expr_none e _
+  stmt_includes (choose bs other) w = simp (filter_map-append, branches_include bs, names_of_includes other)
+  stmt_includes (for_each line xs e c body other) w =
+      let condition = λ (p : Place). (below.condition_none name_included passed c p).is in
+      simp (filter_map-append, expr_none, bound_none, condition, names_of_includes body, names_of_includes other)
+  stmt_includes (set line xs e) w = simp (filter_map-append, expr_none, bound_none)
+  stmt_includes (set_block line x body) w = names_of_includes body _
+  stmt_includes (with_values line ps body) w =
+      let pairs = λ (p : Place). (below.pairs_none name_included passed ps p).is in
+      simp (filter_map-append, pairs, keys_none, names_of_includes body)
+  stmt_includes (filter_block line fs body) w =
+      let filters = λ (p : Place). (below.filter_calls_none name_included passed fs p).is in
+      simp (filter_map-append, filters, names_of_includes body)
+  stmt_includes (autoescape line on body) w = names_of_includes body _
+  stmt_includes (macro line x ps body) w = simp (filter_map-append, parameters_none, names_of_includes body)
+  stmt_includes (import_from line n xs) w = macros_none n xs _
+  stmt_includes (block line x scoped required body) w = names_of_includes body _
+  stmt_includes s w = refl
+
+  pub names_of_includes : (b : Body) (w : Enclosing) → names_in (body_uses b w) ≡ needs_in true b
+  names_of_includes end w = refl
+  names_of_includes (stmt s rest) w = simp (filter_map-append, stmt_includes s, names_of_includes rest)
+
+  branches_include : (bs : Branches) (w : Enclosing) → names_in (branch_uses bs w) ≡ needs_under true bs
+  branches_include no_branches w = refl
+  branches_include (branch line c body rest) w =
+      simp (filter_map-append, expr_none, names_of_includes body, branches_include rest)

@@ -9,9 +9,10 @@ use Rattle.std.proofs.lemmas.Cmp.{nat_list_eq_equiv, nat_list_cmp_total}
 use Rattle.std.proofs.lemmas.Map.Text.{is_eq-slice_cmp}
 use Rattle.std.proofs.lemmas.Slice.Eq.{bytes_eq-Decides}
 use Rattle.std.proofs.lemmas.Bool.{or_right}
+use denote.Ref.{Bor}
 use Rattle.jt_names.proofs.Vocabulary
-use Vocabulary.{Bor, ◌||◌, inserted, among, ◌≡◌, Bool, true, false, if◌then◌else◌, List, [], ◌∷◌, ◌++◌, refl, sym, ap}
-use Vocabulary.{◌∙◌, arith, rules, bytes_eq, Text, all_inserted, ascending, texts}
+use Vocabulary.{◌||◌, inserted, among, ◌≡◌, Bool, true, false, if◌then◌else◌, List, [], ◌∷◌, ◌++◌, refl, sym, ap, ◌∙◌}
+use Vocabulary.{arith, rules, bytes_eq, Text, all_inserted, ascending, texts}
 
 -- The insertion of a concatenation inserts the names of its first part, then those of its second
 -- part.

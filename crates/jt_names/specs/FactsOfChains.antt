@@ -1,8 +1,7 @@
 -- What is known of a chain and of the chains and libraries that it reaches.
 use Rattle.std.specs.Prelude.{◌≡◌, ◌<◌, ℕ, true, List, length, map, flat_map, option_map, get_or}
-use Rattle.jt_ast.specs.Expressions.{Text}
 use Rattle.jt_ast.specs.Texts.{ascending, texts}
-use Rattle.jt_chains.specs.Chain.{macros, given, given_to, all_bodies, templates}
+use Rattle.jt_chains.specs.Chain.{macros, given, given_to, all_bodies, templates, Text}
 use Rattle.jt_chains.specs.Includes.{needs_in}
 use Rattle.jt_chains.specs.Named.{given_view, names_view}
 use Rattle.jt_chains.specs.Parts.{macros_view, blocks_view}

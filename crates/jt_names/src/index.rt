@@ -2,10 +2,9 @@
 
 ghost use Rattle.std.specs.Prelude.{◌≡◌, List, map, option_map, IfOk, Some, None, if◌then◌else◌};
 ghost use Rattle.std.specs.Str.{bytes_eq};
-ghost use Rattle.jt_ast.specs.Expressions.{Text};
 ghost use Rattle.jt_ast.specs.Texts.{texts};
 ghost use Rattle.jt_chains.specs.Chain as chains;
-ghost use Rattle.jt_chains.specs.Chain.{Template, given_to};
+ghost use Rattle.jt_chains.specs.Chain.{Template, given_to, Text};
 ghost use Rattle.jt_chains.specs.Named.{given_view, names_view};
 ghost use Rattle.jt_chains.specs.Parts.{blocks_view};
 ghost use Rattle.jt_names.specs.Names.{value_in, AreIndices};

@@ -27,19 +27,15 @@ fn add_set<'a>(found: &mut Vec<&'a str>, statement: &'a Stmt) -> Result<(), Allo
     ensures { IfOk result (λ _. Adds found.old found.new (set_by (stmt_view statement.now))) }
 {
     match statement {
-        Stmt::Set { targets, .. } => add_names_of(found, targets),
-        Stmt::SetBlock { name, .. } => {
-            found.push(name.as_str())?;
-            Ok(())
-        }
+        Stmt::Set { targets, .. } => add_names_of(found, targets)?,
+        Stmt::SetBlock { name, .. } => found.push(name.as_str())?,
         Stmt::If(branches, other) => {
             for Branch { body, .. } in branches {
                 add_sets(found, body)?;
             }
             add_sets(found, other)?;
-            Ok(())
         }
-        Stmt::For { other, .. } => add_sets(found, other),
+        Stmt::For { other, .. } => add_sets(found, other)?,
         Stmt::Data(_)
         | Stmt::Print(_, _)
         | Stmt::With { .. }
@@ -50,8 +46,9 @@ fn add_set<'a>(found: &mut Vec<&'a str>, statement: &'a Stmt) -> Result<(), Allo
         | Stmt::Import { .. }
         | Stmt::From { .. }
         | Stmt::Extends(_, _)
-        | Stmt::Block { .. } => Ok(()),
+        | Stmt::Block { .. } => {}
     }
+    Ok(())
 }
 
 /// Returns the names that a body sets in its own scope, once for each occurrence, in the order of

@@ -67,7 +67,7 @@ pub(crate) fn facts_of_templates(
 }
 
 /// Returns whether no template `name` was read.
-#[tactic(auto, using(crate::proofs::LibraryNames::missing))]
+#[tactic(auto, using(jt_chains::proofs::TemplatesByIndex::missing))]
 pub fn is_missing(chain: &Chain, name: &str) -> bool
     ensures { result ≡ is_none (its_sources chain.now name.now) }
 {

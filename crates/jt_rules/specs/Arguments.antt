@@ -3,8 +3,7 @@ use Rattle.std.specs.Prelude.{ℕ, zero, suc, max, length, nat_lt, ◌==◌, Boo
 use Rattle.std.specs.Prelude.{if◌then◌else◌, List, [], ◌∷◌, map, drop, Option, Some, None}
 use Rattle.std.specs.Option.{is_some}
 use Rattle.std.specs.List.{list_any}
-use Rattle.jt_ast.specs.Expressions as trees
-use Rattle.jt_ast.specs.Expressions.{Exprs, no_pairs, pair, Text}
+use Rattle.jt_ast.specs.Expressions.{Exprs, Pairs, no_pairs, pair, Text}
 use Rattle.jt_ids.specs.declared.test_id.TestId.{TestId}
 use Rattle.jt_ids.specs.TestTable.{test_values}
 use Rattle.jt_ast.specs.Texts.{among, repeated}
@@ -13,7 +12,7 @@ use Rattle.jt_chains.specs.Chain.{Callee, a_macro, a_range, a_super, a_block, a_
 use Rattle.jt_chains.specs.Uses.{count, keywords}
 use Rattle.jt_eval.specs.Filters.{Filters, some_given}
 
-abbrev pub no_keywords : trees.Pairs → Bool
+abbrev pub no_keywords : Pairs → Bool
 no_keywords no_pairs = true
 no_keywords (pair k a ps) = false
 
@@ -26,7 +25,7 @@ fits parameters n names =
 
 -- True if the callee takes these arguments. A callee that cannot be called passes: it breaks
 -- another rule.
-abbrev pub callee_takes : Callee → Exprs → trees.Pairs → Bool
+abbrev pub callee_takes : Callee → Exprs → Pairs → Bool
 callee_takes (a_macro h m) arguments pairs = fits m.parameters (count arguments) (keywords pairs)
 callee_takes a_range arguments pairs = nat_lt 0 (count arguments) && (nat_lt (count arguments) 4 && no_keywords pairs)
 callee_takes a_super arguments pairs = (count arguments == 0) && no_keywords pairs
@@ -36,7 +35,7 @@ callee_takes no_callee arguments pairs = true
 
 -- True if the test takes these arguments: its number of values, the tested one included, and no
 -- keywords. An unknown test passes: the parser refuses it.
-abbrev pub test_takes : Option TestId → Exprs → trees.Pairs → Bool
+abbrev pub test_takes : Option TestId → Exprs → Pairs → Bool
 test_takes None arguments pairs = true
 test_takes (Some t) arguments pairs = (suc (count arguments) == test_values t) && no_keywords pairs
 
@@ -69,6 +68,6 @@ filter_takes fs (Some f) n names = filter_fits fs f n names
 
 -- True if the arguments of a filter name filters, tests and keys correctly. These names are text
 -- literals, and a named filter or test takes the number of values that it is called with.
-abbrev pub names_rightly : Filters → Option ℕ → Exprs → trees.Pairs → Bool
+abbrev pub names_rightly : Filters → Option ℕ → Exprs → Pairs → Bool
 names_rightly fs None arguments pairs = true
 names_rightly fs (Some f) arguments pairs = fs.inside f arguments pairs

@@ -1,8 +1,8 @@
 -- The property of templates that each test and filter is known. The parser ensures it.
 use Rattle.std.specs.Prelude.{Option, Some, None, List, [], ◌∷◌}
-use Rattle.jt_ast.specs.Expressions as trees
+use Rattle.std.specs.List.{AllByRecursion}
 use Rattle.jt_ast.specs.Expressions.{Expr, constant, name, group, list_of, map_of, attribute, item, call, filter, test}
-use Rattle.jt_ast.specs.Expressions.{unary, binary, when, choice, Exprs, no_exprs, expr, no_pairs, pair}
+use Rattle.jt_ast.specs.Expressions.{unary, binary, when, choice, Exprs, no_exprs, expr, Pairs, no_pairs, pair}
 use Rattle.jt_eval.specs.Tests.{test_named}
 use Rattle.jt_ast.specs.Statements.{FilterCall, Stmt, data_of, print, choose, for_each, set, set_block, with_values}
 use Rattle.jt_ast.specs.Statements.{filter_block, autoescape, macro, include, import_as, import_from, extends, block}
@@ -39,7 +39,7 @@ module _ (fs : Filters) where
     RowKnown no_exprs = Unit {0}
     RowKnown (expr a rest) = ExprKnown a × RowKnown rest
 
-    pub PairsKnown : trees.Pairs → Type 0
+    pub PairsKnown : Pairs → Type 0
     PairsKnown no_pairs = Unit {0}
     PairsKnown (pair k a pairs) = ExprKnown a × PairsKnown pairs
 
@@ -84,10 +84,7 @@ module _ (fs : Filters) where
 
 -- Holds if each filter and test of the templates is known.
 abbrev pub TemplatesKnown : Filters → List Template → Type 0
-TemplatesKnown fs [] = Unit {0}
-TemplatesKnown fs (t ∷ ts) = BodyKnown fs t.body × TemplatesKnown fs ts
+TemplatesKnown fs = AllByRecursion (λ t. BodyKnown fs t.body)
 
 abbrev pub ChainsKnown : CompileEnv → List Namespace → Type 0
-ChainsKnown cenv [] = Unit {0}
-ChainsKnown cenv (h ∷ hs) =
-    TemplatesKnown cenv.filters (templates cenv.sources h) × ChainsKnown cenv hs
+ChainsKnown cenv = AllByRecursion (λ h. TemplatesKnown cenv.filters (templates cenv.sources h))

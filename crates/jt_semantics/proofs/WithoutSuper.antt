@@ -1,9 +1,10 @@
 -- If `super()` is not called and the uses of a tree keep the rules in a block, they keep them outside
 -- blocks.
-use Rattle.std.proofs.Common.{◌≡◌, Bool, false, if◌then◌else◌, List, [], ◌∷◌, ◌++◌, Option, Some, None}
+use Rattle.std.proofs.Common.{◌≡◌, ℕ, Bool, false, if◌then◌else◌, List, [], ◌∷◌, ◌++◌, Option, Some, None}
 use Rattle.std.proofs.Common.{arith, rules}
 use Rattle.std.proofs.lemmas.Bool.{or_parts}
 use Rattle.std.specs.Prelude.{◌||◌, codes}
+use Rattle.std.specs.Option.{is_some, option_or}
 use Rattle.std.specs.Str.{bytes_eq}
 use Rattle.jt_ast.specs.Expressions as written
 use Rattle.jt_ast.specs.Expressions.{Expr, constant, name, group, list_of, attribute, item, unary, binary, when, choice}
@@ -15,7 +16,7 @@ use Rattle.jt_ast.specs.Statements.{Body, end, stmt, Branches, no_branches, bran
 use Rattle.jt_chains.specs.Chain.{Namespace, MacroBody, Definition, given, Callee, a_super, named_alone, named_in}
 use Rattle.jt_chains.specs.Chain.{of_library, in_library, callee, is_loop}
 use Rattle.jt_chains.specs.Supers.{is_super, has_super, row_super, pairs_super, condition_super, filter_call_super}
-use Rattle.jt_chains.specs.Supers.{stmt_super, calls_super, branches_super}
+use Rattle.jt_chains.specs.Supers.{line_if, stmt_super_line, calls_super, super_line, branches_super_line}
 use Rattle.jt_rules.specs.CompileEnv.{CompileEnv}
 use Rattle.jt_rules.specs.Rules.{MisusesLoop, CannotBeCalled}
 use Rattle.jt_uses.specs.Uses.{Use, Site, reads, binds, reads_loop_field, calls, filters, tests, declares_macro}
@@ -34,6 +35,14 @@ left_false a b e = (or_parts a b e).0
 
 pub right_false : (a b : Bool) → (a || b) ≡ false → b ≡ false
 right_false a b e = (or_parts a b e).1
+
+-- Of two lines there is neither.
+neither : (o p : Option ℕ) → is_some (option_or o p) ≡ false → (is_some o ≡ false) × (is_some p ≡ false)
+neither None p e = search (arith, rules)
+neither (Some n) p e = search (arith, rules)
+
+no_line : (c : Bool) (n : ℕ) → is_some (line_if c n) ≡ false → c ≡ false
+no_line c n e = search (arith, rules)
 
 -- The context outside blocks with the loop of this context.
 abbrev pub out_of : Enclosing → Enclosing
@@ -189,33 +198,33 @@ module _ (cenv : CompileEnv) (h : Namespace) where
       (filter_call_without fs p (right_false (pairs_super f.keywords) (filter_call_super fs) s1))
 
   mutual
-    stmt_without : (t : Stmt) (w : Enclosing) → stmt_super t ≡ false
+    stmt_without : (t : Stmt) (w : Enclosing) → is_some (stmt_super_line t) ≡ false
         → Follow (stmt_uses t w) (stmt_uses t (out_of w))
     stmt_without (data_of x) w s = same
-    stmt_without (print line e) w s = expr_without e (place_at line w) s
+    stmt_without (print line e) w s = expr_without e (place_at line w) (no_line _ line s)
     stmt_without (choose bs other) w s =
-        search (arith, rules, both, left_false, right_false, branches_without bs w, body_without other w)
+        let n = neither (branches_super_line bs) (super_line other) s in
+        both (branches_without bs w n.0) (body_without other w n.1)
     stmt_without (for_each line xs e c body other) w s =
-        let later = condition_super c || (calls_super body || calls_super other) in
-        let s1 = right_false (has_super e) later s in
-        let s2 = right_false (condition_super c) (calls_super body || calls_super other) s1 in
+        let n = neither (line_if (has_super e || condition_super c) line) _ s in
+        let m = neither (super_line body) (super_line other) n.1 in
+        let head = or_parts (has_super e) (condition_super c) (no_line _ line n.0) in
         let p = place_at line w in
         both
-        (both (expr_without e p (left_false (has_super e) later s))
-        (both (names_without xs (place_at line (inside_scope w)))
-        (condition_without c p (left_false (condition_super c) (calls_super body || calls_super other) s1))))
-        (both (body_without body (inside_loop w) (left_false (calls_super body) (calls_super other) s2))
-        (body_without other w (right_false (calls_super body) (calls_super other) s2)))
-    stmt_without (set line xs e) w s = both (expr_without e (place_at line w) s) (names_without xs (place_at line w))
+        (both (expr_without e p head.0)
+        (both (names_without xs (place_at line (inside_scope w))) (condition_without c p head.1)))
+        (both (body_without body (inside_loop w) m.0) (body_without other w m.1))
+    stmt_without (set line xs e) w s =
+        both (expr_without e (place_at line w) (no_line _ line s)) (names_without xs (place_at line w))
     stmt_without (set_block line x body) w s =
         both (one (binds x) (place_at line w) tt) (body_without body (inside_scope w) s)
     stmt_without (with_values line ps body) w s =
-        both (pairs_without ps (place_at line w) (left_false (pairs_super ps) (calls_super body) s))
-        (both (keys_without ps (place_at line (inside_scope w)))
-        (body_without body (inside_scope w) (right_false (pairs_super ps) (calls_super body) s)))
+        let n = neither (line_if (pairs_super ps) line) (super_line body) s in
+        both (pairs_without ps (place_at line w) (no_line _ line n.0))
+        (both (keys_without ps (place_at line (inside_scope w))) (body_without body (inside_scope w) n.1))
     stmt_without (filter_block line fs body) w s =
-        both (filter_call_without fs (place_at line w) (right_false (calls_super body) (filter_call_super fs) s))
-        (body_without body (inside_scope w) (left_false (calls_super body) (filter_call_super fs) s))
+        let n = neither (line_if (filter_call_super fs) line) (super_line body) s in
+        both (filter_call_without fs (place_at line w) (no_line _ line n.0)) (body_without body (inside_scope w) n.1)
     stmt_without (autoescape line on body) w s = body_without body (inside_scope w) s
     stmt_without (macro line x ps body) w s =
         both (one (declares_macro x ps body) (place_at line w) tt)
@@ -233,10 +242,14 @@ module _ (cenv : CompileEnv) (h : Namespace) where
         → Follow (body_uses b w) (body_uses b (out_of w))
     body_without end w s = same
     body_without (stmt t rest) w s =
-        search (arith, rules, both, left_false, right_false, stmt_without t w, body_without rest w)
+        let n = neither (stmt_super_line t) (super_line rest) s in
+        both (stmt_without t w n.0) (body_without rest w n.1)
 
-    branches_without : (bs : Branches) (w : Enclosing) → branches_super bs ≡ false
+    branches_without : (bs : Branches) (w : Enclosing) → is_some (branches_super_line bs) ≡ false
         → Follow (branch_uses bs w) (branch_uses bs (out_of w))
     branches_without no_branches w s = same
     branches_without (branch line c body rest) w s =
-        search (arith, rules, right_false, both, expr_without, left_false, body_without body w, branches_without rest w)
+        let n = neither (line_if (has_super c) line) _ s in
+        let m = neither (super_line body) (branches_super_line rest) n.1 in
+        both (both (expr_without c (place_at line w) (no_line _ line n.0)) (body_without body w m.0))
+        (branches_without rest w m.1)

@@ -1,7 +1,6 @@
 use Rattle.jt_chains.proofs.include_tags.+includes.Goals as goal
-use Rattle.std.proofs.lemmas.List.{drop_all}
-use Rattle.jt_ast.proofs.CollectedLists.{choice_added}
-use Rattle.jt_chains.proofs.{append-nil, refl, includes_by, includes_in, includes_under, include_need}
+use Rattle.jt_chains.specs.Includes.{includes_by, includes_in, includes_under}
+use Rattle.jt_chains.proofs.{drop_all, choice_added, append-nil, refl, include_need}
 
 pub add_statement-returns-in_ok-add_includes-in-If-2 : goal.add_statement-returns-in_ok-add_includes-in-If-2
 add_statement-returns-in_ok-add_includes-in-If-2 t c =

@@ -1,6 +1,6 @@
 use Rattle.jt_chains.proofs.include_tags.+includes.Given as goal
-use Rattle.jt_chains.proofs.{◌≡◌, ◌++◌, drop, body_view, branches_view, includes_in, includes_under, include_need}
-use Rattle.jt_chains.proofs.{needs_view}
+use Rattle.jt_chains.specs.Includes.{includes_in, includes_under}
+use Rattle.jt_chains.proofs.{◌≡◌, ◌++◌, drop, body_view, branches_view, include_need, needs_view}
 
 abbrev pub invariant-add_includes-loop-statement : goal.invariant-add_includes-loop-statement
 invariant-add_includes-loop-statement l =

@@ -1,9 +1,6 @@
 use Rattle.jt_chains.proofs.parts.+blocks.Goals as goal
-use Rattle.std.proofs.lemmas.List.{drop_all}
-use Rattle.jt_ast.proofs.CollectedLists.{choice_added}
 use Rattle.jt_chains.specs.Chain.{blocks_in, blocks_under, blocks_of}
-use Rattle.jt_chains.proofs.{refl}
-use Rattle.jt_chains.proofs.{append-nil, name_at}
+use Rattle.jt_chains.proofs.{drop_all, choice_added, refl, append-nil, name_at}
 
 pub add_statement-returns-in_ok-add_blocks-in-If-2 : goal.add_statement-returns-in_ok-add_blocks-in-If-2
 add_statement-returns-in_ok-add_blocks-in-If-2 t c = λ ts.

@@ -1,21 +1,19 @@
 use Rattle.jt_names.proofs.chains.facts_of_namespace.Goals as goal
-use Rattle.std.proofs.Common.{append_assoc}
-use Rattle.std.proofs.lemmas.List.{drop_all, map-append}
 use Rattle.jt_ast.specs.Statements.{Body}
-use Rattle.jt_chains.proofs.TemplatesByIndex.{namespace_along, namespace_indices, number_at}
 use Rattle.jt_chains.specs.Chain.{templates}
 use Rattle.jt_chains.specs.TemplateFiles.{file_view}
-use Rattle.jt_names.proofs.{namespace_in, ap, sym, subst, ◌∙◌, its_sources, its_templates, Text, List, arith, rules}
-use Rattle.jt_names.proofs.{AllByRecursion, along, flat_map, ◌≡◌, ◌<◌, get_or, length, length-map, texts, append-nil}
-use Rattle.jt_names.proofs.{drop_more, inserted_both, known_names, known_scopes}
+use Rattle.jt_names.proofs.{append_assoc, drop_all, map-append, All-from_recursion, namespace_along, namespace_indices}
+use Rattle.jt_names.proofs.{namespace_in, ap, ◌∙◌, its_sources, its_templates, Text, List, arith}
+use Rattle.jt_names.proofs.{rules, along, flat_map, ◌≡◌, ◌<◌, get_or, length, length-map, texts}
+use Rattle.jt_names.proofs.{append-nil, drop_more, inserted_both, known_names, known_scopes}
 
 pub loop-index-init : goal.loop-index-init
 loop-index-init c = record {
   within =
-      subst (λ n. AllByRecursion (λ i. i < n) c.deref-index-items.result.now)
-      (length-map c.args.chain.now.templates.items file_view ∙ sym c.requires.known.all)
+      rw c.requires.known.all
+      (rw (length-map c.args.chain.now.templates.items file_view) at
       (namespace_indices c.args.chain.now c.args.namespace c.index.result.now _ c.deref-index-items.ensures.value
-      c.requires.stands c.index.ensures);
+      c.requires.stands c.index.ensures));
   all_names = rw (c.new-names.ensures.empty, all);
   in_scopes = rw (c.new-scope_names.ensures.empty, all);
   all_macros = rw (c.new-macros.ensures.items, all);
@@ -36,7 +34,7 @@ loop-index-preserved c =
     let l = c.loop-index in
     let is = c.deref-index-items.result.now in
     let known = c.requires.known.each (get_or is l.index-index 0) c.index-templates-index.result
-    (number_at (λ j. j < length c.args.templates.now) is l.index-index c.loop-index-test.true l.invariant.within)
+    (All-from_recursion (λ j. j < length c.args.templates.now) is l.invariant.within _ 0 c.loop-index-test.true)
     c.index-templates-index.is in
     let lt = c.loop-index-test.true in
     record {
@@ -50,7 +48,6 @@ loop-index-preserved c =
 
 pub returns : goal.returns
 returns c =
-    let chain = c.args.chain.now in
     let l = c.loop-index.invariant in
     let ended = c.loop-index-test.false in
     let macros = simp (drop_all, append-nil) at l.all_macros in
@@ -61,14 +58,13 @@ returns c =
       scope_names = ap texts c.in_ok-list_of-2.ensures ∙ (simp drop_all at l.in_scopes);
       all_macros = macros;
       all_defined = defined;
-      all_given =
-          λ x. rw (
-            c.in_ok-given.ensures (its_templates chain) (namespace_in chain c.args.namespace) x,
-            c.deref-3.ensures.value,
-            defined,
-          );
+      all_given = λ x. rw (c.in_ok-given.ensures, c.deref-3.ensures.value, defined);
       all_blocks = blocks;
       first_bodies =
-          λ x. rw (c.in_ok-first_bodies.ensures (its_templates chain) x, c.deref-4.ensures.value, blocks);
+          λ x. rw (
+            c.in_ok-first_bodies.ensures (its_templates c.args.chain.now) x,
+            c.deref-4.ensures.value,
+            blocks,
+          );
       all_includes = simp (drop_all, append-nil) at l.all_includes;
     }

@@ -1,10 +1,9 @@
 use Rattle.jt_names.proofs.chains.facts_of_namespace.Given as goal
 use Rattle.jt_chains.specs.Chain.{all_bodies, blocks_in, macros, macros_in, templates}
-use Rattle.jt_chains.specs.Includes.{needs_in}
-use Rattle.jt_chains.specs.Parts.{macros_view}
+use Rattle.jt_chains.specs.Parts.{macros_view, blocks_view}
 use Rattle.jt_chains.specs.Uses.{body_names, own_names, scope_names_in, scope_names}
-use Rattle.jt_names.proofs.{AllByRecursion, its_sources, its_templates, namespace_in, ◌≡◌, ◌<◌, ◌++◌, length, drop}
-use Rattle.jt_names.proofs.{all_inserted, ascending, blocks_view, along, flat_map, texts, true}
+use Rattle.jt_names.proofs.{needs_in, AllByRecursion, its_sources, its_templates, namespace_in, ◌≡◌, ◌<◌}
+use Rattle.jt_names.proofs.{◌++◌, length, drop, all_inserted, ascending, along, flat_map, texts, true}
 
 abbrev pub invariant-loop-index : goal.invariant-loop-index
 invariant-loop-index l = record {

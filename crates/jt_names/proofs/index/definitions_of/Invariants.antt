@@ -1,7 +1,7 @@
 use Rattle.jt_names.proofs.index.definitions_of.Given as goal
-use Rattle.jt_chains.specs.Chain.{Template, Namespace}
+use Rattle.jt_chains.specs.Chain.{Template, Namespace, given_to}
 use Rattle.jt_chains.specs.Named.{given_view, names_view}
-use Rattle.jt_names.proofs.{given_to, ◌≡◌, ◌≤◌, List, length, drop, option_map, Text, value_in}
+use Rattle.jt_names.proofs.{◌≡◌, ◌≤◌, List, length, drop, option_map, Text, value_in}
 
 abbrev pub invariant-loop-left : goal.invariant-loop-left
 invariant-loop-left l = record {

@@ -1,6 +1,7 @@
 use Rattle.jt_names.proofs.index.first_bodies.Given as goal
 use Rattle.jt_chains.specs.Chain.{Template}
-use Rattle.jt_names.proofs.{AreIndices, ◌≤◌, List, length, map, drop, blocks_view}
+use Rattle.jt_chains.specs.Parts.{blocks_view}
+use Rattle.jt_names.proofs.{AreIndices, ◌≤◌, List, length, map, drop}
 
 abbrev pub invariant-loop-left : goal.invariant-loop-left
 invariant-loop-left l = record {

@@ -1,8 +1,7 @@
 use Rattle.jt_names.proofs.sets.+sets.Goals as goal
-use Rattle.std.proofs.lemmas.List.{drop_all}
 use Rattle.jt_ast.proofs.CollectedLists.{choice_added}
 use Rattle.jt_chains.specs.Uses.{set_by, set_in, set_under}
-use Rattle.jt_names.proofs.{refl, append-nil}
+use Rattle.jt_names.proofs.{drop_all, refl, append-nil}
 
 pub add_set-returns-in_ok-add_sets-in-If-2 : goal.add_set-returns-in_ok-add_sets-in-If-2
 add_set-returns-in_ok-add_sets-in-If-2 t c =

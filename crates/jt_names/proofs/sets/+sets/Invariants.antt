@@ -1,6 +1,7 @@
 use Rattle.jt_names.proofs.sets.+sets.Given as goal
 use Rattle.jt_chains.specs.Uses.{set_in, set_under}
-use Rattle.jt_names.proofs.{body_view, branches_view, ◌≡◌, ◌++◌, drop, texts}
+use Rattle.jt_ast.specs.StatementView.{body_view, branches_view}
+use Rattle.jt_names.proofs.{◌≡◌, ◌++◌, drop, texts}
 
 abbrev pub invariant-add_sets-loop-statement : goal.invariant-add_sets-loop-statement
 invariant-add_sets-loop-statement l =

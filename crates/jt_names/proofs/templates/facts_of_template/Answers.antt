@@ -1,14 +1,11 @@
 use Rattle.jt_names.proofs.templates.facts_of_template.Goals as goal
-use Rattle.jt_chains.proofs.TemplatesByIndex.{file_at}
 use Rattle.jt_names.specs.declared.own.NamesOf.TheVariants.{Template}
-use Rattle.jt_names.proofs.{its_templates, body_at, body_view, names_of_includes, names_inserted, sym, ◌∙◌, ◌≡◌}
+use Rattle.jt_names.proofs.{file_at, names_of_includes, names_inserted}
 
 pub returns : goal.returns
 returns c =
-    let chain = c.args.chain.now in
-    let tree : body_view c.body.result.now ≡ body_at (its_templates chain) c.args.index =
-    c.body.ensures ∙ sym (file_at chain.templates.items c.args.index c.index.result.now c.requires c.index.ensures) in
-    let uses = rw tree at c.in_ok-uses.ensures in
+    let tree = file_at c.args.chain.now.templates.items c.args.index c.index.result.now c.requires c.index.ensures in
+    let uses = rw (c.body.ensures, ← tree) at c.in_ok-uses.ensures in
     record {
       uses = uses;
       names =

@@ -3,7 +3,7 @@ use Rattle.jt_names.proofs.{IsKnownTemplate, each_pushed}
 
 pub loop-index-preserved : goal.loop-index-preserved
 loop-index-preserved c =
-    let l = c.loop-index in
-    let r = each_pushed (IsKnownTemplate c.args.chain.now) l.found.items c.in_ok-facts_of_template.field-0 l.index
-    c.in_ok-push.ensures.items l.invariant.all l.invariant.each c.in_ok-facts_of_template.ensures in
+    let l = c.loop-index.invariant in
+    let r = each_pushed (IsKnownTemplate c.args.chain.now) _ _ _ c.in_ok-push.ensures.items l.all l.each
+    c.in_ok-facts_of_template.ensures in
     record { all = r.0; each = r.1 }

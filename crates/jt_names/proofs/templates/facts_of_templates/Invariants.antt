@@ -1,6 +1,5 @@
 use Rattle.jt_names.proofs.templates.facts_of_templates.Given as goal
-use Rattle.jt_names.specs.declared.templates.TemplateFacts.{TemplateFacts}
-use Rattle.jt_names.proofs.{IsKnownTemplate, ◌≡◌, ◌<◌, ℕ, length, get_or}
+use Rattle.jt_names.proofs.{TemplateFacts, IsKnownTemplate, ◌≡◌, ◌<◌, ℕ, length, get_or}
 
 abbrev pub invariant-loop-index : goal.invariant-loop-index
 invariant-loop-index l = record {

@@ -1,6 +1,5 @@
 use Rattle.jt_chains.proofs.chain.Chain.definitions.Goals as goal
-use Rattle.std.proofs.lemmas.List.{drop_all}
-use Rattle.jt_chains.proofs.{imports_from, its_templates, append-nil}
+use Rattle.jt_chains.proofs.{drop_all, its_templates, append-nil, imports_from}
 
 pub loop-index-init : goal.loop-index-init
 loop-index-init c =

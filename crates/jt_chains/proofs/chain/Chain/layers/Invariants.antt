@@ -1,8 +1,7 @@
 use Rattle.jt_chains.proofs.chain.Chain.layers.Given as goal
-use Rattle.jt_chains.specs.Chain.{templates}
 use Rattle.jt_chains.specs.Layers.{layer_view}
-use Rattle.jt_chains.proofs.{◌≡◌, ◌++◌, ◌<◌, ◌≤◌, [], length, map, drop, layers_along, its_templates, its_sources}
-use Rattle.jt_chains.proofs.{namespace_in}
+use Rattle.jt_chains.proofs.{templates, ◌≡◌, ◌++◌, ◌<◌, ◌≤◌, [], length, map, drop, layers_along, its_templates}
+use Rattle.jt_chains.proofs.{its_sources, namespace_in}
 
 abbrev pub invariant-loop-index : goal.invariant-loop-index
 invariant-loop-index l = record {

@@ -1,6 +1,5 @@
 use Rattle.jt_chains.proofs.chain.Chain.libraries.Given as goal
-use Rattle.jt_chains.specs.Chain.{libraries}
-use Rattle.jt_chains.proofs.{◌≡◌, ◌++◌, ◌<◌, ◌≤◌, [], length, map, drop, along, libraries_in, its_templates}
+use Rattle.jt_chains.proofs.{libraries, ◌≡◌, ◌++◌, ◌<◌, ◌≤◌, [], length, map, drop, along, libraries_in, its_templates}
 use Rattle.jt_chains.proofs.{body_view, its_sources, namespace_in}
 
 abbrev pub invariant-loop-index : goal.invariant-loop-index

@@ -1,7 +1,16 @@
 use Rattle.jt_names.proofs.facts.ChainFacts.count_in_library.Goals as goal
 use Rattle.std.proofs.lemmas.Option.{slice_get_past}
-use Rattle.jt_chains.proofs.TemplatesByIndex.{file_at}
-use Rattle.jt_names.proofs.{arith, rules, tests, length-map, library_counted, its_templates}
+use Rattle.jt_chains.specs.Chain.{a_library, holds_macros, Template, sources_in}
+use Rattle.jt_chains.specs.Indices.{index_of}
+use Rattle.jt_chains.specs.Uses.{own_names, body_names}
+use Rattle.jt_names.proofs.{file_at, named, arith, rules, tests, length-map, its_templates, List, Text, ℕ, ◌≡◌}
+use Rattle.jt_names.proofs.{if◌then◌else◌, body_at, length, ascending, append-nil}
+
+-- The facts of a library's template have the number of its names, and another template has no names as a library.
+library_counted : (ts : List Template) (n : Text) (i : ℕ) → i ≡ index_of ts n
+    → (if holds_macros (body_at ts i) then length (ascending (body_names (body_at ts i))) else 0)
+    ≡ length (ascending (own_names (sources_in ts) (a_library n)))
+library_counted ts n i e = rw (e, named ts n) (search (arith, rules, append-nil))
 
 pub index-requires : goal.index-requires
 index-requires c = grind (arith, length-map, tests)
