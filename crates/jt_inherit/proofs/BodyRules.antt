@@ -1,14 +1,13 @@
 -- The rules on bodies of blocks, as they are checked one body at a time.
 use Rattle.jt_inherit.proofs.Vocabulary as words
-use words.{◌≡◌, ℕ, zero, suc, ◌+◌, ◌<◌, Bool, true, false, not, ◌&&◌, ◌||◌, List, [], ◌∷◌, ◌++◌, length, map}
-use words.{take, drop, get_or, refl, sym, ap, ◌∙◌, arith, rules, Some}
-use words.{body_at, BlockBody, from_given, named, slice_get, drop_more, map-append}
-use words.{slice_get-get_or, list_any, bytes_eq, among, repeated, Text, end, option_to_list, templates_at}
-use words.{any_double, Template, blocks_in, lacks_body, lacks_next, block_view, blocks_view, Block}
-use words.{calls_super, of_texts, reflexive, same, among_next, once_more}
-use words.{or_from, or_parts}
-use words.{or_right, take_more, Namespace, map-map, take-append-drop}
-use words.{length-map, true_from_ne_false, and_right, both_ways, map_at}
+use words.{◌≡◌, ℕ, suc, ◌+◌, ◌<◌, Bool, true, false, not, ◌&&◌, ◌||◌, List, [], ◌∷◌, ◌++◌, length, map, take}
+use words.{drop, get_or, refl, sym, ap, ◌∙◌, arith, rules, Some, body_at, BlockBody, from_given, named}
+use words.{drop_more, map-append, slice_get-get_or, list_any, bytes_eq, among, repeated, Text, end}
+use words.{templates_at, any_double, Template, blocks_in, lacks_body, lacks_next, block_view, blocks_view, calls_super}
+use words.{of_texts, reflexive, same, once_more, or_from, or_parts, or_right, take_more}
+use words.{take-append-drop, length-map, true_from_ne_false, and_right, both_ways, map_at, Option, None, if◌then◌else◌}
+use words.{comes_again}
+use Rattle.jt_chains.specs.declared.parts.Block.{Block}
 use Rattle.std.proofs.lemmas.List.{length-take-le}
 use Rattle.std.proofs.lemmas.Option.{get_or_from_slice_get}
 use Rattle.jt_chains.specs.Parts.{name_at}
@@ -17,7 +16,6 @@ use Rattle.jt_names.specs.Names.{first_of}
 use Rattle.std.specs.Option.{option_eq, is_some}
 use Rattle.std.proofs.Math.Dec.{eqb}
 use Rattle.std.proofs.lemmas.Bool.{eq-eqb, eqb-true}
-use words.{Option, None, if◌then◌else◌}
 
 -- ---- the first position of a text
 
@@ -39,12 +37,6 @@ index_is (Some j) i e = ap (λ k. Some k) (eqb-true j i e)
 
 pub index_not : (o : Option ℕ) (i : ℕ) → option_eq eqb o (Some i) ≡ false → o ≡ Some i → ⊥
 index_not o i e is = both_ways _ (rw is at e) (eq-eqb i i refl)
-
--- ---- repeated names
-
-pub again : (x : Text) (xs ys : List Text) → among x xs ≡ true → repeated (xs ++ x ∷ ys) ≡ true
-again x [] ys h = absurd (cc)
-again x (y ∷ xs) ys h = search (arith, rules, again x xs ys, same, among_next of_texts, or_right)
 
 -- ---- the nearest body
 
@@ -122,13 +114,13 @@ none_next bs b cs n h = search (arith, rules, none_behind, reflexive, any_here, 
 
 module _ {X : Type 0} (xs : List X) (i : ℕ) (x : X) (lt : i < length xs) (is : x ≡ get_or xs i x) where
   from_here : drop i xs ≡ x ∷ drop (i + 1) xs
-  from_here = drop_more xs i x lt ∙ ap (λ y. y ∷ drop (i + 1) xs) (sym is)
+  from_here = rw (drop_more xs i x lt, ← is)
 
-  parted : xs ≡ take i xs ++ x ∷ drop (i + 1) xs
+  pub parted : xs ≡ take i xs ++ x ∷ drop (i + 1) xs
   parted = sym (take-append-drop i xs) ∙ ap (λ l. take i xs ++ l) from_here
 
-  take_next : take (i + 1) xs ≡ take i xs ++ x ∷ []
-  take_next = take_more xs i x lt ∙ ap (λ y. take i xs ++ y ∷ []) (sym is)
+  pub take_next : take (i + 1) xs ≡ take i xs ++ x ∷ []
+  take_next = rw (take_more xs i x lt, ← is)
 
   -- Its name comes before exactly if its position is not the first one of the name.
   module _ (f : X → Text) where
@@ -148,7 +140,9 @@ module _ {X : Type 0} (xs : List X) (i : ℕ) (x : X) (lt : i < length xs) (is :
     is_known n = search (arith, rules, true_from_ne_false, first_after, first_here, count)
 
     pub repeat_found : (first_of (f x) 0 (map f xs) ≡ Some i → ⊥) → repeated (map f xs) ≡ true
-    repeat_found n = ap repeated (ap (map f) parted ∙ map-append f (take i xs) _) ∙ again (f x) before _ (is_known n)
+    repeat_found n =
+        ap repeated (ap (map f) parted ∙ map-append f (take i xs) _)
+        ∙ comes_again of_texts (f x) before _ (is_known n)
 
     pub repeat_goes : first_of (f x) 0 (map f xs) ≡ Some i → repeated before ≡ false
         → repeated (map f (take (i + 1) xs)) ≡ false

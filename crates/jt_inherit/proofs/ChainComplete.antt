@@ -3,18 +3,15 @@
 use Rattle.jt_inherit.proofs.Vocabulary as words
 use words.{◌≡◌, ◌≢◌, ◌↔◌, ℕ, zero, suc, ◌+◌, ◌*◌, ◌<◌, ◌≤◌, ◌==◌, true, false, not, ◌&&◌, List, [], ◌∷◌, length, map}
 use words.{refl, sym, ap, subst, ◌∙◌, arith, inl, inr, ◌⊎◌, ⊎_elim, Some, None, Vec, Global, get_or, rules, names}
-use words.{slice_get_within, length-map, map-map, slice_get, AllByRecursion, list_any, is_none, cases_lt}
-use words.{nat_tests, Graph, next_of, graph_of, Options, among, repeated, Text, templates_at, needs_along}
-use words.{Namespace, a_chain, listed, is_a_library, Template, templates, sources_in, SourceTexts}
-use words.{chains_of, AreFound, IsFound, found_templates, found_namespaces, root_of, IsFollowed}
-use words.{AreFollowed, IsMet, found_paths, listed_view, included, InOrder}
-use words.{IsName, Need, needed, namespace_at}
-use words.{Asks, Reaches, asked, is_whole, templates_weight, chains_weight, templates_len}
-use words.{chains_len, Seen, AreKnown, IsExtendsPath, Discovery, map_at, of_texts, same, chain_among}
-use words.{of_namespaces, among_cases, no_more, indexed_among, and_from, and_right, both_ways, list_any-append}
-use words.{not-true, or_from, or_right, IsClosed, IsOrder, IsDone, begins_with_chain, namespace_view, AreWhole}
-use words.{given_templates, IsLinked, KeepsLinkRules}
-use words.{all_weaker}
+use words.{slice_get_within, length-map, map-map, slice_get, AllByRecursion, list_any, is_none, cases_lt, nat_tests}
+use words.{Graph, next_of, graph_of, Options, among, repeated, Text, templates_at, needs_along, Namespace, a_chain}
+use words.{listed, is_a_library, Template, templates, sources_in, SourceTexts, chains_of, AreFound, IsFound}
+use words.{found_templates, found_namespaces, root_of, IsFollowed, AreFollowed, IsMet, found_paths, listed_view}
+use words.{included, InOrder, IsName, Need, needed, namespace_at, Asks, Reaches, asked, is_whole, templates_weight}
+use words.{chains_weight, templates_len, chains_len, Seen, AreKnown, IsExtendsPath, Discovery, map_at, of_texts, same}
+use words.{chain_among, of_namespaces, among_cases, no_more, indexed_among, and_from, and_right, both_ways}
+use words.{list_any-append, not-true, or_from, or_right, IsClosed, IsOrder, IsDone, begins_with_chain, namespace_view}
+use words.{AreWhole, given_templates, IsLinked, KeepsLinkRules, all_weaker}
 use Rattle.jt_inherit.proofs.TreeWeights.{few_chains, all_weigh}
 use Rattle.jt_inherit.proofs.DiscoveryInvariant.{none_read, few_way, way_names, asked_way, indexed_templates}
 use Rattle.jt_inherit.proofs.DiscoveryInvariant.{included_is, whole_path, some_source}
@@ -22,7 +19,7 @@ use Rattle.jt_inherit.proofs.PathsGrow.{few_templates, all_at_indices, too_few, 
 use Rattle.jt_inherit.proofs.PathsGrow.{have_sources, all_among, repeated_up, weigh, names_indexed}
 use Rattle.jt_inherit.proofs.TopologicalOrder.{namespace_among, number_of, names_in_order, reached_in_order, no_cycle}
 use Rattle.jt_inherit.proofs.TopologicalOrder.{first_in_order, named_among}
-use Rattle.jt_graph.specs.Graph as graph
+use words.graph
 use Rattle.jt_chains.specs.declared.chain.Namespace as declared
 
 -- ---- chains by their numbers
@@ -39,8 +36,8 @@ all_rows P (w ∷ ws) f = (f 0 (omega arith), all_rows P ws (λ i lt. f (suc i) 
 numbers_within : (hs : List Namespace) (js : List ℕ) (ns : List Namespace) → map (slice_get hs) js ≡ map Some ns
     → AllByRecursion (λ j. j < length hs) js
 numbers_within hs [] ns e = tt
-numbers_within hs (j ∷ js) [] e = absurd (cc)
 numbers_within hs (j ∷ js) (n ∷ ns) e = search (arith, rules, slice_get_within, numbers_within hs js ns)
+numbers_within hs js ns e = absurd (cc)
 
 next_within : (given : SourceTexts) (ts : List Template) (hs : List Namespace) (ws ns : Graph)
     → AreFollowed given ts hs ws ns → AllByRecursion (λ js. AllByRecursion (λ j. j < length hs) js) ns
@@ -48,10 +45,9 @@ next_within given ts hs ws ns f = search (arith, rules, all_rows, numbers_within
 
 numbered_among : (hs : List Namespace) (j : ℕ) (js : List ℕ) (ns : List Namespace) → map (slice_get hs) js ≡ map Some ns
     → graph.among j js ≡ true → listed (namespace_at hs j) ns ≡ true
-numbered_among hs j [] ns e a = absurd (cc)
-numbered_among hs j (k ∷ js) [] e a = absurd (cc)
 numbered_among hs j (k ∷ js) (n ∷ ns) e a =
     search (arith, rules, numbered_among hs j js ns, nat_tests, indexed_among of_namespaces, or_right)
+numbered_among hs j js ns e a = absurd (cc)
 
 pub none_next : (ns : Graph) (i j : ℕ) → length ns ≤ i → graph.among j (next_of ns i) ≡ true → ⊥
 none_next [] i j le a = cc
@@ -108,7 +104,7 @@ module _ {given : SourceTexts} {options : Options} {ts : List Template}
         (λ p. all_among P _ x a p)
         (λ q. needs_met given ts P f (needs_along ts is) met x q)
         (among_cases of_texts x _ _
-        (sym (ap (among x) (asked_way options.autoescape w true)) ∙ i))
+        (rw (asked_way options.autoescape w true) at i))
 
 -- ---- all chains and libraries
 
@@ -163,12 +159,10 @@ module _ {given : SourceTexts} {options : Options} {entry : Text} {ts : List Tem
 
     entry_in : listed (a_chain entry) its_order ≡ true
     entry_in =
-        ap (listed (a_chain entry)) named
-        ∙ ap (λ h. listed h (map (namespace_at hs) is)) (sym first_namespace)
-        ∙ named_among hs 0 is (o.all 0 (omega (arith, lens, some)))
+        rw (named, ← first_namespace) (named_among hs 0 is (o.all 0 (omega (arith, lens, some))))
 
     in_namespaces : (x : Namespace) → listed x its_order ≡ true → listed x hs ≡ true
-    in_namespaces x a = from is within (sym (ap (listed x) named) ∙ a)
+    in_namespaces x a = from is within (rw named at a)
       where
         from : (js : List ℕ) → AllByRecursion (λ i. i < length hs) js → listed x (map (namespace_at hs) js) ≡ true
             → listed x hs ≡ true
@@ -311,10 +305,9 @@ module _ {given : SourceTexts} {options : Options} {entry : Text} {ts : List Tem
     whole_along : (js : List ℕ) (ks : List declared.Namespace) → AllByRecursion (λ i. i < length hs) js
         → map listed_view ks ≡ map (λ i. (namespace_at hs i, next_of ws i)) js → AreWhole ts ks
     whole_along [] [] w a = tt
-    whole_along [] (k ∷ ks) w a = absurd (cc)
-    whole_along (j ∷ js) [] w a = absurd (cc)
     whole_along (j ∷ js) (k ∷ ks) w a =
         search (arith, rules, number, names_indexed, indexed_templates, whole_path, whole_along js ks w.1)
+    whole_along js ks w a = absurd (cc)
 
     pub all_whole : AreWhole ts namespaces
     all_whole = whole_along is namespaces within made

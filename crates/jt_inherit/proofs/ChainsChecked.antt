@@ -1,33 +1,31 @@
 -- A linked chain keeps the rules if its chains and libraries keep those on blocks, macros and imports. If one of them
 -- breaks such a rule, the finding is true.
 use Rattle.jt_inherit.proofs.Vocabulary as words
-use words.{◌≡◌, ◌<◌, ◌||◌, ℕ, Bool, true, false, List, [], ◌∷◌, map, length, get_or, refl, sym, ap, subst, ◌∙◌, arith}
-use words.{rules, Some, None, Option, AllByRecursion, slice_get, Text, Body, Options, Sources, Namespace}
-use words.{a_chain, a_library, listed, Template, templates, templates_at, SourceTexts, Seen, sources_of}
-use words.{IsChain, IsFinding, IsNoMemory, Says, may_be_bare, Breaks, Shows, Reaches, KeepsRules, ChainError}
-use words.{ChainFinding, ChainSubject, TagPlace, BreakOne, KeepAll, any_lacks_macros, IsOfRule, RuleAt, BrokenIn}
-use words.{IsBroken, is_whole, and_from, and_right, both_ways, same_namespace, length-map}
-use words.{namespace_view, IsLinked, library_template}
+use words.{◌≡◌, ◌<◌, ℕ, Bool, true, false, List, [], ◌∷◌, map, length, get_or, refl, subst, arith}
+use words.{rules, Some, None, Option, AllByRecursion, slice_get, Text, Body, Options, Sources, Namespace, a_chain}
+use words.{a_library, listed, Template, templates, templates_at, SourceTexts, Seen, sources_of, IsChain, IsFinding}
+use words.{IsNoMemory, Says, may_be_bare, Breaks, Shows, Reaches, KeepsRules, ChainError, ChainFinding, ChainSubject}
+use words.{TagPlace, BreakOne, KeepAll, any_lacks_macros, IsOfRule, RuleAt, BrokenIn, IsBroken, is_whole, and_from}
+use words.{and_right, both_ways, same_namespace, length-map, namespace_view, IsLinked, library_template}
 use Rattle.jt_chains.proofs.TemplatesByIndex.{indices_of_namespace}
 use Rattle.jt_chains.specs.View.{chain_view, its_sources, its_templates, namespace_in}
 use Rattle.jt_chains.specs.declared.chain.Chain.{Chain}
 use Rattle.jt_chains.specs.declared.chain.Namespace as declared
 use Rattle.jt_inherit.specs.internal.Breaking.{BreaksAt, KeepsAt}
-use Rattle.jt_inherit.proofs.ChainIsUnique.{no_chain, one_chain}
+use Rattle.jt_inherit.proofs.RulesCarryOver.{no_chain, one_chain}
 use Rattle.jt_inherit.proofs.DiscoveryInvariant.{none_lacking}
 use Rattle.jt_inherit.proofs.NamespaceMembership.{reflexive, same}
 use Rattle.jt_inherit.proofs.TopologicalOrder.{namespace_among, number_of, reached_in_order}
-use Rattle.jt_inherit.specs.declared.error.ChainError.TheVariants as error
-use Rattle.jt_inherit.specs.declared.finding.ChainSubject.TheVariants as v
+use words.error
+use words.v
 
 -- ---- the templates of a chain or library, by their indices
 
 at_from : (ts : List Template) (is : List ℕ) (us : List Template) → map (slice_get ts) is ≡ map Some us
     → templates_at ts is ≡ us
 at_from ts [] [] e = refl
-at_from ts [] (u ∷ us) e = absurd (cc)
-at_from ts (i ∷ is) [] e = absurd (cc)
 at_from ts (i ∷ is) (u ∷ us) e = search (arith, rules, slice_get, at_from ts is us)
+at_from ts is us e = absurd (cc)
 
 pub own_templates : (c : Chain) (i : ℕ) (h : declared.Namespace) (is : List ℕ) → is ≡ h.templates.items
     → i < length c.namespaces.items → h ≡ get_or c.namespaces.items i h
@@ -72,7 +70,7 @@ at_listed P (k ∷ hs) a h there = by (same_namespace k h) refl (at_listed P hs 
   where
     by : (b : Bool) → same_namespace k h ≡ b → (listed h hs ≡ true → P h) → P h
     by true e rest = subst P (same k h e) a.0
-    by false e rest = rest (sym (ap (λ b. b || listed h hs) e) ∙ there)
+    by false e rest = rest (rw e at there)
 
 -- ---- a linked chain
 

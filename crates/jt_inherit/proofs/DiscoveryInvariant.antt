@@ -1,25 +1,26 @@
 -- One step of the search, and what stays true of followed chains and libraries when more is found.
 use Rattle.jt_inherit.proofs.Vocabulary as words
-use words.{◌≡◌, Bool, true, false, List, [], ◌∷◌, ◌++◌, map, refl, ap, arith, rules, ℕ, zero, suc, ◌+◌, ◌<◌, ◌≤◌, not}
-use words.{◌||◌, length, take, drop, get_or, sym, subst, ◌∙◌, inl, inr, ◌⊎◌, ⊎_elim, Some, length-append, Option, None}
-use words.{Vec, Global, includes_by, includes_under, flat_map, filter, AllByRecursion}
-use words.{map-append, Text, Body, Branches, among, Sources, Namespace, a_chain, a_library, Template, holds_macros}
-use words.{libraries_in, lacks_macros, chosen, includes_in, Need}
-use words.{include_need, library_need, needed, and_parts, HasRead, names, KeyedNeed, keyed_needs, keyed_view, Options}
-use words.{needed-append, slice_get, bytes_eq, append-nil, append_assoc, drop_more, repeated, SourceTexts, listed}
-use words.{AreNext, TooMany, IsNextFault, IsMet, chains_of, twice, need_namespace, ChainError, of_texts, reflexive}
-use words.{chain_among, of_namespaces, among_behind, among_cases, among_front, among_next, once_more, only_among}
-use words.{or_from, or_parts, take-append-drop, take_more, HasPath, FollowedPath, HasNeeds, cases_lt, slice_get_within}
-use words.{unwrap_or, is_some, option_to_list, length-map, AreIndices, templates_at, imports_along, needs_along}
-use words.{namespace_name, templates, libraries, sources_in, IsRead, IsFollowed, AreFollowed, AreFound, included}
-use words.{namespace_at, Reaches, here, asked, extends_path, IsExtendsPath, by_templates, along_templates, next_of}
-use words.{graph_of, same, indexed_among, filter_agree, AddsNext, known_of, IsLedTo}
-use words.{all_weaker, all_more, map_push, slice_get-get_or}
-use Rattle.jt_inherit.proofs.PathsGrow.{at_front, last_at, read_on, indices_grow, names_to_root, templates_grow}
-use Rattle.jt_inherit.proofs.PathsGrow.{way_grows}
-use Rattle.jt_inherit.proofs.PathsGrow.{few_templates, templates_to_root, reach_more, ask_more, reaches_next}
-use Rattle.jt_ast.specs.Statements as trees
-use Rattle.jt_inherit.specs.declared.error.ChainError.TheVariants as error
+use words.{◌≡◌, Bool, true, false, List, [], ◌∷◌, ◌++◌, map, refl, ap, arith, rules, ℕ, ◌+◌, ◌<◌, ◌≤◌, not}
+use words.{◌||◌, length, take, drop, get_or, sym, ◌∙◌, inl, inr, ◌⊎◌, ⊎_elim, Some, length-append, None}
+use words.{includes_by, includes_under, flat_map, filter, AllByRecursion, map-append, Text, Body, Branches}
+use words.{among, Sources, Namespace, a_chain, a_library, Template, holds_macros, libraries_in, lacks_macros, chosen}
+use words.{includes_in, Need, include_need, library_need, needed, and_parts, HasRead, names, KeyedNeed, keyed_needs}
+use words.{keyed_view, Options, needed-append, slice_get, bytes_eq, append-nil, append_assoc, repeated}
+use words.{SourceTexts, listed, AreNext, TooMany, IsNextFault, IsMet, chains_of, twice, need_namespace, ChainError}
+use words.{of_texts, reflexive, chain_among, of_namespaces, among_behind, among_cases, among_front, among_next}
+use words.{once_more, only_among, or_from, or_parts, HasPath, HasNeeds, cases_lt}
+use words.{slice_get_within, unwrap_or, is_some, AreIndices, templates_at, imports_along}
+use words.{needs_along, namespace_name, templates, libraries, sources_in, IsRead, IsFollowed, AreFollowed, AreFound}
+use words.{included, namespace_at, Reaches, here, asked, extends_path, IsExtendsPath, by_templates, along_templates}
+use words.{next_of, same, indexed_among, filter_agree, AddsNext, known_of, IsLedTo, all_weaker, all_more}
+use words.{map_push, slice_get-get_or, string_bytes}
+use Rattle.jt_inherit.specs.declared.including.FollowedPath.{FollowedPath}
+use Rattle.jt_inherit.proofs.PathsGrow.{at_front, next_at, read_on, indices_grow, names_to_root, templates_grow}
+use Rattle.jt_inherit.proofs.PathsGrow.{names_read, templates_read, way_read}
+use Rattle.jt_inherit.proofs.PathsGrow.{few_templates, templates_to_root, reach_read, ask_read, reaches_next}
+use words.trees
+use words.error
+use Rattle.jt_inherit.proofs.BodyRules.{take_next, parted}
 
 -- ---- the imports of a template
 
@@ -108,14 +109,13 @@ next_there hs x i once few at = search (arith, rules, append-nil)
 pub next_new : (old new : List Namespace) (x : Namespace) (i : ℕ) → new ≡ old ++ x ∷ [] → twice old ≡ false
     → listed x old ≡ false → length (chains_of new) ≤ 1024 → i ≡ length old → AreNext old new (x ∷ []) (i ∷ [])
 next_new old new x i is once h few at =
-    search (arith, rules, once_more of_namespaces, among_cases of_namespaces, last_at)
+    search (arith, rules, once_more of_namespaces, among_cases of_namespaces, next_at)
 
 pub numbers_grow : (xs ys : List Namespace) (is : List ℕ) (ns : List Namespace) → map (slice_get xs) is ≡ map Some ns
     → map (slice_get (xs ++ ys)) is ≡ map Some ns
 numbers_grow xs ys [] [] e = refl
-numbers_grow xs ys [] (n ∷ ns) e = absurd (cc)
-numbers_grow xs ys (i ∷ is) [] e = absurd (cc)
 numbers_grow xs ys (i ∷ is) (n ∷ ns) e = search (arith, rules, at_front, slice_get_within, numbers_grow xs ys is ns)
+numbers_grow xs ys is ns e = absurd (cc)
 
 pub next_both : (a b c xs ys : List Namespace) (is js : List ℕ) → AreNext a b xs is → AreNext b c ys js
     → AreNext a c (xs ++ ys) (is ++ js)
@@ -173,81 +173,49 @@ put_fault old x n e once new f = search (arith, rules, too_many)
 pub chosen-append : (ks : List Text) (ns ms : List Need) → chosen ks (ns ++ ms) ≡ chosen ks ns ++ chosen ks ms
 chosen-append ks ns ms = search (arith, rules, map, need_namespace, known-append, map-append, known_of)
 
-views-append : (ns ms : List KeyedNeed) → keyed_needs (ns ++ ms) ≡ keyed_needs ns ++ keyed_needs ms
-views-append ns ms = map-append keyed_view ns ms
-
-pub chosen_turn : (ks : List Text) (ns : List KeyedNeed) (k : ℕ) (d : KeyedNeed) → k < length ns
-    → chosen ks (keyed_needs (take (k + 1) ns))
-    ≡ chosen ks (keyed_needs (take k ns)) ++ chosen ks (keyed_view (get_or ns k d) ∷ [])
-chosen_turn ks ns k d lt =
-    rw (take_more ns k d lt) (ap (chosen ks) (views-append _ _)
-    ∙ chosen-append ks _ _)
-
-pub chosen_all : (ks : List Text) (ns : List KeyedNeed) (k : ℕ) (d : KeyedNeed) → k < length ns
-    → chosen ks (keyed_needs ns) ≡ chosen ks (keyed_needs (take k ns))
-    ++ (chosen ks (keyed_view (get_or ns k d) ∷ []) ++ chosen ks (keyed_needs (drop (k + 1) ns)))
-chosen_all ks ns k d lt =
-    let n = get_or ns k d in
-    ap (λ (l : List KeyedNeed). chosen ks (keyed_needs l)) (sym (take-append-drop k ns))
-    ∙ ap (chosen ks) (views-append _ _)
-    ∙ chosen-append ks _ _
-    ∙ ap (λ l. chosen ks (keyed_needs (take k ns)) ++ l)
-    (ap (λ (l : List KeyedNeed). chosen ks (keyed_needs l)) (drop_more ns k d lt)
-    ∙ chosen-append ks (keyed_view n ∷ []) (keyed_needs (drop (k + 1) ns)))
-
 -- ---- templates that are met
-
-pub met_grows : (given : SourceTexts) (ks ms : List Text) (ns : List Need) → AllByRecursion (IsMet given ks) ns
-    → AllByRecursion (IsMet given (ks ++ ms)) ns
-met_grows given ks ms =
-    all_weaker (λ n. ⊎_elim (λ p. inl (among_front of_texts n.name ks ms p)) (λ q. inr q))
 
 -- A template that is met stays so when more is read.
 pub met_read : {given : SourceTexts} {options : Options} {ts us : List Template} {xs : List Text}
     → HasRead given options ts us xs → (ns : List Need) → AllByRecursion (IsMet given (names ts)) ns
     → AllByRecursion (IsMet given (names us)) ns
-met_read {given} {ts = ts} r ns a = search (arith, rules, names, map-append, met_grows)
+met_read r = all_weaker (λ n. ⊎_elim (λ p. inl (names_read r n.name p)) (λ q. inr q))
 
--- One include or import more.
-pub needed_turn : (ns : List KeyedNeed) (k : ℕ) (d : KeyedNeed) → k < length ns
-    → needed true (keyed_needs (take (k + 1) ns))
-    ≡ needed true (keyed_needs (take k ns)) ++ (keyed_view (get_or ns k d)).name ∷ []
-needed_turn ns k d lt =
-    rw (take_more ns k d lt) (ap (needed true) (views-append _ _)
-    ∙ needed-append true (keyed_needs (take k ns)) (keyed_view (get_or ns k d) ∷ []))
+-- ---- one include or import more
 
-pub met_turn : (P : Need → Type 0) (ns : List KeyedNeed) (k : ℕ) (d : KeyedNeed) → k < length ns
-    → AllByRecursion P (keyed_needs (take k ns)) → P (keyed_view (get_or ns k d))
-    → AllByRecursion P (keyed_needs (take (k + 1) ns))
-met_turn P ns k d lt a p =
-    rw (take_more ns k d lt, map_push keyed_view (take k ns)) (all_more P _ _ a p)
+module _ (ns : List KeyedNeed) (k : ℕ) (x : KeyedNeed) (lt : k < length ns) (at : x ≡ get_or ns k x) where
+  needs_turn : keyed_needs (take (k + 1) ns) ≡ keyed_needs (take k ns) ++ keyed_view x ∷ []
+  needs_turn = ap keyed_needs (take_next ns k x lt at) ∙ map_push keyed_view _ _
 
-pub next_turn : (old mid new : List Namespace) (ks : List Text) (ns : List KeyedNeed) (k : ℕ) (d : KeyedNeed)
-    (is js : List ℕ)
-    → k < length ns → AreNext old mid (chosen ks (keyed_needs (take k ns))) is
-    → AddsNext mid new (chosen ks (keyed_view (get_or ns k d) ∷ [])) is js
-    → AreNext old new (chosen ks (keyed_needs (take (k + 1) ns))) js
-next_turn old mid new ks ns k d is js lt p q =
-    rw q.1 (rw (chosen_turn ks ns k d lt) (next_both old mid new _ _ is q.0 p
-    q.2))
+  all_needs : keyed_needs ns ≡ keyed_needs (take k ns) ++ keyed_view x ∷ keyed_needs (drop (k + 1) ns)
+  all_needs = ap keyed_needs (parted ns k x lt at) ∙ map-append keyed_view (take k ns) _
 
-pub many_turn : (old mid : List Namespace) (ks : List Text) (ns : List KeyedNeed) (k : ℕ) (d : KeyedNeed)
-    (is : List ℕ) (n : Text)
-    → k < length ns → AreNext old mid (chosen ks (keyed_needs (take k ns))) is
-    → TooMany mid (chosen ks (keyed_view (get_or ns k d) ∷ [])) n → TooMany old (chosen ks (keyed_needs ns)) n
-many_turn old mid ks ns k d is n lt p f =
-    rw (chosen_all ks ns k d lt) (many_later old mid _ _
-    _ is n p f)
+  pub needed_turn : needed true (keyed_needs (take (k + 1) ns))
+      ≡ needed true (keyed_needs (take k ns)) ++ string_bytes x.namespace.name ∷ []
+  needed_turn = rw needs_turn (needed-append true _ _)
 
--- ---- an error of an included template
+  pub met_turn : (P : Need → Type 0) → AllByRecursion P (keyed_needs (take k ns)) → P (keyed_view x)
+      → AllByRecursion P (keyed_needs (take (k + 1) ns))
+  met_turn P a p = rw needs_turn (all_more P _ _ a p)
 
-pub asked_at : (all : Bool) (ns : List KeyedNeed) (k : ℕ) (d : KeyedNeed) → k < length ns
-    → (all || not (get_or ns k d).ignoring) ≡ true → among (keyed_view (get_or ns k d)).name (needed all
-    (keyed_needs ns)) ≡ true
-asked_at all [] k d lt e = absurd (omega arith)
-asked_at all (n ∷ ns) zero d lt e = search (arith, rules, among, needed, keyed_needs, reflexive)
-asked_at all (n ∷ ns) (suc k) d lt e =
-    search (arith, rules, among_behind, of_texts, get_or, needed, keyed_needs, asked_at all ns k d)
+  -- The template is one that is asked for.
+  pub asked_at : (all : Bool) → (all || not x.ignoring) ≡ true
+      → among (string_bytes x.namespace.name) (needed all (keyed_needs ns)) ≡ true
+  asked_at all e =
+      rw (all_needs, needed-append all)
+      (among_behind of_texts (string_bytes x.namespace.name) (needed all (keyed_needs (take k ns)))
+      (needed all (keyed_view x ∷ keyed_needs (drop (k + 1) ns))) (rw (e, reflexive (string_bytes x.namespace.name))))
+
+  module _ (old mid : List Namespace) (ks : List Text) (is : List ℕ)
+      (p : AreNext old mid (chosen ks (keyed_needs (take k ns))) is) where
+    pub next_turn : (new : List Namespace) (js : List ℕ) → AddsNext mid new (chosen ks (keyed_view x ∷ [])) is js
+        → AreNext old new (chosen ks (keyed_needs (take (k + 1) ns))) js
+    next_turn new js q = rw (q.1, needs_turn, chosen-append ks) (next_both _ _ _ _ _ is q.0 p q.2)
+
+    pub many_turn : (n : Text) → TooMany mid (chosen ks (keyed_view x ∷ [])) n
+        → TooMany old (chosen ks (keyed_needs ns)) n
+    many_turn n f =
+        rw (all_needs, chosen-append ks, chosen-append ks (keyed_view x ∷ [])) (many_later old mid _ _ _ is n p f)
 
 -- ---- templates at indices
 
@@ -266,10 +234,6 @@ includes_told ts is a =
     (along_templates (λ n b. includes_in include_need b) ts is us (indexed_templates ts is a))
     ∙ ap (λ l. flat_map (λ (t : Template). includes_in include_need t.body) us ++ l)
     (along_templates (λ n b. map library_need (libraries_in b)) ts is us (indexed_templates ts is a) ∙ all_imports us)
-
-pub includes_grow : (ts us : List Template) (is : List ℕ) → AreIndices ts is → AreIndices (ts ++ us) is
-    → needs_along (ts ++ us) is ≡ needs_along ts is
-includes_grow ts us is a b = search (arith, rules, includes_told, templates_grow)
 
 -- ---- names with a source
 
@@ -347,56 +311,44 @@ none_read given options [] n a e = refl
 none_read given options (t ∷ ts) n a e =
     search (arith, rules, none_read given options ts n a.1 e, names, same, or_from)
 
--- A template that may be missing, and is, stays missing.
-chosen_same : (given : SourceTexts) (ks ms : List Text) → ((n : Text) → given n ≡ None → among n (ks ++ ms) ≡ false)
-    → (ns : List Need) → AllByRecursion (IsMet given ks) ns → chosen (ks ++ ms) ns ≡ chosen ks ns
-chosen_same given ks ms absent [] a = refl
-chosen_same given ks ms absent (n ∷ ns) a =
-    search (arith, rules, among_front of_texts, chosen_same given ks ms absent ns a.1)
+-- ---- followed namespaces, when more is read
 
--- ---- followed namespaces
+module _ {given : SourceTexts} {options : Options} {ts us : List Template} {xs : List Text}
+    (r : HasRead given options ts us xs) where
+  needs_read : (is : List ℕ) → AreIndices ts is → needs_along us is ≡ needs_along ts is
+  needs_read is a = rw r.grown (search (arith, rules, includes_told, templates_grow, indices_grow))
 
-module _ (given : SourceTexts) (options : Options) (ts us : List Template) (hs ms : List Namespace)
-    (read : AllByRecursion (IsRead given options) (ts ++ us)) where
-  more_names : names (ts ++ us) ≡ names ts ++ names us
-  more_names = both_names ts
-    where
-      both_names : (vs : List Template) → names (vs ++ us) ≡ names vs ++ names us
-      both_names [] = refl
-      both_names (v ∷ vs) = rw (both_names vs)
+  -- A template that may be missing, and is, stays missing.
+  same_chosen : (ns : List Need) → AllByRecursion (IsMet given (names ts)) ns
+      → chosen (names us) ns ≡ chosen (names ts) ns
+  same_chosen [] a = refl
+  same_chosen (n ∷ ns) a =
+      let absent : given n.name ≡ None → among n.name (names us) ≡ false =
+      none_read given options us n.name r.known.read.each in
+      search (arith, rules, names_read r, absent, same_chosen ns a.1)
 
-  same_chosen : {h : Namespace} {w n : List ℕ} → IsFollowed given ts hs h w n
-      → chosen (names (ts ++ us)) (needs_along (ts ++ us) w) ≡ chosen (names ts) (needs_along ts w)
-  same_chosen {h} {w} {n} f =
-      rw more_names (ap (chosen (names ts ++ names us))
-      (includes_grow ts us w f.led.indices (way_grows _ us _ _ _ f.led).indices)
-      ∙ chosen_same given _ _
-      (λ x e. sym (ap (among x) more_names) ∙ none_read given options _ x read e) _ f.met)
+  module _ {hs : List Namespace} {h : Namespace} {w n : List ℕ} (f : IsFollowed given ts hs h w n) where
+    chosen_read : chosen (names us) (needs_along us w) ≡ chosen (names ts) (needs_along ts w)
+    chosen_read = rw (needs_read w f.led.indices) (same_chosen _ f.met)
 
-  followed_grows : (h : Namespace) (w n : List ℕ) → IsFollowed given ts hs h w n
-      → IsFollowed given (ts ++ us) (hs ++ ms) h w n
-  followed_grows h w n f =
-      let grown = way_grows _ us _ _ _ f.led in
-      let needs = includes_grow ts us w f.led.indices grown.indices in
-      record {
-        led = grown;
-        met = rw needs (rw more_names (met_grows given _ _ _ f.met));
-        numbered =
-            rw (same_chosen f) (numbers_grow hs ms n _ f.numbered);
-      }
+    followed_read : (ms : List Namespace) → IsFollowed given us (hs ++ ms) h w n
+    followed_read ms = record {
+      led = way_read r f.led;
+      met = rw (needs_read w f.led.indices) (met_read r _ f.met);
+      numbered = rw chosen_read (numbers_grow hs ms n _ f.numbered);
+    }
 
 next_last : (ws : List (List ℕ)) (w : List ℕ) (i : ℕ) → i ≡ length ws → next_of (ws ++ w ∷ []) i ≡ w
-next_last ws w i e = ap (next_of (ws ++ w ∷ [])) e ∙ ap (λ o. unwrap_or o []) (last_at ws w)
+next_last ws w i e = ap (next_of (ws ++ w ∷ [])) e ∙ ap (λ o. unwrap_or o []) (next_at ws w [])
 
 pub none_followed : (given : SourceTexts) (ts : List Template) (hs : List Namespace) → AreFollowed given ts hs [] []
 none_followed given ts hs = record { few = omega arith; lens = refl; each = λ i lt. absurd (omega arith) }
 
-followed_more : (given : SourceTexts) (options : Options) (ts us : List Template) (hs ms : List Namespace)
-    → AllByRecursion (IsRead given options) (ts ++ us) → {ws ns : List (List ℕ)} → AreFollowed given ts hs ws ns
-    → {h : Namespace} → slice_get hs (length ws) ≡ Some h → (w n : List ℕ)
-    → IsFollowed given (ts ++ us) (hs ++ ms) h w n
-    → AreFollowed given (ts ++ us) (hs ++ ms) (ws ++ w ∷ []) (ns ++ n ∷ [])
-followed_more given options ts us hs ms read {ws} {ns} f {h} at w n g = record {
+followed_more : {given : SourceTexts} {options : Options} {ts us : List Template} {xs : List Text}
+    → HasRead given options ts us xs → {hs : List Namespace} (ms : List Namespace) → {ws ns : List (List ℕ)}
+    → AreFollowed given ts hs ws ns → {h : Namespace} → slice_get hs (length ws) ≡ Some h → (w n : List ℕ)
+    → IsFollowed given us (hs ++ ms) h w n → AreFollowed given us (hs ++ ms) (ws ++ w ∷ []) (ns ++ n ∷ [])
+followed_more r {hs} ms {ws} {ns} f {h} at w n g = record {
   few = omega (arith, slice_get_within hs (length ws) h at, length-append ws (w ∷ []), length-append hs ms);
   lens = omega (arith, f.lens, length-append ws (w ∷ []), length-append ns (n ∷ []));
   each = λ i lt. ⊎_elim
@@ -406,7 +358,7 @@ followed_more given options ts us hs ms read {ws} {ns} f {h} at w n g = record {
         at_front ws (w ∷ []) i l,
         at_front ns (n ∷ []) i (omega (arith, f.lens)),
       )
-      (followed_grows given options ts us hs ms read (namespace_at hs i) (next_of ws i) (next_of ns i) (f.each i l)))
+      (followed_read r (f.each i l) ms))
       (λ (l : length ws ≤ i).
       let e : i ≡ length ws = omega (arith, lt, length-append ws (w ∷ [])) in
       let there : namespace_at (hs ++ ms) i ≡ h = ap (namespace_at (hs ++ ms)) e
@@ -422,16 +374,15 @@ module _ {given : SourceTexts} {options : Options} {root : Text} {ts0 : List Tem
     (p : HasPath given options ts0 ts1 h is) where
   pub reached_here : Reaches (sources_in ts1) options.autoescape (a_chain root) h
   reached_here =
-      reach_more _ _ _ _ _ _ p.read.grown
-      (f.reached h (indexed_among of_namespaces _ (length ws) h at))
+      reach_read p.read (f.reached h (indexed_among of_namespaces _ (length ws) h at))
 
   module _ {ts2 : List Template} {needs : List Need} (same_needs : needs ≡ needs_along ts1 is)
       (r : HasRead given options ts1 ts2 (needed true needs)) where
     pub way_there : IsExtendsPath ts2 h is None
-    way_there = rw r.grown (way_grows _ r.more _ _ _ p.led)
+    way_there = way_read r p.led
 
     pub needs_there : needs ≡ needs_along ts2 is
-    needs_there = search (arith, rules, needs_along, includes_grow, way_there)
+    needs_there = same_needs ∙ sym (needs_read r is p.led.indices)
 
     pub chosen_there : included (sources_in ts2) h ≡ chosen (names ts2) needs
     chosen_there = included_is way_there ∙ ap (chosen (names ts2)) (sym needs_there)
@@ -440,8 +391,7 @@ module _ {given : SourceTexts} {options : Options} {root : Text} {ts0 : List Tem
     all_read : HasRead given options ts0 ts2 (asked (sources_in ts2) options.autoescape true h)
     all_read =
         let told = asked_way options.autoescape way_there true in
-        let same_path = ap (λ vs. names (templates_at vs is)) r.grown
-        ∙ ap names (templates_grow ts1 r.more is p.led.indices) in
+        let same_path = ap names (templates_read r is p.led.indices) in
         read_on p.read r
         (λ n a. ap (among n) told ∙ among_front of_texts n _ _
         (ap (among n) same_path ∙ a))
@@ -450,11 +400,13 @@ module _ {given : SourceTexts} {options : Options} {root : Text} {ts0 : List Tem
         (ap (λ l. among n (needed true l)) (sym needs_there) ∙ a))
 
     pub reached_there : Reaches (sources_in ts2) options.autoescape (a_chain root) h
-    reached_there = reach_more _ _ _ _ _ _ r.grown reached_here
+    reached_there = reach_read r reached_here
 
     pub reached_from : (x : Namespace) → (listed x hs ≡ true) ⊎ (listed x (chosen (names ts2) needs) ≡ true)
         → Reaches (sources_in ts2) options.autoescape (a_chain root) x
-    reached_from x c = search (arith, rules, reach_more, all_read, reaches_next, reached_there, chosen_there)
+    reached_from x c =
+        ⊎_elim (λ q. reach_read all_read (f.reached x q))
+        (λ q. reaches_next reached_there (ap (listed x) chosen_there ∙ q)) c
 
     -- Each new namespace is one that the followed one leads to.
     led_more : {hs2 : List Namespace} {next : List ℕ} → AreNext hs hs2 (chosen (names ts2) needs) next
@@ -464,30 +416,25 @@ module _ {given : SourceTexts} {options : Options} {root : Text} {ts0 : List Tem
       where
         old : IsLedTo ts0 ws x → IsLedTo ts2 (ws ++ is ∷ []) x
         old l =
-            let read = subst (AllByRecursion (IsRead given options)) all_read.grown r.known.read.each in
             let i = l.0 in
-            let lt : i < length ws = l.1 in
-            let theirs = same_chosen given options ts0 all_read.more hs [] read (f.followed.each i lt) in (
+            let lt : i < length ws = l.1 in (
               i,
-              omega (arith, lt, length-append ws (is ∷ [])),
-              rw (at_front ws (is ∷ []) i lt)
-                  (subst (λ vs. listed x (chosen (names vs) (needs_along vs (next_of ws i))) ≡ true)
-                  (sym all_read.grown) (ap (listed x) theirs ∙ l.2)),
+              omega (arith, length-append ws (is ∷ [])),
+              rw (at_front ws (is ∷ []) i lt) (ap (listed x) (chosen_read all_read (f.followed.each i lt)) ∙ l.2),
             )
 
         new : listed x (chosen (names ts2) needs) ≡ true → IsLedTo ts2 (ws ++ is ∷ []) x
         new q = (
           length ws,
           omega (arith, length-append ws (is ∷ [])),
-          rw (ap (λ o. unwrap_or o []) (last_at ws is))
-              (subst (λ l. listed x (chosen (names ts2) l) ≡ true) needs_there q),
+          rw (ap (λ o. unwrap_or o []) (next_at ws is []))
+              (rw needs_there at q),
         )
 
     pub found_more : AllByRecursion (IsMet given (names ts2)) needs → {hs2 : List Namespace} {next : List ℕ}
         → AreNext hs hs2 (chosen (names ts2) needs) next
         → AreFound given options root ts2 hs2 (ws ++ is ∷ []) (ns ++ next ∷ [])
     found_more met {hs2} {next} n =
-        let read = subst (AllByRecursion (IsRead given options)) all_read.grown r.known.read.each in
         let here_followed : IsFollowed given ts2 hs2 h is next = (record {
           led = way_there;
           met = rw (← needs_there) met;
@@ -496,7 +443,7 @@ module _ {given : SourceTexts} {options : Options} {root : Text} {ts0 : List Tem
         record {
           known = r.known;
           asked = λ x a. ⊎_elim
-              (λ q. ask_more _ _ _ _ _ _ all_read.grown (f.asked x q))
+              (λ q. ask_read all_read _ _ x (f.asked x q))
               (λ q. (h, reached_there, q)) (all_read.from x a);
           first =
               rw n.grown (at_front hs n.more 0 (slice_get_within hs 0 _ f.first) ∙ f.first);
@@ -505,9 +452,7 @@ module _ {given : SourceTexts} {options : Options} {root : Text} {ts0 : List Tem
           reached = λ x a. reached_from x (n.from x a);
           led = led_more n;
           followed =
-              rw (all_read.grown, n.grown)
-              (followed_more given options ts0 _ hs n.more read f.followed at is next
-              (rw (all_read.grown, n.grown) at here_followed));
+              rw n.grown (followed_more all_read n.more f.followed at is next (rw n.grown at here_followed));
         }
 
     pub first_same : {hs2 : List Namespace} {next : List ℕ} → AreNext hs hs2 (chosen (names ts2) needs) next
@@ -525,4 +470,7 @@ found_first given options entry root ts hs ws ns eh er et ew en =
 -- The includes and imports of a path stay what they are when more is read.
 pub has_needs : {given : SourceTexts} {options : Options} {ts us : List Template} {xs : List Text} {p : FollowedPath}
     → HasNeeds ts p → HasRead given options ts us xs → HasNeeds us p
-has_needs {ts = ts} {us} {p = p} h r = search (arith, rules, indices_grow, includes_grow)
+has_needs {ts = ts} h r = record {
+  indices = rw r.grown (indices_grow ts r.more _ h.indices);
+  told = h.told ∙ sym (needs_read r _ h.indices);
+}

@@ -1,5 +1,5 @@
 -- What a finding says holds in each chain that reaches the tag: findings of the name of a template, of a rule, of a
--- chain that is one too many, and of a library that holds something other than macros.
+-- chain that is one too many, of a library that holds something other than macros, and of a ring.
 use Rattle.jt_inherit.proofs.Vocabulary as words
 use words.{rules, ◌≡◌, ℕ, suc, ◌+◌, ◌-◌, ◌<◌, ◌≤◌, Bool, true, false, List, [], ◌∷◌, ◌++◌, length, String, Global, drop}
 use words.{get_or, zero, refl, sym, ap, subst, ◌∙◌, arith, inl, ◌⊎◌, Option, Some, None, string_bytes, ⊎_elim, not, inr}
@@ -10,22 +10,26 @@ use words.{extends_of, names_up, sources_in, included, IsName, Reaches, here, th
 use words.{ForSome, IsAt, HasTag, all_uses, is_extends, Says, may_be_bare, AreKnown, BreaksAll, IsExtendsPath, Leads}
 use words.{IsFaultOf, IsNamedOn, need_test, IsUnmet, tags, place_in, place_view, ChainError, ChainSubject, TagPlace}
 use words.{among_next, once_more, of_texts, key_view, ChainFinding, NamespaceKey, both_ways, flat_map-append, Need}
-use words.{AreIndices, IsFinding, IsNoMemory, is_include, Breaks}
-use words.{IsNextFinding, TooMany, chosen, IsIncludedMore, Graph, next_of, is_a_library, namespace_at, leads_to}
+use words.{IsFinding, IsNoMemory, is_include}
+use words.{IsNextFinding, chosen, Graph, next_of, is_a_library, namespace_at, leads_to}
 use words.{AreFound, is_no_library, and_from, IsBrokenAt, last_of, SaysAll, IsAsked, IsFirst, IsNameless, IsOfName}
-use words.{IsOfNeed, IsParentAt, IsOneMore, IsRingOf, NamedAt, IsOneChainMore, IsFaultAt, IsUnmetNeed, ◌&&◌}
-use words.{IsItsName, IsNoLibrary, IsOfImport, LeadsAt}
-use words.{all_weaker, false_from_ne_true}
+use words.{IsOfNeed, IsParentAt, IsRingOf, NamedAt, IsAbout, any_tag, ◌||◌, IsFaultAt, ◌&&◌}
+use words.{IsNoLibrary, IsOfImport, LeadsAt}
+use words.{HasPath, needed, all_weaker, false_from_ne_true, LeadsTo, HasRing, cases_lt, map-map, unwrap_or, map}
+use words.{AllByRecursion}
+use Rattle.jt_inherit.proofs.ChainComplete.{edge, none_next, number}
+use Rattle.jt_inherit.proofs.DiscoveryInvariant.{chosen_there, reached_from, reached_there, way_there}
 use Rattle.jt_inherit.proofs.DiscoveryInvariant.{some_source, none_read, asks_needed, whole_path, included_is, asked_at}
-use Rattle.jt_inherit.proofs.PathsGrow.{all_among, shows, names_lead, templates_lead, few_templates}
-use Rattle.jt_inherit.proofs.PathsGrow.{all_templates, last_at, asked_breaks, among_passes, chains_listed, chain_breaks}
-use Rattle.jt_inherit.proofs.PathsGrow.{libraries_listed, reach_more}
+use Rattle.jt_inherit.proofs.PathsGrow as paths_grow
+use paths_grow.{all_among, shows, names_lead, templates_lead, few_templates, all_templates, next_at, asked_breaks}
+use paths_grow.{among_passes, chains_listed, libraries_listed, reach_read}
 use Rattle.jt_inherit.proofs.NumberTables.{is_chain}
 use Rattle.jt_inherit.proofs.TagPlaces.{HasUse, placed, tag_front, tag_last, tag_weaker, extends_asks, asked_used}
 use Rattle.jt_inherit.proofs.TagPlaces.{leads_used}
 use Rattle.jt_inherit.proofs.TopologicalOrder.{namespace_among}
-use Rattle.jt_inherit.specs.declared.error.ChainError.TheVariants as error
-use Rattle.jt_inherit.specs.declared.finding.ChainSubject.TheVariants as v
+use words.error
+use words.graph
+use words.v
 
 -- ---- a chain or library that is reached has a template, or is the entry's
 
@@ -108,10 +112,6 @@ there_on ts is k n on =
     rw cut.3 (ap (among n) (map-append (λ (t : Template). t.name) cut.0 (cut.1 ∷ vs))
     ∙ ap (λ z. among n (names cut.0 ++ z ∷ names vs)) cut.2 ∙ among_next of_texts n (names cut.0) (names vs))
 
-extends_need : (n : Text) (e : ChainError) (u : Use) → is_extends n u ≡ true → need_test n e u ≡ true
-extends_need n error.Missing u h = extends_asks false n u h
-extends_need n e u h = extends_asks true n u h
-
 -- ---- what is said in a chain that reaches a chain or library
 
 module _ {given : SourceTexts} {options : Options} {root : Text} {ts : List Template}
@@ -161,6 +161,11 @@ module _ {given : SourceTexts} {options : Options} {root : Text} {ts : List Temp
       (rw is (t, f))
   asked_said n e f p m is t o = absurd o
 
+  asked_placed : (n : Text) (e : ChainError) → IsFaultOf e given n options → (z : TagPlace) (m : String Global)
+      → string_bytes m ≡ n → HasTag (need_test n e) (templates (sources_in ts) h) z → IsOfName e
+      → (p : Option TagPlace) → p ≡ Some z → Says given root options p (Some (v.Template m)) e
+  asked_placed n e f z m is t o p at = rw at (asked_said n e f z m is t o)
+
   -- A tag of the chain or library asks for the name at the place. A name without a place is the entry's
   -- own.
   abbrev AskedFor : Text → ChainError → Option TagPlace → Type 0
@@ -178,7 +183,7 @@ module _ {given : SourceTexts} {options : Options} {root : Text} {ts : List Temp
       (q.1 ∙ root_is, λ k. f (rw root_is k))
   named_said n e f None a None (Some (v.Template m)) q = absurd q.2
   named_said n e f None a (Some p) (Some (v.Template m)) q = search (arith, rules)
-  named_said n e f (Some z) a p (Some (v.Template m)) q = search (arith, rules, asked_said)
+  named_said n e f (Some z) a p (Some (v.Template m)) q = asked_placed n e f z m q.1 a q.2 p q.0
   named_said n e f o a p x q = absurd q
 
   pub need_said : {us : List Template} → templates (sources_in ts) h ≡ us → (n : Text) (e : ChainError)
@@ -214,7 +219,7 @@ module _ {given : SourceTexts} {options : Options} {root : Text} {ts : List Temp
   fault_placed e f None a p x q = named_said known r n e f None (own_name a) p x q
   fault_placed e f (Some z) a p x q =
       named_said known r n e f (Some z)
-      (tag_weaker (is_extends n) (need_test n e) (extends_need n e) z (templates (sources_in ts) (a_chain h))
+      (tag_weaker (is_extends n) (need_test n e) (extends_asks (any_tag e) n) z (templates (sources_in ts) (a_chain h))
       (tagged z a.4)) p x q
 
   -- What the tag of the last template shows, if the path is not empty.
@@ -231,13 +236,27 @@ module _ {given : SourceTexts} {options : Options} {root : Text} {ts : List Temp
   pub cycle_placed : {k : ℕ} → IsNamedOn ts is n k → (o : Option TagPlace) → IsAsked (templates_at ts is) n o
       → (f : ChainFinding) → f.place ≡ o → IsRingOf n (names (templates_at ts (drop (k + 1) is))) f.subject
       → Says given root options f.place f.subject error.ExtendsCycle
-  cycle_placed {k} on o a f at told = by f.subject told
+  cycle_placed {k} on o a f at told =
+      let vs = templates_at ts (drop (k + 1) is) in
+      let m = told.0 in
+      let rest = told.1 in
+      let len : length rest.items ≡ length vs =
+      sym (length-map rest.items (λ (z : String Global). string_bytes z)) ∙ ap length told.4
+      ∙ length-map vs (λ (t : Template). t.name) in
+      rw told.2 (parent_said error.ExtendsCycle (v.Ring m rest) some
+      (λ us t last z tag named.
+      shown known r error.ExtendsCycle z (v.Ring m rest)
+      (rw told.3 (
+        tag,
+        ap (λ j. names_up s (j + 1) (Some n)) len ∙ ring.0 ∙ ap (λ l. n ∷ l) (sym told.4),
+        named ∙ ring.1 us t last ∙ ap (last_of n) (sym told.4),
+      ))) o a f.place at)
     where
       s : Sources
       s = sources_in ts
 
       some : templates_at ts is ≡ [] → ⊥
-      some e = let no = sym (ap (λ us. among n (names us)) e) ∙ there_on ts is k n on in cc
+      some e = let no = (rw e at (there_on ts is k n on)) in cc
 
       -- The names of the ring are those of the path from the name on.
       ring : (names_up s (length (templates_at ts (drop (k + 1) is)) + 1) (Some n)
@@ -248,7 +267,7 @@ module _ {given : SourceTexts} {options : Options} {root : Text} {ts : List Temp
           let vs = templates_at ts (drop (k + 1) is) in
           let cut = split_at ts is k n on in
           let leads = leads_on s _ cut.0 cut.1 vs _
-          (subst (λ us. Leads s (Some h) us (Some n)) cut.3 w.leads) in (
+          (rw cut.3 at w.leads) in (
             subst (λ z. names_up s (length vs + 1) (Some z) ≡ z ∷ names vs) cut.2
                 (names_lead s (length vs + 1) 0 (Some cut.1.name) (cut.1 ∷ vs) (Some n) (omega arith) leads
                 ∙ append-nil (names (cut.1 ∷ vs))),
@@ -257,45 +276,24 @@ module _ {given : SourceTexts} {options : Options} {root : Text} {ts : List Temp
                 ∙ last_after n cut.0 cut.1 vs ∙ ap (λ z. last_of z (names vs)) cut.2,
           )
 
-      by : (x : Option ChainSubject) → IsRingOf n (names (templates_at ts (drop (k + 1) is))) x
-          → Says given root options f.place x error.ExtendsCycle
-      by (Some (v.Ring m rest)) q =
-          let vs = templates_at ts (drop (k + 1) is) in
-          let len : length rest.items ≡ length vs =
-          sym (length-map rest.items (λ (z : String Global). string_bytes z)) ∙ ap length q.1
-          ∙ length-map vs (λ (t : Template). t.name) in
-          parent_said error.ExtendsCycle (v.Ring m rest) some
-          (λ us t last z tag named.
-          shown known r error.ExtendsCycle z (v.Ring m rest)
-          (rw q.0 (
-            tag,
-            ap (λ j. names_up s (j + 1) (Some n)) len ∙ ring.0 ∙ ap (λ l. n ∷ l) (sym q.1),
-            named ∙ ring.1 us t last ∙ ap (last_of n) (sym q.1),
-          ))) o a f.place at
-      by x q = absurd q
-
   pub long_placed : length is ≡ 64 → among n (names (templates_at ts is)) ≡ false → (o : Option TagPlace)
-      → IsAsked (templates_at ts is) n o → (f : ChainFinding) → f.place ≡ o → IsOneMore n f.subject
+      → IsAsked (templates_at ts is) n o → (f : ChainFinding) → f.place ≡ o → IsAbout v.Templates n f.subject
       → Says given root options f.place f.subject error.ChainTooLong
-  long_placed full new o a f at told = by f.subject told
-    where
-      by : (x : Option ChainSubject) → IsOneMore n x → Says given root options f.place x error.ChainTooLong
-      by (Some (v.Templates m)) q =
-          let s = sources_in ts in
-          let us = templates_at ts is in
-          let len : length us ≡ 64 = all_templates ts is w.indices ∙ full in
-          let up : extends_path s options.autoescape (a_chain h) ≡ names us ++ n ∷ [] =
-          names_lead s 65 1 _ us _ (omega (arith, len)) w.leads in
-          let count : length (names us) ≡ 64 = length-map us (λ (u : Template). u.name) ∙ len in
-          parent_said error.ChainTooLong (v.Templates m) (λ e. absurd (omega (arith, len, ap length e)))
-          (λ front_templates t last z tag named.
-          shown known r error.ChainTooLong z (v.Templates m)
-          (rw q (
-            tag,
-            rw up (subst (λ j. slice_get (names us ++ n ∷ []) j ≡ Some n) count (last_at (names us) n)),
-            ap repeated up ∙ once_more of_texts n (names us) w.once new,
-          ))) o a f.place at
-      by x q = absurd q
+  long_placed full new o a f at told =
+      let s = sources_in ts in
+      let us = templates_at ts is in
+      let len : length us ≡ 64 = all_templates ts is w.indices ∙ full in
+      let up : extends_path s options.autoescape (a_chain h) ≡ names us ++ n ∷ [] =
+      names_lead s 65 1 _ us _ (omega (arith, len)) w.leads in
+      let count : length (names us) ≡ 64 = length-map us (λ (u : Template). u.name) ∙ len in
+      rw told.1 (parent_said error.ChainTooLong (v.Templates told.0) (λ e. absurd (omega (arith, len, ap length e)))
+      (λ front_templates t last z tag named.
+      shown known r error.ChainTooLong z (v.Templates told.0)
+      (rw told.2 (
+        tag,
+        rw up (subst (λ j. slice_get (names us ++ n ∷ []) j ≡ Some n) count (next_at (names us) n [])),
+        ap repeated up ∙ once_more of_texts n (names us) w.once new,
+      ))) o a f.place at)
 
 -- The finding of an error of a chain, for each chain that reaches it, before more was read.
 pub refused_all : {given : SourceTexts} {options : Options} {ts us : List Template} {xs : List Text}
@@ -306,7 +304,8 @@ pub refused_all : {given : SourceTexts} {options : Options} {ts us : List Templa
     → Reaches (sources_in us) options.autoescape (a_chain root) (a_chain (string_bytes k.name))
     → Says given root options f.place f.subject e)
     → BreaksAll given options ts (key_view k) f.error × SaysAll given options ts (key_view k) f
-refused_all {given} {options} {ts} {us} r k is e f told b s = search (arith, rules, chain_breaks, reach_more, is_chain)
+refused_all r k is e f told b s =
+    rw (is_chain k is, told) ((λ root q. b root (reach_read r q)), (λ root q. s root (reach_read r q)))
 
 pub extends_told : (t : Template) (n : Text) (o : Option TagPlace) → IsParentAt t n o → extends_of t.body ≡ Some n
 extends_told t n None a = absurd a
@@ -319,22 +318,22 @@ asked_turn vs ws t n None e a = absurd a
 asked_turn vs ws t n (Some p) e a =
     (ws, t, e, a.1, rw e (tag_last _ p ws t a.2))
 
+must_ask : (e : ChainError) (b : Bool) → (e ≡ error.Missing → b ≡ false) → (any_tag e || not b) ≡ true
+must_ask error.Missing b h = rw (h refl)
+must_ask e b h = refl
+
 -- The finding of an included or imported template, by its index among them.
 pub unmet_need : (given : SourceTexts) (options : Options) (ts : List Template) (is : List ℕ) (ns : List KeyedNeed)
-    (k : ℕ) (d : KeyedNeed) (e : ChainError) (f : ChainFinding)
-    → keyed_needs ns ≡ needs_along ts is → k < length ns → IsFaultAt given options (keyed_view (get_or ns k d)) e
-    → IsOfNeed (templates_at ts is) (keyed_view (get_or ns k d)).name e f → IsUnmet given options ts is f
-unmet_need given options ts is ns k d e f same_needs lt fault told = search (arith, rules, asked_at, placed)
-
--- The tag that asks for an unmet template.
-need_used : {given : SourceTexts} {options : Options} {ts : List Template} {is : List ℕ} {f : ChainFinding}
-    → AreIndices ts is → (n : IsUnmetNeed given options ts is f)
-    → HasUse (need_test n.name f.error) (all_uses (templates_at ts is))
-need_used {given} {options} {ts} {is} {f} w n = by f.error refl
-  where
-    by : (e : ChainError) → f.error ≡ e → HasUse (need_test n.name e) (all_uses (templates_at ts is))
-    by error.Missing q = asked_used false n.name ts is w (n.must q)
-    by e q = asked_used true n.name ts is w n.asked
+    (k : ℕ) (x : KeyedNeed) (e : ChainError) (f : ChainFinding)
+    → keyed_needs ns ≡ needs_along ts is → k < length ns → x ≡ get_or ns k x → IsFaultAt given options (keyed_view x) e
+    → IsOfNeed (templates_at ts is) (string_bytes x.namespace.name) e f → IsUnmet given options ts is f
+unmet_need given options ts is ns k x e f same_needs lt at fault told =
+    inr (record {
+      name = string_bytes x.namespace.name;
+      asked = rw told.0 (rw (← same_needs) (asked_at ns k x lt at (any_tag e) (must_ask e x.ignoring fault.1)));
+      fault = rw told.0 fault.0;
+      placed = rw told.0 (refl, told.1);
+    })
 
 module _ {given : SourceTexts} {root : Text} {options : Options} where
   pub no_memory : (f : ChainFinding) → IsNoMemory f → IsFinding given root options f
@@ -348,59 +347,51 @@ module _ {given : SourceTexts} {root : Text} {options : Options} where
       (λ m. no_memory f m)
       (λ n. record {
         broken =
-            asked_breaks known r n.name f.error
-            (asks_needed options.autoescape w true n.name n.asked)
-            (λ q. asks_needed options.autoescape w false n.name (n.must q)) n.fault;
+            asked_breaks known r n.name f.error (asks_needed options.autoescape w (any_tag f.error) n.name n.asked)
+            n.fault;
         says =
             need_said known r (whole_path w) n.name f.error n.fault
-            (need_used w.indices n) n.placed.1.0 n.placed.1.1 f.place f.subject n.placed.1.2;
+            (asked_used (any_tag f.error) n.name ts is w.indices n.asked)
+            n.placed.1.0 n.placed.1.1 f.place f.subject n.placed.1.2;
       })
       unmet
 
--- A chain or library leads to more chains than an entry may reach.
-module _ {given : SourceTexts} {options : Options} {root : Text} {ts : List Template}
-    (known : AreKnown given options ts) {h : Namespace}
-    (here : Reaches (sources_in ts) options.autoescape (a_chain root) h) {is : List ℕ} (w : IsExtendsPath ts h is None)
-    {old : List Namespace} (needs : List Need)
-    (reached : (x : Namespace) → (listed x old ≡ true) ⊎ (listed x (chosen (names ts) needs) ≡ true)
-    → Reaches (sources_in ts) options.autoescape (a_chain root) x) where
-  many_broken : {n : Text} → TooMany old (chosen (names ts) needs) n
-      → Breaks error.ChainTooLong given root options
-  many_broken t =
-      shows known (inr (t.chains, t.many, ap not t.once, λ m a. reached (a_chain m) (t.from m a)))
-
-  many_said : {n : Text} → TooMany old (chosen (names ts) needs) n
-      → HasUse (is_include n) (all_uses (templates_at ts is)) → (f : ChainFinding)
-      → IsIncludedMore (templates_at ts is) n f → Says given root options f.place f.subject error.ChainTooLong
-  many_said {n} t used f told = by f.subject told.subject
-    where
-      by : (x : Option ChainSubject) → IsOneChainMore n x → Says given root options f.place x error.ChainTooLong
-      by (Some (v.Chains m)) q =
-          said_at known here error.ChainTooLong (v.Chains m) (is_include n) (all_uses (templates_at ts is)) used f.place
-          told.place
-          (λ z tag. shown known here error.ChainTooLong z (v.Chains m)
-          (rw q (
-            rw (whole_path w) tag,
-            record {
-              names = t.chains;
-              many = t.many;
-              once = t.once;
-              reached = λ m a. reached (a_chain m) (t.from m a);
-              this_one = t.this_one;
-            },
-          )))
-      by x q = absurd q
-
-  pub next_finds : included (sources_in ts) h ≡ chosen (names ts) needs → (f : ChainFinding)
-      → IsNextFinding old (chosen (names ts) needs) (templates_at ts is) f → IsFinding given root options f
-  next_finds same_chosen f q = ⊎_elim (λ m. no_memory f m)
+-- A chain or library, the next one that is followed, leads to more chains than an entry may reach.
+module _ {given : SourceTexts} {options : Options} {root : Text} {ts0 : List Template} {hs : List Namespace}
+    {ws ns : Graph} (f : AreFound given options root ts0 hs ws ns) {h : Namespace}
+    (at : slice_get hs (length ws) ≡ Some h) {ts1 : List Template} {is : List ℕ}
+    (p : HasPath given options ts0 ts1 h is) {ts : List Template} {needs : List Need}
+    (same_needs : needs ≡ needs_along ts1 is) (r : HasRead given options ts1 ts (needed true needs)) where
+  pub next_finds : (x : ChainFinding) → IsNextFinding hs (chosen (names ts) needs) (templates_at ts is) x
+      → IsFinding given root options x
+  next_finds x q = ⊎_elim (λ m. no_memory x m)
       (λ t.
-      let used = subst (λ l. HasUse (is_include t.0) (all_uses l)) (whole_path w)
-      (leads_used _ h _ (ap (listed (a_chain t.0)) same_chosen ∙ t.1.led)) in
+      let many = t.1 in
+      let told = t.2 in
+      let subject = v.Chains told.subject.0 in
+      let there = reached_there f at p same_needs r in
+      let whole = whole_path (way_there f at p same_needs r) in
+      let reached = λ (m : Text) (a : among m many.chains ≡ true).
+      reached_from f at p same_needs r (a_chain m) (many.from m a) in
+      let used = subst (λ l. HasUse (is_include t.0) (all_uses l)) whole
+      (leads_used _ h _ (ap (listed (a_chain t.0)) (chosen_there f at p same_needs r) ∙ many.led)) in
       record {
-        broken = rw t.2.error (many_broken t.1);
+        broken =
+            rw told.error (shows r.known (inr (many.chains, many.many, ap not many.once, reached)));
         says =
-            rw t.2.error (many_said t.1 used f t.2);
+            rw (told.error, told.subject.1) (said_at r.known there error.ChainTooLong subject (is_include t.0) _ used
+            x.place told.place
+            (λ z tag. shown r.known there error.ChainTooLong z subject
+            (rw told.subject.2 (
+              rw whole tag,
+              record {
+                names = many.chains;
+                many = many.many;
+                once = many.once;
+                reached = reached;
+                this_one = many.this_one;
+              },
+            ))));
       })
       q
 
@@ -424,7 +415,7 @@ module _ {given : SourceTexts} {options : Options} {entry : Text} {ts : List Tem
 
   import_said : (n : Text) → listed (a_library n) hs ≡ true
       → (is_some (sources_in ts n) && not (is_a_library (sources_in ts n))) ≡ true → (p : Option TagPlace)
-      → LeadsAt ts ws (a_library n) p → (x : Option ChainSubject) → IsItsName (a_library n) x
+      → LeadsAt ts ws (a_library n) p → (x : Option ChainSubject) → IsAbout v.Template n x
       → Says given entry options p x error.NotALibrary
   import_said n a other None none x q =
       let l = led_there n a in
@@ -432,15 +423,14 @@ module _ {given : SourceTexts} {options : Options} {entry : Text} {ts : List Tem
       (sym (none l.0 l.1)) in
       let no = found.1 in
       absurd (cc)
-  import_said n a other (Some p) q (Some (v.Template x)) is =
+  import_said n a other (Some p) q x is =
       let k = q.0 in
       let within : k < length ws = q.1 in
       let lt : k < length hs = omega (arith, within, f.followed.few) in
       let h = namespace_at hs k in
       let front = whole_path (f.followed.each k within).led in
-      shown f.known (f.reached h (namespace_among hs k lt)) error.NotALibrary p (v.Template x)
-      (rw is (rw front q.2, other))
-  import_said n a other (Some p) q x is = absurd is
+      rw is.1 (shown f.known (f.reached h (namespace_among hs k lt)) error.NotALibrary p (v.Template is.0)
+      (rw is.2 (rw front q.2, other)))
 
   no_library : (h : Namespace) → listed h hs ≡ true → (x : ChainFinding) → is_no_library ts h ≡ true
       → IsOfImport ts ws h x → IsFinding given entry options x
@@ -451,3 +441,81 @@ module _ {given : SourceTexts} {options : Options} {entry : Text} {ts : List Tem
   pub library_finds : (h : Namespace) → listed h hs ≡ true → (x : ChainFinding) → IsNoLibrary ts ws h x
       → IsFinding given entry options x
   library_finds h a x q = ⊎_elim (λ m. no_memory x m) (λ n. no_library h a x n.0 n.1) q
+
+-- ---- rings: a ring of the numbers of chains and libraries is one of the chains and libraries
+
+led_reaches : (s : Sources) (e : Bool) (h : Namespace) (ks : List Namespace) (t : Namespace) → LeadsTo s h ks t
+    → Reaches s e h t
+led_reaches s e h [] t l = rw (← l) here
+led_reaches s e h (k ∷ ks) t l = through l.0 (led_reaches s e k ks t l.1)
+
+-- The last one of a number and further numbers.
+abbrev pub last_on : ℕ → List ℕ → ℕ
+last_on i [] = i
+last_on i (k ∷ ks) = last_on k ks
+
+pub last_item : (i : ℕ) (is : List ℕ) → unwrap_or (slice_get is (length is - 1)) i ≡ last_on i is
+last_item i [] = refl
+last_item i (k ∷ []) = refl
+last_item i (k ∷ (j ∷ is)) =
+    let one : length (k ∷ (j ∷ is)) - 1 ≡ suc (length (j ∷ is) - 1) = omega arith in
+    rw one (last_item i (j ∷ is))
+
+last_leads : (g : Graph) (i : ℕ) (is : List ℕ) (t : ℕ) → graph.Leads g i is t
+    → graph.among t (next_of g (last_on i is)) ≡ true
+last_leads g i [] t a = a
+last_leads g i (k ∷ is) t a = last_leads g k is t a.1
+
+module _ {given : SourceTexts} {options : Options} {entry : Text} {ts : List Template}
+    {hs : List Namespace} {ws ns : Graph} (f : AreFound given options entry ts hs ws ns)
+    (all : length ws ≡ length hs) where
+  leads_namespaces : (i : ℕ) (is : List ℕ) (t : ℕ) → graph.Leads ns i is t
+      → LeadsTo (sources_in ts) (namespace_at hs i) (map (namespace_at hs) is) (namespace_at hs (last_on i is))
+  leads_namespaces i [] t a = refl
+  leads_namespaces i (k ∷ is) t a = ((edge f all i k a.0).1, leads_namespaces k is t a.1)
+
+  -- The error of an order: lack of memory, or a ring.
+  pub order_finds : (x : ChainFinding) → IsNoMemory x ⊎ HasRing ts hs ws ns x → IsFinding given entry options x
+  order_finds x q = ⊎_elim (λ m. no_memory x m) ring q
+    where
+      ring : HasRing ts hs ws ns x → IsFinding given entry options x
+      ring r =
+          let first = r.0 in
+          let last = last_on first r.1 in
+          let e = edge f all last first (last_leads ns first r.1 first r.2) in
+          let h = namespace_at hs last in
+          let front = whole_path (number f all last e.0).led in
+          let next = namespace_at hs first in
+          let used = subst (λ l. HasUse (leads_to next) (all_uses l)) front (leads_used _ h next e.1) in
+          let there = f.reached h (namespace_among hs last e.0) in
+          let back = leads_namespaces first r.1 first r.2 in
+          let q = r.3.subject in
+          record {
+            broken =
+                rw r.3.error (shows f.known (h, there, (next, e.1, led_reaches _ _ next _ h back)));
+            says =
+                rw r.3.error (rw q.2 (said_at f.known there _ _ _
+                (all_uses (templates_at ts (next_of ws last))) used x.place (rw (last_item first r.1) at r.3.place)
+                (λ z tag. shown f.known there error.IncludeCycle z (v.Ring q.0 q.1) (record {
+                  next = next;
+                  others = map (namespace_at hs) r.1;
+                  first_name = sym q.3;
+                  other_names = map-map namespace_name (namespace_at hs) r.1 ∙ sym q.4;
+                  tag = rw front tag;
+                  led = e.1;
+                  back = back;
+                }))));
+          }
+
+-- A number that leads to another one is a node.
+node : (g : Graph) (i j : ℕ) → graph.among j (next_of g i) ≡ true → i < length g
+node g i j a = ⊎_elim (λ (lt : i < length g). lt) (λ (le : length g ≤ i). absurd (none_next g i j le a))
+    (cases_lt i (length g))
+
+-- The numbers of a ring are those of nodes.
+pub ring_within : (g : Graph) (i : ℕ) (is : List ℕ) (t : ℕ) → graph.Leads g i is t
+    → (i < length g) × AllByRecursion (λ k. k < length g) is × (last_on i is < length g)
+ring_within g i [] t a = (node g i t a, tt, node g i t a)
+ring_within g i (k ∷ is) t a =
+    let rest = ring_within g k is t a.1 in
+    (node g i k a.0, (rest.0, rest.1), rest.2)

@@ -1,5 +1,4 @@
 pub mod Vocabulary
-pub mod NameMembership
 pub mod RulesCarryOver
 pub mod BodyRules
 pub mod SourceErrors
@@ -11,12 +10,9 @@ pub mod Membership
 pub mod ValidNames
 pub mod NumberTables
 pub mod TopologicalOrder
-pub mod ChainIsUnique
 pub mod StoreLookup
 pub mod TreeWeights
 pub mod ChainComplete
 pub mod ChainsChecked
 pub mod TagPlaces
 pub mod FindingsHold
-pub mod RingFound
-pub mod SuperTagLines

@@ -3,6 +3,12 @@ use Rattle.std.proofs.Common.{◌≡◌, ℕ, zero, suc, ◌+◌, ◌≤◌, Boo
 use Rattle.std.proofs.Common.{refl, sym, ap, ◌∙◌, arith, ◌⊎◌, inr, Some, rules}
 use Rattle.std.specs.Prelude.{slice_get}
 use Rattle.std.proofs.lemmas.Bool.{or_from, or_parts, or_right}
+use Rattle.std.proofs.lemmas.Cmp.{nat_list_eq_equiv}
+use Rattle.std.proofs.lemmas.Slice.Eq.{bytes_eq-Decides}
+use Rattle.std.specs.List.{AllByRecursion}
+use Rattle.std.specs.Str.{bytes_eq}
+use Rattle.jt_ast.specs.Texts.{among, repeated}
+use Rattle.jt_ast.specs.Expressions.{Text}
 
 -- The test, membership and repetition, with their laws.
 pub record Members (A : Type 0) : Type 0 where
@@ -62,9 +68,9 @@ module _ {A : Type 0} (m : Members A) where
       m.again_more y (xs ++ x ∷ []) ∙ or_from (m.among y (xs ++ x ∷ [])) (m.again (xs ++ x ∷ []))
       (not_next y x xs k.0 (m.symmetric x y ∙ n.0)) (once_more x xs k.1 n.1)
 
-  pub comes_again : (x : A) (xs : List A) → m.among x xs ≡ true → m.again (xs ++ x ∷ []) ≡ true
-  comes_again x [] h = let e = m.among_none x in absurd (cc)
-  comes_again x (y ∷ xs) h = search (arith, rules, comes_again x xs, among_next, or_right)
+  pub comes_again : (x : A) (xs ys : List A) → m.among x xs ≡ true → m.again (xs ++ x ∷ ys) ≡ true
+  comes_again x [] ys h = let e = m.among_none x in absurd (cc)
+  comes_again x (y ∷ xs) ys h = search (arith, rules, comes_again x xs ys, m.equal, among_next, or_right)
 
   -- ---- different members of a list are together no heavier than its items
 
@@ -100,3 +106,39 @@ module _ {A : Type 0} (m : Members A) where
       counted : (zs : List A) → total (λ x. 1) zs ≡ length zs
       counted [] = refl
       counted (z ∷ zs) = omega (arith, counted zs)
+
+-- ---- membership of names
+
+pub same : (x y : Text) → bytes_eq x y ≡ true → x ≡ y
+same x y = (bytes_eq-Decides x y).0
+
+pub reflexive : (x : Text) → bytes_eq x x ≡ true
+reflexive x = nat_list_eq_equiv.refl x
+
+pub symmetric : (x y : Text) → bytes_eq x y ≡ bytes_eq y x
+symmetric x y = nat_list_eq_equiv.symm x y
+
+abbrev pub of_texts : Members Text
+of_texts =
+    record {
+      same = bytes_eq;
+      among = among;
+      again = repeated;
+      equal = same;
+      reflexive = reflexive;
+      symmetric = symmetric;
+      among_none = λ x. refl;
+      among_more = λ x y ys. refl;
+      again_none = refl;
+      again_more = λ x xs. refl;
+    }
+
+pub all_weaker : {X : Type 0} {P Q : X → Type 0} → ((x : X) → P x → Q x) → (xs : List X) → AllByRecursion P xs
+    → AllByRecursion Q xs
+all_weaker f [] a = tt
+all_weaker f (x ∷ xs) a = (f x a.0, all_weaker f xs a.1)
+
+pub all_more : {X : Type 0} (P : X → Type 0) (xs : List X) (x : X) → AllByRecursion P xs → P x
+    → AllByRecursion P (xs ++ x ∷ [])
+all_more P [] x a p = (p, tt)
+all_more P (y ∷ xs) x a p = (a.0, all_more P xs x a.1 p)

@@ -4,8 +4,7 @@ use Rattle.jt_ast.specs.Texts.{among}
 use Rattle.jt_ast.specs.Expressions.{Text}
 use Rattle.jt_chains.specs.Chain.{Namespace, a_chain, a_library, same_namespace, listed}
 use Rattle.jt_inherit.specs.internal.Found.{twice, chains_of}
-use Rattle.jt_inherit.proofs.Membership.{Members}
-use Rattle.jt_inherit.proofs.NameMembership as names
+use Rattle.jt_inherit.proofs.Membership as names
 
 pub same : (x y : Namespace) → same_namespace x y ≡ true → x ≡ y
 same (a_chain n) (a_chain m) e = ap a_chain (names.same n m e)
@@ -23,7 +22,7 @@ symmetric (a_library n) (a_library m) = names.symmetric n m
 symmetric (a_chain n) (a_library m) = refl
 symmetric (a_library n) (a_chain m) = refl
 
-abbrev pub of_namespaces : Members Namespace
+abbrev pub of_namespaces : names.Members Namespace
 of_namespaces =
     record {
       same = same_namespace;

@@ -3,7 +3,7 @@ use Rattle.jt_inherit.proofs.Vocabulary as words
 use words.{◌≡◌, ℕ, suc, ◌+◌, Bool, true, false, cond, if◌then◌else◌, List, [], ◌∷◌, ◌++◌, length, refl, sym, ap, ◌∙◌}
 use words.{arith, Some, None, rules, Option, string_bytes, MatchOption, not, length-append, AreAt, index_of}
 use words.{TemplateFile, files_view, names, is_named, unwrap_or, length-map, slice_get, get_by_text, list_any}
-use words.{position_from, bytes_eq, Text, Table, AreNumbers, same, slice_get-map, among, symmetric, append-nil}
+use words.{position_from, bytes_eq, Text, Table, AreNumbers, same, slice_get-map, among, append-nil}
 use words.{Namespace, a_chain, a_library, same_namespace, listed, chains_of, key_view, keys_view, NamespaceKey, is_kind}
 use words.{keyed, chains_both}
 use Rattle.std.specs.Result.{is_ok, IsOk}
@@ -31,11 +31,11 @@ module _ {A : Type 0} (p : A → Bool) where
     where
       by : (b : Bool) → p x ≡ b → (position_from p (i + 1) xs ≡ Some j → IsFirst (i + 1) xs j) → IsFirst i (x ∷ xs) j
       by true h r =
-          let k : Some i ≡ Some j = sym (ap (λ b. cond b (Some i) (position_from p (i + 1) xs)) h) ∙ e in
+          let k = (rw h at e) in
           let at : i ≡ j = cc in
           (0, x, omega (arith, at), refl, h)
       by false h r =
-          let q = r (sym (ap (λ b. cond b (Some i) (position_from p (i + 1) xs)) h) ∙ e) in
+          let q = r (rw h at e) in
           (suc q.0, q.1, omega (arith, q.2), q.3, q.4)
 
   pub first_more : (i : ℕ) (xs : List A) (y : A) → list_any p xs ≡ false

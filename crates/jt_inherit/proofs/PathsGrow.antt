@@ -1,7 +1,7 @@
 -- Paths that are extended: their names, sources and weights, and what stays true of them when more is read.
 use Rattle.jt_inherit.proofs.Vocabulary as words
 use words.{◌≡◌, ℕ, zero, suc, ◌+◌, ◌-◌, ◌<◌, ◌≤◌, ◌==◌, Bool, true, false, not, ◌&&◌, List, [], ◌∷◌, ◌++◌, length, drop}
-use words.{get_or, refl, sym, ap, subst, ◌∙◌, arith, inl, inr, ◌⊎◌, ⊎_elim, Option, Some, None, length-append}
+use words.{get_or, refl, sym, ap, subst, ◌∙◌, arith, inl, inr, ⊎_elim, Option, Some, None, length-append}
 use words.{string_bytes, rules, nat_lt, map, HasRead, among_behind, among_cases, names, flat_map, slice_get, bytes_eq}
 use words.{option_to_list, slice_get_within, slice_get-get_or, AllByRecursion, append-nil, append_assoc, drop_more}
 use words.{length-map, Options, among, repeated, Text, Body, end, AreIndices, templates_at, Sources, Namespace, a_chain}
@@ -9,12 +9,11 @@ use words.{a_library, Template, template, templates, libraries, extends_of, pare
 use words.{SourceTexts, IsRead, IsOnly, IsFaultOf, needs_in, file_view, files_view, TemplateFile, Breaks, HasFault}
 use words.{Shows, Reaches, asked, extends_path, Leads, AreKnown, IsExtendsPath, IsWithin, ChainError, only_one, map_at}
 use words.{IsNamedOn, of_texts, same, among_front, among_next, once_more, map_push, list_any, is_none, nat_tests}
-use words.{IsName, templates_weight, templates_len, or_from, or_right, filter, is_some, listed, library_template}
-use words.{libraries_in, included, with_source, Asks, here, through, BreaksAll, key_view, NamespaceKey, reflexive}
-use words.{flat_map-append, HasFaulty, LeadsFrom, all_more, comes_again, names_at}
+use words.{templates_weight, templates_len, or_from, or_right, filter, is_some, listed, library_template}
+use words.{libraries_in, included, with_source, Asks, here, through, reflexive}
+use words.{any_tag, slice_get-map, flat_map-append, HasFaulty, LeadsFrom, all_more, comes_again, names_at, map-append}
 use Rattle.std.proofs.lemmas.Option.{slice_get_past}
-use Rattle.jt_inherit.proofs.NumberTables.{is_chain}
-use Rattle.jt_inherit.specs.declared.error.ChainError.TheVariants as error
+use words.error
 
 -- ---- sources that grow
 
@@ -78,9 +77,8 @@ next_asked s e all h ts n le l =
     let k = 64 - length ts in
     let up : extends_path s e (a_chain h) ≡ names ts ++ names_up s (suc k) (Some n) =
     names_lead s 65 (suc k) _ ts _ (omega arith) l in
-    among_front of_texts n (extends_path s e (a_chain h))
-    (flat_map (λ t. needs_in all t.body) (templates s (a_chain h)) ++ libraries s (a_chain h))
-    (subst (λ xs. among n xs ≡ true) (sym up) (among_next of_texts n (names ts) (names_up s k (parent_of (s n)))))
+    among_front of_texts n (extends_path s e (a_chain h)) _
+    (ap (among n) up ∙ among_next of_texts n (names ts) (names_up s k (parent_of (s n))))
 
 -- ---- templates at indices when more are read
 
@@ -106,27 +104,25 @@ templates_more ts (j ∷ is) i t e =
     search (arith, rules, option_to_list, slice_get, templates_more ts is i t e, append_assoc, templates_at)
 
 -- The template file at an index, and the templates at the further indices.
-pub templates_turn : (ps : List TemplateFile) (is : List ℕ) (k : ℕ) (p : TemplateFile) → k < length is
-    → get_or is k 0 < length ps → p ≡ get_or ps (get_or is k 0) p
-    → templates_at (files_view ps) (drop k is) ≡ file_view p ∷ templates_at (files_view ps) (drop (k + 1) is)
-templates_turn ps is k p lt within at = search (arith, rules, drop_more, map_at)
+module _ (ps : List TemplateFile) (is : List ℕ) (k : ℕ) (p : TemplateFile) (lt : k < length is)
+    (within : get_or is k 0 < length ps) (at : p ≡ get_or ps (get_or is k 0) p) where
+  pub templates_turn : templates_at (files_view ps) (drop k is)
+      ≡ file_view p ∷ templates_at (files_view ps) (drop (k + 1) is)
+  templates_turn = search (arith, rules, drop_more, map_at)
+
+  -- The template file at a number on a path has the name, or another one.
+  pub named_here : (n : Text) → bytes_eq (string_bytes p.name) n ≡ true → IsNamedOn (files_view ps) is n k
+  named_here n e = search (arith, rules, map_at, same)
+
+  pub passed_by : (n : Text) (b : Bool) → bytes_eq (string_bytes p.name) n ≡ false
+      → among n (names (templates_at (files_view ps) (drop k is))) ≡ b
+      → among n (names (templates_at (files_view ps) (drop (k + 1) is))) ≡ b
+  passed_by n b e before = search (arith, rules, templates_turn)
 
 -- Nothing is at an index out of range.
 pub templates_past : (ps : List TemplateFile) (is : List ℕ) (k : ℕ) → k < length is → length ps ≤ get_or is k 0
     → templates_at (files_view ps) (drop k is) ≡ templates_at (files_view ps) (drop (k + 1) is)
 templates_past ps is k lt le = search (arith, rules, drop_more, slice_get_past, length-map)
-
--- The template file at a number on a path has the name, or another one.
-pub named_here : (ps : List TemplateFile) (is : List ℕ) (k : ℕ) (p : TemplateFile) (n : Text) → k < length is
-    → get_or is k 0 < length ps → p ≡ get_or ps (get_or is k 0) p → bytes_eq (string_bytes p.name) n ≡ true
-    → IsNamedOn (files_view ps) is n k
-named_here ps is k p n lt within at e = search (arith, rules, map_at, same)
-
-pub passed_by : (ps : List TemplateFile) (is : List ℕ) (k : ℕ) (p : TemplateFile) (n : Text) (b : Bool) → k < length is
-    → get_or is k 0 < length ps → p ≡ get_or ps (get_or is k 0) p → bytes_eq (string_bytes p.name) n ≡ false
-    → among n (names (templates_at (files_view ps) (drop k is))) ≡ b
-    → among n (names (templates_at (files_view ps) (drop (k + 1) is))) ≡ b
-passed_by ps is k p n b lt within at e before = search (arith, rules, templates_turn)
 
 pub few_templates : (ts : List Template) (is : List ℕ) → length (templates_at ts is) ≤ length is
 few_templates ts [] = omega arith
@@ -187,9 +183,9 @@ read_on {ts = ts} p q f g = record {
   from = λ n a. ⊎_elim (λ b. ⊎_elim (λ c. inl c) (λ c. inr (f n c)) (p.from n b)) (λ b. inr (g n b)) (q.from n a);
 }
 
-pub last_at : {X : Type 0} (xs : List X) (x : X) → slice_get (xs ++ x ∷ []) (length xs) ≡ Some x
-last_at [] x = refl
-last_at (y ∷ xs) x = last_at xs x
+pub next_at : {X : Type 0} (xs : List X) (x : X) (ys : List X) → slice_get (xs ++ x ∷ ys) (length xs) ≡ Some x
+next_at [] x ys = refl
+next_at (y ∷ xs) x ys = next_at xs x ys
 
 -- ---- paths
 
@@ -198,9 +194,17 @@ from_grows : (s r : Sources) → Grows s r → (h : Namespace) (ts : List Templa
 from_grows s r g (a_chain n) ts p l = leads_grow s r g _ ts p l
 from_grows s r g (a_library n) ts p l = search (arith, rules)
 
-pub way_grows : (ts us : List Template) (h : Namespace) (is : List ℕ) (p : Option Text) → IsExtendsPath ts h is p
-    → IsExtendsPath (ts ++ us) h is p
-way_grows ts us h is p w = search (arith, rules, templates_grow, indices_grow, from_grows, more_sources)
+-- What stays true of templates, of the indices of templates and of a path when more is read.
+module _ {given : SourceTexts} {options : Options} {ts us : List Template} {xs : List Text}
+    (r : HasRead given options ts us xs) where
+  pub names_read : (n : Text) → among n (names ts) ≡ true → among n (names us) ≡ true
+  names_read n a = rw (r.grown, map-append) (among_front of_texts n (names ts) (names r.more) a)
+
+  pub templates_read : (is : List ℕ) → AreIndices ts is → templates_at us is ≡ templates_at ts is
+  templates_read is a = rw r.grown (templates_grow ts r.more is a)
+
+  pub way_read : {h : Namespace} {is : List ℕ} {p : Option Text} → IsExtendsPath ts h is p → IsExtendsPath us h is p
+  way_read w = rw r.grown (search (arith, rules, templates_grow, indices_grow, from_grows, more_sources))
 
 pub way_next : (ts : List Template) (h : Text) (is : List ℕ) (i : ℕ) (t : Template) (n : Text)
     → IsExtendsPath ts (a_chain h) is (Some n) → slice_get ts i ≡ Some t → t.name ≡ n
@@ -236,15 +240,15 @@ module _ {given : SourceTexts} {options : Options} {root : Text} {ts : List Temp
   fault_asked n a f = search (arith, rules, shows)
 
   -- An error of a requested template breaks each chain that reaches the requester.
-  pub asked_breaks : (n : Text) (e : ChainError) → among n (asked (sources_in ts) options.autoescape true h) ≡ true
-      → (e ≡ error.Missing → among n (asked (sources_in ts) options.autoescape false h) ≡ true)
+  pub asked_breaks : (n : Text) (e : ChainError)
+      → among n (asked (sources_in ts) options.autoescape (any_tag e) h) ≡ true
       → IsFaultOf e given n options → Breaks e given root options
-  asked_breaks n error.Missing a must f = record { name = n; reached = shows known (h, r, must refl); found = f }
-  asked_breaks n error.BadName a must f = shows known (h, r, (n, a, f))
-  asked_breaks n (error.Scan m e) a must f = fault_asked n a f
-  asked_breaks n (error.Parse m e) a must f = fault_asked n a f
-  asked_breaks n error.NoMemory a must f = tt
-  asked_breaks n e a must f = absurd f
+  asked_breaks n error.Missing a f = record { name = n; reached = shows known (h, r, a); found = f }
+  asked_breaks n error.BadName a f = shows known (h, r, (n, a, f))
+  asked_breaks n (error.Scan m e) a f = fault_asked n a f
+  asked_breaks n (error.Parse m e) a f = fault_asked n a f
+  asked_breaks n error.NoMemory a f = tt
+  asked_breaks n e a f = absurd f
 
 module _ {given : SourceTexts} {options : Options} {root : Text} {ts : List Template}
     (known : AreKnown given options ts) {h : Text}
@@ -256,7 +260,7 @@ module _ {given : SourceTexts} {options : Options} {root : Text} {ts : List Temp
       let us = templates_at ts is in
       let up : names_up s (length us + 1) (Some h) ≡ names us ++ n ∷ [] =
       names_lead s _ 1 _ us _ refl w.leads in
-      shows known (a_chain h, r, (h, refl, length us + 1, ap repeated up ∙ comes_again of_texts n (names us) there))
+      shows known (a_chain h, r, (h, refl, length us + 1, ap repeated up ∙ comes_again of_texts n (names us) [] there))
 
   pub long_breaks : {is : List ℕ} {n : Text} → IsExtendsPath ts (a_chain h) is (Some n) → length is ≡ 64
       → among n (names (templates_at ts is)) ≡ false → Breaks error.ChainTooLong given root options
@@ -283,17 +287,11 @@ module _ {given : SourceTexts} {options : Options} {root : Text} {ts : List Temp
   pub fault_breaks : {is : List ℕ} {n : Text} → IsExtendsPath ts (a_chain h) is (Some n) → (e : ChainError)
       → IsFaultOf e given n options → Breaks e given root options
   fault_breaks {is} {n} w e f =
-      let few : length (templates_at ts is) ≤ 64 = omega (arith, few_templates ts is, w.few) in
-      asked_breaks known r n e (next_asked (sources_in ts) options.autoescape true h (templates_at ts is) n few w.leads)
-      (λ q. next_asked (sources_in ts) options.autoescape false h (templates_at ts is) n few w.leads) f
+      asked_breaks known r n e
+      (next_asked (sources_in ts) options.autoescape (any_tag e) h (templates_at ts is) n
+      (omega (arith, few_templates ts is, w.few)) w.leads) f
 
 -- ---- one step of a path
-
-pub name_of_slice : (ts : List Template) (i : ℕ) (t : Template) → slice_get ts i ≡ Some t
-    → slice_get (names ts) i ≡ Some t.name
-name_of_slice [] i t e = absurd (cc)
-name_of_slice (u ∷ ts) zero t e = search (arith, rules)
-name_of_slice (u ∷ ts) (suc i) t e = name_of_slice ts i t e
 
 -- The template file at the index of a name.
 pub file_there : (ps : List TemplateFile) (i : ℕ) {n : Text} {p : TemplateFile}
@@ -308,7 +306,7 @@ file_there ps i {n} {p} at there =
       slice_get_within,
       length-map,
     ) in
-    (held, search (arith, rules, string_bytes, name_of_slice, file_view))
+    (held, search (arith, rules, string_bytes, slice_get-map, file_view))
 
 -- The template of the next name was read and is appended to a path: the path goes on to the parent.
 module _ {given : SourceTexts} {options : Options} {vs ts us : List Template} {is js : List ℕ} {n : Text}
@@ -318,7 +316,7 @@ module _ {given : SourceTexts} {options : Options} {vs ts us : List Template} {i
   pub path_turn : templates_at us js ≡ templates_at ts is ++ t ∷ []
   path_turn =
       ap (templates_at us) longer ∙ templates_more us is i t held
-      ∙ ap (λ l. templates_at l is ++ t ∷ []) r.grown ∙ ap (λ l. l ++ t ∷ []) (templates_grow ts r.more is w.indices)
+      ∙ ap (λ l. l ++ t ∷ []) (templates_read r is w.indices)
 
   pub read_step : HasRead given options vs us (names (templates_at us js))
   read_step =
@@ -332,10 +330,8 @@ module _ {given : SourceTexts} {options : Options} {vs ts us : List Template} {i
   pub way_step : {o : Option Text} → among n (names (templates_at ts is)) ≡ false → length is < 64
       → o ≡ extends_of t.body → IsExtendsPath us (a_chain h) js o
   way_step {o} new lt ext =
-      let grown : IsExtendsPath us (a_chain h) is (Some n) = rw r.grown (way_grows _ r.more _ _ _ w) in
-      let newly_read : among n (names (templates_at us is)) ≡ false =
-      rw r.grown (ap (λ l. among n (names l)) (templates_grow ts r.more is w.indices) ∙ new) in
-      rw longer (rw ext (way_next us h is i t n grown held named newly_read r.known.read.once lt))
+      rw longer (rw ext (way_next us h is i t n (way_read r w) held named
+      (ap (λ l. among n (names l)) (templates_read r is w.indices) ∙ new) r.known.read.once lt))
 
 -- ---- names on the path
 
@@ -345,18 +341,14 @@ front_up s k n t e f = search (arith, rules, names_up, extends_of)
 
 among_up : (s : Sources) (k : ℕ) (o : Option Text) (ts : List Template) (x : Text) → Leads s o ts None
     → among x (names_up s k o) ≡ true → among x (names ts) ≡ true
-among_up s zero o ts x l h = absurd (cc)
-among_up s (suc k) None ts x l h = absurd (cc)
-among_up s (suc k) (Some n) [] x l h = absurd (cc)
 among_up s (suc k) (Some n) (t ∷ ts) x l h = search (arith, rules, front_up, among_up s k, extends_of, names, or_right)
+among_up s k o ts x l h = absurd (cc)
 
 pub repeated_up : (s : Sources) (k : ℕ) (o : Option Text) (ts : List Template) → Leads s o ts None
     → repeated (names_up s k o) ≡ true → repeated (names ts) ≡ true
-repeated_up s zero o ts l h = absurd (cc)
-repeated_up s (suc k) None ts l h = absurd (cc)
-repeated_up s (suc k) (Some n) [] l h = absurd (cc)
 repeated_up s (suc k) (Some n) (t ∷ ts) l h =
     search (arith, rules, front_up, repeated_up s k, extends_of, names, among_up, or_right)
+repeated_up s k o ts l h = absurd (cc)
 
 pub all_among : (P : Text → Type 0) (ts : List Template) (n : Text) → AllByRecursion (λ t. P t.name) ts
     → among n (names ts) ≡ true → P n
@@ -385,9 +377,8 @@ weigh given (t ∷ ts) a = omega (arith, a.0.weighs, weigh given ts a.1)
 pub names_indexed : (ts : List Template) (is : List ℕ) (us : List Template) → map (slice_get ts) is ≡ map Some us
     → names_at ts is ≡ map (λ t. Some t.name) us
 names_indexed ts [] [] e = refl
-names_indexed ts [] (u ∷ us) e = absurd (cc)
-names_indexed ts (i ∷ is) [] e = absurd (cc)
 names_indexed ts (i ∷ is) (u ∷ us) e = search (arith, rules, names_indexed ts is us)
+names_indexed ts is us e = absurd (cc)
 
 -- ---- the members that pass a test
 
@@ -442,10 +433,6 @@ pub record Continues (s r : Sources) (k : ℕ) (o : Option Text) : Type 0 where
       → (names_up r k o ≡ names_up s k o) × (templates_up r k o ≡ templates_up s k o)
 
 pub continues : (s r : Sources) (k : ℕ) (o : Option Text) → Carries s r (names_up r k o) → Continues s r k o
-continues s r zero o g =
-    record { more = []; longer = refl; more_templates = []; more_there = refl; whole = λ h. (refl, refl) }
-continues s r (suc k) None g =
-    record { more = []; longer = refl; more_templates = []; more_there = refl; whole = λ h. (refl, refl) }
 continues s r (suc k) (Some n) g =
     by (s n) refl (λ b e. continues s r k _ (rw (carries_head n _ g b e) at (carries_rest n _ g)))
   where
@@ -472,6 +459,8 @@ continues s r (suc k) (Some n) g =
           more_there = search (arith, rules, up_some);
           whole = λ h. search (arith, rules, up_some);
         }
+continues s r k o g =
+    record { more = []; longer = refl; more_templates = []; more_there = refl; whole = λ h. (refl, refl) }
 
 -- The first m names on the path begin with the first k.
 pub up_more : (s : Sources) (m k : ℕ) (o : Option Text) → k ≤ m
@@ -507,8 +496,8 @@ libraries_listed n (x ∷ xs) ys = libraries_listed n xs ys
 pub namespaces_among : (m : Namespace) (xs ys us vs : List Text) → ((n : Text) → among n xs ≡ true → among n us ≡ true)
     → ((n : Text) → among n ys ≡ true → among n vs ≡ true)
     → listed m (map a_chain xs ++ map a_library ys) ≡ true → listed m (map a_chain us ++ map a_library vs) ≡ true
-namespaces_among (a_chain n) xs ys us vs f g a = chains_listed n us vs ∙ f n (sym (chains_listed n xs ys) ∙ a)
-namespaces_among (a_library n) xs ys us vs f g a = libraries_listed n us vs ∙ g n (sym (libraries_listed n xs ys) ∙ a)
+namespaces_among (a_chain n) xs ys us vs f g a = rw chains_listed (f n (rw chains_listed at a))
+namespaces_among (a_library n) xs ys us vs f g a = rw libraries_listed (g n (rw libraries_listed at a))
 
 -- ---- concatenation of the paths of namespaces
 
@@ -535,12 +524,7 @@ pub record Keeps (s r : Sources) (e : Bool) (entry : Namespace) : Type 0 where
 module _ {s r : Sources} {e : Bool} {entry : Namespace} (g : Keeps s r e entry) where
   pub on_path : (h : Namespace) → Reaches r e entry h → Carries s r (extends_path r e h)
   on_path h p n a b =
-      g.kept n b (
-        h,
-        p,
-        among_front of_texts n (extends_path r e h)
-            (flat_map (λ t. needs_in true t.body) (templates r h) ++ libraries r h) a,
-      )
+      g.kept n b (h, p, among_front of_texts n (extends_path r e h) _ a)
 
   -- The first 64 names are among the first 65.
   pub on_first : (h : Text) → Reaches r e entry (a_chain h) → Carries s r (names_up r 64 (Some h))
@@ -551,13 +535,7 @@ module _ {s r : Sources} {e : Bool} {entry : Namespace} (g : Keeps s r e entry) 
   -- The libraries of a namespace keep their sources.
   pub on_libraries : (h : Namespace) → Reaches r e entry h → Carries s r (libraries r h)
   on_libraries h p n a b =
-      g.kept n b (
-        h,
-        p,
-        among_behind of_texts n (extends_path r e h)
-            (flat_map (λ t. needs_in true t.body) (templates r h) ++ libraries r h)
-            (among_behind of_texts n _ _ a),
-      )
+      g.kept n b (h, p, among_behind of_texts n (extends_path r e h) _ (among_behind of_texts n _ _ a))
 
   -- When more is read, the path of a namespace begins with its path before.
   pub way_more : (h : Namespace) → Reaches r e entry h
@@ -624,19 +602,9 @@ module _ {s r : Sources} {e : Bool} {entry : Namespace} (g : Keeps s r e entry) 
       namespaces_among m _ _ _
       _
       (sourced h p mine ours (needs_more true h p)
-      (λ n q. (
-        h,
-        p,
-        among_behind of_texts n (extends_path r e h) (ours ++ libraries r h)
-            (among_front of_texts n _ _ q),
-      )))
+      (λ n q. (h, p, among_behind of_texts n (extends_path r e h) _ (among_front of_texts n ours _ q))))
       (sourced h p (libraries s h) (libraries r h) (imports_more h p)
-      (λ n q. (
-        h,
-        p,
-        among_behind of_texts n (extends_path r e h) (ours ++ libraries r h)
-            (among_behind of_texts n _ _ q),
-      ))) a
+      (λ n q. (h, p, among_behind of_texts n (extends_path r e h) _ (among_behind of_texts n ours _ q)))) a
 
   pub reaches_more : {h k : Namespace} → Reaches r e entry h → Reaches s e h k → Reaches r e h k
   reaches_more p here = here
@@ -646,19 +614,14 @@ module _ {s r : Sources} {e : Bool} {entry : Namespace} (g : Keeps s r e entry) 
   pub asks_more : (n : Text) → Asks s e entry n → Asks r e entry n
   asks_more n x = search (arith, rules, reaches_more, here, asked_more)
 
-pub reach_more : (ts us more : List Template) (e : Bool) (h k : Namespace) → us ≡ ts ++ more
-    → Reaches (sources_in ts) e h k → Reaches (sources_in us) e h k
-reach_more ts us more e h k grown r =
-    rw grown (reaches_more (record { kept = λ n b i. more_sources ts more n b }) here r)
+-- What is reached or requested stays so when more is read.
+module _ {given : SourceTexts} {options : Options} {ts us : List Template} {xs : List Text}
+    (r : HasRead given options ts us xs) where
+  grows : Grows (sources_in ts) (sources_in us)
+  grows = rw r.grown (more_sources ts r.more)
 
-pub ask_more : (ts us more : List Template) (e : Bool) (h : Namespace) (n : Text) → us ≡ ts ++ more
-    → Asks (sources_in ts) e h n → Asks (sources_in us) e h n
-ask_more ts us more e h n grown i =
-    rw grown (asks_more (record { kept = λ m b k. more_sources ts more m b }) n i)
+  pub reach_read : {e : Bool} {h k : Namespace} → Reaches (sources_in ts) e h k → Reaches (sources_in us) e h k
+  reach_read q = reaches_more (record { kept = λ n b i. grows n b }) here q
 
--- An error that breaks each chain that reaches a namespace when more is read breaks each chain that
--- reached it before.
-pub chain_breaks : (given : SourceTexts) (options : Options) (ts us more : List Template) → us ≡ ts ++ more
-    → (k : NamespaceKey) → k.is_library ≡ false → (e : ChainError)
-    → BreaksAll given options us (a_chain (string_bytes k.name)) e → BreaksAll given options ts (key_view k) e
-chain_breaks given options ts us more grown k is e b = search (arith, rules, is_chain, reach_more)
+  pub ask_read : (e : Bool) (h : Namespace) (n : Text) → Asks (sources_in ts) e h n → Asks (sources_in us) e h n
+  ask_read e h n q = asks_more (record { kept = λ m b i. grows m b }) n q

@@ -1,23 +1,28 @@
--- A rule that the templates read so far break is broken by the whole chain.
+-- A rule that the templates read so far break is broken by the whole chain and in each reading of the library. So an
+-- entry has one chain, up to the order of its parts, and none if a rule is broken.
 use Rattle.jt_inherit.proofs.Vocabulary as words
-use words.{◌≡◌, ℕ, zero, suc, ◌<◌, ◌≤◌, ◌==◌, Bool, true, false, not, ◌&&◌, ◌||◌, List, [], ◌∷◌, ◌++◌, length, map}
-use words.{refl, sym, ap, subst, ◌∙◌, arith, inl, inr, ◌⊎◌, ⊎_elim, Option, Some, None, length-append, rules, given}
-use words.{imports, flat_map, list_any, is_none, append-nil, map-append, cases_lt, nat_tests, among, repeated, Text}
+use words.{◌≡◌, ℕ, suc, ◌<◌, ◌≤◌, ◌==◌, Bool, true, false, not, ◌&&◌, ◌||◌, List, [], ◌∷◌, ◌++◌, length, map}
+use words.{refl, sym, ap, ◌∙◌, arith, inl, inr, ◌⊎◌, ⊎_elim, Option, Some, None, length-append, rules, given}
+use words.{imports, flat_map, list_any, is_none, append-nil, cases_lt, nat_tests, among, repeated, Text}
 use words.{Body, Sources, Namespace, a_chain, a_library, Template, templates, library_template, is_a_library, parent_of}
-use words.{names_up, blocks_in, MacroBody, macros, own, libraries_in, lacks_body, lacks_next, their_blocks}
-use words.{any_double, any_lacks_macros, imports_in, all_given_from, public_macro, Asks, Reaches, here, is_whole}
-use words.{extends_path, of_texts, reflexive, among_behind, among_front, and_from, and_parts, flat_map-append}
-use words.{list_any-append, not-true, or_from, or_left, or_parts, or_right}
-use words.{or_cases}
+use words.{names_up, blocks_in, macros, own, libraries_in, lacks_body, lacks_next, their_blocks, any_double}
+use words.{any_lacks_macros, imports_in, all_given_from, public_macro, Asks, Reaches, here, is_whole, extends_path}
+use words.{of_texts, reflexive, among_front, and_from, and_parts, flat_map-append, list_any-append}
+use words.{not-true, or_from, or_left, or_parts, or_right, or_cases, ◌≢◌, ◌↔◌, string_bytes, sources_of, AllByRecursion}
+use words.{is_some, Options, sources_in, SourceTexts, IsRead, IsOnly, IsChain, Breaks, Shows, HasFault, IsUncut}
+use words.{IsUnspelled, KeepsRules, Seen, ChainError, same, names, IsMissing}
 use Rattle.jt_chains.specs.Chain.{Definition, given_from}
-use Rattle.jt_chains.specs.Rules.{InSomeChain, BadName, ExtendsCycle, ChainTooLong, DoubleBlock, RequiredNotGiven}
-use Rattle.jt_chains.specs.Rules.{NoSuper, IncludeCycle, MacroTwice, NoMacro, NotALibrary}
-use Rattle.jt_inherit.proofs.PathsGrow.{Keeps, Carries, carries_head, carries_rest, carries_front, carries_behind}
-use Rattle.jt_inherit.proofs.PathsGrow.{continues, up_more, on_path, on_first}
-use Rattle.jt_inherit.proofs.PathsGrow.{on_libraries, way_more, namespace_more, included_more, reaches_more}
-use Rattle.jt_inherit.proofs.PathsGrow.{reaches_next, asked_more}
+use rules.{InSomeChain, BadName, ExtendsCycle, ChainTooLong, DoubleBlock, RequiredNotGiven, NoSuper, IncludeCycle}
+use rules.{MacroTwice, NoMacro, NotALibrary}
+use Rattle.jt_inherit.proofs.PathsGrow as paths_grow
+use paths_grow.{Keeps, Carries, carries_head, carries_rest, carries_front, carries_behind, continues, up_more, on_path}
+use paths_grow.{on_first, on_libraries, way_more, namespace_more, included_more, reaches_more, reaches_next, asked_more}
+use paths_grow.{asks_more}
 use Rattle.jt_inherit.proofs.StoreLookup.{none_public, nothing_lacks, lacks_same}
-use Rattle.jt_ast.specs.Statements as trees
+use words.trees
+use words.error
+use Rattle.jt_inherit.specs.Laws.{IsReading, IsLasting, RefusalLaws}
+use Rattle.jt_inherit.proofs.DiscoveryInvariant.{some_source}
 use Rattle.jt_chains.specs.Rules as rules
 
 -- ---- tests of the first elements
@@ -25,8 +30,11 @@ use Rattle.jt_chains.specs.Rules as rules
 any_front : {A : Type 0} (p : A → Bool) (xs ys : List A) → list_any p xs ≡ true → list_any p (xs ++ ys) ≡ true
 any_front p xs ys h = list_any-append p xs ys ∙ or_left _ _ h
 
+or_both : {a b c d : Bool} → (a ≡ true → c ≡ true) → (b ≡ true → d ≡ true) → (a || b) ≡ true → (c || d) ≡ true
+or_both f g h = ⊎_elim (λ p. or_left _ _ (f p)) (λ q. or_right _ _ (g q)) (or_cases _ _ h)
+
 none_front : {A : Type 0} (p : A → Bool) (xs ys : List A) → list_any p (xs ++ ys) ≡ false → list_any p xs ≡ false
-none_front p xs ys h = (or_parts _ _ (sym (list_any-append p xs ys) ∙ h)).0
+none_front p xs ys h = (or_parts _ _ (rw list_any-append at h)).0
 
 pub repeated_front : (xs ys : List Text) → repeated xs ≡ true → repeated (xs ++ ys) ≡ true
 repeated_front [] ys h = absurd (cc)
@@ -41,17 +49,15 @@ below n le q = grind (arith, nat_tests)
 -- ---- names on the path
 
 up_len : (s : Sources) (k : ℕ) (o : Option Text) → length (names_up s k o) ≤ k
-up_len s zero o = omega arith
-up_len s (suc k) None = omega arith
 up_len s (suc k) (Some n) = omega (arith, up_len s k (parent_of (s n)))
+up_len s k o = omega arith
 
 -- A path that ends has no more names.
 up_ends : (s : Sources) (m k : ℕ) (o : Option Text) → k ≤ m → length (names_up s k o) < k
     → names_up s m o ≡ names_up s k o
-up_ends s m zero o le lt = absurd (omega arith)
-up_ends s zero (suc k) o le lt = absurd (omega arith)
 up_ends s (suc m) (suc k) None le lt = refl
 up_ends s (suc m) (suc k) (Some n) le lt = search (arith, rules, up_ends s m k, parent_of)
+up_ends s m k o le lt = absurd (omega arith)
 
 -- Names with a source keep one.
 still_none : (s r : Sources) (xs : List Text) → Carries s r xs → list_any (λ n. is_none (s n)) xs ≡ false
@@ -63,7 +69,7 @@ still_none s r (x ∷ xs) g h =
       rules,
       or_parts,
       or_from,
-      still_none s r xs (carries_rest x xs g),
+      still_none s r xs (carries_rest x _ g),
       or_right,
       reflexive,
     )
@@ -129,43 +135,33 @@ module _ (s r : Sources) where
   in_imports : (b : Body) → Carries s r (libraries_in b) → Within (imports_in s b) (imports_in r b)
   in_imports trees.end g = none
   in_imports (trees.stmt (trees.import_as line n x) rest) g =
-      keep (in_imports rest (carries_rest n (libraries_in rest) g))
+      keep (in_imports rest (carries_rest n _ g))
   in_imports (trees.stmt (trees.import_from line n xs) rest) g =
-      within_both (in_from n xs (carries_head n (libraries_in rest) g))
-      (in_imports rest (carries_rest n (libraries_in rest) g))
+      within_both (in_from n xs (carries_head n _ g))
+      (in_imports rest (carries_rest n _ g))
   in_imports (trees.stmt t rest) g = in_imports rest g
 
   lacking : (b : Body) → Carries s r (libraries_in b) → rules.lacks_macros s b ≡ true → rules.lacks_macros r b ≡ true
   lacking trees.end g h = h
   lacking (trees.stmt (trees.import_from line n xs) rest) g h =
-      ⊎_elim
-      (λ p. or_left _ _
-      (lacking_from n xs (carries_head n (libraries_in rest) g) p))
-      (λ q. or_right _ _
-      (lacking rest (carries_rest n (libraries_in rest) g) q))
-      (or_cases (rules.lacks_one s n xs) (rules.lacks_macros s rest) h)
+      or_both (lacking_from n xs (carries_head n _ g)) (lacking rest (carries_rest n _ g)) h
   lacking (trees.stmt (trees.import_as line n x) rest) g h =
-      lacking rest (carries_rest n (libraries_in rest) g) h
+      lacking rest (carries_rest n _ g) h
   lacking (trees.stmt t rest) g h = lacking rest g h
 
   all_imports : (ts : List Template) → Carries s r (flat_map (λ t. libraries_in t.body) ts)
       → Within (flat_map (λ t. imports_in s t.body) ts) (flat_map (λ t. imports_in r t.body) ts)
   all_imports [] g = none
   all_imports (t ∷ ts) g = within_both
-      (in_imports t.body (carries_front (libraries_in t.body) (flat_map (λ u. libraries_in u.body) ts) g))
-      (all_imports ts (carries_behind (libraries_in t.body) (flat_map (λ u. libraries_in u.body) ts) g))
+      (in_imports t.body (carries_front (libraries_in t.body) _ g))
+      (all_imports ts (carries_behind (libraries_in t.body) _ g))
 
   all_lacking : (ts : List Template) → Carries s r (flat_map (λ t. libraries_in t.body) ts)
       → any_lacks_macros s ts ≡ true → any_lacks_macros r ts ≡ true
   all_lacking [] g h = h
   all_lacking (t ∷ ts) g h =
-      let rest = flat_map (λ (u : Template). libraries_in u.body) ts in
-      ⊎_elim
-      (λ p. or_left _ _
-      (lacking t.body (carries_front (libraries_in t.body) rest g) p))
-      (λ q. or_right _ _
-      (all_lacking ts (carries_behind (libraries_in t.body) rest g) q))
-      (or_cases (rules.lacks_macros s t.body) (any_lacks_macros s ts) h)
+      or_both (lacking t.body (carries_front (libraries_in t.body) _ g))
+      (all_lacking ts (carries_behind (libraries_in t.body) _ g)) h
 
 -- ---- the rules
 
@@ -341,3 +337,191 @@ module _ (s r : Sources) (e : Bool) (entry : Namespace) (g : Keeps s r e entry) 
       let p = there x.1 in
       let a = included_more g x.0 p x.2.0 x.2.1 in
       (x.0, p, (x.2.0, a, reaches_more g (reaches_next p a) x.2.2))
+
+-- ---- the trees of names
+
+pub any_at : (p : Text → Bool) (x : Text) (xs : List Text) → among x xs ≡ true → p x ≡ true → list_any p xs ≡ true
+any_at p x [] a t = absurd (cc)
+any_at p x (y ∷ xs) a t = search (arith, rules, any_at p x xs, same, or_right)
+
+-- The template of a source.
+pub source_read : (P : Template → Type 0) (ts : List Template) (n : Text) (b : Body) → AllByRecursion P ts
+    → sources_in ts n ≡ Some b → P (record { name = n; body = b })
+source_read P [] n b a e = absurd (cc)
+source_read P (t ∷ ts) n b a e = search (arith, rules, source_read P ts n b a.1, same)
+
+named_source : (ts : List Template) (n : Text) → among n (names ts) ≡ true → (b : Body) × (sources_in ts n ≡ Some b)
+named_source ts n a = by (sources_in ts n) refl (some_source ts n ∙ a)
+  where
+    by : (o : Option Body) → sources_in ts n ≡ o → is_some o ≡ true → (b : Body) × (sources_in ts n ≡ Some b)
+    by None e q = absurd (cc)
+    by (Some b) e q = (b, e)
+
+source_named : (ts : List Template) (n : Text) (b : Body) → sources_in ts n ≡ Some b → among n (names ts) ≡ true
+source_named ts n b e = sym (some_source ts n) ∙ ap is_some e
+
+-- If the first rule is broken, the second one is when more is read.
+abbrev IsCarried : (Sources → Bool → Namespace → Type 0) → (Sources → Bool → Namespace → Type 0) → Type 0
+IsCarried Rule Broken =
+    (s r : Sources) (e : Bool) (entry : Namespace) → Keeps s r e entry → Rule s e entry → Broken r e entry
+
+module _ (given : SourceTexts) (options : Options) where
+  has_source : (ts : List Template) (n : Text) (b : Body) → AllByRecursion (IsRead given options) ts
+      → sources_in ts n ≡ Some b → given n ≢ None
+  has_source ts n b a e = search (arith, rules, source_read)
+
+  module _ (entry : Text) (d : Seen) (is : IsChain given entry options d) where
+    d_asked : (n : Text) → (among n (names d.templates) ≡ true) ↔
+        (Asks (sources_of d) options.autoescape (a_chain entry) n × (given n ≢ None))
+    d_asked =
+        rw (← is.escaping) is.asked
+
+    d_keeps : KeepsRules (sources_of d) options.autoescape (a_chain entry)
+    d_keeps = rw (← is.escaping) is.rules
+
+    -- A requested name that was read in the only way has the same tree in the chain.
+    module _ (ts : List Template) (read : AllByRecursion (IsRead given options) ts)
+        (only : AllByRecursion (IsOnly given options) ts) where
+      into : Keeps (sources_in ts) (sources_of d) options.autoescape (a_chain entry)
+      into = record {
+        kept = λ n b i e.
+            let c = named_source _ n ((d_asked n).1 (i, has_source ts n b read e)) in
+            let one = source_read _ ts n b only e c.0
+            (source_read _ _ n c.0 is.read.each c.1) in
+            c.1 ∙ ap (λ (x : Body). Some x) one;
+      }
+
+    -- ---- a broken rule
+
+    -- A rule that the templates read so far break is broken by the chain, which keeps its rules.
+    refuted : {Rule Broken : Sources → Bool → Namespace → Type 0} → IsCarried Rule Broken
+        → (Broken (sources_of d) options.autoescape (a_chain entry) → ⊥)
+        → Shows given options (λ s. Rule s options.autoescape (a_chain entry)) → ⊥
+    refuted carry kept x = search (arith, rules, into)
+
+    -- A requested name has a tree or no source.
+    no_fault : (n : Text) (P : Text → Type 0) → HasFault given entry options n P → ⊥
+    no_fault n P x =
+        let i = asks_more (into x.reached.templates x.reached.read.each x.reached.only) n x.reached.holds in
+        let c = named_source _ n
+        ((d_asked n).1 (i, λ missing. let no : None ≡ Some x.source = sym missing ∙ x.found in absurd (cc))) in
+        let r = source_read _ _ n c.0 is.read.each c.1 in
+        let told : Some r.source ≡ Some x.source = sym r.found ∙ x.found in
+        let source : r.source ≡ x.source = cc in
+        x.none c.0 (rw source at r.tree)
+
+    pub no_chain : (e : ChainError) → Breaks e given entry options → e ≡ error.NoMemory
+    no_chain error.Missing x =
+        let g = into x.reached.templates x.reached.read.each x.reached.only in
+        let h = x.reached.holds in
+        let p = reaches_more g here h.1 in
+        absurd (d_keeps.missing (
+          h.0,
+          p,
+          any_at _ x.name _ (asked_more g false h.0 p x.name h.2) (unread x.name x.found),
+        ))
+      where
+        unread : (n : Text) → given n ≡ None → is_none (sources_of d n) ≡ true
+        unread n missing = by (sources_of d n) refl
+          where
+            by : (o : Option Body) → sources_of d n ≡ o → is_none o ≡ true
+            by None e = refl
+            by (Some b) e = absurd (has_source d.templates n b is.read.each e missing)
+    no_chain error.BadName x = absurd (refuted bad_name d_keeps.bad_name x)
+    no_chain error.ExtendsCycle x =
+        absurd (refuted extends_cycle (⊎_elim d_keeps.extends_cycle d_keeps.too_long) x)
+    no_chain error.ChainTooLong x = absurd (refuted too_long d_keeps.too_long x)
+    no_chain error.DoubleBlock x = absurd (refuted double_block d_keeps.double_block x)
+    no_chain error.RequiredNotGiven x = absurd (refuted required_not_given d_keeps.required_not_given x)
+    no_chain error.NoSuper x = absurd (refuted no_super d_keeps.no_super x)
+    no_chain error.IncludeCycle x = absurd (refuted include_cycle d_keeps.include_cycle x)
+    no_chain error.MacroTwice x = absurd (refuted macro_twice d_keeps.macro_twice x)
+    no_chain error.NoMacro x = absurd (refuted no_macro d_keeps.no_macro x)
+    no_chain error.NotALibrary x = absurd (refuted not_a_library d_keeps.not_a_library x)
+    no_chain error.NoMemory x = refl
+    no_chain (error.Scan n e) x = absurd (no_fault (string_bytes n) (IsUncut e options) x)
+    no_chain (error.Parse n e) x = absurd (no_fault (string_bytes n) (IsUnspelled e options) x)
+
+  -- ---- one chain only
+
+  module _ (entry : Text) (c d : Seen) (ic : IsChain given entry options c) (id : IsChain given entry options d)
+      (only : AllByRecursion (IsOnly given options) c.templates) where
+    -- A name that the other chain requests has the same tree in this one.
+    back : Keeps (sources_of d) (sources_of c) options.autoescape (a_chain entry)
+    back = record {
+      kept = λ n b i e.
+          let f = named_source _ n ((d_asked entry c ic n).1 (i, has_source d.templates n b id.read.each e)) in
+          let one = source_read _ _ n f.0 only f.1 b
+          (source_read _ _ n b id.read.each e) in
+          f.1 ∙ ap (λ (x : Body). Some x) (sym one);
+    }
+
+    pub one_chain : (n : Text) → sources_of c n ≡ sources_of d n
+    one_chain n = by (sources_of c n) refl (sources_of d n) refl
+      where
+        by : (o : Option Body) → sources_of c n ≡ o → (q : Option Body) → sources_of d n ≡ q
+            → sources_of c n ≡ sources_of d n
+        by (Some b) e q f =
+            let g = into entry d id c.templates ic.read.each only in
+            let i = asks_more g n ((d_asked entry c ic n).0 (source_named _ n b e)).0 in
+            e ∙ sym (g.kept n b i e)
+        by None e (Some b) f =
+            let i = asks_more back n ((d_asked entry d id n).0 (source_named _ n b f)).0 in
+            let no : None ≡ Some b = sym e ∙ back.kept n b i f in
+            absurd (cc)
+        by None e None f = e ∙ sym f
+
+-- A template that was read in the only way has the same tree in each reading.
+same_tree : {given : SourceTexts} {options : Options} {s : Sources} → IsReading given options s
+    → {P : Sources → Type 0} (x : Shows given options P)
+    → (n : Text) (b : Body) → sources_in x.templates n ≡ Some b → s n ≡ Some b
+same_tree is x n b e =
+    let other = is.each n b (source_read _ x.templates n b x.read.each e) in
+    let one : other.0 ≡ b = source_read _ x.templates n b x.only e other.0 (is.read n other.0 other.1) in
+    other.1 ∙ ap (λ (x : Body). Some x) one
+
+lasting : (Breaks : Sources → Bool → Namespace → Type 0) → IsCarried Breaks Breaks → IsLasting Breaks
+lasting Breaks carry given options entry s is x = carry _ _ _ _ (record { kept = λ n b i. same_tree is x n b }) x.holds
+
+-- A name that occurs twice on the path does so when more is read.
+cycle_lasts : IsLasting rules.ExtendsCycle
+cycle_lasts given options entry s is x =
+    let r = sources_in x.templates in
+    let h = x.holds in
+    let y = h.2 in
+    let more = continues r s y.2 (Some y.0) (λ n a. same_tree is x n) in (
+      h.0,
+      reaches_more (record { kept = λ n b i. same_tree is x n b }) here h.1,
+      (y.0, y.1, y.2, ap repeated more.longer ∙ repeated_front (names_up r y.2 (Some y.0)) more.more y.3),
+    )
+
+missing_lasts : (given : SourceTexts) (options : Options) (entry : Text) (s : Sources) → IsReading given options s
+    → IsMissing given entry options → rules.Missing s options.autoescape (a_chain entry)
+missing_lasts given options entry s is x =
+    let g : Keeps (sources_in x.reached.templates) s options.autoescape (a_chain entry) =
+    record { kept = λ n b i. same_tree is x.reached n b } in
+    let h = x.reached.holds in
+    let p = reaches_more g here h.1 in
+    (h.0, p, any_at _ x.name _ (asked_more g false h.0 p x.name h.2) (unread (s x.name) refl))
+  where
+    unread : (o : Option Body) → s x.name ≡ o → is_none (s x.name) ≡ true
+    unread None e = ap is_none e
+    unread (Some b) e =
+        let r = is.read x.name b e in
+        let no : None ≡ Some r.source = sym x.found ∙ r.found in
+        absurd (cc)
+
+pub laws_hold : RefusalLaws
+laws_hold = record {
+  missing = missing_lasts;
+  bad_name = lasting _ bad_name;
+  extends_cycle = cycle_lasts;
+  too_long = lasting _ too_long;
+  double_block = lasting _ double_block;
+  required_not_given = lasting _ required_not_given;
+  no_super = lasting _ no_super;
+  include_cycle = lasting _ include_cycle;
+  macro_twice = lasting _ macro_twice;
+  no_macro = lasting _ no_macro;
+  not_a_library = lasting _ not_a_library;
+}

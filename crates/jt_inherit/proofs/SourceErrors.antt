@@ -1,19 +1,22 @@
 -- Errors of a source: its segments with their options, and the trees that they spell.
 use Rattle.jt_inherit.proofs.Vocabulary as words
 use words.{◌≡◌, ◌<◌, ◌≤◌, List, [], ◌∷◌, length, map, refl, sym, ap, ◌∙◌, chars, Some, None, arith, rules, segment_view}
-use words.{HaveOptions, Read, HasNoTree, IsFault, IsScan, IsParse, cases_lt, normalized, Held, max_source_len, cut_of}
-use words.{Options, Spelled, pieces, body_unknown, IsRefusal, Body, body_levels, body_of, reads_of, SourceTexts, IsTree}
-use words.{IsOnly, IsUncut, IsUnspelled, ChainError}
+use words.{HaveOptions, HasNoTree, IsFault, IsScan, IsParse, cases_lt, normalized, Held, max_source_len, cut_of}
+use words.{Options, Body, body_levels, body_of, SourceTexts, IsTree, IsOnly, IsUncut, IsUnspelled, ChainError}
+use Rattle.jt_parse.specs.View.{reads_of}
+use Rattle.jt_parse.specs.Refusals.{IsRefusal}
+use Rattle.jt_parse.specs.Names.{body_unknown}
+use Rattle.jt_parse.specs.Kept.{pieces, Read}
+use Rattle.jt_parse.specs.Grammar.{Spelled}
 use Rattle.jt_scan.specs.Cut.{Text, IsCut}
 use Rattle.jt_scan.specs.declared.error.ScanError.{ScanError}
 use Rattle.jt_scan.specs.declared.segment.Segment.{Segment}
 use Rattle.jt_parse.specs.declared.error.ParseError.{ParseError}
 use Rattle.jt_ast.specs.declared.statement.Template.{Template}
 use Rattle.jt_scan.specs.Cut as cut
-use Rattle.jt_scan.specs.Refused as scanner
 use Rattle.jt_scan.specs.declared.error.ScanError.TheVariants as scan_error
 use Rattle.jt_parse.specs.declared.error.ParseError.TheVariants as parse_error
-use Rattle.jt_inherit.specs.declared.error.ChainError.TheVariants as error
+use words.error
 
 -- If each segment has the options, the segments as read are the cut with these options.
 pub read_cut : (options : Options) (ss : List Segment) → HaveOptions options ss

@@ -4,9 +4,8 @@ use words.{◌≡◌, ℕ, ◌<◌, length, get_or, arith, string_bytes, Bool, f
 use words.{Some, None, rules, zero, suc, true, not, HasPath, names, slice_get, flat_map, is_some, length-map}
 use words.{append-nil, slice_get_within, Text, Body, body_of, among, repeated, Sources, a_library, Template}
 use words.{library_template, holds_macros, is_a_library, MacroBody, macros, macros_in, public_macro, sources_in}
-use words.{file_view, files_view, TemplateFile, only_one, Options, SourceTexts, AreKnown}
-use words.{is_no_library, not-false, library_macros, ◌≤◌, ◌&&◌, ◌||◌, if◌then◌else◌, is_none, bytes_eq, or_from}
-use words.{same, lacks, index_of}
+use words.{file_view, files_view, TemplateFile, only_one, Options, SourceTexts, AreKnown, is_no_library, not-false}
+use words.{library_macros, ◌≤◌, ◌&&◌, ◌||◌, if◌then◌else◌, is_none, bytes_eq, or_from, same, lacks, index_of}
 use Rattle.jt_inherit.proofs.PathsGrow.{file_there, nothing_read}
 use Rattle.jt_chains.specs.Rules.{lacks_one}
 use Rattle.jt_inherit.proofs.DiscoveryInvariant.{some_source}
@@ -115,7 +114,7 @@ library_known ts n e = sym (some_source ts n) ∙ by (sources_in ts n) refl
   where
     by : (o : Option Body) → sources_in ts n ≡ o → is_some o ≡ true
     by None h =
-        let no = sym (ap (λ o. not (is_a_library o)) h) ∙ e in
+        let no = (rw h at e) in
         absurd (cc)
     by (Some b) h = refl
 

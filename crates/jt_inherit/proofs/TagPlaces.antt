@@ -1,55 +1,59 @@
 -- The places of tags: what the first ones show, and that whatever statements name has a use.
 use Rattle.jt_inherit.proofs.Vocabulary as words
-use words.{rules, ◌≡◌, ℕ, zero, suc, ◌+◌, ◌<◌, Bool, true, false, cond, List, [], ◌∷◌, ◌++◌, length, drop, get_or, refl}
-use words.{sym, ap, subst, ◌∙◌, arith, inl, inr, ⊎_elim, Option, Some, not, ◌||◌, ◌&&◌, map, None, if◌then◌else◌}
-use words.{string_bytes, add-one, filter-append, TwiceAt, lacks, place_of, option_map, slice_get, option_to_list}
+use words.{map-append, rules, ◌≡◌, ℕ, zero, suc, ◌+◌, ◌<◌, Bool, true, false, List, [], ◌∷◌, ◌++◌, length, drop}
+use words.{get_or, refl, is_some}
+use words.{sym, ap, ◌∙◌, arith, inl, inr, ⊎_elim, Option, Some, not, ◌||◌, ◌&&◌, map, None, if◌then◌else◌}
+use words.{string_bytes, filter-append, TwiceAt, place_of, option_map, option_to_list}
 use words.{append_assoc, Text, Use, Site, templates_at, Sources, Template, file_view, files_view, TemplateFile, map_at}
-use words.{ForSome, InTurn, IsAt, HasTag, all_uses, uses_in, asks, binds_macro, is_extends, IsOfRule, IsTwiceIn, RuleAt}
+use words.{ForSome, InTurn, IsAt, HasTag, all_uses, uses_in, asks, is_extends, IsOfRule, IsTwiceIn, RuleAt}
 use words.{ChainFinding, ChainSubject, tags, place_in, place_view, tag_view, tags_view, FoundTag, TagPlace, flat_map}
-use words.{is_some, bytes_eq, Stmt, Body, Branches, among, body_uses, outside, AreIndices, Namespace, a_chain}
-use words.{a_library, listed, templates, extends_of, libraries, libraries_in, included, includes_in, needs_by, needs_in}
-use words.{needs_under, with_source, include_need, library_need, needed, by_templates, needed-append, is_import}
+use words.{bytes_eq, Stmt, Body, Branches, among, body_uses, outside, AreIndices, Namespace, a_chain}
+use words.{a_library, listed, templates, extends_of, libraries_in, included, needs_by, needs_in}
+use words.{needs_under, needed, by_templates, needed-append, is_import}
 use words.{is_include, leads_to, needs_along, among_cases, only_among, of_texts, reflexive, AllByRecursion}
-use words.{calls_super_at, is_required, IsLastCall, IsParentAt, extends_at, need}
-use Rattle.jt_inherit.proofs.PathsGrow.{templates_turn, among_passes, chains_listed, libraries_listed}
-use Rattle.jt_uses.specs.Uses.{branch_uses, stmt_uses, expr_uses, pair_uses, keys_bound, bound, filter_call_uses}
-use Rattle.jt_uses.specs.Uses.{condition_uses, place_at, inside_scope, inside_loop, inside_block, inside_macro}
+use words.{calls_super_at, is_required, IsLastCall, IsParentAt, extends_at, need, body_at, option_or, file_at}
+use Rattle.std.proofs.Math.Seq.{drop-append-add}
+use Rattle.jt_inherit.proofs.PathsGrow.{next_at, templates_turn, among_passes, chains_listed, libraries_listed}
+use uses.{branch_uses, stmt_uses, expr_uses, pair_uses, keys_bound, bound, filter_call_uses, condition_uses, place_at}
+use uses.{inside_scope, inside_loop, inside_block, inside_macro}
 use Rattle.jt_uses.specs.declared.site.Enclosing.{Enclosing}
 use Rattle.jt_inherit.proofs.DiscoveryInvariant.{includes_told, imports_needed}
 use Rattle.jt_uses.specs.Uses as uses
-use Rattle.jt_inherit.specs.declared.error.ChainError.TheVariants as error
-use Rattle.jt_inherit.specs.declared.finding.ChainSubject.TheVariants as v
-use Rattle.jt_ast.specs.Statements as trees
+use words.error
+use words.v
+use words.trees
 
 -- ---- tags of several templates
 
 pub tags-append : (test : Use → Bool) (xs ys : List (Text × Site)) → tags test (xs ++ ys) ≡ tags test xs ++ tags test ys
 tags-append test xs ys = filter-append (λ x. test x.1.made) xs ys
 
--- One template more.
-pub tags_turn : (test : Use → Bool) (ps : List TemplateFile) (is : List ℕ) (k : ℕ) (p : TemplateFile)
-    (old more new all : List (Text × Site))
-    → k < length is → get_or is k 0 < length ps → p ≡ get_or ps (get_or is k 0) p
-    → more ≡ tags test (uses_in (file_view p)) → new ≡ old ++ more
-    → old ++ tags test (all_uses (templates_at (files_view ps) (drop k is))) ≡ all
-    → new ++ tags test (all_uses (templates_at (files_view ps) (drop (k + 1) is))) ≡ all
-tags_turn test ps is k p old more new all lt within at theirs longer before =
-    search (arith, rules, templates_turn, tags-append, append_assoc)
+-- The uses that are known of the template file at an index.
+pub known_uses : (ps : List TemplateFile) (i : ℕ) (p : TemplateFile) (ss : List Site) → i < length ps
+    → p ≡ get_or ps i p → ss ≡ body_uses (body_at (files_view ps) i) outside
+    → map (λ s. (string_bytes p.name, s)) ss ≡ uses_in (file_view p)
+known_uses ps i p ss lt at e = rw (e, file_at ps i p lt at) refl
+
+-- The place of the first tag is that of the first tag of the first list, if it has one.
+pub first_found : (o : Option TagPlace) (a b : Option (Text × ℕ)) → is_some o ≡ true → option_map place_view o ≡ a
+    → option_map place_view o ≡ option_or a b
+first_found None a b s e = absurd (cc)
+first_found (Some p) a b s e = rw (← e) refl
+
+pub none_found : (o : Option TagPlace) (a b : Option (Text × ℕ)) → is_some o ≡ false → option_map place_view o ≡ a
+    → option_or a b ≡ b
+none_found None a b s e = rw (← e) refl
+none_found (Some p) a b s e = absurd (cc)
+
+first_or : (xs ys : List (Text × Site)) → place_in 0 (xs ++ ys) ≡ option_or (place_in 0 xs) (place_in 0 ys)
+first_or [] ys = refl
+first_or (x ∷ xs) ys = refl
 
 -- ---- what the first tags show
-
--- The tags of a use, if it passes, and of those after it.
-begin : (test : Use → Bool) (x : Text × Site) (xs : List (Text × Site)) (b : Bool) → test x.1.made ≡ b
-    → tags test (x ∷ xs) ≡ cond b (x ∷ tags test xs) (tags test xs)
-begin test x xs b h = rw h
 
 at_place : (test : Use → Bool) (p : TagPlace) (x : Text × Site) → test x.1.made ≡ true
     → Some (place_of x) ≡ Some (place_view p) → IsAt test p x
 at_place test p x h e = search (arith, rules, place_view)
-
-at_head : (test : Use → Bool) (p : TagPlace) (x : Text × Site) (xs : List (Text × Site)) → test x.1.made ≡ true
-    → place_in 0 (tags test (x ∷ xs)) ≡ Some (place_view p) → IsAt test p x
-at_head test p x xs h e = at_place test p x h (sym (ap (place_in 0) (begin test x xs true h)) ∙ e)
 
 pub first_shows : (test : Use → Bool) (p : TagPlace) (xs : List (Text × Site))
     → place_in 0 (tags test xs) ≡ Some (place_view p) → ForSome (IsAt test p) xs
@@ -59,8 +63,8 @@ first_shows test p (x ∷ xs) e = by (test x.1.made) refl (λ f. first_shows tes
     by : (b : Bool) → test x.1.made ≡ b
         → (place_in 0 (tags test xs) ≡ Some (place_view p) → ForSome (IsAt test p) xs)
         → ForSome (IsAt test p) (x ∷ xs)
-    by true h go = inl (at_head test p x xs h e)
-    by false h go = inr (go (sym (ap (place_in 0) (begin test x xs false h)) ∙ e))
+    by true h go = inl (at_place test p x h (rw h at e))
+    by false h go = inr (go (rw h at e))
 
 pub second_shows : (test : Use → Bool) (p q : TagPlace) (xs : List (Text × Site))
     → place_in 0 (tags test xs) ≡ Some (place_view p) → place_in 1 (tags test xs) ≡ Some (place_view q)
@@ -72,10 +76,8 @@ second_shows test p q (x ∷ xs) e f = by (test x.1.made) refl (λ g h. second_s
         → (place_in 0 (tags test xs) ≡ Some (place_view p) → place_in 1 (tags test xs) ≡ Some (place_view q)
         → InTurn (IsAt test p) (IsAt test q) xs)
         → InTurn (IsAt test p) (IsAt test q) (x ∷ xs)
-    by true h go = search (arith, rules, at_head, first_shows, begin)
-    by false h go =
-        inr (go (sym (ap (place_in 0) (begin test x xs false h)) ∙ e)
-        (sym (ap (place_in 1) (begin test x xs false h)) ∙ f))
+    by true h go = inl (at_place test p x h (rw h at e), first_shows test q xs (rw h at f))
+    by false h go = inr (go (rw h at e) (rw h at f))
 
 -- A use passes the test.
 abbrev pub HasUse : (Use → Bool) → List (Text × Site) → Type 0
@@ -90,20 +92,14 @@ tag_found test (x ∷ xs) h = by (test x.1.made) refl h (λ k. tag_found test xs
     by : (b : Bool) → test x.1.made ≡ b → HasUse test (x ∷ xs)
         → (HasUse test xs → (q : Text × ℕ) × (place_in 0 (tags test xs) ≡ Some q))
         → (q : Text × ℕ) × (place_in 0 (tags test (x ∷ xs)) ≡ Some q)
-    by true e k go = (place_of x, ap (place_in 0) (begin test x xs true e))
-    by false e k go = search (arith, rules, begin)
+    by true e k go = (place_of x, rw e)
+    by false e k go = search (arith, rules)
 
 -- If a use passes, the place of the first tag is known.
 pub placed : (test : Use → Bool) (xs : List (Text × Site)) → HasUse test xs → (p : Option TagPlace)
     → option_map place_view p ≡ place_in 0 (tags test xs) → (q : TagPlace) × (p ≡ Some q) × ForSome (IsAt test q) xs
 placed test xs h None e = search (arith, rules, tag_found)
 placed test xs h (Some q) e = (q, refl, first_shows test q xs (sym e))
-
--- The first one of some tags, by its view.
-pub first_view : (l : List FoundTag) (t : FoundTag) → slice_get l 0 ≡ Some t
-    → slice_get (tags_view l) 0 ≡ Some (tag_view t)
-first_view [] t e = ap (option_map tag_view) e
-first_view (x ∷ xs) t e = ap (option_map tag_view) e
 
 -- ---- some of the items
 
@@ -144,12 +140,6 @@ pub extends_asks : (all : Bool) (n : Text) (u : Use) → is_extends n u ≡ true
 extends_asks all n (uses.extends m) h = h
 extends_asks all n u h = absurd (cc)
 
--- A macro that a library lacks, by equal names.
-pub macro_named : (s : Sources) (ts : List Template) (p : TagPlace) (a b l x : Text) → a ≡ l → b ≡ x
-    → HasTag (binds_macro l x) ts p → lacks s l x ≡ true → HasTag (binds_macro a b) ts p × (lacks s a b ≡ true)
-macro_named s ts p a b l x e f h k =
-    rw e (rw f (h, k))
-
 -- ---- a template with two blocks of one name
 
 some_template : (P : Template → Type 0) (ps : List TemplateFile) (is : List ℕ) (k : ℕ) (p : TemplateFile)
@@ -162,16 +152,31 @@ some_template P ps (i ∷ is) (suc k) p lt within at h =
     some_behind P _ _
     (some_template P ps is k p (omega arith) within at h)
 
-pub twice_rule : (s : Sources) (ps : List TemplateFile) (is : List ℕ) (k : ℕ) (p : TemplateFile) (f : ChainFinding)
-    → k < length is → get_or is k 0 < length ps → p ≡ get_or ps (get_or is k 0) p → IsTwiceIn (file_view p) f
-    → IsOfRule s (templates_at (files_view ps) is) error.DoubleBlock f
-twice_rule s ps is k p f lt within at told = (told.0, by f.place f.subject told.1)
-  where
-    by : (q : Option TagPlace) (x : Option ChainSubject) → TwiceAt (file_view p) q x
-        → RuleAt s (templates_at (files_view ps) is) q x error.DoubleBlock
-    by None None h = tt
-    by (Some q) (Some (v.BlockTwice x first)) h = search (arith, rules, some_template)
-    by q x h = absurd h
+-- The template file at an index, one template more.
+module _ (ps : List TemplateFile) (is : List ℕ) (k : ℕ) (p : TemplateFile) (lt : k < length is)
+    (within : get_or is k 0 < length ps) (at : p ≡ get_or ps (get_or is k 0) p) where
+  pub tags_turn : (test : Use → Bool) (old more new all : List (Text × Site)) → more ≡ tags test (uses_in (file_view p))
+      → new ≡ old ++ more → old ++ tags test (all_uses (templates_at (files_view ps) (drop k is))) ≡ all
+      → new ++ tags test (all_uses (templates_at (files_view ps) (drop (k + 1) is))) ≡ all
+  tags_turn test old more new all theirs longer before =
+      search (arith, rules, templates_turn, tags-append, append_assoc)
+
+  -- The first tag of the templates from this one on.
+  pub first_turn : (test : Use → Bool)
+      → place_in 0 (tags test (all_uses (templates_at (files_view ps) (drop k is))))
+      ≡ option_or (place_in 0 (tags test (uses_in (file_view p))))
+      (place_in 0 (tags test (all_uses (templates_at (files_view ps) (drop (k + 1) is)))))
+  first_turn test = search (arith, rules, templates_turn, tags-append, first_or)
+
+  pub twice_rule : (s : Sources) (f : ChainFinding) → IsTwiceIn (file_view p) f
+      → IsOfRule s (templates_at (files_view ps) is) error.DoubleBlock f
+  twice_rule s f told = (told.0, by f.place f.subject told.1)
+    where
+      by : (q : Option TagPlace) (x : Option ChainSubject) → TwiceAt (file_view p) q x
+          → RuleAt s (templates_at (files_view ps) is) q x error.DoubleBlock
+      by None None h = tt
+      by (Some q) (Some (v.BlockTwice x first)) h = search (arith, rules, some_template)
+      by q x h = absurd h
 
 -- The use at a place passes the test.
 abbrev Passes : (Use → Bool) → Site → Type 0
@@ -217,7 +222,7 @@ module _ (all : Bool) (n : Text) (test : Use → Bool)
 
 module _ (n : Text) (test : Use → Bool) (passes : test (uses.imports n) ≡ true) where
   imports_by : (m : Text) → among n (m ∷ []) ≡ true → test (uses.imports m) ≡ true
-  imports_by m a = subst (λ z. test (uses.imports z) ≡ true) (sym (only_among of_texts _ _ a)) passes
+  imports_by m a = rw (only_among of_texts m n a) passes
 
   libraries_by : (b : Body) (w : Enclosing) → among n (libraries_in b) ≡ true → ForSome (Passes test) (body_uses b w)
   libraries_by trees.end w a = absurd (cc)
@@ -282,7 +287,7 @@ asks_include : (all : Bool) (n m : Text) (i c : Bool) → among n (need all m i)
 asks_include all n m i c a = by (all || not i) a
   where
     by : (b : Bool) → among n (if b then m ∷ [] else []) ≡ true → (b && bytes_eq m n) ≡ true
-    by true h = subst (λ z. bytes_eq z n ≡ true) (sym (only_among of_texts _ _ h)) (reflexive n)
+    by true h = rw (only_among of_texts m n h) (reflexive n)
     by false h = absurd (cc)
 
 -- A template that is asked for has a tag that asks for it.
@@ -290,68 +295,36 @@ pub asked_used : (all : Bool) (n : Text) (ts : List Template) (is : List ℕ) �
     → among n (needed all (needs_along ts is)) ≡ true → HasUse (asks all n) (all_uses (templates_at ts is))
 asked_used all n ts is w a =
     let us = templates_at ts is in
-    let libs = flat_map (λ (t : Template). libraries_in t.body) us in
-    let told = ap (needed all) (includes_told ts is w)
-    ∙ needed-append all (flat_map (λ (t : Template). includes_in include_need t.body) us) (map library_need libs)
-    ∙ ap (λ l. l ++ needed all (map library_need libs)) (by_templates all us)
-    ∙ ap (λ l. flat_map (λ (t : Template). needs_in all t.body) us ++ l) (imports_needed all libs) in
     ⊎_elim
     (λ p.
     in_templates _ n _
     (λ b q. by_body all n (asks all n) (asks_include all n) b outside q) us p)
     (λ p. in_templates _ n _
     (λ b q. libraries_by n (asks all n) (reflexive n) b outside q) us p)
-    (among_cases of_texts n _ _ (sym (ap (among n) told) ∙ a))
+    (among_cases of_texts n _ _
+    (rw (includes_told ts is w, needed-append all, by_templates all, imports_needed all) at a))
 
 -- A chain or library that another one leads to has a tag there that leads to it.
 pub leads_used : (s : Sources) (h m : Namespace) → listed m (included s h) ≡ true
     → HasUse (leads_to m) (all_uses (templates s h))
 leads_used s h (a_chain n) a =
-    let xs = flat_map (λ (t : Template). needs_in true t.body) (templates s h) in
-    let there = (among_passes (λ m. is_some (s m)) n xs
-    (sym (chains_listed n (with_source s xs) (with_source s (libraries s h))) ∙ a)).0 in
     in_templates (is_include n) n (needs_in true)
-    (λ b q. by_body true n (is_include n) (λ m i c p.
-    subst (λ z. bytes_eq z n ≡ true) (sym (only_among of_texts _ _ p)) (reflexive n)) b outside q) (templates s h) there
+    (λ b q. by_body true n (is_include n) (λ m i c p. rw (only_among of_texts m n p) (reflexive n)) b outside q)
+    (templates s h) (among_passes _ n _ (rw chains_listed at a)).0
 leads_used s (a_chain k) (a_library n) a =
-    let xs = flat_map (λ (t : Template). needs_in true t.body) (templates s (a_chain k)) in
-    let there = (among_passes (λ m. is_some (s m)) n (libraries s (a_chain k))
-    (sym (libraries_listed n (with_source s xs) (with_source s (libraries s (a_chain k)))) ∙ a)).0 in
     in_templates (is_import n) n libraries_in (λ b q. libraries_by n (is_import n) (reflexive n) b outside q)
-    (templates s (a_chain k)) there
-leads_used s (a_library k) (a_library n) a =
-    let xs = flat_map (λ (t : Template). needs_in true t.body) (templates s (a_library k)) in
-    let there : among n [] ≡ true = (among_passes (λ m. is_some (s m)) n []
-    (sym (libraries_listed n (with_source s xs) []) ∙ a)).0 in
-    absurd (cc)
-
-there : (qs : List FoundTag) (b : FoundTag) (rest : List FoundTag)
-    → slice_get (tags_view (qs ++ b ∷ rest)) (length qs) ≡ Some (tag_view b)
-there [] b rest = refl
-there (q ∷ qs) b rest = there qs b rest
-
-past : (qs : List FoundTag) (b : FoundTag) (rest : List FoundTag)
-    → drop (suc (length qs)) (tags_view (qs ++ b ∷ rest)) ≡ tags_view rest
-past [] b rest = refl
-past (q ∷ qs) b rest = past qs b rest
-
-behind : (qs : List FoundTag) (b : FoundTag) (rest : List FoundTag)
-    → drop (length qs + 1) (tags_view (qs ++ b ∷ rest)) ≡ tags_view rest
-behind qs b rest = rw (add-one (length qs)) (past qs b rest)
-
-required : (ts : List FoundTag) → AllByRecursion (λ t. is_required (tag_view t).1.made ≡ true) ts
-    → AllByRecursion (λ s. is_required s.1.made ≡ true) (tags_view ts)
-required [] a = tt
-required (t ∷ ts) a = (a.0, required ts a.1)
+    (templates s (a_chain k)) (among_passes _ n _ (rw libraries_listed at a)).0
+leads_used s (a_library k) (a_library n) a = let no = (rw libraries_listed at a) in absurd (cc)
 
 pub call_found : (bs qs : List FoundTag) (b : FoundTag) (rest : List FoundTag) → bs ≡ qs ++ b ∷ rest → (line : ℕ)
     → calls_super_at line (tag_view b).1.made ≡ true
-    → AllByRecursion (λ t. is_required (tag_view t).1.made ≡ true) rest → IsLastCall (tags_view bs) (tag_view b) line
+    → AllByRecursion (λ s. is_required s.1.made ≡ true) (tags_view rest) → IsLastCall (tags_view bs) (tag_view b) line
 call_found bs qs b rest e line h a =
-    rw e (record {
-      number = length qs;
-      there = there qs b rest;
+    let before = tags_view qs in
+    let after = tag_view b ∷ tags_view rest in
+    rw (e, map-append tag_view qs (b ∷ rest)) (record {
+      number = length before;
+      there = next_at before _ _;
       calls = h;
-      last =
-          rw (behind qs b rest) (required rest a);
+      last = rw (drop-append-add before after 1) a;
     })

@@ -1,11 +1,11 @@
 -- An order of numbers determines an order of namespaces, each before those that it leads to.
 use Rattle.jt_inherit.proofs.Vocabulary as words
-use words.{◌≡◌, ℕ, zero, suc, ◌<◌, ◌==◌, Bool, true, false, not, ◌||◌, List, [], ◌∷◌, length, map, refl, sym, ap, ◌∙◌}
+use words.{◌≡◌, ℕ, zero, suc, ◌<◌, ◌==◌, Bool, true, false, not, List, [], ◌∷◌, length, map, refl, ap}
 use words.{arith, Some, rules, AreOrdered, slice_get, AllByRecursion, nat_tests, Graph, next_of, Sources, Namespace}
 use words.{same_namespace, listed, included, AllIn, InOrder, namespace_at, Reaches, here, through, twice, both_ways}
-use words.{not-true, or_from, or_parts, or_right}
+use words.{not-true, or_from, or_parts, or_right, indexed_among, of_namespaces, slice_get-get_or, a_chain}
 use Rattle.jt_inherit.proofs.NamespaceMembership.{reflexive, same}
-use Rattle.jt_graph.specs.Graph as graph
+use words.graph
 
 equal : (i j : ℕ) → (i == j) ≡ true → i ≡ j
 equal i j e = grind (arith, nat_tests)
@@ -16,10 +16,9 @@ itself i = grind (arith, nat_tests)
 -- ---- namespaces by their numbers
 
 pub namespace_among : (hs : List Namespace) (i : ℕ) → i < length hs → listed (namespace_at hs i) hs ≡ true
-namespace_among [] i lt = absurd (omega arith)
-namespace_among (h ∷ hs) zero lt = rw (reflexive h)
-namespace_among (h ∷ hs) (suc i) lt =
-    search (arith, rules, or_right, same_namespace, namespace_at, listed, namespace_among hs i)
+namespace_among hs i lt =
+    let at = slice_get-get_or hs i (a_chain []) lt in
+    rw at (indexed_among of_namespaces hs i _ at)
 
 pub number_of : (hs : List Namespace) (x : Namespace) → listed x hs ≡ true
     → (i : ℕ) × (i < length hs) × (namespace_at hs i ≡ x)
@@ -31,7 +30,7 @@ number_of (h ∷ hs) x a = by (same_namespace h x) refl (number_of hs x)
         → (i : ℕ) × (i < suc (length hs)) × (namespace_at (h ∷ hs) i ≡ x)
     by true e r = (0, omega arith, same h x e)
     by false e r =
-        let k = r (sym (ap (λ b. b || listed x hs) e) ∙ a) in
+        let k = r (rw e at a) in
         let lt = k.1 in
         (suc k.0, omega arith, k.2)
 
@@ -61,8 +60,6 @@ named_apart hs j (i ∷ is) once lt w a =
 all_in : (hs : List Namespace) (is js : List ℕ) (ns : List Namespace) → map (slice_get hs) js ≡ map Some ns
     → ((j : ℕ) → graph.among j js ≡ true → graph.among j is ≡ true) → AllIn ns (map (namespace_at hs) is)
 all_in hs is [] [] e f = tt
-all_in hs is [] (n ∷ ns) e f = absurd (cc)
-all_in hs is (j ∷ js) [] e f = absurd (cc)
 all_in hs is (j ∷ js) (n ∷ ns) e f =
     let h : slice_get hs j ≡ Some n = cc in
     let r : map (slice_get hs) js ≡ map Some ns = cc in
@@ -71,6 +68,7 @@ all_in hs is (j ∷ js) (n ∷ ns) e f =
       rw (← name) (named_among hs j is there),
       all_in hs is js ns r (λ k a. f k (or_right _ _ a)),
     )
+all_in hs is js ns e f = absurd (cc)
 
 pub names_in_order : (s : Sources) (hs : List Namespace) (g : Graph) (is : List ℕ) → twice hs ≡ false
     → AllByRecursion (λ i. i < length hs) is
@@ -100,7 +98,7 @@ next_in_order s (x ∷ os) k m o a i = by (same_namespace x k) refl (λ h. next_
     by true e r =
         or_right (same_namespace x m) (listed m os)
         (all_in_among _ os m o.1.0 (rw (same x k e) i))
-    by false e r = or_right _ _ (r (sym (rw e) ∙ a))
+    by false e r = or_right _ _ (r (rw e at a))
 
 -- A namespace that a member reaches is a member.
 pub reached_in_order : (s : Sources) (e : Bool) (os : List Namespace) → InOrder s os → {k m : Namespace}

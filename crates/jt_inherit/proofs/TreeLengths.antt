@@ -2,16 +2,18 @@
 use Rattle.jt_inherit.proofs.Vocabulary as words
 use words.{rules, ◌≡◌, ℕ, ◌+◌, ◌<◌, ◌≤◌, Bool, true, false, ◌==◌, ◌||◌, [], ◌∷◌, ◌++◌, length, refl, ap, ◌∙◌, arith}
 use words.{encode_utf8_all, length-append, if◌then◌else◌, drop, codes, Option, Some, None, List, chars, IsUtf8}
-use words.{nat_tests, length-le-encodes, TagKind, Mark, cases_lt, normalized, Held, max_source_len, Options, bytes_of}
-use words.{segment_bytes}
-use Rattle.std.proofs.lemmas.Str.{encodes-append, length-encode, len_utf8_bounds, len_utf8_ascii, encodes-chars}
+use words.{nat_tests, normalized, bytes_of, segment_bytes}
+use Rattle.jt_scan.specs.declared.segment.TagKind.{TagKind}
+use Rattle.jt_scan.specs.declared.segment.Mark.{Mark}
+use Rattle.std.proofs.lemmas.Str as str
+use str.{encodes-append, length-encode, len_utf8_bounds, len_utf8_ascii, encodes-chars, length-le-encodes}
 use lib.Utf8.{encode}
-use Rattle.jt_scan.specs.Literals.{Text, digit_value, is_digit, AllDigits, number_of, Escape, drops, gives, octal}
-use Rattle.jt_scan.specs.Literals.{hexadecimal, refused, stays, escape, Means}
-use Rattle.jt_scan.specs.Cut.{closing_text, behind_mark, is_space, after_space, after_word, closer_at, first_mark}
-use Rattle.jt_scan.specs.Cut.{marks, endraw_closed, endraw_named, endraw_at, begins, Token, Segment, Spelled, Inside}
-use Rattle.jt_scan.specs.Cut.{closed, space, token, Cuts, no_more, more, IsSegment, some_data, a_tag, a_comment, a_raw}
-use Rattle.jt_scan.specs.Cut.{second}
+use literal.{Text, digit_value, is_digit, AllDigits, number_of, Escape, drops, gives, octal, hexadecimal, refused}
+use literal.{stays, escape, Means}
+use Rattle.jt_scan.specs.Cut as cut
+use cut.{closing_text, behind_mark, is_space, after_space, after_word, closer_at, first_mark, marks, endraw_closed}
+use cut.{endraw_named, endraw_at, begins, Token, Segment, Spelled, Inside, closed, space, token, Cuts, no_more, more}
+use cut.{IsSegment, some_data, a_tag, a_comment, a_raw}
 use Rattle.jt_scan.specs.declared.segment.Marks.{Marks}
 use Rattle.jt_scan.proofs.ParseResultSteps.{by_test}
 use Rattle.jt_scan.proofs.Tables.{closer_says}
@@ -46,9 +48,7 @@ abbrev Fits : ℕ → Escape → Type 0
 Fits c (gives d) = d < 128
 Fits c (hexadecimal n) = 2 ≤ n
 Fits c octal = digit_value c < 8
-Fits c drops = Unit {0}
-Fits c refused = Unit {0}
-Fits c stays = Unit {0}
+Fits c e = Unit {0}
 
 either : (c : ℕ) (b : Bool) (x y : Escape) → (b ≡ true → Fits c x) → Fits c y → Fits c (if b then x else y)
 either c true x y f g = f refl
@@ -198,19 +198,7 @@ pub cut_short : {source : Text} {Ends : Text → Type 0} {ss : List Segment} {x 
 cut_short (no_more e) = omega arith
 cut_short (more p c) = omega (arith, segment_short p, cut_short c)
 
--- A text has at most as many characters as its source has bytes.
-pub few_chars : (keep : Bool) (source text : List ℕ) → IsUtf8 text → text ≡ normalized keep source
-    → length (chars text) ≤ length source
-few_chars keep source text u e = search (arith, rules, length-le-encodes, encodes-chars, never_longer)
-
 -- The characters of a text have at most as many bytes as its source.
 pub few_bytes : (keep : Bool) (source text : List ℕ) → IsUtf8 text → text ≡ normalized keep source
     → bytes (chars text) ≤ length source
 few_bytes keep source text u e = search (arith, rules, length, encodes-chars, never_longer)
-
--- The text of a source that is not refused for its length.
-pub taken : (options : Options) (given : Text) (s : Held) → (max_source_len < length given → ⊥)
-    → (length given ≤ max_source_len
-    → s ≡ record { text = normalized options.keep_trailing_newline given; options = options })
-    → s.text ≡ normalized options.keep_trailing_newline given
-taken options given s long short = search (arith, rules, cases_lt)

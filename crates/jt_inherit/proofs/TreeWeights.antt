@@ -2,11 +2,11 @@
 -- include or an import, which weighs at least 7; and a tree weighs at most as much as its source has bytes.
 use Rattle.jt_inherit.proofs.Vocabulary as words
 use words.{◌≡◌, ◌+◌, ◌*◌, ◌≤◌, Bool, true, false, ◌||◌, ◌⊎◌, inl, inr, List, [], ◌∷◌, ◌++◌, length, refl, sym, ◌∙◌}
-use words.{subst, arith, length-append, rules, flat_map, filter, length-map, Text, Stmt, choose, for_each, set_block}
+use words.{arith, length-append, rules, flat_map, filter, length-map, Text, Stmt, choose, for_each, set_block}
 use words.{with_values, filter_block, autoescape, Body, end, stmt, Branches, no_branches, branch, Sources, Namespace}
 use words.{a_chain, a_library, same_namespace, listed, Template, templates, libraries, libraries_in, needs_by, needs_in}
 use words.{needs_under, included, InOrder, Reaches, here, through, templates_weight, chains_weight, twice}
-use words.{of_namespaces, among_behind, among_front, no_more, is_some, bytes_eq, among, repeated, with_source}
+use words.{of_namespaces, among_behind, among_front, no_more, bytes_eq, among, repeated}
 use words.{SourceTexts, templates_len, chains_len, of_texts, reflexive, same, not-true, or_from, or_right}
 use words.{libraries_len, lighter, total}
 use Rattle.jt_ast.specs.Statements.{macro, import_as, import_from, block, stmt_weight, body_weight, branch_weight}
@@ -122,8 +122,7 @@ few_chains sources escaping entry order o there reached =
     indexed : (h : Namespace) → (h ≡ entry) ⊎ HasTag sources order h
         → listed h (entry ∷ flat_map (included sources) order) ≡ true
     indexed h (inl is) =
-        subst (λ z. listed z (entry ∷ flat_map (included sources) order) ≡ true) (sym is)
-        (rw (namespaces.reflexive entry))
+        rw (is, namespaces.reflexive entry)
     indexed h (inr t) = or_right _ _ (listed_flat sources h t.0 order t.1 t.2)
 
 -- ---- the members of an ascending list
@@ -185,7 +184,7 @@ module _ (given : SourceTexts) (s : Sources) where
           (here_all (libraries s (a_chain m)) n [] (rw (same m k q) a))
       by false q r =
           among_behind of_texts n (ascending (libraries s (a_chain m))) (imported_by hs)
-          (r (sym (rw q) ∙ e))
+          (r (rw q at e))
 
   len_both : (xs ys : List Text)
       → libraries_len given s (xs ++ ys) ≡ libraries_len given s xs + libraries_len given s ys
@@ -246,13 +245,6 @@ module _ (given : SourceTexts) (s : Sources) where
         where
           by : (k : Namespace) → listed k order ≡ true → listed (a_library n) (included s k) ≡ true
               → among n (imported_by order) ≡ true
-          by (a_chain k) at i =
-              let a = sym
-              (libraries_listed n (with_source s (needed s (a_chain k))) (with_source s (libraries s (a_chain k))))
-              ∙ i in
-              is_imported n k order at (among_passes (λ m. is_some (s m)) n (libraries s (a_chain k)) a).0
-          by (a_library k) at i =
-              let a : among n [] ≡ true = sym
-              (libraries_listed n (with_source s (needed s (a_library k))) (with_source s (libraries s (a_library k))))
-              ∙ i in
-              absurd cc
+          by (a_chain k) there i =
+              is_imported n k order there (among_passes _ n (libraries s (a_chain k)) (rw libraries_listed at i)).0
+          by (a_library k) there i = let no = (rw libraries_listed at i) in absurd (cc)

@@ -1,9 +1,9 @@
 -- What a finding says of an entry in a library: the tag that breaks a rule, and what the rule is
 -- broken in. `Rules` of jt_chains defines the rules.
-use Rattle.std.specs.Prelude.{◌≡◌, ◌⊎◌, ◌<◌, ◌+◌, ℕ, Bool, false, true, not, ◌&&◌, ◌||◌, IsTrue, List, [], ◌∷◌, map}
-use Rattle.std.specs.Prelude.{drop, filter, flat_map, length, slice_get, Option, Some, None, string_bytes}
+use Rattle.std.specs.Prelude.{◌≡◌, ◌⊎◌, ◌<◌, ◌+◌, ◌==◌, ℕ, Bool, false, true, not, ◌&&◌, ◌||◌, IsTrue, List, [], ◌∷◌}
+use Rattle.std.specs.Prelude.{drop, map, filter, flat_map, length, slice_get, Option, Some, None, string_bytes}
 use Rattle.std.specs.List.{AllByRecursion}
-use Rattle.std.specs.Option.{is_some, is_none}
+use Rattle.std.specs.Option.{is_some, is_none, option_eq}
 use Rattle.std.specs.Str.{bytes_eq}
 use Rattle.jt_scan.specs.declared.options.Options.{Options}
 use Rattle.jt_ast.specs.Expressions.{Text}
@@ -14,11 +14,11 @@ use Rattle.jt_chains.specs.Chain.{Sources, Namespace, namespace_name, a_chain, a
 use Rattle.jt_chains.specs.Chain.{max_templates, names_up, is_a_library, macros, public_macro}
 use Rattle.jt_chains.specs.Includes.{included}
 use Rattle.jt_chains.specs.Names.{IsName}
+use Rattle.jt_chains.specs.Supers.{super_line}
 use Rattle.jt_chains.specs.Rules.{Somewhere, Reaches, extends_path, is_whole, max_chains}
 use Rattle.jt_inherit.specs.Chains.{SourceTexts}
 use Rattle.jt_inherit.specs.Lines as lines
 use Rattle.jt_inherit.specs.Refusals.{Shows, Breaks}
-use Rattle.jt_inherit.specs.SuperTags.{super_at}
 use Rattle.jt_inherit.specs.declared.error.ChainError.{ChainError}
 use Rattle.jt_inherit.specs.declared.error.ChainError.TheVariants as error
 use Rattle.jt_inherit.specs.declared.finding.ChainFinding.{ChainFinding}
@@ -111,9 +111,10 @@ abbrev pub is_required : Use → Bool
 is_required (uses.declares_block y scoped required body) = required
 is_required u = false
 
--- The use is a block whose body calls `super()` in a tag at the line.
+-- The use is a block. The first tag of its body that calls `super()` is at the line.
 abbrev pub calls_super_at : ℕ → Use → Bool
-calls_super_at line (uses.declares_block y scoped required body) = super_at line body
+calls_super_at line (uses.declares_block y scoped required body) =
+    option_eq (λ a b. a == b) (super_line body) (Some line)
 calls_super_at line u = false
 
 -- The nearest block of the name is at the place, and is a required one.
@@ -122,8 +123,8 @@ pub record IsNotGiven (ts : List Template) (x : Text) (p : TagPlace) : Type 0 wh
   pub nearest : slice_get (blocks_named x ts) 0 ≡ Some tag
   pub required : IsAt is_required p tag
 
--- The body of a block of the name calls `super()` in a tag at the place. Each further block of the
--- name is required.
+-- The first tag of the body of a block of the name that calls `super()` is at the place. Each further
+-- block of the name is required.
 pub record HasNoSuper (ts : List Template) (x : Text) (opened p : TagPlace) : Type 0 where
   pub number : ℕ
   pub tag : Text × Site

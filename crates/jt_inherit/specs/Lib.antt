@@ -5,5 +5,4 @@ pub mod Lines
 pub mod Linked
 pub mod Refusals
 pub mod Small
-pub mod SuperTags
 pub mod internal

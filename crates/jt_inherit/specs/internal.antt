@@ -5,6 +5,5 @@ pub mod Found
 pub mod Numbers
 pub mod Placing
 pub mod RuleTests
-pub mod SuperLines
 pub mod Tags
 pub mod Views

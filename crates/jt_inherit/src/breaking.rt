@@ -2,35 +2,41 @@
 
 ghost use Rattle.std.specs.Prelude.{◌≡◌, true, IfOk, IfSome};
 ghost use Rattle.jt_chains.specs.Along.{templates_at};
-ghost use Rattle.jt_chains.specs.Chain.{sources_in};
-ghost use Rattle.jt_chains.specs.TemplateFiles.{file_view, files_view};
+ghost use Rattle.jt_chains.specs.Chain.{Template};
+ghost use Rattle.jt_chains.specs.View.{its_sources, its_templates};
+ghost use Rattle.jt_inherit.specs.Findings.{uses_in};
 ghost use Rattle.jt_inherit.specs.internal.Breaking.{IsOfRule, IsTwiceIn, lacks};
-ghost use Rattle.jt_inherit.specs.internal.Tags.{IsLastCall, tag_view, tags_view};
+ghost use Rattle.jt_inherit.specs.internal.Tags.{IsLastCall, tag_view, tags_view, with_name};
+ghost use Rattle.jt_names.specs.FactsOfChains.{AllKnown};
+ghost use Rattle.jt_uses.specs.UseView.{sites_view};
 
 use crate::error::ChainError;
 use crate::finding::{ChainFinding, ChainSubject};
 use crate::importing::MissingMacro;
-use crate::tags::{FoundTag, Wanted, first_at, tags_at, tags_of, two_places};
-use jt_chains::TemplateFile;
+use crate::tags::{FoundTag, Wanted, first_place, tags_among, tags_at, two_places};
+use jt_names::ChainFacts;
+use jt_uses::UseSite;
 use std::alloc::{AllocError, Global};
 
 /// Returns the finding of an imported macro that its library does not offer.
 pub(crate) fn missing_finding(
     alloc: Global,
-    files: &[TemplateFile],
+    facts: &ChainFacts<'_>,
     indices: &[usize],
     missing: MissingMacro<'_>,
 ) -> Result<ChainFinding, AllocError>
-    requires { lacks (sources_in (files_view files.now)) missing.library.now
+    requires known { AllKnown facts.now }
+    requires lacking { lacks (its_sources facts.now.chain.now) missing.library.now
         missing.name.now ≡ true }
-    ensures { IfOk result (IsOfRule (sources_in (files_view files.now))
-        (templates_at (files_view files.now) indices.now) ChainError.NoMacro) }
+    ensures { IfOk result (IsOfRule (its_sources facts.now.chain.now)
+        (templates_at (its_templates facts.now.chain.now) indices.now) ChainError.NoMacro) }
 {
     let wanted = Wanted::BindsMacro {
         library: missing.library,
         name: missing.name,
     };
-    let Some(place) = first_at(alloc, files, indices, wanted)? else {
+    let tags = tags_at(alloc, facts, indices, wanted)?;
+    let Some(place) = first_place(alloc, &tags)? else {
         return Ok(ChainFinding::without_place(ChainError::NoMacro));
     };
     let library = String::from_str(alloc, missing.library)?;
@@ -45,14 +51,15 @@ pub(crate) fn missing_finding(
 /// Returns the finding of a name that two tags define.
 pub(crate) fn name_twice(
     alloc: Global,
-    files: &[TemplateFile],
+    facts: &ChainFacts<'_>,
     indices: &[usize],
     name: &str,
 ) -> Result<ChainFinding, AllocError>
-    ensures { IfOk result (IsOfRule (sources_in (files_view files.now))
-        (templates_at (files_view files.now) indices.now) ChainError.MacroTwice) }
+    requires { AllKnown facts.now }
+    ensures { IfOk result (IsOfRule (its_sources facts.now.chain.now)
+        (templates_at (its_templates facts.now.chain.now) indices.now) ChainError.MacroTwice) }
 {
-    let tags = tags_at(alloc, files, indices, Wanted::Defines(name))?;
+    let tags = tags_at(alloc, facts, indices, Wanted::Defines(name))?;
     let Some(places) = two_places(alloc, &tags)? else {
         return Ok(ChainFinding::without_place(ChainError::MacroTwice));
     };
@@ -67,15 +74,17 @@ pub(crate) fn name_twice(
     })
 }
 
-/// Returns the finding of a name that two blocks of a template have.
+/// Returns the finding of a name that two blocks of a template have, from the uses of the template.
 pub(crate) fn block_twice(
     alloc: Global,
-    file: &TemplateFile,
+    template: &str,
+    uses: &[UseSite<'_>],
     name: &str,
 ) -> Result<ChainFinding, AllocError>
-    ensures { IfOk result (IsTwiceIn (file_view file.now)) }
+    ensures { IfOk result (λ f. (t : Template)
+        → with_name template.now (sites_view uses.now) ≡ uses_in t → IsTwiceIn t f) }
 {
-    let tags = tags_of(alloc, file, Wanted::Block(name))?;
+    let tags = tags_among(alloc, template, uses, Wanted::Block(name))?;
     let Some(places) = two_places(alloc, &tags)? else {
         return Ok(ChainFinding::without_place(ChainError::DoubleBlock));
     };
@@ -93,14 +102,16 @@ pub(crate) fn block_twice(
 /// Returns the finding of a block whose nearest body is a required one.
 pub(crate) fn not_given(
     alloc: Global,
-    files: &[TemplateFile],
+    facts: &ChainFacts<'_>,
     indices: &[usize],
     name: &str,
 ) -> Result<ChainFinding, AllocError>
-    ensures { IfOk result (IsOfRule (sources_in (files_view files.now))
-        (templates_at (files_view files.now) indices.now) ChainError.RequiredNotGiven) }
+    requires { AllKnown facts.now }
+    ensures { IfOk result (IsOfRule (its_sources facts.now.chain.now)
+        (templates_at (its_templates facts.now.chain.now) indices.now)
+        ChainError.RequiredNotGiven) }
 {
-    let named = tags_at(alloc, files, indices, Wanted::Block(name))?;
+    let named = tags_at(alloc, facts, indices, Wanted::Block(name))?;
     let Some(nearest) = named.first() else {
         return Ok(ChainFinding::without_place(ChainError::RequiredNotGiven));
     };
@@ -142,14 +153,15 @@ fn last_call(mut blocks: Vec<FoundTag<'_>>) -> Option<SuperCall<'_>>
 /// Returns the finding of a block that calls `super()` and has no next body.
 pub(crate) fn no_super(
     alloc: Global,
-    files: &[TemplateFile],
+    facts: &ChainFacts<'_>,
     indices: &[usize],
     name: &str,
 ) -> Result<ChainFinding, AllocError>
-    ensures { IfOk result (IsOfRule (sources_in (files_view files.now))
-        (templates_at (files_view files.now) indices.now) ChainError.NoSuper) }
+    requires { AllKnown facts.now }
+    ensures { IfOk result (IsOfRule (its_sources facts.now.chain.now)
+        (templates_at (its_templates facts.now.chain.now) indices.now) ChainError.NoSuper) }
 {
-    let named = tags_at(alloc, files, indices, Wanted::Block(name))?;
+    let named = tags_at(alloc, facts, indices, Wanted::Block(name))?;
     let Some(call) = last_call(named) else {
         return Ok(ChainFinding::without_place(ChainError::NoSuper));
     };

@@ -11,12 +11,11 @@ ghost use Rattle.jt_inherit.specs.internal.Found.{IsPutFault, AreNamespaces, Are
 ghost use Rattle.jt_inherit.specs.internal.Found.{IsNextFault, IsNextFinding, chains_of, lead_to};
 ghost use Rattle.jt_inherit.specs.internal.Found.{leads_to, IsUnmet, HasNeeds, keyed_view};
 ghost use Rattle.jt_inherit.specs.internal.Found.{keyed_needs};
-ghost use Rattle.jt_inherit.specs.internal.Views.{its_files, its_templates};
+ghost use Rattle.jt_inherit.specs.internal.Views.{its_files, its_templates, namespaces_view};
 ghost use Rattle.jt_chains.specs.Chain.{libraries_in, listed};
 ghost use Rattle.jt_chains.specs.Needs.{AddsNeeds, library_need, need_view, needed};
 ghost use Rattle.jt_chains.specs.TemplateFiles.{files_view};
 ghost use Rattle.jt_inherit.specs.internal.Numbers.{key_view};
-ghost use Rattle.jt_inherit.specs.internal.Views.{namespaces_view};
 ghost use Rattle.jt_inherit.specs.internal.ExtendsPaths.{AreKnown, HasRead, names};
 
 use crate::error::ChainError;

@@ -119,7 +119,9 @@ fn double_block(
     let chain = facts.chain;
     for index in indices {
         if let Some(name) = repeated_block(alloc, facts.blocks_at(*index))? {
-            return Ok(Some(block_twice(alloc, &chain.templates[*index], name)?));
+            let template = &chain.templates[*index].name;
+            let uses = facts.uses_at(*index);
+            return Ok(Some(block_twice(alloc, template, uses, name)?));
         }
     }
     Ok(None)
@@ -145,23 +147,22 @@ fn check_rules(alloc: Global, facts: &ChainFacts<'_>, namespace: usize) -> Resul
     ensures broken { IfErr result (BreaksAt facts.now.chain.now namespace) }
 {
     let chain = facts.chain;
-    let files = chain.templates.as_slice();
     let indices = indices_of(chain, namespace);
     if let Some(finding) = double_block(alloc, facts, indices)? {
         return Err(finding);
     }
     if let Some(missing) = missing_at(chain, indices) {
-        return Err(missing_finding(alloc, files, indices, missing)?);
+        return Err(missing_finding(alloc, facts, indices, missing)?);
     }
     let known = facts.at(namespace);
     if let Some(name) = repeated_definition(alloc, &known.defined)? {
-        return Err(name_twice(alloc, files, indices, name)?);
+        return Err(name_twice(alloc, facts, indices, name)?);
     }
     if let Some(name) = lacking_body(facts, namespace) {
-        return Err(not_given(alloc, files, indices, name)?);
+        return Err(not_given(alloc, facts, indices, name)?);
     }
     if let Some(name) = lacking_next(alloc, &known.blocks)? {
-        return Err(no_super(alloc, files, indices, name)?);
+        return Err(no_super(alloc, facts, indices, name)?);
     }
     Ok(())
 }

@@ -5,7 +5,6 @@ ghost use Rattle.jt_ast.specs.ExpressionView.{expr_view, exprs_view, pairs_view}
 ghost use Rattle.jt_chains.specs.Supers as spec;
 ghost use Rattle.jt_ast.specs.StatementView.{stmt_view, body_view, branches_view};
 ghost use Rattle.jt_ast.specs.StatementView.{filter_calls_view};
-ghost use Rattle.jt_inherit.specs.internal.SuperLines.{line_if, first_of, first_in, first_under};
 
 use jt_ast::{Branch, Expr, FilterCall, Stmt};
 
@@ -110,7 +109,6 @@ fn filters_super(filters: &[FilterCall]) -> bool
 }
 
 /// Returns whether statements call `super()`, nested blocks excluded.
-#[tactic(auto, using(crate::proofs::SuperTagLines::body_called))]
 pub(crate) fn calls_super(body: &[Stmt]) -> bool
     ensures { result ≡ spec.calls_super (body_view body.now) }
 {
@@ -120,7 +118,7 @@ pub(crate) fn calls_super(body: &[Stmt]) -> bool
 /// Returns the line of the first tag that calls `super()`, nested blocks excluded.
 #[cycle(lines)]
 pub(crate) fn super_line(body: &[Stmt]) -> Option<u32>
-    ensures { result ≡ first_in (body_view body.now) }
+    ensures { result ≡ spec.super_line (body_view body.now) }
 {
     for statement in body {
         if let Some(line) = statement_line(statement) {
@@ -133,7 +131,7 @@ pub(crate) fn super_line(body: &[Stmt]) -> Option<u32>
 /// Returns the line of the first tag of a statement that calls `super()`, nested blocks excluded.
 #[cycle(lines)]
 fn statement_line(statement: &Stmt) -> Option<u32>
-    ensures { result ≡ first_of (stmt_view statement.now) }
+    ensures { result ≡ spec.stmt_super_line (stmt_view statement.now) }
 {
     match statement {
         Stmt::Data(_)
@@ -173,7 +171,7 @@ fn statement_line(statement: &Stmt) -> Option<u32>
 /// Returns the line of the first tag of branches that calls `super()`, nested blocks excluded.
 #[cycle(lines)]
 fn branch_line(branches: &[Branch<Stmt>]) -> Option<u32>
-    ensures { result ≡ first_under (branches_view branches.now) }
+    ensures { result ≡ spec.branches_super_line (branches_view branches.now) }
 {
     for Branch {
         line,
@@ -192,7 +190,7 @@ fn branch_line(branches: &[Branch<Stmt>]) -> Option<u32>
 
 /// Returns the line if the condition is true.
 fn line_if(condition: bool, line: u32) -> Option<u32>
-    ensures { result ≡ line_if condition line }
+    ensures { result ≡ spec.line_if condition line }
 {
     if condition { Some(line) } else { None }
 }

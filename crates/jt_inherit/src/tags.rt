@@ -1,17 +1,20 @@
 //! Finds the tags that a finding names.
 
-ghost use Rattle.std.specs.Prelude.{◌≡◌, ◌++◌, true, option_map, IfOk, IfSome};
+ghost use Rattle.std.specs.Prelude.{◌≡◌, true, option_map, IfOk, IfSome};
 ghost use Rattle.jt_chains.specs.Along.{templates_at};
 ghost use Rattle.jt_chains.specs.TemplateFiles.{file_view, files_view};
+ghost use Rattle.jt_chains.specs.View.{its_templates};
 ghost use Rattle.jt_inherit.specs.Findings as findings;
 ghost use Rattle.jt_inherit.specs.Findings.{all_uses, uses_in};
 ghost use Rattle.jt_inherit.specs.internal.Tags.{test_of, tags, tags_view, tag_view, place_view};
 ghost use Rattle.jt_inherit.specs.internal.Tags.{AreFirst, place_in, with_name, place_of};
+ghost use Rattle.jt_names.specs.FactsOfChains.{AllKnown};
 ghost use Rattle.jt_uses.specs.UseView.{use_view, sites_view};
 
 use crate::finding::TagPlace;
 use crate::supers::super_line;
 use jt_chains::TemplateFile;
+use jt_names::ChainFacts;
 use jt_uses::{Use, UseSite, uses_of};
 use std::alloc::{AllocError, Global};
 
@@ -114,16 +117,17 @@ fn is_wanted(wanted: Wanted<'_>, made: Use<'_>) -> bool
     }
 }
 
-/// Adds the tags of the wanted uses among the uses of a template.
-fn add_tags<'a>(
-    found: &mut Vec<FoundTag<'a>>,
+/// Returns the tags of the wanted ones among the uses of a template, in the order of the source.
+pub(crate) fn tags_among<'a>(
+    alloc: Global,
     template: &'a str,
     uses: &[UseSite<'a>],
     wanted: Wanted<'_>,
-) -> Result<(), AllocError>
-    ensures { IfOk result (λ _. tags_view found.new.items ≡ tags_view found.old.items
-        ++ tags (test_of wanted.entry) (with_name template.now (sites_view uses.now))) }
+) -> Result<Vec<FoundTag<'a>>, AllocError>
+    ensures { IfOk result (λ found. tags_view found.items
+        ≡ tags (test_of wanted.entry) (with_name template.now (sites_view uses.now))) }
 {
+    let mut found = Vec::new(alloc);
     for site in uses {
         if is_wanted(wanted, site.made) {
             found.push(FoundTag {
@@ -132,11 +136,46 @@ fn add_tags<'a>(
             })?;
         }
     }
-    Ok(())
+    Ok(found)
 }
 
-/// Returns the tags of the wanted uses of a template, in the order of the source.
-pub(crate) fn tags_of<'a>(
+/// Returns the tags of the wanted uses of the templates of a chain at `indices`, in their order.
+pub(crate) fn tags_at<'a>(
+    alloc: Global,
+    facts: &ChainFacts<'a>,
+    indices: &[usize],
+    wanted: Wanted<'_>,
+) -> Result<Vec<FoundTag<'a>>, AllocError>
+    requires { AllKnown facts.now }
+    ensures { IfOk result (λ found. tags_view found.items ≡ tags (test_of wanted.entry)
+        (all_uses (templates_at (its_templates facts.now.chain.now) indices.now))) }
+{
+    let mut found = Vec::new(alloc);
+    for index in indices {
+        let Some(file) = facts.chain.templates.get(*index) else {
+            continue;
+        };
+        let mut more = tags_among(alloc, &file.name, facts.uses_at(*index), wanted)?;
+        found.append(&mut more)?;
+    }
+    Ok(found)
+}
+
+/// Returns the place of the first of some tags.
+pub(crate) fn first_place(
+    alloc: Global,
+    found: &[FoundTag<'_>],
+) -> Result<Option<TagPlace>, AllocError>
+    ensures { IfOk result (λ p. option_map place_view p ≡ place_in 0 (tags_view found.now)) }
+{
+    match found.first() {
+        Some(tag) => Ok(Some(tag.place(alloc)?)),
+        None => Ok(None),
+    }
+}
+
+/// Returns the tags of the wanted uses of a template whose uses are not known yet.
+fn tags_of<'a>(
     alloc: Global,
     file: &'a TemplateFile,
     wanted: Wanted<'_>,
@@ -144,34 +183,12 @@ pub(crate) fn tags_of<'a>(
     ensures { IfOk result (λ found. tags_view found.items
         ≡ tags (test_of wanted.entry) (uses_in (file_view file.now))) }
 {
-    let mut found = Vec::new(alloc);
     let uses = uses_of(alloc, file.template.body())?;
-    add_tags(&mut found, &file.name, &uses, wanted)?;
-    Ok(found)
+    tags_among(alloc, &file.name, &uses, wanted)
 }
 
-/// Returns the tags of the wanted uses of the templates at `indices`, in their order.
-pub(crate) fn tags_at<'a>(
-    alloc: Global,
-    files: &'a [TemplateFile],
-    indices: &[usize],
-    wanted: Wanted<'_>,
-) -> Result<Vec<FoundTag<'a>>, AllocError>
-    ensures { IfOk result (λ found. tags_view found.items ≡ tags (test_of wanted.entry)
-        (all_uses (templates_at (files_view files.now) indices.now))) }
-{
-    let mut found = Vec::new(alloc);
-    for index in indices {
-        let Some(file) = files.get(*index) else {
-            continue;
-        };
-        let mut more = tags_of(alloc, file, wanted)?;
-        found.append(&mut more)?;
-    }
-    Ok(found)
-}
-
-/// Returns the place of the first wanted use of the templates at `indices`.
+/// Returns the place of the first wanted use of the templates at `indices`, whose uses are not
+/// known yet.
 pub(crate) fn first_at(
     alloc: Global,
     files: &[TemplateFile],
@@ -181,10 +198,17 @@ pub(crate) fn first_at(
     ensures { IfOk result (λ p. option_map place_view p ≡ place_in 0 (tags (test_of wanted.entry)
         (all_uses (templates_at (files_view files.now) indices.now)))) }
 {
-    match tags_at(alloc, files, indices, wanted)?.first() {
-        Some(tag) => Ok(Some(tag.place(alloc)?)),
-        None => Ok(None),
+    for index in indices {
+        let Some(file) = files.get(*index) else {
+            continue;
+        };
+        let found = tags_of(alloc, file, wanted)?;
+        let place = first_place(alloc, &found)?;
+        if place.is_some() {
+            return Ok(place);
+        }
     }
+    Ok(None)
 }
 
 /// Returns the places of the first two of some tags.

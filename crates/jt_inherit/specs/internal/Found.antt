@@ -1,7 +1,7 @@
 -- The invariants of the search for chains and libraries. They concern includes and imports, and the
 -- chains and libraries that were followed. Only private clauses cite this module.
 use Rattle.std.specs.Prelude.{◌≡◌, ℕ, ◌<◌, ◌≤◌, ◌⊎◌, false, Bool, IsTrue, List, [], ◌∷◌, ◌++◌, ◌||◌, length, map}
-use Rattle.std.specs.Prelude.{filter, slice_get, string_bytes, Some, None, true}
+use Rattle.std.specs.Prelude.{filter, slice_get, string_bytes, Some, None}
 use Rattle.std.specs.List.{AllByRecursion}
 use Rattle.jt_graph.specs.Graph.{IsClosed, next_of}
 use Rattle.jt_graph.specs.View.{graph_of}
@@ -19,10 +19,9 @@ use Rattle.jt_chains.specs.Needs.{Need, need_namespace, includes_along, library_
 use Rattle.jt_chains.specs.TemplateFiles.{namespace_view}
 use Rattle.jt_chains.specs.Indices.{namespace_at}
 use Rattle.jt_chains.specs.Rules.{max_chains, Asks, Reaches}
-use Rattle.jt_inherit.specs.internal.Views.{its_files}
-use Rattle.jt_inherit.specs.internal.Views.{namespaces_view}
+use Rattle.jt_inherit.specs.internal.Views.{its_files, namespaces_view}
 use Rattle.jt_inherit.specs.internal.ExtendsPaths.{AreKnown, IsExtendsPath, names}
-use Rattle.jt_inherit.specs.internal.Placing.{IsIncludedMore, IsOfNeed}
+use Rattle.jt_inherit.specs.internal.Placing.{IsIncludedMore, IsOfNeed, any_tag}
 use Rattle.jt_inherit.specs.declared.discovery.Discovery.{Discovery}
 use Rattle.jt_inherit.specs.declared.including.FollowedPath.{FollowedPath}
 use Rattle.jt_inherit.specs.declared.including.KeyedNeed.{KeyedNeed}
@@ -219,8 +218,7 @@ pub record IsDone (given : SourceTexts) (options : Options) (entry : Text) (f : 
 pub record IsUnmetNeed (given : SourceTexts) (options : Options) (ts : List Template) (is : List ℕ)
     (f : ChainFinding) : Type 0 where
   pub name : Text
-  pub asked : IsTrue (among name (needed true (needs_along ts is)))
-  pub must : f.error ≡ error.Missing → IsTrue (among name (needed false (needs_along ts is)))
+  pub asked : IsTrue (among name (needed (any_tag f.error) (needs_along ts is)))
   pub fault : IsFaultOf f.error given name options
   pub placed : IsOfNeed (templates_at ts is) name f.error f
 

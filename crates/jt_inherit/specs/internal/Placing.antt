@@ -1,7 +1,8 @@
 -- The place and the subject of an error at the name of a template, and of an error of the search: an imported template
 -- that holds something other than macros, and a ring. Only private clauses cite this module.
-use Rattle.std.specs.Prelude.{◌≡◌, ◌<◌, ◌⊎◌, ℕ, Bool, true, false, not, List, [], ◌∷◌, ◌++◌, length, get_or, map}
-use Rattle.std.specs.Prelude.{slice_get, Option, Some, None, option_map, string_bytes}
+use Rattle.std.specs.Prelude.{◌≡◌, ◌<◌, ◌⊎◌, ◌-◌, ℕ, Bool, true, false, not, List, [], ◌∷◌, ◌++◌, length, get_or, map}
+use Rattle.std.specs.Prelude.{slice_get, Option, Some, None, option_map, unwrap_or, string_bytes, String, Vec}
+use Rattle.std.specs.declared.alloc.Global.{Global}
 use Rattle.jt_ast.specs.Expressions.{Text}
 use Rattle.jt_ast.specs.Statements.{Body, end, extends, stmt}
 use Rattle.jt_uses.specs.Uses.{Use}
@@ -74,13 +75,12 @@ IsAsked us n (Some p) =
     (front : List Template) × (last : Template) × (us ≡ front ++ last ∷ []) × (string_bytes p.template ≡ last.name)
     × HasTag (is_extends n) us p
 
--- The name is the subject of a path that is too long.
-abbrev pub IsOneMore : Text → Option ChainSubject → Type 0
-IsOneMore n (Some (v.Templates x)) = string_bytes x ≡ n
-IsOneMore n x = ⊥
+-- The subject is of the kind and has the name.
+abbrev pub IsAbout : (String Global → ChainSubject) → Text → Option ChainSubject → Type 0
+IsAbout kind n x = (m : String Global) × (x ≡ Some (kind m)) × (string_bytes m ≡ n)
 
 abbrev pub IsLong : AskedName → ChainFinding → Type 0
-IsLong a = IsFoundAt error.ChainTooLong (λ p. p ≡ a.place) (IsOneMore (string_bytes a.name))
+IsLong a = IsFoundAt error.ChainTooLong (λ p. p ≡ a.place) (IsAbout v.Templates (string_bytes a.name))
 
 -- The template at the number on the path has the name.
 abbrev pub IsNamedOn : List Template → List ℕ → Text → ℕ → Type 0
@@ -88,8 +88,9 @@ IsNamedOn ts is n k = (k < length is) × (option_map (λ t. t.name) (slice_get t
 
 -- The subject is a ring with the names.
 abbrev pub IsRingOf : Text → List Text → Option ChainSubject → Type 0
-IsRingOf n ns (Some (v.Ring x rest)) = (string_bytes x ≡ n) × (map string_bytes rest.items ≡ ns)
-IsRingOf n ns x = ⊥
+IsRingOf n ns x =
+    (m : String Global) × (rest : Vec (String Global) Global) × (x ≡ Some (v.Ring m rest)) × (string_bytes m ≡ n)
+    × (map string_bytes rest.items ≡ ns)
 
 abbrev pub IsCycle : AskedName → List Text → ChainFinding → Type 0
 IsCycle a ns = IsFoundAt error.ExtendsCycle (λ p. p ≡ a.place) (IsRingOf (string_bytes a.name) ns)
@@ -100,23 +101,22 @@ IsCycle a ns = IsFoundAt error.ExtendsCycle (λ p. p ≡ a.place) (IsRingOf (str
 abbrev pub IsFirst : (Use → Bool) → List Template → Option TagPlace → Type 0
 IsFirst test ts p = option_map place_view p ≡ place_in 0 (tags test (all_uses ts))
 
--- A missing template may not be missing for the tag that asks for it.
+-- Whether the tag of an error may be any one that asks for the template. A missing template may not be missing for the
+-- tag.
+abbrev pub any_tag : ChainError → Bool
+any_tag error.Missing = false
+any_tag e = true
+
 abbrev pub need_test : Text → ChainError → Use → Bool
-need_test n error.Missing = asks false n
-need_test n e = asks true n
+need_test n e = asks (any_tag e) n
 
 abbrev pub IsOfNeed : List Template → Text → ChainError → ChainFinding → Type 0
 IsOfNeed ts n e f =
     (f.error ≡ e) × ((o : Option TagPlace) × IsFirst (need_test n e) ts o × NamedAt o n e f.subject f.place)
 
--- The name is the subject of a chain that is one too many.
-abbrev pub IsOneChainMore : Text → Option ChainSubject → Type 0
-IsOneChainMore n (Some (v.Chains x)) = string_bytes x ≡ n
-IsOneChainMore n x = ⊥
-
 -- The place is that of the first tag that includes the template.
 abbrev pub IsIncludedMore : List Template → Text → ChainFinding → Type 0
-IsIncludedMore ts n = IsFoundAt error.ChainTooLong (IsFirst (is_include n) ts) (IsOneChainMore n)
+IsIncludedMore ts n = IsFoundAt error.ChainTooLong (IsFirst (is_include n) ts) (IsAbout v.Chains n)
 
 -- ---- imported libraries
 
@@ -130,11 +130,6 @@ abbrev pub leading_at : List Template → List (List ℕ) → Namespace → ℕ 
 leading_at ts extends_paths h i =
     place_in 0 (tags (leads_to h) (all_uses (templates_at ts (next_of extends_paths i))))
 
--- The name of the chain or library is the subject.
-abbrev pub IsItsName : Namespace → Option ChainSubject → Type 0
-IsItsName h (Some (v.Template x)) = string_bytes x ≡ namespace_name h
-IsItsName h x = ⊥
-
 module _ (ts : List Template) (extends_paths : List (List ℕ)) (h : Namespace) where
   -- A template on one of the paths leads to the chain or library at the place, or none does.
   abbrev pub LeadsAt : Option TagPlace → Type 0
@@ -143,7 +138,7 @@ module _ (ts : List Template) (extends_paths : List (List ℕ)) (h : Namespace) 
       (i : ℕ) × (i < length extends_paths) × HasTag (leads_to h) (templates_at ts (next_of extends_paths i)) p
 
   abbrev pub IsOfImport : ChainFinding → Type 0
-  IsOfImport = IsFoundAt error.NotALibrary LeadsAt (IsItsName h)
+  IsOfImport = IsFoundAt error.NotALibrary LeadsAt (IsAbout v.Template (namespace_name h))
 
   -- The finding is that of a library that holds something other than macros, or lack of memory.
   abbrev pub IsNoLibrary : ChainFinding → Type 0
@@ -153,8 +148,7 @@ module _ (ts : List Template) (extends_paths : List (List ℕ)) (h : Namespace) 
 
 -- The last one of a number and further numbers.
 abbrev pub last_number : ℕ → List ℕ → ℕ
-last_number i [] = i
-last_number i (k ∷ ks) = last_number k ks
+last_number i is = unwrap_or (slice_get is (length is - 1)) i
 
 abbrev pub name_at : List Namespace → ℕ → Text
 name_at hs i = namespace_name (namespace_at hs i)

@@ -1,18 +1,15 @@
 -- The rules on the blocks, macros and imports of the templates of a chain or a library. Only
 -- private clauses cite this module.
-use Rattle.std.specs.Prelude.{◌≡◌, true, false, Bool, ◌++◌, List, [], ◌∷◌, map, flat_map, if◌then◌else◌, filter}
-use Rattle.std.specs.Option.{is_some}
+use Rattle.std.specs.Prelude.{◌≡◌, true, false, Bool, List, map, flat_map, filter}
 use Rattle.std.specs.List.{list_any}
 use Rattle.jt_ast.specs.Expressions.{Text}
 use Rattle.jt_ast.specs.Texts.{repeated}
-use Rattle.jt_ast.specs.Statements.{import_as, import_from, Body, end, stmt}
-use Rattle.jt_chains.specs.Chain.{Sources, Namespace, a_library, Template, BlockBody, MacroBody, blocks_in, macros_in}
-use Rattle.jt_chains.specs.Chain.{macros, public_macro, templates, all_bodies, given}
+use Rattle.jt_chains.specs.Chain.{Sources, Namespace, Template, BlockBody, blocks_in}
+use Rattle.jt_chains.specs.Chain.{templates, all_bodies, given}
 use Rattle.jt_chains.specs.Rules.{lacks_macros, is_required, lacks_super}
 use Rattle.jt_inherit.specs.declared.error.ChainError.{ChainError}
 use Rattle.jt_inherit.specs.declared.error.ChainError.TheVariants as error
 use Rattle.std.specs.Str.{bytes_eq}
-use Rattle.jt_chains.specs.declared.parts.Block.{Block}
 
 -- The bodies of one block.
 abbrev pub named : Text → List BlockBody → List BlockBody

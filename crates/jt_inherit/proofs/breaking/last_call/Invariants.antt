@@ -1,4 +1,5 @@
-use Rattle.jt_inherit.proofs.Vocabulary.{◌≡◌, ◌++◌, true, List, length, AllByRecursion, is_required, tag_view, FoundTag}
+use Rattle.jt_inherit.proofs.Vocabulary.{◌≡◌, ◌++◌, true, List, length, AllByRecursion, is_required, tags_view}
+use Rattle.jt_inherit.proofs.Vocabulary.{FoundTag}
 use Rattle.jt_inherit.proofs.breaking.last_call.Given as goal
 
 abbrev pub decreases-loop-block : goal.decreases-loop-block
@@ -8,4 +9,4 @@ abbrev pub invariant-loop-block : goal.invariant-loop-block
 invariant-loop-block l =
     (behind : List FoundTag)
     × (l.initial.blocks.items ≡ l.blocks.items ++ behind)
-    × AllByRecursion (λ t. is_required (tag_view t).1.made ≡ true) behind
+    × AllByRecursion (λ s. is_required s.1.made ≡ true) (tags_view behind)

@@ -1,10 +1,11 @@
 use Rattle.jt_inherit.proofs.Vocabulary as words
-use words.{ℕ, refl, sym, ap, ◌∙◌, Text, files_view, templates_at, tag_view}
+use words.{ℕ, refl, sym, ap, ◌∙◌, Text, templates_at, tag_view}
+use Rattle.jt_chains.specs.View.{its_templates}
 use Rattle.jt_inherit.proofs.breaking.no_super.Goals as goal
 
 pub returns : goal.returns
 returns c =
-    let ts = templates_at (files_view c.args.files.now) c.args.indices.now in
+    let ts = templates_at (its_templates c.args.facts.now.chain.now) c.args.indices.now in
     let call = c.in-Some.call in
     let tag = tag_view call.block in
     let found = (rw c.in_ok-named.ensures at c.in-Some.ensures) in

@@ -1,5 +1,5 @@
 use Rattle.jt_inherit.proofs.Vocabulary as words
-use words.{◌≡◌, length, ap, arith, length-map, graph_of, found_templates, found_namespaces, found_paths, root_of}
+use words.{◌≡◌, length, ap, arith, length-map, graph_of, found_namespaces, found_paths}
 use words.{namespace_name, files_view, namespace_at, key_view}
 use Rattle.jt_inherit.proofs.ChainComplete.{search_done}
 use Rattle.jt_inherit.proofs.DiscoveryInvariant.{found_first}

@@ -1,11 +1,10 @@
 use Rattle.jt_inherit.proofs.Vocabulary as words
-use words.{rules, ◌≡◌, ◌<◌, List, ℕ, sym, ap, subst, ◌∙◌, arith, length, Vec, Global, length-map, passed_on}
-use words.{graph_of, HasPath, found_namespaces, root_of, key_view, namespaces_view, of_namespaces, indexed_among}
-use words.{map_push, SourceTexts, Options, Template, Namespace, its_files}
-use words.{Discovery, Some, slice_get, found_paths}
+use words.{rules, ◌≡◌, ◌<◌, ℕ, sym, ap, ◌∙◌, arith, length, Vec, Global, length-map, passed_on, graph_of}
+use words.{found_namespaces, root_of, key_view, of_namespaces, indexed_among, map_push}
+use words.{Namespace, Discovery, Some, slice_get, found_paths}
 use Rattle.jt_inherit.proofs.FindingsHold.{need_finds, next_finds, library_finds}
-use Rattle.jt_inherit.proofs.DiscoveryInvariant.{reached_here, reached_there, found_more, has_needs}
-use Rattle.jt_inherit.proofs.DiscoveryInvariant.{chosen_there, first_same, reached_from, way_there}
+use Rattle.jt_inherit.proofs.DiscoveryInvariant.{reached_here, found_more, has_needs}
+use Rattle.jt_inherit.proofs.DiscoveryInvariant.{first_same}
 use Rattle.jt_inherit.proofs.TopologicalOrder.{namespace_among}
 use Rattle.jt_inherit.proofs.discovery.follow.Goals as goal
 
@@ -52,7 +51,6 @@ pub returns-in_err-read_needs-clause-refused : goal.returns-in_err-read_needs-cl
 returns-in_err-read_needs-clause-refused g c =
     let f = c.args.found.now in
     let at = next_here f _ c.len-number.ensures c.get-namespace.ensures in
-    let told = c.in_ok-path.ensures.told in
     let p = (rw (sym c.in_ok-path.ensures.same) at c.in_ok-extends_path.ensures) in
     passed_on _ c.from_residual-in_err-read_needs.result c.from_residual-in_err-read_needs.ensures.1
     (need_finds p.read.known (reached_here c.requires.found at p) p.led c.in_err-read_needs.field-0.0
@@ -65,36 +63,32 @@ pub returns-in_err-next-clause-refused : goal.returns-in_err-next-clause-refused
 returns-in_err-next-clause-refused g c =
     let f = c.args.found.now in
     let at = next_here f _ c.len-number.ensures c.get-namespace.ensures in
-    let told = c.in_ok-path.ensures.told in
+    let told = c.in_ok-path.ensures.told.told in
     let p = (rw (sym c.in_ok-path.ensures.same) at c.in_ok-extends_path.ensures) in
     let r = c.in_ok-read_needs.ensures.read in
     passed_on _ c.from_residual-in_err-next.result c.from_residual-in_err-next.ensures.1
-    (next_finds r.known (reached_there c.requires.found at p told.told r)
-    (way_there c.requires.found at p told.told r) _ (reached_from c.requires.found at p told.told r)
-    (chosen_there c.requires.found at p told.told r) c.in_err-next.field-0.0 c.in_err-next.ensures.refused)
+    (next_finds c.requires.found at p told r c.in_err-next.field-0.0 c.in_err-next.ensures.refused)
 
 pub returns-clause-found : goal.returns-clause-found
 returns-clause-found g c =
     let f = c.args.found.now in
     let at = next_here f _ c.len-number.ensures c.get-namespace.ensures in
-    let told = c.in_ok-path.ensures.told in
+    let told = c.in_ok-path.ensures.told.told in
     let p = (rw (sym c.in_ok-path.ensures.same) at c.in_ok-extends_path.ensures) in
     let r = c.in_ok-read_needs.ensures.read in
     let numbers = c.in_ok-next.ensures.next in
-    let ts = its_files c.read_needs.new.store in
-    let hs = namespaces_view c.next_namespaces.new.namespaces in
     let longer = ap graph_of c.in_ok-push.ensures.items
     ∙ map_push (λ (v : Vec ℕ Global). v.items) f.extends_paths.items c.in_ok-path.path.extends_path in
     let longer_next = ap graph_of c.in_ok-push-2.ensures.items
     ∙ map_push (λ (v : Vec ℕ Global). v.items) f.next.items c.in_ok-next.next in
-    rw (first_same c.requires.found at p told.told r numbers)
+    rw (first_same c.requires.found at p told r numbers)
     (rw (longer, longer_next)
-    (found_more c.requires.found at p told.told r c.in_ok-read_needs.ensures.met numbers))
+    (found_more c.requires.found at p told r c.in_ok-read_needs.ensures.met numbers))
 
 pub returns-clause-root : goal.returns-clause-root
 returns-clause-root g c =
     let f = c.args.found.now in
     let at = next_here f _ c.len-number.ensures c.get-namespace.ensures in
-    let told = c.in_ok-path.ensures.told in
+    let told = c.in_ok-path.ensures.told.told in
     let p = (rw (sym c.in_ok-path.ensures.same) at c.in_ok-extends_path.ensures) in
-    first_same c.requires.found at p told.told c.in_ok-read_needs.ensures.read c.in_ok-next.ensures.next
+    first_same c.requires.found at p told c.in_ok-read_needs.ensures.read c.in_ok-next.ensures.next

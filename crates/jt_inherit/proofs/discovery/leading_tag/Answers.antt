@@ -1,6 +1,5 @@
 use Rattle.jt_inherit.proofs.Vocabulary as words
-use words.{◌≡◌, refl, sym, ap, ◌∙◌, graph_of, namespace_at, leads_to, found_namespaces}
-use words.{test_of}
+use words.{◌≡◌, refl, sym, ap, ◌∙◌, graph_of, namespace_at, leads_to, found_namespaces, test_of}
 use Rattle.jt_inherit.proofs.ChainComplete.{way_at}
 use Rattle.jt_inherit.proofs.discovery.leading_tag.Goals as goal
 

@@ -1,15 +1,14 @@
 use Rattle.jt_inherit.proofs.Vocabulary as words
-use words.{rules, ◌≡◌, ◌+◌, ◌<◌, ◌∷◌, [], false, drop, length, sym, ap, subst, ◌∙◌, arith, string_bytes, IsParent}
-use words.{length-map, slice_get_within, IsFaultOf, Text, among, templates_at, HasRead, is_no_library, IsCycle}
-use words.{IsNamedOn, file_view, names, its_files, its_templates}
-use Rattle.jt_inherit.specs.internal.ExtendsPaths.{IsAt}
+use words.{rules, ◌≡◌, ◌<◌, length, sym, ap, ◌∙◌, arith, string_bytes}
+use words.{length-map, slice_get_within, templates_at, is_no_library}
+use words.{file_view, names, its_files}
 use Rattle.jt_inherit.proofs.FindingsHold.{asked_turn, cycle_placed, extends_told, fault_placed, long_placed}
 use Rattle.jt_inherit.proofs.FindingsHold.{refused_all, there_on}
 use Rattle.jt_inherit.proofs.StoreLookup.{library_known, library_read}
 use Rattle.jt_inherit.proofs.NumberTables.{is_chain, is_library}
 use Rattle.jt_inherit.proofs.PathsGrow.{cycle_breaks, long_breaks, fault_breaks, file_there, path_turn, read_step}
 use Rattle.jt_inherit.proofs.PathsGrow.{way_step}
-use Rattle.jt_inherit.specs.declared.error.ChainError.TheVariants as error
+use words.error
 use Rattle.jt_inherit.proofs.extends_path.read_namespace.Goals as goal
 
 pub library_path-requires : goal.library_path-requires

@@ -1,7 +1,7 @@
 use Rattle.jt_inherit.proofs.Vocabulary.{passed_on, all_weaker}
 use Rattle.jt_inherit.proofs.NumberTables.{files_at}
-use Rattle.jt_inherit.proofs.RingFound.{order_finds}
-use Rattle.jt_inherit.proofs.ChainIsUnique.{no_chain}
+use Rattle.jt_inherit.proofs.FindingsHold.{order_finds}
+use Rattle.jt_inherit.proofs.RulesCarryOver.{no_chain}
 use Rattle.jt_inherit.proofs.ChainComplete.{some_namespaces, begins_chain, in_order, all_whole, linked, weighs}
 use Rattle.jt_inherit.proofs.ChainComplete.{few_namespaces, all}
 use Rattle.jt_inherit.proofs.linking.link.Goals as goal

@@ -1,30 +1,34 @@
 use Rattle.jt_inherit.proofs.Vocabulary.{rules, ◌≤◌, length, ap, arith, IsUtf8, Held, max_source_len, cut_of, bytes_of}
-use Rattle.std.proofs.lemmas.Str.{IsUtf8-string_bytes}
+use Rattle.jt_inherit.proofs.Vocabulary.{chars}
+use Rattle.std.proofs.lemmas.Str.{IsUtf8-string_bytes, length-le-encodes}
 use Rattle.jt_scan.specs.Cut.{weight_of}
 use Rattle.jt_inherit.proofs.SourceErrors.{limited, tree_found, only_tree, no_tree, unspelled}
-use Rattle.jt_inherit.proofs.TreeLengths.{taken, few_chars, few_bytes, cut_short}
+use Rattle.jt_inherit.proofs.TreeLengths.{few_bytes, cut_short}
 use Rattle.jt_inherit.proofs.reading.template_of.Goals as goal
 
 pub returns-in-Ok-parse-clause-weighs : goal.returns-in-Ok-parse-clause-weighs
 returns-in-Ok-parse-clause-weighs c =
     let utf8 : IsUtf8 c.in-Ok.source.text =
     rw (← (ap (λ (s : Held). s.text) c.source.view_is)) (IsUtf8-string_bytes c.source.inside.text) in
-    let text = taken c.args.options c.args.text.now c.in-Ok.source
-    (λ long. let no = c.in-Ok.ensures.long long in absurd (cc)) c.in-Ok.ensures.short in
+    let short : length c.args.text.now ≤ max_source_len =
+    limited c.args.text.now (λ long. let no = c.in-Ok.ensures.long long in absurd (cc)) in
+    let text = ap (λ (s : Held). s.text) (c.in-Ok.ensures.short short) in
     omega (
       arith,
       c.in-Ok-parse.ensures.weighs,
       ap (λ z. weight_of (cut_of z)) c.as_slice.ensures.value,
       c.in-Ok-scan.ensures.weighs,
-      few_chars c.args.options.keep_trailing_newline c.args.text.now c.in-Ok.source.text utf8 text,
+      few_bytes c.args.options.keep_trailing_newline c.args.text.now c.in-Ok.source.text utf8 text,
+      length-le-encodes (chars c.in-Ok.source.text),
     )
 
 pub returns-in-Ok-parse-clause-short : goal.returns-in-Ok-parse-clause-short
 returns-in-Ok-parse-clause-short c =
     let utf8 : IsUtf8 c.in-Ok.source.text =
     rw (← (ap (λ (s : Held). s.text) c.source.view_is)) (IsUtf8-string_bytes c.source.inside.text) in
-    let text = taken c.args.options c.args.text.now c.in-Ok.source
-    (λ long. let no = c.in-Ok.ensures.long long in absurd (cc)) c.in-Ok.ensures.short in
+    let short : length c.args.text.now ≤ max_source_len =
+    limited c.args.text.now (λ long. let no = c.in-Ok.ensures.long long in absurd (cc)) in
+    let text = ap (λ (s : Held). s.text) (c.in-Ok.ensures.short short) in
     omega (
       arith,
       c.in-Ok-parse.ensures.short,
@@ -34,7 +38,7 @@ returns-in-Ok-parse-clause-short c =
     )
 
 pub returns-in-Ok-parse-clause-spelled : goal.returns-in-Ok-parse-clause-spelled
-returns-in-Ok-parse-clause-spelled c = search (arith, rules, limited, taken, tree_found)
+returns-in-Ok-parse-clause-spelled c = search (arith, rules, limited, tree_found)
 
 pub returns-in-Ok-parse-clause-only : goal.returns-in-Ok-parse-clause-only
 returns-in-Ok-parse-clause-only c =

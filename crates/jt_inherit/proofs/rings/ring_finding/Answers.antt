@@ -1,7 +1,7 @@
 use Rattle.jt_inherit.proofs.Vocabulary as words
 use words.{◌∙◌, ℕ, map, refl, ap, arith, rules, Vec, Global, length-map, graph_of, found_namespaces, found_paths}
 use words.{name_at, found_templates, leading_at, namespace_at}
-use Rattle.jt_inherit.proofs.RingFound.{ring_within}
+use Rattle.jt_inherit.proofs.FindingsHold.{last_item, ring_within}
 use Rattle.jt_inherit.proofs.rings.ring_finding.Goals as goal
 
 pub leading_tag-requires-clause-from : goal.leading_tag-requires-clause-from
@@ -10,6 +10,7 @@ leading_tag-requires-clause-from c =
     omega (
       arith,
       (ring_within (graph_of c.args.found.now.next.items) r.first r.others.items r.first c.requires.ring).2,
+      last_item r.first r.others.items,
       c.last_of-last.ensures,
       length-map c.args.found.now.next.items (λ (v : Vec ℕ Global). v.items),
       c.requires.all.next,
@@ -40,6 +41,11 @@ returns c =
           ∙ ap
           (leading_at (found_templates f) (found_paths f) (namespace_at (found_namespaces f) c.args.ring.now.first))
           c.last_of-last.ensures;
-      subject =
-          (c.in_ok-name.ensures, c.in_ok-rest.ensures ∙ ap (map (name_at (found_namespaces f))) c.deref.ensures.value);
+      subject = (
+        _,
+        _,
+        refl,
+        c.in_ok-name.ensures,
+        c.in_ok-rest.ensures ∙ ap (map (name_at (found_namespaces f))) c.deref.ensures.value,
+      );
     }

@@ -1,6 +1,5 @@
 use Rattle.jt_inherit.proofs.Vocabulary.{◌<◌, ◌≤◌, length, length-map, sym, ap, subst, ◌∙◌, arith, lacks_body}
-use Rattle.jt_inherit.proofs.Vocabulary.{blocks_view, block_view}
-use Rattle.jt_inherit.proofs.Vocabulary.{take_all}
+use Rattle.jt_inherit.proofs.Vocabulary.{blocks_view, block_view, take_all}
 use Rattle.jt_chains.specs.View.{its_templates}
 use Rattle.jt_names.specs.Names.{first_of}
 use Rattle.jt_inherit.proofs.BodyRules.{AreGiven, body_lacking, body_goes, all_given, names_of, index_is, index_not}

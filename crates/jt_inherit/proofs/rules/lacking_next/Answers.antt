@@ -2,8 +2,7 @@ use Rattle.jt_inherit.proofs.Vocabulary.{◌≡◌, ◌-◌, not, sym, ap, ◌�
 use Rattle.jt_inherit.proofs.Vocabulary.{both_ways, bytes_eq}
 use Rattle.jt_inherit.proofs.BodyRules.{HaveNext, all_next, given_goes, given_put, given_kept, next_found, next_goes}
 use Rattle.jt_names.specs.Names.{value_in}
-use Rattle.jt_inherit.proofs.rules.lacking_next.Goals.{else-is_none-via-then-is_none+else-calls_super}
-use Rattle.jt_inherit.proofs.rules.lacking_next.Goals.{else-is_none-via-else-is_none}
+use goal.{else-is_none-via-then-is_none+else-calls_super, else-is_none-via-else-is_none}
 use Rattle.jt_inherit.proofs.rules.lacking_next.Goals as goal
 
 pub returns-then-calls_super : goal.returns-then-calls_super

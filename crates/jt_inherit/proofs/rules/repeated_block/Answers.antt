@@ -1,6 +1,5 @@
 use Rattle.jt_inherit.proofs.Vocabulary.{◌≡◌, map, sym, ap, ◌∙◌, rules, tests, texts, repeated, map-map}
-use Rattle.jt_inherit.proofs.Vocabulary.{YieldsList-from_map_by}
-use Rattle.jt_inherit.proofs.Vocabulary.{YieldsList-from_slice, block_view}
+use Rattle.jt_inherit.proofs.Vocabulary.{YieldsList-from_map_by, YieldsList-from_slice, block_view}
 use Rattle.std.proofs.lemmas.Iterator.Consumers.{map_from_collect}
 use Rattle.std.proofs.lemmas.Result.{IfOk-weaker}
 use Rattle.std.specs.Prelude.{IfOk}

@@ -1,4 +1,5 @@
-use Rattle.jt_inherit.proofs.Vocabulary.{◌≡◌, ◌+◌, ◌*◌, drop, branches_view, body_view, first_in, first_under}
+use Rattle.jt_inherit.proofs.Vocabulary.{◌≡◌, ◌+◌, ◌*◌, drop, branches_view, body_view, super_line}
+use Rattle.jt_inherit.proofs.Vocabulary.{branches_super_line}
 use denote.Param.Weighed.{most}
 use Rattle.jt_ast.specs.declared.statement.Stmt.{size-Stmt}
 use Rattle.jt_ast.proofs.RemainingParts.{Branch}
@@ -15,8 +16,9 @@ decreases-branch_line l = 8 * most (λ (b : Branch). most (λ x. size-Stmt x) b.
 
 abbrev pub invariant-branch_line-loop-line : goal.invariant-branch_line-loop-line
 invariant-branch_line-loop-line l =
-    first_under (branches_view l.branches) ≡ first_under (branches_view (drop l.line-index l.branches))
+    branches_super_line (branches_view l.branches)
+    ≡ branches_super_line (branches_view (drop l.line-index l.branches))
 
 abbrev pub invariant-super_line-loop-statement : goal.invariant-super_line-loop-statement
 invariant-super_line-loop-statement l =
-    first_in (body_view l.body) ≡ first_in (body_view (drop l.statement-index l.body))
+    super_line (body_view l.body) ≡ super_line (body_view (drop l.statement-index l.body))
