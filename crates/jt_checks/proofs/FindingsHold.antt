@@ -1,43 +1,27 @@
 -- Each test decides its rule. A finding is true of the chains in which it is found, and chains without a finding
 -- break no rule.
-use Rattle.jt_uses.specs.declared.site.Enclosing.{Enclosing}
-use Rattle.jt_rules.specs.declared.error.ScopeError.{ScopeError}
+pub mod ArgumentsFit
+pub use ArgumentsFit.*
 use Rattle.jt_checks.specs.internal.RuleTests as test
-use Rattle.std.specs.Bool.{Decides}
-use Rattle.std.proofs.lemmas.Bool.Decides.{Decides-and, Decides-or, Decides-not, Decides-ltb}
-use Rattle.jt_ast.specs.Expressions.{Expr}
-use Rattle.std.proofs.lemmas.Slice.Eq.{bytes_eq-Decides}
 use Rattle.jt_uses.specs.Uses as uses
 use Rattle.jt_rules.specs.declared.error.ScopeError.TheVariants as error
-use Rattle.jt_checks.specs.internal.UseRules as broken
-use Rattle.std.proofs.lemmas.Option.{slice_get_within, slice_get-get_or}
-use Rattle.jt_rules.specs.Rules.{BrokenIn, Breaks, ForSome, BindsTooMany, KeepsRules, IsOnlyCalled, chain_uses}
-use Rattle.jt_rules.specs.Rules.{MisusesLoop, CannotBeCalled}
-use Rattle.jt_checks.specs.Findings
-use Findings.{subject_of, IsFoundAt, IsFoundIn, PassesBindings, Finding, Subject, lines_bound, is_binding, binds_name}
-use uses.{Site, Use, binds, calls, body_uses}
-use Rattle.jt_names.proofs.NamesOfUses.{bindings, bindings_counted, weight_of}
-use Rattle.jt_ast.specs.Statements.{body_bound, Body}
-use Rattle.jt_chains.specs.Chain.{Namespace, Template, templates, Callee}
-use Rattle.std.proofs.Common.{◌++◌, cond}
-use Rattle.jt_checks.proofs.Vocabulary
-use Vocabulary.{Holds, ◌≡◌, ◌≤◌, refl, ℕ, List, [], ◌∷◌, Option, Some, None, arith, rules, ◌⊎◌, flat_map, option_map}
-use Vocabulary.{option_or, inl, inr, Text, CompileEnv, names_counted, BreaksAt, ◌∙◌, ◌+◌, length, map, filter, Bool}
-use Vocabulary.{false, not, nat_lt, nat_tests}
+use Rattle.jt_chains.specs.declared.chain.Namespace as written
+use Rattle.jt_ast.specs.Expressions.{Expr}
 
 -- ---- The first rule that a use breaks is broken there
 
--- What is found has the property, or if nothing is found, no rule is broken.
-abbrev pub Judged : {A : Type 0} → Option A → (A → Type 0) → (ScopeError → Type 0) → Type 0
-Judged None P N = (rule : ScopeError) → N rule → ⊥
-Judged (Some x) P N = P x
+-- The rule that is found is broken as N says, or if none is found, no rule is.
+abbrev pub Judged : Option ScopeError → (ScopeError → Type 0) → Type 0
+Judged None N = (rule : ScopeError) → N rule → ⊥
+Judged (Some rule) N = N rule
 
 is_false : (b : Bool) → Decides (not b) (b ≡ false)
 is_false b = search (arith, rules)
 
-none_there : {A : Type 0} (xs : List A) → Decides (nat_lt (length xs) 1) (xs ≡ [])
-none_there [] = search (arith, rules, nat_tests)
-none_there (x ∷ xs) = search (arith, rules, nat_tests)
+none_there : (x : Text) (n : ℕ) (bs : List BlockBody)
+    → Decides (not (is_some (first_of x n (map (λ b. b.name) bs)))) (filter (λ b. bytes_eq b.name x) bs ≡ [])
+none_there x n [] = search (arith, rules)
+none_there x n (b ∷ bs) = search (arith, rules, none_there x (suc n) bs)
 
 only_called : (x : Text) → Decides (test.is_only_called x) (IsOnlyCalled x)
 only_called x = search (arith, rules, Decides-or, bytes_eq-Decides)
@@ -53,25 +37,21 @@ module _ (cenv : CompileEnv) (namespace : Namespace) where
   -- The first rule that a use breaks is broken there, or no rule is.
   pub use_judged : (u : Use) (w : Enclosing)
       → Judged (test.use_broken cenv namespace u w) (λ rule. BreaksAt cenv namespace rule u w)
-      (λ rule. BreaksAt cenv namespace rule u w)
   use_judged (calls f ts ps) w = search (arith, rules, loop_misused, never_called)
   use_judged u w = search (arith, rules, bytes_eq-Decides, only_called, Decides-ltb)
 
 -- ---- The uses of a body bind as many names as the body is said to bind
 
-abbrev lines : List Site → List ℕ
-lines = map (λ s. s.place.line)
-
 one_more : (u : Use) (w : Enclosing) (s : Site) (ss : List Site)
-    → length (lines (cond (is_binding u) (s ∷ ss) ss)) ≡ weight_of (λ x. 0) (λ c x. 0) u w + length (lines ss)
+    → length (cond (is_binding u) (s ∷ ss) ss) ≡ weight_of (λ x. 0) (λ c x. 0) u w + length ss
 one_more u w s ss = search (arith, rules)
 
-lines_are : (ss : List Site) → length (lines_bound ss) ≡ bindings ss
-lines_are [] = refl
-lines_are (s ∷ ss) = omega (arith, one_more s.made s.place.around s (filter binds_name ss), lines_are ss)
+bindings_are : (ss : List Site) → length (filter binds_name ss) ≡ bindings ss
+bindings_are [] = refl
+bindings_are (s ∷ ss) = omega (arith, one_more s.made s.place.around s (filter binds_name ss), bindings_are ss)
 
 lines_counted : (b : Body) → length (lines_bound (body_uses b uses.outside)) ≡ body_bound b
-lines_counted b = lines_are (body_uses b uses.outside) ∙ bindings_counted b
+lines_counted b = rw (length-map, bindings_are) (bindings_counted b)
 
 -- ---- Some item of a list has a property
 
@@ -84,10 +64,6 @@ never [] h = h
 never (x ∷ xs) h = search (rules, never xs)
 
 module _ {A : Type 0} (P : A → Type 0) where
-  some_as : (Q : A → Type 0) → ((x : A) → P x → Q x) → (xs : List A) → ForSome P xs → ForSome Q xs
-  some_as Q f [] h = h
-  some_as Q f (x ∷ xs) h = search (rules, f, some_as Q f xs)
-
   -- An item of a concatenation is an item of one of its lists.
   append_same : (xs ys : List A) → Same (ForSome P (xs ++ ys)) (ForSome P xs ⊎ ForSome P ys)
   append_same [] ys = search (arith, rules)
@@ -101,27 +77,29 @@ module _ {A : Type 0} (P : A → Type 0) where
 
 -- ---- The first finding of items
 
--- A search ends with a finding that has the property P, or without one, and then no rule is broken as N says.
+-- A search ends with a finding that has the property P and whose rule is broken as N says, or without one, and then
+-- no rule is broken.
 pub record Decided (o : Option Finding) (P : Finding → Type 0) (N : ScopeError → Type 0) : Type 0 where
-  pub is : Judged o P N
+  pub rule : Judged (option_map (λ (f : Finding). f.rule) o) N
+  pub holds : IfSome o P
 
-module _ {P Q : Finding → Type 0} {N M : ScopeError → Type 0} where
-  or_decided : (a b : Option Finding) → Decided a P N → Decided b Q M
-      → Decided (option_or a b) (λ f. P f ⊎ Q f) (λ rule. N rule ⊎ M rule)
-  or_decided (Some f) b j k = record { is = inl j.is }
-  or_decided None (Some f) j k = record { is = inr k.is }
-  or_decided None None j k = record { is = λ rule h. elim h [ inl n ↦ j.is rule n | inr m ↦ k.is rule m ] }
+or_decided : {P Q : Finding → Type 0} {N M : ScopeError → Type 0} (a b : Option Finding) → Decided a P N
+    → Decided b Q M → Decided (option_or a b) (λ f. P f ⊎ Q f) (λ rule. N rule ⊎ M rule)
+or_decided (Some f) b j k = record { rule = inl j.rule; holds = inl j.holds }
+or_decided None (Some f) j k = record { rule = inr k.rule; holds = inr k.holds }
+or_decided None None j k =
+    record { rule = λ rule h. elim h [ inl n ↦ j.rule rule n | inr m ↦ k.rule rule m ]; holds = tt }
 
-  decided_as : (o : Option Finding) → Decided o P N → ((f : Finding) → P f → Q f)
-      → ((rule : ScopeError) → M rule → N rule) → Decided o Q M
-  decided_as None j to back = record { is = λ rule m. j.is rule (back rule m) }
-  decided_as (Some f) j to back = record { is = to f j.is }
+decided_as : {P Q : Finding → Type 0} {N M : ScopeError → Type 0} (o : Option Finding) → Decided o P N
+    → ((f : Finding) → P f → Q f) → ((rule : ScopeError) → Same (N rule) (M rule)) → Decided o Q M
+decided_as None j to same = record { rule = λ rule m. j.rule rule ((same rule).back m); holds = tt }
+decided_as (Some f) j to same = record { rule = (same f.rule).to j.rule; holds = to f j.holds }
 
 first_decided : {A : Type 0} {P : A → Finding → Type 0} {N : A → ScopeError → Type 0} (g : A → Option Finding)
     → ((x : A) → Decided (g x) (P x) (N x)) → (xs : List A)
-    → Decided (broken.first g xs) (λ f. ForSome (λ x. P x f) xs) (λ rule. ForSome (λ x. N x rule) xs)
-first_decided g each [] = record { is = λ rule h. h }
-first_decided g each (x ∷ xs) = or_decided (g x) (broken.first g xs) (each x) (first_decided g each xs)
+    → Decided (test.first g xs) (λ f. ForSome (λ x. P x f) xs) (λ rule. ForSome (λ x. N x rule) xs)
+first_decided g each [] = record { rule = λ rule h. h; holds = tt }
+first_decided g each (x ∷ xs) = or_decided (g x) (test.first g xs) (each x) (first_decided g each xs)
 
 module _ (cenv : CompileEnv) (namespace : Namespace) where
   -- ---- Uses
@@ -137,18 +115,17 @@ module _ (cenv : CompileEnv) (namespace : Namespace) where
   IsNamed n f s = (n ≡ f.template) × IsFoundAt cenv namespace f s
 
   site_decided : (n : Text) (s : Site)
-      → Decided (broken.site_finding cenv namespace n s) (λ f. IsNamed n f s) (λ rule. SiteBreaks rule s)
-  site_decided n s = record {
-    is = by (subject_of s.made) (test.use_broken cenv namespace s.made s.place.around) refl
-        (use_judged cenv namespace s.made s.place.around);
-  }
+      → Decided (test.site_finding cenv namespace n s) (λ f. IsNamed n f s) (λ rule. SiteBreaks rule s)
+  site_decided n s =
+      by (subject_of s.made) (test.use_broken cenv namespace s.made s.place.around) refl
+      (use_judged cenv namespace s.made s.place.around)
     where
-      by : (x : Option Subject) (r : Option ScopeError) → subject_of s.made ≡ x
-          → Judged r (λ rule. SiteBreaks rule s) (λ rule. SiteBreaks rule s)
-          → Judged (broken.finding_of n s.place.line x r) (λ f. IsNamed n f s) (λ rule. SiteBreaks rule s)
-      by None r e j = λ rule h. ruleless rule s e h
-      by (Some x) None e j = j
-      by (Some x) (Some rule) e j = (refl, record { line = refl; broken = j; subject = e })
+      by : (x : Option Subject) (r : Option ScopeError) → subject_of s.made ≡ x → Judged r (λ rule. SiteBreaks rule s)
+          → Decided (test.finding_of n s.place.line x r) (λ f. IsNamed n f s) (λ rule. SiteBreaks rule s)
+      by None r e j = record { rule = λ rule h. ruleless rule s e h; holds = tt }
+      by (Some x) None e j = record { rule = j; holds = tt }
+      by (Some x) (Some rule) e j =
+          record { rule = j; holds = (refl, record { line = refl; broken = j; subject = e }) }
 
   -- ---- Templates
 
@@ -156,16 +133,20 @@ module _ (cenv : CompileEnv) (namespace : Namespace) where
   OfNumber error.TooManySlots t = BindsTooMany cenv namespace t
   OfNumber rule t = ⊥
 
-  over_decided : (t : Template) → Decided (option_map (broken.finding_over t.name) (broken.line_over t.body))
+  over_decided : (t : Template) → Decided (option_map (test.finding_over t.name) (test.line_over t.body))
       (λ f. (t.name ≡ f.template) × PassesBindings cenv namespace f t) (λ rule. OfNumber rule t)
-  over_decided t = record { is = by (broken.line_over t.body) refl }
+  over_decided t = by (test.line_over t.body) refl
     where
-      by : (o : Option ℕ) → broken.line_over t.body ≡ o → Judged (option_map (broken.finding_over t.name) o)
+      by : (o : Option ℕ) → test.line_over t.body ≡ o → Decided (option_map (test.finding_over t.name) o)
           (λ f. (t.name ≡ f.template) × PassesBindings cenv namespace f t) (λ rule. OfNumber rule t)
       by (Some l) e =
           let within = slice_get_within (lines_bound (body_uses t.body uses.outside)) 4096 l e in
-          (refl, record { rule = refl; broken = omega (arith, lines_counted t.body); line = e; subject = refl })
-      by None e = λ rule. none rule
+          let broken : BindsTooMany cenv namespace t = omega (arith, lines_counted t.body) in
+          record {
+            rule = broken;
+            holds = (refl, record { rule = refl; broken = broken; line = e; subject = refl });
+          }
+      by None e = record { rule = none; holds = tt }
         where
           none : (rule : ScopeError) → OfNumber rule t → ⊥
           none error.TooManySlots lt =
@@ -183,14 +164,14 @@ module _ (cenv : CompileEnv) (namespace : Namespace) where
   named n f (s ∷ ss) h = search (arith, rules, named n f ss)
 
   template_decided : (t : Template)
-      → Decided (broken.template_broken cenv namespace t) (λ f. IsFoundIn cenv namespace f t)
+      → Decided (test.template_broken cenv namespace t) (λ f. IsFoundIn cenv namespace f t)
       (λ rule. TemplateBreaks rule t)
   template_decided t =
       let ss = body_uses t.body uses.outside in
       decided_as _
-      (or_decided _ _ (first_decided (broken.site_finding cenv namespace t.name) (site_decided t.name) ss)
+      (or_decided _ _ (first_decided (test.site_finding cenv namespace t.name) (site_decided t.name) ss)
       (over_decided t))
-      (λ f h. search (arith, rules, named t.name f ss)) (λ rule h. h)
+      (λ f h. search (arith, rules, named t.name f ss)) (λ rule. record { to = λ h. h; back = λ h. h })
 
   -- ---- Chains
 
@@ -224,41 +205,70 @@ module _ (cenv : CompileEnv) (namespace : Namespace) where
         back = λ p. e.back (inl p);
       }
 
-  chain_decided : Decided (broken.chain_broken cenv namespace)
+  chain_decided : Decided (test.chain_broken cenv namespace)
       (λ f. ForSome (IsFoundIn cenv namespace f) (templates cenv.sources namespace))
       (λ rule. BrokenIn cenv namespace rule)
   chain_decided =
       decided_as _
-      (first_decided (broken.template_broken cenv namespace) template_decided (templates cenv.sources namespace))
-      (λ f p. p) (λ rule. (broken_same rule).back)
-
-  -- A finding in a template breaks its rule there.
-  found_breaks : (f : Finding) (t : Template) → IsFoundIn cenv namespace f t → TemplateBreaks f.rule t
-  found_breaks f t h = search (arith, rules, some_as)
+      (first_decided (test.template_broken cenv namespace) template_decided (templates cenv.sources namespace))
+      (λ f h. h) broken_same
 
 -- ---- All chains
 
 module _ (cenv : CompileEnv) (order : List Namespace) where
-  abbrev FoundIn : Finding → Namespace → Type 0
-  FoundIn f h = ForSome (IsFoundIn cenv h f) (templates cenv.sources h)
+  decided : (o : Option Finding) → o ≡ test.chains_broken cenv order
+      → Decided o (λ f. ForSome (λ h. ForSome (IsFoundIn cenv h f) (templates cenv.sources h)) order)
+      (λ rule. ForSome (λ h. BrokenIn cenv h rule) order)
+  decided o e = rw e (first_decided (test.chain_broken cenv) (chain_decided cenv) order)
 
-  pub decided : (o : Option Finding) → o ≡ broken.chains_broken cenv order
-      → Decided o (λ f. Holds f cenv order) (λ rule. ForSome (λ h. BrokenIn cenv h rule) order)
-  decided o e =
-      rw e
-      (decided_as _ (first_decided (broken.chain_broken cenv) (chain_decided cenv) order) (λ f h. inl h) (λ rule h. h))
-
-  -- The rule of a finding is broken.
-  pub found_is_broken : (f : Finding) → Holds f cenv order → Breaks f.rule cenv order
-  found_is_broken f (inr h) = search (arith, rules)
-  found_is_broken f (inl found) = by f.rule (some_as (FoundIn f) _ (λ h p. (broken_same cenv h f.rule).to
-      (some_as (IsFoundIn cenv h f) _ (found_breaks cenv h f) (templates cenv.sources h) p)) order found)
+  -- A finding is true of the chains, and its rule is broken.
+  pub found_holds : (f : Finding) → Some f ≡ test.chains_broken cenv order
+      → Holds f cenv order × Breaks f.rule cenv order
+  found_holds f e = let d = decided (Some f) e in (inl d.holds, by f.rule d.rule)
     where
       by : (rule : ScopeError) → ForSome (λ h. BrokenIn cenv h rule) order → Breaks rule cenv order
       by error.LoopOutside h = h
       by rule h = search (arith, rules)
 
   -- If no rule is found and the names are few, no rule is broken.
-  pub none_is_broken : None ≡ broken.chains_broken cenv order → names_counted cenv order ≤ 65535
+  pub none_is_broken : None ≡ test.chains_broken cenv order → names_counted cenv order ≤ 65535
       → KeepsRules cenv order
-  none_is_broken e few = record { none = λ rule h. (decided None e).is rule (search (arith, rules)) }
+  none_is_broken e few = record { none = λ rule h. (decided None e).rule rule (search (arith, rules)) }
+
+-- ---- Chains and templates, one at a time
+
+-- The remaining chains are the one at the index and those after it.
+pub chains_left : (c : Chain) (i : ℕ) → i < length c.namespaces.items
+    → drop i (chain_view c).order ≡ namespace_in c i ∷ drop (i + 1) (chain_view c).order
+chains_left c i lt = search (arith, rules, length-map, drop_more, unwrap_or-slice_get)
+
+counted_first : (cenv : CompileEnv) (h : Namespace) (hs : List Namespace)
+    → names_counted cenv (h ∷ hs) ≡ names_of cenv h + names_counted cenv hs
+counted_first cenv (a_chain n) hs = refl
+counted_first cenv (a_library n) hs = omega arith
+
+pub names_left : (cenv : CompileEnv) (c : Chain) (i : ℕ) → i < length c.namespaces.items
+    → names_counted cenv (drop i (chain_view c).order)
+    ≡ names_of cenv (namespace_in c i) + names_counted cenv (drop (i + 1) (chain_view c).order)
+names_left cenv c i lt = rw (chains_left c i lt) (counted_first cenv (namespace_in c i) _)
+
+-- The remaining templates of a chain are the one at the index and those after it.
+pub templates_left : (ts : List Template) (is : List ℕ) (i : ℕ) → i < length is
+    → layers_along ts (drop i is) ≡ test.template_at ts (get_or is i 0) ∷ layers_along ts (drop (i + 1) is)
+templates_left ts is i lt = ap (layers_along ts) (drop_more is i 0 lt)
+
+-- The indices of a chain are those of templates.
+pub template_within : (c : Chain) (i : ℕ) (h : written.Namespace) → i < length c.namespaces.items
+    → h ≡ get_or c.namespaces.items i h → (k : ℕ) → k < length h.templates.items
+    → get_or h.templates.items k 0 < length c.templates.items
+template_within c i h lt at k within = search (arith, rules, index_within, namespace_indices)
+
+-- The name of a chain or a library.
+pub name_seen : (c : Chain) (i : ℕ) (h : written.Namespace) → i < length c.namespaces.items
+    → h ≡ get_or c.namespaces.items i h → string_bytes h.name ≡ namespace_name (namespace_in c i)
+name_seen c i h lt is = rw (name_of_namespace c.namespaces.items i h lt is) (by h.is_library)
+  where
+    by : (b : Bool)
+        → string_bytes h.name
+        ≡ namespace_name (if b then a_library (string_bytes h.name) else a_chain (string_bytes h.name))
+    by b = search (arith, rules)

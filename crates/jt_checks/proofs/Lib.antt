@@ -1,10 +1,2 @@
-pub mod Vocabulary
-pub mod ArgumentsFit
 pub mod FindingsHold
-pub mod NameSets
-pub mod LoopSteps
-pub use Vocabulary.*
-pub use ArgumentsFit.*
 pub use FindingsHold.*
-pub use NameSets.*
-pub use LoopSteps.*

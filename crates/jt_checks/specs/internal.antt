@@ -1,4 +1,2 @@
-pub mod CalleeView
 pub mod RuleTests
 pub mod ScopeView
-pub mod UseRules

@@ -1,8 +1,8 @@
 //! Checks that arguments fit the parameters of a callee, and the filters, tests and keys that the
 //! arguments of a filter name.
 
-ghost use Rattle.std.specs.Prelude.{◌≡◌, ◌≤◌, Some, None, if◌then◌else◌, length, IfOk, IfSome};
-ghost use Rattle.std.specs.Prelude.{option_and_then};
+ghost use Rattle.std.specs.Prelude.{◌≡◌, ◌≤◌, Some, None, if◌then◌else◌, length, drop, IfOk};
+ghost use Rattle.std.specs.Prelude.{IfSome, option_and_then};
 ghost use Rattle.jt_ast.specs.Written.{literal_text};
 ghost use Rattle.jt_ast.specs.ExpressionView.{expr_view, exprs_view, pairs_view};
 ghost use Rattle.jt_ast.specs.Texts.{repeated, texts};
@@ -52,6 +52,15 @@ fn names_fit(alloc: Global, left: &[Parameter], names: &[&str]) -> Result<bool, 
     Ok(names.iter().all(|name| index.index_of(name).is_some()))
 }
 
+/// Returns the parameters after the ones that positional arguments fill.
+#[tactic(auto, using(crate::proofs::dropped, crate::proofs::counted))]
+fn left_after<'p>(parameters: &'p [Parameter], row: &[Expr]) -> &'p [Parameter]
+    ensures { parameters_view result.now
+        ≡ drop (count (exprs_view row.now)) (parameters_view parameters.now) }
+{
+    &parameters[row.len().min(parameters.len())..]
+}
+
 /// Returns whether arguments fit the parameters of a macro.
 pub(crate) fn fits(
     alloc: Global,
@@ -66,11 +75,11 @@ pub(crate) fn fits(
         return Ok(false);
     }
     let names = keyword_names(alloc, pairs)?;
-    names_fit(alloc, &parameters[row.len()..], &names)
+    names_fit(alloc, left_after(parameters, row), &names)
 }
 
 /// Returns the rule that the arguments of a test break.
-#[tactic(auto, using(crate::proofs::ArgumentsFit::counted, crate::proofs::ArgumentsFit::keyless))]
+#[tactic(auto, using(crate::proofs::counted, crate::proofs::keyless))]
 pub(crate) fn test_broken(name: &str, row: &[Expr], pairs: &[(String, Expr)]) -> Option<ScopeError>
     ensures { result ≡ rules.unless
         (test_takes (test_named name.now) (exprs_view row.now) (pairs_view pairs.now)) }
@@ -89,19 +98,20 @@ fn reached(parameters: &[Parameter], names: &[&str]) -> Option<usize>
 {
     let mut count = 0;
     let mut filled = true;
-    let mut left = parameters.len();
-    while left > 0 {
-        left -= 1;
+    for left in (0..parameters.len()).rev() {
         let parameter = &parameters[left];
         let named = (&*names).contains(&parameter.name.as_str());
-        filled &= named | (count == 0) | parameter.default.is_some();
-        count += usize::from(named | (count > 0));
+        if count == 0 && !named {
+            continue;
+        }
+        count += 1;
+        filled &= named || parameter.default.is_some();
     }
     filled.then_some(count)
 }
 
 /// Returns the rule that the arguments of a filter break.
-#[tactic(auto, using(crate::proofs::ArgumentsFit::known_filter), unfolding(jt_eval::specs::TheFilters::the_filters))]
+#[tactic(auto, using(crate::proofs::known_filter), unfolding(jt_eval::specs::TheFilters::the_filters))]
 pub(crate) fn filter_broken(
     alloc: Global,
     name: &str,
@@ -120,6 +130,7 @@ pub(crate) fn filter_broken(
 }
 
 /// Returns whether a filter takes these positional and keyword arguments.
+#[tactic(auto, using(crate::proofs::without_keywords, crate::proofs::fits_left, crate::proofs::counted))]
 fn filter_fits(
     alloc: Global,
     filter: FilterId,
@@ -134,7 +145,7 @@ fn filter_fits(
     }
     let parameters = filter_parameters(alloc, filter)?;
     let names = keyword_names(alloc, pairs)?;
-    let left = &parameters[row.len().min(parameters.len())..];
+    let left = left_after(&parameters, row);
     let Some(named) = reached(left, &names) else {
         return Ok(false);
     };
@@ -146,7 +157,7 @@ fn filter_fits(
 
 /// Returns whether the named filter or test takes `values` values, the item included, and `map` may
 /// call the filter. An unknown name passes: the parser refuses it.
-#[tactic(auto, using(crate::proofs::ArgumentsFit::alone, crate::proofs::ArgumentsFit::turned))]
+#[tactic(auto, using(crate::proofs::alone, crate::proofs::turned))]
 fn is_called_well(naming: ArgumentRole, name: &str, values: usize) -> bool
     ensures { result ≡ inside.called_well naming name.now values }
 {
@@ -172,7 +183,6 @@ fn is_argument_well(naming: Option<ArgumentRole>, argument: &Expr, values: usize
 
 /// Returns whether each positional argument that names something names it correctly. A named filter
 /// or test takes the item and the arguments after its name.
-#[tactic(auto, using(crate::proofs::ArgumentsFit::row_wrong, crate::proofs::ArgumentsFit::row_right))]
 fn is_row_well(filter: FilterId, row: &[Expr]) -> bool
     ensures { result ≡ inside.row_well filter 1 (exprs_view row.now) }
 {

@@ -3,11 +3,10 @@
 ghost use Rattle.std.specs.Prelude.{◌≡◌, IfOk};
 ghost use Rattle.jt_ast.specs.ExpressionView.{expr_view, exprs_view, pairs_view};
 ghost use Rattle.jt_chains.specs.Chain as chain;
-ghost use Rattle.jt_chains.specs.Chain.{callee, named_alone, named_in, in_library};
+ghost use Rattle.jt_chains.specs.Chain.{callee, named_alone, named_in};
 ghost use Rattle.jt_checks.specs.internal.RuleTests as rules;
-ghost use Rattle.jt_checks.specs.internal.CalleeView.{Means};
 ghost use Rattle.jt_checks.specs.internal.ScopeView.{its_sources, its_given, given_in, in_scope};
-ghost use Rattle.jt_checks.specs.internal.ScopeView.{HasFacts};
+ghost use Rattle.jt_checks.specs.internal.ScopeView.{HasFacts, Means};
 
 use crate::arguments::{fits, unless};
 use crate::scope::Scope;
@@ -53,21 +52,6 @@ fn callee_alone<'a>(scope: &Scope<'_, 'a>, name: &'a str) -> Callee<'a>
     }
 }
 
-/// Returns the macro `field` of the library that the name `of` stands for.
-fn callee_in_library<'a>(scope: &Scope<'_, 'a>, of: &str, field: &str) -> Callee<'a>
-    requires { HasFacts scope.now }
-    ensures { Means result (in_library (its_sources scope.now) (given_in scope.now of.now)
-        field.now) }
-{
-    let Some(Definition::Library(library)) = scope.given(of) else {
-        return Callee::Nothing;
-    };
-    match scope.facts.chain.library_macro(library, field) {
-        Some(found) => Callee::Macro(found.parameters),
-        None => Callee::Nothing,
-    }
-}
-
 /// Returns what the field of a name means: `self.b`, `loop.cycle`, or a macro of a library.
 fn callee_of_field<'a>(scope: &Scope<'_, 'a>, of: &str, field: &'a str) -> Callee<'a>
     requires { HasFacts scope.now }
@@ -78,7 +62,14 @@ fn callee_of_field<'a>(scope: &Scope<'_, 'a>, of: &str, field: &'a str) -> Calle
         ("self", _) => Callee::Block(field),
         ("loop", "cycle") => Callee::Cycle,
         ("loop", _) => Callee::Nothing,
-        _ => callee_in_library(scope, of, field),
+        _ => match scope.given(of) {
+            Some(Definition::Library(library)) => scope
+                .facts
+                .chain
+                .library_macro(library, field)
+                .map_or(Callee::Nothing, |found| Callee::Macro(found.parameters)),
+            _ => Callee::Nothing,
+        },
     }
 }
 
@@ -99,7 +90,7 @@ pub(crate) fn callee_of<'a>(scope: &Scope<'_, 'a>, called: &'a Expr) -> Callee<'
 }
 
 /// Returns the rule that a call breaks by its callee.
-#[tactic(auto, using(crate::proofs::ArgumentsFit::counted, crate::proofs::ArgumentsFit::keyless))]
+#[tactic(auto, using(crate::proofs::counted, crate::proofs::keyless))]
 pub(crate) fn call_broken(
     scope: &Scope<'_, '_>,
     around: Enclosing,
@@ -116,7 +107,9 @@ pub(crate) fn call_broken(
         Callee::Macro(parameters) => Ok(unless(fits(scope.alloc, parameters, row, pairs)?)),
         Callee::Range => Ok(unless(0 < row.len() && row.len() < 4 && pairs.is_empty())),
         Callee::Super if !around.in_block => Ok(Some(ScopeError::NotCallable)),
-        Callee::Block(name) if !scope.is_block(name) => Ok(Some(ScopeError::NotCallable)),
+        Callee::Block(name) if scope.known().first_bodies.index_of(name).is_none() => {
+            Ok(Some(ScopeError::NotCallable))
+        }
         Callee::Super | Callee::Block(_) => Ok(unless(row.is_empty() && pairs.is_empty())),
         Callee::Cycle => Ok(unless(0 < row.len() && pairs.is_empty())),
         Callee::Nothing => Ok(Some(ScopeError::NotCallable)),

@@ -4,7 +4,6 @@ ghost use Rattle.std.specs.Prelude.{◌≡◌, ◌<◌, nat_le, length, IfOk, On
 ghost use Rattle.std.specs.Prelude.{IfSome, IfNone, option_map};
 ghost use Rattle.jt_ast.specs.Texts.{ascending, texts};
 ghost use Rattle.jt_chains.specs.Chain.{templates, libraries};
-ghost use Rattle.jt_chains.specs.Parts.{name_at};
 ghost use Rattle.jt_chains.specs.View.{chain_view};
 ghost use Rattle.jt_rules.specs.Rules.{KeepsRules, Breaks, libraries_counted};
 ghost use Rattle.jt_rules.specs.Rules.{max_names, names_counted};
@@ -12,14 +11,13 @@ ghost use Rattle.jt_checks.specs.Findings.{Holds};
 ghost use Rattle.jt_checks.specs.FindingView.{finding_view};
 ghost use Rattle.jt_checks.specs.internal.ScopeView.{HasFacts, capped, cenv_in, in_scope};
 ghost use Rattle.jt_checks.specs.internal.ScopeView.{its_chain, names_of};
-ghost use Rattle.jt_checks.specs.internal.UseRules as broken;
+ghost use Rattle.jt_checks.specs.internal.RuleTests as rules;
 ghost use Rattle.jt_names.specs.FactsOfChains.{AllKnown};
 ghost use Rattle.jt_rules.specs.CompileEnv.{cenv_of};
 
 use crate::finding::{Finding, Subject};
 use crate::scope::Scope;
 use crate::uses::{binding_line, uses_broken};
-use jt_chains::Chain;
 use jt_names::{ChainFacts, in_order};
 use jt_rules::ScopeError;
 use std::alloc::{AllocError, Global};
@@ -83,17 +81,22 @@ pub fn find_broken<'a>(
 }
 
 /// Returns the first finding in the templates of the chains.
-#[tactic(auto, using(crate::proofs::LoopSteps::chains_left))]
+#[tactic(auto, using(crate::proofs::chains_left))]
 fn chains_broken<'a>(
     alloc: Global,
     facts: &ChainFacts<'a>,
 ) -> Result<Option<Finding<'a>>, AllocError>
     requires { AllKnown facts.now }
-    ensures { IfOk result (λ o. option_map finding_view o ≡ broken.chains_broken
+    ensures { IfOk result (λ o. option_map finding_view o ≡ rules.chains_broken
         (cenv_in facts.now.chain.now) (chain_view facts.now.chain.now).order) }
 {
     for namespace in 0..facts.chain.namespaces.len() {
-        if let Some(finding) = templates_broken(&Scope::new(alloc, facts, namespace))? {
+        let scope = Scope {
+            alloc,
+            facts,
+            namespace,
+        };
+        if let Some(finding) = templates_broken(&scope)? {
             return Ok(Some(finding));
         }
     }
@@ -104,7 +107,7 @@ fn chains_broken<'a>(
 fn templates_broken<'a>(scope: &Scope<'_, 'a>) -> Result<Option<Finding<'a>>, AllocError>
     requires { HasFacts scope.now }
     ensures { IfOk result
-        (λ o. option_map finding_view o ≡ in_scope broken.chain_broken scope.now) }
+        (λ o. option_map finding_view o ≡ in_scope rules.chain_broken scope.now) }
 {
     let itself = &scope.facts.chain.namespaces[scope.namespace];
     for template in &itself.templates {
@@ -115,27 +118,18 @@ fn templates_broken<'a>(scope: &Scope<'_, 'a>) -> Result<Option<Finding<'a>>, Al
     Ok(None)
 }
 
-/// Returns the name of the template at `index`, or an empty name if the index is out of range.
-fn template_name(chain: &Chain, index: usize) -> &str
-    ensures { result.now ≡ name_at (chain_view chain.now).templates index }
-{
-    match chain.templates.get(index) {
-        Some(file) => file.name.as_str(),
-        None => "",
-    }
-}
-
 /// Returns the first finding in the template at `index`.
+#[tactic(auto, using(jt_chains::proofs::TemplatesByIndex::map_at))]
 fn template_broken<'a>(
     scope: &Scope<'_, 'a>,
     index: usize,
 ) -> Result<Option<Finding<'a>>, AllocError>
     requires scope { HasFacts scope.now }
     requires within { index < length (its_chain scope.now).templates.items }
-    ensures { IfOk result (λ o. option_map finding_view o ≡ in_scope broken.template_broken
-        scope.now (broken.template_at (chain_view (its_chain scope.now)).templates index)) }
+    ensures { IfOk result (λ o. option_map finding_view o ≡ in_scope rules.template_broken
+        scope.now (rules.template_at (chain_view (its_chain scope.now)).templates index)) }
 {
-    let name = template_name(scope.facts.chain, index);
+    let name = scope.facts.chain.templates[index].name.as_str();
     let uses = scope.facts.uses_at(index);
     if let Some(finding) = uses_broken(scope, name, uses)? {
         return Ok(Some(finding));
@@ -153,7 +147,7 @@ fn template_broken<'a>(
 
 /// Returns whether the chains read or bind at most `MAX_NAMES` names, each counted once for each
 /// chain.
-#[tactic(auto, using(crate::proofs::LoopSteps::names_left))]
+#[tactic(auto, using(crate::proofs::names_left))]
 fn has_few_names(alloc: Global, facts: &ChainFacts<'_>) -> Result<bool, AllocError>
     requires { AllKnown facts.now }
     ensures { IfOk result (λ b. b ≡ nat_le (names_counted (cenv_in facts.now.chain.now)
@@ -161,7 +155,11 @@ fn has_few_names(alloc: Global, facts: &ChainFacts<'_>) -> Result<bool, AllocErr
 {
     let mut left = MAX_NAMES;
     for namespace in 0..facts.chain.namespaces.len() {
-        let count = count_names(&Scope::new(alloc, facts, namespace))?;
+        let count = count_names(&Scope {
+            alloc,
+            facts,
+            namespace,
+        })?;
         if left < count {
             return Ok(false);
         }

@@ -1,4 +1,4 @@
-//! Looks up by name the macros, libraries and blocks of a chain.
+//! Looks up by name the macros and libraries of a chain.
 
 ghost use Rattle.std.specs.Prelude.{◌≡◌, ◌<◌, length, option_map};
 
@@ -16,22 +16,8 @@ pub(crate) struct Scope<'f, 'a> {
 }
 
 impl<'f, 'a> Scope<'f, 'a> {
-    ghost use Rattle.jt_checks.specs.internal.ScopeView.{HasFacts, given_as, given_in, in_scope};
-    ghost use Rattle.jt_checks.specs.internal.ScopeView.{is_block, its_chain};
+    ghost use Rattle.jt_checks.specs.internal.ScopeView.{HasFacts, given_as, given_in, its_chain};
     ghost use Rattle.jt_names.specs.FactsOfChains.{IsKnown};
-
-    /// Creates the scope of the chain or library at index `namespace`.
-    pub(crate) fn new(alloc: Global, facts: &'f ChainFacts<'a>, namespace: usize) -> Self
-        requires { namespace < length facts.now.chain.now.namespaces.items }
-        ensures same_facts { result.facts.now ≡ facts.now }
-        ensures same_namespace { result.namespace ≡ namespace }
-    {
-        Scope {
-            alloc,
-            facts,
-            namespace,
-        }
-    }
 
     /// Returns what is known of the chain or library.
     pub(crate) fn known(&self) -> &'f NamespaceFacts<'a>
@@ -47,14 +33,5 @@ impl<'f, 'a> Scope<'f, 'a> {
         ensures { option_map (given_as self.now) result ≡ given_in self.now name.now }
     {
         self.known().given.get(name).copied()
-    }
-
-    /// Returns whether the chain has a block of this name.
-    #[tactic(auto, using(crate::proofs::NameSets::has_body))]
-    pub(crate) fn is_block(&self, name: &str) -> bool
-        requires { HasFacts self.now }
-        ensures { result ≡ in_scope is_block self.now name.now }
-    {
-        self.known().first_bodies.index_of(name).is_some()
     }
 }

@@ -7,7 +7,6 @@ ghost use Rattle.jt_checks.specs.FindingView.{finding_view};
 ghost use Rattle.jt_checks.specs.internal.RuleTests as rules;
 ghost use Rattle.jt_uses.specs.UseView.{site_view, sites_view};
 ghost use Rattle.jt_checks.specs.internal.ScopeView.{HasFacts, in_scope};
-ghost use Rattle.jt_checks.specs.internal.UseRules as broken;
 
 use crate::arguments::{any_repeated, filter_broken, test_broken, unless};
 use crate::calls::{call_broken, callee_of};
@@ -129,7 +128,7 @@ fn site_finding<'a>(
 ) -> Result<Option<Finding<'a>>, AllocError>
     requires { HasFacts scope.now }
     ensures { IfOk result (λ o. option_map finding_view o
-        ≡ in_scope broken.site_finding scope.now template.now (site_view site.now)) }
+        ≡ in_scope rules.site_finding scope.now template.now (site_view site.now)) }
 {
     let Some(subject) = subject_of(site) else {
         return Ok(None);
@@ -153,7 +152,7 @@ pub(crate) fn uses_broken<'a>(
 ) -> Result<Option<Finding<'a>>, AllocError>
     requires { HasFacts scope.now }
     ensures { IfOk result (λ o. option_map finding_view o
-        ≡ in_scope broken.uses_broken scope.now template.now (sites_view uses.now)) }
+        ≡ in_scope rules.uses_broken scope.now template.now (sites_view uses.now)) }
 {
     for site in uses {
         if let Some(finding) = site_finding(scope, template, site)? {
@@ -166,7 +165,7 @@ pub(crate) fn uses_broken<'a>(
 /// Returns the line of the binding after the first `count` ones, if there is one. `set`, `for`,
 /// `with` and parameters bind names.
 pub(crate) fn binding_line(uses: &[UseSite<'_>], count: usize) -> Option<u32>
-    ensures { result ≡ slice_get (broken.lines_bound (sites_view uses.now)) count }
+    ensures { result ≡ slice_get (rules.lines_bound (sites_view uses.now)) count }
 {
     let mut left = count;
     for site in uses {

@@ -1,33 +1,8 @@
 -- The layout of a chain or a library is correct, and the names of chains are inserted in order.
+pub mod FirstOccurrences
+pub use FirstOccurrences.*
 use Rattle.jt_chains.specs.Uses as uses
 use Rattle.jt_chains.specs.declared.chain.Namespace as written
-use mir.Val.{bool_byte}
-use Rattle.std.proofs.Common
-use Common.{Option, append_assoc, not, suc, zero, Bool, Some, false, if◌then◌else◌, refl, ℕ, true, length-append}
-use Rattle.std.proofs.lemmas.Bool.Decides.{nat_tests}
-use Rattle.jt_semantics.specs.Layout.{of_chain, same_key, chain_keys, numbered_bodies, block_parameters, first_slot}
-use Rattle.jt_semantics.specs.Layout.{is_scoped, Key, default_index, entry_keys, first_default, in_globals, index_of}
-use Rattle.jt_semantics.specs.Layout.{names, of_body, of_macro, unit, names_in, counted_from, defaults_of}
-use Rattle.std.proofs.lemmas.Bool.{or_right}
-use Rattle.jt_chains.specs.declared.chain.Chain.{Chain}
-use Rattle.jt_chains.specs.Chain.{BlockBody, MacroBody, Namespace, Sources, a_library, macro_of, macros, templates}
-use Rattle.jt_layout.specs.declared.layout.FirstFree.{FirstFree}
-use Rattle.jt_layout.specs.declared.namespace_layout.NamespaceLayout.{NamespaceLayout}
-use Rattle.jt_layout.proofs.FirstOccurrences.{first_macro, length-counted, namespaces_left, no_macro}
-use Rattle.jt_chains.specs.Includes.{InOrder, needs_in, with_source}
-use Rattle.jt_rules.specs.CompileEnv.{CompileEnv}
-use Rattle.jt_semantics.proofs.EnvLookup.{namespace_is, namespace_same, same_is, same_text}
-use Rattle.jt_semantics.proofs.EnvMemoryAgreement.{names_library}
-use Rattle.std.specs.BTreeMap.{BTreeMap}
-use uses.{own_names}
-use Rattle.std.specs.Option.{is_some}
-use Rattle.jt_layout.proofs.Vocabulary
-use Vocabulary.{List, [], ap, drop, length, map, sym, ◌++◌, ◌+◌, ◌<◌, ◌∙◌, ◌∷◌, ◌≡◌, Global, Vec}
-use Vocabulary.{ascending_inserted, inserted_both, all_bodies, Template, a_chain, listed, same_namespace, IsCalled}
-use Vocabulary.{None, arith, rules, length-map, flat_map, Text, block_view, macro_view, namespace_view, namespace_in}
-use Vocabulary.{Block, first_of, StandsAt, defaults_from, namespace_named, its_cenv, its_order, texts, flat_map-append}
-use Vocabulary.{append-nil, bytes_eq, Bor, all_inserted, ascending, namespace_at, names_at}
-use Rattle.jt_layout.specs.internal.Layouts.{texts_of, Stands, all_names, namespace_of}
 
 -- ---- names that are inserted in order, and the names of chains
 
@@ -243,11 +218,11 @@ module _ (c : Chain) (i : ℕ) (lt : i < length c.namespaces.items) where
   new_here =
       (rw (namespaces_left (its_order c) i inside) at (order_left (its_cenv c).sources (its_order c) i c.order)).0
 
-  pub listed_left : listed h (drop i (its_order c)) ≡ true
-  listed_left = search (arith, rules, namespaces_left, inside, namespace_is)
-
   pub known_here : listed h (its_order c) ≡ true
   known_here = listed_at (its_order c) i inside
+
+  pub listed_left : listed h (drop i (its_order c)) ≡ true
+  listed_left = search (arith, rules, namespaces_left, inside, namespace_is)
 
   -- Each namespace after this one differs from it.
   pub left_turn : (x : Namespace) → listed x rest ≡ true

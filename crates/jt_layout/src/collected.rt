@@ -92,14 +92,12 @@ pub(crate) fn gather<'a>(
     ensures { IfOk result (λ g. AreNames facts.now.chain.now (its_order facts.now.chain.now) g) }
 {
     let mut collected = BTreeMap::new(alloc);
-    let mut left = facts.chain.namespaces.len();
-    while left > 0 {
-        left -= 1;
-        let itself = &facts.chain.namespaces[left];
+    for namespace in (0..facts.chain.namespaces.len()).rev() {
+        let itself = &facts.chain.namespaces[namespace];
         if itself.is_library {
             continue;
         }
-        let names = names_of_chain(alloc, facts, left, &collected)?;
+        let names = names_of_chain(alloc, facts, namespace, &collected)?;
         set_entry(&mut collected, itself.name.as_str(), names)?;
     }
     Ok(collected)

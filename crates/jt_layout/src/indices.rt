@@ -31,14 +31,12 @@ pub(crate) fn namespace_index<'a>(
         ≡ first_namespace (namespace_named libraries x) 0 (map namespace_view namespaces.now)) }
 {
     let mut indices = NameIndex::new(alloc);
-    let mut left = namespaces.len();
-    while left > 0 {
-        left -= 1;
-        let namespace = &namespaces[left];
+    for index in (0..namespaces.len()).rev() {
+        let namespace = &namespaces[index];
         if namespace.is_library != libraries {
             continue;
         }
-        indices.put(namespace.name.as_str(), left)?;
+        indices.put(namespace.name.as_str(), index)?;
     }
     Ok(indices)
 }
@@ -74,15 +72,13 @@ pub(crate) fn next_bodies(
 {
     let mut given = NameIndex::new(alloc);
     let mut next = vec![in alloc; None; blocks.len()]?;
-    let mut left = blocks.len();
-    while left > 0 {
-        left -= 1;
-        let block = &blocks[left];
-        next[left] = given.index_of(block.name);
+    for index in (0..blocks.len()).rev() {
+        let block = &blocks[index];
+        next[index] = given.index_of(block.name);
         if block.required {
             continue;
         }
-        given.put(block.name, left)?;
+        given.put(block.name, index)?;
     }
     Ok(next)
 }

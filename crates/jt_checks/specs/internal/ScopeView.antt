@@ -1,9 +1,10 @@
--- The view of a scope in contracts, and the rules in it. Only private clauses cite this module.
-use Rattle.std.specs.Prelude.{ℕ, ◌+◌, ◌-◌, ◌^◌, min, length, nat_lt, not, Bool, List, Option}
+-- The views of scopes and of callees in contracts, and the rules in a scope. Only private clauses cite this module.
+use Rattle.std.specs.Prelude.{◌≡◌, ℕ, ◌+◌, ◌-◌, ◌^◌, min, length, List, Option}
 use Rattle.jt_ast.specs.Expressions.{Text}
+use Rattle.jt_ast.specs.StatementView.{parameters_view}
 use Rattle.jt_ast.specs.Texts.{ascending}
-use Rattle.jt_chains.specs.Chain.{Namespace, a_chain, a_library, Sources, Definition, given, given_to, bodies}
-use Rattle.jt_chains.specs.Chain.{libraries}
+use Rattle.jt_chains.specs.Chain as chain
+use chain.{Namespace, a_chain, a_library, Sources, Definition, given, given_to, libraries}
 use Rattle.jt_chains.specs.Named.{given_view}
 use Rattle.jt_chains.specs.Uses.{own_names}
 use Rattle.jt_chains.specs.View.{chain_view, namespace_in}
@@ -13,6 +14,8 @@ use Rattle.jt_names.specs.FactsOfChains.{AllKnown}
 use Rattle.jt_rules.specs.CompileEnv.{CompileEnv, cenv_of}
 use Rattle.jt_rules.specs.Rules.{libraries_counted}
 use Rattle.jt_checks.specs.declared.scope.Scope.{Scope}
+use Rattle.jt_checks.specs.declared.calls.Callee.{Callee}
+use Rattle.jt_checks.specs.declared.calls.Callee.TheVariants as v
 
 -- The chain of a scope.
 abbrev pub its_chain : Scope → Chain
@@ -43,9 +46,6 @@ given_in s n = given_to n (its_given s)
 abbrev pub given_as : Scope → found.Definition → Definition
 given_as s g = given_view (chain_view (its_chain s)).templates (namespace_in (its_chain s) s.namespace) g
 
-abbrev pub is_block : CompileEnv → Namespace → Text → Bool
-is_block cenv namespace x = not (nat_lt (length (bodies cenv.sources cenv.escaping namespace x)) 1)
-
 -- The number of names that a chain reads or binds, with the names of the libraries that it imports.
 -- The names of a library count only there.
 abbrev pub names_of : CompileEnv → Namespace → ℕ
@@ -57,3 +57,13 @@ names_of cenv (a_library n) = 0
 -- The number, or the greatest 64-bit number if that is less.
 abbrev pub capped : ℕ → ℕ
 capped n = min n (2 ^ 64 - 1)
+
+-- A macro is named by its parameters.
+abbrev pub Means : Callee → chain.Callee → Type 0
+Means (v.Macro ps) (chain.a_macro h m) = parameters_view ps.now ≡ m.parameters
+Means v.Range chain.a_range = Unit {0}
+Means v.Super chain.a_super = Unit {0}
+Means (v.Block x) (chain.a_block y) = x.now ≡ y
+Means v.Cycle chain.a_cycle = Unit {0}
+Means v.Nothing chain.no_callee = Unit {0}
+Means c d = ⊥

@@ -1,6 +1,5 @@
 use Rattle.jt_checks.proofs.arguments.is_row_well.Given as goal
-use Rattle.jt_eval.specs.Inside.{row_well}
-use Rattle.jt_checks.proofs.{◌≡◌, ◌+◌, drop, exprs_view}
+use Rattle.jt_checks.proofs.{row_well, ◌≡◌, ◌+◌, drop, exprs_view}
 
 abbrev pub invariant-loop-index : goal.invariant-loop-index
 invariant-loop-index l =

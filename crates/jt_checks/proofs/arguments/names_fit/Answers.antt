@@ -1,9 +1,8 @@
 use Rattle.std.proofs.lemmas.Iterator.Search.{all_from_yields_List}
 use Rattle.std.proofs.lemmas.Iterator.{YieldsList-from_slice}
-use Rattle.jt_ast.specs.StatementView.{parameters_view}
-use Rattle.jt_checks.specs.internal.RuleTests.{all_known, parameter_names}
 use Rattle.jt_checks.proofs.arguments.names_fit.Goals as goal
-use Rattle.jt_checks.proofs.{◌∙◌, ◌≡◌, arith, rules, tests, Bor, Text, among, texts, among_first, all_in}
+use Rattle.jt_checks.proofs.{parameters_view, all_known, parameter_names, ◌∙◌, ◌≡◌, arith, rules, tests, Bor, Text}
+use Rattle.jt_checks.proofs.{among, texts, among_first, all_in}
 
 pub returns : goal.returns
 returns c =

@@ -1,7 +1,6 @@
-use Rattle.jt_ast.specs.StatementView.{parameters_view}
 use Rattle.jt_rules.specs.Arguments as rules
 use Rattle.jt_checks.proofs.arguments.reached.Given as goal
-use Rattle.jt_checks.proofs.{◌≡◌, ◌+◌, ◌≤◌, length, drop, texts}
+use Rattle.jt_checks.proofs.{parameters_view, ◌≡◌, ◌+◌, ◌≤◌, length, drop, texts}
 
 abbrev pub invariant-loop-left : goal.invariant-loop-left
 invariant-loop-left l = record {
@@ -9,6 +8,3 @@ invariant-loop-left l = record {
   count : l.count ≡ rules.reached (parameters_view (drop l.left l.parameters)) (texts l.names);
   filled : l.filled ≡ rules.is_filled (parameters_view (drop l.left l.parameters)) 0 (texts l.names);
 }
-
-abbrev pub decreases-loop-left : goal.decreases-loop-left
-decreases-loop-left l = l.left

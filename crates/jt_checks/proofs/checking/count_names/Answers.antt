@@ -1,6 +1,5 @@
-use Rattle.jt_chains.proofs.TemplatesByIndex.{name_of_namespace}
 use Rattle.jt_checks.proofs.checking.count_names.Goals as goal
-use Rattle.jt_checks.proofs.{arith, rules, drop_all, length-map}
+use Rattle.jt_checks.proofs.{name_of_namespace, arith, rules, drop_all, length-map}
 
 pub returns : goal.returns
 returns c =

@@ -1,16 +1,14 @@
 use Rattle.jt_checks.proofs.checking.find_broken.Goals as goal
 use Rattle.jt_checks.specs.FindingView.{finding_view}
-use Rattle.jt_checks.proofs.{Holds, refl, sym, ap, ◌∙◌, arith, option_map, inr, chain_view, cenv_in, nat_tests, decided}
-use Rattle.jt_checks.proofs.{Some, found_is_broken, none_is_broken, name_seen}
+use Rattle.jt_checks.proofs.{refl, sym, ap, ◌∙◌, arith, option_map, inr, chain_view, cenv_in, nat_tests}
+use Rattle.jt_checks.proofs.{found_holds, none_is_broken, name_seen}
 
 pub returns-in-Some : goal.returns-in-Some
 returns-in-Some c =
     let chain = c.args.facts.now.chain.now in
-    let f = finding_view c.in-Some.finding in
-    let all = decided (cenv_in chain) (chain_view chain).order (Some f)
+    let all = found_holds (cenv_in chain) (chain_view chain).order (finding_view c.in-Some.finding)
     (sym (ap (option_map finding_view) c.in-Some.is) ∙ c.in_ok-finding.ensures) in
-    let holds : Holds f (cenv_in chain) (chain_view chain).order = all.is in
-    record { kept = tt; found = found_is_broken (cenv_in chain) (chain_view chain).order f holds; holds = holds }
+    record { kept = tt; found = all.1; holds = all.0 }
 
 pub returns-then-branch-clause-kept : goal.returns-then-branch-clause-kept
 returns-then-branch-clause-kept c =

@@ -1,4 +1,4 @@
-use Rattle.jt_checks.specs.internal.UseRules as broken
+use Rattle.jt_checks.specs.internal.RuleTests as broken
 use Rattle.jt_checks.proofs.uses.binding_line.Given as goal
 use Rattle.jt_checks.proofs.{slice_get, ◌≡◌, drop, sites_view}
 

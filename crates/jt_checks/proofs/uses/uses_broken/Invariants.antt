@@ -1,4 +1,4 @@
-use Rattle.jt_checks.specs.internal.UseRules as broken
+use Rattle.jt_checks.specs.internal.RuleTests as broken
 use Rattle.jt_checks.proofs.uses.uses_broken.Given as goal
 use Rattle.jt_checks.proofs.{in_scope, ◌≡◌, drop, sites_view}
 

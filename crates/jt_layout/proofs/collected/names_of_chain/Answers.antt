@@ -1,9 +1,8 @@
 use Rattle.jt_layout.proofs.collected.names_of_chain.Goals as goal
 use Rattle.std.proofs.lemmas.Result.{IfOk-weaker}
 use Rattle.std.proofs.lemmas.List.{drop_all}
-use Rattle.jt_ast.specs.Texts.{texts}
-use Rattle.jt_layout.proofs.{Global, Vec, ap, ◌∙◌, ◌≡◌, arith, rules, Bor, Text, namespace_in, its_cenv, all_stored}
-use Rattle.jt_layout.proofs.{inserted_both, drop_more}
+use Rattle.jt_layout.proofs.{texts, Global, Vec, ap, ◌∙◌, ◌≡◌, arith, rules, Bor, Text, namespace_in, its_cenv}
+use Rattle.jt_layout.proofs.{all_stored, inserted_both, drop_more}
 
 pub loop-chain-preserved : goal.loop-chain-preserved
 loop-chain-preserved c = search (arith, rules, inserted_both, drop_more)

@@ -1,6 +1,5 @@
 use Rattle.jt_layout.proofs.indices.default_indices.Given as goal
-use Rattle.jt_semantics.specs.Layout.{defaults_of}
-use Rattle.jt_layout.proofs.{List, drop, length, map, ◌++◌, ◌+◌, ◌≡◌, Template, macro_view, defaults_from}
+use Rattle.jt_layout.proofs.{defaults_of, List, drop, length, map, ◌++◌, ◌+◌, ◌≡◌, Template, macro_view, defaults_from}
 
 abbrev pub invariant-loop-entry : goal.invariant-loop-entry
 invariant-loop-entry l = record {

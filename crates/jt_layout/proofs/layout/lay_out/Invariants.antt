@@ -1,7 +1,7 @@
 use Rattle.jt_semantics.specs.Layout as layout
 use Rattle.jt_layout.proofs.layout.lay_out.Given as goal
-use Rattle.std.proofs.Common.{true}
-use Rattle.jt_layout.proofs.{drop, length, ◌≡◌, a_chain, listed, Text, AreLaid, StandsAt, names_at, its_cenv, its_order}
+use Rattle.jt_layout.proofs.{true, drop, length, ◌≡◌, a_chain, listed, Text, AreLaid, StandsAt, names_at, its_cenv}
+use Rattle.jt_layout.proofs.{its_order}
 
 abbrev pub invariant-loop-namespace : goal.invariant-loop-namespace
 invariant-loop-namespace l = record {

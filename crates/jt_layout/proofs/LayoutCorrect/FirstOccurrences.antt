@@ -1,15 +1,6 @@
 -- The first occurrences of names in lists, and bodies of blocks by their indices.
-use Rattle.jt_ast.specs.StatementView.{parameters_view}
-use Rattle.jt_chains.specs.declared.parts.Macro.{Macro}
-use Rattle.std.proofs.Common.{set, Option, add-one, get_or, suc, zero, Bool, Some, false, if◌then◌else◌, refl, ℕ, true}
-use Rattle.jt_chains.specs.Chain.{BlockBody, Namespace, macro_of}
-use Rattle.jt_semantics.specs.Layout.{Key, first_default, globals_from, index_of, of_macro, slot_in, counted_from}
-use Rattle.jt_semantics.proofs.EnvLookup.{namespace_is, namespace_same, same_text}
-use Rattle.jt_layout.proofs.Vocabulary
-use Vocabulary.{List, [], ap, drop, length, map, subst, sym, ◌++◌, ◌+◌, ◌<◌, ◌||◌, ◌∙◌, ◌∷◌, ◌≡◌, Template, a_chain}
-use Vocabulary.{listed, same_namespace, first_body, next_given, IsNamespaceAt, drop-set, None, arith, rules, drop_more}
-use Vocabulary.{filter, option_map, slice_get, bytes_eq, Text, namespace_at, block_view, macro_view, Block, global}
-use Vocabulary.{first_of, defaults_from, first_namespace, nexts}
+pub mod Vocabulary
+pub use Vocabulary.*
 
 -- Names in slots.
 pub in_slots : (x : Text) (n : ℕ) (xs : List Text) → option_map global (first_of x n xs) ≡ slot_in x (globals_from n xs)
@@ -30,9 +21,7 @@ later_namespace h n (k ∷ hs) = search (arith, rules, later_namespace h (suc n)
 
 from : (h : Namespace) (hs : List Namespace) → IsNamespaceAt hs h (first_namespace h 0 hs)
 from h [] = refl
-from h (k ∷ hs) =
-    subst (λ o. IsNamespaceAt (k ∷ hs) h (if same_namespace k h then Some 0 else o)) (sym (later_namespace h 0 hs))
-    (by (same_namespace k h) refl (first_namespace h 0 hs) (from h hs))
+from h (k ∷ hs) = rw (later_namespace h 0 hs) (by (same_namespace k h) refl (first_namespace h 0 hs) (from h hs))
   where
     by : (b : Bool) → same_namespace k h ≡ b → (o : Option ℕ) → IsNamespaceAt hs h o
         → IsNamespaceAt (k ∷ hs) h (if b then Some 0 else option_map suc o)
@@ -46,13 +35,8 @@ is_namespace h order o e = rw e (from h order)
 
 -- ---- chains and libraries by their indices
 
-pub namespace_get : (hs : List Namespace) (i : ℕ) → get_or hs i (a_chain []) ≡ namespace_at hs i
-namespace_get [] i = refl
-namespace_get (h ∷ hs) zero = refl
-namespace_get (h ∷ hs) (suc i) = namespace_get hs i
-
 pub namespaces_left : (hs : List Namespace) (i : ℕ) → i < length hs → drop i hs ≡ namespace_at hs i ∷ drop (i + 1) hs
-namespaces_left hs i lt = rw (← namespace_get hs i) (drop_more hs i (a_chain []) lt)
+namespaces_left hs i lt = search (arith, rules, drop_more, unwrap_or-slice_get)
 
 -- ---- the first macro of a name
 
@@ -75,8 +59,7 @@ module _ (ts : List Template) (x : Text) where
   pub first_macro : (ms : List Macro) (k : ℕ) → Some k ≡ first_of x 0 (map (λ m. m.name.now) ms) → AtFirst ms k
   first_macro [] k e = absurd (cc)
   first_macro (m ∷ ms) k e =
-      by (bytes_eq m.name.now x) refl (first_of x 0 names) (first_macro ms)
-      (e ∙ ap (λ o. if bytes_eq m.name.now x then Some 0 else o) (later_name x 0 names))
+      by (bytes_eq m.name.now x) refl (first_of x 0 names) (first_macro ms) (rw (later_name x 0 names) at e)
     where
       names : List Text
       names = map (λ (n : Macro). n.name.now) ms
