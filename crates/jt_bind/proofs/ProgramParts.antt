@@ -1,33 +1,78 @@
--- Concatenation of routines, the values at the beginning of a pool, and a program by its parts.
-use Rattle.jt_bind.proofs.LocalCounts.{body_counted}
-use Rattle.jt_ir.specs.Slots as slots
+-- The bodies of blocks by their indices, concatenation of routines, the values at the beginning of a pool, and a
+-- program by its parts.
+pub mod Resolution
+pub use Resolution.*
 use Rattle.jt_semantics.specs.Layout as layout
-use Rattle.jt_semantics.specs.Programs as programs
 use Rattle.jt_ast.specs.Statements.{Body}
-use Rattle.jt_semantics.specs.Resolve.{StaticEnv, chain_routine, resolved_routine}
-use Rattle.jt_ir.specs.View.{body_view, templates_of, program_of}
+use Rattle.jt_semantics.specs.Resolve.{chain_routine, resolved_routine}
 use Rattle.jt_semantics.specs.Programs.{entry_routines}
 use Rattle.jt_layout.specs.NamespaceLayout.{is_library}
-use Rattle.jt_bind.specs.internal
-use internal.{◌≡◌, ℕ, ◌+◌, true, false, List, [], ◌∷◌, ◌++◌, length, map, refl, Vec, Tree, Text, Namespace, a_chain}
-use internal.{a_library, CompileEnv, body_locals, Constant, body_values, SBody, SlotStmt, Routine, IsRoutine}
-use internal.{AreRoutines, RoutinesLead, Emits, ◌<◌, drop, get_or, parameter_view, Template, macro_view, Macro}
-use internal.{default_value, defaults_of, string_bytes, values}
-use Rattle.jt_bind.proofs.Vocabulary
-use Vocabulary.{ap, arith, Global, append_assoc, rules, map-append, drop_more, map-map, append-nil}
-use Rattle.jt_bind.proofs.Concatenation.{body_shown, body_pooled, grown_by, lead_both, lead_none}
 use Rattle.jt_ir.specs.declared.program.Program.{Program}
 
-abbrev pub Planned : Type 0
-Planned = slots.Routine Constant
+-- ---- items of a list by their indices
+
+-- The remaining items from an index on.
+drop_counted : {A : Type 0} (i k : ℕ) (xs : List A) → drop i (counted_from k xs) ≡ counted_from (k + i) (drop i xs)
+drop_counted zero k xs = ap (λ n. counted_from n xs) (omega arith)
+drop_counted (suc i) k [] = refl
+drop_counted (suc i) k (x ∷ xs) = drop_counted i (suc k) xs ∙ ap (λ n. counted_from n (drop i xs)) (omega arith)
+
+-- The first body of a block is an item of the list.
+pub first_within : (p : ℕ × BlockBody → Bool) (k i : ℕ) (bs : List BlockBody)
+    → first_body (filter p (counted_from k bs)) ≡ Some i → i < k + length bs
+first_within p k i [] e = absurd (cc)
+first_within p k i (b ∷ bs) e = search (arith, rules, first_within p (suc k) i bs)
+
+-- No item remains after the last one.
+counted_end : {A : Type 0} (i : ℕ) (xs : List A) → length xs ≤ i → drop i (counted_from 0 xs) ≡ []
+counted_end i xs le = drop_counted i 0 xs ∙ at_drop_all (counted_from (0 + i)) xs i le
+
+next_of : (r : Bool) (k n m : ℕ) (o : Option ℕ) → (if r then o else Some k) ≡ Some n → k < m → (o ≡ Some n → n < m)
+    → n < m
+next_of r k n m o e lt f = search (arith, rules)
+
+-- The next body of a block that is not required is an item of the list.
+next_within : (p : ℕ × BlockBody → Bool) (k n : ℕ) (bs : List BlockBody)
+    → next_given (filter p (counted_from k bs)) ≡ Some n → n < k + length bs
+next_within p k n [] e = absurd (cc)
+next_within p k n (b ∷ bs) e = search (arith, rules, next_within p (suc k) n bs, next_of)
+
+-- ---- the bodies of a chain's blocks, by their indices
+
+module _ (s : Chains) (us : List Block) (all : map (block_view (files_in s)) us
+    ≡ all_bodies (cenv_in s).sources (cenv_in s).escaping (namespace_in s)) where
+  abbrev shown : Block → BlockBody
+  shown = block_view (files_in s)
+
+  abbrev numbered : List (ℕ × BlockBody)
+  numbered = numbered_in s
+
+  pub numbered_next : (i : ℕ) (x : Block) → i < length us → x ≡ get_or us i x
+      → drop i numbered ≡ (i, shown x) ∷ drop (i + 1) numbered
+  numbered_next i x lt is =
+      rw (← all, drop_counted i 0 (map shown us), drop_counted (i + 1) 0 (map shown us))
+      (simp (drop-map, drop_more us i x lt, ← is, zero-add, add-one))
+
+  pub numbered_end : (i : ℕ) → length us ≤ i → drop i numbered ≡ []
+  numbered_end i h = search (arith, rules, length-map, counted_end)
+
+  -- The next body of a block has a number.
+  pub next_numbered : (p : ℕ × BlockBody → Bool) (i k : ℕ) → i < length us
+      → next_given (filter p (drop (i + 1) numbered)) ≡ Some k → k < length us
+  next_numbered p i k lt e =
+      let bs = all_bodies (cenv_in s).sources (cenv_in s).escaping (namespace_in s) in
+      let found : k < 0 + (i + 1) + length (drop (i + 1) bs) = next_within p (0 + (i + 1)) k (drop (i + 1) bs)
+      (ap (λ (z : List (ℕ × BlockBody)). next_given (filter p z)) (sym (drop_counted (i + 1) 0 bs)) ∙ e) in
+      let long : length us ≡ length bs = sym (length-map us shown) ∙ ap length all in
+      omega (arith, length-drop (i + 1) bs)
 
 module _ (templates : List Text) where
   -- The locals that were counted.
-  pub locals_same : (w : SBody Constant) (ss : List SlotStmt) (p q : List Tree) (n : ℕ) → Emits templates w [] ss p q
-      → n ≡ body_locals (body_view templates ss slots.end) → n ≡ body_locals w
+  pub locals_same : (w : Stmts) (ss : List SlotStmt) (p q : List Tree) (n : ℕ) → Emits templates w [] ss p q
+      → n ≡ body_locals (ir.body_view templates ss slots.end) → n ≡ body_locals w
   locals_same w ss p q n h counted = rw (← body_counted w (length p), ← body_shown templates w ss p q h) counted
 
-  pub routine_made : (parameters count : ℕ) (w : SBody Constant) (body : Vec SlotStmt Global) (n m : ℕ)
+  pub routine_made : (parameters count : ℕ) (w : Stmts) (body : Vec SlotStmt Global) (n m : ℕ)
       (p q : List Tree)
       → Emits templates w [] body.items p q → parameters ≡ count → n ≡ m
       → IsRoutine templates (record { parameters = count; locals = m; body = w })
@@ -95,10 +140,10 @@ abbrev made : List Text → ℕ → List Tree → List (slots.Routine ℕ) → s
 made names globals pool routines = record { names = names; globals = globals; pool = pool; routines = routines }
 
 module _ (cenv : CompileEnv) (order : List Namespace) (entry : Namespace) (ts : List Text) (p : Program) where
-  pub program_is : templates_of p ≡ ts → map string_bytes p.names.items ≡ layout.names cenv order entry
+  pub program_is : ir.templates_of p ≡ ts → map string_bytes p.names.items ≡ layout.names cenv order entry
       → p.globals ≡ programs.count_globals cenv order order
       → (front : List Tree) → front ≡ layout.shared cenv order
       → RoutinesLead ts (programs.routines cenv order) [] [] p.routines.items front (values p.pool)
-      → program_of p ≡ programs.program cenv order entry
+      → ir.program_of p ≡ programs.program cenv order entry
   program_is templates names globals front shared r =
       let routines = rw append-nil at r.shown in let pooled = rw append-nil at r.pooled in search (arith, rules)

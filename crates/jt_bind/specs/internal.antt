@@ -1,10 +1,6 @@
 pub mod Names
 pub mod Resolving
-pub mod Scoped
 pub mod Selected
-pub mod Vocabulary
 pub use Names.*
 pub use Resolving.*
-pub use Scoped.*
 pub use Selected.*
-pub use Vocabulary.*

@@ -2,12 +2,11 @@
 
 ghost use Rattle.jt_semantics.specs.Resolve as resolve;
 ghost use Rattle.jt_eval.specs.TheFilters as the;
-ghost use Rattle.jt_ir.specs.Slots as slots;
 ghost use Rattle.std.specs.Prelude.{◌≡◌};
-ghost use Rattle.jt_bind.specs.internal.{IfOk, List, drop, length, pairs_view, parameter_view};
-ghost use Rattle.jt_bind.specs.internal.{parameters_view, among, RowAdds, by_name, filled_of};
-ghost use Rattle.jt_bind.specs.internal.{kept_of, IsAdded, RowLeads, keywords, default_value};
-ghost use Rattle.jt_bind.specs.internal.{some_given, own, slot_in, Tree};
+ghost use Rattle.jt_bind.specs.internal.{none, IfOk, List, drop, length, pairs_view};
+ghost use Rattle.jt_bind.specs.internal.{parameter_view, parameters_view, among, RowAdds, by_name};
+ghost use Rattle.jt_bind.specs.internal.{filled_of, kept_of, IsAdded, RowLeads, keywords};
+ghost use Rattle.jt_bind.specs.internal.{default_value, some_given, own, slot_in, Tree};
 
 use crate::Result;
 use crate::callee::Signature;
@@ -34,7 +33,7 @@ impl<'t, 'f, 's, 'a> Resolver<'t, 'f, 's, 'a> {
         done: &mut Row,
     ) -> Result<()>
         ensures { IfOk result (λ u. (p : List Tree) → RowLeads (filled_of self.now signature.entry
-            arguments.entry) slots.none done.old.items done.new.items p p) }
+            arguments.entry) none done.old.items done.new.items p p) }
     {
         let given = arguments.row.len();
         let mut default = checked_sum(signature.first_default, given)?;
@@ -58,7 +57,7 @@ impl<'t, 'f, 's, 'a> Resolver<'t, 'f, 's, 'a> {
     ) -> Result<()>
         ensures { IfOk result (λ u. RowAdds (resolve.filled_some (the.filter_parameters filter)
             (length arguments.entry.row.now) (keywords (by_name arguments.entry))
-            (kept_of self.now (by_name arguments.entry))) slots.none done.old done.new pool.old
+            (kept_of self.now (by_name arguments.entry))) none done.old done.new pool.old
             pool.new) }
     {
         let parameters = filter_parameters(self.alloc, filter)?;

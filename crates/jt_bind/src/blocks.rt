@@ -1,8 +1,7 @@
 //! Resolves calls of the bodies of blocks.
 
-ghost use Rattle.jt_semantics.specs.Resolve as resolve;
 ghost use Rattle.std.specs.Prelude.{◌≡◌};
-ghost use Rattle.jt_bind.specs.internal.{IfOk, texts, block_of, super_of, table_of, IsRow};
+ghost use Rattle.jt_bind.specs.internal.{reads, IfOk, texts, block_of, super_of, table_of, IsRow};
 ghost use Rattle.jt_bind.specs.internal.{PutsNone, first_unit_in, parameters_in};
 
 use crate::Result;
@@ -15,6 +14,7 @@ use jt_layout::checked_sum;
 
 impl<'f, 'a> Tables<'f, 'a> {
     /// Returns the unit of the first body of a block, if the block has one.
+    #[tactic(auto, using(crate::proofs::first_within, crate::proofs::list_lemmas))]
     pub(crate) fn first_body(&self, name: &str) -> Result<Option<usize>>
         ensures { IfOk result (λ u. u ≡ first_unit_in self.now name.now) }
     {
@@ -41,7 +41,7 @@ impl<'t, 'f, 's, 'a> Resolver<'t, 'f, 's, 'a> {
     /// Returns the arguments for the bodies of a block: reads of their parameters.
     pub(crate) fn block_arguments(&self, name: &str) -> Result<Row>
         ensures { IfOk result (IsRow
-            (resolve.reads (table_of self.now) (parameters_in self.now.tables.now name.now))) }
+            (reads (table_of self.now) (parameters_in self.now.tables.now name.now))) }
     {
         self.reads(self.tables.block_parameters(name))
     }

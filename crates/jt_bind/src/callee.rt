@@ -38,6 +38,7 @@ pub(crate) enum Callee<'s> {
 
 impl<'f, 'a> Tables<'f, 'a> {
     /// Returns the callee that the expression before the arguments of a call names.
+    #[tactic(auto, using(crate::proofs::expression_views))]
     #[inline(never)]
     pub(crate) fn callee_of<'s>(&'s self, called: &'s Expr) -> Result<Callee<'s>>
         ensures { IfOk result (λ k. IsCalled self.now (expr_view called.now) k) }
@@ -100,7 +101,7 @@ impl<'f, 'a> Tables<'f, 'a> {
     }
 
     /// Returns the macro `name` of a library, if the library is laid out.
-    #[tactic(auto, using(crate::proofs::CallResolution::nowhere))]
+    #[tactic(auto, using(crate::proofs::nowhere))]
     fn library_macro<'s>(&'s self, library: &str, name: &str) -> Result<Callee<'s>>
         ensures { IfOk result (λ k. IsLaidThere (cenv_in self.now) (order_in self.now)
             (chain.a_library library.now) name.now → IsMacroOf self.now

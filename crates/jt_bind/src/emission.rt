@@ -1,14 +1,12 @@
 //! Appends resolved statements to others.
 
-ghost use Rattle.jt_value.specs.Tree as tree;
 ghost use Rattle.jt_ast.specs.Statements as trees;
 ghost use Rattle.jt_ir.specs.Slots as slots;
 ghost use Rattle.jt_ir.specs.declared.program.SlotStmt.TheVariants as s;
 ghost use Rattle.std.specs.Prelude.{if◌then◌else◌, ◌++◌, ◌∷◌, ◌≡◌};
-ghost use Rattle.jt_semantics.specs.Resolve as resolve;
-ghost use Rattle.jt_bind.specs.internal.{alone, IfOk, List, [], IsShown, PutsStmt, templates_of};
-ghost use Rattle.jt_bind.specs.internal.{Emits, line_of, place_of, Constant, PutsNone, assigned};
-ghost use Rattle.jt_bind.specs.internal.{slot_after, slot_in, slot_view, table_of, texts};
+ghost use Rattle.jt_bind.specs.internal.{Tree, read_from, alone, IfOk, List, [], IsShown, PutsStmt};
+ghost use Rattle.jt_bind.specs.internal.{templates_of, Emits, line_of, place_of, Term, PutsNone};
+ghost use Rattle.jt_bind.specs.internal.{assigned, slot_after, slot_in, slot_view, table_of, texts};
 
 use crate::Result;
 use crate::held::Held;
@@ -40,7 +38,7 @@ impl<'t, 'f, 's, 'a> Resolver<'t, 'f, 's, 'a> {
     /// Emits a print of a value.
     #[inline(never)]
     pub(crate) fn put_print(&self, line: u32, value: SlotExpr, done: &mut SlotBody) -> Result<()>
-        ensures { IfOk result (λ u. (c : slots.SlotExpr Constant) (p q : List tree.Tree)
+        ensures { IfOk result (λ u. (c : Term) (p q : List Tree)
             → IsShown c value p q → Emits (templates_of self.now) (alone (slots.print
             (line_of self.now line) self.now.senv.escaping c)) done.old.items done.new.items p q) }
     {
@@ -50,7 +48,7 @@ impl<'t, 'f, 's, 'a> Resolver<'t, 'f, 's, 'a> {
 
     /// Returns a read of the name if `with_context` is true, or else the undefined value.
     fn handed(&self, with_context: bool, name: &str) -> SlotExpr
-        ensures { PutsNone (resolve.read_from
+        ensures { PutsNone (read_from
             (slot_in name.now (if with_context then table_of self.now else []))) result }
     {
         if with_context {
@@ -71,7 +69,7 @@ impl<'t, 'f, 's, 'a> Resolver<'t, 'f, 's, 'a> {
         first: Slot,
         done: &mut SlotBody,
     ) -> Result<()>
-        ensures { IfOk result (λ u. (p : List tree.Tree) → Emits (templates_of self.now)
+        ensures { IfOk result (λ u. (p : List Tree) → Emits (templates_of self.now)
             (assigned (line_of self.now line) (if with_context then table_of self.now else [])
             (slot_view first) (texts names.now)) done.old.items done.new.items p p) }
     {

@@ -2,14 +2,12 @@
 
 ghost use Rattle.jt_ast.specs.ExpressionView.{expr_view};
 ghost use Rattle.jt_ast.specs.Expressions as trees;
-ghost use Rattle.jt_semantics.specs.Resolve as resolve;
-ghost use Rattle.jt_ids.specs.declared.op_id.OpId.TheVariants as op;
 ghost use Rattle.jt_ir.specs.Slots as slots;
-ghost use Rattle.jt_bind.specs.internal.{filter_row_of, entries_of, IfOk, Some, length, exprs_view};
-ghost use Rattle.jt_bind.specs.internal.{is_negated, literal_view, pairs_view, IsResolved, RowAdds};
-ghost use Rattle.jt_bind.specs.internal.{RowPuts, asides_of, by_name, by_position, filled_of};
-ghost use Rattle.jt_bind.specs.internal.{expr_of, given_of, row_of, IsAdded, turn_in, literal};
-ghost use Rattle.jt_bind.specs.internal.{filter_id, own, nary_op_view};
+ghost use Rattle.jt_bind.specs.internal.{cycle_of, none, filter_row_of, entries_of, IfOk, Some};
+ghost use Rattle.jt_bind.specs.internal.{length, exprs_view, is_negated, literal_view, pairs_view};
+ghost use Rattle.jt_bind.specs.internal.{IsResolved, RowAdds, RowPuts, asides_of, by_name};
+ghost use Rattle.jt_bind.specs.internal.{by_position, filled_of, expr_of, given_of, row_of};
+ghost use Rattle.jt_bind.specs.internal.{IsAdded, literal, filter_id, own, nary_op_view};
 
 use crate::Result;
 use crate::callee::{Callee, Signature};
@@ -32,7 +30,7 @@ use std::slice;
 
 impl<'t, 'f, 's, 'a> Resolver<'t, 'f, 's, 'a> {
     /// Resolves an expression.
-    #[tactic(auto, using(jt_ast::proofs::ExpressionViews::view_List, jt_ast::proofs::ExpressionViews::view_Map, jt_ast::proofs::ExpressionViews::view_Attribute, jt_ast::proofs::ExpressionViews::view_Item, jt_ast::proofs::ExpressionViews::view_Unary, jt_ast::proofs::ExpressionViews::view_Binary, jt_ast::proofs::ExpressionViews::view_When, jt_ast::proofs::ExpressionViews::view_Choice))]
+    #[tactic(auto, using(crate::proofs::expression_views, crate::proofs::expression_depths))]
     #[cycle(expressions)]
     pub(crate) fn resolve_expression(&self, expr: &Expr, pool: &mut Pool) -> Result<SlotExpr>
         ensures { IfOk result (λ e. IsResolved self.now (expr_view expr.now) e pool.old pool.new) }
@@ -105,7 +103,7 @@ impl<'t, 'f, 's, 'a> Resolver<'t, 'f, 's, 'a> {
     ) -> Result<SlotExpr>
         ensures { IfOk result (λ e. IsAdded (slots.made (nary_op_view op)
             (row_of self.now (exprs_view first.now) (row_of self.now (exprs_view rest.now)
-            slots.none))) e pool.old pool.new) }
+            none))) e pool.old pool.new) }
     {
         let mut operands = Held {
             part: Vec::with_capacity(self.alloc, first.len() + rest.len())?,
@@ -281,7 +279,7 @@ impl<'t, 'f, 's, 'a> Resolver<'t, 'f, 's, 'a> {
         pool: &mut Pool,
     ) -> Result<()>
         ensures { IfOk result (λ u. RowAdds (filter_row_of self.now (Some (filter_id filter))
-            arguments.entry) slots.none done.old done.new pool.old pool.new) }
+            arguments.entry) none done.old done.new pool.old pool.new) }
     {
         self.resolve_given(arguments, done, pool)?;
         self.fill_filter(filter, arguments, done, pool)
@@ -342,9 +340,9 @@ impl<'t, 'f, 's, 'a> Resolver<'t, 'f, 's, 'a> {
     #[cycle(expressions)]
     #[inline(never)]
     fn resolve_cycle(&self, row: &[Expr], pool: &mut Pool) -> Result<SlotExpr>
-        ensures { IfOk result (λ e. IsAdded (resolve.operation_of op.Item
-            (expr_of self.now (trees.list_of (exprs_view row.now)))
-            (turn_in (length row.now))) e pool.old pool.new) }
+        ensures { IfOk result (λ e. IsAdded (cycle_of
+            (expr_of self.now (trees.list_of (exprs_view row.now))) (length row.now)) e pool.old
+            pool.new) }
     {
         // Without `resolve_made`, each level of nested calls has a frame less.
         let mut items = Held {
@@ -410,7 +408,7 @@ impl<'t, 'f, 's, 'a> Resolver<'t, 'f, 's, 'a> {
         done: &mut Row,
         pool: &mut Pool,
     ) -> Result<()>
-        ensures { IfOk result (λ u. RowAdds (entries_of self.now (pairs_view pairs.now)) slots.none
+        ensures { IfOk result (λ u. RowAdds (entries_of self.now (pairs_view pairs.now)) none
             done.old done.new pool.old pool.new) }
     {
         for (key, value) in pairs {

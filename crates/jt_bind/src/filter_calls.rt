@@ -1,10 +1,9 @@
 //! Resolves the filters of a filter tag.
 
-ghost use Rattle.jt_ir.specs.Slots as slots;
 ghost use Rattle.std.specs.Prelude.{◌∷◌, ◌≡◌};
-ghost use Rattle.jt_bind.specs.internal.{[], filters_of, IfOk, List, length, filter_call_view};
-ghost use Rattle.jt_bind.specs.internal.{filter_calls_view, IsPlaced, values, Constant};
-ghost use Rattle.jt_bind.specs.internal.{filtered_view, slot_view, Tree};
+ghost use Rattle.jt_bind.specs.internal.{variable, [], filters_of, IfOk, List, length};
+ghost use Rattle.jt_bind.specs.internal.{filter_call_view, filter_calls_view, IsPlaced, values};
+ghost use Rattle.jt_bind.specs.internal.{Term, filtered_view, slot_view, Tree};
 
 use crate::Result;
 use crate::lookup::absent;
@@ -16,6 +15,7 @@ use jt_ir::{Filtered, Slot, SlotExpr, SlotFilter};
 
 impl<'t, 'f, 's, 'a> Resolver<'t, 'f, 's, 'a> {
     /// Returns the value of a slot with the filters of a tag, which are applied in order.
+    #[tactic(auto, using(crate::proofs::filters_next, crate::proofs::view_Variable, crate::proofs::list_lemmas))]
     #[inline(never)]
     pub(crate) fn resolve_filter_calls(
         &self,
@@ -24,7 +24,7 @@ impl<'t, 'f, 's, 'a> Resolver<'t, 'f, 's, 'a> {
         pool: &mut Pool,
     ) -> Result<Filtered>
         ensures { IfOk result (λ v. IsPlaced (filters_of self.now
-            (filter_calls_view filter_calls.now) (slots.variable (slot_view value)))
+            (filter_calls_view filter_calls.now) (variable (slot_view value)))
             (filtered_view v) (values pool.old) (values pool.new)) }
     {
         let start = pool.len();
@@ -47,7 +47,7 @@ impl<'t, 'f, 's, 'a> Resolver<'t, 'f, 's, 'a> {
         done: &mut Filtered,
         pool: &mut Pool,
     ) -> Result<()>
-        ensures { IfOk result (λ u. (c : slots.SlotExpr Constant) (p : List Tree) → length p ≡ start
+        ensures { IfOk result (λ u. (c : Term) (p : List Tree) → length p ≡ start
             → IsPlaced c (filtered_view done.old) p (values pool.old) → IsPlaced
             (filters_of self.now (filter_call_view filter_call.now ∷ []) c)
             (filtered_view done.new) p (values pool.new)) }

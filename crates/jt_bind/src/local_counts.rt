@@ -2,12 +2,12 @@
 //! loaded. A function that takes `last`, the last local before, returns the last one after a part.
 
 ghost use Rattle.jt_ir.specs.Locals as locals;
-ghost use Rattle.jt_ir.specs.Slots as slots;
 ghost use Rattle.jt_ir.specs.View.{body_view};
 ghost use Rattle.std.specs.Prelude.{◌≡◌};
-ghost use Rattle.jt_bind.specs.internal.{IfOk, List, map, max, option_map, Text, expr_view};
-ghost use Rattle.jt_bind.specs.internal.{filtered_view, row_view, slot_view, targets_view};
-ghost use Rattle.jt_bind.specs.internal.{stmt_view, branches_locals, target_locals, up_to, Reaches};
+ghost use Rattle.jt_bind.specs.internal.{none, end, IfOk, List, map, max, option_map, Text};
+ghost use Rattle.jt_bind.specs.internal.{expr_view, filtered_view, row_view, slot_view};
+ghost use Rattle.jt_bind.specs.internal.{targets_view, stmt_view, branches_locals, target_locals};
+ghost use Rattle.jt_bind.specs.internal.{up_to, Reaches};
 
 use crate::Result;
 use jt_ir::{Filtered, Slot, SlotBranch, SlotExpr, SlotStmt, Targets};
@@ -46,7 +46,7 @@ fn local_of(slot: Option<Slot>) -> Option<usize>
 }
 
 /// Returns the last local after slots.
-#[tactic(auto, using(crate::proofs::LocalCounts::slots_step))]
+#[tactic(auto, using(crate::proofs::slots_step))]
 fn last_of_slots(slots: &[Option<Slot>], last: Option<usize>) -> Option<usize>
     ensures { up_to result ≡ max (up_to last)
         (locals.slots_locals (map (option_map slot_view) slots.now)) }
@@ -96,7 +96,7 @@ fn last_of_expr(expr: &SlotExpr, last: Option<usize>) -> Option<usize>
 #[cycle(expressions)]
 fn last_of_row(row: &[(Option<usize>, SlotExpr)], last: Option<usize>) -> Option<usize>
     ensures { up_to result ≡ max (up_to last)
-        (locals.row_locals (row_view row.now slots.none)) }
+        (locals.row_locals (row_view row.now none)) }
 {
     let mut latest = last;
     for (kept, expr) in row {
@@ -150,28 +150,23 @@ fn last_of_stmt(statement: &SlotStmt, last: Option<usize>) -> Option<usize>
 {
     match statement {
         SlotStmt::PutPooled(_) => last,
-        SlotStmt::Print {
-            value: filtered,
-            ..
-        } => last_of_filtered(filtered, last),
-        SlotStmt::Assign {
-            targets,
-            value: expr,
-            ..
-        } => last_of_expr(expr, last_of_targets(targets, last)),
+        SlotStmt::Print { value, .. } => last_of_filtered(value, last),
+        SlotStmt::Assign { targets, value, .. } => {
+            last_of_expr(value, last_of_targets(targets, last))
+        }
         SlotStmt::If(branches, other) => {
             let first = last_of_branches(branches, last);
             last_of_body(other, first)
         }
         SlotStmt::For {
             targets,
-            over: items,
+            over,
             condition,
             body,
             other,
             ..
         } => {
-            let given = last_of_expr(items, last_of_targets(targets, last));
+            let given = last_of_expr(over, last_of_targets(targets, last));
             let asked = last_of_condition(condition, given);
             let turn = last_of_body(body, asked);
             last_of_body(other, turn)
@@ -200,7 +195,7 @@ fn last_of_body(body: &[SlotStmt], last: Option<usize>) -> Option<usize>
 /// Counts the locals of statements.
 pub(crate) fn body_locals(body: &[SlotStmt]) -> Result<usize>
     ensures { IfOk result (λ n. (templates : List Text)
-        → n ≡ locals.body_locals (body_view templates body.now slots.end)) }
+        → n ≡ locals.body_locals (body_view templates body.now end)) }
 {
     count_of(last_of_body(body, None))
 }

@@ -3,12 +3,11 @@
 ghost use Rattle.jt_semantics.specs.Operators as operators;
 ghost use Rattle.jt_semantics.specs.Resolve as resolve;
 ghost use Rattle.jt_ir.specs.Slots as slots;
-ghost use Rattle.jt_ids.specs.declared.op_id.OpId.TheVariants as op;
-ghost use Rattle.jt_value.specs.Tree as tree;
 ghost use Rattle.std.specs.Prelude.{IfErr, pos, ◌≡◌, ◌≤◌, ◌^◌};
-ghost use Rattle.jt_bind.specs.internal.{IfOk, List, literal_view, parameter_view, form_view};
-ghost use Rattle.jt_bind.specs.internal.{shortcut_view, IsAdded, IsShown, MadeOfOne, turn_in};
-ghost use Rattle.jt_bind.specs.internal.{values, default_value, literal, Constant, Tree, view};
+ghost use Rattle.jt_bind.specs.internal.{number, cycle_of, IfOk, List, literal_view};
+ghost use Rattle.jt_bind.specs.internal.{parameter_view, form_view, shortcut_view, IsAdded};
+ghost use Rattle.jt_bind.specs.internal.{IsShown, MadeOfOne, turn_in, values, default_value};
+ghost use Rattle.jt_bind.specs.internal.{literal, Term, Tree, view};
 
 use crate::Result;
 use crate::held::Held;
@@ -128,7 +127,7 @@ pub(crate) fn on_one(alloc: Global, op: OpId, operand: SlotExpr) -> Result<SlotE
 /// Returns the expression that applies `op` to `left` and `right`.
 #[inline(never)]
 pub(crate) fn on_two(alloc: Global, op: OpId, left: SlotExpr, right: SlotExpr) -> Result<SlotExpr>
-    ensures { IfOk result (λ e. (a b : slots.SlotExpr Constant) (p q r : List Tree)
+    ensures { IfOk result (λ e. (a b : Term) (p q r : List Tree)
         → IsShown a left p q → IsShown b right q r → IsShown (resolve.operation_of op a b) e p r) }
 {
     Ok(SlotExpr::Made(
@@ -155,7 +154,7 @@ pub(crate) fn shortcut(
     left: Held<Box<SlotExpr>>,
     right: Held<Box<SlotExpr>>,
 ) -> SlotExpr
-    ensures { (a b : slots.SlotExpr Constant) (p q r : List Tree) → IsShown a left.part.value p q
+    ensures { (a b : Term) (p q r : List Tree) → IsShown a left.part.value p q
         → IsShown b right.part.value q r
         → IsShown (resolve.in_form (shortcut_view is_conjunction) a b) result p r }
 {
@@ -172,7 +171,7 @@ pub(crate) fn chosen(
     value: Held<Box<SlotExpr>>,
     other: Held<Box<SlotExpr>>,
 ) -> SlotExpr
-    ensures { (c a b : slots.SlotExpr Constant) (p q r s : List Tree) → IsShown c
+    ensures { (c a b : Term) (p q r s : List Tree) → IsShown c
         condition.part.value p q → IsShown a value.part.value q r → IsShown b other.part.value r s →
         IsShown (slots.choice c a b) result p s }
 {
@@ -206,9 +205,9 @@ pub(crate) fn item_in_turn(
     count: usize,
     pool: &mut Pool,
 ) -> Result<SlotExpr>
-    ensures { IfOk result (λ e. (a : slots.SlotExpr Constant) (p : List Tree)
+    ensures { IfOk result (λ e. (a : Term) (p : List Tree)
         → IsShown a items p (values pool.old)
-        → IsShown (resolve.operation_of op.Item a (turn_in count)) e p (values pool.new)) }
+        → IsShown (cycle_of a count) e p (values pool.new)) }
 {
     let turn = turn_among(alloc, count, pool)?;
     on_two(alloc, OpId::Item, items, turn)
@@ -216,7 +215,7 @@ pub(crate) fn item_in_turn(
 
 /// Returns a count as a value.
 fn number_of(count: usize) -> Result<Value>
-    ensures value { IfOk result (λ v. view v ≡ tree.number (pos count)) }
+    ensures value { IfOk result (λ v. view v ≡ number (pos count)) }
     ensures large { IfErr result (λ _. 2 ^ 63 ≤ count) }
 {
     match i64::try_from(count) {

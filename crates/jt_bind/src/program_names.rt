@@ -45,6 +45,7 @@ pub(crate) fn entry_names(alloc: Global, tables: &Tables<'_, '_>) -> Result<Vec<
 }
 
 /// Returns the number of globals of the chains.
+#[tactic(auto, using(crate::proofs::namespaces_left, crate::proofs::list_lemmas))]
 pub(crate) fn count_globals(tables: &Tables<'_, '_>) -> Result<usize>
     ensures { IfOk result (λ n. n ≡ programs.count_globals (cenv_in tables.now)
         (order_in tables.now) (order_in tables.now)) }

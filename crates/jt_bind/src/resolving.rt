@@ -22,7 +22,7 @@ use std::alloc::Global;
 /// # Errors
 ///
 /// `NoMemory` if a growth is refused or a number overflows.
-#[tactic(auto, using(crate::proofs::ProgramParts::program_is))]
+#[tactic(auto, using(crate::proofs::program_is))]
 pub fn resolved(alloc: Global, facts: &ChainFacts<'_>) -> Result<Program, NoMemory>
     requires { AllKnown facts.now }
     ensures { IfOk result (λ made. program_of made

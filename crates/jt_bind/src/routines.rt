@@ -71,7 +71,7 @@ impl<'t, 'f, 's, 'a> Resolver<'t, 'f, 's, 'a> {
 
     /// Resolves the statements of a template of a chain, and appends them. If the template is not
     /// the root, only the statements that set names are resolved.
-    #[tactic(auto, using(crate::proofs::Concatenation::emits_of))]
+    #[tactic(auto, using(crate::proofs::emits_of))]
     fn resolve_layer(
         &self,
         body: &'a [Stmt],

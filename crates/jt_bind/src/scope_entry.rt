@@ -19,7 +19,7 @@ pub(crate) struct EnteredScope<'a> {
 
 /// Returns the scopes of the environment with one more, the innermost. The added scope keeps
 /// `names` in locals from the first free one on.
-#[tactic(auto, using(crate::proofs::PlacesAndScopes::entered_more, std::proofs::lemmas::List::take_all))]
+#[tactic(auto, using(crate::proofs::entered_more, std::proofs::lemmas::List::take_all))]
 fn framed_by<'a>(
     alloc: Global,
     senv: &StaticEnv<'_, 'a>,
@@ -39,6 +39,7 @@ fn framed_by<'a>(
 }
 
 /// Enters a scope with the names `names`.
+#[tactic(auto, using(crate::proofs::senv_bound, crate::proofs::list_lemmas))]
 #[inline(never)]
 pub(crate) fn entered<'a>(
     alloc: Global,

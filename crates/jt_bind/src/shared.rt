@@ -37,7 +37,7 @@ fn add_macros(alloc: Global, macros: &[Macro<'_>], pool: &mut Pool) -> Result<()
 }
 
 /// Returns a pool that holds the undefined value and the defaults of all macros.
-#[tactic(auto, using(crate::proofs::ProgramParts::part_put, jt_layout::proofs::FirstOccurrences::namespaces_left))]
+#[tactic(auto, using(crate::proofs::part_put, crate::proofs::namespaces_left))]
 pub(crate) fn shared_values(alloc: Global, tables: &Tables<'_, '_>) -> Result<Pool>
     ensures { IfOk result
         (λ vs. values vs ≡ layout.shared (cenv_in tables.now) (order_in tables.now)) }

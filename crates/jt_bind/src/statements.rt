@@ -47,7 +47,7 @@ impl<'t, 'f, 's, 'a> Resolver<'t, 'f, 's, 'a> {
     }
 
     /// Resolves a statement and appends it to `done`.
-    #[tactic(auto, using(jt_ast::proofs::StatementViews::view_If, jt_ast::proofs::StatementViews::view_Print, jt_ast::proofs::StatementViews::view_For, jt_ast::proofs::StatementViews::view_With, jt_ast::proofs::StatementViews::view_FilterBlock, jt_ast::proofs::StatementViews::view_Data, jt_ast::proofs::StatementViews::view_Autoescape, jt_ast::proofs::StatementViews::view_Macro, jt_ast::proofs::StatementViews::view_Import, jt_ast::proofs::StatementViews::view_From, jt_ast::proofs::StatementViews::view_Extends, crate::proofs::Concatenation::emits_nothing))]
+    #[tactic(auto, using(crate::proofs::statement_views, crate::proofs::emits_nothing))]
     #[cycle(statements)]
     #[inline(never)]
     pub(crate) fn resolve_statement(
@@ -104,6 +104,7 @@ impl<'t, 'f, 's, 'a> Resolver<'t, 'f, 's, 'a> {
     }
 
     /// Resolves a statement if it sets names, and appends it to `done`.
+    #[tactic(auto, using(crate::proofs::statement_views))]
     #[cycle(statements)]
     #[inline(never)]
     pub(crate) fn resolve_if_set(

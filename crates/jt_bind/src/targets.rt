@@ -14,6 +14,7 @@ use std::alloc::Global;
 
 impl<'t, 'f, 's, 'a> Resolver<'t, 'f, 's, 'a> {
     /// Returns the slot of a name that is set, or local 0 if it has none.
+    #[tactic(auto, using(crate::proofs::slot_of_found, crate::proofs::viewed_or))]
     pub(crate) fn set_slot(&self, name: &str) -> Slot
         ensures { slot_view result ≡ resolve.slot_of name.now (table_of self.now) }
     {

@@ -1,47 +1,29 @@
 -- The resolved statements and routines of a chain, and the resolved parts in the environment of a
 -- resolver. Only private clauses cite this module.
+pub mod Scoped
+pub use Scoped.*
 use Rattle.jt_ir.specs.Pool.{placed_routine, placed_routines, routines_values}
 use Rattle.jt_bind.specs.declared.emission.LoopHead.{LoopHead}
-use Rattle.jt_bind.specs.internal.Selected.{Chains}
-use Rattle.jt_ast.specs.Statements as trees
-use Rattle.jt_ast.specs.Expressions as expressions
-use Rattle.jt_value.specs.Place as place
-use Rattle.jt_ir.specs.Slots as slots
-use Rattle.jt_semantics.specs.Resolve as resolve
-use Rattle.jt_semantics.specs.Programs as programs
-use Rattle.jt_chains.specs.Chain as chain
-use Rattle.jt_ast.specs.Statements.{Branches}
-use Rattle.jt_ir.specs.declared.program.SlotExpr.{SlotExpr}
-use Rattle.jt_ir.specs.declared.program.Place.{Place}
-use Rattle.std.specs.Prelude.{◌≡◌, ◌+◌, ◌++◌, if◌then◌else◌}
-use Rattle.jt_bind.specs.internal.Vocabulary
-use Vocabulary.{ℕ, Bool, List, [], map, length, Option, option_map, Tree, Text, Template, layer_view, Layer, Constant}
-use Vocabulary.{condition_values, body_values, placed_condition, placed_body, SBody, Front, place_view, targets_view}
-use Vocabulary.{expr_view, choice_view, SlotBranch, SlotStmt, followed, Turns, StaticEnv, MacroBody, BlockBody, Vec}
-use Vocabulary.{Value, macros, routine_view, Routine, exprs_view, pairs_view, parameters_view, count, keywords}
-use Vocabulary.{set_in, CompileEnv, Namespace, SRow, Table, filled_some, locals_from, Signature, Arguments, Resolver}
-use Rattle.jt_bind.specs.internal.Scoped.{files_in, IsPlaced, BodyLeads, cenv_in, order_in, namespace_in, templates_in}
-use Rattle.jt_bind.specs.internal.Scoped.{numbered_in, values, IsAdded, RowLeads, senv_in, Leads, Appended}
-use Rattle.std.specs.declared.alloc.Global.{Global}
+use Rattle.jt_ir.specs.declared.program.Place as code
 use Rattle.jt_semantics.specs.Expressions.{filter_parameters}
 
 -- ---- the values at the end of a pool that grows from one list of values to another
 
 -- The statements `whole` are emitted: `after` is `before` followed by them, and the pool grows by
 -- their values, whatever is left to come after them.
-abbrev pub Emits : List Text → SBody Constant → List SlotStmt → List SlotStmt → List Tree
+abbrev pub Emits : List Text → Stmts → List SlotStmt → List SlotStmt → List Tree
     → List Tree → Type 0
 Emits templates whole before after old new =
-    (left : SBody Constant) → BodyLeads templates (followed whole left) left before after old new
+    (left : Stmts) → BodyLeads templates (followed whole left) left before after old new
 
 -- A condition, if there is one.
-pub record IsAsked (k : Option (slots.SlotExpr Constant)) (condition : Option SlotExpr) (old new : List Tree) : Type
+pub record IsAsked (k : Option Term) (condition : Option SlotExpr) (old new : List Tree) : Type
     0 where
   pub shown : option_map expr_view condition ≡ placed_condition k (length old)
   pub pooled : new ≡ old ++ condition_values k
 
 -- The head of a loop: targets, items and condition.
-pub record IsHead (xs : slots.Targets) (c : slots.SlotExpr Constant) (k : Option (slots.SlotExpr Constant))
+pub record IsHead (xs : slots.Targets) (c : Term) (k : Option Term)
     (h : LoopHead) (old new : List Tree) : Type 0 where
   pub given : List Tree
   pub takes : targets_view h.targets ≡ xs
@@ -49,13 +31,13 @@ pub record IsHead (xs : slots.Targets) (c : slots.SlotExpr Constant) (k : Option
   pub asked : IsAsked k h.condition given new
 
 -- A function that puts a body, whose values are in the pool from an index on, before other statements.
-abbrev pub StandsFor : SBody Constant → Front → ℕ → Type 0
+abbrev pub StandsFor : Stmts → Front → ℕ → Type 0
 StandsFor whole f n =
-    (left : SBody Constant)
+    (left : Stmts)
     → f (placed_body left (n + length (body_values whole))) ≡ placed_body (followed whole left) n
 
 -- A branch: the place of its tag, its condition and its statements.
-pub record IsBranch (templates : List Text) (at : place.Place) (c : slots.SlotExpr Constant) (whole : SBody Constant)
+pub record IsBranch (templates : List Text) (at : Place) (c : Term) (whole : Stmts)
     (b : SlotBranch SlotStmt) (old new : List Tree) : Type 0 where
   pub between : List Tree
   pub stands : place_view templates b.place ≡ at
@@ -63,45 +45,20 @@ pub record IsBranch (templates : List Text) (at : place.Place) (c : slots.SlotEx
   pub taken : Emits templates whole [] b.body.items between new
 
 -- Branches are resolved; of the `if`, only the `else` part remains.
-pub record ChoiceLeads (templates : List Text) (whole other : SBody Constant) (branches : List (SlotBranch SlotStmt))
+pub record ChoiceLeads (templates : List Text) (whole other : Stmts) (branches : List (SlotBranch SlotStmt))
     (old new : List Tree) : Type 0 where
   pub shown : (f : Front) → StandsFor other f (length new)
       → StandsFor whole (choice_view templates branches f) (length old)
   pub pooled : new ++ body_values other ≡ old ++ body_values whole
 
 -- The place of a tag in the code.
-abbrev pub place_of : StaticEnv → ℕ → Place
+abbrev pub place_of : StaticEnv → ℕ → code.Place
 place_of p line = record { template = p.template; line = line }
 
--- ---- the parts of a chain
-
 module _ (s : Chains) where
-  abbrev pub condition_in : Option expressions.Expr → resolve.StaticEnv
-      → Option (slots.SlotExpr Constant)
-  condition_in k sp = resolve.resolved_condition (cenv_in s) (order_in s) k sp
-
-  -- A template of a chain at its top: all its statements if it is the root, or only the statements
-  -- that set names.
-  abbrev pub layer_at : resolve.StaticEnv → trees.Body → Bool → SBody Constant
-  layer_at top b is_root =
-      if is_root
-      then resolve.resolved_body (cenv_in s) (order_in s) b top
-      else resolve.resolved_sets (cenv_in s) (order_in s) b top
-
-  abbrev pub layer_in : Template → Bool → SBody Constant
-  layer_in t is_root =
-      layer_at (resolve.top_senv (cenv_in s) (order_in s) (namespace_in s) t.name) t.body is_root
-
-  -- The templates of a chain.
-  abbrev pub chained_in : List Template → SBody Constant
-  chained_in = resolve.resolved_chain (cenv_in s) (order_in s) (namespace_in s)
-
-  abbrev pub layers_in : List Layer → SBody Constant
-  layers_in ls = chained_in (map (layer_view (files_in s)) ls)
-
   -- The parts of a loop: targets, items, condition and body.
-  pub record AreTurns (xs : slots.Targets) (c : slots.SlotExpr Constant) (k : Option (slots.SlotExpr Constant))
-      (whole : SBody Constant) (t : Turns) (old new : List Tree) : Type 0 where
+  pub record AreTurns (xs : slots.Targets) (c : Term) (k : Option Term)
+      (whole : Stmts) (t : Turns) (old new : List Tree) : Type 0 where
     pub between : List Tree
     pub headed : IsHead xs c k t.head.value old between
     pub taken : Emits (templates_in s) whole [] t.body.items between new
@@ -109,53 +66,32 @@ module _ (s : Chains) where
 -- ---- the routines of chains, with the indices of the pool that they fill
 
 -- A routine, and the values that it appends to a pool.
-pub record IsRoutine (templates : List Text) (c : slots.Routine Constant) (r : Routine) (old new : List Tree) : Type
+pub record IsRoutine (templates : List Text) (c : Planned) (r : Routine) (old new : List Tree) : Type
     0 where
   pub shown : routine_view templates r ≡ placed_routine c (length old)
   pub pooled : new ≡ old ++ body_values c.body
 
 -- Routines are appended; of `whole`, the part `left` remains.
-abbrev pub RoutinesLead : List Text → Appended (List (slots.Routine Constant)) Routine
+abbrev pub RoutinesLead : List Text → Appended (List Planned) Routine
 RoutinesLead templates = Leads (λ rs left. map (routine_view templates) rs ++ left) placed_routines routines_values
 
 -- The routines `whole` are appended, whatever is left to come after them.
-abbrev pub AreRoutines : List Text → List (slots.Routine Constant) → List Routine → List Routine → List Tree
+abbrev pub AreRoutines : List Text → List Planned → List Routine → List Routine → List Tree
     → List Tree → Type 0
 AreRoutines templates whole before after old new =
-    (left : List (slots.Routine Constant)) → RoutinesLead templates (whole ++ left) left before after old new
-
-module _ (s : Chains) where
-  -- The routine of a chain, which a library lacks; the routines of macros; the routines of the
-  -- bodies of blocks; and all of them.
-  abbrev pub entry_in : List (slots.Routine Constant)
-  entry_in = programs.entry_routines (cenv_in s) (order_in s) (namespace_in s)
-
-  abbrev pub macro_in : MacroBody → slots.Routine Constant
-  macro_in = resolve.macro_routine (cenv_in s) (order_in s) (namespace_in s)
-
-  abbrev pub macros_in : List (slots.Routine Constant)
-  macros_in = map macro_in (macros (cenv_in s).sources (namespace_in s))
-
-  abbrev pub bodies_in : List (ℕ × BlockBody) → List (slots.Routine Constant)
-  bodies_in = programs.body_routines (cenv_in s) (order_in s) (namespace_in s)
-
-  abbrev pub blocks_in : List (slots.Routine Constant)
-  blocks_in = bodies_in (numbered_in s)
-
-  abbrev pub routines_in : List (slots.Routine Constant)
-  routines_in = programs.chain_routines (cenv_in s) (order_in s) (namespace_in s)
+    (left : List Planned) → RoutinesLead templates (whole ++ left) left before after old new
 
 -- A part of a list is appended, and its values to a pool; the part `left` remains.
-abbrev pub RowAdds : SRow Constant → SRow Constant → Vec (Option ℕ × SlotExpr) Global
-    → Vec (Option ℕ × SlotExpr) Global → Vec Value Global → Vec Value Global → Type 0
+abbrev pub RowAdds : Row → Row → Entries
+    → Entries → Pool → Pool → Type 0
 RowAdds whole left before after old new =
     RowLeads whole left before.items after.items (values old) (values new)
 
 -- A whole list is appended, whatever follows it.
-abbrev pub RowPuts : (SRow Constant → SRow Constant) → Vec (Option ℕ × SlotExpr) Global
-    → Vec (Option ℕ × SlotExpr) Global → Vec Value Global → Vec Value Global → Type 0
+abbrev pub RowPuts : (Row → Row) → Entries
+    → Entries → Pool → Pool → Type 0
 RowPuts whole before after old new =
-    (left : SRow Constant) → RowAdds (whole left) left before after old new
+    (left : Row) → RowAdds (whole left) left before after old new
 
 -- The positional and the keyword arguments of a call.
 abbrev pub by_position : Arguments → expressions.Exprs
@@ -184,7 +120,7 @@ module _ (r : Resolver) where
   table_of = senv_of.table
 
   -- The place of a tag.
-  abbrev pub line_of : ℕ → place.Place
+  abbrev pub line_of : ℕ → Place
   line_of line = resolve.place senv_of line
 
   -- The locals that hold the keyword arguments.
@@ -193,74 +129,74 @@ module _ (r : Resolver) where
 
   -- ---- expressions
 
-  abbrev pub expr_of : expressions.Expr → slots.SlotExpr Constant
+  abbrev pub expr_of : expressions.Expr → Term
   expr_of t = resolve.resolved cenv order t senv_of
 
   -- The resolved expression, with the values that it appends to a pool.
-  abbrev pub IsResolved : expressions.Expr → SlotExpr → Vec Value Global → Vec Value Global → Type 0
+  abbrev pub IsResolved : expressions.Expr → SlotExpr → Pool → Pool → Type 0
   IsResolved t e old new = IsAdded (expr_of t) e old new
 
-  abbrev pub row_of : expressions.Exprs → SRow Constant → SRow Constant
+  abbrev pub row_of : expressions.Exprs → Row → Row
   row_of ts left = resolve.resolved_row cenv order ts senv_of left
 
-  abbrev pub asides_of : expressions.Pairs → SRow Constant → SRow Constant
+  abbrev pub asides_of : expressions.Pairs → Row → Row
   asides_of ps left = resolve.resolved_asides cenv order ps senv_of left
 
-  abbrev pub entries_of : expressions.Pairs → SRow Constant
+  abbrev pub entries_of : expressions.Pairs → Row
   entries_of ps = resolve.resolved_entries cenv order ps senv_of
 
   -- The positional arguments, followed by the keyword arguments.
-  abbrev pub given_of : Arguments → SRow Constant → SRow Constant
+  abbrev pub given_of : Arguments → Row → Row
   given_of a left = row_of (by_position a) (asides_of (by_name a) left)
 
   -- The values of a macro's parameters after the positional ones.
-  abbrev pub filled_of : Signature → Arguments → SRow Constant
+  abbrev pub filled_of : Signature → Arguments → Row
   filled_of s a =
       resolve.filled (parameters_view s.parameters.now) (length a.row.now) s.first_default
       (kept_of (by_name a))
 
   -- The arguments of a filter, by its number, after its value.
-  abbrev pub filter_row_of : Option ℕ → Arguments → SRow Constant
+  abbrev pub filter_row_of : Option ℕ → Arguments → Row
   filter_row_of f a =
       given_of a (filled_some (filter_parameters cenv.filters f) (count (by_position a))
       (keywords (by_name a)) (kept_of (by_name a)))
 
   -- The filters of a filter tag on a resolved value, in order.
-  abbrev pub filters_of : List trees.FilterCall → slots.SlotExpr Constant → slots.SlotExpr Constant
+  abbrev pub filters_of : List trees.FilterCall → Term → Term
   filters_of fs c = resolve.resolved_filters cenv order fs senv_of c
 
   -- The call of a block, and the call of the next body of the current block.
-  abbrev pub block_of : Text → slots.SlotExpr Constant
+  abbrev pub block_of : Text → Term
   block_of x = resolve.invoked cenv order (chain.a_block x) senv_of (λ es. es) (λ es. es) 0 []
 
-  abbrev pub super_of : slots.SlotExpr Constant
+  abbrev pub super_of : Term
   super_of = resolve.invoked_super cenv order senv_of senv_of.part
 
   -- ---- statements
 
-  abbrev pub stmt_of : trees.Stmt → SBody Constant
+  abbrev pub stmt_of : trees.Stmt → Stmts
   stmt_of t = resolve.resolved_stmt cenv order t senv_of
 
   -- Statements are emitted, and those of a statement of a template.
-  abbrev pub Puts : SBody Constant → Vec SlotStmt Global → Vec SlotStmt Global → Vec Value Global → Vec Value Global
+  abbrev pub Puts : Stmts → Vec SlotStmt Global → Vec SlotStmt Global → Pool → Pool
       → Type 0
   Puts whole before after old new = Emits templates_of whole before.items after.items (values old) (values new)
 
-  abbrev pub PutsStmt : trees.Stmt → Vec SlotStmt Global → Vec SlotStmt Global → Vec Value Global → Vec Value Global
+  abbrev pub PutsStmt : trees.Stmt → Vec SlotStmt Global → Vec SlotStmt Global → Pool → Pool
       → Type 0
   PutsStmt t = Puts (stmt_of t)
 
-  abbrev pub body_of : trees.Body → SBody Constant
+  abbrev pub body_of : trees.Body → Stmts
   body_of b = resolve.resolved_body cenv order b senv_of
 
-  abbrev pub choice_of : trees.Branches → SBody Constant → SBody Constant
+  abbrev pub choice_of : trees.Branches → Stmts → Stmts
   choice_of bs other = resolve.resolved_choice cenv order bs senv_of other
 
-  abbrev pub values_of : expressions.Pairs → ℕ → SBody Constant → SBody Constant
+  abbrev pub values_of : expressions.Pairs → ℕ → Stmts → Stmts
   values_of ps line behind = resolve.resolved_values cenv order ps senv_of line behind
 
   -- A body in a scope of its own.
-  abbrev pub scoped_of : trees.Body → resolve.StaticEnv → SBody Constant
+  abbrev pub scoped_of : trees.Body → resolve.StaticEnv → Stmts
   scoped_of b sp = resolve.scoped (set_in b) sp (resolve.resolved_body cenv order b)
 
   -- The environment inside a scope with these names.
@@ -268,5 +204,5 @@ module _ (r : Resolver) where
   inside_of xs = resolve.bound_all xs senv_of
 
   -- The statements of a body that set names.
-  abbrev pub sets_of : trees.Body → SBody Constant
+  abbrev pub sets_of : trees.Body → Stmts
   sets_of b = resolve.resolved_sets cenv order b senv_of

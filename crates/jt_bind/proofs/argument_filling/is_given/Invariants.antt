@@ -1,4 +1,4 @@
-use Rattle.jt_bind.specs.internal.{◌≡◌, drop, pairs_view, keywords, among}
+use Rattle.jt_bind.proofs.{◌≡◌, drop, pairs_view, keywords, among}
 use Rattle.jt_bind.proofs.argument_filling.is_given.Given as goal
 
 abbrev pub invariant-loop-key : goal.invariant-loop-key

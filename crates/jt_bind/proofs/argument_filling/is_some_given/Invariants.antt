@@ -1,4 +1,4 @@
-use Rattle.jt_bind.specs.internal.{◌≡◌, drop, pairs_view, keywords, parameters_view, some_given}
+use Rattle.jt_bind.proofs.{◌≡◌, drop, pairs_view, keywords, parameters_view, some_given}
 use Rattle.jt_bind.proofs.argument_filling.is_some_given.Given as goal
 
 abbrev pub invariant-loop-parameter : goal.invariant-loop-parameter

@@ -1,5 +1,4 @@
-use Rattle.jt_semantics.specs.Resolve.{StaticEnv}
-use Rattle.jt_bind.proofs.{ap}
+use Rattle.jt_bind.proofs.{StaticEnv, ap}
 use Rattle.jt_bind.proofs.inclusion.seen_by.Goals as goal
 
 pub returns-else-scoped : goal.returns-else-scoped

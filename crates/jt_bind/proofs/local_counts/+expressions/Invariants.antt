@@ -1,4 +1,4 @@
-use Rattle.jt_bind.specs.internal.{◌≡◌, drop, max, row_locals, none, row_view, up_to}
+use Rattle.jt_bind.proofs.{◌≡◌, drop, max, row_locals, none, row_view, up_to}
 use Rattle.jt_bind.proofs.local_counts.+expressions.Given as goal
 
 abbrev pub invariant-last_of_row-loop-kept : goal.invariant-last_of_row-loop-kept

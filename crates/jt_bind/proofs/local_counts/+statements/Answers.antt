@@ -1,7 +1,7 @@
 use Rattle.jt_ir.specs.View.{body_view}
-use Rattle.jt_bind.specs.internal.{◌+◌, drop, end}
 use Rattle.jt_bind.proofs
-use proofs.{loop_max, drop_all, drop_more, arith, max_zero, choice_reaches, ◌∙◌, view_If, view_For, view_Capture}
+use proofs.{◌+◌, drop, end, loop_max, drop_all, drop_more, arith, max_zero, choice_reaches, ◌∙◌, view_If, view_For}
+use proofs.{view_Capture}
 use Rattle.jt_bind.proofs.local_counts.+statements.Goals as goal
 
 pub last_of_body-loop-statement-preserved : goal.last_of_body-loop-statement-preserved

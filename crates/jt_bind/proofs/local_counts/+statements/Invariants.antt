@@ -1,7 +1,7 @@
 use Rattle.jt_ir.specs.View.{body_view}
-use Rattle.jt_bind.specs.internal
-use internal.{◌≡◌, ℕ, ◌+◌, ◌*◌, List, drop, max, most, Text, body_locals, SBody, size-SlotStmt, branches_locals, up_to}
-use Rattle.jt_bind.proofs.{SBranch}
+use Rattle.jt_bind.proofs
+use proofs.{◌≡◌, ℕ, ◌+◌, ◌*◌, List, drop, max, most, Text, body_locals, SBody, size-SlotStmt, branches_locals, up_to}
+use proofs.{SBranch}
 use Rattle.jt_bind.proofs.local_counts.+statements.Given as goal
 
 -- ---- measures: the depth of the remaining statements, and the order of the calls

@@ -1,5 +1,4 @@
-use Rattle.jt_bind.specs.internal.{end}
-use Rattle.jt_bind.proofs.{arith, IfOk-weaker}
+use Rattle.jt_bind.proofs.{end, arith, IfOk-weaker}
 use Rattle.jt_bind.proofs.local_counts.body_locals.Goals as goal
 
 pub returns : goal.returns

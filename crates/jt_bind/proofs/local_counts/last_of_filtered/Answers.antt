@@ -1,5 +1,4 @@
-use Rattle.jt_bind.specs.internal.{expr_view}
-use Rattle.jt_bind.proofs.{arith, filters_counted}
+use Rattle.jt_bind.proofs.{expr_view, arith, filters_counted}
 use Rattle.jt_bind.proofs.local_counts.last_of_filtered.Goals as goal
 
 pub loop-filter-init : goal.loop-filter-init

@@ -1,5 +1,4 @@
-use Rattle.jt_bind.specs.internal.{◌≡◌, drop, max, expr_locals, filtered_view, up_to}
-use Rattle.jt_bind.proofs.{filters_locals}
+use Rattle.jt_bind.proofs.{◌≡◌, drop, max, expr_locals, filtered_view, up_to, filters_locals}
 use Rattle.jt_bind.proofs.local_counts.last_of_filtered.Given as goal
 
 abbrev pub invariant-loop-filter : goal.invariant-loop-filter

@@ -1,4 +1,4 @@
-use Rattle.jt_bind.specs.internal.{◌≡◌, map, drop, max, option_map, slots_locals, slot_view, up_to}
+use Rattle.jt_bind.proofs.{◌≡◌, map, drop, max, option_map, slots_locals, slot_view, up_to}
 use Rattle.jt_bind.proofs.local_counts.last_of_slots.Given as goal
 
 abbrev pub invariant-loop-slot : goal.invariant-loop-slot

@@ -1,5 +1,5 @@
-use Rattle.jt_bind.specs.internal.{◌≡◌, ◌<◌, ◌≤◌, length, refl, order_in}
-use Rattle.jt_bind.proofs.{drop_all, ◌∙◌, arith, namespaces_left, lead_both, lead_none}
+use Rattle.jt_bind.proofs
+use proofs.{◌≡◌, ◌<◌, ◌≤◌, length, refl, order_in, drop_all, ◌∙◌, arith, namespaces_left, lead_both, lead_none}
 use Rattle.jt_bind.proofs.namespaces.resolve_namespaces.Goals as goal
 
 pub loop-namespace-init : goal.loop-namespace-init

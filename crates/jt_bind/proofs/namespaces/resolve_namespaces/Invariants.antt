@@ -1,5 +1,5 @@
 use Rattle.jt_semantics.specs.Programs as programs
-use Rattle.jt_bind.specs.internal.{◌≡◌, [], drop, flat_map, values, cenv_in, order_in, templates_in, RoutinesLead}
+use Rattle.jt_bind.proofs.{◌≡◌, [], drop, flat_map, values, cenv_in, order_in, templates_in, RoutinesLead}
 use Rattle.jt_bind.proofs.namespaces.resolve_namespaces.Given as goal
 
 abbrev pub invariant-loop-namespace : goal.invariant-loop-namespace

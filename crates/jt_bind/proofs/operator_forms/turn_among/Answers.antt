@@ -1,7 +1,6 @@
 use Rattle.jt_value.specs.Tree as tree
 use Rattle.jt_ir.specs.Slots as slots
-use Rattle.jt_bind.specs.internal.{pos, Index0, own, values}
-use Rattle.jt_bind.proofs.{sym, append-nil, IfOk-weaker, view_Field}
+use Rattle.jt_bind.proofs.{pos, Index0, own, values, sym, append-nil, IfOk-weaker, view_Field}
 use Rattle.jt_bind.proofs.operator_forms.turn_among.Goals as goal
 
 pub returns : goal.returns

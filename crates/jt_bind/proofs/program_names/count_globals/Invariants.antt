@@ -1,5 +1,5 @@
 use Rattle.jt_semantics.specs.Programs as programs
-use Rattle.jt_bind.specs.internal.{◌≡◌, ◌+◌, drop, cenv_in, order_in}
+use Rattle.jt_bind.proofs.{◌≡◌, ◌+◌, drop, cenv_in, order_in}
 use Rattle.jt_bind.proofs.program_names.count_globals.Given as goal
 
 abbrev pub invariant-loop-namespace : goal.invariant-loop-namespace

@@ -1,4 +1,4 @@
-use Rattle.jt_bind.specs.internal.{◌≡◌, ◌++◌, map, drop, string_bytes, texts}
+use Rattle.jt_bind.proofs.{◌≡◌, ◌++◌, map, drop, string_bytes, texts}
 use Rattle.jt_bind.proofs.program_names.strings_of.Given as goal
 
 abbrev pub invariant-loop-name : goal.invariant-loop-name

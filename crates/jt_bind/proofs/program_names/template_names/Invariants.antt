@@ -1,4 +1,4 @@
-use Rattle.jt_bind.specs.internal.{◌≡◌, ◌++◌, map, drop, string_bytes, files_view}
+use Rattle.jt_bind.proofs.{◌≡◌, ◌++◌, map, drop, string_bytes, files_view}
 use Rattle.jt_bind.proofs.program_names.template_names.Given as goal
 
 abbrev pub invariant-loop-file : goal.invariant-loop-file

@@ -1,8 +1,7 @@
-use Rattle.jt_semantics.specs.Resolve.{StaticEnv}
-use Rattle.jt_bind.specs.internal
-use internal.{ℕ, List, BlockBody, files_in, map, block_view, part_from, texts, templates_in, top_in, numbered_in}
-use internal.{part_at, Some, cenv_in, order_in, parameters_in, body_view}
-use Rattle.jt_bind.proofs.{ap, ◌∙◌, arith, lead_both, one_routine, routine_as, numbered_next, numbered_end}
+use Rattle.jt_bind.proofs
+use proofs.{StaticEnv, ℕ, List, BlockBody, files_in, map, block_view, part_from, texts, templates_in, top_in}
+use proofs.{numbered_in, part_at, Some, cenv_in, order_in, parameters_in, body_view, ap, ◌∙◌, arith, lead_both}
+use proofs.{one_routine, routine_as, numbered_next, numbered_end}
 use Rattle.jt_bind.proofs.routines.resolve_blocks.Goals as goal
 
 pub loop-index-preserved : goal.loop-index-preserved

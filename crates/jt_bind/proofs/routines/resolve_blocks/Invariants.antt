@@ -1,6 +1,5 @@
-use Rattle.jt_bind.specs.internal
-use internal.{List, ◌++◌, bodies_in, numbered_in, drop, values, templates_in, RoutinesLead, blocks_in}
-use Rattle.jt_bind.proofs.{Planned}
+use Rattle.jt_bind.proofs
+use proofs.{List, ◌++◌, bodies_in, numbered_in, drop, values, templates_in, RoutinesLead, blocks_in, Planned}
 use Rattle.jt_bind.proofs.routines.resolve_blocks.Given as goal
 
 abbrev pub invariant-loop-index : goal.invariant-loop-index

@@ -1,8 +1,7 @@
-use Rattle.jt_bind.specs.internal
-use internal.{◌<◌, length, refl, a_chain, templates, namespace_view, values, cenv_in, order_in, namespace_in}
-use internal.{templates_in, resolved_chain}
 use Rattle.jt_bind.proofs
-use proofs.{sym, ◌∙◌, arith, rules, length-map, locals_same, routine_made, no_entry, one_entry}
+use proofs.{◌<◌, length, refl, a_chain, templates, namespace_view, values, cenv_in, order_in, namespace_in}
+use proofs.{templates_in, resolved_chain, sym, ◌∙◌, arith, rules, length-map, locals_same, routine_made, no_entry}
+use proofs.{one_entry}
 use Rattle.jt_bind.proofs.routines.resolve_entry.Goals as goal
 
 pub returns-then-here : goal.returns-then-here

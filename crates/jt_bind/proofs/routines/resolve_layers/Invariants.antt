@@ -1,9 +1,9 @@
-use Rattle.jt_bind.specs.internal
-use internal.{chained_in, files_in, map, drop, layer_view, followed, Constant, SBody, values, BodyLeads, templates_in}
+use Rattle.jt_bind.proofs
+use proofs.{chained_in, files_in, map, drop, layer_view, followed, values, BodyLeads, templates_in, Stmts}
 use Rattle.jt_bind.proofs.routines.resolve_layers.Given as goal
 
 abbrev pub invariant-loop-index : goal.invariant-loop-index
-invariant-loop-index l = (left : SBody Constant) → BodyLeads (templates_in l.tables)
+invariant-loop-index l = (left : Stmts) → BodyLeads (templates_in l.tables)
     (followed (chained_in l.tables
     (map (layer_view (files_in l.tables)) l.layers)) left)
     (followed (chained_in l.tables

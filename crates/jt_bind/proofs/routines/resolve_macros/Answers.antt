@@ -1,7 +1,6 @@
-use Rattle.jt_bind.specs.internal
-use internal.{◌++◌, map, macro_view, files_in, macro_in, cenv_in, order_in, templates_in, top_in, parameters_view}
-use internal.{body_view}
-use Rattle.jt_bind.proofs.{ap, ◌∙◌, arith, drop_all, drop_more, lead_of, lead_none, lead_both, one_routine, routine_as}
+use Rattle.jt_bind.proofs
+use proofs.{◌++◌, map, macro_view, files_in, macro_in, cenv_in, order_in, templates_in, top_in, parameters_view}
+use proofs.{body_view, ap, ◌∙◌, arith, drop_all, drop_more, lead_of, lead_none, lead_both, one_routine, routine_as}
 use Rattle.jt_bind.proofs.routines.resolve_macros.Goals as goal
 
 pub loop-called-init : goal.loop-called-init

@@ -1,6 +1,6 @@
-use Rattle.jt_bind.specs.internal
-use internal.{List, ◌++◌, drop, map, macro_view, values, RoutinesLead, files_in, macro_in, macros_in, templates_in}
-use Rattle.jt_bind.proofs.{Planned}
+use Rattle.jt_bind.proofs
+use proofs.{List, ◌++◌, drop, map, macro_view, values, RoutinesLead, files_in, macro_in, macros_in, templates_in}
+use proofs.{Planned}
 use Rattle.jt_bind.proofs.routines.resolve_macros.Given as goal
 
 abbrev pub invariant-loop-called : goal.invariant-loop-called

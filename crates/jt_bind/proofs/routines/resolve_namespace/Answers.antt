@@ -1,5 +1,4 @@
-use Rattle.jt_bind.specs.internal.{templates_in}
-use Rattle.jt_bind.proofs.{IfOk-weaker, routines_both}
+use Rattle.jt_bind.proofs.{templates_in, IfOk-weaker, routines_both}
 use Rattle.jt_bind.proofs.routines.resolve_namespace.Goals as goal
 
 pub returns : goal.returns

@@ -1,7 +1,7 @@
 use Rattle.jt_ir.specs.declared.program.Slot.TheVariants as s
-use Rattle.jt_bind.specs.internal.{◌<◌, ◌≤◌, length, None, texts}
 use Rattle.jt_bind.proofs
-use proofs.{drop_all, sym, append-nil, arith, length-map, locals_next, lead_of, lead_both, row_entry, view_Variable}
+use proofs.{◌<◌, ◌≤◌, length, None, texts, drop_all, sym, append-nil, arith, length-map, locals_next, lead_of}
+use proofs.{lead_both, row_entry, view_Variable}
 use Rattle.jt_bind.proofs.rows.first_locals.Goals as goal
 
 pub returns : goal.returns

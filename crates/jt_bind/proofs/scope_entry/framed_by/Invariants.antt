@@ -1,4 +1,4 @@
-use Rattle.jt_bind.specs.internal.{◌≡◌, map, take}
+use Rattle.jt_bind.proofs.{◌≡◌, map, take}
 use Rattle.jt_bind.proofs.scope_entry.framed_by.Given as goal
 
 abbrev pub invariant-loop-name_scope : goal.invariant-loop-name_scope

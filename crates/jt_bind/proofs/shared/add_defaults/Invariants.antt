@@ -1,4 +1,4 @@
-use Rattle.jt_bind.specs.internal.{◌≡◌, ◌++◌, map, drop, parameter_view, default_value, values}
+use Rattle.jt_bind.proofs.{◌≡◌, ◌++◌, map, drop, parameter_view, default_value, values}
 use Rattle.jt_bind.proofs.shared.add_defaults.Given as goal
 
 abbrev pub invariant-loop-parameter : goal.invariant-loop-parameter

@@ -1,4 +1,4 @@
-use Rattle.jt_bind.specs.internal.{◌≡◌, ◌++◌, List, map, drop, Template, macro_view, defaults_of, values}
+use Rattle.jt_bind.proofs.{◌≡◌, ◌++◌, List, map, drop, Template, macro_view, defaults_of, values}
 use Rattle.jt_bind.proofs.shared.add_macros.Given as goal
 
 abbrev pub invariant-loop-entry : goal.invariant-loop-entry

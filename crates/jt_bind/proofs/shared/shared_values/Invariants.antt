@@ -1,5 +1,5 @@
 use Rattle.jt_semantics.specs.Layout as layout
-use Rattle.jt_bind.specs.internal.{◌≡◌, ◌++◌, drop, flat_map, macros, defaults_of, values, cenv_in, order_in}
+use Rattle.jt_bind.proofs.{◌≡◌, ◌++◌, drop, flat_map, macros, defaults_of, values, cenv_in, order_in}
 use Rattle.jt_bind.proofs.shared.shared_values.Given as goal
 
 abbrev pub invariant-loop-namespace : goal.invariant-loop-namespace

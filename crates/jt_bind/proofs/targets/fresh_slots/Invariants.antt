@@ -1,4 +1,4 @@
-use Rattle.jt_bind.specs.internal.{◌≡◌, ◌++◌, map, drop, option_map, fresh, names_view, slot_view}
+use Rattle.jt_bind.proofs.{◌≡◌, ◌++◌, map, drop, option_map, fresh, names_view, slot_view}
 use Rattle.jt_bind.proofs.targets.fresh_slots.Given as goal
 
 abbrev pub invariant-loop-name : goal.invariant-loop-name

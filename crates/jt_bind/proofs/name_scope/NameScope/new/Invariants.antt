@@ -1,4 +1,4 @@
-use Rattle.jt_bind.specs.internal.{◌≡◌, None, drop, Text, value_in, texts, last_among}
+use Rattle.jt_bind.proofs.{◌≡◌, None, drop, Text, value_in, texts, last_among}
 use Rattle.jt_bind.proofs.name_scope.NameScope.new.Given as goal
 
 abbrev pub invariant-loop-name : goal.invariant-loop-name

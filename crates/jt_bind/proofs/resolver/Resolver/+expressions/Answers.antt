@@ -1,13 +1,12 @@
 use Rattle.jt_value.specs.Tree as tree
-use Rattle.jt_ast.proofs.ExpressionViews.{view_Call, view_Filter, view_Test}
 use Rattle.jt_ids.specs.declared.op_id.OpId.TheVariants as op
-use Rattle.jt_ir.specs.Slots as slots
 use Rattle.jt_ir.specs.declared.program.NaryOp.TheVariants as m
-use Rattle.jt_bind.specs.internal.{None, Some, exprs_view, filled_of, filter_id, filter_row_of, own, pairs_view, row_of}
-use Rattle.jt_bind.specs.internal.{values}
+use Rattle.jt_ast.proofs.ExpressionViews.{view_Call, view_Filter, view_Test}
 use Rattle.jt_bind.proofs
-use proofs.{drop_all, ◌∙◌, arith, add-one, IfOk-weaker, count_length, call_depth, filter_depth, test_depth, named_is}
-use proofs.{parameters_are, lead_both, row_entry, made_placed, invoked_placed, row_left, pairs_left}
+use proofs.slots
+use proofs.{None, Some, exprs_view, filled_of, filter_id, filter_row_of, own, row_of, values, drop_all, ◌∙◌, arith}
+use proofs.{add-one, IfOk-weaker, count_length, named_is, parameters_are, lead_both, row_entry, made_placed}
+use proofs.{invoked_placed, row_left, pairs_left, pairs_view}
 use Rattle.jt_bind.proofs.resolver.Resolver.+expressions.Goals as goal
 
 pub resolve_row-loop-expr-preserved : goal.resolve_row-loop-expr-preserved
@@ -101,8 +100,7 @@ resolve_expression-returns-in-Call t c =
       view_Call,
       ← c.deref-in-Call.ensures,
       ← c.deref-in-Call-2.ensures.value,
-      ←
-          c.deref-in-Call-3.ensures.value,
+      ← c.deref-in-Call-3.ensures.value,
     )
     c.resolve_call.ensures
 
@@ -113,8 +111,7 @@ resolve_expression-returns-in-Filter t c =
       view_Filter,
       ← c.deref-in-Filter.ensures,
       ← c.deref-in-Filter-2.ensures,
-      ←
-          c.deref-in-Filter-3.ensures.value,
+      ← c.deref-in-Filter-3.ensures.value,
       ← c.deref-in-Filter-4.ensures.value,
     )
     c.resolve_filter.ensures
@@ -126,8 +123,7 @@ resolve_expression-returns-in-Test t c =
       view_Test,
       ← c.deref-in-Test.ensures,
       ← c.deref-in-Test-2.ensures,
-      ←
-          c.deref-in-Test-3.ensures.value,
+      ← c.deref-in-Test-3.ensures.value,
     )
     (IfOk-weaker c.resolve_test.result _ _ (λ e h. h (pairs_view c.in-Test.keywords.items)) c.resolve_test.ensures)
 
@@ -196,14 +192,3 @@ resolve_call-returns-in-Block t c = let is = rw c.in-Block.is at c.in_ok-signatu
 pub resolve_call-returns-in-Unknown : goal.resolve_call-returns-in-Unknown
 resolve_call-returns-in-Unknown t c = let is = rw c.in-Unknown.is at c.in_ok-signature.ensures in
     rw is (c.absent.ensures (values c.args.pool.now))
-
--- ---- the remaining trees are less deep
-
-pub resolve_expression-resolve_call-requires : goal.resolve_expression-resolve_call-requires
-resolve_expression-resolve_call-requires t c = grind (arith, call_depth)
-
-pub resolve_expression-resolve_filter-requires : goal.resolve_expression-resolve_filter-requires
-resolve_expression-resolve_filter-requires t c = grind (arith, filter_depth)
-
-pub resolve_expression-resolve_test-requires : goal.resolve_expression-resolve_test-requires
-resolve_expression-resolve_test-requires t c = grind (arith, test_depth)

@@ -1,7 +1,6 @@
-use Rattle.jt_bind.specs.internal
-use internal.{ℕ, Expr, List, String, Arguments, ◌+◌, ◌*◌, drop, max, most, exprs_view, pairs_view, size-Expr, Constant}
-use internal.{SRow, values, RowLeads, row_of, asides_of, entries_of}
-use Rattle.jt_bind.proofs.{Global}
+use Rattle.jt_bind.proofs
+use proofs.{ℕ, Expr, List, String, Arguments, ◌+◌, ◌*◌, drop, max, most, exprs_view, pairs_view, size-Expr, values}
+use proofs.{RowLeads, row_of, asides_of, entries_of, Global, Row}
 use Rattle.jt_bind.proofs.resolver.Resolver.+expressions.Given as goal
 
 -- ---- measures: the depth of the remaining trees, and the order of the calls
@@ -75,13 +74,13 @@ decreases-resolve_cycle l = 6 * row_size l.row.now + 3
 
 abbrev pub invariant-resolve_row-loop-expr : goal.invariant-resolve_row-loop-expr
 invariant-resolve_row-loop-expr l =
-    (left : SRow Constant) → RowLeads (row_of l.self (exprs_view l.row) left)
+    (left : Row) → RowLeads (row_of l.self (exprs_view l.row) left)
     (row_of l.self (exprs_view (drop l.expr-index l.row)) left)
     l.initial.done.items l.done.items (values l.initial.pool) (values l.pool)
 
 abbrev pub invariant-resolve_asides-loop-value : goal.invariant-resolve_asides-loop-value
 invariant-resolve_asides-loop-value l =
-    (left : SRow Constant) → RowLeads (asides_of l.self (pairs_view l.pairs) left)
+    (left : Row) → RowLeads (asides_of l.self (pairs_view l.pairs) left)
     (asides_of (record l.self { senv = l.senv }) (pairs_view (drop l.value-index l.pairs)) left)
     l.initial.done.items l.done.items (values l.initial.pool) (values l.pool)
 

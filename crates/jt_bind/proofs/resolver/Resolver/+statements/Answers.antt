@@ -1,12 +1,11 @@
-use Rattle.jt_ast.proofs.StatementViews.{view_Block, view_Include, view_Set, view_SetBlock}
-use Rattle.jt_ir.specs.Slots as slots
-use Rattle.jt_bind.specs.internal
-use internal.{alone, ◌+◌, drop, pairs_view, filter_calls_view, body_view, followed, values, templates_of, senv_of}
-use internal.{line_of, body_of, scoped_of, filters_of, values_of, bound_all}
+use Rattle.jt_ast.proofs.StatementViews.{view_Block, view_Set}
 use Rattle.jt_bind.proofs
-use proofs.{drop_all, ap, arith, IfOk-weaker, lead_both, emits_of, emits_both, place_is, followed_again, choice_same}
-use proofs.{branch_lead, choice_emitted, capture_emitted, print_emitted, assign_emitted, loop_emitted, statements_left}
-use proofs.{branches_left, freed, filter_shown, values_emitted, scope_emitted, turns_as}
+use proofs.slots
+use proofs.{alone, ◌+◌, drop, pairs_view, filter_calls_view, body_view, followed, values, templates_of, senv_of}
+use proofs.{line_of, body_of, scoped_of, filters_of, values_of, bound_all, drop_all, ap, arith, IfOk-weaker, lead_both}
+use proofs.{emits_of, emits_both, place_is, followed_again, choice_same, branch_lead, choice_emitted, capture_emitted}
+use proofs.{print_emitted, assign_emitted, loop_emitted, statements_left, branches_left, freed, filter_shown}
+use proofs.{values_emitted, scope_emitted, turns_as}
 use Rattle.jt_bind.proofs.resolver.Resolver.+statements.Goals as goal
 
 -- ---- bodies
@@ -134,11 +133,6 @@ resolve_text-returns t c =
 
 -- ---- statements
 
-pub resolve_statement-returns-in-Include : goal.resolve_statement-returns-in-Include
-resolve_statement-returns-in-Include t c =
-    rw (c.in-Include.is, view_Include, ← c.deref-in-Include.ensures)
-    (IfOk-weaker c.put_include.result _ _ (λ u h. h (values c.args.pool.now)) c.put_include.ensures)
-
 pub resolve_statement-returns-in-Block : goal.resolve_statement-returns-in-Block
 resolve_statement-returns-in-Block t c =
     rw (c.in-Block.is, view_Block, ← c.deref-in-Block.ensures) (IfOk-weaker c.put_block.result _ _ (λ u h.
@@ -153,13 +147,3 @@ resolve_if_set-returns-in_ok-given-in-Set t c =
     rw (v.is, view_Set, ← c.deref.ensures.value) (IfOk-weaker c.put_assign.result _ _
     (λ u h. rw (← c.in_ok-targets-in-Set.ensures)
     (assign_emitted c.args.self.now v.line _ _ _ _ _ _ _ c.in_ok-given-in-Set.ensures h)) c.put_assign.ensures)
-
-pub resolve_if_set-returns-in-SetBlock : goal.resolve_if_set-returns-in-SetBlock
-resolve_if_set-returns-in-SetBlock t c =
-    rw (
-      c.in-SetBlock.is,
-      view_SetBlock,
-      ← c.deref-in-SetBlock.ensures.value,
-      ← c.deref-in-SetBlock-2.ensures,
-      ← c.set_slot.ensures,
-    ) c.resolve_text.ensures

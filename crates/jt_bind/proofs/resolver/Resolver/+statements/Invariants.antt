@@ -1,7 +1,6 @@
-use Rattle.jt_bind.specs.internal
-use internal.{ℕ, List, Stmt, size-Stmt, ◌+◌, ◌*◌, max, drop, most, followed, body_view, branches_view, Constant, SBody}
-use internal.{values, BodyLeads, templates_of, ChoiceLeads, body_of, choice_of}
-use Rattle.jt_bind.proofs.{Branch}
+use Rattle.jt_bind.proofs
+use proofs.{ℕ, List, Stmt, size-Stmt, ◌+◌, ◌*◌, max, drop, most, followed, body_view, branches_view, values, BodyLeads}
+use proofs.{templates_of, ChoiceLeads, body_of, choice_of, Branch, Stmts}
 use Rattle.jt_bind.proofs.resolver.Resolver.+statements.Given as goal
 
 -- ---- measures: the depth of the remaining statements, and the order of the calls
@@ -58,12 +57,12 @@ decreases-resolve_branches l =
 
 abbrev pub invariant-resolve_body-loop-statement : goal.invariant-resolve_body-loop-statement
 invariant-resolve_body-loop-statement l =
-    (left : SBody Constant) → BodyLeads (templates_of l.self) (followed (body_of l.self (body_view l.body)) left)
+    (left : Stmts) → BodyLeads (templates_of l.self) (followed (body_of l.self (body_view l.body)) left)
     (followed (body_of l.self (body_view (drop l.statement-index l.body))) left) l.initial.done.items l.done.items
     (values l.initial.pool) (values l.pool)
 
 abbrev pub invariant-resolve_branches-loop-branch : goal.invariant-resolve_branches-loop-branch
 invariant-resolve_branches-loop-branch l =
-    (other : SBody Constant) → ChoiceLeads (templates_of l.self) (choice_of l.self (branches_view l.branches) other)
+    (other : Stmts) → ChoiceLeads (templates_of l.self) (choice_of l.self (branches_view l.branches) other)
     (choice_of l.self (branches_view (drop l.branch-index l.branches)) other) l.made.part.items
     (values l.initial.pool) (values l.pool)

@@ -1,6 +1,5 @@
-use Rattle.jt_bind.specs.internal.{None}
 use Rattle.jt_bind.proofs
-use proofs.{drop_all, arith, add-one, rules, lead_of, lead_both, row_entry, filled_behind, parameters_behind}
+use proofs.{None, drop_all, arith, add-one, rules, lead_of, lead_both, row_entry, filled_behind, parameters_behind}
 use proofs.{parameters_left}
 use Rattle.jt_bind.proofs.resolver.Resolver.fill.Goals as goal
 

@@ -1,5 +1,4 @@
-use Rattle.jt_bind.specs.internal
-use internal.{List, drop, Tree, pairs_view, keywords, parameters_view, filled, locals_from, RowLeads}
+use Rattle.jt_bind.proofs.{List, drop, Tree, pairs_view, keywords, parameters_view, filled, locals_from, RowLeads}
 use Rattle.jt_bind.proofs.resolver.Resolver.fill.Given as goal
 
 abbrev pub invariant-loop-parameter : goal.invariant-loop-parameter

@@ -1,8 +1,7 @@
-use Rattle.jt_bind.specs.internal
-use internal.{None, ◌≡◌, ◌+◌, ◌∷◌, drop, pairs_view, keywords, parameter_view, parameters_view, locals_from}
 use Rattle.jt_bind.proofs
-use proofs.{sym, ap, ◌∙◌, arith, drop_all, lead_both, row_entry, filled_some_behind, none_filled, one_filled}
-use proofs.{parameters_behind, parameters_left}
+use proofs.{None, ◌≡◌, ◌+◌, ◌∷◌, drop, pairs_view, keywords, parameter_view, parameters_view, locals_from, sym, ap, ◌∙◌}
+use proofs.{arith, drop_all, lead_both, row_entry, filled_some_behind, none_filled, one_filled, parameters_behind}
+use proofs.{parameters_left}
 use Rattle.jt_bind.proofs.resolver.Resolver.fill_filter.Goals as goal
 
 pub returns : goal.returns

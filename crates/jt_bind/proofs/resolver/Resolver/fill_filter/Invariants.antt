@@ -1,5 +1,4 @@
-use Rattle.jt_bind.specs.internal
-use internal.{drop, pairs_view, keywords, parameters_view, filled_some, locals_from, values, RowLeads}
+use Rattle.jt_bind.proofs.{drop, pairs_view, keywords, parameters_view, filled_some, locals_from, values, RowLeads}
 use Rattle.jt_bind.proofs.resolver.Resolver.fill_filter.Given as goal
 
 abbrev pub invariant-loop-index : goal.invariant-loop-index

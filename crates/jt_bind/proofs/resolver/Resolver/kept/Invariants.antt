@@ -1,4 +1,4 @@
-use Rattle.jt_bind.specs.internal.{◌≡◌, drop, pairs_view, keywords, slot_in, locals_from}
+use Rattle.jt_bind.proofs.{◌≡◌, drop, pairs_view, keywords, slot_in, locals_from}
 use Rattle.jt_bind.proofs.resolver.Resolver.kept.Given as goal
 
 abbrev pub invariant-loop-key : goal.invariant-loop-key

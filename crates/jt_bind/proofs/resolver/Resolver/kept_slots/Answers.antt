@@ -1,9 +1,8 @@
 use Rattle.jt_ir.specs.declared.program.Slot as code_slot
-use Rattle.jt_bind.specs.internal
-use internal.{is_some, reverse, ◌≡◌, ℕ, ◌+◌, ◌-◌, ◌<◌, ◌≤◌, List, [], ◌∷◌, ◌++◌, map, drop, length, get_or, option_map}
-use internal.{kept_slots, table_of, names_view, slot_view, slot_in, Text, Table, among, Option, Some, None}
-use internal.{if◌then◌else◌, String, string_bytes, bytes_eq}
-use Rattle.jt_bind.proofs.{reverse-append, arith, rules, names_left, Global}
+use Rattle.jt_bind.proofs
+use proofs.{is_some, reverse, ◌≡◌, ℕ, ◌+◌, ◌-◌, ◌<◌, ◌≤◌, List, [], ◌∷◌, ◌++◌, map, drop, length, get_or, option_map}
+use proofs.{kept_slots, table_of, names_view, slot_view, slot_in, Text, Table, among, Option, Some, None, if◌then◌else◌}
+use proofs.{String, string_bytes, bytes_eq, reverse-append, arith, rules, names_left, Global}
 use Rattle.jt_bind.proofs.resolver.Resolver.kept_slots.Goals as goal
 
 module _ (ks : List (String Global)) (i : ℕ) (k : String Global) (lt : i < length ks) (is : k ≡ get_or ks i k) where

@@ -1,6 +1,6 @@
-use Rattle.jt_bind.specs.internal
-use internal.{is_some, reverse, ◌≡◌, ◌≤◌, map, drop, length, option_map, kept_slots, table_of, names_view, slot_view}
-use internal.{Text, among, value_in}
+use Rattle.jt_bind.proofs
+use proofs.{is_some, reverse, ◌≡◌, ◌≤◌, map, drop, length, option_map, kept_slots, table_of, names_view, slot_view}
+use proofs.{Text, among, value_in}
 use Rattle.jt_bind.proofs.resolver.Resolver.kept_slots.Given as goal
 
 abbrev pub invariant-loop-left : goal.invariant-loop-left

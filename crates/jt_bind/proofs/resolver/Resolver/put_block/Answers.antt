@@ -1,8 +1,6 @@
-use Rattle.jt_ir.specs.Slots as slots
-use Rattle.jt_bind.specs.internal
-use internal.{if◌then◌else◌, Table, numbered_of, first_body, cenv_in, order_in, namespace_in, globals_in, senv_of}
-use internal.{table_of, templates_of}
-use Rattle.jt_bind.proofs.{sym, ◌∙◌, IfOk-weaker, emits_of, run_emitted, block_run, block_absent}
+use Rattle.jt_bind.proofs
+use proofs.{absent, if◌then◌else◌, Table, numbered_of, first_body, cenv_in, order_in, namespace_in, globals_in, senv_of}
+use proofs.{table_of, templates_of, sym, ◌∙◌, IfOk-weaker, emits_of, run_emitted, block_run, block_absent}
 use Rattle.jt_bind.proofs.resolver.Resolver.put_block.Goals as goal
 
 pub returns : goal.returns
@@ -26,4 +24,4 @@ returns-in_default c =
     IfOk-weaker c.put_print.result _ _ (λ u h line required body p. emits_of (templates_of r) _ _ _ _ _ _
     (block_absent (cenv_in s) (order_in s) (senv_of r) (first_body (numbered_of (cenv_in s) (namespace_in s) name)) name
     table (sym c.in_default.is ∙ c.in_ok-unit.ensures))
-    (h slots.absent p p (c.absent.ensures p))) c.put_print.ensures
+    (h absent p p (c.absent.ensures p))) c.put_print.ensures

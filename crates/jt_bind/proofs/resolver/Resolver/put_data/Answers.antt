@@ -1,6 +1,5 @@
 use Rattle.jt_value.specs.Tree as tree
-use Rattle.jt_bind.specs.internal.{view, values, templates_of}
-use Rattle.jt_bind.proofs.{sym, ◌∙◌, length-map, data_emitted, map-append}
+use Rattle.jt_bind.proofs.{view, values, templates_of, sym, ◌∙◌, length-map, data_emitted, map-append}
 use Rattle.jt_bind.proofs.resolver.Resolver.put_data.Goals as goal
 
 pub returns : goal.returns

@@ -1,11 +1,8 @@
 use Rattle.jt_ast.specs.Statements as trees
-use Rattle.jt_ir.specs.Slots as slots
-use Rattle.jt_bind.specs.internal
-use internal.{refl, [], is_ignored, passes_context, first_slot, names, a_chain, texts, cenv_in, order_in, templates_of}
-use internal.{stmt_of}
 use Rattle.jt_bind.proofs
-use proofs.{sym, ap, ◌∙◌, IfOk-weaker, emits_of, emits_both, run_emitted, no_row, absent_names, absent_unit}
-use proofs.{include_shown, include_missing}
+use proofs.{none, refl, [], is_ignored, passes_context, first_slot, names, a_chain, texts, cenv_in, order_in}
+use proofs.{templates_of, stmt_of, sym, ap, ◌∙◌, IfOk-weaker, emits_of, emits_both, run_emitted, no_row, absent_names}
+use proofs.{absent_unit, include_shown, include_missing}
 use Rattle.jt_bind.proofs.resolver.Resolver.put_include.Goals as goal
 
 pub returns-in_default : goal.returns-in_default
@@ -19,7 +16,7 @@ returns-in_default c =
     (include_shown r c.args.line x (is_ignored c.args.missing) (passes_context c.args.names)
     (first_slot cenv order (a_chain x)) [] c.units.result (sym c.is_missing.ensures ∙ c.if-is_missing.false) refl
     (sym (absent_names cenv order (a_chain x) absent)) (c.units.ensures ∙ sym (absent_unit cenv order x absent)))
-    (run_emitted (templates_of r) _ slots.none _ _ _ p p (no_row _ c.new.ensures.items p) h)) c.put_run.ensures
+    (run_emitted (templates_of r) _ none _ _ _ p p (no_row _ c.new.ensures.items p) h)) c.put_run.ensures
 
 pub returns : goal.returns
 returns c =
@@ -36,7 +33,7 @@ returns c =
     (laid.from ∙ ap (first_slot cenv order) is) (laid.named ∙ ap (names cenv order) is) (laid.chain_unit x is)
     ∙ ap (λ seen. stmt_of r (trees.include c.args.line x (is_ignored c.args.missing) seen)) c.passes_context.ensures)
     (emits_both (templates_of r) _ _ _ _ _ _ _ _ (rw c.deref.ensures.value at (c.in_ok-put_values.ensures p))
-    (run_emitted (templates_of r) _ slots.none _ _ _ p p (no_row _ c.new-2.ensures.items p) h)))
+    (run_emitted (templates_of r) _ none _ _ _ p p (no_row _ c.new-2.ensures.items p) h)))
     c.put_run-2.ensures
 
 pub returns-then-is_missing : goal.returns-then-is_missing

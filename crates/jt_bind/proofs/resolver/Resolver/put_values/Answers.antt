@@ -1,5 +1,6 @@
-use Rattle.jt_bind.specs.internal.{[], if◌then◌else◌, expr_view, slot_view, table_of, templates_of, line_of}
-use Rattle.jt_bind.proofs.{drop_all, arith, lead_both, assign_emitted, assign_step}
+use Rattle.jt_bind.proofs
+use proofs.{[], if◌then◌else◌, expr_view, slot_view, table_of, templates_of, line_of, drop_all, arith, lead_both}
+use proofs.{assign_emitted, assign_step}
 use Rattle.jt_bind.proofs.resolver.Resolver.put_values.Goals as goal
 
 pub loop-name-preserved : goal.loop-name-preserved

@@ -1,5 +1,4 @@
-use Rattle.jt_bind.specs.internal.{None}
-use Rattle.jt_bind.proofs.{drop_all, arith, reads_next, lead_of, lead_both, row_entry}
+use Rattle.jt_bind.proofs.{None, drop_all, arith, reads_next, lead_of, lead_both, row_entry}
 use Rattle.jt_bind.proofs.resolver.Resolver.reads.Goals as goal
 
 pub returns : goal.returns

@@ -1,5 +1,4 @@
-use Rattle.jt_bind.specs.internal.{◌≡◌, expr_values, values}
-use Rattle.jt_bind.proofs.{take_at, take-map, filters_push, named_is, filter_placed}
+use Rattle.jt_bind.proofs.{◌≡◌, expr_values, values, take_at, take-map, filters_push, named_is, filter_placed}
 use Rattle.jt_bind.proofs.resolver.Resolver.resolve_filter_call.Goals as goal
 
 pub returns-in_default : goal.returns-in_default

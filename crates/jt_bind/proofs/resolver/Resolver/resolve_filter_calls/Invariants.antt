@@ -1,5 +1,4 @@
-use Rattle.jt_bind.specs.internal
-use internal.{filters_of, take, filter_calls_view, variable, slot_view, filtered_view, values, IsPlaced}
+use Rattle.jt_bind.proofs.{filters_of, take, filter_calls_view, variable, slot_view, filtered_view, values, IsPlaced}
 use Rattle.jt_bind.proofs.resolver.Resolver.resolve_filter_calls.Given as goal
 
 abbrev pub invariant-loop-filter_call : goal.invariant-loop-filter_call

@@ -1,7 +1,6 @@
-use Rattle.jt_ast.specs.StatementView as written
-use Rattle.jt_bind.specs.internal
-use internal.{Bor, Text, texts, inside_of, templates_of, scoped_of}
-use Rattle.jt_bind.proofs.{sym, ◌∙◌, length-map, locals_same, routine_made}
+use Rattle.jt_bind.proofs
+use proofs.{body_view, Bor, Text, texts, inside_of, templates_of, scoped_of, sym, ◌∙◌, length-map, locals_same}
+use proofs.{routine_made}
 use Rattle.jt_bind.proofs.resolver.Resolver.resolve_routine.Goals as goal
 
 pub returns : goal.returns
@@ -9,7 +8,7 @@ returns c =
     let r = c.args.self.now in
     let T = templates_of r in
     let names = c.args.parameters in
-    let whole = scoped_of r (written.body_view c.args.body.now) (inside_of r (texts names.items)) in
+    let whole = scoped_of r (body_view c.args.body.now) (inside_of r (texts names.items)) in
     let body = c.resolve_within.new.done in
     let emitted = rw c.new-done.ensures.items at c.in_ok-resolve_within.ensures in
     let count = c.len-count.ensures ∙ names.ok.0 ∙ sym (length-map names.items (λ (k : Bor Text). k.now)) in

@@ -1,5 +1,6 @@
-use Rattle.jt_bind.specs.internal.{◌+◌, drop, pairs_view, Resolver, values_of}
-use Rattle.jt_bind.proofs.{drop_all, ◌∙◌, arith, add-one, lead_both, assign_emitted, values_followed, pairs_left, freed}
+use Rattle.jt_bind.proofs
+use proofs.{◌+◌, drop, pairs_view, Resolver, values_of, drop_all, ◌∙◌, arith, add-one, lead_both, assign_emitted}
+use proofs.{values_followed, pairs_left, freed}
 use Rattle.jt_bind.proofs.resolver.Resolver.resolve_values.Goals as goal
 
 pub returns : goal.returns

@@ -1,6 +1,6 @@
-use Rattle.jt_bind.specs.internal
-use internal.{◌≡◌, String, List, [], ◌∷◌, length, refl, names_view, Table, kept_slots, set_targets, several}
-use Rattle.jt_bind.proofs.{Global, arith, rules}
+use Rattle.jt_bind.proofs
+use proofs.{◌≡◌, String, List, [], ◌∷◌, length, refl, names_view, Table, kept_slots, set_targets, several, Global}
+use proofs.{arith, rules}
 use Rattle.jt_bind.proofs.resolver.Resolver.set_targets.Goals.{else-names-lt1+else-names-lt2}
 use Rattle.jt_bind.proofs.resolver.Resolver.set_targets.Goals as goal
 

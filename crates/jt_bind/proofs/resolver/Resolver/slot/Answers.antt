@@ -1,5 +1,4 @@
-use Rattle.jt_bind.specs.internal.{◌-◌, globals_in}
-use Rattle.jt_bind.proofs.{sym, ◌∙◌, arith, framed_found}
+use Rattle.jt_bind.proofs.{◌-◌, globals_in, sym, ◌∙◌, arith, framed_found}
 use Rattle.jt_bind.proofs.resolver.Resolver.slot.Goals as goal
 
 pub returns-in-Some : goal.returns-in-Some

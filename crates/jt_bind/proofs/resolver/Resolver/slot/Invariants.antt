@@ -1,4 +1,4 @@
-use Rattle.jt_bind.specs.internal.{◌≡◌, ◌≤◌, length, map, take, slot_in, globals_in, framed}
+use Rattle.jt_bind.proofs.{◌≡◌, ◌≤◌, length, map, take, slot_in, globals_in, framed}
 use Rattle.jt_bind.proofs.resolver.Resolver.slot.Given as goal
 
 abbrev pub invariant-loop-left : goal.invariant-loop-left

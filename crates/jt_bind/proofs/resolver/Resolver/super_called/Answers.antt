@@ -1,10 +1,10 @@
 use Rattle.std.proofs.lemmas.Option.{slice_get_read}
-use Rattle.jt_semantics.specs.Resolve.{StaticEnv, invoked_super}
-use Rattle.jt_bind.specs.internal
-use internal.{files_in, numbered_in, ◌≡◌, ℕ, ◌+◌, ◌<◌, ◌≤◌, List, ◌∷◌, length, drop, get_or, Option, Some, filter}
-use internal.{bytes_eq, BlockBody, block_view, Block, invoked_body, block_parameters, next_given, first_locals, IsTable}
-use internal.{part_at, cenv_in, order_in, namespace_in, senv_of, Chains, NamespaceLayout}
-use Rattle.jt_bind.proofs.{numbered_next, numbered_end, next_numbered, sym, ◌∙◌, invoked_placed}
+use Rattle.jt_semantics.specs.Resolve.{invoked_super}
+use Rattle.jt_bind.proofs
+use proofs.{StaticEnv, files_in, numbered_in, ◌≡◌, ℕ, ◌+◌, ◌<◌, ◌≤◌, List, ◌∷◌, length, drop, get_or, Option, Some}
+use proofs.{filter, bytes_eq, BlockBody, block_view, Block, invoked_body, block_parameters, next_given, first_locals}
+use proofs.{IsTable, part_at, cenv_in, order_in, namespace_in, senv_of, Chains, NamespaceLayout, numbered_next}
+use proofs.{numbered_end, next_numbered, sym, ◌∙◌, invoked_placed}
 use Rattle.jt_bind.proofs.resolver.Resolver.super_called.Goals as goal
 
 module _ (s : Chains) (here : NamespaceLayout) (i : ℕ) (body : Block) (n : Option ℕ)

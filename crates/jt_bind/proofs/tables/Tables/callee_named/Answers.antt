@@ -1,4 +1,4 @@
-use Rattle.jt_bind.specs.internal.{cenv_in, order_in}
+use Rattle.jt_bind.proofs.{cenv_in, order_in}
 use Rattle.jt_bind.proofs.tables.Tables.callee_named.Goals as goal
 
 pub returns-in-None : goal.returns-in-None

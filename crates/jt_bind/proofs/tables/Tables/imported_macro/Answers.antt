@@ -1,9 +1,7 @@
-use Rattle.jt_ast.specs.Expressions as trees
-use Rattle.jt_bind.specs.internal
-use internal.{◌≡◌, Some, refl, a_library, macros, macro_of, given_to, library_of, of_namespace, cenv_in, given_in}
-use internal.{callee_in}
 use Rattle.jt_bind.proofs
-use proofs.{sym, ap, ◌∙◌, arith, rules, IfOk-weaker, called_there, member_is, no_library, private_is, public_is}
+use proofs.{attribute, name, ◌≡◌, Some, refl, a_library, macros, macro_of, given_to, library_of, of_namespace, cenv_in}
+use proofs.{given_in, callee_in, sym, ap, ◌∙◌, arith, rules, IfOk-weaker, called_there, member_is, no_library}
+use proofs.{private_is, public_is}
 use Rattle.jt_bind.proofs.tables.Tables.imported_macro.Goals as goal
 
 pub returns-in_default : goal.returns-in_default
@@ -21,7 +19,7 @@ returns c =
     let o = given_to of (given_in scope) in
     let n = c.in-Some.library.now in
     let some : library_of o ≡ Some n = rw (← c.library_named.ensures, c.in-Some.is) refl in
-    let f = trees.attribute (trees.name of) x in
+    let f = attribute (name of) x in
     let whole : callee_in scope f ≡ of_namespace (a_library n) (macro_of x (macros sources (a_library n))) =
     member_is sources (given_in scope) of x c.requires.not_self c.requires.not_loop
     ∙ public_is sources o x n some (sym c.is_private.ensures ∙ c.if-is_private.false) in

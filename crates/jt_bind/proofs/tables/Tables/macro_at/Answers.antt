@@ -1,7 +1,6 @@
 use Rattle.std.proofs.lemmas.Option.{get_or_from_slice_get}
-use Rattle.jt_bind.specs.internal
-use internal.{files_in, ◌≡◌, parameters_view, macro_view, namespace_at, Macro, of_namespace, order_in}
-use Rattle.jt_bind.proofs.{ap, ◌∙◌}
+use Rattle.jt_bind.proofs
+use proofs.{files_in, ◌≡◌, parameters_view, macro_view, namespace_at, Macro, of_namespace, order_in, ap, ◌∙◌}
 use Rattle.jt_bind.proofs.tables.Tables.macro_at.Goals as goal
 
 pub returns : goal.returns

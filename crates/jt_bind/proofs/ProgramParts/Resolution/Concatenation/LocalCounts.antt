@@ -1,15 +1,10 @@
 -- The number of locals that resolved statements use.
-use Rattle.jt_ir.specs.Slots.{SlotStmt}
-use Rattle.jt_ir.proofs.ExpressionViews.{row_left}
-use Rattle.jt_ir.specs.Slots as slots
-use Rattle.jt_ir.specs.declared.program.Slot as code_slot
-use Rattle.jt_bind.specs.internal
-use internal.{entry_front, up_to, Reaches, ◌≡◌, ℕ, ◌+◌, ◌<◌, List, [], ◌∷◌, length, map, drop, get_or, refl, max}
-use internal.{Option, Some, None, option_map, Text, slots_locals, expr_locals, row_locals, condition_locals}
-use internal.{stmt_locals, body_locals, Constant, placed_expr, placed_row, placed_condition, placed_stmt, placed_body}
-use internal.{SlotExpr, SRow, SBody, Front, slot_view, expr_view, row_view, choice_view, filters_after, SlotFilter}
-use internal.{target_locals, branches_locals}
-use Rattle.jt_bind.proofs.Vocabulary.{sym, ap, ◌∙◌, arith, rules, drop_more, SBranch, Entry}
+pub mod Vocabulary
+pub use Vocabulary.*
+use Rattle.jt_ir.proofs.ExpressionViews
+
+-- Lemmas of lists that several functions need.
+pub ruleset list_lemmas = (length-map, append-nil, take_all)
 
 -- ---- the count does not depend on pool indices
 
@@ -17,7 +12,7 @@ both_counted : {a b c d : ℕ} → a ≡ b → c ≡ d → max a c ≡ max b d
 both_counted e f = rw (e, f)
 
 mutual
-  pub expr_counted : (e : SlotExpr Constant) (n : ℕ) → expr_locals (placed_expr e n) ≡ expr_locals e
+  pub expr_counted : (e : Term) (n : ℕ) → expr_locals (placed_expr e n) ≡ expr_locals e
   expr_counted (slots.made k es) n = row_counted es n
   expr_counted (slots.conjunction a b) n = both_counted (expr_counted a _) (expr_counted b _)
   expr_counted (slots.disjunction a b) n = both_counted (expr_counted a _) (expr_counted b _)
@@ -26,19 +21,19 @@ mutual
   expr_counted (slots.invoke u escaping es) n = row_counted es n
   expr_counted a0 n = refl
 
-  pub row_counted : (es : SRow Constant) (n : ℕ) → row_locals (placed_row es n) ≡ row_locals es
+  pub row_counted : (es : Row) (n : ℕ) → row_locals (placed_row es n) ≡ row_locals es
   row_counted slots.none n = refl
   row_counted (slots.item e es) n = both_counted (expr_counted e _) (row_counted es _)
   row_counted (slots.aside i e es) n =
       both_counted refl (both_counted (expr_counted e _) (row_counted es _))
 
-pub condition_counted : (k : Option (SlotExpr Constant)) (n : ℕ)
+pub condition_counted : (k : Option Term) (n : ℕ)
     → condition_locals (placed_condition k n) ≡ condition_locals k
 condition_counted None n = refl
 condition_counted (Some c) n = expr_counted c n
 
 mutual
-  pub stmt_counted : (c : SlotStmt Constant) (n : ℕ) → stmt_locals (placed_stmt c n) ≡ stmt_locals c
+  pub stmt_counted : (c : slots.SlotStmt Constant) (n : ℕ) → stmt_locals (placed_stmt c n) ≡ stmt_locals c
   stmt_counted (slots.if_else p c a b) n =
       both_counted (expr_counted c _) (both_counted (body_counted a _) (body_counted b _))
   stmt_counted (slots.for_each p xs e c body other) n =
@@ -46,7 +41,7 @@ mutual
   stmt_counted (slots.capture escaping s body) n = both_counted refl (body_counted body n)
   stmt_counted a0 n = search (arith, rules, expr_counted, both_counted, row_counted)
 
-  pub body_counted : (b : SBody Constant) (n : ℕ) → body_locals (placed_body b n) ≡ body_locals b
+  pub body_counted : (b : Stmts) (n : ℕ) → body_locals (placed_body b n) ≡ body_locals b
   body_counted slots.end n = refl
   body_counted (slots.stmt c rest) n = both_counted (stmt_counted c _) (body_counted rest _)
 
@@ -104,10 +99,10 @@ pub row_step : (es : List Entry) (i : ℕ) (b : Entry) (n m m' r : ℕ) → i < 
     → max m (row_locals (row_view (drop i es) slots.none)) ≡ r
     → max m' (row_locals (row_view (drop (i + 1) es) slots.none)) ≡ r
 row_step es i b n m m' r lt is e f so =
-    let left = ap row_locals (row_left es i b lt is)
+    let left = ap row_locals (ExpressionViews.row_left es i b lt is)
     ∙ entry_first b.0 (expr_view b.1) (row_view (drop (i + 1) es) slots.none) in omega arith
   where
-    entry_first : (o : Option ℕ) (x : SlotExpr ℕ) (rest : SRow ℕ)
+    entry_first : (o : Option ℕ) (x : slots.SlotExpr ℕ) (rest : SRow ℕ)
         → row_locals (entry_front o x rest) ≡ max (up_to o) (max (expr_locals x) (row_locals rest))
     entry_first None x rest = omega arith
     entry_first (Some i) x rest = refl
@@ -117,7 +112,7 @@ abbrev pub filters_locals : List SlotFilter → ℕ
 filters_locals [] = 0
 filters_locals (f ∷ fs) = max (row_locals (row_view f.row.items slots.none)) (filters_locals fs)
 
-pub filters_counted : (fs : List SlotFilter) (x : SlotExpr ℕ)
+pub filters_counted : (fs : List SlotFilter) (x : slots.SlotExpr ℕ)
     → expr_locals (filters_after fs x) ≡ max (expr_locals x) (filters_locals fs)
 filters_counted [] x = sym (max_zero (expr_locals x))
 filters_counted (f ∷ fs) x = search (arith, rules, filters_counted fs, max_again)

@@ -1,10 +1,16 @@
 -- The words that the clauses and the proofs of this crate take from the definitions of other crates.
+pub use Rattle.jt_ast.specs.Expressions as expressions
+pub use Rattle.jt_ast.specs.Statements as trees
+pub use Rattle.jt_chains.specs.Chain as chain
+pub use Rattle.jt_ir.specs.Slots as slots
+pub use Rattle.jt_semantics.specs.Resolve as resolve
 pub use Rattle.std.specs.Option.{is_none}
 pub use Rattle.std.specs.Prelude.{Bool, Box, IfOk, List, None, Option, Some, String, Vec, [], codes, drop, false}
 pub use Rattle.std.specs.Prelude.{filter, flat_map, get_or, if◌then◌else◌, is_some, length, map, max, option_map, pos}
 pub use Rattle.std.specs.Prelude.{refl, reverse, string_bytes, suc, take, true, unwrap_or, zero, ℕ, ◌*◌, ◌++◌, ◌+◌, ◌-◌}
 pub use Rattle.std.specs.Prelude.{◌<◌, ◌==◌, ◌∷◌, ◌≡◌, ◌≤◌}
 pub use Rattle.std.specs.Str.{bytes_eq}
+pub use Rattle.std.specs.declared.alloc.Global.{Global}
 pub use Rattle.std.specs.declared.rc.Rc.{Rc}
 pub use denote.Param.Weighed.{most}
 pub use denote.Ref.{Bor}
@@ -34,12 +40,13 @@ pub use Rattle.jt_ir.specs.Locals.{body_locals, condition_locals, expr_locals, r
 pub use Rattle.jt_ir.specs.Locals.{stmt_locals}
 pub use Rattle.jt_ir.specs.Pool.{Constant, body_values, condition_values, expr_values, known, own, placed_body}
 pub use Rattle.jt_ir.specs.Pool.{placed_condition, placed_expr, placed_row, placed_stmt, row_values, stmt_values}
-pub use Rattle.jt_ir.specs.Slots.{NaryOp, SBody, SRow, Slot, SlotExpr, Targets, absent, end, global, invoke, item}
-pub use Rattle.jt_ir.specs.Slots.{local, none, one, several, variable}
+pub use Rattle.jt_ir.specs.Slots.{NaryOp, SBody, SRow, Slot, Targets, absent, end, global, invoke, item, local, none}
+pub use Rattle.jt_ir.specs.Slots.{one, several, variable}
 pub use Rattle.jt_ir.specs.View.{Front, choice_view, entry_front, expr_view, filtered_view, filters_after, nary_op_view}
 pub use Rattle.jt_ir.specs.View.{place_view, routine_view, row_view, slot_view, stmt_view, targets_view}
 pub use Rattle.jt_ir.specs.declared.program.Routine.{Routine}
 pub use Rattle.jt_ir.specs.declared.program.SlotBranch.{SlotBranch}
+pub use Rattle.jt_ir.specs.declared.program.SlotExpr.{SlotExpr}
 pub use Rattle.jt_ir.specs.declared.program.SlotFilter.{SlotFilter}
 pub use Rattle.jt_ir.specs.declared.program.SlotStmt.{SlotStmt, size-SlotStmt}
 pub use Rattle.jt_layout.specs.declared.namespace_layout.NamespaceLayout.{NamespaceLayout}
@@ -61,3 +68,4 @@ pub use Rattle.jt_bind.specs.declared.name_scope.NameScope.{NameScope}
 pub use Rattle.jt_bind.specs.declared.resolver.Arguments.{Arguments}
 pub use Rattle.jt_bind.specs.declared.resolver.Resolver.{Resolver}
 pub use Rattle.jt_bind.specs.declared.senv.StaticEnv.{StaticEnv}
+pub use Rattle.jt_bind.specs.internal.Selected.{Chains}

@@ -1,34 +1,20 @@
 -- The resolved parts of a chain, by the layouts in the code and with the indices of the pool that is
 -- filled. Only private clauses cite this module.
+pub mod Vocabulary
+pub use Vocabulary.*
 use Rattle.jt_semantics.specs.Layout.{default_index, globals, numbered_bodies, of_macro}
-use Rattle.jt_chains.specs.Chain as chain
 use Rattle.jt_bind.specs.declared.callee.Callee.TheVariants as kind
 use Rattle.jt_semantics.specs.Operators as operators
+use Rattle.jt_semantics.specs.Programs as programs
 use Rattle.jt_bind.specs.declared.operator_forms.OperatorForm.TheVariants as form
 use Rattle.jt_ids.specs.declared.op_id.OpId.TheVariants as op
 use Rattle.jt_chains.specs.declared.definitions.Definition as found
-use Rattle.jt_ast.specs.Expressions as trees
-use Rattle.jt_ir.specs.Slots as slots
-use Rattle.jt_semantics.specs.Resolve as resolve
-use Rattle.std.specs.Prelude.{◌≡◌, if◌then◌else◌, ◌<◌, ◌∷◌, ◌++◌}
-use Rattle.jt_bind.specs.internal.Vocabulary
-use Vocabulary.{ℕ, true, List, Option, Some, None, option_map, Text, parameters_view, Namespace, listed, MacroBody}
-use Vocabulary.{macros, macro_of, Definition, one_macro, library, CompileEnv, of_body, unit, Signature, Callee, Bool}
-use Vocabulary.{given, Template, pos, [], map, drop, length, get_or, filter, Vec, Rc, bytes_eq, Bor, Tree, number}
-use Vocabulary.{Index0, view, Value, BlockBody, callee, name_at, namespace_at, cenv_of, Constant, own, expr_values}
-use Vocabulary.{row_values, body_values, placed_expr, placed_row, placed_body, SRow, SBody, expr_view, row_view}
-use Vocabulary.{SlotStmt, Table, numbered_of, block_parameters, Part, bound_table, bound_all, texts, NameScope}
-use Vocabulary.{StaticEnv, NamespaceLayout, Place, slot_in, suc, max, slot_locals, Front, expr_locals, body_locals}
-use Vocabulary.{Slot, end, SlotBranch}
 use Rattle.jt_bind.specs.declared.operator_forms.OperatorForm.{OperatorForm}
-use Rattle.std.specs.declared.alloc.Global.{Global}
-use Rattle.jt_ir.specs.View.{body_view}
-use Rattle.jt_ir.specs.declared.program.SlotExpr.{SlotExpr}
 use Rattle.jt_chains.specs.Named.{given_view}
 use Rattle.jt_chains.specs.View.{chain_view}
 use Rattle.jt_layout.specs.NamespaceLayout.{IsLaid}
+use Rattle.jt_ir.specs.View
 use Rattle.jt_bind.specs.declared.scope_entry.EnteredScope.{EnteredScope}
-use Rattle.jt_bind.specs.internal.Selected.{Chains}
 
 -- ---- the callee of a call, and its representation in the code
 
@@ -94,7 +80,7 @@ target_locals (Some s) = slot_locals s
 abbrev pub branches_locals : List Text → List (SlotBranch SlotStmt) → ℕ
 branches_locals templates [] = 0
 branches_locals templates (b ∷ bs) =
-    max (max (expr_locals (expr_view b.condition)) (body_locals (body_view templates b.body.items end)))
+    max (max (expr_locals (expr_view b.condition)) (body_locals (View.body_view templates b.body.items end)))
     (branches_locals templates bs)
 
 -- The last local before statements is `last`, and the last one after them is `result`.
@@ -102,39 +88,58 @@ abbrev pub Reaches : Front → Option ℕ → Option ℕ → Type 0
 Reaches front last result =
     (behind : SBody ℕ) → max (up_to result) (body_locals behind) ≡ max (up_to last) (body_locals (front behind))
 
--- ---- pools
+-- ---- resolved parts whose constants are values, and pools
+
+abbrev pub Term : Type 0
+Term = slots.SlotExpr Constant
+
+abbrev pub Row : Type 0
+Row = SRow Constant
+
+abbrev pub Stmts : Type 0
+Stmts = SBody Constant
+
+abbrev pub Planned : Type 0
+Planned = slots.Routine Constant
+
+abbrev pub Pool : Type 0
+Pool = Vec Value Global
+
+-- A list of expressions of the code; each one that is kept aside has the number of its local.
+abbrev pub Entries : Type 0
+Entries = Vec (Option ℕ × SlotExpr) Global
 
 -- The values of a pool.
-abbrev pub values : Vec Value Global → List Tree
+abbrev pub values : Pool → List Tree
 values pool = map view pool.items
 
 -- ---- the values at the end of a pool that grows from one list of values to another
 
 -- An expression, and the values that it appends to a pool.
-pub record IsPlaced (c : slots.SlotExpr Constant) (e : slots.SlotExpr ℕ) (old new : List Tree) :
+pub record IsPlaced (c : Term) (e : slots.SlotExpr ℕ) (old new : List Tree) :
     Type 0 where
   pub shown : e ≡ placed_expr c (length old)
   pub pooled : new ≡ old ++ expr_values c
 
 -- An expression of the code, and the values that it appends to a pool.
-abbrev pub IsShown : slots.SlotExpr Constant → SlotExpr → List Tree → List Tree → Type 0
+abbrev pub IsShown : Term → SlotExpr → List Tree → List Tree → Type 0
 IsShown c e old new = IsPlaced c (expr_view e) old new
 
 -- An expression of the code, and the values that it appends to a vector.
-abbrev pub IsAdded : slots.SlotExpr Constant → SlotExpr → Vec Value Global → Vec Value Global
+abbrev pub IsAdded : Term → SlotExpr → Pool → Pool
     → Type 0
 IsAdded c e old new = IsShown c e (values old) (values new)
 
 -- An expression made of one placed expression.
-abbrev pub MadeOfOne : (slots.SlotExpr Constant → slots.SlotExpr Constant) → SlotExpr → SlotExpr
+abbrev pub MadeOfOne : (Term → Term) → SlotExpr → SlotExpr
     → Type 0
 MadeOfOne made operand e =
-    (a : slots.SlotExpr Constant) (p q : List Tree)
+    (a : Term) (p q : List Tree)
     → IsShown a operand p q
     → IsShown (made a) e p q
 
 -- An expression that appends no values.
-abbrev pub PutsNone : slots.SlotExpr Constant → SlotExpr → Type 0
+abbrev pub PutsNone : Term → SlotExpr → Type 0
 PutsNone c e = (p : List Tree) → IsShown c e p p
 
 -- Parts are appended, and their values to a pool; of `whole`, the part `left` remains. The view puts
@@ -149,26 +154,30 @@ abbrev pub Appended : Type 0 → Type 0 → Type 1
 Appended Part Item = Part → Part → List Item → List Item → List Tree → List Tree → Type 0
 
 -- Expressions are appended; of the list `whole`, the part `left` remains.
-abbrev pub RowLeads : Appended (SRow Constant) (Option ℕ × SlotExpr)
+abbrev pub RowLeads : Appended Row (Option ℕ × SlotExpr)
 RowLeads = Leads row_view placed_row row_values
 
 -- The list with an expression before it, as an item or as one that is stored in a local.
-abbrev pub entry : Option ℕ → slots.SlotExpr Constant → SRow Constant → SRow Constant
+abbrev pub entry : Option ℕ → Term → Row → Row
 entry None e left = slots.item e left
 entry (Some i) e left = slots.aside i e left
 
 -- A whole list of expressions that appends no values.
-abbrev pub IsRow : SRow Constant → Vec (Option ℕ × SlotExpr) Global → Type 0
+abbrev pub IsRow : Row → Entries → Type 0
 IsRow whole row = (p : List Tree) → RowLeads whole slots.none [] row.items p p
 
 -- Statements are appended; of the body `whole`, the part `left` remains.
-abbrev pub BodyLeads : List Text → Appended (SBody Constant) SlotStmt
-BodyLeads templates = Leads (body_view templates) placed_body body_values
+abbrev pub BodyLeads : List Text → Appended Stmts SlotStmt
+BodyLeads templates = Leads (View.body_view templates) placed_body body_values
 
 -- The index of a loop's turn modulo n.
-abbrev pub turn_in : ℕ → slots.SlotExpr Constant
+abbrev pub turn_in : ℕ → Term
 turn_in n =
     resolve.operation_of op.Remainder (slots.field Index0) (slots.pooled (own (number (pos n))))
+
+-- The item of a list at the index of a loop's turn modulo n.
+abbrev pub cycle_of : Term → ℕ → Term
+cycle_of items n = resolve.operation_of op.Item items (turn_in n)
 
 -- The slot after a slot.
 abbrev pub slot_after : slots.Slot → slots.Slot
@@ -176,7 +185,7 @@ slot_after (slots.local i) = slots.local (suc i)
 slot_after (slots.global i) = slots.global (suc i)
 
 -- The assignments of the values of names to consecutive slots from one on.
-abbrev pub assigned : Place → Table → slots.Slot → List Text → SBody Constant
+abbrev pub assigned : Place → Table → slots.Slot → List Text → Stmts
 assigned p table s [] = slots.end
 assigned p table s (x ∷ xs) =
     slots.stmt (slots.assign p (slots.one s) (resolve.read_from (slot_in x table)))
@@ -236,11 +245,11 @@ module _ (s : Chains) where
   abbrev pub given_as : found.Definition → Definition
   given_as g = given_view files_in namespace_in g
 
-  abbrev pub callee_in : trees.Expr → chain.Callee
+  abbrev pub callee_in : expressions.Expr → chain.Callee
   callee_in f = callee cenv_in.sources given_in f
 
   -- The callee of an expression by its representation in the code.
-  abbrev pub IsCalled : trees.Expr → Callee → Type 0
+  abbrev pub IsCalled : expressions.Expr → Callee → Type 0
   IsCalled f k = IsCallee cenv_in order_in k (callee_in f)
 
   -- The macro of a name in a chain or library, and its representation in the code.
@@ -277,6 +286,53 @@ module _ (s : Chains) where
   abbrev pub top_in : ℕ → resolve.StaticEnv
   top_in i =
       resolve.top_senv cenv_in order_in namespace_in (name_at files_in i)
+
+  -- ---- the parts of a chain
+
+  abbrev pub condition_in : Option expressions.Expr → resolve.StaticEnv
+      → Option Term
+  condition_in k sp = resolve.resolved_condition cenv_in order_in k sp
+
+  -- A template of a chain at its top: all its statements if it is the root, or only the statements
+  -- that set names.
+  abbrev pub layer_at : resolve.StaticEnv → trees.Body → Bool → Stmts
+  layer_at top b is_root =
+      if is_root
+      then resolve.resolved_body cenv_in order_in b top
+      else resolve.resolved_sets cenv_in order_in b top
+
+  abbrev pub layer_in : Template → Bool → Stmts
+  layer_in t is_root =
+      layer_at (resolve.top_senv cenv_in order_in namespace_in t.name) t.body is_root
+
+  -- The templates of a chain.
+  abbrev pub chained_in : List Template → Stmts
+  chained_in = resolve.resolved_chain cenv_in order_in namespace_in
+
+  abbrev pub layers_in : List Layer → Stmts
+  layers_in ls = chained_in (map (layer_view files_in) ls)
+
+  -- ---- the routines of a chain or a library
+
+  -- The routine of a chain, which a library lacks; the routines of macros; the routines of the
+  -- bodies of blocks; and all of them.
+  abbrev pub entry_in : List Planned
+  entry_in = programs.entry_routines cenv_in order_in namespace_in
+
+  abbrev pub macro_in : MacroBody → Planned
+  macro_in = resolve.macro_routine cenv_in order_in namespace_in
+
+  abbrev pub macros_in : List Planned
+  macros_in = map macro_in (macros cenv_in.sources namespace_in)
+
+  abbrev pub bodies_in : List (ℕ × BlockBody) → List Planned
+  bodies_in = programs.body_routines cenv_in order_in namespace_in
+
+  abbrev pub blocks_in : List Planned
+  blocks_in = bodies_in numbered_in
+
+  abbrev pub routines_in : List Planned
+  routines_in = programs.chain_routines cenv_in order_in namespace_in
 
 -- The environment inside an entered scope, whose names are in locals.
 abbrev pub Enters : StaticEnv → List Text → EnteredScope → Type 0
