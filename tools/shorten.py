@@ -95,7 +95,7 @@ def lemmas_of(text):
         module = renamed.get(module, module)
         for name in [it.split(" as ")[-1].strip() for it in names.split(",")]:
             is_common = module.endswith("proofs.Common")
-            if WORD.fullmatch(name) and not name[0].isupper() and ".proofs." in module and (not is_common or re.search("[-_]", name)):
+            if WORD.fullmatch(name) and not name[0].isupper() and ".proofs." in f"{module}." and (not is_common or re.search("[-_]", name)):
                 found.add(name)
     found |= {it[1] for it in re.findall(r"(?m)^(\s*)(?:pub )?([a-z][\w-]*) : ", text)}
     return found - set(re.findall(r"(?m)^\s*(?:abbrev|unfoldable) (?:pub )?(\S+) :", text))
@@ -260,7 +260,8 @@ def shorten(crate, least, rounds):
             shutil.copytree(f"{crate.folder}/{part}", room / part)
         if os.path.isdir(f"{crate.folder}/out/incremental"):
             shutil.copytree(f"{crate.folder}/out/incremental", room / "kept")
-        paths = [*(room / "proofs").glob("*.antt"), *(room / "proofs").glob("**/Answers.antt")]
+        # (a lemma module may stand in the folder of the module that passes its words on)
+        paths = [it for it in (room / "proofs").glob("**/*.antt") if it.name not in ("Invariants.antt", "Proof.antt")]
         files = {str(it.relative_to(room / "proofs")): File(it, least) for it in sorted(set(paths))}
         print(f"{crate.name}: {sum(len(it.equations) for it in files.values())} bodies", flush=True)
         if not settle(files, words, room, rounds):
