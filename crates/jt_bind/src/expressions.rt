@@ -14,8 +14,8 @@ use crate::callee::{Callee, Signature};
 use crate::held::{Held, boxed};
 use crate::lookup::{absent, reading, told};
 use crate::operator_forms::{
-    OperatorForm, chosen, form_of, item_in_turn, literal_value, on_one, range_of, shortcut, turned,
-    unary_operation,
+    OperatorForm, apply_shortcut, chosen, form_of, item_in_turn, literal_value, on_one, range_of,
+    turned, unary_operation,
 };
 use crate::pool::{Pool, add_text, add_value};
 use crate::resolver::{Arguments, Resolver};
@@ -168,10 +168,10 @@ impl<'t, 'f, 's, 'a> Resolver<'t, 'f, 's, 'a> {
                 let inside = self.resolve_made(NaryOp::Operator(op), first, rest, pool)?;
                 on_one(self.alloc, OpId::Not, inside)
             }
-            OperatorForm::Shortcut { is_conjunction } => {
+            OperatorForm::Shortcut(operator) => {
                 let first = self.resolve_boxed(left, pool)?;
                 let second = self.resolve_boxed(right, pool)?;
-                Ok(shortcut(is_conjunction, first, second))
+                Ok(apply_shortcut(operator, first, second))
             }
         }
     }

@@ -25,9 +25,17 @@ pub(crate) enum OperatorForm {
     Operation(OpId),
     /// The negated operation on both operands.
     Negation(OpId),
-    /// The left operand if it is false in a conjunction, or true in a disjunction, or else the
-    /// right one.
-    Shortcut { is_conjunction: bool },
+    /// One of the operands.
+    Shortcut(Shortcut),
+}
+
+/// A binary operator that evaluates its right operand only if the left one does not decide.
+#[derive(Clone, Copy)]
+pub(crate) enum Shortcut {
+    /// The left operand if it is false, or else the right one.
+    Conjunction,
+    /// The left operand if it is true, or else the right one.
+    Disjunction,
 }
 
 /// Returns the value of a literal.
@@ -80,12 +88,8 @@ pub(crate) fn form_of(escaping: bool, operator: BinaryOperator) -> OperatorForm
     ensures { form_view result ≡ operators.form escaping operator }
 {
     match operator {
-        BinaryOperator::Or => OperatorForm::Shortcut {
-            is_conjunction: false,
-        },
-        BinaryOperator::And => OperatorForm::Shortcut {
-            is_conjunction: true,
-        },
+        BinaryOperator::Or => OperatorForm::Shortcut(Shortcut::Disjunction),
+        BinaryOperator::And => OperatorForm::Shortcut(Shortcut::Conjunction),
         BinaryOperator::Equal => OperatorForm::Operation(OpId::Equal),
         BinaryOperator::NotEqual => OperatorForm::Operation(OpId::NotEqual),
         BinaryOperator::Less => OperatorForm::Operation(OpId::Less),
@@ -148,20 +152,19 @@ pub(crate) fn turned(alloc: Global, negated: bool, inside: SlotExpr) -> Result<S
     }
 }
 
-/// Returns the conjunction of two operands if `is_conjunction` is true, or else their disjunction.
-pub(crate) fn shortcut(
-    is_conjunction: bool,
+/// Returns the expression that applies a shortcut to two operands.
+pub(crate) fn apply_shortcut(
+    operator: Shortcut,
     left: Held<Box<SlotExpr>>,
     right: Held<Box<SlotExpr>>,
 ) -> SlotExpr
     ensures { (a b : Term) (p q r : List Tree) → IsShown a left.part.value p q
         → IsShown b right.part.value q r
-        → IsShown (resolve.in_form (shortcut_view is_conjunction) a b) result p r }
+        → IsShown (resolve.in_form (shortcut_view operator) a b) result p r }
 {
-    if is_conjunction {
-        SlotExpr::Conjunction(left.into_part(), right.into_part())
-    } else {
-        SlotExpr::Disjunction(left.into_part(), right.into_part())
+    match operator {
+        Shortcut::Conjunction => SlotExpr::Conjunction(left.into_part(), right.into_part()),
+        Shortcut::Disjunction => SlotExpr::Disjunction(left.into_part(), right.into_part()),
     }
 }
 

@@ -22,13 +22,13 @@ use Rattle.jt_parse.specs.Names.{stmt_unknown, body_unknown, branch_unknown}
 use Rattle.jt_ast.specs.Statements.{FilterCall, Stmt, print, choose, for_each, set, set_block, with_values}
 use Rattle.jt_ast.specs.Statements.{filter_block, autoescape, macro, block, Body, end, stmt, Branches, no_branches}
 use Rattle.jt_ast.specs.Statements.{branch}
-use Rattle.jt_chains.specs.Chain.{Namespace, Template, templates}
-use Rattle.jt_chains.specs.View.{Seen, sources_of}
+use Rattle.jt_chains.specs.Chain.{Namespace}
+use Rattle.jt_chains.specs.View.{Seen}
 use Rattle.jt_eval.specs.Tests.{test_named}
 use Rattle.jt_eval.specs.TheFilters.{the_filters}
 use Rattle.jt_rules.specs.CompileEnv.{cenv_of}
 use Rattle.jt_rules.specs.Known.{IsThere, ExprKnown, RowKnown, PairsKnown, ConditionKnown, FilterCallKnown, StmtKnown}
-use Rattle.jt_rules.specs.Known.{BodyKnown, BranchesKnown, TemplatesKnown, ChainsKnown}
+use Rattle.jt_rules.specs.Known.{BodyKnown, BranchesKnown, ChainsKnown}
 use Rattle.jt_codegen.proofs.EitherHolds.{either_of}
 use Rattle.jt_codegen.proofs.ChainTemplates.{chain_has}
 
@@ -196,17 +196,10 @@ mutual
 
 -- ---- chains
 
-each_known : (ts : List Template) → AllByRecursion (λ t. BodyKnown the_filters t.body) ts
-    → TemplatesKnown the_filters ts
-each_known [] h = tt
-each_known (t ∷ ts) h = (h.0, each_known ts h.1)
-
 pub chains_known : (c : Seen) → AllByRecursion (λ t. body_unknown t.body ≡ None) c.templates → (hs : List Namespace)
     → ChainsKnown (cenv_of c) hs
 chains_known c a [] = tt
 chains_known c a (h ∷ hs) =
     let all = all_weaker (λ t. body_unknown t.body ≡ None) (λ t. BodyKnown the_filters t.body) c.templates
-    (λ t e. body_known t.body e) a in (
-      each_known (templates (sources_of c) h) (chain_has (λ m b. BodyKnown the_filters b) c.templates all h),
-      chains_known c a hs,
-    )
+    (λ t e. body_known t.body e) a in
+    (chain_has (λ m b. BodyKnown the_filters b) c.templates all h, chains_known c a hs)

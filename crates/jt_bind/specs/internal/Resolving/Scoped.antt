@@ -7,9 +7,11 @@ use Rattle.jt_bind.specs.declared.callee.Callee.TheVariants as kind
 use Rattle.jt_semantics.specs.Operators as operators
 use Rattle.jt_semantics.specs.Programs as programs
 use Rattle.jt_bind.specs.declared.operator_forms.OperatorForm.TheVariants as form
+use Rattle.jt_bind.specs.declared.operator_forms.Shortcut.TheVariants as shortcut
 use Rattle.jt_ids.specs.declared.op_id.OpId.TheVariants as op
 use Rattle.jt_chains.specs.declared.definitions.Definition as found
 use Rattle.jt_bind.specs.declared.operator_forms.OperatorForm.{OperatorForm}
+use Rattle.jt_bind.specs.declared.operator_forms.Shortcut.{Shortcut}
 use Rattle.jt_chains.specs.Named.{given_view}
 use Rattle.jt_chains.specs.View.{chain_view}
 use Rattle.jt_layout.specs.NamespaceLayout.{IsLaid}
@@ -56,13 +58,14 @@ module _ (cenv : CompileEnv) (order : List Namespace) where
 
 -- ---- the form of an operator in the code
 
-abbrev pub shortcut_view : Bool → operators.OperatorForm
-shortcut_view is_conjunction = if is_conjunction then operators.conjunction else operators.disjunction
+abbrev pub shortcut_view : Shortcut → operators.OperatorForm
+shortcut_view shortcut.Conjunction = operators.conjunction
+shortcut_view shortcut.Disjunction = operators.disjunction
 
 abbrev pub form_view : OperatorForm → operators.OperatorForm
 form_view (form.Operation o) = operators.operation o
 form_view (form.Negation o) = operators.negation o
-form_view (form.Shortcut is_conjunction) = shortcut_view is_conjunction
+form_view (form.Shortcut operator) = shortcut_view operator
 
 -- ---- the number of locals that parts of resolved statements use
 

@@ -78,7 +78,7 @@ resolve_binary-returns-in_ok-inside-in-Negation t c =
 pub resolve_binary-returns-in_ok-second-in-Shortcut : goal.resolve_binary-returns-in_ok-second-in-Shortcut
 resolve_binary-returns-in_ok-second-in-Shortcut t c =
     rw (← c.form_of.ensures, c.in-Shortcut.is)
-    (c.shortcut.ensures _ _ _ _ _ c.in_ok-first-in-Shortcut.ensures c.in_ok-second-in-Shortcut.ensures)
+    (c.apply_shortcut.ensures _ _ _ _ _ c.in_ok-first-in-Shortcut.ensures c.in_ok-second-in-Shortcut.ensures)
 
 pub resolve_when-returns : goal.resolve_when-returns
 resolve_when-returns t c =
