@@ -1,5 +1,5 @@
 #!/usr/bin/env python3
-"""Tries crates' must-fail edits many at a time, over the work that `rt check` kept: tools/try_edits.py CRATE [CRATE ..]
+"""Tries crates' must-fail edits many at a time, over the work that `rt check` kept: tools/try_edits.py [--compile] CRATE [CRATE ..]
 
 A developer's tool: an early estimate of the gate's result, in a few checks instead of one for each edit. THE KIT'S OWN RUN IS THE VERDICT:
 `rt ci`, or `rt must-fail CRATE`, which try each edit alone.
@@ -8,6 +8,9 @@ A proof depends only on the contracts of other functions, so edits of the bodies
 refused by a goal of its own function; every other edit is named, to be tried by `rt must-fail`. Edits outside a function's body are named
 too, and two edits of one function, or of one cycle of functions, never share a check. The edits are those of must-fail/ and of more-edits/.
 The status is 0 if every edit was refused.
+
+With --compile the edits are only compiled, and those that do not compile are named: they say nothing of a contract. Nothing is
+proved, and no library needs to be. The status is 0 if every edit compiles.
 """
 import os, re, shutil, subprocess, sys, tempfile
 from kit import rt
@@ -87,23 +90,32 @@ def batches(crate, edits):
     return found, alone
 
 
+def edited(crate, edits, room):
+    """Copies the crate to a folder and makes the edits there."""
+    for part in rt.rtlib.PARTS:
+        if os.path.isdir(f"{crate.folder}/{part}"):
+            shutil.copytree(f"{crate.folder}/{part}", f"{room}/{part}")
+    for edit in edits:
+        # (an edit that another edit of this check prevents is tried alone)
+        for path, text in (rt.read_edit(edit, room)[0] or {}).items():
+            with open(f"{room}/{path}", "w", encoding="utf-8") as file:
+                file.write(text)
+
+
+def checked(room, words):
+    """Returns what rattle prints for the crate in a folder."""
+    how = {"stdin": subprocess.DEVNULL, "stdout": subprocess.PIPE, "stderr": subprocess.STDOUT, "errors": "replace"}
+    return subprocess.run([*rt.rtlib.guarded(), rt.rtlib.RATTLE, "check", *words], cwd=room, **how).stdout
+
+
 def refused(crate, batch):
     """Checks a copy of the crate with all edits of a batch, and returns those that are refused by a goal of their own."""
     with tempfile.TemporaryDirectory(prefix="try-edits-") as room:
-        for part in rt.rtlib.PARTS:
-            if os.path.isdir(f"{crate.folder}/{part}"):
-                shutil.copytree(f"{crate.folder}/{part}", f"{room}/{part}")
+        edited(crate, [edit for edit, _, _ in batch], room)
         kept = f"{room}/kept"
         if os.path.isdir(f"{crate.folder}/out/incremental"):
             shutil.copytree(f"{crate.folder}/out/incremental", kept)
-        for edit, _, _ in batch:
-            # (an edit that another edit of this check prevents is tried alone)
-            for path, text in (rt.read_edit(edit, room)[0] or {}).items():
-                with open(f"{room}/{path}", "w", encoding="utf-8") as file:
-                    file.write(text)
-        words = [*rt.rtlib.guarded(), rt.rtlib.RATTLE, "check", *crate.words(FLAGS, keeps=False), "--incremental", kept]
-        how = {"stdin": subprocess.DEVNULL, "stdout": subprocess.PIPE, "stderr": subprocess.STDOUT, "errors": "replace"}
-        said = subprocess.run(words, cwd=room, **how).stdout
+        said = checked(room, [*crate.words(FLAGS, keeps=False), "--incremental", kept])
     if any(rt.unread(line, {it.path for _, where, _ in batch for it in where}) for line in said.split("\n")):
         return []
     goals = [(it[1], int(it[2])) for it in GOAL.finditer(said)]
@@ -115,6 +127,34 @@ def edits_of(crate):
     more = f"{crate.folder}/more-edits"
     good, bad = rt.edits_of(crate)
     return good + [f"{more}/{it}" for it in sorted(os.listdir(more) if os.path.isdir(more) else []) if it.endswith(".edit")], bad
+
+
+def compilation(crate, edits):
+    """Returns what rattle prints for a copy of the crate with all of the edits if it proves nothing."""
+    with tempfile.TemporaryDirectory(prefix="compile-edits-") as room:
+        edited(crate, edits, room)
+        return checked(room, crate.words([*FLAGS, "--only", ""], as_source=True))
+
+
+def compile_errors(crate, edits):
+    """Compiles a copy of the crate with all of the edits, and returns those that do not compile or change no text; nothing is proved."""
+    changes = not any(rt.read_edit(edit, crate.folder)[1] for edit in edits)
+    # rattle ends with this line if the crate compiles
+    if changes and compilation(crate, edits).rstrip().split("\n")[-1].startswith("only="):
+        return []
+    return edits if len(edits) == 1 else [it for edit in edits for it in compile_errors(crate, [edit])]
+
+
+def compiled(crate):
+    """Compiles the edits of one crate, and returns whether each compiles."""
+    good, bad = edits_of(crate)
+    groups, alone = batches(crate, good)
+    together = [[edit for edit, _, _ in batch] for batch in groups] + [[edit] for edit in alone]
+    lacking = [it for edits in together for it in compile_errors(crate, edits)]
+    print(f"{crate.name}: {len(good) - len(lacking)} of {len(good)} edits compile")
+    for edit in [*lacking, *bad]:
+        print(f"  does not compile: {os.path.basename(edit)}")
+    return not lacking and not bad
 
 
 def tried(crate):
@@ -133,8 +173,10 @@ def tried(crate):
 
 
 if __name__ == "__main__":
-    if len(sys.argv) < 2:
+    names = [it for it in sys.argv[1:] if it != "--compile"]
+    if not names:
         sys.exit(__doc__)
     rt.rtlib.guarded()
-    crates = [it for it in rt.rtlib.crates_below(os.getcwd()) if it.name in sys.argv[1:]]
-    sys.exit(0 if all([tried(it) for it in crates]) and len(crates) == len(sys.argv) - 1 else 1)
+    judge = tried if names == sys.argv[1:] else compiled
+    crates = [it for it in rt.rtlib.crates_below(os.getcwd()) if it.name in names]
+    sys.exit(0 if all([judge(it) for it in crates]) and len(crates) == len(names) else 1)

@@ -12,7 +12,7 @@ use Rattle.jt_ir.specs.Slots.{Routine, Program}
 use Rattle.jt_ir.specs.View.{routine_view}
 use Rattle.jt_ir.specs.declared.program.Routine as given
 use Rattle.jt_ast.specs.Expressions.{Text}
-use Rattle.jt_lower.specs.Lower.{unit_of, compiled}
+use Rattle.jt_lower.specs.Lower.{unit_of}
 use Rattle.jt_codegen.specs.declared.emission.EmitError.{EmitError}
 use Rattle.jt_codegen.specs.declared.emission.EmitError.TheVariants as error
 use Rattle.jt_codegen.specs.declared.finding.Limit.TheVariants as limit
