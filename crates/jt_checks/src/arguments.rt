@@ -199,7 +199,7 @@ fn is_row_well(filter: FilterId, row: &[Expr]) -> bool
 fn naming_of(filter: FilterId, name: &str) -> Option<ArgumentRole>
     ensures { result ≡ option_and_then (named_at filter) (position_of filter name.now) }
 {
-    filter.named_at(filter.position(name)?)
+    filter.named_at(filter.place(name)?)
 }
 
 /// Returns whether the arguments of a filter name other things correctly. A filter or test that a

@@ -198,7 +198,7 @@ impl FilterId {
 
     /// Returns the position among the values of an argument that is passed by name, or `None` if
     /// the filter has no such argument. The input has position 0.
-    pub fn position(self, argument: &str) -> Option<usize>
+    pub fn place(self, argument: &str) -> Option<usize>
         ensures { result ≡ position_of self argument.now }
     {
         match self {
