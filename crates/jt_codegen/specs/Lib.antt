@@ -1,5 +1,6 @@
 pub mod Units
 pub mod Compiled
+pub mod Depends
 pub mod Explaining
 pub mod Limits
 pub mod Passed
