@@ -25,3 +25,4 @@ pub mod PoolSize
 pub mod UnknownNames
 pub mod Findings
 pub mod OtherLibraries
+pub mod NeededTemplates
