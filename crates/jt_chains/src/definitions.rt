@@ -134,7 +134,7 @@ fn add_imports<'a>(
 
 impl Chain {
     /// Returns the defined names of a chain or a library: the names of `macros`, which are its own,
-    /// then the names that its imports bind.
+    /// then the names that its imports bind. Returns none if `namespace` is out of range.
     #[tactic(auto, using(crate::proofs::TemplatesByIndex::along_turn, crate::proofs::TemplatesByIndex::imports_from))]
     pub fn definitions<'a>(
         &'a self,
@@ -142,14 +142,17 @@ impl Chain {
         namespace: usize,
         macros: &[Macro<'a>],
     ) -> Result<Vec<DefinedName<'a>>, AllocError>
-        requires { namespace < length self.now.namespaces.items }
-        ensures { IfOk result (λ names.
+        ensures there { namespace < length self.now.namespaces.items → IfOk result (λ names.
             names_view (its_templates self.now) (namespace_in self.now namespace) names.items
             ≡ own (namespace_in self.now namespace)
             (macros_view (its_templates self.now) macros.now)
             ++ imports (its_sources self.now) (namespace_in self.now namespace)) }
+        ensures nowhere { NoneBeyond self.now namespace result }
     {
         let mut names = Vec::new(alloc);
+        if self.namespaces.len() <= namespace {
+            return Ok(names);
+        }
         for one in macros {
             names.push(DefinedName {
                 name: one.name,
