@@ -15,7 +15,7 @@ returns-in_err-allow c =
       arith,
       stepped_size ns.count ns.first ns.step,
       stepped_count ns.count ns.first ns.step,
-      c.len.ensures,
+      c.len-count.ensures,
       c.saturating_add.ensures,
     ) in
     let nesting : 1 ≡ min (tree.nesting t) (2 ^ 32 - 1) = omega (arith, stepped_nesting ns.count ns.first ns.step) in
@@ -32,7 +32,7 @@ returns c =
       arith,
       stepped_size ns.count ns.first ns.step,
       stepped_count ns.count ns.first ns.step,
-      c.len.ensures,
+      c.len-count.ensures,
       c.saturating_add.ensures,
     ) in
     let nesting : 1 ≡ min (tree.nesting t) (2 ^ 32 - 1) = omega (arith, stepped_nesting ns.count ns.first ns.step) in
