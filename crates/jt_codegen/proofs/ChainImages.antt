@@ -1,19 +1,22 @@
 -- A chain that breaks no rule has its image, and the claims of refusals hold.
-use Rattle.std.proofs.Common.{◌≡◌, ℕ, ◌+◌, ◌*◌, ◌<◌, ◌≤◌, Bool, true, false, List, ◌∷◌, map, length}
+use Rattle.std.proofs.Common.{◌≡◌, ℕ, suc, ◌+◌, ◌*◌, ◌<◌, ◌≤◌, Bool, true, false, List, [], ◌∷◌, map, length}
 use Rattle.std.proofs.Common.{None, refl, sym, ap, ◌∙◌, subst, arith, rules}
 use Rattle.std.specs.Prelude.{IsTrue, Result, Ok, Err, IfOk}
 use Rattle.std.specs.List.{AllByRecursion}
 use Rattle.jt_scan.specs.declared.options.Options.{Options}
 use Rattle.jt_image.proofs.ReadPrefix.{all_weaker}
-use Rattle.jt_image.specs.Code.{Code}
+use Rattle.std.proofs.lemmas.Bool.{or_left, or_right}
+use Rattle.std.proofs.lemmas.Cmp.{nat_list_eq_equiv}
+use Rattle.jt_image.specs.Code.{Name, Code}
 use Rattle.jt_image.specs.IsCode.{IsCode, max_count}
 use Rattle.jt_image.specs.Typed.{max_entries}
 use Rattle.jt_image.specs.Parts.{FitTexts, HasTables}
 use Rattle.jt_image.specs.Laws.{CodeLaws}
 use Rattle.jt_ast.specs.Sizes.{body_bytes}
 use Rattle.jt_ast.specs.Expressions.{Text}
+use Rattle.jt_ast.specs.Texts.{among}
 use Rattle.jt_chains.specs.Chain.{Namespace, a_chain, templates}
-use Rattle.jt_inherit.specs.Chains.{SourceTexts, IsRead, IsChain}
+use Rattle.jt_inherit.specs.Chains.{SourceTexts, IsRead, IsOnly, IsChain}
 use Rattle.jt_parse.specs.Names.{body_unknown}
 use Rattle.jt_chains.specs.Includes.{InOrder}
 use Rattle.jt_chains.specs.Indices.{namespace_at}
@@ -45,7 +48,7 @@ use Rattle.jt_ir.specs.declared.program.Routine as given_routine
 use Rattle.jt_lower.specs.Compiles.{LowLaws}
 use Rattle.jt_lower.specs.Fits.{ProgramFits}
 use Rattle.jt_lower.specs.Lawful.{AreLow}
-use Rattle.jt_lower.specs.Lower.{unit_of, places_of, compiled}
+use Rattle.jt_lower.specs.Lower.{numbered, unit_of, places_of, compiled}
 use Rattle.jt_codegen.specs.Compiled.{IsOnlyChain, IsCompiled}
 use Rattle.jt_codegen.specs.Limits.{NeedsTooMany}
 use Rattle.jt_codegen.specs.Refusals.{of_chain, of_scope, of_emit, Breaks, HasProgram, NamesLimit}
@@ -121,14 +124,33 @@ limit_breaks asked (emit_error.Limit l) h =
 
 -- Chains with the same sources have the same compile environment.
 pub only_chain : (given : SourceTexts) (entry : Text) (options : Options) (c : Seen) → IsChain given entry options c
+    → AllByRecursion (IsOnly given options) c.templates
     → ((d : Seen) → IsChain given entry options d → (n : Text) → sources_of c n ≡ sources_of d n)
     → IsOnlyChain given entry options c
-only_chain given entry options c is one = record {
+only_chain given entry options c is each one = record {
   is = is;
+  each = each;
   only = λ d id.
       let same : d.escaping ≡ c.escaping = id.escaping ∙ sym is.escaping in
       λ i. record { filters = the_filters; sources = λ n. sym (one d id n) i; escaping = same i };
 }
+
+-- The texts of numbered names.
+pub numbered_texts : (n : ℕ) (xs : List Text) → map (λ m. m.text) (numbered n xs) ≡ xs
+numbered_texts n [] = refl
+numbered_texts n (x ∷ xs) = ap (λ (ys : List Text). x ∷ ys) (numbered_texts (suc n) xs)
+
+-- Each numbered name is one of the names.
+all_numbered : (n : ℕ) (xs all : List Text) → ((x : Text) → IsTrue (among x xs) → IsTrue (among x all))
+    → AllByRecursion (λ m. IsTrue (among m.text all)) (numbered n xs)
+all_numbered n [] all f = tt
+all_numbered n (x ∷ xs) all f = (
+  f x (or_left _ _ (nat_list_eq_equiv.refl x)),
+  all_numbered (suc n) xs all (λ y a. f y (or_right _ _ a)),
+)
+
+own_names : (n : ℕ) (xs : List Text) → AllByRecursion (λ m. IsTrue (among m.text xs)) (numbered n xs)
+own_names n xs = all_numbered n xs xs (λ x a. a)
 
 module _ (code : CodeLaws) (low : LowLaws) (programs : ProgramLaws) (given : SourceTexts) (entry : Text)
     (options : Options) (c : Seen) (the : IsOnlyChain given entry options c)
@@ -175,6 +197,10 @@ module _ (code : CodeLaws) (low : LowLaws) (programs : ProgramLaws) (given : Sou
       low.fits (names cenv order (a_chain entry)) (count_globals cenv order order) (shared cenv order)
       (routines cenv order) (program_lawful cenv entry is.included ordered takes) few
 
+  -- Each of these names is one of the chain, for this order.
+  abbrev Names : List Name → List Namespace → Type 0
+  Names ns o = AllByRecursion (λ n. IsTrue (among n.text (names cenv o (a_chain entry)))) ns
+
   does_right : AreLow (routines cenv order) → IsCode (compiled p) → IsCompiled given entry options (compiled p)
   does_right few whole =
       let fit = fits few in
@@ -185,6 +211,7 @@ module _ (code : CodeLaws) (low : LowLaws) (programs : ProgramLaws) (given : Sou
         is = the;
         lawful = kept;
         newest = refl;
+        named = subst (Names (compiled p).names) (sym is.begins) (own_names 0 (names cenv order (a_chain entry)));
         typed = low.typed p fit;
         does = record {
           texts = λ x b t r. let m = d.texts x b t r in (m.0, sym (means x m.0) ∙ m.1);

@@ -39,7 +39,7 @@ pub linked_asked : (asked : Asked) (c : Seen) → IsLinkedOf asked c → IsChain
     → ((d : Seen) → IsChain asked.given asked.entry asked.options d → (n : Text) → sources_of c n ≡ sources_of d n)
     → IsChainOf asked c
 linked_asked asked c linked is one = record {
-  only = only_chain asked.given asked.entry asked.options c is one;
+  only = only_chain asked.given asked.entry asked.options c is linked.linked.only one;
   weighs = linked.weighs;
   short = linked.short;
   few = linked.few;

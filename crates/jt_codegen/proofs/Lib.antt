@@ -24,3 +24,5 @@ pub mod OperandsFit
 pub mod PoolSize
 pub mod UnknownNames
 pub mod Findings
+pub mod OtherLibraries
+pub mod NeededTemplates

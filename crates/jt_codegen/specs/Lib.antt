@@ -1,7 +1,9 @@
 pub mod Units
 pub mod Compiled
+pub mod Depends
 pub mod Explaining
 pub mod Limits
+pub mod Needs
 pub mod Passed
 pub mod Refusals
 pub mod Unknown

@@ -1,6 +1,6 @@
 //! Compiles templates to images.
 
-ghost use Rattle.std.specs.Prelude.{IfOk, IfErr};
+ghost use Rattle.std.specs.Prelude.{◌≡◌, map, string_bytes, IfOk, IfErr};
 ghost use Rattle.jt_inherit.specs.Small.{IsSmall};
 ghost use Rattle.jt_ir.specs.View.{program_of};
 ghost use Rattle.jt_codegen.specs.Compiled.{IsCompiled};
@@ -63,6 +63,8 @@ pub(crate) fn compile_program(alloc: Global, program: &Program) -> Result<Image,
     requires { (asked : Asked) × IsProgramOf asked (program_of program.now) }
     ensures compiled { (asked : Asked) → IsProgramOf asked (program_of program.now) → IfOk result
         (λ image. IsCompiled asked.given asked.entry asked.options image) }
+    ensures names { IfOk result (λ image. map (λ name. name.text) image.names
+        ≡ map string_bytes program.now.names.items) }
     ensures refused { (asked : Asked) → IsProgramOf asked (program_of program.now) → IfErr result
         (λ e. PassesOf asked e) }
     ensures small { (asked : Asked) → IsProgramOf asked (program_of program.now) → IfErr result

@@ -5,8 +5,8 @@
 //! emitted in `emission`, `targets` and `entries`, tables and places are built in `tables`,
 //! `places` and `image`, limits are checked in `limits`, and refusals are in `error`. `explain`
 //! (`explaining`) finds the place of a broken rule and the names in it, or the limit that an image
-//! would pass (`finding`, `unknown`). Read first: compiling.rt, and specs/Compiled.antt, which
-//! states the guarantee.
+//! would pass (`finding`, `unknown`). `find_needs` (`needs`) finds what an image depends on. Read
+//! first: compiling.rt, and specs/Compiled.antt, which states the guarantee.
 #![tactic(auto)]
 
 mod compiling;
@@ -16,8 +16,10 @@ mod error;
 mod explaining;
 mod finding;
 mod image;
+mod laws;
 mod limits;
 mod linking;
+mod needs;
 mod places;
 mod tables;
 mod targets;
@@ -32,3 +34,5 @@ pub use jt_lower::low_laws;
 pub use jt_parse::ParseError;
 pub use jt_scan::{Options, ScanError};
 pub use jt_scopes::ScopeError;
+pub use laws::compile_laws;
+pub use needs::{Needs, find_needs};

@@ -1,5 +1,5 @@
 -- The laws of codes and their runs hold.
-use Rattle.std.proofs.Common.{ℕ, ◌≤◌, List, [], ◌∷◌, ◌∙◌, arith, rules}
+use Rattle.std.proofs.Common.{◌≡◌, ℕ, ◌≤◌, List, [], ◌∷◌, Ok, ◌∙◌, arith, rules}
 use Rattle.std.specs.List.{AllByRecursion}
 use Rattle.std.proofs.lemmas.List.{length-map}
 use Rattle.jt_value.specs.Pairs.{Pairs}
@@ -10,7 +10,12 @@ use Rattle.jt_image.specs.Config.{Budget, StackEntry, value, frame, capture, Con
 use Rattle.jt_image.specs.Run.{start, Run}
 use Rattle.jt_image.specs.Enough.{Enough}
 use Rattle.jt_image.specs.FreeRun.{Free, Finished, Failed, start_machine, ComesTo}
-use Rattle.jt_image.specs.Laws.{entry_size, IsSound, HasRuns, CodeLaws}
+use Rattle.jt_image.specs.Laws.{entry_size, IsSound, HasRuns, AreBytes, CodeLaws}
+use Rattle.jt_image.specs.Reading.{code_of}
+use Rattle.jt_image.proofs.DecodeSoundLemmas.{all_at}
+use Rattle.jt_image.proofs.DecodeComplete.{code_again}
+use Rattle.jt_image.proofs.WholeCodeSound.{IsSpelledBy, code_found}
+use Rattle.jt_image.proofs.RunsAlike.{alike}
 use Rattle.jt_image.proofs.TypeSafety.{kinds_of, AreSized, IsFit, IsGood, depth_of, step_fine}
 use Rattle.jt_image.proofs.TypedRuns.{start_good, good_after, safe}
 use Rattle.jt_image.proofs.UnbudgetedRuns.{IsMeant, outcome_of, only_fuel, enough_run, run_erased, same_exec}
@@ -47,5 +52,16 @@ module _ (k : Code) (whole : IsCode k) (typed : IsTyped k) where
     enough_fault = λ x f q e. enough x (Failed f q) tt e;
   }
 
+read : (bytes : List ℕ) → AreBytes bytes → (k : Code) → code_of bytes ≡ Ok k → IsSpelledBy bytes k
+read bytes fits k e = all_at (code_of bytes) (IsSpelledBy bytes) k e (code_found bytes (λ i. fits i))
+
 pub lawful : CodeLaws
-lawful = record { runs = runs; needs_kinds = kinds; no_places = no_places; spelled = spelled_len }
+lawful = record {
+  runs = runs;
+  alike = alike;
+  needs_kinds = kinds;
+  no_places = no_places;
+  read = read;
+  again = code_again;
+  spelled = spelled_len;
+}

@@ -1,5 +1,6 @@
 //! Encodes images as bytes.
-ghost use Rattle.std.specs.Prelude.{◌≡◌, IfOk};
+ghost use Rattle.std.specs.Prelude.{◌≡◌, IfOk, Ok};
+ghost use Rattle.jt_image.specs.Reading.{code_of};
 ghost use Rattle.jt_image.specs.Spelling.{spelling};
 
 use crate::image::Image;
@@ -12,7 +13,9 @@ use std::alloc::Global;
 ///
 /// `NoMemory` if a growth is refused.
 pub fn encode(alloc: Global, image: &Image) -> Result<Vec<u8>, NoMemory>
-    ensures { IfOk result (λ v. v.items ≡ spelling image.now) }
+    ensures spelled { IfOk result (λ v. v.items ≡ spelling image.now) }
+    // The bytes are read as the image again.
+    ensures read { IfOk result (λ v. code_of v.items ≡ Ok image.now) }
 {
     Ok(Vec::from_slice(alloc, &image.bytes)?)
 }

@@ -44,14 +44,6 @@ impl<C: Code> Checked<C> {
 pub type Verified = Checked<Image>;
 
 impl Checked<Image> {
-    /// Takes an image that is known to be in order, as the compiler makes it. Nothing is checked.
-    pub fn of_typed(image: Image) -> Verified
-        requires { IsTyped image }
-        ensures { result ≡ image }
-    {
-        Checked { inner: image }
-    }
-
     /// Returns the verified image.
     pub fn image(&self) -> &Image
         ensures image { result.now ≡ self.now }

@@ -1,6 +1,9 @@
-use Rattle.std.proofs.lemmas.Result.{IfErr-weaker}
+use Rattle.std.proofs.Common.{List, map, string_bytes, ap, ◌∙◌}
+use Rattle.std.proofs.lemmas.Result.{IfErr-weaker, IfOk-weaker}
+use Rattle.jt_image.specs.Code.{Code}
+use Rattle.jt_ast.specs.Expressions.{Text}
 use Rattle.jt_ir.specs.View.{program_of}
-use Rattle.jt_codegen.proofs.ChainImages.{low_of, high_of, tables_of, fits_of, few_of, names_fit, compiled_of}
+use Rattle.jt_codegen.proofs.ChainImages.{low_of, high_of, tables_of, fits_of, few_of, names_fit, compiled_of, numbered_texts}
 use Rattle.jt_codegen.proofs.ChainImages.{stack_refused, stack_not_small, image_refused, image_not_small}
 use Rattle.jt_codegen.proofs.compiling.compile_program.Goals as goal
 
@@ -74,3 +77,9 @@ returns-clause-compiled c =
     λ asked is. compiled_of c.code_laws.ensures c.low_laws.ensures c.program_laws.ensures asked.given asked.entry
     asked.options is.chain is.of.only is.kept (program_of q) is.is low c.image_of.result c.image_of.ensures.is
     c.image_of.ensures.whole
+
+pub returns-clause-names : goal.returns-clause-names
+returns-clause-names c =
+    IfOk-weaker c.image_of.result _ _
+    (λ k e. ap (λ (z : Code). map (λ n. n.text) z.names) e ∙ numbered_texts 0 (program_of c.args.program.now).names)
+    c.image_of.ensures.is
