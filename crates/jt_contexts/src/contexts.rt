@@ -59,7 +59,7 @@ fn context_of(
     ensures ok { IfOk result (λ c. pairs_in (members_view members.entries) ≡ Some (pairs_of c)) }
     ensures err { IfErr result (MembersFlaw (members_view members.entries)) }
 {
-    let mut context = Context::new(alloc);
+    let mut context = Context::with_capacity(alloc, members.len())?;
     for (name, member) in members {
         let value = value_of(alloc, member)?;
         let name = Text::from_string(name)?;
