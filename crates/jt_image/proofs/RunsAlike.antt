@@ -1,4 +1,4 @@
--- Contexts that agree on the names of a code have the same runs.
+-- A code has the same runs over contexts that agree on its names.
 use Rattle.std.proofs.Common.{◌≡◌, List, [], ◌∷◌, refl, sym, ap, ◌∙◌, subst}
 use Rattle.std.specs.Prelude.{Option, Some, None, slice_set, unwrap_or, replicate}
 use Rattle.std.specs.List.{AllByRecursion}
@@ -7,8 +7,8 @@ use Rattle.jt_value.specs.Tree.{Tree}
 use Rattle.jt_value.specs.Pairs.{Pairs, look}
 use Rattle.jt_image.specs.Code.{Name, Code}
 use Rattle.jt_image.specs.Config.{Budget, Limit, Config, Outcome}
-use Rattle.jt_image.specs.Run.{first_of, limit_of_named, passed, filled, entry_locals, locals_of, start, Ending, RunFrom}
-use Rattle.jt_image.specs.Run.{Run}
+use Rattle.jt_image.specs.Run.{first_of, limit_of_named, passed, filled, entry_locals, locals_of, start, Ending}
+use Rattle.jt_image.specs.Run.{RunFrom, Run}
 use Rattle.jt_image.specs.Laws.{Agree, RunAlike}
 
 -- Both contexts give the same value, or none, to each of these names.
@@ -33,7 +33,12 @@ start_with code budget globals = record {
   machine = record {
     unit = 0;
     point = 0;
-    state = record { entries = []; locals = locals_of (entry_locals code.units) []; globals = globals; buffers = [] ∷ [] };
+    state = record {
+      entries = [];
+      locals = locals_of (entry_locals code.units) [];
+      globals = globals;
+      buffers = [] ∷ [];
+    };
     callers = [];
   };
   left = budget;

@@ -14,7 +14,7 @@ use std::alloc::Global;
 /// `NoMemory` if a growth is refused.
 pub fn encode(alloc: Global, image: &Image) -> Result<Vec<u8>, NoMemory>
     ensures spelled { IfOk result (λ v. v.items ≡ spelling image.now) }
-    // The bytes are read as the image again.
+    // The bytes are read as the code of the image.
     ensures read { IfOk result (λ v. code_of v.items ≡ Ok image.now) }
 {
     Ok(Vec::from_slice(alloc, &image.bytes)?)
