@@ -21,7 +21,7 @@ returns-in_err-value-clause-err c =
     let left = c.next.new.self in
     let all : c.args.members.entries ≡ done ++ m ∷ left =
     c.loop-name.invariant.0 ∙ ap (λ es. done ++ es) c.in-Some.ensures.steps in
-    let p = err_from_is_err_and c.from_residual.result c.from_residual.ensures.1 in
+    let p = err_from_is_err_and c.from_residual-in_err-value.result c.from_residual-in_err-value.ensures.1 in
     rw (p.1, p.2, all) (member_flaw done m left c.in_err-value.field-0.0 c.in_err-value.ensures.err)
 
 pub loop-name-preserved : goal.loop-name-preserved
