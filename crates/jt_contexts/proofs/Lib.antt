@@ -1,3 +1,1 @@
 mod MemberValues
-mod KeyOrder
-mod ParseSteps

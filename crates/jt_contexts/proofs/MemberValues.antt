@@ -8,6 +8,9 @@ use Rattle.std.specs.List.{AllByRecursion}
 use Rattle.std.specs.List.Sorted.{IsStrictlySortedBy}
 use Rattle.std.specs.Map.{keys_of}
 use Rattle.std.specs.Str.{bytes_eq}
+use Rattle.std.specs.Cmp.Lexicographic.{slice_cmp}
+use Rattle.std.specs.Ordering.{is_eq, nat_cmp}
+use Rattle.std.proofs.lemmas.Map.Text.{is_eq-slice_cmp}
 use Rattle.std.proofs.lemmas.List.{map-append}
 use Rattle.std.proofs.lemmas.Bool.{or_right}
 use Rattle.serde_json.specs.Data.{Num}
@@ -20,9 +23,11 @@ use Rattle.jt_value.specs.declared.text.Text.{Text}
 use Rattle.jt_value.specs.declared.value.Value.{Value}
 use Rattle.jt_contexts.specs.Json.{value_of, items_of, entries_of, pairs_in, has_number, items_have, members_have, Flaw}
 use Rattle.jt_contexts.specs.Json.{ItemsFlaw, MembersFlaw, is_not_whole, is_out_of_range}
-use Rattle.jt_contexts.proofs.ParseSteps.{apart}
 use Rattle.jt_contexts.specs.declared.error.ContextError.{ContextError}
 use Rattle.jt_contexts.specs.declared.error.ContextError.TheVariants as error
+
+abbrev pub Entry : Type 0
+Entry = Text × Value
 
 abbrev pub Member : Type 0
 Member = String Global × Json
@@ -78,6 +83,9 @@ entries_from (m ∷ ms) (x ∷ es) e =
     rw (head.0, entries_from ms es others, head.1) refl
 
 -- ---- a key above all keys before it is put at the end
+
+apart : (x y : List ℕ) → slice_cmp nat_cmp x y ≡ Less → bytes_eq x y ≡ false
+apart x y e = sym (is_eq-slice_cmp x y) ∙ ap is_eq e
 
 below_middle : (d : Member) (ms : List Member) (m : Member) (rest : List Member)
     → AllByRecursion (λ y. string_cmp d.0 y ≡ Less) (keys_of (ms ++ m ∷ rest)) → string_cmp d.0 m.0 ≡ Less

@@ -10,7 +10,6 @@ ghost use Rattle.jt_contexts.specs.Json.{IsContext, Holds, Flaw, ItemsFlaw, Memb
 
 use crate::error::ContextError;
 use crate::numbers::number_value;
-use crate::reading::read_context;
 use jt_value::{Context, Text, Value};
 use serde_json::Map;
 use std::alloc::Global;
@@ -30,19 +29,6 @@ use std::alloc::Global;
 /// - `OutOfRange` if a number is from 2^63 to 2^64 - 1.
 /// - `NoMemory` if a growth is refused.
 pub fn context_from_json(alloc: Global, text: &str) -> Result<Context, ContextError>
-    ensures ok { IfOk result (λ c. IsContext text.now (pairs_of c)) }
-    ensures err { IfErr result (Holds text.now) }
-{
-    match read_context(alloc, text) {
-        Ok(context) => Ok(context),
-        Err(ContextError::NoMemory) => Err(ContextError::NoMemory),
-        Err(_) => converted(alloc, text),
-    }
-}
-
-/// Reads a context in two passes. It serves a text that `read_context` does not read, and finds the
-/// reason.
-fn converted(alloc: Global, text: &str) -> Result<Context, ContextError>
     ensures ok { IfOk result (λ c. IsContext text.now (pairs_of c)) }
     ensures err { IfErr result (Holds text.now) }
 {
@@ -73,7 +59,7 @@ fn context_of(
     ensures ok { IfOk result (λ c. pairs_in (members_view members.entries) ≡ Some (pairs_of c)) }
     ensures err { IfErr result (MembersFlaw (members_view members.entries)) }
 {
-    let mut context = Context::new(alloc);
+    let mut context = Context::with_capacity(alloc, members.len())?;
     for (name, member) in members {
         let value = value_of(alloc, member)?;
         let name = Text::from_string(name)?;

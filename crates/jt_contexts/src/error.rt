@@ -1,6 +1,5 @@
 //! Defines the errors of reading a context.
 
-use json::Invalid;
 use jt_value::NoMemory;
 use std::alloc::{AllocError, AllocFailed};
 use thiserror::Error;
@@ -23,17 +22,6 @@ pub enum ContextError {
     /// A refused growth.
     #[error("X5 NoMemory")]
     NoMemory,
-}
-
-impl From<Invalid> for ContextError {
-    ghost use Rattle.std.specs.Prelude.{◌≡◌};
-    ghost use Rattle.jt_contexts.specs.declared.error.ContextError.TheVariants as error;
-
-    ghost from_gives = { λ _ e. e ≡ error.NotJson };
-
-    fn from(_invalid: Invalid) -> ContextError {
-        ContextError::NotJson
-    }
 }
 
 impl From<NoMemory> for ContextError {

@@ -5,8 +5,7 @@ use Rattle.std.proofs.lemmas.Result.{err_from_is_err_and}
 use Rattle.jt_value.specs.Pairs.{pairs}
 use Rattle.jt_value.specs.View.{view}
 use Rattle.jt_value.specs.declared.text.Text.{Text}
-use Rattle.jt_contexts.specs.internal.KeyOrder.{Entry}
-use Rattle.jt_contexts.proofs.MemberValues.{Member, entries_from, item_flaw, items_from, member_flaw, one_more}
+use Rattle.jt_contexts.proofs.MemberValues.{Entry, Member, entries_from, item_flaw, items_from, member_flaw, one_more}
 use Rattle.jt_contexts.proofs.MemberValues.{shown, value_in}
 use Rattle.jt_contexts.proofs.contexts.+values.Goals as goal
 

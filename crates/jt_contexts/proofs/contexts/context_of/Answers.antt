@@ -12,7 +12,7 @@ use Rattle.jt_value.proofs.ContextLookup.{unless_failed}
 use Rattle.jt_contexts.proofs.contexts.context_of.Goals as goal
 
 pub loop-name-init : goal.loop-name-init
-loop-name-init c = (sym c.into_iter-name-iterator.ensures.into_iter_gives.0, ap (map Some) (sym c.new-context.ensures))
+loop-name-init c = (sym c.into_iter-name-iterator.ensures.into_iter_gives.0, ap (map Some) (sym c.in_ok-context.ensures.empty))
 
 pub returns-in_err-value-clause-err : goal.returns-in_err-value-clause-err
 returns-in_err-value-clause-err c =
@@ -21,7 +21,7 @@ returns-in_err-value-clause-err c =
     let left = c.next.new.self in
     let all : c.args.members.entries ≡ done ++ m ∷ left =
     c.loop-name.invariant.0 ∙ ap (λ es. done ++ es) c.in-Some.ensures.steps in
-    let p = err_from_is_err_and c.from_residual.result c.from_residual.ensures.1 in
+    let p = err_from_is_err_and c.from_residual-in_err-value.result c.from_residual-in_err-value.ensures.1 in
     rw (p.1, p.2, all) (member_flaw done m left c.in_err-value.field-0.0 c.in_err-value.ensures.err)
 
 pub loop-name-preserved : goal.loop-name-preserved
