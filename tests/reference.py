@@ -3,8 +3,9 @@
 
 TRIALS is the program of jt_trials, which is found beside PROGRAM's crate; its plain.rt describes the letters of the results. The images are
 those that PROGRAM compiles of the rows of templates, those of images.txt, and those of reference.txt, which no other script runs. Refused
-and changed images, and images of more than MOST bytes, are left out. Each image runs for its row's context with every fuel from 0 to 200,
-under ample, narrow and tiny limits, as an image and in place. Each run must end as the reference machine does.
+and changed images are left out, and those of which 600 runs take too long: of more than MOST bytes, and of rows with a bound on the time.
+A line names these. Each image runs for its row's context with every fuel from 0 to 200, under ample, narrow and tiny limits, as an image
+and in place. Each run must end as the reference machine does.
 
 A row is an image. The last line is 'N passed, M failed', and the status is 1 if one failed.
 """
@@ -32,7 +33,7 @@ ENDED = re.compile("[tfs]{3}")
 
 
 def of_templates(program, place, row):
-    """The image of a row of templates with its context, if there are both and the row has no limit of time."""
+    """The image of a row of templates with its context, if there are both; no bytes if the row has a bound on the time."""
     asked, _, wanted = row.partition(" => ")
     if wanted and run.answer_of(run.unfolded(wanted)).startswith("3"):
         return None
@@ -40,7 +41,7 @@ def of_templates(program, place, row):
         room = pathlib.Path(made)
         words, options, limits = run.furnished(room, asked)
         if limits:
-            return None
+            return place, b"", None
         flags = [word for word in options if word in FLAGS]
         found = run.sent(program, ["compile", "d", "t", "image", *flags], room)
         if found != "0 [][]":
@@ -89,7 +90,12 @@ def tried(trials, part):
 
 def main():
     program, trials = programs.asked(sys.argv[1:])
-    cases = [case for case in [*all_of_templates(program), *all_of_images()] if len(case[2]) <= MOST]
+    found = [*all_of_templates(program), *all_of_images()]
+    cases = [case for case in found if case[2] is not None and len(case[2]) <= MOST]
+    timed = sorted({place for place, _, data in found if data is None})
+    large = sorted({place for place, _, data in found if data is not None and len(data) > MOST})
+    print(f"left out: {len(timed)} rows with a bound on the time: {', '.join(timed)}")
+    print(f"left out: {len(large)} rows with an image of more than {MOST} bytes: {', '.join(large)}")
     cases.sort(key=lambda case: len(case[2]))
     parts = [cases[at::PARTS] for at in range(PARTS) if cases[at::PARTS]]
     wrong, letters = [], collections.Counter()

@@ -125,7 +125,7 @@ fn pair(alloc: Global, key: &Text, value: &Value) -> Result<Value, NoMemory>
     ensures { IfOk result (λ v. view v ≡ listing.pair key.now (view value.now)) }
 {
     let mut pair = Vec::with_capacity(alloc, 2)?;
-    pair.push(Value::Text(key.clone()?))?;
+    pair.push(Value::shared_text(key.clone()?))?;
     pair.push(value.try_clone(alloc)?)?;
     Value::list(alloc, pair)
 }

@@ -316,10 +316,9 @@ fn equals(value: &Value, other: Operand<'_>) -> bool
     match other {
         Operand::Undefined => value.equals(&Value::Undefined),
         Operand::Number(number) => value.equals(&Value::Int(number)),
-        Operand::Text(text) => match value {
-            Value::Text(own) => own.as_str() == text,
-            Value::Markup(own) => own.as_str() == text,
-            _ => false,
+        Operand::Text(text) => match value.as_text() {
+            Some(own) => own == text,
+            None => false,
         },
         Operand::Value(other) => value.equals(other),
     }
@@ -331,8 +330,10 @@ fn equals_text(text: &str, other: Operand<'_>) -> bool
 {
     match other {
         Operand::Text(other) => text == other,
-        Operand::Value(Value::Text(other)) => text == other.as_str(),
-        Operand::Value(Value::Markup(other)) => text == other.as_str(),
+        Operand::Value(value) => match value.as_text() {
+            Some(other) => text == other,
+            None => false,
+        },
         _ => false,
     }
 }

@@ -56,7 +56,7 @@ fn keys(alloc: Global, entries: &[(Text, Value)]) -> Result<Vec<Value>, NoMemory
 {
     let mut keys = Vec::new(alloc);
     'entries: for entry in entries {
-        keys.push(Value::Text(entry.0.clone()?))?;
+        keys.push(Value::shared_text(entry.0.clone()?))?;
     }
     Ok(keys)
 }

@@ -54,9 +54,8 @@ pub(crate) fn compare_text(text: &str, value: &Value) -> Result<Ordering, Fault>
 pub(crate) fn equals_text(text: &str, value: &Value) -> bool
     ensures { result ≡ equal (tree.text text.now) (view value.now) }
 {
-    match value {
-        Value::Text(other) => text == other.as_str(),
-        Value::Markup(other) => text == other.as_str(),
-        _ => false,
+    match value.as_text() {
+        Some(other) => text == other,
+        None => false,
     }
 }

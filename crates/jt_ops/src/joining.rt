@@ -148,7 +148,7 @@ fn appended(mut list: Rc<ValueList>, more: &ValueList, limits: Limits) -> Result
     ensures { AnswersWith limits (both list.value more.now) result }
 {
     append_within(&mut list, more, limits)?;
-    Ok(Value::List(list))
+    Ok(Value::shared_list(list))
 }
 
 /// Appends the items of `more` to a list, under limits.

@@ -113,7 +113,10 @@ fn list_of(
 {
     let count = count(start, stop, step);
     allow(count.saturating_add(1), 1, limits)?;
-    made(Value::range(alloc, NumberRange::new(start, step, count as usize)))
+    match NumberRange::new(start, step, count as usize) {
+        Some(numbers) => made(Value::range(alloc, numbers)),
+        None => Err(Fault::Range.into()),
+    }
 }
 
 /// Returns the length of the list of the numbers from `start` by `step` to before `stop`.

@@ -62,6 +62,22 @@ impl Value {
         Ok(Value::Markup(Text::from_string(text)?))
     }
 
+    /// Returns a plain text that shares its characters with the other owners of the text.
+    #[inline]
+    pub fn shared_text(text: Text) -> Value
+        ensures { view result ≡ tree.text text }
+    {
+        Value::Text(text)
+    }
+
+    /// Returns a list that shares its items with the other owners of the items.
+    #[inline]
+    pub fn shared_list(items: Rc<ValueList>) -> Value
+        ensures { view result ≡ tree.list items.value }
+    {
+        Value::List(items)
+    }
+
     /// Returns a list that takes the items without copying them.
     ///
     /// # Errors

@@ -16,18 +16,24 @@ pub struct NumberRange {
 }
 
 impl NumberRange {
-    ghost use Rattle.std.specs.Prelude.{◌≡◌, ℕ, not, eqb, pos, IfOk, IfSome, IfNone, option_map};
+    ghost use Rattle.std.specs.Prelude.{◌≡◌, ¬◌, ℕ, not, eqb, pos, IfOk, IfSome, IfNone, option_map};
     ghost use Rattle.jt_value.specs.ListItems.{numbers_of, items_count, item_at};
     ghost use Rattle.jt_value.specs.Numbers.{stepped, HaveRoom};
     ghost use Rattle.jt_value.specs.Tree.{number, item, no_items};
     ghost use Rattle.jt_value.specs.View.{items_view};
 
-    /// Returns the first `count` numbers from `first` by `step`. Each of them fits 64 bits.
-    pub fn new(first: i64, step: i64, count: usize) -> NumberRange
-        requires { HaveRoom count first step }
-        ensures { numbers_of result ≡ stepped count first step }
+    /// Returns the first `count` numbers from `first` by `step`, or `None` if one of them does not
+    /// fit 64 bits.
+    pub fn new(first: i64, step: i64, count: usize) -> Option<NumberRange>
+        ensures some { IfSome result (λ numbers. numbers_of numbers ≡ stepped count first step) }
+        ensures none { IfNone result (¬ HaveRoom count first step) }
     {
-        NumberRange { first, step, count }
+        if count > 0 {
+            // (the numbers lie between the first one and the last one)
+            let last = i128::from(first) + i128::from(step) * (count - 1) as i128;
+            i64::try_from(last).ok()?;
+        }
+        Some(NumberRange { first, step, count })
     }
 
     /// Returns the range without numbers.

@@ -11,13 +11,6 @@ use Rattle.jt_ops.proofs.AppendSteps.{count_is, inside_counted, listed_all}
 use Rattle.jt_value.proofs.NumberSteps.{stepped_size, stepped_nesting}
 use Rattle.jt_ops.proofs.ranges.list_of.Goals as goal
 
-pub new-requires : goal.new-requires
-new-requires c =
-    let count = count_is c.args.start c.args.stop c.args.step c.count-count.result c.ranges.start c.ranges.stop
-    c.ranges.step c.count-count.ensures in
-    inside_counted c.args.start c.args.stop c.args.step c.count-count.result c.requires c.ranges.start c.ranges.stop
-    c.ranges.step count
-
 pub returns-in_err-allow : goal.returns-in_err-allow
 returns-in_err-allow c =
     let n = range_count c.args.start c.args.stop c.args.step in
