@@ -64,8 +64,8 @@ pub record IsBroken (found : findings.Finding) (f : Finding) : Type 0 where
   pub is : rule_at found.rule place about ≡ found
 
 module _ (given : SourceTexts) (options : Options) where
-  -- The subject of a source that spells no allowed tree, if it is known: an unknown filter or an
-  -- unknown test, which a tag at the line names.
+  -- The subject of a source that spells no allowed tree, if it is known: the unknown filter or test that
+  -- the first such tag at the line names.
   abbrev pub IsUnread : Text → ParseError → Option Subject → Type 0
   IsUnread template e None = Unit {0}
   IsUnread template (parse_error.UnknownFilter line) (Some (v.Filter x)) =
