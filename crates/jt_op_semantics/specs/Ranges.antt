@@ -1,26 +1,11 @@
 -- `range`: the numbers from a start by a step, up to but not including a stop.
-use Rattle.std.specs.Prelude.{ℕ, zero, suc, ℤ, pos, negsuc, ◌-ℤ◌, List, [], ◌∷◌, Result, Ok, Err}
-use Rattle.std.specs.Int.{div_ceil}
+use Rattle.std.specs.Prelude.{zero, ℤ, pos, List, [], ◌∷◌, Result, Ok, Err}
 use Rattle.jt_value.specs.declared.fault.Fault.{Fault}
 use Rattle.jt_value.specs.declared.fault.Fault.TheVariants.{BadType, Range}
-use Rattle.jt_value.specs.Numbers.{stepped}
+use Rattle.jt_value.specs.Numbers.{stepped, range_count}
 use Rattle.jt_value.specs.Order.{operand_fault}
 use Rattle.jt_value.specs.Tree.{Tree, number, list}
 use Rattle.jt_op_semantics.specs.Operands.{operand_fault_of_one, operand_fault_of_three}
-
--- A number, or 0 if it is negative.
-abbrev pub natural : ℤ → ℕ
-natural (pos n) = n
-natural (negsuc n) = 0
-
--- The difference y - x, or 0 if it is negative.
-abbrev pub distance : ℤ → ℤ → ℕ
-distance x y = natural (y -ℤ x)
-
--- The number of the items of a range: the numbers from start by step that lie before stop.
-abbrev pub range_count : ℤ → ℤ → ℤ → ℕ
-range_count start stop (pos step) = div_ceil (distance start stop) step
-range_count start stop (negsuc step) = div_ceil (distance stop start) (suc step)
 
 -- The list of the numbers from start by step that lie before stop. A step of 0 is a fault.
 abbrev pub numbers_between : ℤ → ℤ → ℤ → Result Tree Fault

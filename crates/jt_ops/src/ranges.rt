@@ -1,11 +1,10 @@
 //! Builds the lists of numbers of `range`. Their numbers are not stored.
-ghost use Rattle.std.specs.Prelude.{◌≡◌, ◌≢◌, ◌≤◌, ◌∷◌, [], map, pos, length};
-ghost use Rattle.jt_value.specs.Numbers.{stepped};
+ghost use Rattle.std.specs.Prelude.{◌≤◌, ◌∷◌, [], map, length};
+ghost use Rattle.jt_value.specs.ListItems.{numbers_of};
 ghost use Rattle.jt_value.specs.Tree as tree;
 ghost use Rattle.jt_value.specs.View.{view};
 ghost use Rattle.jt_ops.specs.Limited.{limited_by, Answers, AnswersWith};
-ghost use Rattle.jt_op_semantics.specs.Ranges.{ranged, numbers_between, range_count};
-ghost use Rattle.jt_op_semantics.specs.Ranges as ranges;
+ghost use Rattle.jt_op_semantics.specs.Ranges.{ranged, numbers_between};
 
 use crate::limits::{Limits, OpError, allow, made};
 use crate::operands::{operand_fault, operand_fault_of_one, operand_fault_of_three};
@@ -82,7 +81,6 @@ fn range_by(
 
 /// Returns the list of the numbers from `start` by `step` to before `stop`, or `Range` for the step
 /// 0.
-#[tactic(auto, using(crate::proofs::AppendSteps::numbers_nonzero))]
 fn numbers(
     alloc: Global,
     start: i64,
@@ -92,48 +90,18 @@ fn numbers(
 ) -> Result<Value, OpError>
     ensures { Answers result (limited_by limits (numbers_between start stop step)) }
 {
-    if step == 0 {
-        return Err(Fault::Range.into());
-    }
-    list_of(alloc, start, stop, step, limits)
-}
-
-/// Returns the list of the numbers from `start` by `step` to before `stop`. Tests its size and
-/// nesting first. No number is stored.
-fn list_of(
-    alloc: Global,
-    start: i64,
-    stop: i64,
-    step: i64,
-    limits: Limits,
-) -> Result<Value, OpError>
-    requires { pos 0 ≢ step }
-    ensures { AnswersWith limits (tree.list (stepped (range_count start stop step) start step))
-        result }
-{
-    let count = count(start, stop, step);
-    allow(count.saturating_add(1), 1, limits)?;
-    match NumberRange::new(start, step, count as usize) {
-        Some(numbers) => made(Value::range(alloc, numbers)),
+    match NumberRange::new(start, stop, step) {
+        Some(numbers) => list_of(alloc, numbers, limits),
         None => Err(Fault::Range.into()),
     }
 }
 
-/// Returns the length of the list of the numbers from `start` by `step` to before `stop`.
-fn count(start: i64, stop: i64, step: i64) -> u64
-    requires { pos 0 ≢ step }
-    ensures { result ≡ range_count start stop step }
+/// Returns the list of the numbers of a range. Tests its size and nesting first. No number is
+/// stored.
+fn list_of(alloc: Global, numbers: NumberRange, limits: Limits) -> Result<Value, OpError>
+    ensures { AnswersWith limits (tree.list (numbers_of numbers)) result }
 {
-    if step < 0 {
-        distance(stop, start).div_ceil(step.unsigned_abs())
-    } else {
-        distance(start, stop).div_ceil(step.unsigned_abs())
-    }
-}
-
-/// Returns `high - low`, or 0 if the difference is negative.
-fn distance(low: i64, high: i64) -> u64
-    ensures { result ≡ ranges.distance low high }
-{
-    if low < high { high.abs_diff(low) } else { 0 }
+    let count = numbers.len() as u64;
+    allow(count.saturating_add(1), 1, limits)?;
+    made(Value::range(alloc, numbers))
 }

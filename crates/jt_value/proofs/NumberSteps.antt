@@ -1,8 +1,7 @@
 -- Ranges of numbers, number by number, and the items of lists that are stored.
-use Rattle.std.proofs.Common.{◌≡◌, ℕ, zero, suc, ◌-◌, ◌*◌, ◌<◌, ◌≤◌, ℤ, pos, negsuc, ◌+ℤ◌, ◌*ℤ◌, List, [], ◌∷◌, ◌++◌}
+use Rattle.std.proofs.Common.{◌≡◌, ℕ, zero, suc, ◌-◌, ◌<◌, ℤ, pos, negsuc, ◌+ℤ◌, ◌*ℤ◌, List, [], ◌∷◌, ◌++◌}
 use Rattle.std.proofs.Common.{refl, sym, ap, ◌∙◌, subst, arith, to_z, of_z, Bool, true, false, eqb, true≢false}
-use Rattle.std.proofs.Math.Nat.{mul-le-mul_right}
-use Rattle.std.specs.Prelude.{◌≤ℤ◌, FitsSigned}
+use Rattle.std.specs.Prelude.{FitsSigned}
 use Rattle.std.specs.Int.{w64}
 use Rattle.std.proofs.lemmas.Bool.Decides.{nat_tests}
 use Rattle.std.proofs.lemmas.Int.{ints, to_z-of_z}
@@ -92,19 +91,3 @@ none_stepped zero s d b is some = refl
 none_stepped (suc n) s d b is some =
     let many : eqb (items_count (stepped (suc n) s d)) 0 ≡ false = grind (arith, nat_tests) in
     absurd (true≢false (sym some ∙ is ∙ many))
-
--- A number between two numbers of 64 bits has 64 bits.
-between : (x y z : ℤ) → x ≤ℤ y → y ≤ℤ z → FitsSigned w64 x → FitsSigned w64 z → FitsSigned w64 y
-between x (pos n) (pos m) l h f g = record { sfits = omega (arith, ints, g.sfits) }
-between x (pos n) (negsuc m) l h f g = absurd (omega (arith, ints))
-between (pos m) (negsuc n) z l h f g = absurd (omega (arith, ints))
-between (negsuc m) (negsuc n) z l h f g = record { sfits = omega (arith, ints, f.sfits) }
-
--- If the first number of a range and its last one fit 64 bits, each number does.
-pub room_to : (s d : ℤ) (n : ℕ) → FitsSigned w64 s → FitsSigned w64 (s +ℤ pos n *ℤ d) → HaveRoom (suc n) s d
-room_to s (pos d) n f g k lt =
-    let m : k * d ≤ n * d = mul-le-mul_right d (omega (arith, lt)) in
-    between s _ (s +ℤ pos n *ℤ pos d) (omega (arith, ints)) (omega (arith, ints, m)) f g
-room_to s (negsuc d) n f g k lt =
-    let m : k * suc d ≤ n * suc d = mul-le-mul_right (suc d) (omega (arith, lt)) in
-    between (s +ℤ pos n *ℤ negsuc d) _ s (omega (arith, ints, m)) (omega (arith, ints)) g f

@@ -64,10 +64,10 @@ impl Value {
 
     /// Returns a plain text that shares its characters with the other owners of the text.
     #[inline]
-    pub fn shared_text(text: Text) -> Value
-        ensures { view result ≡ tree.text text }
+    pub fn shared_text(chars: Text) -> Value
+        ensures { view result ≡ tree.text chars }
     {
-        Value::Text(text)
+        Value::Text(chars)
     }
 
     /// Returns a list that shares its items with the other owners of the items.

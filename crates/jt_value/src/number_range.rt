@@ -3,6 +3,7 @@ ghost use Rattle.std.specs.Prelude.{◌≡◌, ◌+ℤ◌, FitsSigned};
 ghost use Rattle.std.specs.Int.{w64};
 ghost use Rattle.jt_value.specs.Numbers.{HaveRoom};
 
+use crate::range_length::count;
 use crate::value::Value;
 use std::alloc::{AllocError, Global};
 
@@ -16,24 +17,36 @@ pub struct NumberRange {
 }
 
 impl NumberRange {
-    ghost use Rattle.std.specs.Prelude.{◌≡◌, ¬◌, ℕ, not, eqb, pos, IfOk, IfSome, IfNone, option_map};
+    ghost use Rattle.std.specs.Prelude.{◌≡◌, ◌≢◌, ◌↔◌, ℕ, not, eqb, pos, IfOk, IfSome, IfNone, IsNone};
+    ghost use Rattle.std.specs.Prelude.{option_map};
     ghost use Rattle.jt_value.specs.ListItems.{numbers_of, items_count, item_at};
-    ghost use Rattle.jt_value.specs.Numbers.{stepped, HaveRoom};
+    ghost use Rattle.jt_value.specs.Numbers.{stepped, range_count};
     ghost use Rattle.jt_value.specs.Tree.{number, item, no_items};
     ghost use Rattle.jt_value.specs.View.{items_view};
 
-    /// Returns the first `count` numbers from `first` by `step`, or `None` if one of them does not
-    /// fit 64 bits.
-    pub fn new(first: i64, step: i64, count: usize) -> Option<NumberRange>
-        ensures some { IfSome result (λ numbers. numbers_of numbers ≡ stepped count first step) }
-        ensures none { IfNone result (¬ HaveRoom count first step) }
+    /// Returns the numbers from `start` by `step` that lie before `stop`, or `None` if the step is 0.
+    pub fn new(start: i64, stop: i64, step: i64) -> Option<NumberRange>
+        ensures some { IfSome result
+            (λ numbers. numbers_of numbers ≡ stepped (range_count start stop step) start step) }
+        ensures none { IsNone result ↔ (step ≡ pos 0) }
     {
-        if count > 0 {
-            // (the numbers lie between the first one and the last one)
-            let last = i128::from(first) + i128::from(step) * (count - 1) as i128;
-            i64::try_from(last).ok()?;
+        if step == 0 {
+            return None;
         }
-        Some(NumberRange { first, step, count })
+        Some(NumberRange::of_steps(start, stop, step))
+    }
+
+    // Returns the numbers from `start` by `step` that lie before `stop`.
+    fn of_steps(start: i64, stop: i64, step: i64) -> NumberRange
+        requires { pos 0 ≢ step }
+        ensures { numbers_of result ≡ stepped (range_count start stop step) start step }
+    {
+        let count = count(start, stop, step) as usize;
+        NumberRange {
+            first: start,
+            step,
+            count,
+        }
     }
 
     /// Returns the range without numbers.

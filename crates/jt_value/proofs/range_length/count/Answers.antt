@@ -1,5 +1,5 @@
-use Rattle.jt_ops.proofs.AppendSteps.{step_positive, count_down, count_up}
-use Rattle.jt_ops.proofs.ranges.count.Goals as goal
+use Rattle.jt_value.proofs.RangeCounts.{step_positive, count_down, count_up}
+use Rattle.jt_value.proofs.range_length.count.Goals as goal
 
 pub div_ceil-requires : goal.div_ceil-requires
 div_ceil-requires c = step_positive c.args.step _ c.ranges.step c.requires c.unsigned_abs.ensures.value
