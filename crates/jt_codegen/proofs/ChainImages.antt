@@ -15,7 +15,7 @@ use Rattle.jt_image.specs.Laws.{CodeLaws}
 use Rattle.jt_ast.specs.Sizes.{body_bytes}
 use Rattle.jt_ast.specs.Expressions.{Text}
 use Rattle.jt_ast.specs.Texts.{among}
-use Rattle.jt_chains.specs.Chain.{Namespace, a_chain, templates}
+use Rattle.jt_chains.specs.Chain.{Namespace, a_chain, Template, templates}
 use Rattle.jt_inherit.specs.Chains.{SourceTexts, IsRead, IsOnly, IsChain}
 use Rattle.jt_parse.specs.Names.{body_unknown}
 use Rattle.jt_chains.specs.Includes.{InOrder}
@@ -64,11 +64,12 @@ use Rattle.jt_codegen.proofs.KnownFiltersAndTests.{chains_known}
 use Rattle.jt_codegen.proofs.ProgramsAreLawful.{few_globals, program_lawful}
 use Rattle.jt_codegen.proofs.MergedUnitsFit.{ps, moved_all}
 use Rattle.jt_codegen.proofs.PoolSize.{few_values}
-use Rattle.jt_codegen.proofs.ChainTemplates.{names_all, own_all, all_short}
+use Rattle.jt_codegen.proofs.ChainTemplates.{chain_has, names_all, own_all, all_short}
 use Rattle.jt_codegen.proofs.RoutineLimits.{parameters_few}
 use Rattle.jt_codegen.proofs.NamesAreNotEmpty.{IsLine, first_line, tree_said}
 use Rattle.jt_codegen.proofs.SmallChainsFit.{small_low, small_fits}
-use Rattle.jt_codegen.proofs.TemplateNamesInOrder.{IsTag, names_of, few_names, namespaces_tagged, short_templates}
+use Rattle.jt_codegen.proofs.TemplateNamesInOrder.{IsTag, names_of, names_have, few_names, namespaces_tagged}
+use Rattle.jt_codegen.proofs.TemplateNamesInOrder.{templates_have, short_templates}
 use Rattle.jt_codegen.proofs.PlacesAreTags.{OnTag, program_placed}
 use Rattle.jt_codegen.proofs.TablesInOrder.{tables}
 
@@ -149,6 +150,16 @@ all_numbered n (x ∷ xs) all f = (
   all_numbered (suc n) xs all (λ y a. f y (or_right _ _ a)),
 )
 
+-- Each of the templates is one of all templates, by its name.
+own_templates : (ts all : List Template)
+    → ((n : Text) → IsTrue (among n (map (λ t. t.name) ts)) → IsTrue (among n (map (λ t. t.name) all)))
+    → AllByRecursion (λ t. IsTrue (among t.name (map (λ t. t.name) all))) ts
+own_templates [] all f = tt
+own_templates (t ∷ ts) all f = (
+  f t.name (or_left _ _ (nat_list_eq_equiv.refl t.name)),
+  own_templates ts all (λ n a. f n (or_right _ _ a)),
+)
+
 own_names : (n : ℕ) (xs : List Text) → AllByRecursion (λ m. IsTrue (among m.text xs)) (numbered n xs)
 own_names n xs = all_numbered n xs xs (λ x a. a)
 
@@ -201,6 +212,25 @@ module _ (code : CodeLaws) (low : LowLaws) (programs : ProgramLaws) (given : Sou
   abbrev Names : List Name → List Namespace → Type 0
   Names ns o = AllByRecursion (λ n. IsTrue (among n.text (names cenv o (a_chain entry)))) ns
 
+  -- The names of the templates of the chains, and the place of each tag.
+  abbrev named : List Text
+  named = names_of (sources_of c) order
+
+  tags : AllByRecursion (OnTag (IsTag named)) (places_of p)
+  tags =
+      program_placed (IsTag named) IsLine first_line cenv order (a_chain entry)
+      (namespaces_tagged given options c.templates is.read.each order)
+
+  -- The name is that of a template of the chain.
+  abbrev IsRequested : Text → Type 0
+  IsRequested n = IsTrue (among n (map (λ t. t.name) c.templates))
+
+  placed : AllByRecursion IsRequested (compiled p).templates
+  placed =
+      templates_have named (places_of p) tags IsRequested
+      (names_have (sources_of c) IsRequested
+      (chain_has (λ n b. IsRequested n) c.templates (own_templates c.templates c.templates (λ n a. a))) order)
+
   does_right : AreLow (routines cenv order) → IsCode (compiled p) → IsCompiled given entry options (compiled p)
   does_right few whole =
       let fit = fits few in
@@ -210,8 +240,10 @@ module _ (code : CodeLaws) (low : LowLaws) (programs : ProgramLaws) (given : Sou
         chain = c;
         is = the;
         lawful = kept;
+        whole = whole;
         newest = refl;
         named = subst (Names (compiled p).names) (sym is.begins) (own_names 0 (names cenv order (a_chain entry)));
+        placed = placed;
         typed = low.typed p fit;
         does = record {
           texts = λ x b t r. let m = d.texts x b t r in (m.0, sym (means x m.0) ∙ m.1);
@@ -245,15 +277,6 @@ module _ (code : CodeLaws) (low : LowLaws) (programs : ProgramLaws) (given : Sou
   some =
       all_weaker (IsRead given options) (λ t. AllByRecursion (λ x. 0 < length x) (body_names t.body)) c.templates
       (λ t r. (tree_said options r.source t.body r.tree).1) is.read.each
-
-  -- The names of the templates of the chains, and the place of each tag.
-  abbrev named : List Text
-  named = names_of (sources_of c) order
-
-  tags : AllByRecursion (OnTag (IsTag named)) (places_of p)
-  tags =
-      program_placed (IsTag named) IsLine first_line cenv order (a_chain entry)
-      (namespaces_tagged given options c.templates is.read.each order)
 
   pub tables_of : (q : Program) → IsOf q → HasTables (compiled q)
   tables_of q same =

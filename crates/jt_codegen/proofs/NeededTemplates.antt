@@ -1,6 +1,7 @@
 -- The templates that a chain requests are those that were read and those that are missing.
-use Rattle.std.proofs.Common.{◌≡◌, ℕ, ◌+◌, ◌<◌, ◌≤◌, Bool, true, false, ◌||◌, ◌⊎◌, inl, inr, if◌then◌else◌, List, [], ◌∷◌}
-use Rattle.std.proofs.Common.{◌++◌, length, map, drop, Option, Some, None, refl, sym, ap, ◌∙◌, subst, append_assoc, arith, rules}
+use Rattle.std.proofs.Common.{◌≡◌, ℕ, ◌+◌, ◌<◌, ◌≤◌, Bool, true, false, ◌||◌, ◌⊎◌, inl, inr, if◌then◌else◌}
+use Rattle.std.proofs.Common.{List, [], ◌∷◌, ◌++◌, length, map, drop, Option, Some, None, refl, sym, ap, ◌∙◌, subst}
+use Rattle.std.proofs.Common.{append_assoc, arith, rules}
 use Rattle.std.specs.Prelude.{◌≢◌, ◌↔◌, IsTrue, filter, flat_map, string_bytes}
 use Rattle.std.specs.List.{AllByRecursion, list_any}
 use Rattle.std.specs.Option.{is_some, is_none}
@@ -29,7 +30,7 @@ use Rattle.jt_rules.specs.CompileEnv.{CompileEnv, cenv_of}
 use Rattle.jt_semantics.specs.Ascends.{Ascends}
 use Rattle.jt_semantics.proofs.NameCounts.{ascending_ascends}
 use Rattle.jt_codegen.specs.Compiled.{IsOnlyChain, IsCompiled}
-use Rattle.jt_codegen.specs.Depends.{Requests}
+use Rattle.jt_codegen.specs.Depends.{ChainAsks}
 use Rattle.jt_codegen.specs.Needs.{texts_in, missing_in, AreNeeds}
 use Rattle.jt_codegen.specs.declared.needs.Needs.{Needs}
 use Rattle.jt_codegen.proofs.OtherLibraries.{alike}
@@ -153,18 +154,18 @@ module _ (given : SourceTexts) (entry : Text) (options : Options) (c : Seen) (is
   unread n e = none_unless (sources_of c n) (λ s. tree_of n s e)
 
   -- A requested name without a tree has no source.
-  no_source : (n : Text) → Requests c entry n → is_none (sources_of c n) ≡ true → (o : Option Text) → given n ≡ o
+  no_source : (n : Text) → ChainAsks c entry n → is_none (sources_of c n) ≡ true → (o : Option Text) → given n ≡ o
       → given n ≡ None
   no_source n q none None e = e
   no_source n q none (Some s) e =
       let a = (is.asked n).1 (q, λ f. let no : Some s ≡ None = sym e ∙ f in absurd (cc)) in
       absurd (some_not_none (sources_of c n) none (some_source c.templates n ∙ a))
 
-  missing_to : (n : Text) → among n (missing_in c) ≡ true → Requests c entry n × (given n ≡ None)
+  missing_to : (n : Text) → among n (missing_in c) ≡ true → ChainAsks c entry n × (given n ≡ None)
   missing_to n a =
       let f = found_in (Reaches (sources_of c) c.escaping (a_chain entry)) (lacks c) c.order n is.reached a in
       let k = kept (λ m. is_none (sources_of c m)) n _ f.2 in
-      let q : Requests c entry n = (
+      let q : ChainAsks c entry n = (
         f.0,
         f.1,
         among_behind of_texts n (extends_path (sources_of c) c.escaping f.0) _
@@ -203,7 +204,7 @@ module _ (given : SourceTexts) (entry : Text) (options : Options) (c : Seen) (is
     from_asked (inl p) = refuted (among_front of_texts n (extends_path (sources_of c) c.escaping h) _ p)
     from_asked (inr r) = later (among_cases of_texts n (needed_by true h) (libraries (sources_of c) h) r)
 
-  missing_back : (n : Text) → Requests c entry n → given n ≡ None → among n (missing_in c) ≡ true
+  missing_back : (n : Text) → ChainAsks c entry n → given n ≡ None → among n (missing_in c) ≡ true
   missing_back n q e =
       from_asked n e q.0 q.1 (among_cases of_texts n (extends_path (sources_of c) c.escaping q.0) _ q.2)
 
@@ -221,7 +222,7 @@ module _ (given : SourceTexts) (entry : Text) (options : Options) (c : Seen)
   same_cenv = compiled.is.only c only.is
 
   templates_are : (n : Text) → IsTrue (among n (texts_in needs.templates))
-      ↔ (Requests compiled.chain entry n × (given n ≢ None))
+      ↔ (ChainAsks compiled.chain entry n × (given n ≢ None))
   templates_are n = (
     λ a.
         let q = (only.is.asked n).0 (sym (among_ascending n _) ∙ ap (among n) (sym found) ∙ a) in
@@ -233,7 +234,7 @@ module _ (given : SourceTexts) (entry : Text) (options : Options) (c : Seen)
   )
 
   missing_are : (n : Text) → IsTrue (among n (texts_in needs.missing))
-      ↔ (Requests compiled.chain entry n × (given n ≡ None))
+      ↔ (ChainAsks compiled.chain entry n × (given n ≡ None))
   missing_are n = (
     λ a.
         let q = missing_to given entry options c only.is n
@@ -251,7 +252,7 @@ module _ (given : SourceTexts) (entry : Text) (options : Options) (c : Seen)
       → IsCompiled other entry options code
   suffices other f g = alike given other entry options code compiled (λ n q. by n q (given n) refl)
     where
-      by : (n : Text) → Requests compiled.chain entry n → (o : Option Text) → given n ≡ o → given n ≡ other n
+      by : (n : Text) → ChainAsks compiled.chain entry n → (o : Option Text) → given n ≡ o → given n ≡ other n
       by n q None e = e ∙ sym (g n ((missing_are n).1 (q, e)))
       by n q (Some s) e =
           sym (f n ((templates_are n).1 (q, λ no. let not : Some s ≡ None = sym e ∙ no in absurd (cc))))

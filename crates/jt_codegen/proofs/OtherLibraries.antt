@@ -14,7 +14,7 @@ use Rattle.jt_inherit.specs.Chains.{SourceTexts, IsRead, IsOnly, IsChain}
 use Rattle.jt_inherit.proofs.Membership.{reflexive}
 use Rattle.jt_inherit.proofs.RulesCarryOver.{one_chain}
 use Rattle.jt_codegen.specs.Compiled.{IsOnlyChain, IsCompiled}
-use Rattle.jt_codegen.specs.Depends.{GiveSame, CompilesAlike}
+use Rattle.jt_codegen.specs.Depends.{SameSources, CompilesAlike}
 use Rattle.jt_codegen.proofs.ChainImages.{only_chain}
 
 abbrev names : List Template → List Text
@@ -36,7 +36,7 @@ read_too given other options t e r =
     record { named = r.named; source = r.source; found = sym e ∙ r.found; tree = r.tree }
 
 module _ (given other : SourceTexts) (entry : Text) (options : Options) (c : Seen) (is : IsChain given entry options c)
-    (same : GiveSame c entry given other) where
+    (same : SameSources c entry given other) where
   same_at : (n : Text) → among n (names c.templates) ≡ true → given n ≡ other n
   same_at n a = same n ((is.asked n).0 a).0
 
@@ -78,8 +78,10 @@ alike given other entry options code compiled same = record {
   chain = compiled.chain;
   is = only_there given other entry options compiled.chain compiled.is.is same compiled.is.each;
   lawful = compiled.lawful;
+  whole = compiled.whole;
   newest = compiled.newest;
   named = compiled.named;
+  placed = compiled.placed;
   typed = compiled.typed;
   does = compiled.does;
 }

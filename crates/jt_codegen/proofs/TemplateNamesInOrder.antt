@@ -1,6 +1,6 @@
 -- The templates and places of the code of chains are in order, and few chains have few templates.
 use Rattle.std.proofs.Common.{◌≡◌, ℕ, zero, suc, ◌+◌, ◌*◌, ◌<◌, ◌≤◌, List, [], ◌∷◌, ◌++◌, length, map, Option, Some}
-use Rattle.std.proofs.Common.{None, refl, sym, ap, arith, length-append, ⊎_elim, inl, inr}
+use Rattle.std.proofs.Common.{None, refl, ap, subst, arith, length-append, ⊎_elim, inl, inr}
 use Rattle.std.proofs.lemmas.List.{length-map}
 use Rattle.std.specs.Prelude.{flat_map}
 use Rattle.std.specs.Int.{w16, to_le_bytes}
@@ -23,6 +23,7 @@ use Rattle.jt_semantics.specs.Ascends.{Above, Ascends}
 use Rattle.jt_semantics.proofs.NameCounts.{ascending_ascends}
 use Rattle.jt_lower.specs.SourceLocs.{templates_of, loc_of}
 use Rattle.jt_lower.specs.SourceLocs as locs
+use Rattle.jt_lower.proofs.LawfulProgramsFit.{all_append}
 use Rattle.jt_lower.proofs.SourceLocsCorrect.{Among, number_within, all_here}
 use Rattle.jt_codegen.proofs.EitherHolds.{either_of}
 use Rattle.jt_codegen.proofs.AscendingSubsets.{no_more}
@@ -124,6 +125,19 @@ module _ (sources : Sources) where
   few_names [] = omega arith
   few_names (h ∷ hs) = grind (arith, few_templates_in, few_names hs, length-append, length-map)
 
+  named_have : (P : Text → Type 0) (ts : List Template) → AllByRecursion (λ t. P t.name) ts
+      → AllByRecursion P (map (λ t. t.name) ts)
+  named_have P [] h = tt
+  named_have P (t ∷ ts) h = (h.0, named_have P ts h.1)
+
+  -- A property of the name of each template holds of the names of all namespaces.
+  pub names_have : (P : Text → Type 0) → ((h : Namespace) → AllByRecursion (λ t. P t.name) (templates sources h))
+      → (hs : List Namespace) → AllByRecursion P (names_of hs)
+  names_have P f [] = tt
+  names_have P f (h ∷ hs) =
+      all_append P (map (λ t. t.name) (templates sources h)) (names_of hs) (named_have P (templates sources h) (f h))
+      (names_have P f hs)
+
   among_left : (x : Text) (xs ys : List Text) → Among x xs → Among x (xs ++ ys)
   among_left x [] ys i = absurd i
   among_left x (z ∷ xs) ys i = ⊎_elim (λ e. inl e) (λ k. inr (among_left x xs ys k)) i
@@ -169,20 +183,23 @@ namespaces_tagged given options ts read hs =
 
 -- ---- few chains have few templates, with short names
 
-module _ (ns : List Text) (qs : List (Option Place)) (tags : AllByRecursion (OnTag (IsTag ns)) qs) where
-  each_named : (ts : List Text) → AllByRecursion (λ t. Among t ns) ts → (x : Text) → Among x ts → Among x ns
-  each_named [] h x i = absurd i
-  each_named (t ∷ ts) h x (inl e) = by e h.0
-    where
-      by : t ≡ x → Among t ns → Among x ns
-      by e i = rw (sym e) i
-  each_named (t ∷ ts) h x (inr i) = each_named ts h.1 x i
+-- What holds of each of these texts holds of one among them.
+holds_among : (P : Text → Type 0) (ts : List Text) → AllByRecursion P ts → (x : Text) → Among x ts → P x
+holds_among P [] h x i = absurd i
+holds_among P (t ∷ ts) h x (inl e) = subst P e h.0
+holds_among P (t ∷ ts) h x (inr i) = holds_among P ts h.1 x i
 
+module _ (ns : List Text) (qs : List (Option Place)) (tags : AllByRecursion (OnTag (IsTag ns)) qs) where
   pub few_templates : length (templates_of qs) ≤ length ns
   few_templates =
       no_more (templates_of qs) ns (ascending_ascends (locs.templates_in qs))
-      (each_named (templates_of qs)
+      (holds_among (λ t. Among t ns) (templates_of qs)
       (named_all (λ t. Among t ns) qs (on_each (IsTag ns) (λ q. Among q.template ns) (λ q t. t.among) qs tags)))
+
+  -- A property of these names holds of each template in the table.
+  pub templates_have : (P : Text → Type 0) → AllByRecursion P ns → AllByRecursion P (templates_of qs)
+  templates_have P h =
+      named_all P qs (on_each (IsTag ns) (λ q. P q.template) (λ q t. holds_among P ns h q.template t.among) qs tags)
 
   pub short_templates : AllByRecursion (λ t. length t ≤ 255) (templates_of qs)
   short_templates =

@@ -1,9 +1,9 @@
--- The unknown name that is found stands in a use at the line.
+-- The unknown name that is found is that of the first use at the line that names one.
 use Rattle.std.proofs.Common.{◌≡◌, ℕ, suc, Bool, true, false, List, [], ◌∷◌, Option, Some, None, refl, sym, ap}
-use Rattle.std.proofs.Common.{subst, inl, inr}
+use Rattle.std.proofs.Common.{◌∙◌, subst, inl, inr}
 use Rattle.std.specs.Prelude.{◌==◌, ◌⊎◌, if◌then◌else◌}
 use Rattle.std.specs.Option.{option_or}
-use Rattle.std.proofs.lemmas.Bool.{eqb-true}
+use Rattle.std.proofs.lemmas.Bool.{eqb-true, eqb-false}
 use Rattle.std.specs.Prelude.{chars}
 use Rattle.jt_scan.specs.Cut.{IsCut}
 use Rattle.jt_scan.specs.LineEnds.{normalized}
@@ -27,7 +27,7 @@ use Rattle.jt_expr.specs.declared.named.Named.{Named}
 use Rattle.jt_inherit.proofs.SourceErrors.{read_cut}
 use Rattle.jt_uses.specs.Uses as uses
 use Rattle.jt_uses.specs.Uses.{Site, body_uses, outside}
-use Rattle.jt_codegen.specs.Unknown.{HasUses, NamedIn, NamesUnknown, StandsAt}
+use Rattle.jt_codegen.specs.Unknown.{HasUses, NamedIn, NamesUnknown, NamesAt, StandsAt}
 use Rattle.jt_codegen.specs.internal.UnknownNames.{argument_name, unknown_argument, unknown_among}
 use Rattle.jt_codegen.specs.internal.UnknownNames.{unknown_in, unknown_here, unknown_at}
 
@@ -85,17 +85,77 @@ use_there wanted u x e = absurd (cc)
 
 here : (wanted : Named) (line : ℕ) (s : Site) (x : Text) (b : Bool) → (s.place.line == line) ≡ b
     → (if b then unknown_in wanted s.made else None) ≡ Some x
-    → (s.place.line ≡ line) × NamesUnknown wanted x s.made
+    → NamesAt line wanted x s
 here wanted line s x true is e = (eqb-true s.place.line line is, use_there wanted s.made x e)
 here wanted line s x false is e = absurd (cc)
+
+-- ---- where no name is found, no use names one
+
+not_given : (b : Bool) (x : Text) (o : Option Text) → (if b then Some x else o) ≡ None → (b ≡ false) × (o ≡ None)
+not_given true x o e = absurd (cc)
+not_given false x o e = (refl, e)
+
+neither : (o p : Option Text) → option_or o p ≡ None → (o ≡ None) × (p ≡ None)
+neither None p e = (refl, e)
+neither (Some x) p e = absurd (cc)
+
+both_not : (b : Bool) → b ≡ true → b ≡ false → ⊥
+both_not true yes no = absurd (cc)
+both_not false yes no = absurd (cc)
+
+no_argument : (wanted : Named) (role : Option ArgumentRole) (o : Option Text) (x : Text)
+    → argument_name wanted role o ≡ None → o ≡ Some x → argument_unknown wanted role (Some x) ≡ true → ⊥
+no_argument wanted role None x e is u = absurd (cc)
+no_argument wanted role (Some y) x e is u =
+    both_not (argument_unknown wanted role (Some y)) (ap (argument_unknown wanted role) is ∙ u)
+    (not_given (argument_unknown wanted role (Some y)) y None e).0
+
+none_named : (wanted : Named) (filter : FilterId) (place : ℕ) (ts : Exprs) (x : Text)
+    → unknown_argument wanted filter place ts ≡ None → NamedIn wanted filter place ts x → ⊥
+none_named wanted filter place no_exprs x e n = n
+none_named wanted filter place (expr first rest) x e n =
+    by n (neither _ _ e) (none_named wanted filter (suc place) rest x)
+  where
+    by : ((literal_text first ≡ Some x) × (argument_unknown wanted (named_at filter place) (Some x) ≡ true))
+        ⊎ NamedIn wanted filter (suc place) rest x
+        → (argument_name wanted (named_at filter place) (literal_text first) ≡ None)
+        × (unknown_argument wanted filter (suc place) rest ≡ None)
+        → (unknown_argument wanted filter (suc place) rest ≡ None → NamedIn wanted filter (suc place) rest x → ⊥) → ⊥
+    by (inl a) k r = no_argument wanted (named_at filter place) (literal_text first) x k.0 a.0 a.1
+    by (inr n) k r = r k.1 n
+
+none_among : (wanted : Named) (o : Option FilterId) (filter : FilterId) (ts : Exprs) (x : Text)
+    → unknown_among wanted o ts ≡ None → o ≡ Some filter → NamedIn wanted filter 1 ts x → ⊥
+none_among wanted None filter ts x e is n = absurd (cc)
+none_among wanted (Some given) filter ts x e is n =
+    let same : given ≡ filter = cc in
+    none_named wanted given 1 ts x e (subst (λ (f : FilterId). NamedIn wanted f 1 ts x) (sym same) n)
+
+none_used : (wanted : Named) (u : uses.Use) (x : Text) → unknown_in wanted u ≡ None → NamesUnknown wanted x u → ⊥
+none_used wanted (uses.filters y ts ps) x e (inl a) =
+    both_not (unknown_filter wanted y) (ap (unknown_filter wanted) (sym a.0) ∙ a.1)
+    (not_given (unknown_filter wanted y) y _ e).0
+none_used wanted (uses.filters y ts ps) x e (inr a) =
+    none_among wanted (filter_written y ts ps) a.0 ts x (not_given (unknown_filter wanted y) y _ e).1 a.1 a.2
+none_used wanted (uses.tests y ts ps) x e n =
+    both_not (unknown_test wanted y) (ap (unknown_test wanted) (sym n.0) ∙ n.1)
+    (not_given (unknown_test wanted y) y None e).0
+none_used wanted u x e n = n
+
+none_here : (wanted : Named) (line : ℕ) (s : Site) (x : Text) (b : Bool) → (s.place.line == line) ≡ b
+    → (if b then unknown_in wanted s.made else None) ≡ None → NamesAt line wanted x s → ⊥
+none_here wanted line s x true is e n = none_used wanted s.made x e n.1
+none_here wanted line s x false is e n = eqb-false s.place.line line is n.0
 
 stands : (wanted : Named) (line : ℕ) (ss : List Site) (x : Text) → unknown_at wanted line ss ≡ Some x
     → StandsAt line wanted x ss
 stands wanted line [] x e = absurd (cc)
-stands wanted line (s ∷ ss) x e =
-    either_some (λ y. (s.place.line ≡ line) × NamesUnknown wanted y s.made) (λ y. StandsAt line wanted y ss)
-    (unknown_here wanted line s) (unknown_at wanted line ss) x
-    (here wanted line s x (s.place.line == line) refl) (stands wanted line ss x) e
+stands wanted line (s ∷ ss) x e = by (unknown_here wanted line s) refl e (stands wanted line ss x)
+  where
+    by : (o : Option Text) → unknown_here wanted line s ≡ o → option_or o (unknown_at wanted line ss) ≡ Some x
+        → (unknown_at wanted line ss ≡ Some x → StandsAt line wanted x ss) → StandsAt line wanted x (s ∷ ss)
+    by (Some y) is f r = inl (here wanted line s x (s.place.line == line) refl (is ∙ f))
+    by None is f r = inr (λ y n. none_here wanted line s y (s.place.line == line) refl is n, r f)
 
 pub stands_there : (wanted : Named) (line : ℕ) (ss : List Site) (x : Text) → unknown_at wanted line ss ≡ Some x
     → StandsAt line wanted x ss

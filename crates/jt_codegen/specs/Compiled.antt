@@ -1,11 +1,12 @@
 -- Correctness of the code of an entry in a library.
-use Rattle.std.specs.Prelude.{◌≡◌, ℕ, Option, IsTrue}
+use Rattle.std.specs.Prelude.{◌≡◌, ℕ, map, Option, IsTrue}
 use Rattle.std.specs.List.{AllByRecursion}
 use Rattle.jt_value.specs.Pairs.{Pairs}
 use Rattle.jt_value.specs.declared.fault.Fault.{Fault}
 use Rattle.jt_scan.specs.declared.options.Options.{Options}
 use Rattle.jt_image.specs.Code.{Code}
 use Rattle.jt_image.specs.declared.version.Version.TheVariants as version
+use Rattle.jt_image.specs.IsCode.{IsCode}
 use Rattle.jt_image.specs.Typed.{IsTyped}
 use Rattle.jt_image.specs.Config as config
 use Rattle.jt_image.specs.Config.{Budget}
@@ -44,15 +45,18 @@ pub record IsOnlyChain (given : SourceTexts) (entry : Text) (options : Options) 
   pub each : AllByRecursion (IsOnly given options) chain.templates
   pub only : (other : Seen) → IsChain given entry options other → cenv_of other ≡ cenv_of chain
 
--- The entry's chain breaks no rule. The code is of version 2, so that it has the places of its
--- tags. It names nothing but what the chain, and the chains that it includes, read or bind. It is
--- typed and agrees with the meaning of the chain.
+-- The entry's chain breaks no rule. The code has a spelling, and is of version 2, so that it has the
+-- places of its tags. Each of its names is one that the chain, or a chain that it includes, reads or
+-- binds. Each template of its places is one of the chain. It is typed and agrees with the meaning of
+-- the chain.
 pub record IsCompiled (given : SourceTexts) (entry : Text) (options : Options) (code : Code) : Type 0 where
   pub chain : Seen
   pub is : IsOnlyChain given entry options chain
   pub lawful : KeepsRules (cenv_of chain) chain.order
+  pub whole : IsCode code
   pub newest : code.version ≡ version.Two
   pub named : AllByRecursion (λ name. IsTrue (among name.text (names (cenv_of chain) chain.order (a_chain entry))))
       code.names
+  pub placed : AllByRecursion (λ name. IsTrue (among name (map (λ t. t.name) chain.templates))) code.templates
   pub typed : IsTyped code
   pub does : DoesChain (cenv_of chain) entry code

@@ -10,12 +10,12 @@ use Rattle.jt_inherit.specs.Chains.{SourceTexts}
 use Rattle.jt_codegen.specs.Compiled.{IsCompiled}
 
 -- The chain requests the name, even if only where it may be missing.
-abbrev pub Requests : Seen → Text → Text → Type 0
-Requests chain entry name = Asks (sources_of chain) chain.escaping (a_chain entry) name
+abbrev pub ChainAsks : Seen → Text → Text → Type 0
+ChainAsks chain entry name = Asks (sources_of chain) chain.escaping (a_chain entry) name
 
 -- Both libraries give the same source, or none, to each name that the chain requests.
-abbrev pub GiveSame : Seen → Text → SourceTexts → SourceTexts → Type 0
-GiveSame chain entry given other = (name : Text) → Requests chain entry name → given name ≡ other name
+abbrev pub SameSources : Seen → Text → SourceTexts → SourceTexts → Type 0
+SameSources chain entry given other = (name : Text) → ChainAsks chain entry name → given name ≡ other name
 
 -- A code to which the entry compiles in one library is one to which it compiles in every library
 -- that gives the same source, or none, to each name that the entry's chain requests.
@@ -23,5 +23,5 @@ abbrev pub CompilesAlike : Type 0
 CompilesAlike =
     (given other : SourceTexts) (entry : Text) (options : Options) (code : Code)
     (compiled : IsCompiled given entry options code)
-    → GiveSame compiled.chain entry given other
+    → SameSources compiled.chain entry given other
     → IsCompiled other entry options code

@@ -1,5 +1,6 @@
 -- What an explanation says of an entry in a library.
-use Rattle.std.specs.Prelude.{◌≡◌, ◌≢◌, ◌⊎◌, Option, Some, None, option_map, string_bytes}
+use Rattle.std.specs.Prelude.{◌≡◌, ◌≢◌, ◌⊎◌, IsTrue, Option, Some, None, option_map, string_bytes}
+use Rattle.std.specs.Option.{is_some, is_none}
 use Rattle.jt_scan.specs.declared.options.Options.{Options}
 use Rattle.jt_ast.specs.Expressions.{Text}
 use Rattle.jt_expr.specs.declared.named.Named.TheVariants as named
@@ -9,7 +10,7 @@ use Rattle.jt_chains.specs.View.{Seen}
 use Rattle.jt_checks.specs.Findings as findings
 use Rattle.jt_image.specs.Code.{Code}
 use Rattle.jt_inherit.specs.Chains.{SourceTexts}
-use Rattle.jt_inherit.specs.Findings.{Says}
+use Rattle.jt_inherit.specs.Findings.{Says, may_be_bare}
 use Rattle.jt_inherit.specs.Lines as errors
 use Rattle.jt_inherit.specs.declared.error.ChainError.{ChainError}
 use Rattle.jt_inherit.specs.declared.error.ChainError.TheVariants as chain_error
@@ -63,8 +64,8 @@ pub record IsBroken (found : findings.Finding) (f : Finding) : Type 0 where
   pub is : rule_at found.rule place about ≡ found
 
 module _ (given : SourceTexts) (options : Options) where
-  -- The subject of a source that spells no allowed tree, if it is known: an unknown filter or an
-  -- unknown test, which a tag at the line names.
+  -- The subject of a source that spells no allowed tree, if it is known: the unknown filter or test that
+  -- the first such tag at the line names.
   abbrev pub IsUnread : Text → ParseError → Option Subject → Type 0
   IsUnread template e None = Unit {0}
   IsUnread template (parse_error.UnknownFilter line) (Some (v.Filter x)) =
@@ -78,15 +79,17 @@ module _ (given : SourceTexts) (options : Options) where
   IsUnknown (chain_error.Parse name e) subject = IsUnread (string_bytes name) e subject
   IsUnknown e subject = subject ≡ None
 
-  -- The place and the subject of a source that spells no allowed tree. Another error has neither.
+  -- The place and the subject of a source that spells no allowed tree.
   pub record IsSourcePlace (e : ChainError) (place : Option TagPlace) (subject : Option Subject) : Type 0 where
+    pub source : IsTrue (is_some (errors.place e))
     pub at : option_map (λ p. (string_bytes p.template, p.line)) place ≡ errors.place e
     pub about : IsUnknown e subject
 
-  -- The finding states the error of a source, or another one alone.
-  pub record IsOfSource (e : ChainError) (f : Finding) : Type 0 where
-    pub states : f.error ≡ error.Chain e
-    pub placed : IsSourcePlace e f.place f.subject
+-- The error is that of a rule whose tag may not be found, and it stands alone.
+pub record IsBareRule (e : ChainError) (place : Option TagPlace) (subject : Option Subject) : Type 0 where
+  pub bare : IsTrue (may_be_bare e)
+  pub rule : IsTrue (is_none (errors.place e))
+  pub alone : (place ≡ None) × (subject ≡ None)
 
 module _ (given : SourceTexts) (entry : Text) (options : Options) where
   -- What a rule of chains is about. What is said of it and of the place is true.
@@ -95,9 +98,11 @@ module _ (given : SourceTexts) (entry : Text) (options : Options) where
     pub is : subject ≡ Some (v.Chain about)
     pub says : Says given entry options place (Some about) e
 
-  -- The place and the subject of an error of a chain: those of a source, or of a rule of chains.
+  -- The place and the subject of an error of a chain: those of a source, or of a rule of chains. Only
+  -- a rule whose tag may not be found has neither.
   abbrev pub IsChainPlace : ChainError → Option TagPlace → Option Subject → Type 0
-  IsChainPlace e place subject = IsSourcePlace given options e place subject ⊎ IsRulePlace e place subject
+  IsChainPlace e place subject =
+      IsSourcePlace given options e place subject ⊎ (IsRulePlace e place subject ⊎ IsBareRule e place subject)
 
   -- The finding states the error of a chain.
   pub record IsOfChain (e : ChainError) (f : Finding) : Type 0 where

@@ -12,7 +12,7 @@ use Rattle.jt_chains.specs.View.{Seen, sources_of}
 use Rattle.jt_inherit.specs.Chains.{SourceTexts}
 use Rattle.jt_semantics.specs.Ascends.{Ascends}
 use Rattle.jt_codegen.specs.Compiled.{IsCompiled}
-use Rattle.jt_codegen.specs.Depends.{Requests}
+use Rattle.jt_codegen.specs.Depends.{ChainAsks}
 use Rattle.jt_codegen.specs.declared.needs.Needs.{Needs}
 
 -- The texts of a list of owned texts.
@@ -36,9 +36,9 @@ module _ (given : SourceTexts) (entry : Text) (options : Options) where
     pub compiled : IsCompiled given entry options code
     pub names : texts_in needs.names ≡ map (λ name. name.text) code.names
     pub templates : (name : Text) → IsTrue (among name (texts_in needs.templates))
-        ↔ (Requests compiled.chain entry name × (given name ≢ None))
+        ↔ (ChainAsks compiled.chain entry name × (given name ≢ None))
     pub missing : (name : Text) → IsTrue (among name (texts_in needs.missing))
-        ↔ (Requests compiled.chain entry name × (given name ≡ None))
+        ↔ (ChainAsks compiled.chain entry name × (given name ≡ None))
     pub suffice : (other : SourceTexts)
         → ((name : Text) → IsTrue (among name (texts_in needs.templates)) → other name ≡ given name)
         → ((name : Text) → IsTrue (among name (texts_in needs.missing)) → other name ≡ None)

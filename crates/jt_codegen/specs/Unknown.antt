@@ -1,5 +1,5 @@
 -- The names of unknown filters and tests in the source of a template.
-use Rattle.std.specs.Prelude.{◌≡◌, ◌⊎◌, ℕ, suc, true, List, map, Some}
+use Rattle.std.specs.Prelude.{◌≡◌, ◌⊎◌, ℕ, suc, true, List, [], ◌∷◌, map, Some}
 use Rattle.jt_scan.specs.Cut.{Segment, IsCut}
 use Rattle.jt_scan.specs.declared.options.Options.{Options}
 use Rattle.jt_ids.specs.FilterTable.{named_at}
@@ -12,7 +12,6 @@ use Rattle.jt_expr.specs.declared.named.Named.{Named}
 use Rattle.jt_parse.specs.Grammar.{Spelled}
 use Rattle.jt_parse.specs.Kept.{pieces}
 use Rattle.jt_inherit.specs.Chains.{SourceTexts, scanned}
-use Rattle.jt_rules.specs.Rules.{ForSome}
 use Rattle.jt_uses.specs.Uses as uses
 use Rattle.jt_uses.specs.Uses.{Site, body_uses, outside}
 
@@ -33,9 +32,15 @@ NamesUnknown wanted x (uses.filters y ts ps) =
 NamesUnknown wanted x (uses.tests y ts ps) = (x ≡ y) × (unknown_test wanted x ≡ true)
 NamesUnknown wanted x u = ⊥
 
--- A use at the line names an unknown filter or test.
+-- The use is at the line, and names this unknown filter or test.
+abbrev pub NamesAt : ℕ → Named → Text → Site → Type 0
+NamesAt line wanted x s = (s.place.line ≡ line) × NamesUnknown wanted x s.made
+
+-- The first use at the line that names an unknown filter or test names this one.
 abbrev pub StandsAt : ℕ → Named → Text → List Site → Type 0
-StandsAt line wanted x = ForSome (λ s. (s.place.line ≡ line) × NamesUnknown wanted x s.made)
+StandsAt line wanted x [] = ⊥
+StandsAt line wanted x (s ∷ ss) =
+    NamesAt line wanted x s ⊎ (((y : Text) → NamesAt line wanted y s → ⊥) × StandsAt line wanted x ss)
 
 -- The source is cut into segments that spell a tree, whose uses have the property.
 pub record HasUses (options : Options) (source : Text) (P : List Site → Type 0) : Type 0 where
@@ -45,7 +50,7 @@ pub record HasUses (options : Options) (source : Text) (P : List Site → Type 0
   pub spelled : Spelled body (pieces (map (λ s. (options, s)) segments))
   pub holds : P (body_uses body outside)
 
--- The template has a source with a tag at the line that names an unknown filter or test.
+-- The template has a source. Its first tag at the line that names an unknown filter or test names this one.
 pub record HasUnknown (given : SourceTexts) (options : Options) (template : Text) (line : ℕ) (wanted : Named)
     (x : Text) : Type 0 where
   pub source : Text

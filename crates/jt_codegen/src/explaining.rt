@@ -4,9 +4,10 @@ ghost use Rattle.std.specs.Prelude.{IfOk};
 ghost use Rattle.jt_chains.specs.View.{chain_view};
 ghost use Rattle.jt_rules.specs.CompileEnv.{cenv_of};
 ghost use Rattle.jt_rules.specs.Rules.{KeepsRules};
-ghost use Rattle.jt_codegen.specs.Explaining.{IsExplained, IsOfChain, IsOfSource, IsUnknown};
+ghost use Rattle.jt_codegen.specs.Explaining.{IsExplained, IsOfChain, IsUnknown};
 ghost use Rattle.jt_codegen.specs.internal.Asked.{Asked, IsChainOf, IsFaultOf, IsLinkedOf};
 ghost use Rattle.jt_codegen.specs.internal.Asked.{asked_of};
+ghost use Rattle.jt_codegen.specs.internal.ErrorsAlone.{StatesError};
 ghost use Rattle.jt_inherit.specs.Findings.{Says};
 ghost use Rattle.jt_names.specs.FactsOfChains.{AllKnown};
 
@@ -172,7 +173,7 @@ fn source_finding<L: Library>(
     options: Options,
     error: ChainError,
 ) -> Result<Finding, NoMemory>
-    ensures { IfOk result (IsOfSource (L.sources library.now) options error) }
+    ensures { IfOk result (StatesError (L.sources library.now) options error) }
 {
     let subject = unknown_name(alloc, library, options, &error)?;
     let place = match error.place() {

@@ -91,10 +91,10 @@ impl Limit {
     }
 }
 
-/// An error of `compile` with the place of the tag and what the error is about, where they are
-/// known. They are known for each rule of names and calls, and for unknown filters and tests. The
-/// place alone is known for a source that cannot be read, and the limit alone for an image that
-/// would be too large. For a rule of chains they are what `link` and `check_chains` return.
+/// An error of `compile` with the place of the tag and what the error is about, if they are known.
+/// Both are known for each rule of names and calls. The place is known for a source that cannot be
+/// read, and the limit for an image that would be too large. For a rule of chains they are what
+/// `link` and `check_chains` return.
 #[derive(Debug, Drop, PartialEq, Eq)]
 pub struct Finding {
     pub error: CompileError,

@@ -30,7 +30,10 @@ pub use error::CompileError;
 pub use explaining::explain;
 pub use finding::{Explained, Finding, Limit, Subject};
 pub use jt_inherit::{ChainError, ChainSubject, Library, TagPlace};
-pub use jt_lower::low_laws;
+pub use jt_lower::{
+    Emitter, call_of, data_of, emit_expression, emit_filtered, emit_row, fits_expression,
+    fits_filtered, fits_row, flag, low_laws, store_of, unpack_of,
+};
 pub use jt_parse::ParseError;
 pub use jt_scan::{Options, ScanError};
 pub use jt_scopes::ScopeError;

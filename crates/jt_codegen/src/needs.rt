@@ -47,7 +47,11 @@ struct RequestedTemplates {
 ///
 /// # Errors
 ///
-/// Those of `compile`.
+/// * `Chain` if the entry has no chain in the library.
+/// * `Scope` if the chain breaks a rule of names or calls.
+/// * `CodeTooLong` if the image would pass a limit.
+/// * `StackTooDeep` if a unit would need more than 1,024 stack entries.
+/// * `NoMemory` if a growth is refused.
 pub fn find_needs<L: Library>(
     alloc: Global,
     entry: &str,

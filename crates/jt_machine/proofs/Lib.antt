@@ -7,6 +7,7 @@ pub mod OutputPrefix
 pub mod DrainedOutput
 pub mod EscapedLength
 pub mod SlicesAddUp
+pub mod ContextsAlike
 pub mod SinkWrites
 pub mod FastPathCorrect
 pub mod TopEntries

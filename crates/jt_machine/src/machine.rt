@@ -62,6 +62,7 @@ impl Model for Machine {
 }
 
 impl Machine {
+    ghost use Rattle.jt_image.specs.Laws.{Agree};
     ghost use Rattle.jt_machine.specs.Growing.{HasTables, MayLose};
     ghost use Rattle.jt_machine.specs.Session.{started, advanced, lost_session, is_lost};
     ghost use Rattle.jt_machine.specs.Session.{outcome_of, stage_progress, RunsInSlices};
@@ -90,6 +91,10 @@ impl Machine {
         // A run in slices reaches the outcome of the run.
         ensures slices { (any_context : Pairs) (any_budget : config.Budget)
             → RunsInSlices verified any_context any_budget }
+        // Every context that gives the same values to the image's names starts the same run.
+        ensures alike { (other : Pairs) → Agree verified (pairs_of context.now) other
+            → started verified (pairs_of context.now) (budget_view budget)
+            ≡ started verified other (budget_view budget) }
     {
         code_laws();
         if let Some(spent) = context_limit(verified.image(), context, &budget) {

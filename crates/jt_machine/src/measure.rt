@@ -57,10 +57,9 @@ pub(crate) fn deepest(entries: &[StackEntry]) -> u32
 fn text_of(value: &Value) -> &str
     ensures { result.now ≡ key_bytes (view value.now) }
 {
-    match value {
-        Value::Text(text) => text.as_str(),
-        Value::Markup(text) => text.as_str(),
-        _ => "",
+    match value.as_text() {
+        Some(text) => text,
+        None => "",
     }
 }
 

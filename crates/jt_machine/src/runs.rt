@@ -5,6 +5,7 @@ ghost use Rattle.jt_value.specs.ContextView.{pairs_of};
 ghost use Rattle.jt_image.specs.IsCode.{IsCode};
 ghost use Rattle.jt_image.specs.Typed.{IsTyped};
 ghost use Rattle.jt_image.specs.Config as config;
+ghost use Rattle.jt_image.specs.Laws.{Agree, RunAlike};
 ghost use Rattle.jt_image.specs.Run.{Run, IsSafe};
 ghost use Rattle.jt_machine.specs.Growing.{MayWant};
 ghost use Rattle.jt_machine.specs.View.{budget_view, outcome_view};
@@ -34,13 +35,15 @@ pub fn run(
     // The result is the outcome of the run.
     ensures outcome { IfOk result
         (λ o. Run verified.now (pairs_of context.now) (budget_view budget) (outcome_view o)) }
-    // Memory is needed only for tables at the start, at steps that go on and may allocate, and for
-    // faults with a place.
+    // Only tables at the start, steps that go on and allocate, and faults with a place need memory.
     ensures memory { OnErr result
         (MayWant verified.now (pairs_of context.now) (budget_view budget)) }
     // Every run of the image has one outcome, stays within its fuel and is never wrong.
     ensures safe { (any_context : Pairs) (any_budget : config.Budget)
         → IsSafe verified.now any_context any_budget }
+    // A run reads nothing of the context but the values of the code's names.
+    ensures alike { (other : Pairs) → Agree verified.now (pairs_of context.now) other
+        → RunAlike verified.now (pairs_of context.now) other }
 {
     code_laws();
     run_code(alloc, verified.image(), context, budget)
@@ -67,6 +70,9 @@ pub fn run_view(
     // Every run of the code has one outcome, stays within its fuel and is never wrong.
     ensures safe { (any_context : Pairs) (any_budget : config.Budget)
         → IsSafe verified.now any_context any_budget }
+    // A run reads nothing of the context but the values of the code's names.
+    ensures alike { (other : Pairs) → Agree verified.now (pairs_of context.now) other
+        → RunAlike verified.now (pairs_of context.now) other }
 {
     code_laws();
     run_code(alloc, verified.code(), context, budget)

@@ -6,6 +6,7 @@ ghost use Rattle.jt_value.specs.ContextView.{pairs_of};
 ghost use Rattle.jt_image.specs.IsCode.{IsCode};
 ghost use Rattle.jt_image.specs.Typed.{IsTyped};
 ghost use Rattle.jt_image.specs.Config as config;
+ghost use Rattle.jt_image.specs.Laws.{Agree, RunAlike};
 ghost use Rattle.jt_image.specs.Run.{IsSafe};
 ghost use Rattle.jt_machine.specs.Emitting.{HasWritten, HasBegun, outcome_of, emitted_by};
 ghost use Rattle.jt_machine.specs.Emitting.{config_prefixed, text_written};
@@ -95,6 +96,9 @@ pub fn run_to<W: Sink>(
     // Every run of the image has one outcome, stays within its fuel and is never wrong.
     ensures safe { (any_context : Pairs) (any_budget : config.Budget)
         → IsSafe verified.now any_context any_budget }
+    // A run reads nothing of the context but the values of the code's names.
+    ensures alike { (other : Pairs) → Agree verified.now (pairs_of context.now) other
+        → RunAlike verified.now (pairs_of context.now) other }
 {
     code_laws();
     write_code(alloc, verified.image(), context, budget, sink)

@@ -3,8 +3,9 @@ use Rattle.std.proofs.lemmas.Result.{IfErr-weaker, IfOk-weaker}
 use Rattle.jt_image.specs.Code.{Code}
 use Rattle.jt_ast.specs.Expressions.{Text}
 use Rattle.jt_ir.specs.View.{program_of}
-use Rattle.jt_codegen.proofs.ChainImages.{low_of, high_of, tables_of, fits_of, few_of, names_fit, compiled_of, numbered_texts}
-use Rattle.jt_codegen.proofs.ChainImages.{stack_refused, stack_not_small, image_refused, image_not_small}
+use Rattle.jt_codegen.proofs.ChainImages.{low_of, high_of, tables_of, fits_of, few_of, names_fit, compiled_of}
+use Rattle.jt_codegen.proofs.ChainImages.{numbered_texts, stack_refused, stack_not_small, image_refused}
+use Rattle.jt_codegen.proofs.ChainImages.{image_not_small}
 use Rattle.jt_codegen.proofs.compiling.compile_program.Goals as goal
 
 pub returns-then-not-fits_entries-clause-refused : goal.returns-then-not-fits_entries-clause-refused

@@ -1,17 +1,33 @@
 use Rattle.jt_machine.proofs.Vocabulary.{Code, Goes, start, AreCached, budget_view, pairs_of, Value}
 use Rattle.std.proofs.Common.{◌≡◌, ◌∙◌, ℕ, List, [], sym, ap, subst}
+use Rattle.jt_machine.proofs.ContextsAlike.{started_alike}
 use Rattle.jt_machine.proofs.SlicesAddUp.{runs_in_slices}
 use Rattle.jt_machine.proofs.machine.Machine.start.Goals as goal
+
+pub returns-in-Some-clause-alike : goal.returns-in-Some-clause-alike
+returns-in-Some-clause-alike c =
+    λ y agree. started_alike c.code_laws.ensures c.args.verified (pairs_of c.args.context.now) y agree
+    (budget_view c.args.budget)
 
 pub returns-in-Some-clause-slices : goal.returns-in-Some-clause-slices
 returns-in-Some-clause-slices c =
     λ x b. runs_in_slices c.args.verified x b
     ((c.code_laws.ensures.runs c.args.verified c.image.ensures.whole c.image.ensures.typed).safe x b)
 
+pub returns-in-Ok-clause-alike : goal.returns-in-Ok-clause-alike
+returns-in-Ok-clause-alike c =
+    λ y agree. started_alike c.code_laws.ensures c.args.verified (pairs_of c.args.context.now) y agree
+    (budget_view c.args.budget)
+
 pub returns-in-Ok-clause-slices : goal.returns-in-Ok-clause-slices
 returns-in-Ok-clause-slices c =
     λ x b. runs_in_slices c.args.verified x b
     ((c.code_laws.ensures.runs c.args.verified c.image.ensures.whole c.image.ensures.typed).safe x b)
+
+pub returns-in-Err-clause-alike : goal.returns-in-Err-clause-alike
+returns-in-Err-clause-alike c =
+    λ y agree. started_alike c.code_laws.ensures c.args.verified (pairs_of c.args.context.now) y agree
+    (budget_view c.args.budget)
 
 pub returns-in-Err-clause-slices : goal.returns-in-Err-clause-slices
 returns-in-Err-clause-slices c =
