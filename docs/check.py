@@ -18,6 +18,7 @@ tests/README.md and all of docs/. The script checks
     README.md                      it has at most 7,000 bytes
     each name of Jinja (tests/jinja_names.py)      the language has it, or jt_hints names it as left out
     docs/architecture.md           it lists the crates of crates.txt, in the same order, each after those that it names
+    each place of the version      it has the version of jt_version
     each document                  links lead to it from README.md
 
 It prints each failure. The last line is 'N passed, M failed', and the status is 1 if one failed.
@@ -52,6 +53,14 @@ HOSTS = ("main.rt", "example.c", "hello.rs", "example.py")
 # a refusal of templates in a text of Rust, and the end of a line inside of a text
 REFUSAL = re.compile(r'"([SPCVG]\d+ (?!NoMemory)\w+)"')
 SPLIT = re.compile(r"\\\n\s*")
+# the places of the version, that of jt_version first
+VERSIONS = {
+    "crates/jt_version/src/lib.rt": r'VERSION: &str = "([^"]*)"',
+    "bindings/c/jt.h": r'#define JT_VERSION "([^"]*)"',
+    "bindings/python/jt/__init__.py": r'__version__ = "([^"]*)"',
+    "bindings/rust/Cargo.toml": r'version = "([^"]*)"',
+    "bindings/rust/Cargo.lock": r'name = "jt"\nversion = "([^"]*)"',
+}
 # the kit's types with calls that documents name
 KIT = {"Rc", "Vec", "String", "Write"}
 
@@ -234,6 +243,16 @@ class Checks:
             self.holds(crate in found, listing, f"the table does not list {crate}")
         self.holds(found == crates(), listing, "the table lists other crates than crates.txt, or in another order")
 
+    def versions(self):
+        """Each place of the version has that of jt_version."""
+        wanted = None
+        for name, form in VERSIONS.items():
+            file = ROOT / name
+            found = re.search(rf"(?m)^(?:pub const )?{form}", file.read_text(encoding="utf-8"))
+            version = found and found[1]
+            wanted = wanted or version
+            self.holds(version and version == wanted, file, f"its version is {version}, and that of jt_version {wanted}")
+
 
 def main():
     checks, code, known = Checks(), sources(), rows()
@@ -259,6 +278,7 @@ def main():
     readme = ROOT / "README.md"
     checks.holds(len(readme.read_bytes()) <= MOST, readme, f"it has more than {MOST} bytes")
     checks.order()
+    checks.versions()
     wrong = jinja_names.failures()
     checks.holds(not wrong, ROOT / "tests/jinja_names.py", "; ".join(wrong))
     reached, waiting = set(), [readme]

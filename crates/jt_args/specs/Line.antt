@@ -263,6 +263,11 @@ abbrev pub IfUsage : Type 0 → JobError → Type 0
 IfUsage P (job_error.Usage text) = P
 IfUsage P job_error.NoMemory = Unit {0}
 
+-- The text for a line that is not taken is not empty.
+abbrev pub HasText : JobError → Type 0
+HasText (job_error.Usage text) = 0 < length (string_bytes text)
+HasText job_error.NoMemory = Unit {0}
+
 -- ---- the rows of a line that the program takes
 
 -- The text of a flag.

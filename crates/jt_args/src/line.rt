@@ -6,7 +6,7 @@ ghost use Rattle.clap.specs.Words.{first_of, found_of, rows_of, one_of, kind_of}
 ghost use Rattle.clap.specs.Words.{subcommand_of, subcommand_rows_of};
 ghost use Rattle.clap.specs.Walk.{texts};
 ghost use Rattle.jt_args.specs.Line.{Takes, IsAsked, IsKnown, IsBudget, IsOptions, IsGiven};
-ghost use Rattle.jt_args.specs.Line.{IsSlice, IsFlag, IfUsage};
+ghost use Rattle.jt_args.specs.Line.{HasText, IsSlice, IsFlag, IfUsage};
 ghost use Rattle.jt_args.specs.Line.{program_app, word_of};
 ghost use Rattle.jt_args.specs.Line.{HasNumbers, HasSlice, HasSwitches, IsNumber, IsSwitch};
 ghost use Rattle.jt_args.specs.Line.{ComeInPairs, ArePaired, pair_words, words_of_pairs};
@@ -31,6 +31,8 @@ pub fn job(alloc: Global, words: &[&str]) -> Result<Job, JobError>
     ensures taken { OnOk result (Takes (texts words.now)) }
     ensures asked { IfOk result (IsAsked (subcommand_of program_app (texts words.now))) }
     ensures usage { IfErr result (IfUsage (¬ Takes (texts words.now))) }
+    // The text of a refused line is not empty.
+    ensures told { IfErr result HasText }
 {
     let Ok(program) = program(alloc) else {
         return Err(JobError::NoMemory);
@@ -50,6 +52,7 @@ fn asked(alloc: Global, matches: &ArgMatches<'_>) -> Result<Job, JobError>
     requires slice { IfSome (subcommand_rows_of matches.now) (λ p. HasSlice p.1) }
     ensures ok { IfOk result (IsAsked (subcommand_rows_of matches.now)) }
     ensures err { IfErr result (IfUsage (¬ ArePaired (subcommand_rows_of matches.now))) }
+    ensures told { IfErr result HasText }
 {
     match matches.subcommand() {
         Some(("compile", found)) => compile_job(alloc, found),
@@ -175,6 +178,7 @@ fn turns_job(alloc: Global, found: &ArgMatches<'_>) -> Result<Job, JobError>
     ensures ok { IfOk result (IsAsked (Some (codes "turns", rows_of (found_of found.now)))) }
     ensures err { IfErr result
         (IfUsage (¬ ComeInPairs (pair_words (rows_of (found_of found.now))))) }
+    ensures told { IfErr result HasText }
 {
     let words = found.get_strs("PAIRS").unwrap_or(&[]);
     if words.is_empty() || words.len() % 2 != 0 {
@@ -289,15 +293,20 @@ fn short_number(found: &ArgMatches<'_>, name: &str, default: u8) -> u8
     found.get_one(name).unwrap_or(default)
 }
 
-/// Converts an error of the parser: `NoMemory` if memory ran out, else `Usage` with its text.
+/// Converts an error of the parser: `NoMemory` if memory ran out, else `Usage` with its text. No
+/// text of the parser is empty.
 fn refused(alloc: Global, mistake: &clap::Error) -> JobError
-    ensures { IfUsage (kind_of mistake.now ≢ ErrorKind.OutOfMemory) result }
+    ensures usage { IfUsage (kind_of mistake.now ≢ ErrorKind.OutOfMemory) result }
+    ensures told { HasText result }
 {
     if mistake.kind() == ErrorKind::OutOfMemory {
         return JobError::NoMemory;
     }
-    match mistake.to_string(alloc) {
-        Ok(text) => JobError::Usage(text),
-        Err(_) => JobError::NoMemory,
+    let Ok(text) = mistake.to_string(alloc) else {
+        return JobError::NoMemory;
+    };
+    if text.is_empty() {
+        return JobError::NoMemory;
     }
+    JobError::Usage(text)
 }

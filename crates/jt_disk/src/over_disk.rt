@@ -5,7 +5,7 @@ ghost use Rattle.clap.specs.Walk.{texts};
 ghost use Rattle.clap.specs.Words.{subcommand_of};
 ghost use Rattle.jt_args.specs.Line.{Asks, Takes, program_app};
 ghost use Rattle.jt_program.specs.Commands.{Answers, Ending, out_of};
-ghost use Rattle.jt_program.specs.Reports.{Explains, Prints};
+ghost use Rattle.jt_program.specs.Reports.{Explains, Prints, ReportsUsage};
 ghost use Rattle.jt_disk.specs.Disk.{file_at, known_of};
 ghost use Rattle.jt_disk.specs.Images.{IfCompiled, IfUpgraded};
 
@@ -45,6 +45,9 @@ pub fn performed<W: Sink, E: Sink>(
         (subcommand_of program_app (texts words.now)) e
         × Prints (W.taken out.old) (W.taken out.new) (W.failed out.new) e result
         × Explains (E.taken errors.old) (E.taken errors.new) (E.failed errors.new) e result }
+    // If the status is 2, standard error takes the usage, a text that is not empty.
+    ensures told { result ≡ 2 → ReportsUsage (E.taken errors.old) (E.taken errors.new)
+        (E.failed errors.new) }
     ensures usage { ¬ Takes (texts words.now) → (result ≡ 2) ⊎ (result ≡ 6) }
     ensures taken { Takes (texts words.now) → result ≢ 2 }
 {

@@ -1,5 +1,5 @@
 -- A call over handles has a result that the call over the bytes may have.
-use Rattle.std.proofs.Common.{◌≡◌, ◌⊎◌, inl, inr, ℕ, List, Option, Some, None, Ok, Err, length, refl, subst, sym}
+use Rattle.std.proofs.Common.{◌≡◌, inl, inr, ℕ, List, Option, Some, None, Ok, Err, length, refl, subst, sym}
 use Rattle.jt_host.specs.Calls.{IsImageOf}
 use Rattle.jt_host.specs.Compiled.{IsCompiled}
 use Rattle.jt_host.specs.declared.Budget.{Budget}
@@ -58,27 +58,40 @@ renders_code ns texts entry o c k (Outcome h) b given compiled context r run = a
 -- The result of a run over handles is one of the bytes, also if memory runs out.
 runs_held : (image : Option Shared) (held : Option Local) (b : Budget) (i c : List ℕ) → HoldsImage i image
     → HoldsContext c held
-    → (r : CallResult) → RunsHeld image held b r ⊎ (r ≡ Err (ffi_error.Call call_error.NoMemory)) → Runs i c b r
-runs_held (Some (Image p)) (Some x) b i c image context r (inl run) =
-    runs_bytes i c (arc_value p) x b image context r run
-runs_held image held b i c is_image is_context r (inr none) = subst (λ (s : CallResult). Runs i c b s) (sym none) tt
-runs_held (Some (Image p)) None b i c image context r (inl run) = absurd context
-runs_held (Some (Library t)) held b i c image context r (inl run) = absurd image
-runs_held None held b i c image context r (inl run) = absurd image
+    → (r : CallResult) → RunsHeld image held b r → Runs i c b r
+runs_held (Some (Image p)) (Some x) b i c image context r run = runs_bytes i c (arc_value p) x b image context r run
+runs_held (Some (Image p)) None b i c image context r run = absurd context
+runs_held (Some (Library t)) held b i c image context r run = absurd image
+runs_held None held b i c image context r run = absurd image
+
+runs_kept : (image : Option Shared) (held : Option Local) (b : Budget) (i c : List ℕ) → HoldsImage i image
+    → HoldsContext c held
+    → (kept : Option Local) (r : CallResult) → RunsAndKeeps image held b kept r → Runs i c b r
+runs_kept image held b i c is_image is_context kept r (inl run) =
+    runs_held image held b i c is_image is_context r run.0
+runs_kept image held b i c is_image is_context kept r (inr none) =
+    subst (λ (s : CallResult). Runs i c b s) (sym none.1) tt
 
 renders_held : (image : Option Shared) (held : Option Local) (b : Budget) (ns : List Lengths) (texts entry : List ℕ)
     (o : Options) (c : List ℕ)
     → IsGiven ns texts entry
     → HoldsTemplate (sources_in ns texts) entry o image → HoldsContext c held
-    → (r : CallResult) → RunsHeld image held b r ⊎ (r ≡ Err (ffi_error.Call call_error.NoMemory))
-    → Renders ns texts entry o c b r
-renders_held (Some (Image p)) (Some x) b ns texts entry o c given template context r (inl run) =
+    → (r : CallResult) → RunsHeld image held b r → Renders ns texts entry o c b r
+renders_held (Some (Image p)) (Some x) b ns texts entry o c given template context r run =
     renders_code ns texts entry o c (arc_value p) x b given template context r run
-renders_held image held b ns texts entry o c given template context r (inr none) =
-    subst (λ (s : CallResult). Renders ns texts entry o c b s) (sym none) tt
-renders_held (Some (Image p)) None b ns texts entry o c given template context r (inl run) = absurd context
-renders_held (Some (Library t)) held b ns texts entry o c given template context r (inl run) = absurd template
-renders_held None held b ns texts entry o c given template context r (inl run) = absurd template
+renders_held (Some (Image p)) None b ns texts entry o c given template context r run = absurd context
+renders_held (Some (Library t)) held b ns texts entry o c given template context r run = absurd template
+renders_held None held b ns texts entry o c given template context r run = absurd template
+
+renders_kept : (image : Option Shared) (held : Option Local) (b : Budget) (ns : List Lengths) (texts entry : List ℕ)
+    (o : Options) (c : List ℕ)
+    → IsGiven ns texts entry
+    → HoldsTemplate (sources_in ns texts) entry o image → HoldsContext c held
+    → (kept : Option Local) (r : CallResult) → RunsAndKeeps image held b kept r → Renders ns texts entry o c b r
+renders_kept image held b ns texts entry o c given template context kept r (inl run) =
+    renders_held image held b ns texts entry o c given template context r run.0
+renders_kept image held b ns texts entry o c given template context kept r (inr none) =
+    subst (λ (s : CallResult). Renders ns texts entry o c b s) (sym none.1) tt
 
 -- The answer of a run over handles is one of `jt_run`.
 pub answers_run : (image : Option Shared) (held : Option Local) (b : Budget) (i c : List ℕ) → HoldsImage i image
@@ -86,7 +99,7 @@ pub answers_run : (image : Option Shared) (held : Option Local) (b : Budget) (i 
     → (kept : Option Local) (old new : List ℕ) (a : Answer) → Answers (RunsAndKeeps image held b kept) old new a
     → Answers (Runs i c b) old new a
 answers_run image held b i c is_image is_context kept old new a h =
-    (h.0, runs_held image held b i c is_image is_context h.0 h.1.0, h.2)
+    (h.0, runs_kept image held b i c is_image is_context kept h.0 h.1, h.2)
 
 -- The answer of a run of a compiled image is one of `jt_render`.
 pub answers_render : (image : Option Shared) (held : Option Local) (b : Budget) (ns : List Lengths)
@@ -96,15 +109,15 @@ pub answers_render : (image : Option Shared) (held : Option Local) (b : Budget) 
     → (kept : Option Local) (old new : List ℕ) (a : Answer) → Answers (RunsAndKeeps image held b kept) old new a
     → Answers (Renders ns texts entry o c b) old new a
 answers_render image held b ns texts entry o c given template context kept old new a h =
-    (h.0, renders_held image held b ns texts entry o c given template context h.0 h.1.0, h.2)
+    (h.0, renders_kept image held b ns texts entry o c given template context kept h.0 h.1, h.2)
 
 -- A result that is kept, or lack of memory to keep it, is reported.
 pub kept_answers : (image : Option Shared) (held : Option Local) (b : Budget) (r : CallResult) (kept : Option Local)
     (old new : List ℕ) (a : Answer)
     → RunsHeld image held b r → ReportsKept r kept old new a → Answers (RunsAndKeeps image held b kept) old new a
-kept_answers image held b r kept old new a run (inl h) = (r, (inl run, inl h.0), h.1)
+kept_answers image held b r kept old new a run (inl h) = (r, inl (run, h.0), h.1)
 kept_answers image held b r kept old new a run (inr h) =
-    (Err (ffi_error.Call call_error.NoMemory), (inr refl, inr (h.0, refl)), h.1)
+    (Err (ffi_error.Call call_error.NoMemory), inr (h.0, refl), h.1)
 
 -- ---- compiles
 
@@ -175,7 +188,7 @@ saves_held : (image : Option Shared) (ns : List Lengths) (texts entry : List ℕ
     → HoldsTemplate (sources_in ns texts) entry o image → (r : CallResult) → SavesHeld image r
     → Compiles ns texts entry o r
 saves_held (Some (Image p)) ns texts entry o given template (Ok bytes) h =
-    (given, record { code = arc_value p; spelled = h; compiled = template })
+    (given, record { code = arc_value p; spelled = h.0; read = h.1; compiled = template })
 saves_held (Some (Image p)) ns texts entry o given template (Err (ffi_error.Call call_error.NoMemory)) h = tt
 saves_held (Some (Image p)) ns texts entry o given template (Err (ffi_error.Call e)) h = absurd h
 saves_held (Some (Image p)) ns texts entry o given template (Err e) h = absurd h

@@ -11,6 +11,7 @@ use Rattle.jt_host.specs.declared.Budget.{Budget}
 use Rattle.jt_host.specs.declared.CallError.TheVariants as call_error
 use Rattle.jt_host.specs.declared.Options.{Options}
 use Rattle.jt_image.specs.Code.{Code}
+use Rattle.jt_image.specs.Reading.{code_of}
 use Rattle.jt_image.specs.Spelling.{spelling}
 use Rattle.jt_value.specs.ContextView.{pairs_of}
 use Rattle.jt_ffi.specs.Answers.{CallResult, ExplanationResult, Reports}
@@ -64,6 +65,12 @@ abbrev pub AreSame : Option Shared → Option Shared → Type 0
 AreSame (Some held) (Some other) = IsSame held other
 AreSame (Some held) None = ⊥
 AreSame None other = ⊥
+
+-- The status of a second handle: 2 exactly if the first handle holds nothing, and otherwise 0, or 6
+-- for lack of memory.
+abbrev pub IsShareStatus : Option Shared → ℕ → Type 0
+IsShareStatus None status = status ≡ 2
+IsShareStatus (Some held) status = (status ≡ 0) ⊎ (status ≡ 6)
 
 -- ---- loads: the handle holds what the bytes spell and nothing is returned, or the handle holds
 -- nothing and the error states why
@@ -137,9 +144,9 @@ ExplainsHeld None entry options r = r ≡ Err ffi_error.NotHeld
 
 -- ---- bytes of images
 
--- The result is the bytes of the code, or memory ran out.
+-- The result is the bytes of the code, which are read as it, or memory ran out.
 abbrev pub Saves : Code → CallResult → Type 0
-Saves code (Ok bytes) = bytes.items ≡ spelling code
+Saves code (Ok bytes) = (bytes.items ≡ spelling code) × (code_of bytes.items ≡ Ok code)
 Saves code (Err (ffi_error.Call call_error.NoMemory)) = Unit {0}
 Saves code (Err e) = ⊥
 
@@ -166,15 +173,12 @@ RunsHeld (Some (Image image)) None b r = r ≡ Err ffi_error.NotHeld
 RunsHeld (Some (Library templates)) context b r = r ≡ Err ffi_error.NotHeld
 RunsHeld None context b r = r ≡ Err ffi_error.NotHeld
 
--- The handle holds the result, or there was no memory to keep it, and that is the result.
-abbrev pub IsKept : CallResult → Option Local → Type 0
-IsKept r held = (held ≡ Some (Outcome r))
-    ⊎ ((held ≡ None) × (r ≡ Err (ffi_error.Call call_error.NoMemory)))
-
--- The result is that of the run, unless memory ran out, and it is kept.
+-- The result is that of the run, and the handle holds it. Or the handle holds nothing, and the result
+-- is lack of memory.
 abbrev pub RunsAndKeeps : Option Shared → Option Local → Budget → Option Local → CallResult → Type 0
 RunsAndKeeps image context b held r =
-    (RunsHeld image context b r ⊎ (r ≡ Err (ffi_error.Call call_error.NoMemory))) × IsKept r held
+    (RunsHeld image context b r × (held ≡ Some (Outcome r)))
+    ⊎ ((held ≡ None) × (r ≡ Err (ffi_error.Call call_error.NoMemory)))
 
 -- ---- outcomes
 

@@ -8,7 +8,7 @@ ghost use Rattle.jt_host.specs.declared.Options.{Options};
 ghost use Rattle.jt_ffi.specs.Answers.{Answers, AnswersExplained};
 ghost use Rattle.jt_ffi.specs.Calls.{Compiles, Explains, IsGiven, Renders, Runs};
 ghost use Rattle.jt_ffi.specs.Handles.{AreSame, CompilesHeld, CompilesInto, ExplainsHeld};
-ghost use Rattle.jt_ffi.specs.Handles.{HoldsContext};
+ghost use Rattle.jt_ffi.specs.Handles.{HoldsContext, IsShareStatus};
 ghost use Rattle.jt_ffi.specs.Handles.{HoldsImage, HoldsLibrary, HoldsTemplate, LoadsContext};
 ghost use Rattle.jt_ffi.specs.Handles.{LoadsImage, LoadsLibrary, ReportsOutcome, RunsAndKeeps};
 ghost use Rattle.jt_ffi.specs.Handles.{SavesHeld};
@@ -101,7 +101,7 @@ pub extern "C" fn jt_library_explain(
 }
 
 /// Reads and verifies an image into a handle, and writes nothing, or the reason why the handle
-/// holds nothing.
+/// holds nothing. The held image runs for every context and budget, as `jt_check` states.
 #[unsafe(no_mangle)]
 pub extern "C" fn jt_image_load(
     alloc: Global,
@@ -161,7 +161,8 @@ pub extern "C" fn jt_image_run(
 ) -> Answer
     ensures image { image.new.held ≡ image.old.held }
     ensures context { context.new.held ≡ context.old.held }
-    // The outcome is that of the image for the context. It is held, and reported.
+    // The outcome is that of the image for the context. It is held, and reported. If it is lack of
+    // memory, the run may need memory. Otherwise nothing is held, and lack of memory is reported.
     ensures answer { Answers (RunsAndKeeps image.old.held context.old.held (budget_of budget)
         outcome.new.held) out.old out.new result }
     // The answer is one that `jt_run` may return for the bytes of both.
@@ -218,6 +219,7 @@ pub extern "C" fn jt_library_share(
     ensures same { from.new.held ≡ from.old.held }
     ensures done { result ≡ 0 → AreSame from.old.held to.new.held }
     ensures none { result ≢ 0 → to.new.held ≡ None }
+    ensures status { IsShareStatus from.old.held result }
 {
     share(alloc, from, to)
 }
@@ -233,6 +235,7 @@ pub extern "C" fn jt_image_share(
     ensures same { from.new.held ≡ from.old.held }
     ensures done { result ≡ 0 → AreSame from.old.held to.new.held }
     ensures none { result ≢ 0 → to.new.held ≡ None }
+    ensures status { IsShareStatus from.old.held result }
 {
     share(alloc, from, to)
 }
@@ -242,6 +245,7 @@ fn share(alloc: Global, from: &mut SharedHandle, to: &mut SharedHandle) -> u32
     ensures same { from.new.held ≡ from.old.held }
     ensures done { result ≡ 0 → AreSame from.old.held to.new.held }
     ensures none { result ≢ 0 → to.new.held ≡ None }
+    ensures status { IsShareStatus from.old.held result }
 {
     drop(to.take(alloc));
     let Some(held) = from.take(alloc) else {

@@ -1,7 +1,7 @@
 //! Exports `jt` to hosts in other languages: calls over numbers and bytes in a static library.
 //! `bindings/c/jt.h` declares them.
 //!
-//! Five calls over bytes keep nothing, so calls of several threads do not affect each other. A
+//! Six calls over bytes keep nothing, so calls of several threads do not affect each other. A
 //! text, an image or the reason of a refusal goes into the caller's buffer. If it is longer than
 //! the buffer, nothing is written there, and the answer states its length. The other calls keep
 //! libraries, images, contexts and outcomes in handles, whose memory is the caller's.

@@ -12,4 +12,5 @@ use Rattle.jt_host.specs.Calls.{IsNoImage}
 pub refused_code : (bytes : List ℕ) (k : Code) (r : Refusal) → code_of bytes ≡ Ok k → RefusalHolds k r
     → (IsTyped k → r ≡ refusal.NoMemory) → IsNoImage bytes (of_code r)
 refused_code bytes k refusal.NoMemory read holds exact = tt
-refused_code bytes k r read holds exact = (k, read, λ typed. let none = exact typed in absurd (cc), holds)
+refused_code bytes k (refusal.Flaw flaw unit point) read holds exact =
+    (λ same. absurd (cc), (k, read, λ typed. let none = exact typed in absurd (cc), holds))

@@ -13,6 +13,8 @@ use Rattle.jt_machine.specs.declared.Outcome.{Outcome}
 use Rattle.jt_machine.specs.declared.Outcome.TheVariants as outcome
 use Rattle.jt_host.specs.declared.call_error.CallError.{CallError}
 use Rattle.jt_host.specs.declared.call_error.CallError.TheVariants as error
+use Rattle.jt_host.specs.declared.rendering.RenderError.{RenderError}
+use Rattle.jt_host.specs.declared.rendering.RenderError.TheVariants as render_error
 
 -- The error for bytes that are not an image: their fault, or lack of memory.
 abbrev pub of_image : ImageError → CallError
@@ -28,6 +30,16 @@ of_code r = error.Code r
 abbrev pub of_compile : CompileError → CallError
 of_compile compile_error.NoMemory = error.NoMemory
 of_compile e = error.Template e
+
+-- The error of a rendering for a refusal of the compiler: the reason, or lack of memory.
+abbrev pub of_refused : CompileError → RenderError
+of_refused compile_error.NoMemory = render_error.NoMemory
+of_refused e = render_error.Compile e
+
+-- The error for a rendering without an outcome: the compiler's reason, or lack of memory.
+abbrev pub of_render : RenderError → CallError
+of_render (render_error.Compile e) = of_compile e
+of_render render_error.NoMemory = error.NoMemory
 
 -- The error for bytes that spell no context: their flaw, or lack of memory.
 abbrev pub of_context : ContextError → CallError

@@ -29,6 +29,8 @@ use Rattle.jt_host.specs.Clues.{AreCluesFor}
 use Rattle.jt_host.specs.Rendering.{IsRefused as IsUncompiled, IsRendered}
 use Rattle.jt_contexts.specs.declared.ContextError.TheVariants as context_error
 use Rattle.jt_verify.specs.Refusing.{RefusalHolds}
+use Rattle.jt_verify.specs.declared.Refusal.TheVariants as refusals
+use Rattle.jt_machine.specs.Growing.{MayWant}
 use Rattle.jt_machine.specs.View.{budget_view, outcome_view}
 use Rattle.jt_machine.specs.declared.Outcome.{Outcome}
 use Rattle.jt_machine.specs.declared.Outcome.TheVariants as outcome
@@ -37,12 +39,14 @@ use Rattle.jt_host.specs.declared.call_error.CallError.TheVariants as error
 
 -- ---- images
 
--- The bytes are no image, or that of a code that is not typed, and the error states which.
+-- The bytes are no image, or that of a code that is not typed, and the error states which. Lack of
+-- memory is an error of its own, and no fault of the bytes.
 abbrev pub IsNoImage : List ℕ → CallError → Type 0
 IsNoImage bytes (error.Image fault) =
     (fault ≢ image_error.NoMemory) × Gives (λ (code : Code). code) (Err fault) (code_of bytes)
 IsNoImage bytes (error.Code refusal) =
-    (code : Code) × (code_of bytes ≡ Ok code) × (IsTyped code → ⊥) × RefusalHolds code refusal
+    (refusal ≢ refusals.NoMemory)
+    × ((code : Code) × (code_of bytes ≡ Ok code) × (IsTyped code → ⊥) × RefusalHolds code refusal)
 IsNoImage bytes error.NoMemory = Unit {0}
 IsNoImage bytes e = ⊥
 
@@ -65,11 +69,13 @@ abbrev pub ChecksTo : List ℕ → Result (ℕ × ℕ) CallError → Type 0
 ChecksTo bytes (Ok counts) = IsCounted bytes counts
 ChecksTo bytes (Err e) = IsNoImage bytes e
 
--- The bytes spell a code, and the bytes `new` spell this code in version 2.
+-- The bytes spell a code, and the bytes `new` spell this code in version 2 and are read as it. Bytes
+-- that are too long for an image are read as none, so `new` is not too long.
 pub record IsUpgraded (bytes new : List ℕ) : Type 0 where
   pub code : Code
   pub given : code_of bytes ≡ Ok code
   pub spelled : new ≡ spelling (upgraded code)
+  pub read : code_of new ≡ Ok (upgraded code)
 
 -- The bytes are no image, or their code is too long in version 2, and the error states which.
 abbrev pub IsNoUpgrade : List ℕ → ImageError → Type 0
@@ -87,7 +93,7 @@ UpgradesTo bytes (Err other) = ⊥
 -- ---- runs
 
 -- The result is the text with which the run of the code for the context ends, or the error states
--- why it does not exist.
+-- why it does not exist. Memory may be lacking only for a run that may need some.
 abbrev pub RunsTo : Code → Pairs → Budget → Result (String Global) CallError → Type 0
 RunsTo code context b (Ok text) =
     Run code context (budget_view b) (outcome_view (outcome.Text text))
@@ -95,7 +101,7 @@ RunsTo code context b (Err (error.Fault fault place)) =
     Run code context (budget_view b) (outcome_view (outcome.Fault fault place))
 RunsTo code context b (Err (error.Spent spent)) =
     Run code context (budget_view b) (outcome_view (outcome.Spent spent))
-RunsTo code context b (Err error.NoMemory) = Unit {0}
+RunsTo code context b (Err error.NoMemory) = MayWant code context (budget_view b)
 RunsTo code context b (Err other) = ⊥
 
 -- The bytes are an image, and its run for the context ends so.
@@ -133,11 +139,12 @@ abbrev pub IsNoMemory : CallError → Type 0
 IsNoMemory error.NoMemory = Unit {0}
 IsNoMemory other = ⊥
 
--- The bytes spell a code to which the entry compiles.
+-- The bytes spell a code to which the entry compiles, and are read as this code.
 pub record IsImage (sources : SourceTexts) (entry : Text) (options : Options) (bytes : List ℕ) :
     Type 0 where
   pub code : Code
   pub spelled : bytes ≡ spelling code
+  pub read : code_of bytes ≡ Ok code
   pub compiled : IsCompiled sources entry options code
 
 module _ (sources : SourceTexts) (entry : Text) (options : Options) where

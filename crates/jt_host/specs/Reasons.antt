@@ -25,6 +25,8 @@ use Rattle.jt_codegen.specs.declared.CompileError.{CompileError}
 use Rattle.jt_codegen.specs.declared.CompileError.TheVariants as compile_error
 use Rattle.jt_host.specs.declared.call_error.CallError.{CallError}
 use Rattle.jt_host.specs.declared.call_error.CallError.TheVariants as error
+use Rattle.jt_host.specs.declared.reasons.Reason.{Reason}
+use Rattle.jt_host.specs.declared.reasons.Reason.TheVariants as reason
 
 -- The name of each number of the budget.
 abbrev pub spent_name : Spent → Text
@@ -160,3 +162,11 @@ error_text (error.Context e) = context_text e
 error_text (error.Fault fault place) = codes "fault " ++ fault_text fault
 error_text (error.Spent spent) = codes "spent " ++ spent_name spent
 error_text error.NoMemory = codes "no memory"
+
+-- ---- texts in parts
+
+abbrev pub reason_text : Reason → Text
+reason_text (reason.Name name) = name.now
+reason_text (reason.Point name unit point) =
+    name.now ++ (codes " unit " ++ (decimal unit ++ (codes " point " ++ decimal point)))
+reason_text (reason.Line name template line) = placed name.now template.now line

@@ -12,6 +12,8 @@ use Rattle.jt_codegen.specs.Compiled.{IsCompiled}
 use Rattle.jt_codegen.specs.Refusals.{Breaks, NamesLimit}
 use Rattle.jt_codegen.specs.declared.error.CompileError.{CompileError}
 use Rattle.jt_codegen.specs.declared.error.CompileError.TheVariants as compile_error
+use Rattle.jt_host.specs.declared.rendering.RenderError.{RenderError}
+use Rattle.jt_host.specs.declared.rendering.RenderError.TheVariants as render_error
 use Rattle.jt_machine.specs.View.{budget_view, outcome_view}
 use Rattle.jt_machine.specs.declared.Outcome.{Outcome}
 
@@ -30,6 +32,7 @@ module _ (sources : SourceTexts) (entry : Text) (options : Options) where
     pub holds : Breaks sources entry options e
     pub limit : NamesLimit e → IsSmall sources entry options → ⊥
 
-  -- Why there is no outcome. Lack of memory claims nothing.
-  abbrev pub IsUnrendered : CompileError → Type 0
-  IsUnrendered e = e ≢ compile_error.NoMemory → IsRefused e
+  -- The compiler may return the refusal. Lack of memory claims nothing.
+  abbrev pub IsUnrendered : RenderError → Type 0
+  IsUnrendered (render_error.Compile e) = IsRefused e
+  IsUnrendered render_error.NoMemory = Unit {0}

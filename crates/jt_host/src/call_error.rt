@@ -2,7 +2,9 @@
 
 ghost use Rattle.std.specs.Prelude.{◌≡◌};
 ghost use Rattle.jt_host.specs.CallErrors.{of_image, of_code, of_compile, of_context, of_outcome};
+ghost use Rattle.jt_host.specs.CallErrors.{of_render};
 
+use crate::rendering::RenderError;
 use jt_budget::Spent;
 use jt_codegen::CompileError;
 use jt_contexts::ContextError;
@@ -69,6 +71,17 @@ impl From<CompileError> for CallError {
         match refusal {
             CompileError::NoMemory => CallError::NoMemory,
             other => CallError::Template(other),
+        }
+    }
+}
+
+impl From<RenderError> for CallError {
+    ghost from_gives = { λ refusal e. e ≡ of_render refusal };
+
+    fn from(refusal: RenderError) -> CallError {
+        match refusal {
+            RenderError::Compile(refusal) => refusal.into(),
+            RenderError::NoMemory => CallError::NoMemory,
         }
     }
 }

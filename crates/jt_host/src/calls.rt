@@ -5,7 +5,7 @@ ghost use Rattle.jt_host.specs.Calls.{RendersTo, RunsTo, UpgradesTo, VerifiesTo}
 ghost use Rattle.jt_host.specs.Templates.{source_of};
 
 use crate::call_error::{CallError, text_of};
-use crate::rendering::render;
+use crate::rendering::{render, verify_compiled};
 use crate::templates::Templates;
 use jt_budget::Budget;
 use jt_codegen::compile;
@@ -54,7 +54,7 @@ pub fn image_of(alloc: Global, entry: &EntryTemplate<'_>) -> Result<Vec<u8>, Cal
     Ok(encode(alloc, &image)?)
 }
 
-/// Compiles the entry and returns its image, which is in order.
+/// Compiles the entry, verifies its image, and returns that.
 ///
 /// # Errors
 ///
@@ -70,8 +70,7 @@ pub fn verified_template(alloc: Global, entry: &EntryTemplate<'_>) -> Result<Ver
         options,
     } = *entry;
     let image = compile(alloc, name, templates, options)?;
-    // The compiler makes typed images, so this one is in order.
-    Ok(Verified::of_typed(image))
+    Ok(verify_compiled(alloc, image)?)
 }
 
 /// Returns, in version 2, the bytes of the image that `bytes` spell. The image is not verified.

@@ -8,10 +8,10 @@ ghost use Rattle.jt_host.specs.Templates.{source_of};
 use crate::call_error::CallError;
 use crate::calls::EntryTemplate;
 use crate::explaining::{explained, place_text, source_text};
-use crate::rendering::render;
+use crate::rendering::{RenderError, render};
 use crate::templates::Templates;
 use jt_budget::{Budget, Spent};
-use jt_codegen::{CompileError, TagPlace};
+use jt_codegen::TagPlace;
 use jt_machine::{Outcome, Place};
 use jt_scan::Options;
 use jt_turns::limit_text;
@@ -43,8 +43,8 @@ pub fn explained_run(
     } = *entry;
     let outcome = match render(alloc, name, templates, options, context, budget) {
         Ok(outcome) => outcome,
-        Err(CompileError::NoMemory) => return Err(CallError::NoMemory),
-        Err(_) => return explained(alloc, entry),
+        Err(RenderError::NoMemory) => return Err(CallError::NoMemory),
+        Err(RenderError::Compile(_)) => return explained(alloc, entry),
     };
     match ending_text(alloc, templates, options, budget, outcome) {
         Ok(text) => Ok(text),

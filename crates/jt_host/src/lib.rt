@@ -62,8 +62,11 @@ pub use jt_machine::{
 };
 pub use jt_scan::Options;
 pub use jt_sessions::{Host, HostError};
-pub use jt_value::{Context, Fault, NoMemory, Text, Value, ValueError, ValueList, ValueMap};
+pub use jt_value::{
+    Context, Fault, ListItems, NoMemory, NumberRange, Text, Value, ValueError, ValueList, ValueMap,
+};
 pub use jt_verify::{Flaw, Refusal, Verified, VerifiedView, verify, verify_view};
+pub use reasons::Reason;
 pub use refusal_code::RefusalCode;
-pub use rendering::render;
+pub use rendering::{RenderError, render};
 pub use templates::Templates;

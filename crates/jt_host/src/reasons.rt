@@ -5,8 +5,8 @@ ghost use Rattle.std.specs.Fmt.{DisplaysOnOk};
 ghost use Rattle.jt_host.specs.Reasons.{chain_name, chain_text, code_text, compile_text};
 ghost use Rattle.jt_host.specs.Reasons.{context_text};
 ghost use Rattle.jt_host.specs.Reasons.{error_text, flaw_name, image_text, parse_line};
-ghost use Rattle.jt_host.specs.Reasons.{parse_name, placed, scan_line, scan_name, scope_text};
-ghost use Rattle.jt_host.specs.Reasons.{spent_name};
+ghost use Rattle.jt_host.specs.Reasons.{parse_name, reason_text, scan_line, scan_name};
+ghost use Rattle.jt_host.specs.Reasons.{scope_text, spent_name};
 
 use crate::call_error::CallError;
 use jt_budget::Spent;
@@ -17,6 +17,87 @@ use jt_verify::{Flaw, Refusal};
 use std::error::Error;
 use std::fmt;
 
+/// The text of a refusal in parts, so that it is printed without memory.
+#[derive(Clone, Copy)]
+pub enum Reason<'a> {
+    /// The code and the name of a refusal.
+    Name(&'static str),
+    /// The name of a flaw, with its unit and its point.
+    Point {
+        name: &'static str,
+        unit: usize,
+        point: usize,
+    },
+    /// The name of a refusal, with its template and its line.
+    Line {
+        name: &'static str,
+        template: &'a str,
+        line: u32,
+    },
+}
+
+impl<'a> Reason<'a> {
+    /// Returns the text of a refusal of bytes that are no image.
+    pub fn of_image(refusal: ImageError) -> Reason<'a>
+        ensures { reason_text result ≡ image_text refusal }
+    {
+        Reason::Name(text_of_image(refusal))
+    }
+
+    /// Returns the text of a refusal of the verifier.
+    pub fn of_code(refusal: Refusal) -> Reason<'a>
+        ensures { reason_text result ≡ code_text refusal }
+    {
+        match refusal {
+            Refusal::Flaw { flaw, unit, point } => Reason::Point {
+                name: name_of_flaw(flaw),
+                unit,
+                point,
+            },
+            Refusal::NoMemory => Reason::Name("K10 NoMemory"),
+        }
+    }
+
+    /// Returns the text of a refusal to compile.
+    pub fn of_compile(refusal: &'a CompileError) -> Reason<'a>
+        ensures { reason_text result ≡ compile_text refusal.now }
+    {
+        match refusal {
+            CompileError::Chain(refusal) => Reason::of_chain(refusal),
+            CompileError::Scope(refusal) => Reason::Name(text_of_scope(*refusal)),
+            CompileError::CodeTooLong => Reason::Name("G1 CodeTooLong"),
+            CompileError::NoMemory => Reason::Name("G2 NoMemory"),
+            CompileError::StackTooDeep => Reason::Name("G3 StackTooDeep"),
+        }
+    }
+
+    /// Returns the text of a refusal of a chain.
+    fn of_chain(refusal: &'a ChainError) -> Reason<'a>
+        ensures { reason_text result ≡ chain_text refusal.now }
+    {
+        match refusal {
+            ChainError::Scan(template, refusal) => Reason::Line {
+                name: name_of_scan(*refusal),
+                template: template.as_str(),
+                line: line_of_scan(*refusal),
+            },
+            ChainError::Parse(template, refusal) => Reason::Line {
+                name: name_of_parse(*refusal),
+                template: template.as_str(),
+                line: line_of_parse(*refusal),
+            },
+            other => Reason::Name(name_of_chain(other)),
+        }
+    }
+
+    /// Returns the text of a refusal of a context.
+    pub fn of_context(refusal: ContextError) -> Reason<'a>
+        ensures { reason_text result ≡ context_text refusal }
+    {
+        Reason::Name(text_of_context(refusal))
+    }
+}
+
 impl Error for CallError {}
 
 impl fmt::Display for CallError {
@@ -24,10 +105,10 @@ impl fmt::Display for CallError {
 
     fn fmt<W: fmt::Write>(&self, f: &mut fmt::Formatter<W>) -> fmt::Result {
         match self {
-            CallError::Image(refusal) => f.write_str(text_of_image(*refusal)),
-            CallError::Code(refusal) => write_code(*refusal, f),
-            CallError::Template(refusal) => write_compile(refusal, f),
-            CallError::Context(refusal) => f.write_str(text_of_context(*refusal)),
+            CallError::Image(refusal) => write_reason(Reason::of_image(*refusal), f),
+            CallError::Code(refusal) => write_reason(Reason::of_code(*refusal), f),
+            CallError::Template(refusal) => write_reason(Reason::of_compile(refusal), f),
+            CallError::Context(refusal) => write_reason(Reason::of_context(*refusal), f),
             CallError::Fault(fault, _) => write!(f, "fault {fault}"),
             CallError::Spent(spent) => write!(f, "spent {}", name_of_spent(*spent)),
             CallError::NoMemory => f.write_str("no memory"),
@@ -35,50 +116,18 @@ impl fmt::Display for CallError {
     }
 }
 
-/// Writes the text of a refusal of the verifier.
-fn write_code<W: fmt::Write>(refusal: Refusal, f: &mut fmt::Formatter<W>) -> fmt::Result
-    ensures { DisplaysOnOk W.write_str_gives f.old result (Some (code_text refusal)) f.new }
+/// Writes the text of a refusal.
+fn write_reason<W: fmt::Write>(reason: Reason<'_>, f: &mut fmt::Formatter<W>) -> fmt::Result
+    ensures { DisplaysOnOk W.write_str_gives f.old result (Some (reason_text reason)) f.new }
 {
-    match refusal {
-        Refusal::Flaw { flaw, unit, point } => {
-            let name = name_of_flaw(flaw);
-            write!(f, "{name} unit {unit} point {point}")
-        }
-        Refusal::NoMemory => f.write_str("K10 NoMemory"),
-    }
-}
-
-/// Writes the text of a refusal to compile.
-fn write_compile<W: fmt::Write>(refusal: &CompileError, f: &mut fmt::Formatter<W>) -> fmt::Result
-    ensures { DisplaysOnOk W.write_str_gives f.old result (Some (compile_text refusal.now))
-        f.new }
-{
-    match refusal {
-        CompileError::Chain(refusal) => write_chain(refusal, f),
-        CompileError::Scope(refusal) => f.write_str(text_of_scope(*refusal)),
-        CompileError::CodeTooLong => f.write_str("G1 CodeTooLong"),
-        CompileError::NoMemory => f.write_str("G2 NoMemory"),
-        CompileError::StackTooDeep => f.write_str("G3 StackTooDeep"),
-    }
-}
-
-/// Writes the text of a refusal of a chain.
-fn write_chain<W: fmt::Write>(refusal: &ChainError, f: &mut fmt::Formatter<W>) -> fmt::Result
-    ensures { DisplaysOnOk W.write_str_gives f.old result (Some (chain_text refusal.now)) f.new }
-{
-    match refusal {
-        ChainError::Scan(template, refusal) => {
-            write_placed(name_of_scan(*refusal), template, line_of_scan(*refusal), f)
-        }
-        ChainError::Parse(template, refusal) => {
-            write_placed(
-                name_of_parse(*refusal),
-                template,
-                line_of_parse(*refusal),
-                f,
-            )
-        }
-        other => f.write_str(name_of_chain(other)),
+    match reason {
+        Reason::Name(name) => f.write_str(name),
+        Reason::Point { name, unit, point } => write!(f, "{name} unit {unit} point {point}"),
+        Reason::Line {
+            name,
+            template,
+            line,
+        } => write!(f, "{name} in {template} line {line}"),
     }
 }
 
@@ -102,19 +151,6 @@ pub(crate) fn name_of_chain(refusal: &ChainError) -> &'static str
         ChainError::Scan(_, refusal) => name_of_scan(*refusal),
         ChainError::Parse(_, refusal) => name_of_parse(*refusal),
     }
-}
-
-/// Writes the name of a refusal with its template and its line.
-fn write_placed<W: fmt::Write>(
-    name: &str,
-    template: &str,
-    line: u32,
-    f: &mut fmt::Formatter<W>,
-) -> fmt::Result
-    ensures { DisplaysOnOk W.write_str_gives f.old result
-        (Some (placed name.now template.now line)) f.new }
-{
-    write!(f, "{name} in {template} line {line}")
 }
 
 /// Returns the text of a refusal of bytes that are no image.

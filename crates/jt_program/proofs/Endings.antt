@@ -1,12 +1,13 @@
 -- The ends of lines and commands, from the ends of their parts.
 use Rattle.std.proofs.Common.{◌≡◌, ◌≢◌, ◌⊎◌, Contains, inl, inr, ⊎_elim, ℕ, List, Option, None, Some, String, Global}
-use Rattle.std.proofs.Common.{Err, ap, codes, option_map, refl, string_bytes, subst}
+use Rattle.std.proofs.Common.{Bool, Err, IfErr, Result, ap, arith, codes, option_map, refl, string_bytes, subst}
+use Rattle.std.proofs.lemmas.Result.{IfErr-weaker}
 use Rattle.std.specs.Io.KnownBytes.{Keeps}
 use Rattle.clap.specs.Words.{Row, Text as Word}
 use Rattle.jt_scan.specs.declared.Options.{Options}
 use Rattle.jt_inherit.specs.Chains.{SourceTexts}
 use Rattle.jt_ast.specs.Expressions.{Text}
-use Rattle.jt_args.specs.Line.{IsAsked, IsCommand, word_of}
+use Rattle.jt_args.specs.Line.{HasText, IsAsked, IsCommand, word_of}
 use Rattle.jt_args.specs.declared.Command.{Command}
 use Rattle.jt_args.specs.declared.Command.TheVariants as command
 use Rattle.jt_args.specs.declared.Job.{Job}
@@ -18,7 +19,9 @@ use Rattle.jt_program.specs.declared.messages.Failure.{Failure}
 use Rattle.jt_program.specs.declared.messages.Failure.TheVariants as failure
 use Rattle.jt_program.specs.Commands.{Answers, ChangesOnly, CommandEnds, Compiles, Ending, IsOfContext, IsPath}
 use Rattle.jt_program.specs.Commands.{IsUnread, IsWriting, JobEnds, LineEnds, LineWrites, Upgrades, WritesImage, out_of}
-use Rattle.jt_program.specs.Ending.{code_of, of_line, status_of}
+use Rattle.jt_program.specs.Ending.{HasUsage, code_of, of_line, status_of}
+use Rattle.jt_program.specs.Reports.{ReportsFailure, ReportsUsage}
+use Rattle.jt_program.specs.declared.messages.Status.TheVariants as status
 use Rattle.jt_program.specs.Files.{IsLibrary, IsOfDirectory, Known, path_in}
 
 -- An input that is missing among files is missing among files with the same contents.
@@ -46,15 +49,6 @@ module _ (files : Known) where
   unread_listed dir names name e listed there h =
       unread_more (IsPath (path_in dir name)) (IsOfDirectory files dir) None e
       (λ path asked. inl (inr (names, name, listed, there, asked))) h
-
-  -- A missing context is a missing input, whatever other files are read.
-  pub unread_context : (asks : Text → Type 0) (context : Option (String Global)) (e : Failure)
-      → IsUnread files (IsOfContext context) context (Err e)
-      → IsUnread files asks context (Err e)
-  unread_context asks context (failure.File path) h = (h.0, inr (⊎_elim (λ asked. asked) (λ asked. asked) h.1))
-  unread_context asks context (failure.Call call_error.NoMemory) h = tt
-  unread_context asks context (failure.Call (call_error.Context e)) h = h
-  unread_context asks context e h = absurd h
 
   -- If the file for an image fails, or memory runs out, `compile` ends so.
   pub unwritten : (after : Known) (dir name out : Text) (options : Options) (sources : SourceTexts) (e : Failure)
@@ -99,6 +93,25 @@ module _ (files after : Known) (found : Option (Word × List Row)) where
   job_ends (failure.Usage text) u m h = absurd (u refl)
   job_ends (failure.Call call_error.NoMemory) u m h = absurd (m refl)
   job_ends e u m h = h
+
+-- A line that is not taken fails with a text that is not empty.
+pub line_told : (e : JobError) → HasText e → status_of (of_line e) ≡ status.Usage → HasUsage (of_line e)
+line_told (job_error.Usage text) told usage = told
+line_told job_error.NoMemory told usage = absurd (cc)
+
+-- A job never fails with the usage.
+pub job_told : {T : Type 0} (r : Result T Failure)
+    → IfErr r (λ e. (status_of e ≢ status.Usage) × (e ≢ failure.Output))
+    → IfErr r (λ e. status_of e ≡ status.Usage → HasUsage e)
+job_told r other = IfErr-weaker r _ _ (λ e h usage. absurd (h.0 usage)) other
+
+-- The usage is reported by its text.
+pub usage_told : (e : Failure) (old new : Option (List ℕ)) (f : Bool) → code_of (status_of e) ≡ 2
+    → (status_of e ≡ status.Usage → HasUsage e)
+    → ReportsFailure old new f e → ReportsUsage old new f
+usage_told (failure.Usage text) old new f two told says = (string_bytes text, told refl, says)
+usage_told failure.Words old new f two told says = absurd (told refl)
+usage_told e old new f two told says = absurd (omega (arith, two))
 
 -- A command that writes an image has the name of one that does.
 named : (name : Word) (rows : List Row) (k : Command) (o : Options) (b : Budget) (n : ℕ) → IsCommand name rows k o b n

@@ -107,3 +107,9 @@ pub not_memory : (old new : Option (List ℕ)) (f : Bool) (text : String Global)
     → Prints old new f (Ok text) status → status ≡ 6 → ⊥
 not_memory old new f text status (inl done) six = let zero = done.0 in omega (arith, zero, six)
 not_memory old new f text status (inr failed) six = let five = failed.0 in omega (arith, five, six)
+
+-- Nor does it have the status of the usage.
+pub not_usage : (old new : Option (List ℕ)) (f : Bool) (text : String Global) (status : ℕ)
+    → Prints old new f (Ok text) status → status ≡ 2 → ⊥
+not_usage old new f text status (inl done) two = let zero = done.0 in omega (arith, zero, two)
+not_usage old new f text status (inr failed) two = let five = failed.0 in omega (arith, five, two)

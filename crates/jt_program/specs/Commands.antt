@@ -89,6 +89,18 @@ module _ (files : Known) where
   IsUnread asks context (Err (failure.Call call_error.NoMemory)) = Unit {0}
   IsUnread asks context (Err e) = ⊥
 
+  -- The inputs of a command over an image are missing, and the failure is the first of these: the file
+  -- of the image fails; the file of the context fails or spells no context.
+  abbrev pub LacksImage : Text → Option (String Global) → Ending → Type 0
+  LacksImage image context e = IsUnread (IsPath image) None e
+      ⊎ (((bytes : List ℕ) × files.holds image bytes) × IsUnread (IsOfContext context) context e)
+
+  -- The inputs of a command over templates are missing, and the failure is the first of these: the
+  -- directory or one of its files fails; the file of the context fails or spells no context.
+  abbrev pub LacksTemplates : Text → Option (String Global) → Ending → Type 0
+  LacksTemplates dir context e = IsUnread (IsOfDirectory files dir) None e
+      ⊎ (((sources : SourceTexts) × IsLibrary files dir sources) × IsUnread (IsOfContext context) context e)
+
 -- ---- the commands
 
 -- The line of `check`.
@@ -273,17 +285,17 @@ module _ (files after : Known) where
       × (IsUnread files (IsOfDirectory files (string_bytes dir)) None e
       ⊎ Compiles (string_bytes dir) (string_bytes name) (string_bytes out) o e)
   CommandEnds (command.Explain dir name context) o b e =
-      IsUnread files (IsOfDirectory files (string_bytes dir)) context e
+      LacksTemplates files (string_bytes dir) context e
       ⊎ DiagnosesFor files (string_bytes dir) (string_bytes name) o context b e
   CommandEnds (command.Check image) o b e =
       IsUnread files (IsPath (string_bytes image)) None e ⊎ Checks files (string_bytes image) e
   CommandEnds (command.Show image) o b e =
       IsUnread files (IsPath (string_bytes image)) None e ⊎ Shows files (string_bytes image) e
   CommandEnds (command.Run image context) o b e =
-      IsUnread files (IsPath (string_bytes image)) context e
+      LacksImage files (string_bytes image) context e
       ⊎ Runs files (string_bytes image) context b e
   CommandEnds (command.Render dir name context) o b e =
-      IsUnread files (IsOfDirectory files (string_bytes dir)) context e
+      LacksTemplates files (string_bytes dir) context e
       ⊎ Renders files (string_bytes dir) (string_bytes name) o context b e
   CommandEnds (command.Turns sessions) o b e = TakesTurns files sessions.items b e
   CommandEnds (command.Upgrade image out) o b e = ChangesOnly (string_bytes out)

@@ -1,5 +1,5 @@
 -- How a run of the program ends.
-use Rattle.std.specs.Prelude.{ℕ, Result, Ok, Err, String}
+use Rattle.std.specs.Prelude.{◌<◌, ℕ, length, Result, Ok, Err, String, string_bytes}
 use Rattle.std.specs.declared.alloc.Global.{Global}
 use Rattle.jt_program.specs.declared.messages.Status.{Status}
 use Rattle.jt_program.specs.declared.messages.Status.TheVariants as status
@@ -68,6 +68,11 @@ IfUntaken (Ok x) = ⊥
 IfUntaken (Err (failure.Usage text)) = Unit {0}
 IfUntaken (Err (failure.Call call_error.NoMemory)) = Unit {0}
 IfUntaken (Err e) = ⊥
+
+-- The failure is the usage, and its text is not empty.
+abbrev pub HasUsage : Failure → Type 0
+HasUsage (failure.Usage text) = 0 < length (string_bytes text)
+HasUsage e = ⊥
 
 -- The failure of some file, or lack of memory.
 abbrev pub IsOfFiles : Failure → Type 0

@@ -1,6 +1,6 @@
 -- The reports of an ending: its status, and the bytes that both outputs take.
-use Rattle.std.specs.Prelude.{◌≡◌, ◌≢◌, ◌⊎◌, ℕ, Bool, true, false, List, [], ◌∷◌, ◌++◌, Option, option_map, Result, Ok}
-use Rattle.std.specs.Prelude.{Err, codes, string_bytes}
+use Rattle.std.specs.Prelude.{◌≡◌, ◌≢◌, ◌⊎◌, ◌<◌, ℕ, length, Bool, true, false, List, [], ◌∷◌, ◌++◌, Option, option_map}
+use Rattle.std.specs.Prelude.{Result, Ok, Err, codes, string_bytes}
 use Rattle.std.specs.Borrow.{Bor}
 use Rattle.std.specs.Io.KnownBytes.{Appends, Keeps}
 use Rattle.jt_ast.specs.Expressions.{Text}
@@ -11,7 +11,10 @@ use Rattle.jt_machine.specs.Sinks.{TookFront}
 use Rattle.jt_machine.specs.View.{limit_view, place_view}
 use Rattle.jt_turns.specs.Lines.{placed_fault, limit_name}
 use Rattle.jt_turns.specs.Shown.{one_line}
+use Rattle.jt_host.specs.Reasons.{error_text}
 use Rattle.jt_host.specs.declared.CallError.TheVariants as call_error
+use Rattle.jt_sessions.specs.declared.HostError.{HostError}
+use Rattle.jt_sessions.specs.declared.HostError.TheVariants as host_error
 use Rattle.jt_program.specs.declared.messages.Failure.{Failure}
 use Rattle.jt_program.specs.declared.messages.Failure.TheVariants as failure
 use Rattle.jt_program.specs.Commands.{Ending}
@@ -51,6 +54,17 @@ texts_of (text ∷ next ∷ rest) = text.now ++ texts_of (next ∷ rest)
 abbrev pub fault_line : Fault → Option Place → Text
 fault_line fault place = one_line (codes "jt: fault " ++ placed_fault fault place)
 
+-- The code and the name of a refusal of the host.
+abbrev pub host_text : HostError → Text
+host_text host_error.NoSession = codes "H1 NoSession"
+host_text host_error.Full = codes "H2 Full"
+host_text host_error.NoMemory = codes "H3 NoMemory"
+host_text host_error.NoId = codes "H4 NoId"
+
+-- The line of a refusal.
+abbrev pub refused_line : Text → Text
+refused_line text = one_line (codes "jt: refused " ++ text)
+
 -- The line of a number of the budget that was spent.
 abbrev pub spent_line : Limit → Text
 spent_line limit = one_line (codes "jt: spent " ++ limit_name limit)
@@ -63,9 +77,8 @@ file_line path = one_line (codes "jt: file " ++ path)
 abbrev pub memory_line : Text
 memory_line = one_line (codes "jt: no memory")
 
--- The bytes that standard error takes: the usage, or the line of a fault, a spent number, a file or
--- lack of memory. It takes only a beginning of that if the sink has failed. Nothing is stated of
--- the lines of refusals.
+-- The bytes that standard error takes: the usage, or the line of a fault, a refusal, a spent number,
+-- a file or lack of memory. It takes only a beginning of that if the sink has failed.
 abbrev pub ReportsFailure : Option (List ℕ) → Option (List ℕ) → Bool → Failure → Type 0
 ReportsFailure old new sink_failed (failure.Usage text) =
     TookUnlessFailed (string_bytes text) old new sink_failed
@@ -81,7 +94,15 @@ ReportsFailure old new sink_failed failure.Output =
     TookUnlessFailed (file_line (codes "-")) old new sink_failed
 ReportsFailure old new sink_failed (failure.Call call_error.NoMemory) =
     TookUnlessFailed memory_line old new sink_failed
-ReportsFailure old new sink_failed e = Unit {0}
+ReportsFailure old new sink_failed (failure.Call e) =
+    TookUnlessFailed (refused_line (error_text e)) old new sink_failed
+ReportsFailure old new sink_failed (failure.Host e) =
+    TookUnlessFailed (refused_line (host_text e)) old new sink_failed
+
+-- Standard error takes a usage: some text that is not empty.
+abbrev pub ReportsUsage : Option (List ℕ) → Option (List ℕ) → Bool → Type 0
+ReportsUsage old new sink_failed =
+    (text : Text) × (0 < length text) × TookUnlessFailed text old new sink_failed
 
 -- The bytes that standard error takes for a command that failed, or for one that succeeded but
 -- whose text could not be written.

@@ -10,12 +10,14 @@ ghost use Rattle.jt_args.specs.Line.{Takes, Asks, program_app};
 ghost use Rattle.jt_program.specs.Commands.{Answers, ChangesOnly, Checks, Compiles, Diagnoses};
 ghost use Rattle.jt_program.specs.Commands.{DiagnosesFor, DiagnosesRun};
 ghost use Rattle.jt_program.specs.Commands.{Ending, HasImage, HasUpgrade, IsContextAt, IsOfContext};
-ghost use Rattle.jt_program.specs.Commands.{IsPath, IsUnread, IsWriting, JobEnds, LineEnds};
+ghost use Rattle.jt_program.specs.Commands.{IsPath, IsUnread, IsWriting, JobEnds, LacksImage};
+ghost use Rattle.jt_program.specs.Commands.{LacksTemplates, LineEnds};
 ghost use Rattle.jt_program.specs.Commands.{LineWrites, Renders, Runs, Shows, Upgrades};
 ghost use Rattle.jt_program.specs.Commands.{WritesImage, out_of};
-ghost use Rattle.jt_program.specs.Ending.{IfUntaken, status_of};
+ghost use Rattle.jt_program.specs.Ending.{HasUsage, IfUntaken, status_of};
 ghost use Rattle.jt_program.specs.Files.{AreSources, IsLibrary, IsOfDirectory, path_in};
-ghost use Rattle.jt_program.specs.Reports.{Explains, Prints, TookUnlessFailed, memory_line};
+ghost use Rattle.jt_program.specs.Reports.{Explains, Prints, ReportsUsage, TookUnlessFailed};
+ghost use Rattle.jt_program.specs.Reports.{memory_line};
 ghost use Rattle.jt_host.specs.Templates.{source_of};
 
 use crate::files::{FileError, Files};
@@ -53,8 +55,12 @@ pub fn perform<F: Files, W: Sink, E: Sink>(
     // memory ran out.
     ensures usage { ¬ Takes (texts words.now) → (result ≡ 2) ⊎ (result ≡ 6) }
     ensures taken { Takes (texts words.now) → result ≢ 2 }
+    // If the status is 2, standard error takes the usage, a text that is not empty.
+    ensures told { result ≡ 2 → ReportsUsage (E.taken errors.old) (E.taken errors.new)
+        (E.failed errors.new) }
     // Unless the status is 2 or 6, it and both outputs report how the command of the line ended
-    // over the files as they were. A fault, a spent number and a file are reported by their lines.
+    // over the files as they were. A fault, a refusal, a spent number and a file are reported by
+    // their lines.
     ensures ends { result ≢ 2
         → result ≢ 6
         → (e : Ending)
@@ -115,6 +121,7 @@ fn perform_line<F: Files>(alloc: Global, words: &[&str], files: &mut F) -> Resul
     ensures usage { ¬ Takes (texts words.now) → IfUntaken result }
     ensures taken { Takes (texts words.now)
         → IfErr result (λ e. (status_of e ≢ Status.Usage) × (e ≢ Failure.Output)) }
+    ensures told { IfErr result (λ e. status_of e ≡ Status.Usage → HasUsage e) }
     ensures only { ChangesOnly (F.known (F.contents files.old)) (F.known (F.contents files.new))
         (out_of (subcommand_of program_app (texts words.now))) }
     ensures untaken { ¬ Takes (texts words.now) → F.contents files.new ≡ F.contents files.old }
@@ -227,8 +234,8 @@ fn explain_in<F: Files>(
     context: Option<String>,
     budget: Budget,
 ) -> Result<String, Failure>
-    ensures ends { IsUnread (F.known (F.contents files.old))
-        (IsOfDirectory (F.known (F.contents files.old)) (string_bytes entry.dir)) context result
+    ensures ends { LacksTemplates (F.known (F.contents files.old)) (string_bytes entry.dir)
+        context result
         ⊎ DiagnosesFor (F.known (F.contents files.old)) (string_bytes entry.dir)
         (string_bytes entry.name) entry.options context budget result }
     ensures kept { F.contents files.new ≡ F.contents files.old }
@@ -246,8 +253,8 @@ fn explain_entry_in<F: Files>(
     files: &mut F,
     entry: EntryFile,
 ) -> Result<String, Failure>
-    ensures ends { IsUnread (F.known (F.contents files.old))
-        (IsOfDirectory (F.known (F.contents files.old)) (string_bytes entry.dir)) None result
+    ensures ends { LacksTemplates (F.known (F.contents files.old)) (string_bytes entry.dir)
+        None result
         ⊎ Diagnoses (F.known (F.contents files.old)) (string_bytes entry.dir)
         (string_bytes entry.name) entry.options result }
     ensures kept { F.contents files.new ≡ F.contents files.old }
@@ -272,9 +279,8 @@ fn explain_run_in<F: Files>(
     context: String,
     budget: Budget,
 ) -> Result<String, Failure>
-    ensures ends { IsUnread (F.known (F.contents files.old))
-        (IsOfDirectory (F.known (F.contents files.old)) (string_bytes entry.dir)) (Some context)
-        result
+    ensures ends { LacksTemplates (F.known (F.contents files.old)) (string_bytes entry.dir)
+        (Some context) result
         ⊎ DiagnosesRun (F.known (F.contents files.old)) (string_bytes entry.dir)
         (string_bytes entry.name) entry.options (Some context) budget result }
     ensures kept { F.contents files.new ≡ F.contents files.old }
@@ -349,14 +355,13 @@ fn run_at<F: Files>(
     context: Option<String>,
     budget: Budget,
 ) -> Result<String, Failure>
-    ensures ends { IsUnread (F.known (F.contents files.old)) (IsPath (string_bytes image)) context
-        result
+    ensures ends { LacksImage (F.known (F.contents files.old)) (string_bytes image) context result
         ⊎ Runs (F.known (F.contents files.old)) (string_bytes image) context budget result }
     ensures kept { F.contents files.new ≡ F.contents files.old }
 {
-    let bytes = bytes_at(files, image)?;
+    let encoded = bytes_at(files, image)?;
     let context = context_at(alloc, files, context)?;
-    let text = run_image(alloc, &bytes, &context, budget);
+    let text = run_image(alloc, &encoded, &context, budget);
     // The context is not dropped: the process ends soon and frees all its memory.
     std::mem::forget(context);
     Ok(text?)
@@ -371,8 +376,8 @@ fn render_in<F: Files>(
     context: Option<String>,
     budget: Budget,
 ) -> Result<String, Failure>
-    ensures ends { IsUnread (F.known (F.contents files.old))
-        (IsOfDirectory (F.known (F.contents files.old)) (string_bytes entry.dir)) context result
+    ensures ends { LacksTemplates (F.known (F.contents files.old)) (string_bytes entry.dir)
+        context result
         ⊎ Renders (F.known (F.contents files.old)) (string_bytes entry.dir)
         (string_bytes entry.name) entry.options context budget result }
     ensures kept { F.contents files.new ≡ F.contents files.old }
@@ -401,13 +406,13 @@ fn inputs_in<F: Files>(
         (λ r. IsLibrary (F.known (F.contents files.old)) (string_bytes dir) (source_of r.0)) }
     ensures given { IfOk result
         (λ r. IsContextAt (F.known (F.contents files.old)) context (pairs_of r.1)) }
-    ensures err { IfErr result (λ e. IsUnread (F.known (F.contents files.old))
-        (IsOfDirectory (F.known (F.contents files.old)) (string_bytes dir)) context (Err e)) }
+    ensures err { IfErr result
+        (λ e. LacksTemplates (F.known (F.contents files.old)) (string_bytes dir) context (Err e)) }
     ensures kept { F.contents files.new ≡ F.contents files.old }
 {
-    let templates = templates_in(alloc, files, dir)?;
-    let context = context_at(alloc, files, context)?;
-    Ok((templates, context))
+    let sources = templates_in(alloc, files, dir)?;
+    let values = context_at(alloc, files, context)?;
+    Ok((sources, values))
 }
 
 /// Reads the context in a file, or returns the empty context if no file is named.

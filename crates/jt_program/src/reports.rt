@@ -4,24 +4,23 @@ ghost use Rattle.jt_machine.specs.View.{place_view};
 ghost use Rattle.jt_turns.specs.Shown.{escape, one_line, shown};
 ghost use Rattle.jt_program.specs.Ending.{code_of, status_of};
 ghost use Rattle.jt_program.specs.declared.messages.Failure.TheVariants.{Call};
+ghost use Rattle.jt_host.specs.Reasons.{reason_text};
 ghost use Rattle.jt_program.specs.Reports.{Puts, ReportsFailure, TookUnlessFailed};
-ghost use Rattle.jt_program.specs.Reports.{fault_line, texts_of};
+ghost use Rattle.jt_program.specs.Reports.{fault_line, host_text, refused_line, texts_of};
 
 use crate::messages::Failure;
 use itoa::Buffer;
-use jt_host::CallError;
+use jt_host::{CallError, HostError, Reason};
 use jt_machine::{Place, Sink, SinkFailed, put_all};
 use jt_turns::{hex_digits, limit_text};
 use jt_value::Fault;
-use std::fmt;
-use std::fmt::{Display, Write};
 
 /// Reports a failure on `errors` and returns the status. If `errors` fails, the status alone
 /// reports how the run ended.
 pub fn report<E: Sink>(errors: &mut E, failure: &Failure) -> u8
     ensures status { result ≡ code_of (status_of failure.now) }
-    // A fault, a spent number, a file and lack of memory are each reported by one line and nothing
-    // else.
+    // The usage is reported as it is. A fault, a refusal, a spent number, a file and lack of memory
+    // are each reported by one line and nothing else.
     ensures reported { ReportsFailure (E.taken errors.old) (E.taken errors.new)
         (E.failed errors.new) failure.now }
 {
@@ -29,7 +28,7 @@ pub fn report<E: Sink>(errors: &mut E, failure: &Failure) -> u8
         Failure::Usage(text) => report_text(errors, text.as_str()),
         Failure::Words => report_line(errors, &["jt: usage"]),
         Failure::Call(error) => report_error(errors, error),
-        Failure::Host(error) => report_refusal(errors, error),
+        Failure::Host(error) => report_refusal(errors, Reason::Name(text_of_host(*error))),
         Failure::File(path) => report_line(errors, &["jt: file ", path.as_str()]),
         Failure::Output => report_line(errors, &["jt: file ", "-"]),
     }
@@ -45,7 +44,22 @@ fn report_error<E: Sink>(errors: &mut E, error: &CallError)
         CallError::Fault(fault, place) => report_fault(errors, *fault, place.as_ref()),
         CallError::Spent(spent) => report_line(errors, &["jt: spent ", limit_text(*spent)]),
         CallError::NoMemory => report_line(errors, &["jt: no memory"]),
-        refusal => report_refusal(errors, refusal),
+        CallError::Image(refusal) => report_refusal(errors, Reason::of_image(*refusal)),
+        CallError::Code(refusal) => report_refusal(errors, Reason::of_code(*refusal)),
+        CallError::Template(refusal) => report_refusal(errors, Reason::of_compile(refusal)),
+        CallError::Context(refusal) => report_refusal(errors, Reason::of_context(*refusal)),
+    }
+}
+
+/// Returns the code and the name of a refusal of the host.
+fn text_of_host(refusal: HostError) -> &'static str
+    ensures { result.now ≡ host_text refusal }
+{
+    match refusal {
+        HostError::NoSession => "H1 NoSession",
+        HostError::Full => "H2 Full",
+        HostError::NoMemory => "H3 NoMemory",
+        HostError::NoId => "H4 NoId",
     }
 }
 
@@ -94,26 +108,53 @@ fn report_line<E: Sink>(errors: &mut E, parts: &[&str])
 }
 
 /// Writes the line of a refusal to `errors`.
-fn report_refusal<E: Sink, R: Display>(errors: &mut E, refusal: &R) {
-    let mut line = Line { errors };
-    if write!(line, "jt: refused {refusal}").is_ok() {
-        let _ = put_all(line.errors, b"\n");
-    }
-}
-
-/// A formatter's output into a sink, shown as a line shows it.
-#[derive(Drop)]
-struct Line<'a, E> {
-    errors: &'a mut E,
-}
-
-impl<E: Sink> Write for Line<'_, E> {
-    fn write_str(&mut self, text: &str) -> fmt::Result {
-        match put_escaped(self.errors, text.as_bytes()) {
-            Ok(()) => Ok(()),
-            Err(_) => Err(fmt::Error),
+fn report_refusal<E: Sink>(errors: &mut E, reason: Reason<'_>)
+    ensures { TookUnlessFailed (refused_line (reason_text reason)) (E.taken errors.old)
+        (E.taken errors.new) (E.failed errors.new) }
+{
+    match reason {
+        Reason::Name(name) => report_line(errors, &["jt: refused ", name]),
+        Reason::Point { name, unit, point } => {
+            let mut units = Buffer::new();
+            let mut points = Buffer::new();
+            let unit = units.format(unit);
+            let point = points.format(point);
+            report_flaw(errors, name, unit, point);
+        }
+        Reason::Line {
+            name,
+            template,
+            line,
+        } => {
+            let mut buffer = Buffer::new();
+            let line = buffer.format(line);
+            report_refusal_at(errors, name, template, line);
         }
     }
+}
+
+/// Writes the line of a flaw at a point of a unit to `errors`.
+fn report_flaw<E: Sink>(errors: &mut E, name: &str, unit: &str, point: &str)
+    ensures { TookUnlessFailed (refused_line (name.now ++ (codes " unit " ++ (unit.now ++
+        (codes " point " ++ point.now))))) (E.taken errors.old) (E.taken errors.new)
+        (E.failed errors.new) }
+{
+    report_line(
+        errors,
+        &["jt: refused ", name, " unit ", unit, " point ", point],
+    );
+}
+
+/// Writes the line of a refusal at a line of a template to `errors`.
+fn report_refusal_at<E: Sink>(errors: &mut E, name: &str, template: &str, line: &str)
+    ensures { TookUnlessFailed (refused_line (name.now ++ (codes " in " ++ (template.now ++
+        (codes " line " ++ line.now))))) (E.taken errors.old) (E.taken errors.new)
+        (E.failed errors.new) }
+{
+    report_line(
+        errors,
+        &["jt: refused ", name, " in ", template, " line ", line],
+    );
 }
 
 /// Writes the texts of `parts` as one line.

@@ -5,6 +5,8 @@
 #[cfg(test)]
 mod findings;
 #[cfg(test)]
+mod markups;
+#[cfg(test)]
 mod parts;
 #[cfg(test)]
 mod pieces;

@@ -2,7 +2,7 @@
 
 use jt_args::JobError;
 use jt_codegen::CompileError;
-use jt_host::{ContextError, HostError};
+use jt_host::{ContextError, HostError, RenderError};
 use jt_image::ImageError;
 use jt_inherit::ChainError;
 use jt_machine::{RunToError, SinkFailed};
@@ -56,13 +56,16 @@ fn refusals_of_hosts_have_names(rt: HostRuntime) -> Result<(), Fail> {
 #[test]
 fn other_errors_have_texts(rt: HostRuntime) -> Result<(), Fail> {
     let found = format!(in rt.alloc();
-        "{}, {}, {}, {}",
+        "{}, {}, {}, {}, {}, {}",
         JobError::NoMemory,
         RunToError::NoMemory,
         RunToError::Write,
-        SinkFailed
+        SinkFailed,
+        RenderError::NoMemory,
+        RenderError::Compile(CompileError::CodeTooLong)
     )?;
-    let wanted = "no memory, no memory, a sink has failed, a sink has failed";
+    let wanted = "no memory, no memory, a sink has failed, a sink has failed, no memory, \
+        G1 CodeTooLong";
     assert_eq!(rt; found.as_str(), wanted);
     Ok(())
 }

@@ -5,7 +5,7 @@ use crate::runs::{in_pieces, in_place, in_slices, whole};
 use crate::stop::Stop;
 use jt_args::DEFAULT;
 use jt_codegen::{CompileError, compile};
-use jt_host::{ContextError, context_from_json, render};
+use jt_host::{ContextError, RenderError, context_from_json, render};
 use jt_image::{Code, Image, ImageError, decode, encode};
 use jt_scan::Options;
 use jt_value::Context;
@@ -164,7 +164,7 @@ fn rendered(
     );
     print!(rt; "render: ")?;
     let answer = match answer {
-        Err(CompileError::NoMemory) => {
+        Err(RenderError::NoMemory) => {
             again(rt)?;
             render(
                 rt.alloc(),

@@ -61,4 +61,4 @@ returns-in-Err-clause-usage c =
     usage_weaker _ _ c.refused.result
     (λ other taken. listed (fault_of (app_of c.in-Ok.program) words) c.in-Err.mistake
     (c.in-Err.ensures.kinds (ap is_simple_and_free same ∙ is_clear)) other
-    (subst (λ (a : App). fault_of a words ≡ []) (sym same) taken.0)) c.refused.ensures
+    (subst (λ (a : App). fault_of a words ≡ []) (sym same) taken.0)) c.refused.ensures.usage

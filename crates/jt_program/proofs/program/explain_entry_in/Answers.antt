@@ -1,4 +1,5 @@
-use Rattle.std.proofs.Common.{◌≡◌, List, Ok, inr, rules, string_bytes, subst, ℕ}
+use Rattle.std.proofs.Common.{◌≡◌, List, Ok, inl, inr, rules, string_bytes, subst, ℕ}
+use Rattle.std.proofs.lemmas.Result.{err_from_is_err_and}
 use Rattle.jt_program.specs.Commands.{Diagnoses}
 use Rattle.jt_host.specs.Calls.{ExplainsTo}
 use Rattle.jt_host.specs.Templates.{source_of}
@@ -19,3 +20,8 @@ returns-clause-ends g c =
           subst (λ (name : List ℕ). ExplainsTo sources name options (Ok text)) same c.in_ok-explained.ensures;
     } in
     inr diagnoses
+
+pub returns-in_err-templates-clause-ends : goal.returns-in_err-templates-clause-ends
+returns-in_err-templates-clause-ends g c =
+    let p = err_from_is_err_and c.from_residual.result c.from_residual.ensures.1 in
+    rw (p.1, p.2) (inl (inl c.in_err-templates.ensures.err))

@@ -1,8 +1,9 @@
+use Rattle.std.proofs.lemmas.Result.{err_from_is_err_and}
 use Rattle.clap.specs.Walk.{texts}
 use Rattle.clap.specs.Words.{subcommand_of}
 use Rattle.jt_args.specs.Line.{program_app}
 use Rattle.jt_program.specs.Commands.{Answers, out_of}
-use Rattle.jt_program.proofs.Endings.{line_ends, line_writes, only_out, same_files}
+use Rattle.jt_program.proofs.Endings.{job_told, line_ends, line_told, line_writes, only_out, same_files}
 use Rattle.jt_program.proofs.program.perform_line.Goals as goal
 
 pub returns-clause-ends : goal.returns-clause-ends
@@ -31,3 +32,11 @@ returns-clause-touched g c =
     let files = g.F.Files.known (g.F.Files.contents c.args.files.now) in
     line_writes files (subcommand_of program_app (texts c.args.words.now)) c.in_ok-job.job
     c.in_ok-job.ensures.asked c.perform_job.ensures.touched
+
+pub returns-in_err-job-clause-told : goal.returns-in_err-job-clause-told
+returns-in_err-job-clause-told g c =
+    let p = err_from_is_err_and c.from_residual.result c.from_residual.ensures.1 in
+    rw (p.1, p.2) (line_told c.in_err-job.field-0.0 c.in_err-job.ensures.told)
+
+pub returns-clause-told : goal.returns-clause-told
+returns-clause-told g c = job_told c.perform_job.result c.perform_job.ensures.other
