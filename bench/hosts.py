@@ -20,7 +20,7 @@ import time
 from dataclasses import replace
 
 HERE = pathlib.Path(__file__).resolve().parent
-sys.path[:0] = [str(HERE.parent / "bindings" / "python"), str(HERE / "speed")]
+sys.path[:0] = [str(HERE.parent / "bindings" / "python" / "src"), str(HERE / "speed")]
 from jt import Budget, Context, NoMemory, Options, Template  # noqa: E402
 from make_contexts import contexts  # noqa: E402
 

@@ -100,7 +100,7 @@ without_library() {
 
 library=${JT_STATIC_LIBRARY:-$(find_library)}
 mkdir "$room/home"
-export JT_STATIC_LIBRARY=$library JT_LIBRARY=$room/libjt.so PYTHONPATH=$here/python
+export JT_STATIC_LIBRARY=$library JT_LIBRARY=$room/libjt.so PYTHONPATH=$here/python/src
 export PYTHONDONTWRITEBYTECODE=1 JT_LIBRARY_DIR=${library%/*} CARGO_NET_OFFLINE=true
 export CARGO_TARGET_DIR=$room/target CARGO_HOME=$room/home
 

@@ -11,7 +11,7 @@ A fenced block is an example of one of two kinds:
 
 A heading of level 2 begins a fresh folder, if it has no number. So the steps of a tutorial (`## 2. A loop`) share one folder, and
 each recipe has its own. The commands of a block run in one bash, in that folder. There `jt` is PROGRAM, and Python finds
-bindings/python and a shared library of the tree in which PROGRAM was built. JT_LIBRARY names another library, PYTHONPATH another
+bindings/python/src and a shared library of the tree in which PROGRAM was built. JT_LIBRARY names another library, PYTHONPATH another
 folder.
 
 One line end at the end of an output is not compared: a text of `jt` has none, and a document cannot show that.
@@ -136,7 +136,7 @@ def prepared(program, room):
     bin_folder.mkdir()
     (bin_folder / "jt").symlink_to(program)
     settings = {**os.environ, "PATH": f"{bin_folder}:{os.environ['PATH']}", "LC_ALL": "C.UTF-8", "PYTHONDONTWRITEBYTECODE": "1"}
-    settings.setdefault("PYTHONPATH", str(HERE.parent / "bindings" / "python"))
+    settings.setdefault("PYTHONPATH", str(HERE.parent / "bindings" / "python" / "src"))
     for crates in (program.parent / "../..", HERE.parent / "crates"):
         archive = crates / "jt_ffi" / "out" / "libjt_ffi.a"
         if "JT_LIBRARY" not in settings and archive.exists():

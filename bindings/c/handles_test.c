@@ -260,6 +260,10 @@ static void owners(void) {
     jt_outcome_free(&outcome);
 }
 
+/* What the threads that have ended held more than when they began: less than 0 for a thread that
+ * freed what another one had filled. */
+static _Atomic int64_t held_elsewhere;
+
 /* Runs the image of this handle for a context of this thread; returns the number of failures. */
 static void *run_alone(void *handle) {
     struct jt_image *mine = handle;
@@ -278,6 +282,7 @@ static void *run_alone(void *handle) {
     jt_context_free(&context);
     jt_outcome_free(&outcome);
     jt_image_free(mine);
+    held_elsewhere += jt_memory_held();
     return (void *)failures;
 }
 
@@ -294,6 +299,7 @@ static void *compile_alone(void *handle) {
     }
     jt_image_free(&made);
     jt_library_free(mine);
+    held_elsewhere += jt_memory_held();
     return (void *)failures;
 }
 
@@ -334,15 +340,22 @@ static void threads(void) {
     }
 }
 
+/* Makes a test of this thread alone, after which nothing is held. */
+static void alone(void (*test)(void)) {
+    test();
+    expect(jt_memory_held() == 0, "nothing is held after a test");
+}
+
 int main(void) {
-    compile();
-    version();
-    empty_handles();
-    libraries();
-    refusals();
-    runs();
-    owners();
+    alone(compile);
+    alone(version);
+    alone(empty_handles);
+    alone(libraries);
+    alone(refusals);
+    alone(runs);
+    alone(owners);
     threads();
     threads_of_a_library();
+    expect(jt_memory_held() + held_elsewhere == 0, "all threads together hold nothing");
     return tally();
 }

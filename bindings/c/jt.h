@@ -15,8 +15,8 @@
  * If templates are refused, jt_explain and jt_library_explain say more of it to their author.
  *
  * ANSWERS. Each call returns a struct jt_answer. A text, an image, a reason or an explanation goes
- * into the buffer `out`, which has `room` bytes. It is not terminated by a zero byte. If it is longer than `room`,
- * the buffer stays as it was, and `length` is the length that is needed.
+ * into the buffer `out`, which has `room` bytes. It is not terminated by a zero byte. If it is
+ * longer than `room`, the buffer stays as it was, and `length` is the length that is needed.
  *
  * ERRORS. `status` states what happened, and `code` and `line` state more:
  *
@@ -54,6 +54,7 @@
  *
  * MEMORY. A growth that the system refuses ends the call with JT_MEMORY, and all that the call took
  * is freed. jt_memory_limit refuses growths of the calling thread too, above a limit of its own.
+ * Each thread that makes a call has 16 bytes of static storage for it (an initial-exec TLS model).
  *
  * RULES, which no call can check:
  *
@@ -243,20 +244,34 @@ void jt_outcome_free(struct jt_outcome *outcome);
 
 /* Limits the memory of the calling thread. From now on, the calls of this thread together hold at
  * most `bytes` more than now. A growth beyond the limit is refused, and the call ends with
- * JT_MEMORY. A block that grows may pass the limit by less than 8 KiB. Returns what is left of the
- * limit before, which is JT_NO_LIMIT if there was none.
+ * JT_MEMORY. Returns what is left of the limit before, which is JT_NO_LIMIT if there was none.
  *
  * All that the calls allocate counts: what they hold while they run, and what handles hold after
  * them. The buffers of the caller and the stack do not count. To limit one call:
  *
  *     const uint64_t before = jt_memory_limit(1 << 24);
  *     answer = jt_run(...);
- *     jt_memory_limit(before); */
+ *     jt_memory_limit(before);
+ *
+ * What is counted, exactly:
+ *
+ * - A block counts with the bytes that malloc_usable_size reports of it. So malloc, realloc, free
+ *   and malloc_usable_size have to be of one allocator. A library that replaces malloc has to
+ *   replace malloc_usable_size too.
+ * - A block counts for the thread that allocates it, and is given back to the thread that frees it.
+ *   A thread that loads libraries or images, which other threads free, keeps their bytes in its
+ *   count. The count of the thread that frees them sinks below 0, and its limit allows that much
+ *   more. To avoid both, set the limit for each call, as above.
+ * - Each call of jt_memory_limit counts from 0 again. `jt_memory_limit(before)` restores what was
+ *   left before the call. What the call has left in handles counts against no limit from then on.
+ * - A block that grows may move. It then exists twice for a moment, and counts once.
+ * - A block that grows may pass the limit by less than 8 KiB, since malloc rounds its size. */
 #define JT_NO_LIMIT UINT64_MAX
 uint64_t jt_memory_limit(uint64_t bytes);
 
-/* Returns how many bytes the calling thread holds more than when its limit was set. The number is
- * negative if it has freed more than it allocated, as by freeing handles that it had before. */
+/* Returns how many bytes the calling thread holds more than when its limit was set, or than when it
+ * began. The number is negative if it has freed more than it allocated, as by freeing handles that
+ * it had before, or that another thread filled. */
 int64_t jt_memory_held(void);
 
 /* Explains why the template `entry` does not compile, as jt_library_explain. */

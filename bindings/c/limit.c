@@ -205,14 +205,19 @@ int main(void) {
            "a context");
     const struct jt_answer answer = jt_image_run(&kept, &values, budget, &outcome, out, sizeof out);
     expect(answer.length == LENGTH(text) && memcmp(out, text, answer.length) == 0, "a text");
+    const int64_t held_first = jt_memory_held();
+    expect(held_first > 0, "handles hold memory");
     numbers();
     for (size_t which = 0; which < sizeof calls / sizeof *calls; which++) {
         each_limit(which);
     }
     many_lists();
+    jt_memory_limit(JT_NO_LIMIT);
     jt_library_free(&library);
     jt_image_free(&kept);
     jt_context_free(&values);
     jt_outcome_free(&outcome);
+    /* (Each limit counts from 0: the test of one call has compared what it takes with that.) */
+    expect(jt_memory_held() == -held_first, "what the handles of the test held is freed");
     return tally();
 }

@@ -1,5 +1,6 @@
 /* Measures how much stack the calls need. Each input is compiled, rendered, explained and run over
- * handles on a thread with a small stack, in a process of its own, because an overflow kills the process.
+ * handles on a thread with a small stack, in a process of its own, because an overflow kills the
+ * process.
  *
  *     stack         prints the smallest stack on which each input passes, in steps of 16 KiB
  *     stack SIZE    checks that each input passes on a stack of SIZE KiB
@@ -171,7 +172,7 @@ static bool is_wanted(struct jt_answer answer) {
 static void *run(void *unused) {
     (void)unused;
     static char rendered[] = "render", explained[] = "explain", compiled[] = "compile";
-    static char kept[] = "keep", ran[] = "run";
+    static char kept[] = "keep", ran[] = "run", held[] = "free";
     const uint8_t *entry = (const uint8_t *)"t", *json = (const uint8_t *)context;
     const size_t length = strlen(context);
     struct jt_image page = {0};
@@ -203,7 +204,7 @@ static void *run(void *unused) {
     jt_image_free(&page);
     jt_context_free(&values);
     jt_outcome_free(&outcome);
-    return NULL;
+    return jt_memory_held() == 0 ? NULL : held;
 }
 
 /* Returns whether an input passes on a stack of `size` KiB. */

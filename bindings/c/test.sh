@@ -53,7 +53,7 @@ hosts() {
     "$cc" "${strict[@]}" -o "$room/shared" "$here/example.c" $flags || return
     # shellcheck disable=SC2086
     "$cc" "${strict[@]}" -static -o "$room/static" "$here/example.c" $static || return
-    readelf -d "$room/shared" | grep -q 'NEEDED.*\[libjt\.so\.0\]' || return
+    readelf -d "$room/shared" | grep -q "NEEDED.*\[$soname\]" || return
     LD_LIBRARY_PATH=$root$prefix/lib "$room/shared" | diff "$here/expected" - || return
     "$room/static" | diff "$here/expected" -
 }
@@ -64,9 +64,67 @@ renders() {
         diff "$mail/expected" -
 }
 
-# Prints the calls that a file exports, and those that the header declares.
-exported() { nm -D --defined-only "$1" | awk '{ print $3 }' | sort; }
-declared() { "$cc" -E "$here/jt.h" | grep -o '\bjt_[a-z_]*(' | tr -d '(' | sort -u; }
+# Prints the calls that a file exports with their versions, and those that the header declares with
+# the version of the soname.
+exported() { nm -D --defined-only --with-symbol-versions "$1" | awk '$2 != "A" { print $3 }' | sort; }
+declared() {
+    "$cc" -E "$here/jt.h" | grep -o '\bjt_[a-z_]*(' | sort -u | sed "s/($/@@JT_${soname#*.so.}/"
+}
+
+# Checks that a shared library has this soname, and needs the C library of 2.34 or an earlier one.
+is_compatible() {
+    readelf -d "$1" | grep -q "SONAME.*\[$soname\]" || return
+    is_equal "$(readelf -d "$1" | sed -n 's/.*NEEDED.*\[\(.*\)\]/\1/p')" libc.so.6 || return
+    objdump -T "$1" | grep -o 'GLIBC_2\.[0-9]*' | sort -u | awk -F. '$2 > 34 { print; late = 1 }
+        END { exit late }'
+}
+
+# Installs the library alone, from a tree that has no program, and looks for its files.
+installs_the_library() {
+    local root=$room/library
+    make -s -C "$here/.." LIBRARY="$library" PROGRAM="$room/none" OUT="$room/out-library" \
+        install-lib DESTDIR="$root" PREFIX=/usr || return
+    hosts "$root" /usr || return
+    is_equal "$(cd "$root/usr" && find . ! -type d -printf '%P\n' | sort)" "$(sort << END
+include/jt.h
+lib/libjt.a
+lib/libjt.so
+lib/$soname
+lib/libjt.so.$version
+lib/pkgconfig/jt.pc
+share/doc/jt/CHANGELOG.md
+share/doc/jt/LICENSE-APACHE
+share/doc/jt/LICENSE-MIT
+share/doc/jt/README.md
+share/doc/jt/errors.md
+share/doc/jt/examples/CMakeLists.txt
+share/doc/jt/examples/example.c
+share/doc/jt/examples/meson.build
+END
+)"
+}
+
+# Checks that make says first what is missing, and builds nothing.
+names_what_is_missing() {
+    ! make -s -C "$here/.." LIBRARY="$library" PROGRAM="$room/none" OUT="$room/nothing" \
+        > "$room/message" 2>&1 && grep -q 'none is missing: run tools/install.sh' "$room/message" &&
+        ! make -s -C "$here/.." LIBRARY="$room/none.a" OUT="$room/nothing" lib \
+            > "$room/message" 2>&1 && grep -q 'run bindings/unproved.py FOLDER' "$room/message" &&
+        is_equal "$(ls "$room/nothing" 2> /dev/null)" ''
+}
+
+# Builds the example by the files that are installed beside it, and runs it: a tool and its commands.
+built_by() {
+    local folder=$room/by-$1 program=$room/by-$1/build/example
+    local -x PKG_CONFIG_PATH=$room/packed/usr/local/lib/pkgconfig
+    local -x PKG_CONFIG_SYSROOT_DIR=$room/packed
+    cp -r "$room/packed/usr/local/share/doc/jt/examples" "$folder" && cd "$folder" || return
+    case $1 in
+        cmake) cmake -S . -B build && cmake --build build ;;
+        meson) meson setup build && meson compile -C build ;;
+    esac || return
+    cd / && LD_LIBRARY_PATH=$room/packed/usr/local/lib "$program" | diff "$here/expected" -
+}
 
 # Checks that a file has a line with this pattern.
 has() { grep -q -e "$2" "$here/$1" || { echo "$1 lacks $2"; return 1; }; }
@@ -136,6 +194,8 @@ uninstalls() {
 strict=(-std=c11 -O2 -Wall -Wextra -Werror -pedantic)
 mail=$here/../../examples/mail
 version=$(awk '$2 == "JT_VERSION" { gsub(/"/, "", $3); print $3 }' "$here/jt.h")
+# (docs/versions.md has the rule.)
+soname=libjt.so.$(sed -E 's/^(0\.[0-9]+|[0-9]+)\..*/\1/' <<< "$version")
 archive=$room/out/jt-$version-x86_64-linux.tar.gz
 
 # The calls.
@@ -153,13 +213,17 @@ try 'a stack of 256 KiB' "$room/stack" 256
 
 # What is installed.
 try 'make' tree
-try 'what is exported' is_equal "$(exported "$room/out/jt-$version/libjt.so.0")" "$(declared)"
+try 'what is missing' names_what_is_missing
+try 'what is exported' is_equal "$(exported "$room/out/jt-$version/libjt.so.$version")" \
+    "$(declared)"
+try 'the soname' is_compatible "$room/out/jt-$version/libjt.so.$version"
 try 'make install' tree install DESTDIR="$room/root" PREFIX=/usr
 try 'hosts over what is installed' hosts "$room/root" /usr
 try 'the installed program' renders "$room/root/usr/bin/jt"
 try 'make uninstall' uninstalls
 try 'make with LIBDIR' tree install DESTDIR="$room/other" PREFIX=/opt/jt LIBDIR=/opt/jt/lib64
-try 'a file of LIBDIR' test -f "$room/other/opt/jt/lib64/libjt.so.0"
+try 'a file of LIBDIR' test -f "$room/other/opt/jt/lib64/$soname"
+try 'the library without the program' installs_the_library
 
 # The archive, with no tree beside it.
 try 'make dist' tree dist KIT='a toolchain'
@@ -171,6 +235,9 @@ try 'its toolchain' grep -q -x -e 'a toolchain\(, not proved\)\?' "$room/jt-$ver
 try 'its installation' make -s -C "$room/jt-$version" install DESTDIR="$room/packed"
 try 'hosts over the archive' hosts "$room/packed" /usr/local
 try 'the program of the archive' renders "$room/packed/usr/local/bin/jt"
+for tool in cmake meson; do
+    if have "$tool"; then try "a host by $tool" built_by "$tool"; fi
+done
 
 # The manual page and the completions.
 try 'the version of the program' has_version

@@ -5,13 +5,19 @@ It uses no network, and no package but pip. bindings/test.sh installs the wheel 
 """
 import os
 import pathlib
+import re
 import subprocess
 import sys
+import tarfile
 import tempfile
 import unittest
 import zipfile
 
 HERE = pathlib.Path(__file__).resolve().parent
+sys.path.insert(0, str(HERE))
+sys.dont_write_bytecode = True
+import build_jt  # noqa: E402
+
 OFFLINE = ("--no-index", "--no-deps", "--disable-pip-version-check")
 
 
@@ -46,19 +52,58 @@ class Installed(unittest.TestCase):
         self.assertEqual(status, 0, said)
         self.assertEqual(sorted(HERE.rglob("*")), before, "the build leaves files in the tree")
         (wheel,) = self.room.glob("*.whl")
-        self.assertRegex(wheel.name, r"^jt-[\d.]+-py3-none-\w+_\w+\.whl$")
-        self.assertNotIn("any", wheel.name)
+        # (bindings/c/test.sh checks by objdump which glibc the library needs.)
+        self.assertRegex(wheel.name, r"^jt-[\d.]+-py3-none-manylinux_2_34_x86_64\.whl$")
         with zipfile.ZipFile(wheel) as file:
             names = file.namelist()
             metadata = file.read(next(it for it in names if it.endswith("/METADATA"))).decode()
+        self.assertEqual(metadata, build_jt._metadata(build_jt._project()))
+        self.assertIn(f"\nVersion: {wheel.name.split('-')[1]}\n", metadata)
+        self.assertIn("\nLicense-Expression: MIT OR Apache-2.0\n", metadata)
         for name in ("__init__.py", "py.typed", "libjt.so"):
             self.assertIn(f"jt/{name}", names)
-        for name in ("LICENSE-MIT", "LICENSE-APACHE", "RECORD"):
+        for name in ("licenses/LICENSE-MIT", "licenses/LICENSE-APACHE", "RECORD"):
             self.assertTrue(any(it.endswith(f".dist-info/{name}") for it in names), name)
         self.assertNotIn("Requires-Dist", metadata)
         first = wheel.read_bytes()
         self.assertEqual(self.wheel()[0], 0)
         self.assertEqual(wheel.read_bytes(), first, "the same wheel is made again")
+
+    def test_the_project_is_what_tools_read(self):
+        project = build_jt._project()
+        version = re.search(
+            r'^__version__ = "(.*)"', (HERE / "src/jt/__init__.py").read_text(), re.M
+        )
+        self.assertEqual(project["version"], version[1])
+        try:
+            import tomllib
+        except ImportError:
+            self.skipTest("no tomllib before Python 3.11")
+        table = tomllib.loads((HERE / "pyproject.toml").read_text())["project"]
+        self.assertEqual([it["name"] for it in table.pop("authors")], ["the authors of jt"])
+        self.assertEqual(table, project)
+
+    def test_the_source_distribution(self):
+        make = "import build_jt, sys; print(build_jt.build_sdist(sys.argv[1]))"
+        names = [
+            self.runs(sys.executable, "-B", "-c", make, self.room, folder=HERE).strip()
+            for _ in range(2)
+        ]
+        archive = self.room / names[0]
+        self.assertRegex(archive.name, r"^jt-[\d.]+\.tar\.gz$")
+        with tarfile.open(archive) as file:
+            held = {name.partition("/")[2] for name in file.getnames()}
+        self.assertLessEqual({"PKG-INFO", "pyproject.toml", "LICENSE-MIT", "src/jt/py.typed"}, held)
+        # (It builds with the library that it holds, and in an unpacked folder as pip does it.)
+        pip = (sys.executable, "-m", "pip", "wheel", *OFFLINE, "--wheel-dir", self.room)
+        self.runs(*pip, archive, JT_STATIC_LIBRARY="")
+        (wheel,) = self.room.glob("*.whl")
+        with zipfile.ZipFile(wheel) as file:
+            built = {name: file.read(name) for name in file.namelist()}
+        wheel.unlink()
+        self.assertEqual(self.wheel()[0], 0)
+        with zipfile.ZipFile(wheel) as file:
+            self.assertEqual({name: file.read(name) for name in file.namelist()}, built)
 
     def test_the_folder_is_installed_itself(self):
         self.runs(sys.executable, "-m", "venv", "venv")
@@ -77,14 +122,15 @@ class Installed(unittest.TestCase):
     def test_no_static_library(self):
         status, said = self.wheel(JT_STATIC_LIBRARY=str(self.room / "none.a"))
         self.assertNotEqual(status, 0)
-        self.assertIn("none.a is not built: run `cd ", said)
-        self.assertIn("crates/jt_ffi && rt lib`", said)
+        self.assertIn("none.a.\n", said)
+        trial, proof = said.index("bindings/unproved.py FOLDER"), said.index("rt lib")
+        self.assertLess(trial, proof, "the trial comes first")
 
     def test_no_shared_library(self):
         (self.room / "other.so").write_text("no library")
         for path in (self.room / "none.so", self.room / "other.so"):
             status, said = run(
-                sys.executable, "-c", "import jt", folder=HERE, JT_LIBRARY=str(path)
+                sys.executable, "-c", "import jt", folder=HERE / "src", JT_LIBRARY=str(path)
             )
             self.assertNotEqual(status, 0)
             self.assertIn("ImportError: jt: ", said)

@@ -41,8 +41,52 @@ def text(source, context=None, **more):
     return Template("t", {"t": source}, **more).render(context)
 
 
+class Held:
+    """The bytes that the library holds for all threads together, since it was made.
+
+    The library counts each thread by itself, and again from 0 when a limit is set. So this adds what
+    a thread held before each limit, and what a thread held that has ended.
+    """
+
+    now = None
+
+    def __init__(self):
+        self.elsewhere, self.lock = 0, threading.Lock()
+        self.limit = library.jt_memory_limit
+        gc.collect()
+        self.limit(jt._library.NO_LIMIT)
+        library.jt_memory_limit = self.limited
+        Held.now = self
+
+    def limited(self, bytes):
+        """Sets a limit of this thread, as `jt_memory_limit` does."""
+        self.add()
+        return self.limit(bytes)
+
+    def add(self):
+        """Adds what this thread holds."""
+        with self.lock:
+            self.elsewhere += library.jt_memory_held()
+
+    def all(self):
+        """Returns what is held, when no other thread runs, and ends the count."""
+        library.jt_memory_limit = self.limit
+        gc.collect()
+        return self.elsewhere + library.jt_memory_held()
+
+
+class Holding(unittest.TestCase):
+    """Tests after each of which the library holds nothing."""
+
+    def setUp(self):
+        self.held = Held()
+
+    def tearDown(self):
+        self.assertEqual(self.held.all(), 0, "the library holds memory after the test")
+
+
 class Raising(threading.Thread):
-    """A thread whose `join` raises what its work raised."""
+    """A thread whose `join` raises what its work raised. At its end it frees what it holds."""
 
     error = None
 
@@ -51,6 +95,9 @@ class Raising(threading.Thread):
             super().run()
         except BaseException as error:
             self.error = error
+        # (That would be dropped at the end of the thread, when nothing can be counted any more.)
+        jt._contexts._here.__dict__.pop("end", None)
+        Held.now.add()
 
     def join(self, timeout=None):
         super().join(timeout)
@@ -128,7 +175,7 @@ class Counted:
         return self.wrong, self.owners, self.shared
 
 
-class Calls(unittest.TestCase):
+class Calls(Holding):
     def test_a_text_longer_than_the_first_buffer(self):
         self.assertEqual(text("{% for i in range(5000) %}ab{% endfor %}"), "ab" * 5000)
 
@@ -328,6 +375,69 @@ class Calls(unittest.TestCase):
             with self.assertRaises(kind):
                 Template(entry, sources)
 
+    def test_options_by_keywords(self):
+        sources = {"t": "{% if true %}\n<{{ '<' }}\n{% endif %}\n"}
+        wanted = "<<\n\n"
+        self.assertEqual(
+            Template("t", sources, Options(trim_blocks=True), autoescape=False).render(), "<<\n"
+        )
+        chosen = {"trim_blocks": True, "autoescape": False, "keep_trailing_newline": True}
+        self.assertEqual(Template("t", sources, **chosen).render(), "<<\n")
+        self.assertEqual(
+            Templates(sources, autoescape=False, keep_trailing_newline=True)["t"].render(),
+            "\n" + wanted,
+        )
+        self.assertEqual(Templates(sources, **chosen).options, Options(**chosen))
+        with tempfile.TemporaryDirectory() as folder:
+            (pathlib.Path(folder) / "t").write_text(sources["t"])
+            templates = Templates.from_folder(folder, **chosen)
+        self.assertEqual(templates.options, Options(**chosen))
+        for call in (
+            lambda: Templates(sources, autoescap=False),
+            lambda: Template("t", sources, trim_blocks=1),
+        ):
+            with self.assertRaises(TypeError):
+                call()
+
+    def test_values_by_keywords(self):
+        template = Template("t", {"t": "{{ name }}{{ self_ }}{{ n }}"})
+        for run in (template.render, template.compile().run):
+            self.assertEqual(run(name="World", n=1), "World1")
+            self.assertEqual(run({"name": "a", "n": 1}, name="b"), "b1")
+            self.assertEqual(run({"n": 1}, Budget(fuel=1000), name="b"), "b1")
+            self.assertEqual(run(self=1, name="a"), "a")
+            for context in (Context({"n": 1}), '{"n": 1}', b"{}"):
+                with self.assertRaisesRegex(TypeError, type(context).__name__):
+                    run(context, name="a")
+            with self.assertRaises(ContextError):
+                run(name=1.5)
+
+    def test_a_text_without_a_name(self):
+        template = Template("Hello {{ name }}!")
+        self.assertEqual(template.render(name="World"), "Hello World!")
+        self.assertEqual(pickle.loads(pickle.dumps(template)).render(name="a"), "Hello a!")
+        self.assertEqual(Template("{{ '<' }}", autoescape=False).render(), "<")
+        with self.assertRaises(Refused) as caught:
+            Template("a\n{{ x|uper }}").render()
+        self.assertEqual((caught.exception.template, caught.exception.line), ("<template>", 2))
+        with self.assertRaises(Fault) as fault:
+            Template("{{ 1 // 0 }}").render()
+        self.assertEqual(str(fault.exception), "fault F4 ZeroDivide in <template> line 1")
+        for wrong in (7, None, b"x"):
+            with self.assertRaises(TypeError):
+                Template(wrong)
+
+    def test_templates_are_a_collection(self):
+        templates = Templates({"b": "{{ n }}", "a": ""})
+        self.assertEqual(templates["b"].render(n=1), "1")
+        self.assertIs(templates["b"], templates.template("b"))
+        self.assertEqual(("a" in templates, "c" in templates, 7 in templates), (True, False, False))
+        self.assertEqual((list(templates), len(templates), len(Templates({}))), (["b", "a"], 2, 0))
+        with self.assertRaisesRegex(KeyError, "'c'"):
+            templates["c"]
+        with self.assertRaises(Refused):
+            templates.template("c")
+
     def test_sources_are_copied(self):
         sources = {"t": "a"}
         template = Template("t", sources)
@@ -338,7 +448,7 @@ class Calls(unittest.TestCase):
         self.assertEqual(dict(templates.sources), {"t": "b"})
 
 
-class Contexts(unittest.TestCase):
+class Contexts(Holding):
     def test_each_type_of_json(self):
         class Number(int):
             def __repr__(self):
@@ -429,6 +539,81 @@ class Contexts(unittest.TestCase):
                 self.assertIsInstance(error, Refused)
                 self.assertIsNone(error.__context__)
 
+    def test_a_default_replaces_what_has_no_json(self):
+        class Whole:
+            """A number as of numpy: no int, with a method that returns one."""
+
+            def item(self):
+                return 7
+
+        def chosen(value):
+            return value.item() if isinstance(value, Whole) else str(value)
+
+        day = datetime.date(2024, 2, 29)
+        given = {"a": [1.5, day], "b": decimal.Decimal("1.50"), "c": 2**64, "d": float("nan")}
+        source = "{{ a[0] }} {{ a[1] }} {{ b }} {{ c }} {{ d }} {{ e + 1 }}"
+        context = Context({**given, "e": Whole()}, default=chosen)
+        self.assertEqual(text(source, context), "1.5 2024-02-29 1.50 18446744073709551616 nan 8")
+        # what has JSON is never replaced
+        calls = []
+        plain = {"t": "é", "n": [1, True, None, (2,)], "m": types.MappingProxyType({"k": {}})}
+        self.assertEqual(Context(plain, default=calls.append), Context(plain))
+        self.assertEqual(calls, [])
+        # what it returns may be a list or a map, and may be replaced again
+        self.assertEqual(
+            text("{{ a[0].day }}", Context({"a": {day}}, default=lambda it: (
+                list(it) if isinstance(it, set) else {"day": it.day}
+            ))),
+            "29",
+        )
+        twice = Context({"a": 1j}, default=lambda it: it.real if it == 1j else str(it))
+        self.assertEqual(text("{{ a }}", twice), "0.0")
+        deep = Context({"a": [[1.5]]}, default=lambda it: [[]])
+        self.assertEqual(text("{{ a[0][0] == [[]] }}", deep), "True")
+
+    def test_a_default_that_does_not_help_is_named(self):
+        for default, wanted in (
+            (lambda it: it, "a[1].b: a float, which `default` returns again and again"),
+            (lambda it: {1: 2}, "a[1].b: a key that is no text: 1"),
+            (lambda it: "\ud800", "a[1].b: a text with a lone surrogate"),
+        ):
+            with self.assertRaises(ContextError) as caught:
+                Context({"a": [0, {"b": 1.5}]}, default=default)
+            self.assertEqual(str(caught.exception), wanted)
+            self.assertIsNone(caught.exception.__context__)
+        endless = (lambda it: [it])
+        with self.assertRaisesRegex(ContextError, "nested deeper than 127 levels"):
+            Context({"a": 1.5}, default=endless)
+        with self.assertRaises(ZeroDivisionError):
+            Context({"a": 1.5}, default=lambda it: 1 // 0)
+        # a key is no value
+        with self.assertRaisesRegex(ContextError, "a key that is no text: 1"):
+            Context({1: 2}, default=str)
+
+    def test_equal_contexts(self):
+        first = Context({"a": [1, {"b": "é", "c": None}], "d": True})
+        for equal in (
+            {"d": True, "a": (1, {"c": None, "b": "é"})},
+            ' {"d":true, "a": [1, {"c": null, "b": "\\u00e9"}]}',
+            first._json,
+        ):
+            other = Context(equal)
+            self.assertEqual(first, other)
+            self.assertEqual(hash(first), hash(other))
+            self.assertEqual(len({first, other}), 1)
+        for different in (
+            {"a": [1, {"b": "é", "c": None}], "d": 1},
+            {"a": [{"b": "é", "c": None}, 1], "d": True},
+            {"a": [1, {"b": "é", "c": None}], "d": "True"},
+            {},
+        ):
+            self.assertNotEqual(first, Context(different))
+        self.assertNotEqual(Context({}), {})
+        self.assertEqual(Context(), Context("{}"))
+        self.assertEqual(pickle.loads(pickle.dumps(first)), first)
+        first.close()
+        self.assertEqual(first, first)
+
     def test_the_deepest_nesting_is_that_of_the_library(self):
         def nested(levels):
             return {"a": json.loads("[" * (levels - 1) + "]" * (levels - 1))}
@@ -485,7 +670,7 @@ class Contexts(unittest.TestCase):
         self.assertIn("closed", repr(context))
 
 
-class Lives(unittest.TestCase):
+class Lives(Holding):
     """Images and contexts: how often the library runs, and how their handles end."""
 
     def test_a_closed_image_raises(self):
@@ -743,6 +928,19 @@ class Lives(unittest.TestCase):
             kept = image = None
             self.assertEqual(counted.left(), ([], {}, set()))
 
+    def test_a_context_in_a_cycle_is_freed(self):
+        image = Template("t", {"t": "{{ n }}"}).compile()
+        with Counted() as counted:
+            cycle = [Context({"n": 7})]
+            cycle.append(cycle)
+            in_threads(3, lambda: self.assertEqual(image.run(cycle[0]), "7"))
+            # (the threads have ended: one more thread drops them)
+            in_threads(1, lambda: self.assertEqual(image.run(cycle[0]), "7"))
+            self.assertEqual(len(cycle[0]._threads), 2)
+            del cycle
+            image.close()
+            self.assertEqual(counted.left(), ([], {}, set()))
+
     def test_a_context_is_closed_just_before_it_runs(self):
         image, context = Template("t", {"t": "{{ n }}"}).compile(), Context({"n": 7})
         call = library.jt_image_run
@@ -769,7 +967,11 @@ class Lives(unittest.TestCase):
                 except ValueError:
                     pass
 
-            closer = threading.Timer(0.2, image.close)
+            def close():
+                image.close()
+                self.held.add()
+
+            closer = threading.Timer(0.2, close)
             closer.start()
             in_threads(4, work)
             closer.join()
@@ -822,7 +1024,7 @@ class Lives(unittest.TestCase):
         self.assertEqual(copy.copy(template.compile()).run({"n": 7}), "7\n")
 
 
-class Folders(unittest.TestCase):
+class Folders(Holding):
     def test_a_folder(self):
         with tempfile.TemporaryDirectory() as folder:
             for name, data in {
@@ -866,7 +1068,7 @@ class Folders(unittest.TestCase):
 
 
 @unittest.skipUnless((ROOT / "examples").is_dir(), "no examples/")
-class Examples(unittest.TestCase):
+class Examples(Holding):
     def cases(self):
         for folder in sorted((ROOT / "examples").iterdir()):
             entry, *words = (folder / "command").read_text().split()
@@ -906,7 +1108,7 @@ class Examples(unittest.TestCase):
         self.assertEqual({int(number): name for number, name in faults}, jt._errors.FAULTS)
 
 
-class Surface(unittest.TestCase):
+class Surface(Holding):
     def test_names(self):
         self.assertRegex(jt.__version__, r"^\d+\.\d+\.\d+$")
         self.assertIn(jt.library_version, (jt.__version__, jt.__version__ + "-unproved"))

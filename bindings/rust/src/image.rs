@@ -36,6 +36,31 @@ impl Context {
         called(ROOM, |out| raw::jt_context_load(text.as_ref(), &mut handle, out))?;
         Ok(Context(RefCell::new(handle)))
     }
+    /// Serializes a value to a JSON object and reads that. An enum becomes what `serde_json` makes
+    /// of it. Floats, whole numbers outside 64 signed bits, and keys that are no texts are refused.
+    ///
+    /// # Errors
+    ///
+    /// `Refused` if the value is no context, with the path of what is refused; `NoMemory` if a
+    /// growth is refused.
+    ///
+    /// ```
+    /// use std::collections::BTreeMap;
+    ///
+    /// let prices = BTreeMap::from([("tea", vec![3, 4]), ("cake", vec![])]);
+    /// assert!(jt::Context::from_serialize(&prices).is_ok());
+    /// let floats = BTreeMap::from([("tea", vec![3.0, 4.5])]);
+    /// let error = jt::Context::from_serialize(&floats).unwrap_err();
+    /// assert_eq!((error.code(), error.path()), (Some("X3"), Some("tea[0]")));
+    /// assert_eq!(error.to_string(), "tea[0]: a float");
+    /// ```
+    #[cfg(feature = "serde")]
+    pub fn from_serialize<T>(value: &T) -> Result<Context, Error>
+    where
+        T: serde::Serialize + ?Sized,
+    {
+        Context::from_json(crate::serialize::to_json(value)?)
+    }
 }
 impl fmt::Debug for Context {
     fn fmt(&self, f: &mut fmt::Formatter<'_>) -> fmt::Result {
@@ -143,7 +168,7 @@ impl Image {
             if mem::replace(&mut has_run, true) {
                 return raw::jt_outcome_read(&mut outcome, out);
             }
-            #[cfg(all(test, not(jt_installed)))]
+            #[cfg(test)]
             crate::tests::runs();
             raw::jt_image_run(&mut image, &mut context, budget.into(), &mut outcome, out)
         })

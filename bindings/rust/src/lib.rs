@@ -17,25 +17,27 @@
 //! ```
 //!
 //! Threads may share an image; a context stays on its thread. Make no call in the forked child of a
-//! process with threads. A call may take up to 1 MiB of the stack; threads of the standard library
-//! have 2 MiB.
+//! process with threads. A call takes less than 256 KiB of the stack; threads of the standard
+//! library have 2 MiB.
 //!
 //! The crate links `libjt_ffi.a`: from the folder in the variable `JT_LIBRARY_DIR`, else from the
-//! checkout around it, else from where `pkg-config` finds `jt`.
+//! checkout around it, else from where `pkg-config` finds `jt`. It is for x86-64 Linux with glibc.
+//!
+//! With the feature `serde` a context is made from what serde serializes, by
+//! `Context::from_serialize`.
 
 #![warn(missing_docs)]
 #![deny(unsafe_code)]
 
 mod error;
-#[allow(unsafe_code)]
-#[cfg(not(jt_installed))]
-mod heap;
 mod image;
 mod outcome;
 #[allow(unsafe_code)]
 mod raw;
+#[cfg(feature = "serde")]
+mod serialize;
 mod templates;
-#[cfg(all(test, not(jt_installed)))]
+#[cfg(test)]
 mod tests;
 
 /// Returns the version of the linked library. It ends in `-unproved` if the library was built
@@ -49,7 +51,7 @@ pub fn version() -> String {
     String::from_utf8_lossy(&told).into_owned()
 }
 
-pub use error::Error;
+pub use error::{Error, Refusal};
 pub use image::{Context, Image};
 pub use outcome::{Budget, Fault, Outcome, Place, Spent};
 pub use templates::{Options, Template, Templates};

@@ -161,9 +161,15 @@ numbered! {
         BadArgument,
     }
 }
+impl Fault {
+    /// Returns the code, as `F2`.
+    pub fn code(self) -> &'static str {
+        ["F1", "F2", "F3", "F4", "F5", "F6", "F7", "F8", "F9"][self as usize]
+    }
+}
 impl fmt::Display for Fault {
     fn fmt(&self, f: &mut fmt::Formatter<'_>) -> fmt::Result {
-        write!(f, "F{} {}", self.number(), self.name())
+        write!(f, "{} {}", self.code(), self.name())
     }
 }
 numbered! {

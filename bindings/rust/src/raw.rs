@@ -1,14 +1,20 @@
 //! The calls of the library, as bindings/c/jt.h declares them, and the handles that they fill. All
-//! unsafe code is here and in heap.rs.
+//! unsafe code is here.
 
-#[cfg(not(jt_installed))]
-use crate::heap::jt_memory_limit;
 use crate::{Budget, Error, Options};
 use std::marker::PhantomData;
 
-#[cfg(jt_installed)]
 extern "C" {
     fn jt_memory_limit(bytes: u64) -> u64;
+    #[cfg(test)]
+    fn jt_memory_held() -> i64;
+}
+
+/// Returns how many bytes this thread holds more than when its limit was set.
+#[cfg(test)]
+pub(crate) fn held() -> i64 {
+    // SAFETY: the call only reads a number of this thread.
+    unsafe { jt_memory_held() }
 }
 
 /// How a call ended. `length` counts the bytes that it reports, even if the buffer is too short.

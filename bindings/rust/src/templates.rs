@@ -112,7 +112,7 @@ impl Templates {
     /// `Refused` if the templates are refused, `NoMemory` if a growth is.
     pub fn compile(&self, entry: &str, options: Options) -> Result<Image, Error> {
         let (mut library, mut image) = (self.library()?, ImageHandle::empty());
-        #[cfg(all(test, not(jt_installed)))]
+        #[cfg(test)]
         crate::tests::compiles();
         let compiled = called(ROOM, |out| {
             jt_library_compile(&mut library, entry.as_bytes(), options, &mut image, out)
@@ -135,12 +135,7 @@ impl Templates {
     }
 }
 /// Adds to the refusal of a template what its author has to know. Without memory nothing is added.
-fn explained(
-    library: &mut LibraryHandle,
-    entry: &str,
-    options: Options,
-    refusal: Error,
-) -> Error {
+fn explained(library: &mut LibraryHandle, entry: &str, options: Options, refusal: Error) -> Error {
     match called(LINES_ROOM, |out| jt_library_explain(library, entry.as_bytes(), options, out)) {
         Ok((answer, lines)) => {
             refusal.explained(String::from_utf8_lossy(&lines).into_owned(), answer.line)

@@ -1,15 +1,13 @@
-//! Counts the runs and the growths of the library: a text is made once, however long it is, each
-//! growth may be refused, and nothing is kept.
+//! Counts the runs of the library, and limits its memory: a text is made once, however long it is,
+//! each call may be refused memory, and nothing is kept.
 
+use crate::raw::{held, MemoryLimit};
 use crate::{Budget, Context, Error, Image, Options, Outcome, Templates};
 use std::cell::Cell;
 
 thread_local! {
     static RUNS: Cell<u32> = const { Cell::new(0) };
     static COMPILES: Cell<u32> = const { Cell::new(0) };
-    static BLOCKS: Cell<i64> = const { Cell::new(0) };
-    static GROWTHS: Cell<i64> = const { Cell::new(0) };
-    static REFUSED: Cell<i64> = const { Cell::new(-1) };
 }
 
 pub(crate) fn runs() {
@@ -18,18 +16,6 @@ pub(crate) fn runs() {
 
 pub(crate) fn compiles() {
     COMPILES.with(|compiles| compiles.set(compiles.get() + 1));
-}
-
-/// Counts a growth with its new blocks. Returns false if it is to be refused.
-pub(crate) fn grows(blocks: i64) -> bool {
-    let growth = GROWTHS.with(|growths| growths.replace(growths.get() + 1));
-    let granted = REFUSED.with(Cell::get) != growth;
-    BLOCKS.with(|all| all.set(all.get() + if granted { blocks } else { 0 }));
-    granted
-}
-
-pub(crate) fn frees() {
-    BLOCKS.with(|blocks| blocks.set(blocks.get() - 1));
 }
 
 #[test]
@@ -44,6 +30,8 @@ fn a_text_of_any_length_is_made_by_one_run() {
     }
     templates.compile("t", Options::default()).unwrap();
     assert_eq!(RUNS.with(Cell::get), 8);
+    drop((templates, image));
+    assert_eq!(held(), 0);
 }
 
 #[test]
@@ -64,34 +52,71 @@ fn an_image_of_any_length_is_made_by_one_compilation() {
         assert_eq!(text, Ok(Outcome::Text("b".repeat(tags / 3 * 3))));
         assert_eq!(COMPILES.with(Cell::get), count);
     }
+    assert_eq!(held(), 0);
 }
 
-/// Makes each call, with a text that is longer than the first buffer.
-fn all() -> Result<String, Error> {
-    let mut templates =
-        Templates::new(&[("t", "{% include 'u' %}{% for i in xs %}{{ i }}{% endfor %}")]);
-    templates.add("u", &"u".repeat(5000));
-    let image = templates.clone().compile("t", Options::default())?.try_clone()?;
-    let image = Image::from_bytes(image.to_bytes()?)?;
-    let context = Context::from_json(r#"{"xs": ["a", 1]}"#)?;
-    image.run(&context, Budget::default())?.into_text()
+/// Makes a call under each limit of memory, in steps of the smallest block, until it is not refused.
+/// Each refusal is `NoMemory`, and keeps nothing.
+fn make_under_each_limit<T>(call: impl Fn() -> Result<T, Error>) {
+    for (refused, memory) in (0..).step_by(16).enumerate() {
+        let limit = MemoryLimit::new(memory);
+        let result = call();
+        if let Ok(value) = result {
+            assert!(refused > 0 && held() > 0 || refused > 20, "{refused} limits refuse the call");
+            drop(value);
+            assert_eq!(held(), 0, "limit {memory}");
+            return;
+        }
+        assert_eq!(result.err(), Some(Error::NoMemory));
+        assert_eq!(held(), 0, "limit {memory}");
+        drop(limit);
+        // (No limit is left behind.)
+        if refused % 64 == 0 {
+            call().map(drop).unwrap();
+        }
+    }
 }
 
 #[test]
-fn each_growth_may_be_refused_and_nothing_is_kept() {
-    let wanted = "u".repeat(5000) + "a1";
-    assert!(all().as_ref() == Ok(&wanted));
-    let growths = GROWTHS.with(Cell::get);
-    // An installed shared library has memory of its own, and no growths here.
-    assert!((growths > 20 || growths == 0) && BLOCKS.with(Cell::get) == 0);
-    for refused in 0..growths {
-        GROWTHS.with(|growths| growths.set(0));
-        REFUSED.with(|it| it.set(refused));
-        // (Some growths only make a run faster.)
-        let result = all();
-        assert!(result == Err(Error::NoMemory) || result.as_ref() == Ok(&wanted));
-        assert_eq!(BLOCKS.with(Cell::get), 0, "growth {refused} of {growths}");
+fn each_call_may_be_refused_and_nothing_is_kept() {
+    let source = "{% include 'u' %}{% for i in xs %}{{ i }}{% endfor %}";
+    let long = "u".repeat(5000);
+    let compiled = || {
+        let mut templates = Templates::new(&[("t", source)]);
+        templates.add("u", &long);
+        templates.clone().compile("t", Options::default())
+    };
+    let json = r#"{"xs": ["a", 1]}"#;
+    let (image, context) = (compiled().unwrap(), Context::from_json(json).unwrap());
+    let bytes = image.to_bytes().unwrap();
+    let text = || image.run(&context, Budget::default())?.into_text();
+    assert_eq!(text(), Ok(long.clone() + "a1"));
+    make_under_each_limit(compiled);
+    make_under_each_limit(|| Image::from_bytes(&bytes));
+    make_under_each_limit(|| Context::from_json(json));
+    make_under_each_limit(|| image.to_bytes());
+    make_under_each_limit(text);
+}
+
+#[test]
+fn a_refusal_may_be_refused_memory() {
+    let templates = Templates::new(&[("t", "{{ x|uper }}")]);
+    let (mut refused, mut none) = (0, 0);
+    for memory in (0..16_384).step_by(16) {
+        let templates = templates.clone();
+        let limit = MemoryLimit::new(memory);
+        match templates.compile("t", Options::default()).unwrap_err() {
+            Error::NoMemory => none += 1,
+            Error::Refused(refusal) => {
+                assert_eq!((&*refusal.code, refusal.line), ("P3", Some(1)));
+                refused += 1;
+            }
+            error => panic!("{error}"),
+        }
+        drop(templates);
+        drop(limit);
     }
+    assert!(none > 10 && refused > 10, "{none} {refused}");
 }
 
 #[test]
@@ -99,14 +124,13 @@ fn memory_is_limited() {
     let source = "{% for x in xs %}{{ x ~ '!' }}{% endfor %}";
     let image = Templates::new(&[("t", source)]).compile("t", Options::default()).unwrap();
     let context = Context::from_json(r#"{"xs": ["a", 1, "b", 2, "c", 3, "d", 4]}"#).unwrap();
-    let (wanted, blocks) = (Outcome::Text("a!1!b!2!c!3!d!4!".into()), BLOCKS.with(Cell::get));
+    let wanted = Outcome::Text("a!1!b!2!c!3!d!4!".into());
     let mut refused = 0;
     for memory in (0..16_384).step_by(16) {
         match image.run(&context, Budget { memory, ..Budget::default() }) {
             Err(Error::NoMemory) => refused += 1,
             outcome => assert_eq!(outcome.as_ref(), Ok(&wanted)),
         }
-        assert_eq!(BLOCKS.with(Cell::get), blocks, "limit {memory}");
         // (No limit is left behind.)
         assert_eq!(image.run(&context, Budget::default()).as_ref(), Ok(&wanted));
     }

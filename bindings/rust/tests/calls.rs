@@ -1,7 +1,27 @@
 use jt::{
     Budget, Context, Error, Fault, Image, Options, Outcome, Place, Spent, Template, Templates,
 };
+use std::sync::atomic::{AtomicI64, Ordering};
 use std::{fs, io, thread};
+
+/// Returns how many bytes the library holds for this thread.
+fn held() -> i64 {
+    extern "C" {
+        fn jt_memory_held() -> i64;
+    }
+    // SAFETY: the call only reads a number of this thread.
+    unsafe { jt_memory_held() }
+}
+
+/// Checks at the end of a test that the library holds nothing for its thread.
+struct HoldsNothing;
+impl Drop for HoldsNothing {
+    fn drop(&mut self) {
+        if !thread::panicking() {
+            assert_eq!(held(), 0, "the library holds memory after the test");
+        }
+    }
+}
 
 fn context(json: &str) -> Context {
     Context::from_json(json).unwrap()
@@ -21,13 +41,14 @@ fn text(text: &str) -> Result<Outcome, Error> {
 
 fn code<T>(result: Result<T, Error>) -> String {
     match result {
-        Err(Error::Refused { code, .. }) => code,
+        Err(Error::Refused(refusal)) => refusal.code,
         _ => String::new(),
     }
 }
 
 #[test]
 fn a_text_of_any_length_is_whole() {
+    let _end = HoldsNothing;
     for length in [0, 1, 1023, 1024, 1025, 4096, 100_000] {
         assert_eq!(rendered(&"a".repeat(length)), text(&"a".repeat(length)));
     }
@@ -35,6 +56,7 @@ fn a_text_of_any_length_is_whole() {
 
 #[test]
 fn an_image_of_any_length_is_whole() {
+    let _end = HoldsNothing;
     let source: String = (0..3000).map(|n| format!("{{{{{n}}}}}")).collect();
     let wanted: String = (0..3000).map(|n| n.to_string()).collect();
     assert_eq!(rendered(&source), text(&wanted));
@@ -42,6 +64,7 @@ fn an_image_of_any_length_is_whole() {
 
 #[test]
 fn each_fault_has_its_name_and_its_place() {
+    let _end = HoldsNothing;
     for (number, name, source) in [
         (1, "BadType", "{{ true + 1 }}"),
         (2, "Undefined", "{{ nope.x }}"),
@@ -63,11 +86,15 @@ fn each_fault_has_its_name_and_its_place() {
         }
         let error = outcome.into_text().unwrap_err();
         assert_eq!(error.to_string(), format!("fault F{number} {name} in t line 2"));
+        let code = format!("F{number}");
+        let place = (error.code(), error.template(), error.line());
+        assert_eq!(place, (Some(&*code), Some("t"), Some(2)));
     }
 }
 
 #[test]
 fn each_number_of_a_budget_is_spent() {
+    let _end = HoldsNothing;
     let image =
         template("{% macro m(x) %}{{ x }}{% endmacro %}{{ m('abc') }}{% set s = [[1, 2], 3] %}");
     let image = image.compile().unwrap();
@@ -84,15 +111,17 @@ fn each_number_of_a_budget_is_spent() {
         assert_eq!(wanted.number(), number);
         let error = outcome.unwrap().into_text().unwrap_err();
         assert_eq!(error.to_string(), format!("spent {wanted:?}"));
+        assert_eq!((error.code(), error.template(), error.line()), (None, None, None));
     }
     assert_eq!(image.run(&context("{}"), usual), text("abc"));
 }
 
 #[test]
 fn a_refusal_has_its_parts() {
+    let _end = HoldsNothing;
     let parts = |error| match error {
-        Error::Refused { code, name, template, line, reason, .. } => {
-            (code, name, template.unwrap_or_default(), line, reason)
+        Error::Refused(it) => {
+            (it.code, it.name, it.template.unwrap_or_default(), it.line, it.reason)
         }
         other => panic!("{other}"),
     };
@@ -125,13 +154,13 @@ fn a_refusal_has_its_parts() {
         let error = Templates::new(&[(name, source)]).compile(name, Options::default());
         let error = error.unwrap_err();
         let shown = error.to_string();
+        let place = (error.code(), error.template(), error.line());
+        assert_eq!(place, (Some(wanted.0), Some(wanted.1), Some(wanted.2)));
         match error {
-            Error::Refused { code, template, line, subject, explanation, .. } => {
-                let template = template.unwrap();
-                let found = (&*code, &*template, line.unwrap(), subject.as_deref());
-                assert_eq!(found, wanted);
+            Error::Refused(refusal) => {
+                assert_eq!(refusal.subject.as_deref(), wanted.3);
                 assert!(shown.starts_with(&format!("{}:{}: {} ", wanted.1, wanted.2, wanted.0)));
-                assert_eq!(explanation, Some(shown + "\n"));
+                assert_eq!(refusal.explanation, Some(shown + "\n"));
             }
             other => panic!("{other}"),
         }
@@ -145,6 +174,7 @@ fn a_refusal_has_its_parts() {
 
 #[test]
 fn a_refused_context_is_none() {
+    let _end = HoldsNothing;
     for (json, wanted) in [
         (&b"{"[..], "X1"),
         (b"", "X1"),
@@ -159,6 +189,7 @@ fn a_refused_context_is_none() {
 
 #[test]
 fn a_context_serves_many_runs_and_images() {
+    let _end = HoldsNothing;
     let context = context(r#"{"n": "<"}"#);
     let images = ["{{ n }}", "{{ n }}{{ n }}"].map(|source| template(source).compile().unwrap());
     for _ in 0..3 {
@@ -169,6 +200,7 @@ fn a_context_serves_many_runs_and_images() {
 
 #[test]
 fn an_image_travels_as_bytes() {
+    let _end = HoldsNothing;
     let image = template("{{ n }}").compile().unwrap();
     let bytes = image.to_bytes().unwrap();
     let stranger = Image::from_bytes(&bytes).unwrap();
@@ -179,6 +211,7 @@ fn an_image_travels_as_bytes() {
 
 #[test]
 fn options_are_kept_apart() {
+    let _end = HoldsNothing;
     let usual = Options::default();
     for (source, options, wanted) in [
         ("{{ '<' }}\n", Options { autoescape: false, ..usual }, "<"),
@@ -193,6 +226,7 @@ fn options_are_kept_apart() {
 
 #[test]
 fn a_later_source_replaces_an_earlier_one() {
+    let _end = HoldsNothing;
     let mut templates = Templates::new(&[("t", "a"), ("u", "b")]);
     templates.add("t", "{% include 'u' %}");
     templates.add("u", "c");
@@ -213,12 +247,14 @@ fn a_site_is_compiled_from_one_library() {
         let image = templates.compile(&format!("page{at}"), Options::default()).unwrap();
         image.run(&context(r#"{"n": 7}"#), Budget::default())
     };
+    let held_elsewhere = AtomicI64::new(0);
     thread::scope(|scope| {
         for _ in 0..4 {
             scope.spawn(|| {
                 for at in 0..100 {
                     assert_eq!(text_of(&templates, at), text(&format!("{}:7", at % 5)));
                 }
+                held_elsewhere.fetch_add(held(), Ordering::SeqCst);
             });
         }
     });
@@ -227,10 +263,14 @@ fn a_site_is_compiled_from_one_library() {
     templates.add("layout1", "new");
     assert_eq!(text_of(&templates, 1), text("new"));
     assert_eq!(text_of(&clone, 1), text("1:7"));
+    drop((templates, clone));
+    // (One of the threads has read the sources.)
+    assert_eq!(held() + held_elsewhere.into_inner(), 0);
 }
 
 #[test]
 fn a_folder_has_its_files_as_templates() {
+    let _end = HoldsNothing;
     let folder = std::env::temp_dir().join(format!("jt-{}", std::process::id()));
     fs::create_dir_all(folder.join("mail/parts")).unwrap();
     fs::write(folder.join("page"), "{% include 'mail/parts/foot.html' %}!").unwrap();
@@ -251,6 +291,7 @@ fn a_folder_has_its_files_as_templates() {
 
 #[test]
 fn a_writer_has_the_whole_text_or_nothing() {
+    let _end = HoldsNothing;
     let image = template("{{ 10 // n }}").compile().unwrap();
     let mut out = Vec::new();
     image.run_to(&context(r#"{"n": 5}"#), Budget::default(), &mut out).unwrap();
@@ -266,6 +307,7 @@ fn a_writer_has_the_whole_text_or_nothing() {
 
 #[test]
 fn handles_are_dropped_in_any_order() {
+    let _end = HoldsNothing;
     let image = template("{{ n }}").compile().unwrap();
     let (first, second) = (image.try_clone().unwrap(), image.try_clone().unwrap());
     let context = context(r#"{"n": 7}"#);
@@ -291,10 +333,14 @@ fn runs_of(image: &Image) {
 
 #[test]
 fn threads_share_an_image() {
+    let _end = HoldsNothing;
     let image = template(LIST).compile().unwrap();
     thread::scope(|scope| {
         for _ in 0..4 {
-            scope.spawn(|| runs_of(&image));
+            scope.spawn(|| {
+                let _end = HoldsNothing;
+                runs_of(&image);
+            });
         }
     });
 }
@@ -303,14 +349,26 @@ fn threads_share_an_image() {
 fn an_image_goes_to_another_thread() {
     let image = template(LIST).compile().unwrap();
     let clones: Vec<_> = (0..4).map(|_| image.try_clone().unwrap()).collect();
-    let threads = clones.into_iter().map(|image| thread::spawn(move || runs_of(&image)));
+    let threads = clones.into_iter().map(|image| {
+        thread::spawn(move || {
+            runs_of(&image);
+            drop(image);
+            held()
+        })
+    });
     let threads: Vec<_> = threads.collect();
     drop(image);
-    for thread in threads {
-        thread.join().unwrap();
-    }
-    let made = thread::spawn(|| template(LIST).compile().unwrap()).join().unwrap();
+    let ended = threads.into_iter().map(|thread| thread.join().unwrap());
+    let mut all: i64 = ended.sum();
+    let thread = thread::spawn(|| {
+        let made = template(LIST).compile().unwrap();
+        (made, held())
+    });
+    let (made, of_its_thread) = thread.join().unwrap();
+    all += of_its_thread;
     runs_of(&made);
+    drop(made);
+    assert_eq!(all + held(), 0);
 }
 
 #[test]

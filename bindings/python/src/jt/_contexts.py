@@ -4,14 +4,14 @@ The library wants a kept context to stay on the thread that filled it, also when
 `Context` is its JSON, and each thread that uses it keeps a handle of its own: see `_Thread`.
 """
 import itertools
+import json
 import threading
-import weakref
 from collections import deque
-from typing import Any, Deque, Dict, Mapping, Tuple, Type, Union
+from typing import Any, Deque, Dict, List, Mapping, Tuple, Type, Union
 
 from ._closing import Closing
 from ._errors import Refused
-from ._json import encode_json, explain, to_json
+from ._json import Default, encode_json, explain, to_json
 from ._library import NO_LIMIT, ContextHandle, ImageHandle, Numbers, library, run, tell
 
 _numbers = itertools.count()
@@ -21,21 +21,30 @@ class Context(Closing):
     """What a template is rendered for: a mapping, or the JSON of an object as `str` or `bytes`.
 
     It is read here, once for each thread that uses it, and can be used for many runs and images.
-    Values are texts, whole numbers of 64 bits, truth values, `None`, lists, tuples and mappings.
+    Values are texts, whole numbers of 64 bits, truth values, `None`, lists, tuples and mappings. For
+    each other value of a mapping, a float, a date or a larger number for example, `default` returns
+    what stands in its place, as in `json.dumps`:
+
+        Context({"price": Decimal("1.50"), "day": date.today()}, default=str)
+
+    Two contexts are equal if each template has the same text for both. An order of keys is nothing.
 
     # Errors
-    `ContextError` for what cannot be JSON, and for JSON that is refused.
+    `ContextError` for what cannot be JSON, and for JSON that is refused; what `default` raises.
     """
 
     _kind = "context"
 
-    def __init__(self, given: Union[Mapping[str, Any], str, bytes, None] = None) -> None:
+    def __init__(
+        self, given: Union[Mapping[str, Any], str, bytes, None] = None, *, default: Default = None
+    ) -> None:
         # (A finalizer or a signal handler may render in the middle of a call.)
         self._lock = threading.RLock()
         self._closed = False
         self._number = next(_numbers)
-        self._threads: "weakref.WeakSet[_Thread]" = weakref.WeakSet()
-        self._json = _encode(given)
+        # (No weak references: of a context in a cycle the collector clears them before `__del__`.)
+        self._threads: List[_Thread] = []
+        self._json = _encode(given, default)
         self._handle()
 
     def _handle(self) -> ContextHandle:
@@ -48,7 +57,8 @@ class Context(Closing):
                 handle = ContextHandle()
                 try:
                     _keep(self._json, handle)
-                    self._threads.add(thread)
+                    self._threads = [it for it in self._threads if self._number in it.handles]
+                    self._threads.append(thread)
                     if thread.handles.setdefault(self._number, handle) is not handle:
                         library.jt_context_free(handle)
                 except BaseException:
@@ -61,8 +71,7 @@ class Context(Closing):
         """Frees the handles: of this thread now, of another at its next call or its end."""
         with self._lock:
             self._closed = True
-            threads = list(self._threads)
-            self._threads.clear()
+            threads, self._threads = self._threads, []
         for thread in threads:
             thread.dropped.append(self._number)
         if threads:
@@ -75,12 +84,38 @@ class Context(Closing):
     def __reduce__(self) -> Tuple[Type["Context"], Tuple[bytes]]:
         return type(self), (self._json,)
 
+    def __eq__(self, other: object) -> bool:
+        if not isinstance(other, Context):
+            return NotImplemented
+        return self._json == other._json or self._sorted() == other._sorted()
+
+    def __hash__(self) -> int:
+        return hash(self._sorted())
+
+    def _sorted(self) -> str:
+        """Returns the JSON with sorted keys, which equal contexts share."""
+        return json.dumps(json.loads(self._json.decode()), sort_keys=True)
+
     def __repr__(self) -> str:
         return f"<jt.Context of {len(self._json)} bytes{', closed' if self._closed else ''}>"
 
 
 # What a run takes as its context.
 ContextLike = Union[Context, Mapping[str, Any], str, bytes, None]
+
+
+def with_names(context: ContextLike, names: Mapping[str, Any]) -> ContextLike:
+    """Returns a context with further values by their names, which replace those of the context.
+
+    # Errors
+    `TypeError` for names beside a context that is no mapping.
+    """
+    if not names:
+        return context
+    if isinstance(context, (Context, str, bytes)):
+        kind = type(context).__name__
+        raise TypeError(f"values by keywords do not go with a context that is a {kind}")
+    return {**({} if context is None else context), **names}
 
 
 def run_within(
@@ -107,13 +142,15 @@ def run_for(context: ContextLike, image: ImageHandle, budget: Numbers) -> str:
         library.jt_context_free(handle)
 
 
-def _encode(given: Union[Mapping[str, Any], str, bytes, None]) -> bytes:
+def _encode(
+    given: Union[Mapping[str, Any], str, bytes, None], default: Default = None
+) -> bytes:
     """Returns the JSON of what a context is made from."""
     if isinstance(given, bytes):
         return given
     if isinstance(given, str):
         return encode_json(given)
-    return to_json({} if given is None else given)
+    return to_json({} if given is None else given, default=default)
 
 
 def _keep(data: bytes, handle: ContextHandle) -> None:

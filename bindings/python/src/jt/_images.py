@@ -2,10 +2,10 @@
 import os
 import threading
 from dataclasses import dataclass, fields
-from typing import List, Optional, Tuple, Type, Union
+from typing import Any, List, Optional, Tuple, Type, Union
 
 from ._closing import Closing
-from ._contexts import ContextLike, run_for, run_within
+from ._contexts import ContextLike, run_for, run_within, with_names
 from ._errors import NoMemory
 from ._library import FlagBytes, ImageHandle, LibraryHandle, Numbers, library, tell
 
@@ -87,15 +87,22 @@ class Image(Closing):
                 self._data = tell(library.jt_image_save, self._first)
             return self._data
 
-    def run(self, context: ContextLike = None, budget: Budget = Budget()) -> str:
+    def run(
+        self, /, context: ContextLike = None, budget: Budget = Budget(), **names: Any
+    ) -> str:
         """Runs the template once and returns its text.
+
+        Values may be given by keywords too: `image.run(name="World")`. They replace those of a
+        mapping. A value that the template calls `context` or `budget` has to be in a mapping.
 
         # Errors
         `Fault`, `Spent`, `ContextError` for the context, `NoMemory`, also for the `memory` of the
-        budget; `ValueError` if the image or the context is closed.
+        budget; `ValueError` if the image or the context is closed; `TypeError` for keywords beside
+        a context that is no mapping.
         """
         if not isinstance(budget, Budget):
             raise TypeError(f"the budget is no Budget: {budget!r}")
+        context = with_names(context, names)
         numbers = Numbers(budget.fuel, budget.output, budget.depth, budget.size, budget.nesting)
         handle = self._take()
         try:

@@ -2,15 +2,17 @@
 import codecs
 import os
 import threading
-from dataclasses import dataclass, fields
+from dataclasses import dataclass, fields, replace
 from types import MappingProxyType
-from typing import Dict, Iterator, List, Mapping, Optional, Tuple, Union
+from typing import Any, Dict, Iterator, List, Mapping, Optional, Tuple, Union
 
 from ._contexts import ContextLike
 from ._errors import NoMemory, Refused
 from ._images import Budget, Image
 from ._library import FlagBytes, Lengths, LibraryHandle, explain, library, tell
 
+# The name of a template of a text alone.
+_NAMELESS = "<template>"
 # A source with more bytes is S7.
 _MOST_BYTES = 1_048_576
 
@@ -36,13 +38,20 @@ class Templates:
 
     The sources are read here, once, and all templates are compiled from them. They are copied, so
     later changes of the mapping or the folder have no effect. Threads may share the templates.
+
+    `templates["page"]` is the template of a name, `"page" in templates` whether there is one, and a
+    loop goes over the names. Options may be given by keywords too:
+
+        Templates({"page": "..."}, trim_blocks=True)
     """
 
-    def __init__(self, sources: Mapping[str, str], options: Options = Options()) -> None:
+    def __init__(
+        self, sources: Mapping[str, str], options: Options = Options(), **chosen: bool
+    ) -> None:
         if not isinstance(options, Options):
             raise TypeError(f"the options are no Options: {options!r}")
         self._sources = dict(sources)
-        self._options = options
+        self._options = replace(options, **chosen)
         # (A finalizer or a signal handler may compile in the middle of a call.)
         self._lock = threading.RLock()
         # This handle is only shared from: each compilation has one of its own.
@@ -52,13 +61,13 @@ class Templates:
 
     @classmethod
     def from_folder(
-        cls, path: Union[str, "os.PathLike[str]"], options: Options = Options()
+        cls, path: Union[str, "os.PathLike[str]"], options: Options = Options(), **chosen: bool
     ) -> "Templates":
         """Reads a folder and its subfolders. A name is a path in the folder, as `mails/order.txt`.
 
         Links, files that are not UTF-8, and folders whose names begin with a dot are left out.
         """
-        return cls(dict(_read_folder(os.fspath(path), "")), options)
+        return cls(dict(_read_folder(os.fspath(path), "")), options, **chosen)
 
     @property
     def sources(self) -> Mapping[str, str]:
@@ -84,6 +93,21 @@ class Templates:
             if name not in self._templates:
                 self._templates[name] = Template._of(name, self)
             return self._templates[name]
+
+    def __getitem__(self, name: str) -> "Template":
+        """Returns the template of a name, or raises `KeyError` if there is none."""
+        if name not in self._sources:
+            raise KeyError(name)
+        return self.template(name)
+
+    def __contains__(self, name: object) -> bool:
+        return name in self._sources
+
+    def __iter__(self) -> Iterator[str]:
+        return iter(self._sources)
+
+    def __len__(self) -> int:
+        return len(self._sources)
 
     def _shared(self) -> LibraryHandle:
         """Returns a second handle of the sources."""
@@ -115,13 +139,22 @@ class Templates:
 class Template:
     """A template of a name, with the sources of all that it may reach by their names.
 
+    Without sources `entry` is the text of the template itself: `Template("Hello {{ name }}!")`. Its
+    name is `<template>` then. Options may be given by keywords too.
+
     It is compiled and verified when it is first needed, once. Threads may share it.
     """
 
     def __init__(
-        self, entry: str, sources: Mapping[str, str], options: Options = Options()
+        self,
+        entry: str,
+        sources: Optional[Mapping[str, str]] = None,
+        options: Options = Options(),
+        **chosen: bool,
     ) -> None:
-        self._start(entry, Templates(sources, options))
+        if sources is None:
+            entry, sources = _NAMELESS, {_NAMELESS: entry}
+        self._start(entry, Templates(sources, options, **chosen))
 
     @classmethod
     def _of(cls, entry: str, templates: Templates) -> "Template":
@@ -149,13 +182,17 @@ class Template:
         """
         return self._compiled().share()
 
-    def render(self, context: ContextLike = None, budget: Budget = Budget()) -> str:
+    def render(
+        self, /, context: ContextLike = None, budget: Budget = Budget(), **names: Any
+    ) -> str:
         """Runs the template once and returns its text.
+
+        Values may be given by keywords too, as for `Image.run`: `page.render(name="World")`.
 
         # Errors
         Those of `compile` and of `Image.run`.
         """
-        return self._compiled().run(context, budget)
+        return self._compiled().run(context, budget, **names)
 
     def _compiled(self) -> Image:
         """Returns the image that is kept."""

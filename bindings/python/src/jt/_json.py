@@ -3,7 +3,7 @@ import json
 import re
 import reprlib
 from collections.abc import Mapping as AnyMapping
-from typing import Any, Callable, List, Mapping, Set, Union
+from typing import Any, Callable, List, Mapping, Optional, Set, Union
 
 from ._errors import ContextError, Refused
 
@@ -14,9 +14,13 @@ _encode = json.JSONEncoder(
 ).encode
 _SCALARS = frozenset((str, bool, type(None)))
 _KEYS = frozenset((str,))
+# What a host gives to write a value of another kind: the value that is written in its place.
+Default = Optional[Callable[[Any], Any]]
 _IDENTIFIER = re.compile(r"[^\W\d]\w*")
 # A path has at most `_MOST_PARTS` parts in a message.
 _MOST_PARTS = 16
+# `default` is called at most this often for one value.
+_MOST_DEFAULTS = 16
 
 
 class _Unfit(Exception):
@@ -28,28 +32,34 @@ class _Unfit(Exception):
         self.parts: List[Union[str, int]] = []
 
 
-def to_json(context: Mapping[str, Any], reason: str = "") -> bytes:
+class _NoKind(_Unfit):
+    """A value of a kind that has no JSON here: `default` may return another one for it."""
+
+
+def to_json(context: Mapping[str, Any], reason: str = "", default: Default = None) -> bytes:
     """Returns the JSON of a mapping. Its maps keep the order of their keys.
+
+    A value that has no JSON is replaced by what `default` returns for it, as `json.dumps` does it.
 
     # Errors
     `ContextError` for a value or a key that cannot be written, with its path. Its reason is
-    `reason`, or else the one with which the library would refuse it.
+    `reason`, or else the one with which the library would refuse it. What `default` raises.
     """
-    pieces: List[str] = []
+    writer = _Writer(default)
     try:
         if type(context) is dict and _is_plain(context, 1):
             return _encode(context).encode()
     except UnicodeEncodeError:
-        pass  # (`_write_map` finds the place.)
+        pass  # (The writer finds the place.)
     try:
         if not isinstance(context, AnyMapping):
             raise _Unfit("X2 NotObject", _kind(context))
-        _write_map(context, pieces.append, 1)
+        writer.write_map(context, 1)
     except _Unfit as unfit:
         path = _path(unfit.parts[::-1])
         error = ContextError(reason or unfit.reason, path, unfit.what)
     else:
-        return "".join(pieces).encode()
+        return "".join(writer.pieces).encode()
     raise error
 
 
@@ -86,7 +96,7 @@ def explain(data: bytes, refused: Refused) -> Refused:
 def _is_plain(value: Any, level: int) -> bool:
     """Returns whether a dict, list or tuple can be written by Python's own writer.
 
-    That one is much faster than `_write_map`, which does the rest and names what is wrong.
+    That one is much faster than `_Writer`, which does the rest and names what is wrong.
     """
     if level > DEEPEST:
         return False
@@ -109,61 +119,81 @@ def _is_plain(value: Any, level: int) -> bool:
     return True
 
 
-def _write(value: Any, put: Callable[[str], Any], level: int) -> None:
-    """Writes a value whose lists and maps are at this level of nesting."""
-    if isinstance(value, str):
-        put(_text(value))
-    elif value is None or value is True or value is False:
-        put({None: "null", True: "true", False: "false"}[value])
-    elif isinstance(value, int):
-        if not -(2**63) <= value < 2**63:
-            raise _Unfit("X4 OutOfRange", "an int of more than 64 bits")
-        put(int.__repr__(value))
-    elif isinstance(value, (dict, AnyMapping)):
-        _write_map(value, put, level)
-    elif isinstance(value, (list, tuple)):
-        _write_list(value, put, level)
-    elif isinstance(value, float):
-        is_whole_kind = value - value == 0
-        raise _Unfit("X3 NotWhole", "a float" if is_whole_kind else f"a float ({value})")
-    else:
-        raise _Unfit("X1 NotJson", _kind(value))
+class _Writer:
+    """The JSON of a value, as it is written piece by piece."""
 
+    def __init__(self, default: Default) -> None:
+        self.pieces: List[str] = []
+        self.put = self.pieces.append
+        self.default = default
 
-def _write_map(value: Mapping[Any, Any], put: Callable[[str], Any], level: int) -> None:
-    """Writes a map. Its keys have to be texts that differ."""
-    _check_level(level)
-    seen: Set[str] = set()
-    put("{")
-    for key, item in value.items():
-        if not isinstance(key, str):
-            raise _Unfit("X1 NotJson", f"a key that is no text: {reprlib.repr(key)}")
-        text = _text(key)
-        if text in seen:
-            raise _Unfit("X1 NotJson", f"two keys that are both {text}")
-        put(("," if seen else "") + text + ":")
-        seen.add(text)
-        try:
-            _write(item, put, level + 1)
-        except _Unfit as unfit:
-            unfit.parts.append(str.__str__(key))
-            raise
-    put("}")
+    def write(self, value: Any, level: int) -> None:
+        """Writes a value whose lists and maps are at this level of nesting."""
+        for _ in range(_MOST_DEFAULTS):
+            try:
+                self.write_known(value, level)
+                return
+            except _NoKind as error:
+                if self.default is None:
+                    raise
+                # (The error itself would keep this frame, and all that it refers to.)
+                reason, what = error.reason, error.what
+            value = self.default(value)
+        raise _Unfit(reason, f"{what}, which `default` returns again and again")
 
+    def write_known(self, value: Any, level: int) -> None:
+        """Writes a value of a kind that JSON has, and that the library takes."""
+        if isinstance(value, str):
+            self.put(_text(value))
+        elif value is None or value is True or value is False:
+            self.put({None: "null", True: "true", False: "false"}[value])
+        elif isinstance(value, int):
+            if not -(2**63) <= value < 2**63:
+                raise _NoKind("X4 OutOfRange", "an int of more than 64 bits")
+            self.put(int.__repr__(value))
+        elif isinstance(value, (dict, AnyMapping)):
+            self.write_map(value, level)
+        elif isinstance(value, (list, tuple)):
+            self.write_list(value, level)
+        elif isinstance(value, float):
+            is_finite = value - value == 0
+            raise _NoKind("X3 NotWhole", "a float" if is_finite else f"a float ({value})")
+        else:
+            raise _NoKind("X1 NotJson", _kind(value))
 
-def _write_list(value: Any, put: Callable[[str], Any], level: int) -> None:
-    """Writes a list or a tuple."""
-    _check_level(level)
-    put("[")
-    for at, item in enumerate(value):
-        if at:
-            put(",")
-        try:
-            _write(item, put, level + 1)
-        except _Unfit as unfit:
-            unfit.parts.append(at)
-            raise
-    put("]")
+    def write_map(self, value: Mapping[Any, Any], level: int) -> None:
+        """Writes a map. Its keys have to be texts that differ."""
+        _check_level(level)
+        seen: Set[str] = set()
+        self.put("{")
+        for key, item in value.items():
+            if not isinstance(key, str):
+                raise _Unfit("X1 NotJson", f"a key that is no text: {reprlib.repr(key)}")
+            text = _text(key)
+            if text in seen:
+                raise _Unfit("X1 NotJson", f"two keys that are both {text}")
+            self.put(("," if seen else "") + text + ":")
+            seen.add(text)
+            try:
+                self.write(item, level + 1)
+            except _Unfit as unfit:
+                unfit.parts.append(str.__str__(key))
+                raise
+        self.put("}")
+
+    def write_list(self, value: Any, level: int) -> None:
+        """Writes a list or a tuple."""
+        _check_level(level)
+        self.put("[")
+        for at, item in enumerate(value):
+            if at:
+                self.put(",")
+            try:
+                self.write(item, level + 1)
+            except _Unfit as unfit:
+                unfit.parts.append(at)
+                raise
+        self.put("]")
 
 
 def _check_level(level: int) -> None:
