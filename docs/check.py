@@ -15,7 +15,7 @@ tests/README.md and all of docs/. The script checks
     each sentence of errors.md of a fault or a spent number     the same
     each example of errors.md, from-jinja.md and tests/README.md (a line with ` => ` in a code block or a table)     it is a row of tests/rows/
     each code block after a line that ends with a link to a file of code and a colon      the file has these lines
-    README.md                      it has at most 7,000 bytes
+    README.md                      it has at most 9,000 bytes
     each name of Jinja (tests/jinja_names.py)      the language has it, or jt_hints names it as left out
     docs/architecture.md           it lists the crates of crates.txt, in the same order, each after those that it names
     each place of the version      it has the version of jt_version
@@ -35,7 +35,7 @@ import explanations
 import jinja_names
 import run_explanations
 
-MOST = 7000
+MOST = 9000
 LINK = re.compile(r"(?<!!)\[[^\]]*\]\(([^)\s]+)\)")
 QUOTED = re.compile(r"\[[^\]]*\]\(([^)\s]+\.(?:rt|rs|c|py))\):\n\n((?: {4}.*\n|\n(?= {4}))+)")
 FOLDERS = "crates|tests|tools|docs|bench|examples|bindings"

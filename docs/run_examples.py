@@ -11,10 +11,11 @@ A fenced block is an example of one of two kinds:
 
 A heading of level 2 begins a fresh folder, if it has no number. So the steps of a tutorial (`## 2. A loop`) share one folder, and
 each recipe has its own. The commands of a block run in one bash, in that folder. There `jt` is PROGRAM, and Python finds
-bindings/python/src and a shared library of the tree in which PROGRAM was built. JT_LIBRARY names another library, PYTHONPATH another
-folder.
+bindings/python/src and a shared library of the tree in which PROGRAM was built, or the one beside PROGRAM, where
+`tools/try.sh --keep` leaves it. JT_LIBRARY names another library, PYTHONPATH another folder.
 
-One line end at the end of an output is not compared: a text of `jt` has none, and a document cannot show that.
+One line end at the end of an output is not compared: a text of `jt` has none, and a document cannot show that. Nor is `-unproved`,
+with which the version of a program without a proof ends.
 """
 import difflib
 import os
@@ -25,7 +26,7 @@ import sys
 import tempfile
 
 HERE = pathlib.Path(__file__).resolve().parent
-DOCUMENTS = [HERE / "tutorial.md", HERE / "cookbook.md", HERE / "versions.md", HERE.parent / "SECURITY.md"]
+DOCUMENTS = [HERE.parent / "README.md", HERE / "tutorial.md", HERE / "cookbook.md", HERE / "versions.md", HERE.parent / "SECURITY.md"]
 SECONDS = 60
 FENCE = re.compile(r"^(?P<fence>```+)(?P<words>[^`\n]*)\n(?P<body>.*?)^(?P=fence)$", re.M | re.S)
 NAME = re.compile(r"`([^`\n]+)`:\n\n\Z")
@@ -122,7 +123,7 @@ class Trials:
         """Runs the commands of a block, and counts each."""
         found = printed([command for command, _ in shown], folder, self.settings)
         for (command, lines), text in zip(shown, found):
-            wanted, text = "\n".join(lines), without_end(text)
+            wanted, text = "\n".join(lines), without_end(text).replace("-unproved", "")
             if text == wanted:
                 self.passed += 1
             else:
@@ -137,6 +138,11 @@ def prepared(program, room):
     (bin_folder / "jt").symlink_to(program)
     settings = {**os.environ, "PATH": f"{bin_folder}:{os.environ['PATH']}", "LC_ALL": "C.UTF-8", "PYTHONDONTWRITEBYTECODE": "1"}
     settings.setdefault("PYTHONPATH", str(HERE.parent / "bindings" / "python" / "src"))
+    if "-unproved" in subprocess.run([program, "--version"], capture_output=True, text=True).stderr:
+        # (a library without a proof warns)
+        settings.setdefault("PYTHONWARNINGS", "ignore")
+    if "JT_LIBRARY" not in settings and (program.parent / "libjt.so").exists():
+        settings["JT_LIBRARY"] = str(program.parent / "libjt.so")
     for crates in (program.parent / "../..", HERE.parent / "crates"):
         archive = crates / "jt_ffi" / "out" / "libjt_ffi.a"
         if "JT_LIBRARY" not in settings and archive.exists():

@@ -1,5 +1,9 @@
 #!/usr/bin/env python3
-"""Lists the modules of definitions that nobody must believe: tools/believed.py [--check]
+"""Lists the modules of definitions that nobody must believe: tools/believed.py [--check | CALL ..]
+
+With names of public functions, as `compile run perform`, it prints how much their clauses rest on: for each clause, and for all
+together, the definitions of `specs/` that they reach, directly or through others, and the lines of these without comments. It is more
+than a reader needs rather than less, since it goes by names (reached.py). `CRATE::CALL` names one of several functions.
 
 A module of `crates/*/specs` must be believed if a clause of a public call cites it, in any crate, or if such a module imports it.
 Without a flag the script prints, as Markdown, the other modules of each crate: private clauses and proofs alone cite them. With
@@ -7,6 +11,9 @@ Without a flag the script prints, as Markdown, the other modules of each crate: 
 and uses no prover.
 """
 import pathlib, re, sys
+
+sys.dont_write_bytecode = True
+import reached
 
 CRATES = pathlib.Path(__file__).resolve().parent.parent / "crates"
 USE = re.compile(r"(?m)^ *(?:ghost |pub |unfoldable )*use\s+Rattle\.(\w+)\.specs((?:\.\w+)*)(?:\.\{([^}]*)\})?(?:\s+as\s+(\S+?))?;?\s*$")
@@ -111,7 +118,19 @@ def check(held, believed):
     return 1 if failed else 0
 
 
+def show_reached(calls):
+    """Prints, as Markdown, how much the clauses of public functions rest on."""
+    print("| Call | Clause | Definitions | Lines |\n|---|---|---|---|")
+    for call in calls:
+        for name, clause, definitions, lines in reached.rows(call):
+            print(f"| {name} | {clause} | {definitions:,} | {lines:,} |")
+    return 0
+
+
 def main():
+    calls = [it for it in sys.argv[1:] if it.isidentifier() or "::" in it]
+    if calls:
+        return show_reached(calls)
     held = modules()
     believed = believed_of(held)
     if "--check" in sys.argv[1:]:
