@@ -57,9 +57,8 @@ SPLIT = re.compile(r"\\\n\s*")
 VERSIONS = {
     "crates/jt_version/src/lib.rt": r'VERSION: &str = "([^"]*)"',
     "bindings/c/jt.h": r'#define JT_VERSION "([^"]*)"',
-    "bindings/python/jt/__init__.py": r'__version__ = "([^"]*)"',
-    "bindings/rust/Cargo.toml": r'version = "([^"]*)"',
-    "bindings/rust/Cargo.lock": r'name = "jt"\nversion = "([^"]*)"',
+    "bindings/python/src/jt/__init__.py": r'__version__ = "([^"]*)"',
+    "bindings/rust/Cargo.toml": r'(?m)^version = "([^"]*)"',
 }
 # the kit's types with calls that documents name
 KIT = {"Rc", "Vec", "String", "Write"}

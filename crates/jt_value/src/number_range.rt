@@ -17,14 +17,14 @@ pub struct NumberRange {
 }
 
 impl NumberRange {
-    ghost use Rattle.std.specs.Prelude.{◌≡◌, ◌≢◌, ◌↔◌, ℕ, not, eqb, pos, IfOk, IfSome, IfNone, IsNone};
-    ghost use Rattle.std.specs.Prelude.{option_map};
+    ghost use Rattle.std.specs.Prelude.{◌≡◌, ◌≢◌, ◌↔◌, ℕ, not, eqb, pos, IfOk, IfSome, IfNone};
+    ghost use Rattle.std.specs.Prelude.{IsNone, option_map};
     ghost use Rattle.jt_value.specs.ListItems.{numbers_of, items_count, item_at};
     ghost use Rattle.jt_value.specs.Numbers.{stepped, range_count};
     ghost use Rattle.jt_value.specs.Tree.{number, item, no_items};
     ghost use Rattle.jt_value.specs.View.{items_view};
 
-    /// Returns the numbers from `start` by `step` that lie before `stop`, or `None` if the step is 0.
+    /// Returns the numbers from `start` by `step` before `stop`, or `None` if the step is 0.
     pub fn new(start: i64, stop: i64, step: i64) -> Option<NumberRange>
         ensures some { IfSome result
             (λ numbers. numbers_of numbers ≡ stepped (range_count start stop step) start step) }
