@@ -58,7 +58,7 @@ VERSIONS = {
     "crates/jt_version/src/lib.rt": r'VERSION: &str = "([^"]*)"',
     "bindings/c/jt.h": r'#define JT_VERSION "([^"]*)"',
     "bindings/python/src/jt/__init__.py": r'__version__ = "([^"]*)"',
-    "bindings/rust/Cargo.toml": r'\nversion = "([^"]*)"',
+    "bindings/rust/Cargo.toml": r'version = "([^"]*)"',
 }
 # the kit's types with calls that documents name
 KIT = {"Rc", "Vec", "String", "Write"}
