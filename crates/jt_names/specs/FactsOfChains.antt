@@ -11,7 +11,7 @@ use Rattle.jt_chains.specs.declared.chain.Chain.{Chain}
 use Rattle.jt_names.specs.FactsOfTemplates.{AreKnown}
 use Rattle.jt_names.specs.Names.{value_in, AreIndices}
 use Rattle.jt_names.specs.declared.facts.NamespaceFacts.{NamespaceFacts}
-use Rattle.jt_names.specs.declared.facts.ChainFacts.{ChainFacts}
+use Rattle.jt_names.specs.declared.templates.TemplateFacts.{TemplateFacts}
 
 -- The facts are those of the chain or library at an index.
 pub record IsKnown (c : Chain) (i : ℕ) (f : NamespaceFacts) : Type 0 where
@@ -35,7 +35,7 @@ abbrev pub EachKnown : Chain → List NamespaceFacts → Type 0
 EachKnown c fs = (i : ℕ) (f : NamespaceFacts) → i < length fs → f ≡ get_or fs i f → IsKnown c i f
 
 -- The facts are those of the chain's templates, and of all chains and libraries that it reaches.
-pub record AllKnown (facts : ChainFacts) : Type 0 where
-  pub templates : AreKnown facts.chain.now facts.templates.items
-  pub all : length facts.namespaces.items ≡ length facts.chain.now.namespaces.items
-  pub each : EachKnown facts.chain.now facts.namespaces.items
+pub record AllKnown (c : Chain) (ts : List TemplateFacts) (fs : List NamespaceFacts) : Type 0 where
+  pub templates : AreKnown c ts
+  pub all : length fs ≡ length c.namespaces.items
+  pub each : EachKnown c fs

@@ -1,1 +1,3 @@
 pub mod UsedNames
+pub mod FactsAreProps
+pub mod TreeCode

@@ -2,7 +2,7 @@
 
 ghost use Rattle.std.specs.Prelude.{◌≡◌, ◌<◌, length, IfOk};
 ghost use Rattle.jt_names.specs.FactsOfTemplates.{AreKnown};
-ghost use Rattle.jt_names.specs.FactsOfChains.{AllKnown, IsKnown, EachKnown};
+ghost use Rattle.jt_names.specs.FactsOfChains.{IsKnown, EachKnown};
 
 use crate::facts::{ChainFacts, NamespaceFacts};
 use crate::index::{definitions_of, first_bodies};
@@ -15,7 +15,6 @@ use std::collections::BTreeSet;
 
 /// Returns what is known of a chain and of all that it reaches.
 pub fn facts_of(alloc: Global, chain: &Chain) -> Result<ChainFacts<'_>, AllocError>
-    ensures known { IfOk result (λ facts. AllKnown facts) }
     ensures chain { IfOk result (λ facts. facts.chain.now ≡ chain.now) }
 {
     let templates = facts_of_templates(alloc, chain)?;

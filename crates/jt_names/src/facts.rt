@@ -10,7 +10,8 @@ ghost use Rattle.jt_chains.specs.Uses.{own_names};
 ghost use Rattle.jt_chains.specs.View.{its_sources, its_templates};
 ghost use Rattle.jt_uses.specs.Uses.{body_uses, outside};
 ghost use Rattle.jt_uses.specs.UseView.{sites_view};
-ghost use Rattle.jt_names.specs.FactsOfChains.{AllKnown, IsKnown};
+ghost use Rattle.jt_names.specs.FactsOfChains.{AllKnown};
+ghost use Rattle.jt_names.specs.internal.FactsAreProps.{is_prop};
 
 use crate::index::NameIndex;
 use crate::templates::TemplateFacts;
@@ -39,7 +40,8 @@ pub struct NamespaceFacts<'a> {
     pub includes: Vec<&'a str>,
 }
 
-/// What is known of a chain and of all that it reaches.
+/// What is known of a chain and of all that it reaches. The type itself keeps that the facts are
+/// those of the chain.
 #[derive(Drop)]
 pub struct ChainFacts<'a> {
     pub chain: &'a Chain,
@@ -47,22 +49,13 @@ pub struct ChainFacts<'a> {
     pub templates: Vec<TemplateFacts<'a>>,
     /// The facts of each chain and library, by its index.
     pub namespaces: Vec<NamespaceFacts<'a>>,
+    pub ghost known: { AllKnown chain.now templates.items namespaces.items } by { is_prop _ _ _ },
 }
 
 impl<'a> ChainFacts<'a> {
-    /// Returns the facts of the chain or library at index `namespace`.
-    pub fn at(&self, namespace: usize) -> &NamespaceFacts<'a>
-        requires known { AllKnown self.now }
-        requires stands { namespace < length self.now.chain.now.namespaces.items }
-        ensures { IsKnown self.now.chain.now namespace result.now }
-    {
-        &self.namespaces[namespace]
-    }
-
     /// Returns the uses of the template at `index`.
     pub fn uses_at(&self, index: usize) -> &[UseSite<'a>]
-        requires known { AllKnown self.now }
-        requires stands { index < length self.now.chain.now.templates.items }
+        requires { index < length self.now.chain.now.templates.items }
         ensures { sites_view result.now
             ≡ body_uses (body_at (its_templates self.now.chain.now) index) outside }
     {
@@ -71,8 +64,7 @@ impl<'a> ChainFacts<'a> {
 
     /// Returns the bodies of the blocks of the template at `index`.
     pub fn blocks_at(&self, index: usize) -> &[Block<'a>]
-        requires known { AllKnown self.now }
-        requires stands { index < length self.now.chain.now.templates.items }
+        requires { index < length self.now.chain.now.templates.items }
         ensures { blocks_view (its_templates self.now.chain.now) result.now
             ≡ blocks_in (name_at (its_templates self.now.chain.now) index)
             (body_at (its_templates self.now.chain.now) index) self.now.chain.now.autoescape }
@@ -83,7 +75,6 @@ impl<'a> ChainFacts<'a> {
     /// Returns the number of different names that a library reads or binds, or 0 if there is no
     /// library of this name.
     pub fn count_in_library(&self, library: &str) -> usize
-        requires { AllKnown self.now }
         ensures { result ≡ length
             (ascending (own_names (its_sources self.now.chain.now) (a_library library.now))) }
     {

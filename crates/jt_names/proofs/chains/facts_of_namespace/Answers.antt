@@ -52,7 +52,7 @@ returns c =
     let ended = c.loop-index-test.false in
     let macros = simp (drop_all, append-nil) at l.all_macros in
     let blocks = simp (drop_all, append-nil) at l.all_blocks in
-    let defined = rw (c.deref-2.ensures.value, macros) at c.in_ok-defined.ensures in
+    let defined = rw (c.deref-2.ensures.value, macros) at (c.in_ok-defined.ensures.there c.requires.stands) in
     record {
       names = ap texts c.in_ok-list_of.ensures ∙ (simp drop_all at l.all_names);
       scope_names = ap texts c.in_ok-list_of-2.ensures ∙ (simp drop_all at l.in_scopes);

@@ -18,7 +18,7 @@ index-requires c = grind (arith, length-map, tests)
 pub returns-in-Some : goal.returns-in-Some
 returns-in-Some c =
     let counted = library_counted (its_templates c.args.self.now.chain.now) _ _ c.file_named-index.ensures in
-    let facts = c.requires.templates.each c.file_named-index.result c.index.result.now
+    let facts = c.args.self.now.known.templates.each c.file_named-index.result c.index.result.now
     (grind (arith, length-map, tests)) c.index.ensures in
     let names = facts.names in
     grind (arith, length-map, tests, file_at)
