@@ -6,7 +6,6 @@ ghost use Rattle.jt_chains.specs.View.{chain_view};
 ghost use Rattle.jt_rules.specs.CompileEnv.{cenv_of};
 ghost use Rattle.jt_semantics.specs.Programs.{program};
 ghost use Rattle.jt_ir.specs.View.{program_of};
-ghost use Rattle.jt_names.specs.FactsOfChains.{AllKnown};
 
 use crate::namespaces::resolve_namespaces;
 use crate::program_names::{count_globals, entry_names, template_names};
@@ -24,7 +23,6 @@ use std::alloc::Global;
 /// `NoMemory` if a growth is refused or a number overflows.
 #[tactic(auto, using(crate::proofs::program_is))]
 pub fn resolved(alloc: Global, facts: &ChainFacts<'_>) -> Result<Program, NoMemory>
-    requires { AllKnown facts.now }
     ensures { IfOk result (λ made. program_of made
         ≡ program (cenv_of (chain_view facts.now.chain.now)) (chain_view facts.now.chain.now).order
         (namespace_at (chain_view facts.now.chain.now).order 0)) }

@@ -1,6 +1,5 @@
 //! Holds the layouts of the chains and libraries.
 
-ghost use Rattle.jt_names.specs.FactsOfChains.{AllKnown};
 ghost use Rattle.jt_layout.specs.NamespaceLayout.{IsNamespaceAt};
 ghost use Rattle.std.specs.Prelude.{◌<◌, ◌≡◌};
 ghost use Rattle.jt_bind.specs.internal.{is_none, IfOk, length, AreTables, IsTable, cenv_in};
@@ -38,7 +37,6 @@ impl<'f, 'a> Model for Tables<'f, 'a> {
 impl<'f, 'a> Tables<'f, 'a> {
     /// Lays out the chains and libraries, and selects the entry's chain.
     pub(crate) fn new(alloc: Global, facts: &'f ChainFacts<'a>) -> Result<Self>
-        requires { AllKnown facts.now }
         ensures chain { IfOk result (λ t. t.chain.now ≡ facts.now.chain.now) }
         ensures first { IfOk result (λ t. t.namespace ≡ 0) }
     {

@@ -6,7 +6,7 @@ ghost use Rattle.jt_chains.specs.Chain as chain;
 ghost use Rattle.jt_chains.specs.Chain.{callee, named_alone, named_in};
 ghost use Rattle.jt_checks.specs.internal.RuleTests as rules;
 ghost use Rattle.jt_checks.specs.internal.ScopeView.{its_sources, its_given, given_in, in_scope};
-ghost use Rattle.jt_checks.specs.internal.ScopeView.{HasFacts, Means};
+ghost use Rattle.jt_checks.specs.internal.ScopeView.{Means};
 
 use crate::arguments::{fits, unless};
 use crate::scope::Scope;
@@ -35,7 +35,6 @@ pub(crate) enum Callee<'a> {
 
 /// Returns what a bare name means.
 fn callee_alone<'a>(scope: &Scope<'_, 'a>, name: &'a str) -> Callee<'a>
-    requires { HasFacts scope.now }
     ensures { Means result (named_alone (its_sources scope.now) (given_in scope.now name.now)
         name.now) }
 {
@@ -54,7 +53,6 @@ fn callee_alone<'a>(scope: &Scope<'_, 'a>, name: &'a str) -> Callee<'a>
 
 /// Returns what the field of a name means: `self.b`, `loop.cycle`, or a macro of a library.
 fn callee_of_field<'a>(scope: &Scope<'_, 'a>, of: &str, field: &'a str) -> Callee<'a>
-    requires { HasFacts scope.now }
     ensures { Means result (named_in (its_sources scope.now) (given_in scope.now of.now) of.now
         field.now) }
 {
@@ -75,7 +73,6 @@ fn callee_of_field<'a>(scope: &Scope<'_, 'a>, of: &str, field: &'a str) -> Calle
 
 /// Returns what a callee names.
 pub(crate) fn callee_of<'a>(scope: &Scope<'_, 'a>, called: &'a Expr) -> Callee<'a>
-    requires { HasFacts scope.now }
     ensures { Means result (callee (its_sources scope.now) (its_given scope.now)
         (expr_view called.now)) }
 {
@@ -98,7 +95,6 @@ pub(crate) fn call_broken(
     row: &[Expr],
     pairs: &[(String, Expr)],
 ) -> Result<Option<ScopeError>, AllocError>
-    requires { HasFacts scope.now }
     ensures { IfOk result (λ o. (c : chain.Callee) → Means called.entry c → o
         ≡ in_scope rules.call_broken scope.now c around (exprs_view row.now)
         (pairs_view pairs.now)) }

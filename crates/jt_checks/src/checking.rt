@@ -9,10 +9,9 @@ ghost use Rattle.jt_rules.specs.Rules.{KeepsRules, Breaks, libraries_counted};
 ghost use Rattle.jt_rules.specs.Rules.{max_names, names_counted};
 ghost use Rattle.jt_checks.specs.Findings.{Holds};
 ghost use Rattle.jt_checks.specs.FindingView.{finding_view};
-ghost use Rattle.jt_checks.specs.internal.ScopeView.{HasFacts, capped, cenv_in, in_scope};
+ghost use Rattle.jt_checks.specs.internal.ScopeView.{capped, cenv_in, in_scope};
 ghost use Rattle.jt_checks.specs.internal.ScopeView.{its_chain, names_of};
 ghost use Rattle.jt_checks.specs.internal.RuleTests as rules;
-ghost use Rattle.jt_names.specs.FactsOfChains.{AllKnown};
 ghost use Rattle.jt_rules.specs.CompileEnv.{cenv_of};
 
 use crate::finding::{Finding, Subject};
@@ -35,7 +34,6 @@ const MAX_NAMES: usize = 65_535;
 /// - A rule that the chains break.
 /// - `NoMemory` if a growth is refused.
 pub fn check_rules(alloc: Global, facts: &ChainFacts<'_>) -> Result<(), ScopeError>
-    requires { AllKnown facts.now }
     ensures kept { OnOk result
         (KeepsRules (cenv_of (chain_view facts.now.chain.now))
         (chain_view facts.now.chain.now).order) }
@@ -55,7 +53,6 @@ pub fn find_broken<'a>(
     alloc: Global,
     facts: &ChainFacts<'a>,
 ) -> Result<Option<Finding<'a>>, AllocError>
-    requires { AllKnown facts.now }
     ensures kept { IfOk result (λ o. IfNone o
         (KeepsRules (cenv_of (chain_view facts.now.chain.now))
         (chain_view facts.now.chain.now).order)) }
@@ -86,7 +83,6 @@ fn chains_broken<'a>(
     alloc: Global,
     facts: &ChainFacts<'a>,
 ) -> Result<Option<Finding<'a>>, AllocError>
-    requires { AllKnown facts.now }
     ensures { IfOk result (λ o. option_map finding_view o ≡ rules.chains_broken
         (cenv_in facts.now.chain.now) (chain_view facts.now.chain.now).order) }
 {
@@ -105,7 +101,6 @@ fn chains_broken<'a>(
 
 /// Returns the first finding in the templates of a chain.
 fn templates_broken<'a>(scope: &Scope<'_, 'a>) -> Result<Option<Finding<'a>>, AllocError>
-    requires { HasFacts scope.now }
     ensures { IfOk result
         (λ o. option_map finding_view o ≡ in_scope rules.chain_broken scope.now) }
 {
@@ -124,8 +119,7 @@ fn template_broken<'a>(
     scope: &Scope<'_, 'a>,
     index: usize,
 ) -> Result<Option<Finding<'a>>, AllocError>
-    requires scope { HasFacts scope.now }
-    requires within { index < length (its_chain scope.now).templates.items }
+    requires { index < length (its_chain scope.now).templates.items }
     ensures { IfOk result (λ o. option_map finding_view o ≡ in_scope rules.template_broken
         scope.now (rules.template_at (chain_view (its_chain scope.now)).templates index)) }
 {
@@ -149,7 +143,6 @@ fn template_broken<'a>(
 /// chain.
 #[tactic(auto, using(crate::proofs::names_left))]
 fn has_few_names(alloc: Global, facts: &ChainFacts<'_>) -> Result<bool, AllocError>
-    requires { AllKnown facts.now }
     ensures { IfOk result (λ b. b ≡ nat_le (names_counted (cenv_in facts.now.chain.now)
         (chain_view facts.now.chain.now).order) max_names) }
 {
@@ -172,7 +165,6 @@ fn has_few_names(alloc: Global, facts: &ChainFacts<'_>) -> Result<bool, AllocErr
 /// bind, at most the greatest `usize`. A library has none of its own: its names count in the chains
 /// that import it.
 fn count_names(scope: &Scope<'_, '_>) -> Result<usize, AllocError>
-    requires { HasFacts scope.now }
     ensures { IfOk result (λ n. n ≡ capped (in_scope names_of scope.now)) }
 {
     let chain = scope.facts.chain;

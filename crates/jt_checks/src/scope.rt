@@ -16,20 +16,19 @@ pub(crate) struct Scope<'f, 'a> {
 }
 
 impl<'f, 'a> Scope<'f, 'a> {
-    ghost use Rattle.jt_checks.specs.internal.ScopeView.{HasFacts, given_as, given_in, its_chain};
+    ghost use Rattle.jt_checks.specs.internal.ScopeView.{given_as, given_in, its_chain};
     ghost use Rattle.jt_names.specs.FactsOfChains.{IsKnown};
 
     /// Returns what is known of the chain or library.
+    #[tactic(auto, using(jt_names::proofs::FactsByIndex::known_at))]
     pub(crate) fn known(&self) -> &'f NamespaceFacts<'a>
-        requires { HasFacts self.now }
         ensures { IsKnown (its_chain self.now) self.now.namespace result.now }
     {
-        self.facts.at(self.namespace)
+        &self.facts.namespaces[self.namespace]
     }
 
     /// Returns the definition of the name, if it stands for a macro or a library.
     pub(crate) fn given(&self, name: &str) -> Option<Definition<'a>>
-        requires { HasFacts self.now }
         ensures { option_map (given_as self.now) result ≡ given_in self.now name.now }
     {
         self.known().given.get(name).copied()

@@ -6,7 +6,7 @@ ghost use Rattle.jt_ast.specs.StatementView.{parameters_view};
 ghost use Rattle.jt_checks.specs.FindingView.{finding_view};
 ghost use Rattle.jt_checks.specs.internal.RuleTests as rules;
 ghost use Rattle.jt_uses.specs.UseView.{site_view, sites_view};
-ghost use Rattle.jt_checks.specs.internal.ScopeView.{HasFacts, in_scope};
+ghost use Rattle.jt_checks.specs.internal.ScopeView.{in_scope};
 
 use crate::arguments::{any_repeated, filter_broken, test_broken, unless};
 use crate::calls::{call_broken, callee_of};
@@ -35,7 +35,6 @@ fn read_alone(name: &str) -> Option<ScopeError>
 
 /// Returns the rule that a name breaks when it is read as a value, or bound.
 fn used(scope: &Scope<'_, '_>, name: &str) -> Option<ScopeError>
-    requires { HasFacts scope.now }
     ensures { result ≡ in_scope rules.used scope.now name.now }
 {
     let is_macro = scope.given(name).is_some();
@@ -76,7 +75,6 @@ fn site_broken<'a>(
     scope: &Scope<'_, 'a>,
     site: &UseSite<'a>,
 ) -> Result<Option<ScopeError>, AllocError>
-    requires { HasFacts scope.now }
     ensures { IfOk result (λ o. o ≡ in_scope rules.use_broken scope.now
         (site_view site.now).made (site_view site.now).place.around) }
 {
@@ -126,7 +124,6 @@ fn site_finding<'a>(
     template: &'a str,
     site: &UseSite<'a>,
 ) -> Result<Option<Finding<'a>>, AllocError>
-    requires { HasFacts scope.now }
     ensures { IfOk result (λ o. option_map finding_view o
         ≡ in_scope rules.site_finding scope.now template.now (site_view site.now)) }
 {
@@ -150,7 +147,6 @@ pub(crate) fn uses_broken<'a>(
     template: &'a str,
     uses: &[UseSite<'a>],
 ) -> Result<Option<Finding<'a>>, AllocError>
-    requires { HasFacts scope.now }
     ensures { IfOk result (λ o. option_map finding_view o
         ≡ in_scope rules.uses_broken scope.now template.now (sites_view uses.now)) }
 {

@@ -52,6 +52,7 @@ rule_bare s escaping h error.BadName b = absurd b
 rule_bare s escaping h error.ExtendsCycle b = absurd b
 rule_bare s escaping h error.ChainTooLong b = absurd b
 rule_bare s escaping h error.NotALibrary b = absurd b
+rule_bare s escaping h error.IncludeCycle b = absurd b
 rule_bare s escaping h e b = refl
 
 -- A library lacks no macro that it imports, since it imports none.

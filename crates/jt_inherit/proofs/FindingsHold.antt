@@ -139,6 +139,7 @@ module _ {given : SourceTexts} {options : Options} {root : Text} {ts : List Temp
   fault_bare n error.ExtendsCycle f q = absurd f
   fault_bare n error.ChainTooLong f q = absurd f
   fault_bare n error.NotALibrary f q = absurd f
+  fault_bare n error.IncludeCycle f q = absurd f
   fault_bare n e f q = refl
 
   -- The place of the first use that passes a test is known if one passes.

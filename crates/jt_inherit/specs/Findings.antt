@@ -223,6 +223,7 @@ may_be_bare error.BadName = false
 may_be_bare error.ExtendsCycle = false
 may_be_bare error.ChainTooLong = false
 may_be_bare error.NotALibrary = false
+may_be_bare error.IncludeCycle = false
 may_be_bare e = true
 
 module _ (given : SourceTexts) (entry : Text) (options : Options) where

@@ -7,7 +7,6 @@ ghost use Rattle.jt_chains.specs.View.{its_sources, its_templates};
 ghost use Rattle.jt_inherit.specs.Findings.{uses_in};
 ghost use Rattle.jt_inherit.specs.internal.Breaking.{IsOfRule, IsTwiceIn, lacks};
 ghost use Rattle.jt_inherit.specs.internal.Tags.{IsLastCall, tag_view, tags_view, with_name};
-ghost use Rattle.jt_names.specs.FactsOfChains.{AllKnown};
 ghost use Rattle.jt_uses.specs.UseView.{sites_view};
 
 use crate::error::ChainError;
@@ -25,7 +24,6 @@ pub(crate) fn missing_finding(
     indices: &[usize],
     missing: MissingMacro<'_>,
 ) -> Result<ChainFinding, AllocError>
-    requires known { AllKnown facts.now }
     requires lacking { lacks (its_sources facts.now.chain.now) missing.library.now
         missing.name.now ≡ true }
     ensures { IfOk result (IsOfRule (its_sources facts.now.chain.now)
@@ -55,7 +53,6 @@ pub(crate) fn name_twice(
     indices: &[usize],
     name: &str,
 ) -> Result<ChainFinding, AllocError>
-    requires { AllKnown facts.now }
     ensures { IfOk result (IsOfRule (its_sources facts.now.chain.now)
         (templates_at (its_templates facts.now.chain.now) indices.now) ChainError.MacroTwice) }
 {
@@ -106,7 +103,6 @@ pub(crate) fn not_given(
     indices: &[usize],
     name: &str,
 ) -> Result<ChainFinding, AllocError>
-    requires { AllKnown facts.now }
     ensures { IfOk result (IsOfRule (its_sources facts.now.chain.now)
         (templates_at (its_templates facts.now.chain.now) indices.now)
         ChainError.RequiredNotGiven) }
@@ -157,7 +153,6 @@ pub(crate) fn no_super(
     indices: &[usize],
     name: &str,
 ) -> Result<ChainFinding, AllocError>
-    requires { AllKnown facts.now }
     ensures { IfOk result (IsOfRule (its_sources facts.now.chain.now)
         (templates_at (its_templates facts.now.chain.now) indices.now) ChainError.NoSuper) }
 {

@@ -19,8 +19,9 @@ use jt_names::facts_of;
 use jt_scan::Options;
 use std::alloc::Global;
 
-/// Returns the chain of the entry, read from the library. It has the templates up to the root, and
-/// the chains and libraries that their includes and imports reach.
+/// Returns the chain of the entry, for hosts and tests that want this layer alone: `compile` calls
+/// `link`, `facts_of` and `check_chains`. It has the templates up to the root, read from the
+/// library, and the chains and libraries that their includes and imports reach.
 ///
 /// # Errors
 ///

@@ -6,7 +6,6 @@ ghost use Rattle.std.specs.Option.{is_some};
 ghost use Rattle.jt_scan.specs.declared.options.Options.{Options};
 ghost use Rattle.jt_ast.specs.Texts.{repeated as texts_repeat, texts};
 ghost use Rattle.jt_ast.specs.Expressions.{Text};
-ghost use Rattle.jt_names.specs.FactsOfChains.{AllKnown};
 ghost use Rattle.jt_inherit.specs.Chains.{SourceTexts, IsChain};
 ghost use Rattle.jt_inherit.specs.Findings.{IsFinding};
 ghost use Rattle.jt_inherit.specs.Linked.{IsLinked};
@@ -66,12 +65,11 @@ fn repeated_block<'a>(alloc: Global, blocks: &[Block<'a>]) -> Result<Option<&'a 
 /// Returns the name of the first block of a chain or library whose nearest body is a required one,
 /// if any.
 fn lacking_body<'a>(facts: &ChainFacts<'a>, namespace: usize) -> Option<&'a str>
-    requires known { AllKnown facts.now }
     requires stands { namespace < length facts.now.chain.now.namespaces.items }
     ensures { is_some result ≡ lacks_body (all_bodies (its_sources facts.now.chain.now)
         facts.now.chain.now.autoescape (namespace_in facts.now.chain.now namespace)) }
 {
-    let known = facts.at(namespace);
+    let known = &facts.namespaces[namespace];
     for index in 0..known.blocks.len() {
         let block = &known.blocks[index];
         if block.required && known.first_bodies.index_of(block.name) == Some(index) {
@@ -108,7 +106,6 @@ fn double_block(
     facts: &ChainFacts<'_>,
     indices: &[usize],
 ) -> Result<Option<ChainFinding>, AllocError>
-    requires known { AllKnown facts.now }
     requires indices { AreIndices (its_templates facts.now.chain.now) indices.now }
     ensures { IfOk result (λ found. MatchOption found
         (spec.any_double facts.now.chain.now.autoescape
@@ -139,9 +136,8 @@ fn indices_of(chain: &Chain, namespace: usize) -> &[usize]
 
 /// Refuses a chain or library whose blocks, macros or imports break a rule, with the tag that
 /// breaks it.
-#[tactic(auto, using(crate::proofs::ChainsChecked::memory_broken, crate::proofs::ChainsChecked::rule_broken))]
+#[tactic(auto, using(crate::proofs::ChainsChecked::memory_broken, crate::proofs::ChainsChecked::rule_broken, jt_names::proofs::FactsByIndex::known_at))]
 fn check_rules(alloc: Global, facts: &ChainFacts<'_>, namespace: usize) -> Result<(), ChainFinding>
-    requires known { AllKnown facts.now }
     requires stands { namespace < length facts.now.chain.now.namespaces.items }
     ensures kept { OnOk result (KeepsAt facts.now.chain.now namespace) }
     ensures broken { IfErr result (BreaksAt facts.now.chain.now namespace) }
@@ -154,7 +150,7 @@ fn check_rules(alloc: Global, facts: &ChainFacts<'_>, namespace: usize) -> Resul
     if let Some(missing) = missing_at(chain, indices) {
         return Err(missing_finding(alloc, facts, indices, missing)?);
     }
-    let known = facts.at(namespace);
+    let known = &facts.namespaces[namespace];
     if let Some(name) = repeated_definition(alloc, &known.defined)? {
         return Err(name_twice(alloc, facts, indices, name)?);
     }
@@ -175,7 +171,6 @@ fn check_rules(alloc: Global, facts: &ChainFacts<'_>, namespace: usize) -> Resul
 /// - The finding of the rule that is broken.
 /// - That of `NoMemory` if a growth is refused.
 pub fn check_chains(alloc: Global, facts: &ChainFacts<'_>) -> Result<(), ChainFinding>
-    requires { AllKnown facts.now }
     // No rule of chains is broken.
     ensures kept { (given : SourceTexts) (entry : Text) (options : Options)
         → IsLinked given entry options (chain_view facts.now.chain.now)

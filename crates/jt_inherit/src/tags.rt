@@ -8,7 +8,6 @@ ghost use Rattle.jt_inherit.specs.Findings as findings;
 ghost use Rattle.jt_inherit.specs.Findings.{all_uses, uses_in};
 ghost use Rattle.jt_inherit.specs.internal.Tags.{test_of, tags, tags_view, tag_view, place_view};
 ghost use Rattle.jt_inherit.specs.internal.Tags.{AreFirst, place_in, with_name, place_of};
-ghost use Rattle.jt_names.specs.FactsOfChains.{AllKnown};
 ghost use Rattle.jt_uses.specs.UseView.{use_view, sites_view};
 
 use crate::finding::TagPlace;
@@ -146,7 +145,6 @@ pub(crate) fn tags_at<'a>(
     indices: &[usize],
     wanted: Wanted<'_>,
 ) -> Result<Vec<FoundTag<'a>>, AllocError>
-    requires { AllKnown facts.now }
     ensures { IfOk result (λ found. tags_view found.items ≡ tags (test_of wanted.entry)
         (all_uses (templates_at (its_templates facts.now.chain.now) indices.now))) }
 {

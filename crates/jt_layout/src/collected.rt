@@ -9,7 +9,6 @@ ghost use Rattle.jt_semantics.specs.Layout.{in_globals};
 ghost use Rattle.jt_chains.specs.View.{namespace_in};
 ghost use Rattle.jt_layout.specs.internal.Layouts.{AreNames, all_names, its_cenv, its_order};
 ghost use Rattle.jt_layout.specs.internal.Layouts.{names_at};
-ghost use Rattle.jt_names.specs.FactsOfChains.{AllKnown};
 ghost use Rattle.jt_names.specs.Names.{Puts};
 
 use jt_chains::Namespace;
@@ -65,7 +64,6 @@ fn names_of_chain<'a>(
     namespace: usize,
     behind: &CollectedNames<'a>,
 ) -> Result<Vec<&'a str>, AllocError>
-    requires known { AllKnown facts.now }
     requires stands { namespace < length facts.now.chain.now.namespaces.items }
     requires behind { AreNames facts.now.chain.now
         (drop (namespace + 1) (its_order facts.now.chain.now)) behind.now }
@@ -73,7 +71,7 @@ fn names_of_chain<'a>(
         (drop (namespace + 1) (its_order facts.now.chain.now))
         (namespace_in facts.now.chain.now namespace)) }
 {
-    let known = facts.at(namespace);
+    let known = &facts.namespaces[namespace];
     let mut names = BTreeSet::new(alloc);
     add_names(&mut names, &known.names)?;
     for chain in &known.includes {
@@ -88,7 +86,6 @@ pub(crate) fn gather<'a>(
     alloc: Global,
     facts: &ChainFacts<'a>,
 ) -> Result<CollectedNames<'a>, NoMemory>
-    requires { AllKnown facts.now }
     ensures { IfOk result (λ g. AreNames facts.now.chain.now (its_order facts.now.chain.now) g) }
 {
     let mut collected = BTreeMap::new(alloc);

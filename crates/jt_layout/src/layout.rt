@@ -4,7 +4,6 @@ ghost use Rattle.std.specs.Prelude.{◌≡◌, ◌<◌, ◌+◌, length, IfOk};
 ghost use Rattle.jt_ast.specs.Texts.{texts};
 ghost use Rattle.jt_layout.specs.internal.Layouts.{StandsAt, IsLaidAt, its_names};
 ghost use Rattle.jt_layout.specs.NamespaceLayout.{IsLaidOut};
-ghost use Rattle.jt_names.specs.FactsOfChains.{AllKnown};
 
 use crate::collected::{gather, take_names};
 use crate::count::checked_sum;
@@ -33,7 +32,6 @@ fn lay_chain<'f, 'a>(
     names: Vec<&'a str>,
     front: FirstFree,
 ) -> Result<(NamespaceLayout<'f, 'a>, FirstFree), NoMemory>
-    requires known { AllKnown facts.now }
     requires stands { namespace < length facts.now.chain.now.namespaces.items }
     requires named { texts names.items ≡ its_names facts.now.chain.now namespace }
     requires front { StandsAt facts.now.chain.now namespace front }
@@ -41,7 +39,7 @@ fn lay_chain<'f, 'a>(
     ensures behind { IfOk result (λ p. StandsAt facts.now.chain.now (namespace + 1) p.1) }
 {
     let itself = &facts.chain.namespaces[namespace];
-    let known = facts.at(namespace);
+    let known = &facts.namespaces[namespace];
     let slots = NameIndex::of(alloc, &names, front.slot)?;
     let macros = macro_names(alloc, &known.macros)?;
     let called = NameIndex::of(alloc, &macros, 0)?;
@@ -82,7 +80,6 @@ pub fn lay_out<'f, 'a>(
     alloc: Global,
     facts: &'f ChainFacts<'a>,
 ) -> Result<NamespaceTables<'f, 'a>, NoMemory>
-    requires { AllKnown facts.now }
     ensures namespace_layout { IfOk result (λ tables. IsLaidOut tables) }
     ensures chain { IfOk result (λ tables. tables.chain.now ≡ facts.now.chain.now) }
     ensures first { IfOk result (λ tables. tables.namespace ≡ 0) }

@@ -1,3 +1,1 @@
 pub mod UsedNames
-pub mod FactsAreProps
-pub mod TreeCode

@@ -11,7 +11,7 @@ ghost use Rattle.jt_chains.specs.View.{its_sources, its_templates};
 ghost use Rattle.jt_uses.specs.Uses.{body_uses, outside};
 ghost use Rattle.jt_uses.specs.UseView.{sites_view};
 ghost use Rattle.jt_names.specs.FactsOfChains.{AllKnown};
-ghost use Rattle.jt_names.specs.internal.FactsAreProps.{is_prop};
+ghost use Rattle.jt_names.specs.FactsAreProps.{is_prop};
 
 use crate::index::NameIndex;
 use crate::templates::TemplateFacts;

@@ -7,7 +7,6 @@ ghost use Rattle.jt_rules.specs.Rules.{KeepsRules, Breaks};
 ghost use Rattle.jt_rules.specs.CompileEnv.{cenv_of};
 ghost use Rattle.jt_semantics.specs.Programs.{program};
 ghost use Rattle.jt_ir.specs.View.{program_of};
-ghost use Rattle.jt_names.specs.FactsOfChains.{AllKnown};
 ghost use Rattle.jt_scopes.specs.Means.{Means};
 
 use jt_bind::resolved;
@@ -19,7 +18,8 @@ use jt_rules::ScopeError;
 use jt_semantics::program_laws;
 use std::alloc::Global;
 
-/// Returns the program of a chain that keeps the rules.
+/// Returns the program of a chain that keeps the rules, for hosts and tests that want this layer
+/// alone: `compile` calls `facts_of` and `resolve_facts`.
 ///
 /// # Errors
 ///
@@ -41,14 +41,13 @@ pub fn resolve(alloc: Global, chain: &Chain) -> Result<Program, ScopeError>
     resolve_facts(alloc, &facts)
 }
 
-/// Returns what `resolve` returns, for a chain whose facts are known.
+/// Returns the program of a chain that keeps the rules, from the facts of the chain.
 ///
 /// # Errors
 ///
 /// - The rule that the chain breaks.
 /// - `NoMemory` if a growth is refused or a number overflows.
 pub fn resolve_facts(alloc: Global, facts: &ChainFacts<'_>) -> Result<Program, ScopeError>
-    requires { AllKnown facts.now }
     ensures resolved { IfOk result (λ made. program_of made
         ≡ program (cenv_of (chain_view facts.now.chain.now)) (chain_view facts.now.chain.now).order
         (namespace_at (chain_view facts.now.chain.now).order 0)) }

@@ -10,7 +10,6 @@ use Rattle.jt_chains.specs.Uses.{own_names}
 use Rattle.jt_chains.specs.View.{chain_view, namespace_in}
 use Rattle.jt_chains.specs.declared.chain.Chain.{Chain}
 use Rattle.jt_chains.specs.declared.definitions.Definition as found
-use Rattle.jt_names.specs.FactsOfChains.{AllKnown}
 use Rattle.jt_rules.specs.CompileEnv.{CompileEnv, cenv_of}
 use Rattle.jt_rules.specs.Rules.{libraries_counted}
 use Rattle.jt_checks.specs.declared.scope.Scope.{Scope}
@@ -20,10 +19,6 @@ use Rattle.jt_checks.specs.declared.calls.Callee.TheVariants as v
 -- The chain of a scope.
 abbrev pub its_chain : Scope → Chain
 its_chain s = s.facts.now.chain.now
-
--- The facts of a scope are those of its chain.
-abbrev pub HasFacts : Scope → Type 0
-HasFacts s = AllKnown s.facts.now
 
 abbrev pub cenv_in : Chain → CompileEnv
 cenv_in c = cenv_of (chain_view c)

@@ -1,15 +1,20 @@
 use Rattle.jt_inherit.proofs.Vocabulary.{◌<◌, ◌≤◌, length, length-map, sym, ap, subst, ◌∙◌, arith, lacks_body}
 use Rattle.jt_inherit.proofs.Vocabulary.{blocks_view, block_view, take_all}
 use Rattle.jt_chains.specs.View.{its_templates}
+use Rattle.jt_names.proofs.FactsByIndex.{known_at}
 use Rattle.jt_names.specs.Names.{first_of}
 use Rattle.jt_inherit.proofs.BodyRules.{AreGiven, body_lacking, body_goes, all_given, names_of, index_is, index_not}
 use Rattle.jt_inherit.proofs.rules.lacking_body.Goals.{else-block-via-then-block+else-eq, else-block-via-else-block}
 use Rattle.jt_inherit.proofs.rules.lacking_body.Goals as goal
 
+pub index-known-requires : goal.index-known-requires
+index-known-requires c = omega (arith, c.requires.stands, c.args.facts.now.known.all)
+
 pub returns-then-eq : goal.returns-then-eq
 returns-then-eq c =
-    let known = c.at-known.ensures in
-    let bodies = c.at-known.result.now.blocks in
+    let known =
+    known_at c.args.facts.now c.args.namespace c.index-known.result.now c.requires.stands c.index-known.ensures in
+    let bodies = c.index-known.result.now.blocks in
     let x = c.index-block.result.now in
     let lt : c.loop-index.index < length bodies.items =
     omega (arith, c.loop-index-test.true, c.len-index-end.ensures, bodies.ok.0) in
@@ -21,8 +26,9 @@ returns-then-eq c =
 
 pub loop-index-preserved : goal.loop-index-preserved
 loop-index-preserved c =
-    let known = c.at-known.ensures in
-    let bodies = c.at-known.result.now.blocks in
+    let known =
+    known_at c.args.facts.now c.args.namespace c.index-known.result.now c.requires.stands c.index-known.ensures in
+    let bodies = c.index-known.result.now.blocks in
     let x = c.index-block.result.now in
     let lt : c.loop-index.index < length bodies.items =
     omega (arith, c.loop-index-test.true, c.len-index-end.ensures, bodies.ok.0) in
@@ -37,8 +43,9 @@ loop-index-preserved c =
 
 pub returns : goal.returns
 returns c =
-    let known = c.at-known.ensures in
-    let bodies = c.at-known.result.now.blocks in
+    let known =
+    known_at c.args.facts.now c.args.namespace c.index-known.result.now c.requires.stands c.index-known.ensures in
+    let bodies = c.index-known.result.now.blocks in
     let bs = blocks_view (its_templates c.args.facts.now.chain.now) bodies.items in
     let le : length bs ≤ c.loop-index.index =
     omega (

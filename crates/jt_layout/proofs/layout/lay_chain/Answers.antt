@@ -1,5 +1,6 @@
 use Rattle.jt_semantics.specs.Layout as layout
 use Rattle.jt_layout.proofs.layout.lay_chain.Goals as goal
+use Rattle.jt_names.proofs.FactsByIndex.{known_at}
 use Rattle.jt_layout.proofs.{macros, ap, length, sym, ◌+◌, ◌∙◌, ◌≡◌, all_bodies}
 use Rattle.jt_layout.proofs.{its_templates, arith, rules, length-map}
 use Rattle.jt_layout.proofs.{name_of_namespace, block_view, macro_view, namespace_in, nexts, its_cenv}
@@ -8,18 +9,21 @@ use Rattle.jt_layout.proofs.{chain_unit, first_here, entries, front_turn, is_cal
 use Rattle.jt_layout.proofs.{scoped_laid}
 use Rattle.jt_layout.proofs.{slot_here}
 
+pub index-known-requires : goal.index-known-requires
+index-known-requires c = omega (arith, c.requires.stands, c.args.facts.now.known.all)
+
 pub returns : goal.returns
 returns c =
     let a = c.args.facts.now.chain.now in
     let i = c.args.namespace in
     let f = c.args.front in
     let ts = its_templates a in
-    let known = c.at-known.result.now in
-    let facts = c.at-known.ensures in
+    let known = c.index-known.result.now in
     let W = its_cenv a in
     let O = its_order a in
     let h = namespace_in a i in
     let lt = c.requires.stands in
+    let facts = known_at c.args.facts.now i known lt c.index-known.ensures in
     let s = first_here a i lt f c.requires.front in
     let macro_count : length known.macros.items ≡ length (macros W.sources h) =
     omega (arith, length-map known.macros.items (macro_view ts), ap length facts.all_macros) in

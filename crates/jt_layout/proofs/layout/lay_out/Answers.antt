@@ -15,7 +15,6 @@ lay_chain-requires c =
     let k = c.index.result.now in
     let is = name_of_namespace a.namespaces.items l.namespace k lt c.index.ensures in
     record {
-      known = c.requires;
       stands = lt;
       named = c.take_names-names.ensures.taken
           ∙ names_handed (its_cenv a) (its_order a) k.is_library (string_bytes k.name) (namespace_in a l.namespace)

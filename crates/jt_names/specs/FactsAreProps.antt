@@ -2,7 +2,7 @@
 use Rattle.std.specs.Prelude.{ℕ, List}
 use Rattle.std.specs.Coded.{Coded, Coded-set, codes}
 use Rattle.jt_chains.specs.declared.chain.Chain.{Chain}
-use Rattle.jt_names.specs.internal.TreeCode as trees
+use Rattle.jt_names.specs.TreeCode as trees
 use Rattle.jt_uses.specs.Uses.{Site, Use}
 use Rattle.jt_names.specs.FactsOfChains.{AllKnown, IsKnown}
 use Rattle.jt_names.specs.FactsOfTemplates.{IsKnownTemplate}
