@@ -27,6 +27,7 @@ pub use Rattle.jt_image.specs.Spelling
 pub use Rattle.jt_image.specs.Typed
 pub use Rattle.jt_inherit.specs.Chains
 pub use Rattle.jt_inherit.specs.Small
+pub use Rattle.jt_machine.specs.Growing
 pub use Rattle.jt_machine.specs.View
 pub use Rattle.jt_value.specs.ContextView
 pub use Rattle.jt_value.specs.FaultText

@@ -118,7 +118,7 @@ impl fmt::Display for CallError {
 
 /// Writes the text of a refusal.
 fn write_reason<W: fmt::Write>(reason: Reason<'_>, f: &mut fmt::Formatter<W>) -> fmt::Result
-    ensures { DisplaysOnOk W.write_str_gives f.old result (Some (reason_text reason)) f.new }
+    ensures { DisplaysOnOk W.write_str_gives f.old result (Some (reason_text reason.entry)) f.new }
 {
     match reason {
         Reason::Name(name) => f.write_str(name),

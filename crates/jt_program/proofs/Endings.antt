@@ -111,6 +111,7 @@ pub usage_told : (e : Failure) (old new : Option (List ℕ)) (f : Bool) → code
     → ReportsFailure old new f e → ReportsUsage old new f
 usage_told (failure.Usage text) old new f two told says = (string_bytes text, told refl, says)
 usage_told failure.Words old new f two told says = absurd (told refl)
+usage_told (failure.Call call_error.NoMemory) old new f two told says = absurd (omega (arith, two))
 usage_told e old new f two told says = absurd (omega (arith, two))
 
 -- A command that writes an image has the name of one that does.

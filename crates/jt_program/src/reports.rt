@@ -109,7 +109,7 @@ fn report_line<E: Sink>(errors: &mut E, parts: &[&str])
 
 /// Writes the line of a refusal to `errors`.
 fn report_refusal<E: Sink>(errors: &mut E, reason: Reason<'_>)
-    ensures { TookUnlessFailed (refused_line (reason_text reason)) (E.taken errors.old)
+    ensures { TookUnlessFailed (refused_line (reason_text reason.entry)) (E.taken errors.old)
         (E.taken errors.new) (E.failed errors.new) }
 {
     match reason {
