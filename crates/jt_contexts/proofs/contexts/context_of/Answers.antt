@@ -12,7 +12,8 @@ use Rattle.jt_value.proofs.ContextLookup.{unless_failed}
 use Rattle.jt_contexts.proofs.contexts.context_of.Goals as goal
 
 pub loop-name-init : goal.loop-name-init
-loop-name-init c = (sym c.into_iter-name-iterator.ensures.into_iter_gives.0, ap (map Some) (sym c.in_ok-context.ensures.empty))
+loop-name-init c =
+    (sym c.into_iter-name-iterator.ensures.into_iter_gives.0, ap (map Some) (sym c.in_ok-context.ensures.empty))
 
 pub returns-in_err-value-clause-err : goal.returns-in_err-value-clause-err
 returns-in_err-value-clause-err c =
