@@ -9,7 +9,6 @@ ghost use Rattle.jt_codegen.specs.internal.Asked.{Asked, IsChainOf, IsFaultOf, I
 ghost use Rattle.jt_codegen.specs.internal.Asked.{asked_of};
 ghost use Rattle.jt_codegen.specs.internal.ErrorsAlone.{StatesError};
 ghost use Rattle.jt_inherit.specs.Findings.{Says};
-ghost use Rattle.jt_names.specs.FactsOfChains.{AllKnown};
 
 use crate::compiling::compile_program;
 use crate::emission::EmitError;
@@ -95,7 +94,6 @@ fn explain_refused<L: Library>(
 ///
 /// `NoMemory` if a growth is refused.
 fn explain_facts(alloc: Global, facts: &ChainFacts<'_>) -> Result<Explained, NoMemory>
-    requires known { AllKnown facts.now }
     requires of { (asked : Asked) × IsChainOf asked (chain_view facts.now.chain.now) }
     ensures { (asked : Asked) → IsChainOf asked (chain_view facts.now.chain.now) → IfOk result
         (IsExplained asked.given asked.entry asked.options) }
@@ -112,7 +110,6 @@ fn explain_facts(alloc: Global, facts: &ChainFacts<'_>) -> Result<Explained, NoM
 ///
 /// `NoMemory` if a growth is refused.
 fn explain_image(alloc: Global, facts: &ChainFacts<'_>) -> Result<Explained, NoMemory>
-    requires known { AllKnown facts.now }
     requires of { (asked : Asked) × IsChainOf asked (chain_view facts.now.chain.now) }
     requires kept { KeepsRules (cenv_of (chain_view facts.now.chain.now))
         (chain_view facts.now.chain.now).order }

@@ -4,7 +4,6 @@ ghost use Rattle.std.specs.Prelude.{IfOk, IfErr};
 ghost use Rattle.jt_chains.specs.View.{chain_view};
 ghost use Rattle.jt_codegen.specs.internal.Asked.{Asked, IsChainOf, IsFaultOf, IsLinkedOf};
 ghost use Rattle.jt_codegen.specs.internal.Asked.{asked_of};
-ghost use Rattle.jt_names.specs.FactsOfChains.{AllKnown};
 
 use jt_chains::Chain;
 use jt_inherit::{ChainFinding, Library, check_chains, link};
@@ -37,7 +36,6 @@ pub(crate) fn linked_chain<L: Library>(
 ///
 /// The finding of a broken rule, or that of `NoMemory`.
 pub(crate) fn checked_facts(alloc: Global, chain: &Chain) -> Result<ChainFacts<'_>, ChainFinding>
-    ensures known { IfOk result (λ facts. AllKnown facts) }
     ensures kept { (asked : Asked) → IsLinkedOf asked (chain_view chain.now) → IfOk result
         (λ facts. IsChainOf asked (chain_view facts.chain.now)) }
     ensures refused { (asked : Asked) → IsLinkedOf asked (chain_view chain.now)

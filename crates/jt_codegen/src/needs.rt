@@ -9,7 +9,6 @@ ghost use Rattle.jt_chains.specs.View.{chain_view, its_sources, its_templates};
 ghost use Rattle.jt_codegen.specs.Needs.{AreNeeds, missing_in, texts_in};
 ghost use Rattle.jt_codegen.specs.Refusals.{Breaks, NamesLimit};
 ghost use Rattle.jt_inherit.specs.Small.{IsSmall};
-ghost use Rattle.jt_names.specs.FactsOfChains.{AllKnown};
 
 use crate::compiling::compile_program;
 use crate::error::CompileError;
@@ -84,7 +83,6 @@ pub fn find_needs<L: Library>(
 
 /// Returns the templates that a chain requests, in ascending order.
 fn requested(alloc: Global, facts: &ChainFacts<'_>) -> Result<RequestedTemplates, AllocError>
-    requires { AllKnown facts.now }
     ensures found { IfOk result (λ r. texts_in r.found
         ≡ ascending (map (λ t. t.name) (its_templates facts.now.chain.now))) }
     ensures missing { IfOk result (λ r. texts_in r.missing
@@ -131,13 +129,13 @@ fn template_names(alloc: Global, files: &[TemplateFile]) -> Result<Vec<&str>, Al
 
 /// Returns the names of the included templates that do not exist, once for each tag.
 fn missing_names<'a>(alloc: Global, facts: &ChainFacts<'a>) -> Result<Vec<&'a str>, AllocError>
-    requires { AllKnown facts.now }
     ensures { IfOk result
         (λ names. texts names.items ≡ missing_in (chain_view facts.now.chain.now)) }
 {
     let mut found = Vec::new(alloc);
     for namespace in 0..facts.chain.namespaces.len() {
-        add_missing(&mut found, facts.chain, &facts.at(namespace).includes)?;
+        let known = &facts.namespaces[namespace];
+        add_missing(&mut found, facts.chain, &known.includes)?;
     }
     Ok(found)
 }
