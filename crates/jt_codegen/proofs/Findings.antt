@@ -120,22 +120,25 @@ rule_found given entry options c is found broken holds f b =
 
 -- ---- errors of chains
 
+-- The template and the line of a place.
+abbrev spot : TagPlace → Text × ℕ
+spot p = (string_bytes p.template, p.line)
+
 module _ (given : SourceTexts) (entry : Text) (options : Options) where
   -- An error that is said without a place and a subject, and is not that of a source, may be bare.
   bare : (e : ChainError) → is_none (lines.place e) ≡ true → (p : Option TagPlace)
       → Says given entry options p None e → IsTrue (may_be_bare e)
   bare e none None says = says
   bare e none (Some p) says =
-      let no : is_none (Some (string_bytes p.template, p.line)) ≡ true =
-      subst (λ (o : Option (Text × ℕ)). is_none o ≡ true) says none in
+      let no : is_none (Some (spot p)) ≡ true = subst (λ (o : Option (Text × ℕ)). is_none o ≡ true) says none in
       absurd (cc)
 
-  no_place : (place : Option TagPlace) → option_map (λ p. (string_bytes p.template, p.line)) place ≡ None → place ≡ None
+  no_place : (place : Option TagPlace) → option_map spot place ≡ None → place ≡ None
   no_place None e = refl
   no_place (Some p) e = absurd (cc)
 
   placed : (e : ChainError) (p : Option TagPlace) → Says given entry options p None e → (place : Option TagPlace)
-      (subject : Option Subject) → option_map (λ q. (string_bytes q.template, q.line)) place ≡ lines.place e
+      (subject : Option Subject) → option_map spot place ≡ lines.place e
       → IsUnknown given options e subject → IsChainPlace given entry options e place subject
   placed (chain_error.Scan name x) p says place subject at about =
       inl (record { source = refl; at = at; about = about })

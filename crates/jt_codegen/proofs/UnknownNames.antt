@@ -100,8 +100,8 @@ neither None p e = (refl, e)
 neither (Some x) p e = absurd (cc)
 
 both_not : (b : Bool) → b ≡ true → b ≡ false → ⊥
-both_not true yes no = absurd (cc)
-both_not false yes no = absurd (cc)
+both_not true h n = absurd (cc)
+both_not false h n = absurd (cc)
 
 no_argument : (wanted : Named) (role : Option ArgumentRole) (o : Option Text) (x : Text)
     → argument_name wanted role o ≡ None → o ≡ Some x → argument_unknown wanted role (Some x) ≡ true → ⊥
@@ -114,7 +114,9 @@ none_named : (wanted : Named) (filter : FilterId) (place : ℕ) (ts : Exprs) (x 
     → unknown_argument wanted filter place ts ≡ None → NamedIn wanted filter place ts x → ⊥
 none_named wanted filter place no_exprs x e n = n
 none_named wanted filter place (expr first rest) x e n =
-    by n (neither _ _ e) (none_named wanted filter (suc place) rest x)
+    by n
+    (neither (argument_name wanted (named_at filter place) (literal_text first))
+    (unknown_argument wanted filter (suc place) rest) e) (none_named wanted filter (suc place) rest x)
   where
     by : ((literal_text first ≡ Some x) × (argument_unknown wanted (named_at filter place) (Some x) ≡ true))
         ⊎ NamedIn wanted filter (suc place) rest x
@@ -134,9 +136,10 @@ none_among wanted (Some given) filter ts x e is n =
 none_used : (wanted : Named) (u : uses.Use) (x : Text) → unknown_in wanted u ≡ None → NamesUnknown wanted x u → ⊥
 none_used wanted (uses.filters y ts ps) x e (inl a) =
     both_not (unknown_filter wanted y) (ap (unknown_filter wanted) (sym a.0) ∙ a.1)
-    (not_given (unknown_filter wanted y) y _ e).0
+    (not_given (unknown_filter wanted y) y (unknown_among wanted (filter_written y ts ps) ts) e).0
 none_used wanted (uses.filters y ts ps) x e (inr a) =
-    none_among wanted (filter_written y ts ps) a.0 ts x (not_given (unknown_filter wanted y) y _ e).1 a.1 a.2
+    none_among wanted (filter_written y ts ps) a.0 ts x
+    (not_given (unknown_filter wanted y) y (unknown_among wanted (filter_written y ts ps) ts) e).1 a.1 a.2
 none_used wanted (uses.tests y ts ps) x e n =
     both_not (unknown_test wanted y) (ap (unknown_test wanted) (sym n.0) ∙ n.1)
     (not_given (unknown_test wanted y) y None e).0
