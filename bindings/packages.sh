@@ -61,8 +61,8 @@ has_its_tag() {
 # Takes the files of the crate out of the tree, where a toolchain may write its own Cargo.lock.
 copy_the_crate() { cp -rL "$here/rust" "$room/$1" && rm -f "$room/$1/Cargo.lock"; }
 
-# Runs a command of cargo, by its path and the name of a copy, in that copy.
-in_copy() { (cd "$room/$2" && CARGO_TARGET_DIR=$room/target-$2 "$1" "${@:3}"); }
+# Runs cargo in a copy.
+in_copy() { (cd "$room/$1" && CARGO_TARGET_DIR=$room/target-$1 cargo "${@:2}"); }
 
 # Makes the documentation as an index does it: without the library, and no warning is let pass.
 documents_the_crate() {
@@ -139,26 +139,26 @@ else
 fi
 if have cargo; then
     copy_the_crate newest
-    try 'cargo package' in_copy cargo newest package --quiet --allow-dirty "${features[@]}"
+    try 'cargo package' in_copy newest package --quiet --allow-dirty "${features[@]}"
     try 'the documentation without a library' documents_the_crate
     try 'the message without a library' names_what_is_missing x86_64 linux gnu unproved.py
     try 'the message for another target' names_what_is_missing aarch64 linux gnu 'not for aarch64'
     try 'the message for musl' names_what_is_missing x86_64 linux musl 'not for x86_64.*musl'
     if cargo fmt --version > "$room/said" 2>&1; then
-        try 'the style in Rust' in_copy cargo newest fmt --check
+        try 'the style in Rust' in_copy newest fmt --check
     else
         echo 'left out: cargo fmt is not installed'
     fi
     at=0
-    for cargo in $(type -ap cargo | xargs -n 1 realpath | sort -u); do
+    for folder in $(type -ap cargo | xargs -n 1 dirname | xargs realpath | awk '!seen[$0]++'); do
         at=$((at + 1))
-        if ! PATH=${cargo%/*}:$PATH "$cargo" clippy --version > "$room/said" 2>&1; then
-            echo "left out: clippy of $cargo is not installed"
-            continue
+        if PATH=$folder:$PATH cargo clippy --version > "$room/said" 2>&1; then
+            copy_the_crate "clippy-$at"
+            PATH=$folder:$PATH try "$(cat "$room/said")" in_copy "clippy-$at" clippy --quiet \
+                --all-targets "${features[@]}" -- -D warnings
+        else
+            echo "left out: clippy of $folder/cargo is not installed"
         fi
-        copy_the_crate "clippy-$at"
-        PATH=${cargo%/*}:$PATH try "clippy of $cargo" in_copy "$cargo" "clippy-$at" clippy --quiet \
-            --all-targets "${features[@]}" -- -D warnings
     done
 fi
 

@@ -107,7 +107,9 @@ export PYTHONDONTWRITEBYTECODE=1 JT_LIBRARY_DIR=${library%/*} CARGO_NET_OFFLINE=
 export CARGO_TARGET_DIR=$room/target CARGO_HOME=$room/home
 "$here/rust/offline.sh" "$room/home"
 features=()
-if ls -d /usr/share/cargo/registry/serde-1* > "$room/said" 2>&1; then features=(--features serde); fi
+if ls -d /usr/share/cargo/registry/serde-1* > "$room/said" 2>&1; then
+    features=(--features serde)
+fi
 
 try 'the library' test -f "$library"
 try 'C and the system' "$here/c/test.sh" "$library" "$program"
