@@ -1,6 +1,9 @@
 //! Counts the runs of the library, and limits its memory: a text is made once, however long it is,
 //! each call may be refused memory, and nothing is kept.
 
+// (Clippy of Rust 1.63 takes the values of thread-local statics for constants.)
+#![allow(clippy::declare_interior_mutable_const)]
+
 use crate::raw::{held, MemoryLimit};
 use crate::{Budget, Context, Error, Image, Options, Outcome, Templates};
 use std::cell::Cell;
