@@ -3,8 +3,9 @@
 #
 # Tries C and the system; a wheel in a fresh virtual environment; the packed crate with a fresh
 # CARGO_HOME, over the static library and over what is installed under a fresh prefix; examples/;
-# and the examples of the documents over the installed program and package. All is built in a
-# temporary folder, offline, with neither a network nor a package of Python but pip.
+# the examples of the documents over the installed program and package; and what indexes and
+# distributions check of the packages (packages.sh). All is built in a temporary folder, offline,
+# with neither a network nor a package of Python but pip.
 #
 # The library is that of the tree in which PROGRAM was built, or that of this tree, or the one that
 # JT_STATIC_LIBRARY names. If a tree has none, rt builds it. The last line is 'N passed, M failed'.
@@ -29,6 +30,7 @@ try() {
         passed=$((passed + 1 - status))
         failed=$((failed + status))
     fi
+    grep '^left out: ' "$room/said"
     if [ "$status" -ne 0 ]; then
         echo "$name: failed"
         tail -n 30 "$room/said"
@@ -95,7 +97,7 @@ over_the_prefix() {
 # Builds the crate with a folder that has no library: the message has the command that makes one.
 without_library() {
     ! JT_LIBRARY_DIR=$room packed build --quiet > "$room/message" 2>&1 &&
-        grep 'cd crates/jt_ffi && rt lib' "$room/message"
+        grep 'cd crates/jt_ffi && rt lib' "$room/message" && ! grep 'panicked' "$room/message"
 }
 
 library=${JT_STATIC_LIBRARY:-$(find_library)}
@@ -103,6 +105,11 @@ mkdir "$room/home"
 export JT_STATIC_LIBRARY=$library JT_LIBRARY=$room/libjt.so PYTHONPATH=$here/python/src
 export PYTHONDONTWRITEBYTECODE=1 JT_LIBRARY_DIR=${library%/*} CARGO_NET_OFFLINE=true
 export CARGO_TARGET_DIR=$room/target CARGO_HOME=$room/home
+"$here/rust/offline.sh" "$room/home"
+features=()
+if ls -d /usr/share/cargo/registry/serde-1* > "$room/said" 2>&1; then
+    features=(--features serde)
+fi
 
 try 'the library' test -f "$library"
 try 'C and the system' "$here/c/test.sh" "$library" "$program"
@@ -120,10 +127,12 @@ try 'examples/ in Python' installed_python "$here/python/examples.py" "$here/../
 try 'the documents' documents
 
 try 'the packed crate' pack
-try 'the tests in Rust' packed test --quiet
+try 'the tests in Rust' packed test --quiet "${features[@]}"
 try 'the example in Rust' writes "$here/rust/expected" packed run --quiet --example hello
 try 'the crate over the prefix' over_the_prefix
 try 'the crate without a library' without_library
+
+try 'the packages' env -u CARGO_TARGET_DIR "$here/packages.sh" "$program"
 
 echo "$passed passed, $failed failed"
 [ "$failed" -eq 0 ]

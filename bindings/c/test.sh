@@ -66,7 +66,9 @@ renders() {
 
 # Prints the calls that a file exports with their versions, and those that the header declares with
 # the version of the soname.
-exported() { nm -D --defined-only --with-symbol-versions "$1" | awk '$2 != "A" { print $3 }' | sort; }
+exported() {
+    nm -D --defined-only --with-symbol-versions "$1" | awk '$2 != "A" { print $3 }' | sort
+}
 declared() {
     "$cc" -E "$here/jt.h" | grep -o '\bjt_[a-z_]*(' | sort -u | sed "s/($/@@JT_${soname#*.so.}/"
 }
@@ -113,7 +115,7 @@ names_what_is_missing() {
         is_equal "$(ls "$room/nothing" 2> /dev/null)" ''
 }
 
-# Builds the example by the files that are installed beside it, and runs it: a tool and its commands.
+# Builds the example by a tool and the files that are installed beside it, and runs it.
 built_by() {
     local folder=$room/by-$1 program=$room/by-$1/build/example
     local -x PKG_CONFIG_PATH=$room/packed/usr/local/lib/pkgconfig
@@ -163,7 +165,8 @@ bash_completes() {
 
 bash_is_right() {
     local command
-    is_equal "$(bash_completes jt '')" "$({ commands; echo --help; echo --version; } | sort)" || return
+    is_equal "$(bash_completes jt '')" "$({ commands; echo --help; echo --version; } | sort)" ||
+        return
     for command in $(commands); do
         is_equal "$(bash_completes jt "$command" --)" "$(options "$command")" || return
     done

@@ -49,8 +49,8 @@ def build_sdist(sdist_directory, config_settings=None):
     project = _project()
     name = f"{project['name']}-{project['version']}"
     files = {f"src/jt/{file.name}": file for file in _modules()}
-    for own in ("README.md", "build_jt.py", "example.py", "expected", "pyproject.toml", "test_jt.py"):
-        files[own] = HERE / own
+    own = ("README.md", "build_jt.py", "example.py", "expected", "pyproject.toml", "test_jt.py")
+    files.update({path: HERE / path for path in own})
     for other in ("build.sh", "c/heap.c", "c/jt.h", "c/jt.map"):
         files[other] = BINDINGS / other
     files.update({licence: ROOT / licence for licence in project["license-files"]})
@@ -84,7 +84,7 @@ def _static_library():
     _check_platform()
     static = pathlib.Path(os.environ.get("JT_STATIC_LIBRARY") or BUILT)
     if not (BINDINGS / "build.sh").exists():
-        raise SystemExit(f"jt: no {BINDINGS}/build.sh: build in bindings/python of a checkout of jt")
+        raise SystemExit(f"jt: no {BINDINGS}/build.sh: build in bindings/python of a checkout")
     if not static.exists():
         raise SystemExit(
             f"jt: there is no static library {static}.\n"

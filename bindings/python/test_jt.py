@@ -44,8 +44,8 @@ def text(source, context=None, **more):
 class Held:
     """The bytes that the library holds for all threads together, since it was made.
 
-    The library counts each thread by itself, and again from 0 when a limit is set. So this adds what
-    a thread held before each limit, and what a thread held that has ended.
+    The library counts each thread by itself, and again from 0 when a limit is set. So this adds
+    what a thread held before each limit, and what a thread held that has ended.
     """
 
     now = None

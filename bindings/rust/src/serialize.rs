@@ -77,11 +77,11 @@ fn path<'a>(parts: impl ExactSizeIterator<Item = &'a Part>) -> String {
     let (mut path, count) = (String::new(), parts.len());
     for part in parts.take(MOST_PARTS) {
         match part {
-            Part::Index(at) => path += &format!("[{at}]"),
+            Part::Index(at) => path.extend(["[", &at.to_string(), "]"]),
             Part::Key(key) => match word_of(key) {
                 Some(word) if path.is_empty() => path += word,
-                Some(word) => path += &format!(".{word}"),
-                None => path += &format!("[{key}]"),
+                Some(word) => path.extend([".", word]),
+                None => path.extend(["[", key, "]"]),
             },
         }
     }
@@ -108,7 +108,7 @@ fn quoted(text: &str) -> String {
     for letter in text.chars() {
         match letter {
             '"' | '\\' => json.extend(['\\', letter]),
-            '\0'..='\x1f' => json += &format!("\\u{:04x}", u32::from(letter)),
+            '\0'..='\x1f' => json.extend(["\\u", &format!("{:04x}", u32::from(letter))]),
             _ => json.push(letter),
         }
     }
@@ -127,7 +127,7 @@ impl Writer {
     fn open(&mut self, variant: Option<&'static str>, is_list: bool) -> Result<Parts<'_>, Unfit> {
         if let Some(variant) = variant {
             self.deepen()?;
-            self.json += &format!("{{{}:", quoted(variant));
+            self.json.extend(["{", &quoted(variant), ":"]);
         }
         self.deepen()?;
         self.json.push(if is_list { '[' } else { '{' });

@@ -1,6 +1,9 @@
 //! Counts the runs of the library, and limits its memory: a text is made once, however long it is,
 //! each call may be refused memory, and nothing is kept.
 
+// (Clippy of Rust 1.63 takes the values of thread-local statics for constants.)
+#![allow(clippy::declare_interior_mutable_const)]
+
 use crate::raw::{held, MemoryLimit};
 use crate::{Budget, Context, Error, Image, Options, Outcome, Templates};
 use std::cell::Cell;
@@ -55,8 +58,8 @@ fn an_image_of_any_length_is_made_by_one_compilation() {
     assert_eq!(held(), 0);
 }
 
-/// Makes a call under each limit of memory, in steps of the smallest block, until it is not refused.
-/// Each refusal is `NoMemory`, and keeps nothing.
+/// Makes a call under each limit of memory, in steps of 16 bytes, until it is not refused. Each
+/// refusal is `NoMemory`, and keeps nothing.
 fn make_under_each_limit<T>(call: impl Fn() -> Result<T, Error>) {
     for (refused, memory) in (0..).step_by(16).enumerate() {
         let limit = MemoryLimit::new(memory);

@@ -348,18 +348,16 @@ fn threads_share_an_image() {
 #[test]
 fn an_image_goes_to_another_thread() {
     let image = template(LIST).compile().unwrap();
-    let clones: Vec<_> = (0..4).map(|_| image.try_clone().unwrap()).collect();
-    let threads = clones.into_iter().map(|image| {
+    let clones = [(); 4].map(|()| image.try_clone().unwrap());
+    let threads = clones.map(|image| {
         thread::spawn(move || {
             runs_of(&image);
             drop(image);
             held()
         })
     });
-    let threads: Vec<_> = threads.collect();
     drop(image);
-    let ended = threads.into_iter().map(|thread| thread.join().unwrap());
-    let mut all: i64 = ended.sum();
+    let mut all: i64 = threads.map(|thread| thread.join().unwrap()).iter().sum();
     let thread = thread::spawn(|| {
         let made = template(LIST).compile().unwrap();
         (made, held())

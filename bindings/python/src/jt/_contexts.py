@@ -21,9 +21,9 @@ class Context(Closing):
     """What a template is rendered for: a mapping, or the JSON of an object as `str` or `bytes`.
 
     It is read here, once for each thread that uses it, and can be used for many runs and images.
-    Values are texts, whole numbers of 64 bits, truth values, `None`, lists, tuples and mappings. For
-    each other value of a mapping, a float, a date or a larger number for example, `default` returns
-    what stands in its place, as in `json.dumps`:
+    Values are texts, whole numbers of 64 bits, truth values, `None`, lists, tuples and mappings.
+    For each other value of a mapping, a float, a date or a larger number for example, `default`
+    returns what stands in its place, as in `json.dumps`:
 
         Context({"price": Decimal("1.50"), "day": date.today()}, default=str)
 
