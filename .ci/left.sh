@@ -2,9 +2,9 @@
 # Sourced by bash in the top folder of the tree.
 # shellcheck shell=bash
 
-# The seconds of each crate's proof that is still to be made, and the numbers of crates and seconds.
+# The seconds of each crate's proof that is still to be made, the numbers of crates and seconds, and how many processors prove.
 declare -A seconds=()
-all=0 done=0 to_prove=0 proved_seconds=0
+all=0 done=0 to_prove=0 proved_seconds=0 lanes=1
 
 # Prints the names of all crates, or of a crate and those below it.
 names() {

@@ -2,7 +2,7 @@
 """Checks the documents against the tree: docs/check.py [PROGRAM]
 
 The gate passes a program, which this script does not need. The documents are README.md, CONTRIBUTING.md, CHANGELOG.md, SECURITY.md,
-tests/README.md and all of docs/. The script checks
+tests/README.md, examples/README.md and all of docs/. The script checks
 
     each link                      the file exists, and so does the heading if one is named
     each `crates/..`, `tests/..` and the like      the file or folder exists; a path with capitals or a * is a pattern
@@ -66,7 +66,7 @@ KIT = {"Rc", "Vec", "String", "Write"}
 
 def documents():
     """The documents, README.md first."""
-    top = [ROOT / name for name in ("README.md", "CONTRIBUTING.md", "CHANGELOG.md", "SECURITY.md", "tests/README.md")]
+    top = [ROOT / name for name in ("README.md", "CONTRIBUTING.md", "CHANGELOG.md", "SECURITY.md", "tests/README.md", "examples/README.md")]
     return [*top, *sorted((ROOT / "docs").rglob("*.md"))]
 
 

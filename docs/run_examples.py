@@ -26,7 +26,9 @@ import sys
 import tempfile
 
 HERE = pathlib.Path(__file__).resolve().parent
-DOCUMENTS = [HERE.parent / "README.md", HERE / "tutorial.md", HERE / "cookbook.md", HERE / "versions.md", HERE.parent / "SECURITY.md"]
+TOP = HERE.parent
+DOCUMENTS = [TOP / "README.md", HERE / "tutorial.md", HERE / "cookbook.md", HERE / "versions.md", TOP / "SECURITY.md"]
+DOCUMENTS.append(TOP / "examples" / "README.md")
 SECONDS = 60
 FENCE = re.compile(r"^(?P<fence>```+)(?P<words>[^`\n]*)\n(?P<body>.*?)^(?P=fence)$", re.M | re.S)
 NAME = re.compile(r"`([^`\n]+)`:\n\n\Z")
@@ -91,14 +93,18 @@ class Trials:
         self.failed += 1
         print(f"{where}: {why}")
 
-    def folder(self):
-        return pathlib.Path(tempfile.mkdtemp(dir=self.room))
+    def folder(self, path):
+        """A fresh folder. That of examples/README.md has examples/ in it, as a checkout has."""
+        folder = pathlib.Path(tempfile.mkdtemp(dir=self.room))
+        if path.resolve().parent.name == "examples":
+            (folder / "examples").symlink_to(path.resolve().parent)
+        return folder
 
     def document(self, path):
         """Runs the examples of one document."""
-        folder, shown = self.folder(), 0
+        folder, shown = self.folder(path), 0
         for line, is_fresh, words, name, body in blocks(path.read_text(encoding="utf-8")):
-            folder = self.folder() if is_fresh else folder
+            folder = self.folder(path) if is_fresh else folder
             where = f"{path.name}:{line}"
             try:
                 if words == "console":
@@ -137,16 +143,16 @@ def prepared(program, room):
     bin_folder.mkdir()
     (bin_folder / "jt").symlink_to(program)
     settings = {**os.environ, "PATH": f"{bin_folder}:{os.environ['PATH']}", "LC_ALL": "C.UTF-8", "PYTHONDONTWRITEBYTECODE": "1"}
-    settings.setdefault("PYTHONPATH", str(HERE.parent / "bindings" / "python" / "src"))
+    settings.setdefault("PYTHONPATH", str(TOP / "bindings" / "python" / "src"))
     if "-unproved" in subprocess.run([program, "--version"], capture_output=True, text=True).stderr:
         # (a library without a proof warns)
         settings.setdefault("PYTHONWARNINGS", "ignore")
     if "JT_LIBRARY" not in settings and (program.parent / "libjt.so").exists():
         settings["JT_LIBRARY"] = str(program.parent / "libjt.so")
-    for crates in (program.parent / "../..", HERE.parent / "crates"):
+    for crates in (program.parent / "../..", TOP / "crates"):
         archive = crates / "jt_ffi" / "out" / "libjt_ffi.a"
         if "JT_LIBRARY" not in settings and archive.exists():
-            build = ["bash", str(HERE.parent / "bindings" / "build.sh"), str(archive), str(room)]
+            build = ["bash", str(TOP / "bindings" / "build.sh"), str(archive), str(room)]
             # (without a library the examples in Python fail, and say why)
             if subprocess.run(build, stdout=subprocess.DEVNULL).returncode == 0:
                 settings["JT_LIBRARY"] = str(room / "libjt.so")

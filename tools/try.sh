@@ -29,8 +29,10 @@ keep() {
 if [ $# -eq 2 ] && [ "$1" = --keep ]; then
     keep "$2"
     exit
+elif [ "${1:---keep}" = --keep ]; then
+    echo "$usage" >&2
+    exit 2
 fi
-[ $# -gt 0 ] && [ "$1" != --keep ] || { echo "$usage" >&2; exit 2; }
 words=()
 for word in "$@"; do
     case $word in
