@@ -70,6 +70,12 @@ environment() {
 # Runs the installed Python, which finds the installed package and nothing else.
 installed_python() { env -u JT_LIBRARY -u PYTHONPATH "$room/venv/bin/python" -I "$@"; }
 
+# Runs the example as a user does, beside the folder of the package.
+runs_the_example() {
+    (cd "$here/.." && env -u JT_LIBRARY -u PYTHONPATH PYTHONWARNINGS=ignore \
+        "$room/venv/bin/python" bindings/python/example.py) | diff "$here/python/expected" -
+}
+
 # Runs the examples of the documents over the installed program and package. (A library without a
 # proof warns.)
 documents() {
@@ -77,9 +83,11 @@ documents() {
         "$room/venv/bin/python" "$here/../docs/run_examples.py" "$room/prefix/bin/jt"
 }
 
-# Packs the crate and unpacks it in a folder of its own.
+# Packs the crate and unpacks it in a folder of its own. (A copy is packed, since cargo writes
+# Cargo.lock beside it.)
 pack() {
-    (cd "$here/rust" && cargo package --quiet --allow-dirty --no-verify) &&
+    cp -rL "$here/rust" "$room/rust" && rm -f "$room/rust/Cargo.lock" &&
+        (cd "$room/rust" && cargo package --quiet --allow-dirty --no-verify) &&
         mkdir "$room/crate" &&
         tar -xf "$CARGO_TARGET_DIR"/package/jt-*.crate -C "$room/crate" --strip-components=1
 }
@@ -121,8 +129,7 @@ try 'the tests in Python from the tree' python3 "$here/python/test_jt.py"
 try 'messages of the build in Python' python3 "$here/python/test_install.py"
 try 'the wheel in a fresh environment' environment
 try 'the tests in Python' installed_python "$here/python/test_jt.py"
-try 'the example in Python' writes "$here/python/expected" installed_python \
-    "$here/python/example.py"
+try 'the example in Python' runs_the_example
 try 'examples/ in Python' installed_python "$here/python/examples.py" "$here/../examples"
 try 'the documents' documents
 
