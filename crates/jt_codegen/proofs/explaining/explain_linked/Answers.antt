@@ -1,8 +1,8 @@
 use Rattle.jt_codegen.specs.internal.Asked.{asked_of}
 use Rattle.jt_codegen.proofs.explaining.explain_linked.Goals as goal
 
-pub explain_facts-requires-clause-of : goal.explain_facts-requires-clause-of
-explain_facts-requires-clause-of g c =
+pub explain_facts-requires : goal.explain_facts-requires
+explain_facts-requires g c =
     let asked = asked_of (g.L.Library.sources c.args.library.now) c.args.entry.now c.args.options in
     (asked, c.in-Ok.ensures.kept asked c.requires)
 
