@@ -35,7 +35,7 @@ import images_bytes
 
 # The stack that each case has, in KiB, and the kinds of cases that need more today, with the stack that they have.
 LIMIT = 144
-MORE = {}
+MORE = {"contexts": 224}
 LEVELS, NESTING, JSON_NESTING, CHAINS, PARENTS = 100, 255, 127, 1024, 64
 SECONDS, STEP, MOST = 60, 16, 4096
 # The levels of a tag that makes a part of a deep value, which are few, so that the value is what needs the stack.

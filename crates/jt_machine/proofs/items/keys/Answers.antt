@@ -1,6 +1,5 @@
 use Rattle.jt_machine.proofs.Vocabulary.{text, items_of, view, take_all}
 use Rattle.std.proofs.Common.{◌∙◌, map, ap}
-use Rattle.jt_value.specs.declared.value.Value.TheVariants as value
 use Rattle.jt_machine.proofs.StepLemmas.{mapped-more, key_of, keys-are}
 use Rattle.jt_machine.proofs.items.keys.Goals as goal
 
@@ -9,8 +8,8 @@ entries-preserved c =
     let lt = c.entries-test.true in
     let is = c.entry-item.is in
     rw c.in_ok-push.ensures.items (mapped-more view key_of c.entries.keys.items c.args.entries.now c.entries.entry-index
-    (value.Text c.in_ok-clone.field-0) c.entry-item.result lt c.entries.invariant
-    (ap text c.in_ok-clone.ensures.cases ∙ ap key_of is))
+    c.shared_text.result c.entry-item.result lt c.entries.invariant
+    (c.shared_text.ensures ∙ ap text c.in_ok-clone.ensures.cases ∙ ap key_of is))
 
 pub returns : goal.returns
 returns c =
