@@ -19,6 +19,10 @@ returns-in-Ok-clause-alike c =
     λ y agree. started_alike c.code_laws.ensures c.args.verified (pairs_of c.args.context.now) y agree
     (budget_view c.args.budget)
 
+pub returns-in-Ok-clause-safe : goal.returns-in-Ok-clause-safe
+returns-in-Ok-clause-safe c =
+    (c.code_laws.ensures.runs c.args.verified c.image.ensures.whole c.image.ensures.typed).safe
+
 pub returns-in-Ok-clause-slices : goal.returns-in-Ok-clause-slices
 returns-in-Ok-clause-slices c =
     λ x b. runs_in_slices c.args.verified x b
@@ -28,6 +32,10 @@ pub returns-in-Err-clause-alike : goal.returns-in-Err-clause-alike
 returns-in-Err-clause-alike c =
     λ y agree. started_alike c.code_laws.ensures c.args.verified (pairs_of c.args.context.now) y agree
     (budget_view c.args.budget)
+
+pub returns-in-Err-clause-safe : goal.returns-in-Err-clause-safe
+returns-in-Err-clause-safe c =
+    (c.code_laws.ensures.runs c.args.verified c.image.ensures.whole c.image.ensures.typed).safe
 
 pub returns-in-Err-clause-slices : goal.returns-in-Err-clause-slices
 returns-in-Err-clause-slices c =
