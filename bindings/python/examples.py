@@ -17,7 +17,7 @@ def options(words):
     return Options(**chosen)
 
 
-for folder in sorted(pathlib.Path(sys.argv[1]).iterdir()):
+for folder in sorted(file.parent for file in pathlib.Path(sys.argv[1]).glob("*/command")):
     entry, *words = (folder / "command").read_text().split()
     sources = {file.name: file.read_bytes().decode() for file in (folder / "templates").iterdir()}
     template = Template(entry, sources, options(words))

@@ -1070,7 +1070,7 @@ class Folders(Holding):
 @unittest.skipUnless((ROOT / "examples").is_dir(), "no examples/")
 class Examples(Holding):
     def cases(self):
-        for folder in sorted((ROOT / "examples").iterdir()):
+        for folder in sorted(file.parent for file in (ROOT / "examples").glob("*/command")):
             entry, *words = (folder / "command").read_text().split()
             chosen = {
                 word.replace("--no-", "").replace("--", "").replace("-", "_"): "--no-" not in word
