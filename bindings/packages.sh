@@ -59,7 +59,7 @@ has_its_tag() {
 }
 
 # Takes the files of the crate out of the tree, where a toolchain may write its own Cargo.lock.
-copy_the_crate() { cp -rL "$here/rust" "$room/$1" && rm -f "$room/$1/Cargo.lock"; }
+copy_the_crate() { "$here/rust/copy.sh" "$room/$1"; }
 
 # Runs cargo in a copy.
 in_copy() { (cd "$room/$1" && CARGO_TARGET_DIR=$room/target-$1 cargo "${@:2}"); }

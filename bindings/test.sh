@@ -86,7 +86,7 @@ documents() {
 # Packs the crate and unpacks it in a folder of its own. (A copy is packed, since cargo writes
 # Cargo.lock beside it.)
 pack() {
-    cp -rL "$here/rust" "$room/rust" && rm -f "$room/rust/Cargo.lock" &&
+    "$here/rust/copy.sh" "$room/rust" &&
         (cd "$room/rust" && cargo package --quiet --allow-dirty --no-verify) &&
         mkdir "$room/crate" &&
         tar -xf "$CARGO_TARGET_DIR"/package/jt-*.crate -C "$room/crate" --strip-components=1

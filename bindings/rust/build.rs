@@ -69,14 +69,17 @@ fn link(folder: &Path) -> Result<bool, String> {
     Ok(true)
 }
 
-/// Compiles c/heap.c, which gives the library its memory, and links it.
+/// Compiles heap.c, which gives the library its memory, and links it. The package has it in `c/`,
+/// and a checkout beside this crate.
 fn compile_heap() -> Result<(), String> {
     let out = variable("OUT_DIR")?;
-    for file in ["c/heap.c", "c/jt.h"] {
-        println!("cargo:rerun-if-changed={file}");
+    let folder = ["c", "../c"].into_iter().find(|it| Path::new(it).join("heap.c").is_file());
+    let folder = folder.ok_or("c/heap.c is missing")?;
+    for file in ["heap.c", "jt.h"] {
+        println!("cargo:rerun-if-changed={folder}/{file}");
     }
-    let object = format!("{out}/heap.o");
-    run("CC", "cc", &["-O2", "-fPIC", "-c", "c/heap.c", "-o", &object])?;
+    let (source, object) = (format!("{folder}/heap.c"), format!("{out}/heap.o"));
+    run("CC", "cc", &["-O2", "-fPIC", "-c", &source, "-o", &object])?;
     run("AR", "ar", &["crs", &format!("{out}/libjt_heap.a"), &object])?;
     println!("cargo:rustc-link-search=native={out}");
     println!("cargo:rustc-link-lib=static=jt_heap");
