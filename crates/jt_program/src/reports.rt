@@ -113,7 +113,7 @@ fn report_refusal<E: Sink>(errors: &mut E, reason: Reason<'_>)
         (E.taken errors.new) (E.failed errors.new) }
 {
     match reason {
-        Reason::Name(name) => report_line(errors, &["jt: refused ", name]),
+        Reason::Name(name) => report_name(errors, name),
         Reason::Point { name, unit, point } => {
             let mut units = Buffer::new();
             let mut points = Buffer::new();
@@ -131,6 +131,14 @@ fn report_refusal<E: Sink>(errors: &mut E, reason: Reason<'_>)
             report_refusal_at(errors, name, template, line);
         }
     }
+}
+
+/// Writes the line of a refusal without a place to `errors`.
+fn report_name<E: Sink>(errors: &mut E, name: &str)
+    ensures { TookUnlessFailed (refused_line name.now) (E.taken errors.old) (E.taken errors.new)
+        (E.failed errors.new) }
+{
+    report_line(errors, &["jt: refused ", name]);
 }
 
 /// Writes the line of a flaw at a point of a unit to `errors`.

@@ -44,3 +44,18 @@ returns-clause-touched g c =
       image = subst (λ (name : List ℕ). IsImage sources name c.args.entry.options bytes) same c.in_ok-bytes.ensures;
     } in
     inr has
+
+pub returns-clause-ends : goal.returns-clause-ends
+returns-clause-ends g c =
+    let same : c.as_str.result.now ≡ string_bytes c.args.entry.name = search rules in
+    let sources = source_of c.in_ok-templates.templates in
+    let bytes = c.in_ok-bytes.bytes.items in
+    let after = g.F.Files.known (g.F.Files.contents c.write_at.new.files) in
+    let image = subst (λ (name : List ℕ). IsImage sources name c.args.entry.options bytes) same c.in_ok-bytes.ensures in
+    let held = subst (λ (bs : List ℕ). after.holds (string_bytes c.args.out) bs) c.deref.ensures.value
+    c.in_ok-write_at.ensures.written in
+    inr (record {
+      sources = sources;
+      library = c.in_ok-templates.ensures.library;
+      written = (c.new.ensures.bytes, (bytes, held, image));
+    })
