@@ -3,8 +3,9 @@
 #
 # Tries C and the system; a wheel in a fresh virtual environment; the packed crate with a fresh
 # CARGO_HOME, over the static library and over what is installed under a fresh prefix; examples/;
-# the examples of the documents over the installed program and package; and what indexes and
-# distributions check of the packages (packages.sh). All is built in a temporary folder, offline,
+# the examples of the documents over the installed program and package; the language server in the
+# editors and the playground in the browser that are installed; and what indexes and distributions
+# check of the packages (packages.sh). All is built in a temporary folder, offline,
 # with neither a network nor a package of Python but pip.
 #
 # The library is that of the tree in which PROGRAM was built, or that of this tree, or the one that
@@ -30,7 +31,7 @@ try() {
         passed=$((passed + 1 - status))
         failed=$((failed + status))
     fi
-    grep '^left out: ' "$room/said"
+    grep -E '^(left out|skipped): ' "$room/said"
     if [ "$status" -ne 0 ]; then
         echo "$name: failed"
         tail -n 30 "$room/said"
@@ -126,9 +127,20 @@ try 'a fresh prefix' make -s -C "$here" install LIBRARY="$library" PROGRAM="$pro
 
 try 'the shared library' "$here/build.sh" "$library" "$room"
 try 'the tests in Python from the tree' python3 "$here/python/test_jt.py"
+for name in runs each forks; do
+    try "$name in Python" python3 "$here/python/test_$name.py"
+done
 try 'messages of the build in Python' python3 "$here/python/test_install.py"
 try 'the wheel in a fresh environment' environment
 try 'the tests in Python' installed_python "$here/python/test_jt.py"
+for name in runs each forks; do
+    try "$name of the installed package" installed_python "$here/python/test_$name.py"
+done
+try 'the words of the language server' installed_python "$here/python/words.py"
+try 'the language server' installed_python "$here/python/test_lsp.py"
+try 'the editors' installed_python "$here/python/test_editor.py"
+try 'the playground' installed_python "$here/python/test_playground.py"
+try 'the playground in a browser' installed_python "$here/python/test_browser.py"
 try 'the example in Python' runs_the_example
 try 'examples/ in Python' installed_python "$here/python/examples.py" "$here/../examples"
 try 'the documents' documents

@@ -1,7 +1,7 @@
 """What `jt explain` prints by the documents, for the rows of explanations of tests/run.py.
 
 A row wants the first line of the text, and behind it in parentheses what the name is, if the sentence depends on that, and after `; ` what
-follows the sentence. This module adds the line of the template's file, the marks under the name, and the sentence of docs/errors.md, and
+follows the sentence, or for an error of syntax the reason in place of the sentence. This module adds the line of the template's file, the marks under the name, and the sentence of docs/errors.md, and
 tells what `jt compile` says of the same templates.
 """
 import functools
@@ -73,5 +73,10 @@ def answers(folder, wanted):
         name = re.sub(r"\\x([0-9a-f]{2})", lambda code: chr(int(code[1], 16)), found["subject"] or "")
         name = "super" if found["code"] == "C7" else name
         lines += [f"  {line}", *(marked(line, name) if name else [])]
-    lines.append(f"  {sentence(refusal, found['subject'], found['kind'] or '')}{found['tail'] or ''}")
+    tail = found["tail"] or ""
+    if refusal == "P1 Syntax" and tail:
+        # (the reason of an error of syntax stands alone)
+        lines.append(f"  {tail[2:]}")
+    else:
+        lines.append(f"  {sentence(refusal, found['subject'], found['kind'] or '')}{tail}")
     return "0 [" + "".join(f"{line}\n" for line in lines) + "][]", f"3 [][jt: refused {refusal}{place}\n]"

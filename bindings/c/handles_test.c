@@ -235,6 +235,95 @@ static void runs(void) {
     jt_image_free(&kept);
 }
 
+/* Contexts of which one is refused, one makes a fault, and one is longer than what is left. */
+static const char many[] = "{\"name\": 7}{\"name\": []}[1{\"name\": \"<World>\"}{}[";
+static const uint64_t many_lengths[] = {11, 12, 2, 19, 2, 7, 1};
+enum { MANY = sizeof many_lengths / sizeof *many_lengths };
+
+/* Writes what a call of its own answers for a context of this length. */
+static struct result one_of_many(const uint8_t *context, uint64_t length, size_t left) {
+    struct result result;
+    clear(&result);
+    if (length <= left) {
+        result.answer =
+            jt_run(image, image_length, context, (size_t)length, budget, result.out, 256);
+    } else {
+        result.answer = (struct jt_answer){.status = JT_USAGE, .code = JT_LENGTHS};
+    }
+    return result;
+}
+
+/* Checks that each result of many contexts is that of a call of its own, if the buffer has `room`
+ * bytes and there are `most` answers. */
+static void each_in(struct jt_image *kept, size_t room, size_t most) {
+    const uint8_t *contexts = (const uint8_t *)many;
+    size_t left = sizeof many - 1;
+    struct jt_outcome outcome = {0};
+    struct jt_answer answers[MANY];
+    uint8_t out[256];
+    for (size_t at = 0; at < MANY;) {
+        memset(out, 'x', sizeof out);
+        const size_t done =
+            jt_image_run_each(kept, contexts, left, many_lengths + at, MANY - at, budget, &outcome,
+                              answers, most, out, room);
+        size_t used = 0;
+        expect(0 < done && done <= most && done <= MANY - at, "the number of answers");
+        for (size_t i = 0; i < done; i++) {
+            const struct result wanted = one_of_many(contexts, many_lengths[at + i], left);
+            struct result result;
+            clear(&result);
+            result.answer = answers[i];
+            if (answers[i].length <= room - used) {
+                memcpy(result.out, out + used, answers[i].length);
+                used += answers[i].length;
+            } else {
+                expect(i + 1 == done && outcome.full, "a result that does not fit is the last");
+                result.answer = jt_outcome_read(&outcome, result.out, 256);
+                jt_outcome_free(&outcome);
+            }
+            expect(same(&result, &wanted), "a result of many");
+            if (many_lengths[at + i] <= left) {
+                contexts += many_lengths[at + i];
+                left -= many_lengths[at + i];
+            }
+        }
+        expect(!outcome.full, "no outcome is kept if each result fits");
+        expect(used == 256 || out[used] == 'x', "the rest of the buffer");
+        at += done;
+    }
+}
+
+static void each(void) {
+    struct jt_image kept = {0}, nothing = {0};
+    struct jt_outcome outcome = {0};
+    struct jt_answer answers[MANY];
+    uint8_t out[256];
+    jt_image_load(image, image_length, &kept, out, 256);
+    const int64_t held = jt_memory_held();
+    for (size_t room = 0; room <= 96; room++) {
+        each_in(&kept, room, MANY);
+        each_in(&kept, room, 2);
+    }
+    each_in(&kept, 256, 1);
+    expect(jt_memory_held() == held, "nothing is kept of many contexts");
+    expect(jt_image_run_each(&kept, BYTES(many), many_lengths, 0, budget, &outcome, answers, MANY,
+                             out, 256) == 0 &&
+               jt_image_run_each(&kept, BYTES(many), many_lengths, MANY, budget, &outcome, answers,
+                                 0, out, 256) == 0,
+           "no context, and no room for an answer");
+    expect(jt_image_run_each(&nothing, BYTES(many), many_lengths, 3, budget, &outcome, answers,
+                             MANY, out, 256) == 3 &&
+               is(answers[0], JT_USAGE, JT_NOT_HELD) && is(answers[2], JT_REFUSED, 0) &&
+               !nothing.full,
+           "no image for many contexts");
+    jt_context_load(BYTES("{}"), (struct jt_context *)&outcome, out, 256);
+    expect(jt_image_run_each(&kept, BYTES(many), many_lengths, 1, budget, &outcome, answers, MANY,
+                             out, 256) == 1 &&
+               !outcome.full,
+           "what the handle of the outcome held is freed");
+    jt_image_free(&kept);
+}
+
 /* Checks that a shared image outlives its first handle, and that a handle may be moved. */
 static void owners(void) {
     struct jt_image first = {0}, second = {0};
@@ -353,6 +442,7 @@ int main(void) {
     alone(libraries);
     alone(refusals);
     alone(runs);
+    alone(each);
     alone(owners);
     threads();
     threads_of_a_library();

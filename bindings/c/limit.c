@@ -30,6 +30,7 @@ static struct jt_library library, filled_library;
 static struct jt_image kept, filled_image;
 static struct jt_context values, filled_context;
 static struct jt_outcome outcome, filled_outcome;
+static struct jt_run filled_run;
 static const struct jt_lengths lengths[] = {{4, LENGTH(PAGE)}, {4, LENGTH(BASE)}};
 #define TEMPLATES bytes(texts), LENGTH(texts), lengths, 2
 static const struct jt_options options = JT_OPTIONS;
@@ -80,6 +81,24 @@ static struct jt_answer run_image(uint8_t *to) {
     return jt_image_run(&kept, &values, budget, &filled_outcome, to, sizeof out);
 }
 
+/* Runs the image for two contexts, and returns the last answer. */
+static struct jt_answer run_each(uint8_t *to) {
+    const char two[] = "[]{\"xs\": [\"a\", \"b\", 3]}";
+    const uint64_t of_two[] = {2, LENGTH(two) - 2};
+    struct jt_answer answers[2];
+    const size_t count = jt_image_run_each(&kept, bytes(two), LENGTH(two), of_two, 2, budget,
+                                           &filled_outcome, answers, 2, to, sizeof out);
+    return answers[count - 1];
+}
+
+/* Runs the image in slices. */
+static struct jt_answer run_slices(uint8_t *to) {
+    struct jt_answer answer = {.status = jt_run_start(&kept, &values, budget, &filled_run)};
+    while (filled_run.full && jt_run_advance(&filled_run, 10) == JT_GOING) {
+    }
+    return filled_run.full ? jt_run_outcome(&filled_run, to, sizeof out) : answer;
+}
+
 static struct jt_answer read_outcome(uint8_t *to) {
     return jt_outcome_read(&outcome, to, sizeof out);
 }
@@ -105,6 +124,8 @@ static const struct {
     {"jt_image_share", share_image},
     {"jt_context_load", load_context},
     {"jt_image_run", run_image},
+    {"jt_image_run_each", run_each},
+    {"jt_run_advance", run_slices},
     {"jt_outcome_read", read_outcome},
 };
 
@@ -113,6 +134,7 @@ static void free_filled(void) {
     jt_image_free(&filled_image);
     jt_context_free(&filled_context);
     jt_outcome_free(&filled_outcome);
+    jt_run_free(&filled_run);
 }
 
 /* Makes a call under one limit. Returns whether it ends as it has to, and all is freed. */

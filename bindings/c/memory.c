@@ -57,6 +57,7 @@ static struct jt_library library, other_library;
 static struct jt_image kept, other;
 static struct jt_context values;
 static struct jt_outcome outcome;
+static struct jt_run run;
 
 enum {
     COMPILE,
@@ -71,6 +72,10 @@ enum {
     LIBRARY_SHARE,
     IMAGE_SAVE,
     IMAGE_RUN,
+    IMAGE_RUN_EACH,
+    RUN_START,
+    RUN_ADVANCE,
+    RUN_OUTCOME,
     OUTCOME_READ,
     IMAGE_SHARE,
     COUNT
@@ -88,6 +93,7 @@ static void free_all(void) {
     jt_image_free(&other);
     jt_context_free(&values);
     jt_outcome_free(&outcome);
+    jt_run_free(&run);
 }
 
 /* Fills the handles that a call needs. */
@@ -98,6 +104,12 @@ static void prepare(int which) {
     if (which >= IMAGE_SAVE) {
         jt_image_load(image, image_length, &kept, out, sizeof out);
         jt_context_load(bytes(context), LENGTH(context), &values, out, sizeof out);
+    }
+    if (which == RUN_ADVANCE || which == RUN_OUTCOME) {
+        jt_run_start(&kept, &values, budget, &run);
+    }
+    if (which == RUN_OUTCOME) {
+        jt_run_advance(&run, 1000);
     }
     if (which == OUTCOME_READ) {
         jt_image_run(&kept, &values, budget, &outcome, out, sizeof out);
@@ -135,6 +147,18 @@ static struct jt_answer call(int which, uint8_t *to) {
         return jt_image_save(&kept, to, room);
     case IMAGE_RUN:
         return jt_image_run(&kept, &values, budget, &outcome, to, room);
+    case IMAGE_RUN_EACH:
+        jt_image_run_each(&kept, bytes(context), LENGTH(context),
+                          &(uint64_t){LENGTH(context)}, 1, budget, &outcome, &answer, 1, to, room);
+        return answer;
+    case RUN_START:
+        answer.status = jt_run_start(&kept, &values, budget, &run);
+        return answer;
+    case RUN_ADVANCE:
+        answer.status = jt_run_advance(&run, 1000);
+        return answer;
+    case RUN_OUTCOME:
+        return jt_run_outcome(&run, to, room);
     case OUTCOME_READ:
         return jt_outcome_read(&outcome, to, room);
     default:
@@ -164,6 +188,13 @@ static bool is_filled(int which, uint32_t status) {
         return kept.full;
     case IMAGE_RUN:
         return kept.full && values.full && (outcome.full || status == JT_MEMORY);
+    case IMAGE_RUN_EACH:
+        return kept.full && !outcome.full;
+    case RUN_START:
+        return kept.full && values.full && run.full == (status == JT_DONE);
+    case RUN_ADVANCE:
+    case RUN_OUTCOME:
+        return kept.full && values.full && run.full;
     case OUTCOME_READ:
         return outcome.full;
     case IMAGE_SHARE:
@@ -178,6 +209,7 @@ int main(void) {
     int passed = 0, failed = 0;
     for (int which = 0; which < COUNT; which++) {
         const bool faults = which == RUN || which == RENDER || which == IMAGE_RUN ||
+                            which == IMAGE_RUN_EACH || which == RUN_OUTCOME ||
                             which == OUTCOME_READ;
         refused = -1;
         prepare(which);
@@ -201,8 +233,8 @@ int main(void) {
                    (answer.status == JT_MEMORY ||
                     (same(answer, usual) && memcmp(out, wanted, usual.length) == 0)) &&
                    (at >= last || which < LIBRARY_LOAD || answer.status == JT_MEMORY);
-            /* the handles are still good for the call */
-            if (well && which >= LIBRARY_COMPILE) {
+            /* the handles are still good for the call, but a lost run stays lost */
+            if (well && which >= LIBRARY_COMPILE && which != RUN_ADVANCE) {
                 well = same(call(which, out), usual);
             }
             free_all();

@@ -203,13 +203,14 @@ archive=$room/out/jt-$version-x86_64-linux.tar.gz
 
 # The calls.
 try 'the header in C++' c++ -x c++ -Wall -Wextra -Werror -fsyntax-only "$here/jt.h"
-for name in test handles_test limit stack; do
+for name in test handles_test slices_test limit stack; do
     sources=("$here/$name.c" "$here/heap.c")
     try "$name.c" "$cc" "${strict[@]}" -pthread -o "$room/$name" "${sources[@]}" "$library"
 done
 try 'memory.c' "$cc" "${strict[@]}" -o "$room/memory" "$here/memory.c" "$library"
 try 'the calls that keep nothing' "$room/test"
 try 'the calls over handles' "$room/handles_test"
+try 'runs in slices' "$room/slices_test"
 try 'a limit of memory' "$room/limit"
 try 'a refused growth' "$room/memory"
 try 'a stack of 256 KiB' "$room/stack" 256
@@ -262,7 +263,7 @@ fi
 # Memory and threads.
 if have valgrind; then
     export LD_LIBRARY_PATH=$room/packed/usr/local/lib
-    for name in handles_test memory shared; do
+    for name in handles_test slices_test memory shared; do
         try "$name under valgrind" valgrind -q --error-exitcode=9 --leak-check=full "$room/$name"
     done
     try 'threads under helgrind' valgrind -q --tool=helgrind --error-exitcode=9 "$room/handles_test"

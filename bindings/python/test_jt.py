@@ -356,6 +356,10 @@ class Calls(Holding):
             ("  {% if true %}a{% endif %}", Options(lstrip_blocks=True), "a"),
         ):
             self.assertEqual(text(source, options=options), wanted)
+        self.assertEqual(text("{{ nope }}x"), "x")
+        with self.assertRaises(Fault) as caught:
+            text("x\n{{ nope }}", options=Options(strict=True))
+        self.assertEqual((caught.exception.number, caught.exception.line), (2, 2))
         for name in Options.__dataclass_fields__:
             for value in (1, 0, None, "yes"):
                 with self.assertRaisesRegex(TypeError, name):
@@ -1094,6 +1098,8 @@ class Examples(Holding):
         count = 0
         for folder, entry, options, context, wanted in self.cases():
             chosen = {name: getattr(options, name) for name in Options.__dataclass_fields__}
+            # (Jinja has a class for strict templates.)
+            chosen["undefined"] = jinja2.StrictUndefined if chosen.pop("strict") else jinja2.Undefined
             loader = jinja2.FileSystemLoader(folder)
             page = jinja2.Environment(loader=loader, **chosen).get_template(entry)
             self.assertEqual(page.render(context), wanted)

@@ -25,11 +25,14 @@ pub struct Options {
     pub keep_trailing_newline: bool,
     /// Escapes printed values for HTML.
     pub autoescape: bool,
+    /// Makes an undefined value a fault where it is printed, iterated over, joined by `~`, or the
+    /// input of a filter other than `default`.
+    pub strict: bool,
 }
 impl Default for Options {
     fn default() -> Options {
-        let [trim_blocks, lstrip_blocks, keep_trailing_newline] = [false; 3];
-        Options { trim_blocks, lstrip_blocks, keep_trailing_newline, autoescape: true }
+        let [trim_blocks, lstrip_blocks, keep_trailing_newline, strict] = [false; 4];
+        Options { trim_blocks, lstrip_blocks, keep_trailing_newline, autoescape: true, strict }
     }
 }
 

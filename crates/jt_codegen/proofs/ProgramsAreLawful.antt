@@ -28,14 +28,14 @@ use Rattle.jt_ids.specs.declared.loop_field.LoopField.{LoopField}
 use Rattle.jt_eval.specs.Filters.{default_value}
 use Rattle.jt_ast.specs.Texts.{among, ascending}
 use Rattle.jt_rules.specs.CompileEnv.{CompileEnv}
-use Rattle.jt_semantics.specs.Expressions.{filter_parameters}
+use Rattle.jt_semantics.specs.Expressions.{filter_parameters, requires_input}
 use Rattle.jt_semantics.specs.Layout.{Table, slot_in, globals_from, in_globals, defaults_of, first_default, names_in}
 use Rattle.jt_semantics.specs.Layout.{names, first_in, numbered_bodies, globals, block_parameters, shared}
 use Rattle.jt_semantics.specs.Layout.{default_in, default_index, first_slot, unit, of_chain}
 use Rattle.jt_semantics.specs.Meaning.{is_set}
 use Rattle.jt_semantics.specs.Programs.{body_routines, entry_routines, chain_routines, routines, count_globals, program}
 use Rattle.jt_ir.specs.Slots as slots
-use Rattle.jt_ir.specs.Slots.{Slot, local, SlotExpr, SRow, SBody, variable, run, Routine}
+use Rattle.jt_ir.specs.Slots.{Slot, local, SlotExpr, SRow, SBody, variable, run, Routine, required_if}
 use Rattle.jt_ir.specs.Takes.{BodyTakes}
 use Rattle.jt_eval.specs.TheFilters.{the_filters}
 use Rattle.jt_ir.specs.Pool.{Constant, known}
@@ -125,6 +125,10 @@ module _ (front globals_count : ℕ) (some : 0 < front) where
   filtered_fine : (f : Option ℕ) (b : Bool) (es : SRow Constant) → R es → E (filtered_by f b es)
   filtered_fine None b es h = tt
   filtered_fine (Some f) b es h = h
+
+  required_fine : (b : Bool) (e : SlotExpr Constant) → E e → E (required_if b e)
+  required_fine false e h = h
+  required_fine true e h = (h, tt)
 
   form_fine : (f : OperatorForm) (a b : SlotExpr Constant) → E a → E b → E (in_form f a b)
   form_fine f a b h k = search (arith, rules)
@@ -232,8 +236,10 @@ module _ (front globals_count : ℕ) (some : 0 < front) where
           let ks = locals_from sp.free (keywords ps) in
           let rest = filled_some (filter_parameters cenv.filters f) (count ts) (keywords ps) ks in
           let row = resolved_row cenv order ts sp (resolved_asides cenv order ps sp rest) in
-          filtered_fine f sp.escaping (slots.item (resolved cenv order a sp) row) (
-            fined a sp i t,
+          let needs = requires_input cenv.strict f in
+          let input = resolved cenv order a sp in
+          filtered_fine f sp.escaping (slots.item (required_if needs input) row) (
+            required_fine needs input (fined a sp i t),
             row_fined ts sp i t (resolved_asides cenv order ps sp rest)
                 (asides_fined ps sp i t rest (some_fine (filter_parameters cenv.filters f) (count ts) (keywords ps) ks
                 (from_fine sp.free (keywords ps)))),
@@ -241,7 +247,7 @@ module _ (front globals_count : ℕ) (some : 0 < front) where
       fined (test a m x ts ps) sp i t =
           search (arith, rules, turned_fine, tested_fine, fined a sp i t, row_fined ts sp i t)
       fined (unary u a) sp i t = (fined a sp i t, tt)
-      fined (binary b x y) sp i t = search (arith, rules, form_fine, fined x sp i t, fined y sp i t)
+      fined (binary b x y) sp i t = search (arith, rules, form_fine, required_fine, fined x sp i t, fined y sp i t)
       fined (when c a) sp i t = (fined c sp i t, fined a sp i t, some)
       fined (choice c a b) sp i t = (fined c sp i t, fined a sp i t, fined b sp i t)
 
@@ -269,7 +275,17 @@ module _ (front globals_count : ℕ) (some : 0 < front) where
         → Fine sp.table → E e → E (resolved_filters cenv order fs sp e)
     filters_fined [] sp e i t h = h
     filters_fined (f ∷ fs) sp e i t h =
-        search (arith, rules, filters_fined fs sp, filtered_fine, row_fined, asides_fined, some_fine, from_fine)
+        search (
+          arith,
+          rules,
+          filters_fined fs sp,
+          filtered_fine,
+          required_fine,
+          row_fined,
+          asides_fined,
+          some_fine,
+          from_fine,
+        )
 
     values_fined : (ps : Pairs) (sp : StaticEnv) (line : ℕ) (b : SBody Constant) → listed sp.namespace order ≡ true
         → Fine sp.table → B b → B (resolved_values cenv order ps sp line b)
@@ -300,7 +316,7 @@ module _ (front globals_count : ℕ) (some : 0 < front) where
       pub stmt_fined : (s : Stmt) (sp : StaticEnv) → listed sp.namespace order ≡ true → Fine sp.table
           → B (resolved_stmt cenv order s sp)
       stmt_fined (data_of x) sp i t = (tt, tt)
-      stmt_fined (print line e) sp i t = (fined e sp i t, tt)
+      stmt_fined (print line e) sp i t = (required_fine cenv.strict (resolved cenv order e sp) (fined e sp i t), tt)
       stmt_fined (choose bs other) sp i t =
           choice_fined bs sp i t (resolved_body cenv order other sp) (all_fined other sp i t)
       stmt_fined (for_each line xs e c body other) sp i t =
@@ -308,7 +324,7 @@ module _ (front globals_count : ℕ) (some : 0 < front) where
           let ft = bound_fine xs sp.free sp.table t in (
             (
               fresh_fine sp.free xs,
-              fined e sp i t,
+              required_fine cenv.strict (resolved cenv order e sp) (fined e sp i t),
               condition_fined c inner i ft,
               scope_fined body inner ft (all_fined body (bound_all (set_in body) inner) i
                   (bound_fine (set_in body) (sp.free + length xs) (bound_table xs sp.free sp.table) ft)),
@@ -322,7 +338,7 @@ module _ (front globals_count : ℕ) (some : 0 < front) where
       stmt_fined (with_values line ps body) sp i t =
           search (arith, rules, bound_fine, values_fined, scope_fined, all_fined body)
       stmt_fined (filter_block line fs body) sp i t =
-          search (arith, rules, scope_fined, all_fined body, bound_fine, filters_fined)
+          search (arith, rules, scope_fined, all_fined body, bound_fine, required_fine, filters_fined)
       stmt_fined (autoescape line on body) sp i t = search (arith, rules, scope_fined, all_fined body, bound_fine)
       stmt_fined (include line m missing with_context) sp i t =
           include_fined sp line m missing with_context (is_none (cenv.sources m)) t

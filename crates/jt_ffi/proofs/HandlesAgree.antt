@@ -16,7 +16,7 @@ use Rattle.jt_ffi.specs.Handles.{HoldsTemplate, ReportsKept, RunsAndKeeps, RunsF
 use Rattle.jt_ffi.specs.HostTemplates.{AreTexts, sources_in, total}
 use Rattle.jt_ffi.specs.declared.answer.Answer.{Answer}
 use Rattle.jt_ffi.specs.declared.local.Local.{Local}
-use Rattle.jt_ffi.specs.declared.local.Local.TheVariants.{Context, Outcome}
+use Rattle.jt_ffi.specs.declared.local.Local.TheVariants.{Context, Outcome, Run}
 use Rattle.jt_ffi.specs.declared.shared.Shared.{Shared}
 use Rattle.jt_ffi.specs.declared.shared.Shared.TheVariants.{Image, Library}
 use Rattle.jt_ffi.specs.declared.templates.Lengths.{Lengths}
@@ -36,6 +36,7 @@ runs_bytes i c k (Context x) b image context (Err (ffi_error.Call call_error.NoM
 runs_bytes i c k (Context x) b image context (Err (ffi_error.Call e)) run = absurd run
 runs_bytes i c k (Context x) b image context (Err e) run = absurd run
 runs_bytes i c k (Outcome o) b image context r run = absurd context
+runs_bytes i c k (Run o) b image context r run = absurd context
 
 -- The run of a compiled code for a context is a rendering of the entry.
 renders_code : (ns : List Lengths) (texts entry : List ℕ) (o : Options) (c : List ℕ) (k : Code) (x : Local) (b : Budget)
@@ -54,6 +55,7 @@ renders_code ns texts entry o c k (Context x) b given compiled context (Err (ffi
 renders_code ns texts entry o c k (Context x) b given compiled context (Err (ffi_error.Call e)) run = absurd run
 renders_code ns texts entry o c k (Context x) b given compiled context (Err e) run = absurd run
 renders_code ns texts entry o c k (Outcome h) b given compiled context r run = absurd context
+renders_code ns texts entry o c k (Run h) b given compiled context r run = absurd context
 
 -- The result of a run over handles is one of the bytes, also if memory runs out.
 runs_held : (image : Option Shared) (held : Option Local) (b : Budget) (i c : List ℕ) → HoldsImage i image

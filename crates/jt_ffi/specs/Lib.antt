@@ -4,3 +4,5 @@ pub mod Handles
 pub mod HostTemplates
 pub mod Owning
 pub mod Plain
+pub mod Slices
+pub mod Batches

@@ -6,6 +6,7 @@
 ghost use Rattle.std.specs.Prelude.{◌≡◌, ◌≢◌, ℕ, List, None};
 ghost use Rattle.jt_host.specs.declared.Options.{Options};
 ghost use Rattle.jt_ffi.specs.Answers.{Answers, AnswersExplained};
+ghost use Rattle.jt_ffi.specs.Batches.{AnswersEach, RunsNext};
 ghost use Rattle.jt_ffi.specs.Calls.{Compiles, Explains, IsGiven, Renders, Runs};
 ghost use Rattle.jt_ffi.specs.Handles.{AreSame, CompilesHeld, CompilesInto, ExplainsHeld};
 ghost use Rattle.jt_ffi.specs.Handles.{HoldsContext, IsShareStatus};
@@ -16,6 +17,7 @@ ghost use Rattle.jt_ffi.specs.HostTemplates.{sources_in};
 ghost use Rattle.jt_ffi.specs.Plain.{budget_of, options_of};
 
 use crate::answer::{Answer, write_explanation, write_result};
+use crate::batches::{Batch, write_each};
 use crate::error::FfiError;
 use crate::explaining::explain_held;
 use crate::held::{
@@ -186,6 +188,39 @@ pub extern "C" fn jt_image_run(
     image.put_back(held_image);
     context.put_back(held_context);
     keep_outcome(alloc, ended, outcome, out)
+}
+
+/// Runs an image for many contexts under a budget, each read from its bytes. `contexts` holds the
+/// bytes one after another, `lengths` their lengths. Writes the results one after another to the
+/// buffer, and their answers to `answers`, as far as there is room. If a result does not fit, it is
+/// held by `outcome`, and its answer is the last one. Returns the number of answers.
+#[unsafe(no_mangle)]
+pub extern "C" fn jt_image_run_each(
+    alloc: Global,
+    image: &mut SharedHandle,
+    contexts: &[u8],
+    lengths: &[u64],
+    budget: FfiBudget,
+    outcome: &mut LocalHandle,
+    answers: &mut [Answer],
+    out: &mut [u8],
+) -> usize
+    ensures image { image.new.held ≡ image.old.held }
+    // Each result is that of a run for its context alone.
+    ensures each { AnswersEach (RunsNext image.old.held (budget_of budget)) lengths.now contexts.now
+        answers.old answers.new out.old out.new outcome.new.held result }
+{
+    drop(outcome.take(alloc));
+    let held = image.take(alloc);
+    let batch = Batch {
+        image: &held,
+        contexts,
+        lengths,
+        budget: budget.budget(),
+    };
+    let count = write_each(alloc, &batch, outcome, answers, out);
+    image.put_back(held);
+    count
 }
 
 /// Writes an outcome to the buffer. The answer is that of the run with this buffer.

@@ -2,6 +2,7 @@ pub mod CalledMethods
 pub mod DefinedNames
 pub mod Edits
 pub mod Forms
+pub mod KnownStatements
 pub mod LeftOut
 pub mod Nesting
 pub mod Positions

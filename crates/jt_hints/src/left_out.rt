@@ -70,7 +70,7 @@ static TESTS: [Row; 10] = [
     ("upper", "compare with the filter, as in x == x|upper"),
 ];
 
-static FUNCTIONS: [Row; 9] = [
+static FUNCTIONS: [Row; 10] = [
     (
         "caller",
         "pass the body as an argument, kept by a set block",
@@ -88,7 +88,28 @@ static FUNCTIONS: [Row; 9] = [
         "a set in a loop ends with its turn: use filters such as sum, select and map",
     ),
     ("ngettext", "the host passes the translated texts"),
+    ("now", "the host passes the time in the context"),
     ("_", "the host passes the translated texts"),
+];
+
+static LOOP_FIELDS: [Row; 8] = [
+    (
+        "changed",
+        "compare with the item before, as in x != loop.previtem",
+    ),
+    ("counter", "the number of a turn is loop.index"),
+    ("counter0", "the number of a turn, from 0, is loop.index0"),
+    ("depth", "loops are not recursive: leave it out"),
+    ("depth0", "loops are not recursive: leave it out"),
+    ("idx", "the number of a turn is loop.index"),
+    (
+        "parentloop",
+        "before the inner loop, keep what it needs, as in {% set outer = loop.index %}",
+    ),
+    (
+        "revcounter",
+        "the number of turns that are left is loop.revindex",
+    ),
 ];
 
 static METHODS: [Row; 34] = [
@@ -196,6 +217,14 @@ pub fn left_out_function(name: &str) -> Option<&'static str>
     ensures { option_map (λ s. s.now) result ≡ table.left_out_function name.now }
 {
     sentence_in(&FUNCTIONS, name)
+}
+
+/// Returns what to write in place of a field that `loop` has in Jinja, or in other template
+/// languages.
+pub fn left_out_loop_field(name: &str) -> Option<&'static str>
+    ensures { option_map (λ x. x.now) result ≡ table.left_out_loop_field name.now }
+{
+    sentence_in(&LOOP_FIELDS, name)
 }
 
 /// Returns what to write in place of a method of Python's texts, lists and maps, or `None` for

@@ -7,8 +7,9 @@
 //! - `nearest_name`: the candidate with the fewest edits, with `edits`, which counts them;
 //! - `known_names`: the names of all filters and tests, which are such candidates;
 //! - `definitions`: the macros and blocks of a source, which are candidates too, and imports;
-//! - `left_out`: the tables of Jinja's filters, tests and functions, and of the methods of Python's
-//!   values, with `called_methods`, which finds these in a tag;
+//! - `left_out`: the tables of Jinja's filters, tests, functions and fields of `loop`, and of the
+//!   methods of Python's values, with `called_methods`, which finds these in a tag;
+//! - `known_statements`: the first words of tags, and the one of a tag that begins no statement;
 //! - `syntax`: the forms of a tag, with `statement_words`, `head_forms`, `places` and
 //!   `place_forms`;
 //! - `nesting`: the statement that is never closed, and the tag that closes none;
@@ -22,6 +23,7 @@ mod definitions;
 mod edits;
 mod head_forms;
 mod known_names;
+mod known_statements;
 mod left_out;
 mod nearest_name;
 mod nesting;
@@ -34,7 +36,10 @@ mod syntax;
 pub use called_methods::called_method;
 pub use definitions::{NameKind, defined_names, layout_named, library_named};
 pub use known_names::{filter_names, test_names};
-pub use left_out::{left_out_filter, left_out_function, left_out_method, left_out_test};
+pub use known_statements::{statement_names, unknown_statement};
+pub use left_out::{
+    left_out_filter, left_out_function, left_out_loop_field, left_out_method, left_out_test,
+};
 pub use nearest_name::nearest;
 pub use nesting::{NestingHint, Statement, nesting_hint};
 pub use positions::{PositionHint, position_hint};

@@ -21,6 +21,8 @@ use Rattle.jt_host.specs.Sentences.{sentence}
 use Rattle.jt_host.specs.SourceLines.{source_line}
 use Rattle.jt_host.specs.Subjects.{marked_name, subject_name, subject_text}
 use Rattle.jt_host.specs.Suggestions.{suggestion}
+use Rattle.jt_host.specs.SyntaxHints.{reason_text}
+use Rattle.jt_host.specs.declared.syntax_hints.SourceHint.{SourceHint}
 use Rattle.jt_host.specs.Clues.{AreCluesFor}
 use Rattle.jt_host.specs.declared.clues.Clues.{Clues}
 
@@ -61,13 +63,21 @@ marks_text sources options f = marks_at sources options f.place (marked_name f.s
 abbrev pub heading : Finding → Text
 heading f = place_text f.place ++ (error_name f.error ++ subject_text f.subject)
 
--- The line of a finding, the line of the source, the marks, the rule, and a suggestion.
+-- The reason of an error of syntax, if the sources show it, and otherwise the rule with a suggestion.
+abbrev pub rule_by : Option SourceHint → Clues → Finding → Text
+rule_by (Some hint) clues f = reason_text hint (option_map string_bytes clues.meant)
+rule_by None clues f = sentence f ++ suggestion clues f
+
+abbrev pub rule_text : Clues → Finding → Text
+rule_text clues f = rule_by clues.hint clues f
+
+-- The line of a finding, the line of the source, the marks, and the reason or the rule.
 abbrev pub finding_lines : SourceTexts → Options → Clues → Finding → Text
 finding_lines sources options clues f =
     heading f
     ++ (codes "\n"
     ++ (source_text sources options f.place
-    ++ (marks_text sources options f ++ (codes "  " ++ (sentence f ++ (suggestion clues f ++ codes "\n"))))))
+    ++ (marks_text sources options f ++ (codes "  " ++ (rule_text clues f ++ codes "\n")))))
 
 -- The lines of what is explained, with what the sources show of it.
 abbrev pub told : SourceTexts → Options → Clues → Explained → Text

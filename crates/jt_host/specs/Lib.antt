@@ -4,6 +4,7 @@ pub mod Clues
 pub mod Explanations
 pub mod Marks
 pub mod Meant
+pub mod NeedsText
 pub mod Reasons
 pub mod Rendering
 pub mod RunExplanations
@@ -18,6 +19,7 @@ pub mod Templates
 pub use Rattle.jt_checks.specs.Findings
 pub use Rattle.jt_codegen.specs.Compiled
 pub use Rattle.jt_codegen.specs.Explaining
+pub use Rattle.jt_codegen.specs.Needs
 pub use Rattle.jt_codegen.specs.Refusals
 pub use Rattle.jt_contexts.specs.Json
 pub use Rattle.jt_image.specs.Code

@@ -9,6 +9,7 @@ use Rattle.jt_ast.specs.Expressions.{Text}
 use Rattle.jt_hints.specs.CalledMethods.{called_method}
 use Rattle.jt_hints.specs.DefinedNames.{defined_names, layout_named, library_named}
 use Rattle.jt_hints.specs.Edits.{nearest}
+use Rattle.jt_hints.specs.KnownStatements.{statement_names, unknown_statement}
 use Rattle.jt_hints.specs.declared.definitions.NameKind.{NameKind}
 use Rattle.jt_hints.specs.declared.definitions.NameKind.TheVariants as kind
 use Rattle.jt_inherit.specs.Chains.{SourceTexts, scanned}
@@ -21,6 +22,7 @@ use Rattle.jt_codegen.specs.declared.CompileError.TheVariants as compile_error
 use Rattle.jt_codegen.specs.declared.Explained.{Explained}
 use Rattle.jt_codegen.specs.declared.Explained.TheVariants as explained
 use Rattle.jt_codegen.specs.declared.Finding.{Finding}
+use Rattle.jt_codegen.specs.declared.ParseError.TheVariants as parse_error
 use Rattle.jt_codegen.specs.declared.ScopeError.TheVariants as scope_error
 use Rattle.jt_codegen.specs.declared.Subject.{Subject}
 use Rattle.jt_codegen.specs.declared.Subject.TheVariants as subject
@@ -38,18 +40,30 @@ pub data Wanted : Type 0 where
   layout : Wanted
   -- The first method of a Python value that the tags at a line call.
   method : ℕ → Wanted
+  -- The word of a statement that is nearest to the first one of a tag at a line.
+  statement : ℕ → Wanted
 
 abbrev pub wanted : Sought → Wanted
 wanted (sought.Near k x) = near_name k x.now
 wanted (sought.Library x) = library x.now
 wanted sought.Layout = layout
 wanted (sought.Method line) = method line
+wanted (sought.Statement line) = statement line
+
+abbrev pub near_word : Option Text → Option Text
+near_word (Some word) = nearest word statement_names
+near_word None = None
+
+-- The word of a statement that is nearest to the first one of the tags at the line that begins none.
+abbrev pub near_statement : ℕ → List Segment → Option Text
+near_statement line segments = near_word (unknown_statement line segments)
 
 abbrev pub found_in : Wanted → List Segment → Option Text
 found_in (near_name k x) segments = nearest x (defined_names k segments)
 found_in (library x) segments = library_named x segments
 found_in layout segments = layout_named segments
 found_in (method line) segments = called_method line segments
+found_in (statement line) segments = near_statement line segments
 
 -- The source is cut into segments, in which this is found.
 pub record HasFound (options : Options) (source : Text) (w : Wanted) (y : Text) : Type 0 where
@@ -109,8 +123,10 @@ module _ (sources : SourceTexts) (options : Options) where
   IsNearOfChain e (subject.Chain s) y = IsNearOfRule e s y
   IsNearOfChain e s y = ⊥
 
-  -- The name that the name of a refusal probably means.
+  -- The name that the name of a refusal probably means, or that the first word of a tag does.
   abbrev pub IsMeantAt : CompileError → Option TagPlace → Option Subject → Text → Type 0
+  IsMeantAt (compile_error.Chain (chain_error.Parse x (parse_error.Syntax line))) place about y =
+      IsFound (string_bytes x) (statement line) y
   IsMeantAt (compile_error.Chain e) place (Some s) y = IsNearOfChain e s y
   IsMeantAt (compile_error.Scope scope_error.NotCallable) (Some place) (Some s) y =
       IsCalleeNear (string_bytes place.template) s y

@@ -16,6 +16,7 @@ use crate::sentences::sentence_of;
 use crate::source_lines::source_line;
 use crate::subjects::{marked_name, quoted_subject, subject_name};
 use crate::suggestions::suggestion_of;
+use crate::syntax_hints::reason_text;
 use crate::templates::Templates;
 use jt_codegen::{CompileError, Explained, Finding, TagPlace, explain};
 use jt_inherit::Library;
@@ -120,9 +121,21 @@ fn lines_of(
     let heading = heading_of(alloc, finding)?;
     let source = source_text(alloc, templates, options, &finding.place)?;
     let marks = marks_text(alloc, templates, options, finding)?;
+    let rule = rule_text(alloc, finding, clues)?;
+    format!(in alloc; "{heading}\n{source}{marks}  {rule}\n")
+}
+
+/// Returns the reason of an error of syntax, if the sources show it, and otherwise the rule with a
+/// suggestion.
+fn rule_text(alloc: Global, finding: &Finding, clues: &Clues) -> Result<String, AllocError>
+    ensures { IfOk result (λ text. string_bytes text ≡ spec.rule_text clues.now finding.now) }
+{
+    if let Some(hint) = clues.hint {
+        return reason_text(alloc, hint, &clues.meant);
+    }
     let sentence = sentence_of(alloc, finding)?;
     let suggestion = suggestion_of(alloc, finding, clues)?;
-    format!(in alloc; "{heading}\n{source}{marks}  {sentence}{suggestion}\n")
+    format!(in alloc; "{sentence}{suggestion}")
 }
 
 /// Returns the first line of a finding, without its end.

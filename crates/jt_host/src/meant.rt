@@ -6,8 +6,13 @@ ghost use Rattle.jt_host.specs.Meant as spec;
 ghost use Rattle.jt_host.specs.Templates.{source_of};
 
 use crate::templates::Templates;
-use jt_codegen::{ChainError, ChainSubject, CompileError, Explained, Finding, ScopeError, Subject};
-use jt_hints::{NameKind, called_method, defined_names, layout_named, library_named, nearest};
+use jt_codegen::{
+    ChainError, ChainSubject, CompileError, Explained, Finding, ParseError, ScopeError, Subject,
+};
+use jt_hints::{
+    NameKind, called_method, defined_names, layout_named, library_named, nearest, statement_names,
+    unknown_statement,
+};
 use jt_inherit::Library;
 use jt_scan::{Options, ScanError, Segment, Source, scan};
 use std::alloc::{AllocError, Global};
@@ -23,6 +28,8 @@ pub enum Sought<'a> {
     Layout,
     /// The first method of a Python value that the tags at a line call.
     Method(u32),
+    /// The word of a statement that is nearest to the first one of a tag at a line.
+    Statement(u32),
 }
 
 /// The templates of a library, and the options under which they are read.
@@ -43,6 +50,17 @@ fn copied(alloc: Global, text: Option<&str>) -> Result<Option<String>, AllocErro
     }
 }
 
+/// Returns the word of a statement that is nearest to the first one of the tags at the line that
+/// begins none.
+fn near_statement(line: u32, segments: &[Segment<'_>]) -> Option<&'static str>
+    ensures { option_map (λ x. x.now) result ≡ spec.near_statement line segments.now }
+{
+    match unknown_statement(line, segments) {
+        Some(word) => nearest(word, statement_names()),
+        None => None,
+    }
+}
+
 /// Returns what is sought, if the segments have it.
 fn found_in(
     alloc: Global,
@@ -60,6 +78,7 @@ fn found_in(
         Sought::Library(name) => copied(alloc, library_named(name, segments)),
         Sought::Layout => copied(alloc, layout_named(segments)),
         Sought::Method(line) => copied(alloc, called_method(line, segments)),
+        Sought::Statement(line) => copied(alloc, near_statement(line, segments)),
     }
 }
 
@@ -206,6 +225,12 @@ fn meant_by(
         spec.IsMeantBy (source_of sources.entry.templates.now) sources.entry.options finding.now
         (string_bytes y))) }
 {
+    if let CompileError::Chain(
+        ChainError::Parse(name, ParseError::Syntax { line }),
+    ) = &finding.error
+    {
+        return found_by(alloc, sources, name, Sought::Statement(*line));
+    }
     let Some(subject) = &finding.subject else {
         return Ok(None);
     };

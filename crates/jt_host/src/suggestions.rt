@@ -6,11 +6,10 @@ ghost use Rattle.jt_host.specs.Suggestions as spec;
 
 use crate::clues::Clues;
 use crate::subjects::quoted;
-use crate::syntax_hints::hint_text;
 use jt_codegen::{ChainError, ChainSubject, CompileError, Finding, ScopeError, Subject, TagPlace};
 use jt_hints::{
-    filter_names, left_out_filter, left_out_function, left_out_method, left_out_test, nearest,
-    test_names,
+    filter_names, left_out_filter, left_out_function, left_out_loop_field, left_out_method,
+    left_out_test, nearest, test_names,
 };
 use jt_ids::LoopField;
 use std::alloc::{AllocError, Global};
@@ -56,6 +55,17 @@ fn callee_advice(subject: &Option<Subject>) -> Option<&'static str>
     }
 }
 
+/// Returns what to write in place of a field of `loop` that is read or called.
+fn loop_advice(subject: &Option<Subject>) -> Option<&'static str>
+    ensures { option_map (λ x. x.now) result ≡ spec.loop_advice subject.now }
+{
+    match subject {
+        Some(Subject::LoopField(field)) => left_out_loop_field(field),
+        Some(Subject::CalledField { field, .. }) => left_out_loop_field(field),
+        _ => None,
+    }
+}
+
 /// Returns what to write in place of what the language leaves out.
 fn advice_of(error: &CompileError, subject: &Option<Subject>) -> Option<&'static str>
     ensures { option_map (λ x. x.now) result ≡ spec.advice error.now subject.now }
@@ -63,6 +73,7 @@ fn advice_of(error: &CompileError, subject: &Option<Subject>) -> Option<&'static
     match error {
         CompileError::Chain(ChainError::Parse(..)) => word_advice(subject),
         CompileError::Scope(ScopeError::NotCallable) => callee_advice(subject),
+        CompileError::Scope(ScopeError::LoopOutside) => loop_advice(subject),
         _ => None,
     }
 }
@@ -112,25 +123,14 @@ fn method_advice(clues: &Clues) -> Option<&'static str>
     }
 }
 
-/// Returns what to write: the advice on a word or on a method, or else the reason of the error of
-/// syntax. Returns `None` if there is none of them.
-fn advice_text(
-    alloc: Global,
-    finding: &Finding,
-    clues: &Clues,
-) -> Result<Option<String>, AllocError>
-    ensures { IfOk result (λ text. option_map string_bytes text
-        ≡ spec.advice_text clues.now finding.now) }
+/// Returns what to write: the advice on a word, or else on a method. Returns `None` if there is
+/// neither.
+fn advice_text(finding: &Finding, clues: &Clues) -> Option<&'static str>
+    ensures { option_map (λ x. x.now) result ≡ spec.advice_text clues.now finding.now }
 {
-    if let Some(words) = advice_of(&finding.error, &finding.subject) {
-        return Ok(Some(String::from_str(alloc, words)?));
-    }
-    if let Some(words) = method_advice(clues) {
-        return Ok(Some(String::from_str(alloc, words)?));
-    }
-    match clues.hint {
-        Some(hint) => Ok(Some(hint_text(alloc, hint)?)),
-        None => Ok(None),
+    match advice_of(&finding.error, &finding.subject) {
+        Some(words) => Some(words),
+        None => method_advice(clues),
     }
 }
 
@@ -201,7 +201,7 @@ pub(crate) fn suggestion_of(
 ) -> Result<String, AllocError>
     ensures { IfOk result (λ text. string_bytes text ≡ spec.suggestion clues.now finding.now) }
 {
-    if let Some(words) = advice_text(alloc, finding, clues)? {
+    if let Some(words) = advice_text(finding, clues) {
         return format!(in alloc; "; {words}");
     }
     match meant_text(finding, clues) {

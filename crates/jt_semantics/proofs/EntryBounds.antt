@@ -16,7 +16,7 @@ use Rattle.jt_chains.specs.Chain.{Namespace, a_chain, given, Callee, a_macro, a_
 use Rattle.jt_chains.specs.Chain.{no_callee, callee}
 use Rattle.jt_ids.specs.declared.loop_field.LoopField.{LoopField}
 use Rattle.jt_rules.specs.CompileEnv.{CompileEnv}
-use Rattle.jt_semantics.specs.Expressions.{filter_parameters}
+use Rattle.jt_semantics.specs.Expressions.{filter_parameters, requires_input}
 use Rattle.jt_semantics.specs.Layout.{Table, slot_in, names, block_parameters, default_index}
 use Rattle.jt_semantics.specs.Layout.{first_slot, unit, of_chain}
 use Rattle.jt_ir.specs.Slots as slots
@@ -55,6 +55,9 @@ tested_low t es = search (arith, rules)
 
 filtered_low : (f : Option ℕ) (b : Bool) (es : SRow Constant) → expr_height (filtered_by f b es) ≤ max 1 (row_height es)
 filtered_low f b es = search (arith, rules)
+
+required_low : (b : Bool) (e : SlotExpr Constant) → expr_height (slots.required_if b e) ≤ max 2 (expr_height e)
+required_low b e = search (arith, rules)
 
 form_low : (f : OperatorForm) (a b : SlotExpr Constant)
     → expr_height (in_form f a b) ≤ max (expr_height a) (max 2 (1 + expr_height b))
@@ -120,28 +123,28 @@ module _ (cenv : CompileEnv) (order : List Namespace) (q : ℕ) where
 
   -- The bound of the entries of a part that comes before a row.
   abbrev RowLow : ℕ → (SRow Constant → SRow Constant) → Type 0
-  RowLow w f = (b : SRow Constant) (z : ℕ) → 2 * q ≤ z → 2 * row_height b ≤ z → 2 * row_height (f b) ≤ w + z
+  RowLow w f = (b : SRow Constant) (z : ℕ) → 2 * suc q ≤ z → 2 * row_height b ≤ z → 2 * row_height (f b) ≤ w + z
 
   abbrev AsidesLow : ℕ → (SRow Constant → SRow Constant) → Type 0
-  AsidesLow v f = (b : SRow Constant) → 2 * row_height (f b) ≤ max (v + 2 * q) (2 * row_height b)
+  AsidesLow v f = (b : SRow Constant) → 2 * row_height (f b) ≤ max (v + 2 * suc q) (2 * row_height b)
 
   invoked_low : (c : Callee) (sp : StaticEnv) (row asides : SRow Constant → SRow Constant) (n : ℕ) (ks : Table)
       (u w v : ℕ)
       → 1 ≤ u → CalleeFew q u c → ((x : Text) → length (block_parameters cenv order sp.namespace x) ≤ q) → RowLow w row
       → AsidesLow v asides
-      → 2 * expr_height (invoked cenv order c sp row asides n ks) ≤ u + enclosed (w + v) + 1 + 2 * q
+      → 2 * expr_height (invoked cenv order c sp row asides n ks) ≤ u + enclosed (w + v) + 1 + 2 * suc q
   invoked_low (a_macro z m) sp row asides n ks u w v some f k r a =
       let rest = filled m.parameters n (default_index cenv order z m.name) ks in
       let low = filled_low m.parameters n (default_index cenv order z m.name) ks in
-      let hs : 2 * row_height (row (asides rest)) ≤ w + (v + 2 * q) =
-      r (asides rest) (v + 2 * q) (omega arith) (omega (arith, a rest, low, f)) in
+      let hs : 2 * row_height (row (asides rest)) ≤ w + (v + 2 * suc q) =
+      r (asides rest) (v + 2 * suc q) (omega arith) (omega (arith, a rest, low, f)) in
       omega (arith, some, hs)
   invoked_low a_range sp row asides n ks u w v some f k r a =
-      omega (arith, some, r slots.none (2 * q) (omega arith) (omega arith))
+      omega (arith, some, r slots.none (2 * suc q) (omega arith) (omega arith))
   invoked_low a_super sp row asides n ks u w v some f k r a = omega (arith, some, super_low sp sp.part k)
   invoked_low (a_block x) sp row asides n ks u w v some f k r a = search (arith, rules, body_low, reads_low)
   invoked_low a_cycle sp row asides n ks u w v some f k r a =
-      omega (arith, f, r slots.none (2 * q) (omega arith) (omega arith))
+      omega (arith, f, r slots.none (2 * suc q) (omega arith) (omega arith))
   invoked_low no_callee sp row asides n ks u w v some f k r a = omega (arith, some)
 
   -- The bound of the entries of a filter's arguments after its input, by their weight with
@@ -149,21 +152,21 @@ module _ (cenv : CompileEnv) (order : List Namespace) (q : ℕ) where
   filter_row : (ts : Exprs) (ps : Pairs) (row asides : SRow Constant → SRow Constant) (rest : SRow Constant)
       → RowLow (exprs_weight ts) row → AsidesLow (pairs_weight 2 ps) asides
       → row_height rest ≤ 3 * min 1 (length (keywords ps))
-      → 2 + 2 * row_height (row (asides rest)) ≤ 3 + perhaps_enclosed (exprs_weight ts + pairs_weight 2 ps) + 2 * q
+      → 2 + 2 * row_height (row (asides rest)) ≤ 3 + perhaps_enclosed (exprs_weight ts + pairs_weight 2 ps) + 2 * suc q
   filter_row ts ps row asides rest r a low =
       let v = pairs_weight 2 ps in
-      let z = max (v + 2 * q) (6 * min 1 (length (keywords ps))) in
+      let z = max (v + 2 * suc q) (6 * min 1 (length (keywords ps))) in
       let hs : 2 * row_height (row (asides rest)) ≤ exprs_weight ts + z =
       r (asides rest) z (omega arith) (omega (arith, a rest, low)) in
       omega (arith, hs, names_weigh ps)
 
   mutual
     pub resolved_low : (e : Expr) (sp : StaticEnv) → HasAtMost cenv order q sp.namespace
-        → 2 * expr_height (resolved cenv order e sp) ≤ weight e + 1 + 2 * q
+        → 2 * expr_height (resolved cenv order e sp) ≤ weight e + 1 + 2 * suc q
     resolved_low (constant l) sp k = omega (arith, expr_some (constant l))
     resolved_low (name x) sp k = omega (arith, value_low (slot_in x sp.table) (known 0))
     resolved_low (group a) sp k = omega (arith, resolved_low a sp k)
-    resolved_low (list_of ts) sp k = omega (arith, row_low ts sp k slots.none (2 * q) (omega arith) (omega arith))
+    resolved_low (list_of ts) sp k = omega (arith, row_low ts sp k slots.none (2 * suc q) (omega arith) (omega arith))
     resolved_low (map_of ps) sp k = omega (arith, entries_low ps sp k)
     resolved_low (attribute a x) sp k = search (arith, rules, either_low, field_low, resolved_low a sp k, expr_some)
     resolved_low (item a b) sp k = omega (arith, resolved_low a sp k, resolved_low b sp k, expr_some a)
@@ -178,6 +181,7 @@ module _ (cenv : CompileEnv) (order : List Namespace) (q : ℕ) where
           arith,
           rules,
           filtered_low,
+          required_low,
           resolved_low a sp k,
           expr_some,
           filter_row,
@@ -190,44 +194,48 @@ module _ (cenv : CompileEnv) (order : List Namespace) (q : ℕ) where
         search (arith, rules, turned_low, tested_low, resolved_low a sp k, row_low ts sp k, is_some_weight, expr_some)
     resolved_low (unary u a) sp k = omega (arith, resolved_low a sp k, expr_some a)
     resolved_low (binary b x y) sp k =
-        search (arith, rules, form_low, operator_some, expr_some, resolved_low x sp k, resolved_low y sp k)
+        search
+        (arith, rules, form_low, required_low, operator_some, expr_some, resolved_low x sp k, resolved_low y sp k)
     resolved_low (when c a) sp k = omega (arith, resolved_low c sp k, resolved_low a sp k, expr_some c, expr_some a)
     resolved_low (choice c a b) sp k = omega (arith, resolved_low c sp k, resolved_low a sp k, resolved_low b sp k)
 
     pub row_low : (ts : Exprs) (sp : StaticEnv) → HasAtMost cenv order q sp.namespace → (b : SRow Constant) (z : ℕ)
-        → 2 * q ≤ z → 2 * row_height b ≤ z → 2 * row_height (resolved_row cenv order ts sp b) ≤ exprs_weight ts + z
+        → 2 * suc q ≤ z → 2 * row_height b ≤ z → 2 * row_height (resolved_row cenv order ts sp b) ≤ exprs_weight ts + z
     row_low no_exprs sp k b z h g = omega (arith, g)
     row_low (expr a ts) sp k b z h g = omega (arith, h, resolved_low a sp k, row_low ts sp k b z h g, expr_some a)
 
     pub asides_low : (ps : Pairs) (sp : StaticEnv) → HasAtMost cenv order q sp.namespace → (b : SRow Constant)
-        → 2 * row_height (resolved_asides cenv order ps sp b) ≤ max (pairs_weight 2 ps + 2 * q) (2 * row_height b)
+        → 2 * row_height (resolved_asides cenv order ps sp b) ≤ max (pairs_weight 2 ps + 2 * suc q) (2 * row_height b)
     asides_low no_pairs sp k b = omega arith
     asides_low (pair x a ps) sp k b = omega (arith, resolved_low a sp k, asides_low ps (grown sp) k b)
 
     entries_low : (ps : Pairs) (sp : StaticEnv) → HasAtMost cenv order q sp.namespace
-        → 2 * row_height (resolved_entries cenv order ps sp) ≤ pairs_weight 3 ps + 2 * q
+        → 2 * row_height (resolved_entries cenv order ps sp) ≤ pairs_weight 3 ps + 2 * suc q
     entries_low no_pairs sp k = omega arith
     entries_low (pair x a ps) sp k = omega (arith, resolved_low a sp k, entries_low ps sp k, expr_some a)
 
   -- ---- Statements
 
   condition_low : (c : Option Expr) (sp : StaticEnv) → HasAtMost cenv order q sp.namespace
-      → 2 * condition_height (resolved_condition cenv order c sp) ≤ condition_weight c + 2 * q
+      → 2 * condition_height (resolved_condition cenv order c sp) ≤ condition_weight c + 2 * suc q
   condition_low c sp k = search (arith, rules, resolved_low)
 
   filters_low : (fs : List FilterCall) (sp : StaticEnv) (e : SlotExpr Constant) → HasAtMost cenv order q sp.namespace
       → 2 * expr_height (resolved_filters cenv order fs sp e)
-      ≤ max (2 * expr_height e) (1 + filter_call_weight fs + 2 * q)
+      ≤ max (2 * expr_height e) (1 + filter_call_weight fs + 2 * suc q)
   filters_low [] sp e k = omega arith
   filters_low (f ∷ fs) sp e k =
       let i = cenv.filters.named f.name f.arguments f.keywords in
       let rest = filled_some (filter_parameters cenv.filters i) (count f.arguments) (keywords f.keywords)
       (locals_from sp.free (keywords f.keywords)) in
-      let es = slots.item e (resolved_row cenv order f.arguments sp (resolved_asides cenv order f.keywords sp rest)) in
+      let own = slots.required_if (requires_input cenv.strict i) e in
+      let es =
+      slots.item own (resolved_row cenv order f.arguments sp (resolved_asides cenv order f.keywords sp rest)) in
       omega (
         arith,
         filters_low fs sp (filtered_by i sp.escaping es) k,
         filtered_low i sp.escaping es,
+        required_low (requires_input cenv.strict i) e,
         filter_row f.arguments f.keywords (resolved_row cenv order f.arguments sp)
             (resolved_asides cenv order f.keywords sp) rest (λ b z. row_low f.arguments sp k b z)
             (λ b. asides_low f.keywords sp k b)
@@ -236,7 +244,8 @@ module _ (cenv : CompileEnv) (order : List Namespace) (q : ℕ) where
       )
 
   values_low : (ps : Pairs) (sp : StaticEnv) (line : ℕ) (b : SBody Constant) → HasAtMost cenv order q sp.namespace
-      → 2 * body_height (resolved_values cenv order ps sp line b) ≤ max (pairs_weight 0 ps + 2 * q) (2 * body_height b)
+      → 2 * body_height (resolved_values cenv order ps sp line b)
+      ≤ max (pairs_weight 0 ps + 2 * suc q) (2 * body_height b)
   values_low no_pairs sp line b k = omega arith
   values_low (pair x e ps) sp line b k = search (arith, rules, expr_some, resolved_low, values_low ps)
 
@@ -263,13 +272,24 @@ module _ (cenv : CompileEnv) (order : List Namespace) (q : ℕ) where
         → 2 * body_height (resolved_stmt cenv order s sp) ≤ stmt_free s + 2 * q
     stmt_low (choose bs other) sp k g = search (arith, rules, choice_low bs sp k, all_low other sp k)
     stmt_low (for_each line xs e c body other) sp k g =
-        search (arith, rules, fresh_low, resolved_low, condition_low, scope_low, all_low body, all_low other sp k)
+        search (
+          arith,
+          rules,
+          fresh_low,
+          required_low,
+          resolved_low,
+          condition_low,
+          scope_low,
+          all_low body,
+          all_low other sp k,
+        )
     stmt_low (set_block line x body) sp k g = search (arith, rules, scope_low, all_low body)
     stmt_low (with_values line ps body) sp k g = search (arith, rules, values_low, scope_low, all_low body)
-    stmt_low (filter_block line fs body) sp k g = search (arith, rules, scope_low, filters_low, all_low body)
+    stmt_low (filter_block line fs body) sp k g =
+        search (arith, rules, scope_low, required_low, filters_low, all_low body)
     stmt_low (autoescape line on body) sp k g = search (arith, rules, scope_low, all_low body)
     stmt_low (block line x is required body) sp k g = search (arith, rules, placed_low)
-    stmt_low s sp k g = search (arith, rules, resolved_low, set_low, include_low)
+    stmt_low s sp k g = search (arith, rules, required_low, resolved_low, set_low, include_low)
 
     pub all_low : (b : Body) (sp : StaticEnv) → HasAtMost cenv order q sp.namespace → body_bound b ≤ q
         → 2 * body_height (resolved_body cenv order b sp) ≤ body_free b + 2 * q

@@ -76,6 +76,9 @@ tested_size t es = search (arith, rules)
 filtered_size : (f : Option ℕ) (b : Bool) (es : SRow Constant) → expr_size (filtered_by f b es) ≤ row_size es + 1
 filtered_size f b es = search (arith, rules)
 
+required_size : (b : Bool) (e : SlotExpr Constant) → expr_size (slots.required_if b e) ≤ expr_size e + 4
+required_size b e = search (arith, rules)
+
 form_size : (f : OperatorForm) (a b : SlotExpr Constant) → expr_size (in_form f a b) ≤ expr_size a + expr_size b + 4
 form_size f a b = search (arith, rules)
 
@@ -230,6 +233,7 @@ module _ (cenv : CompileEnv) (order : List Namespace) where
           arith,
           rules,
           filtered_size,
+          required_size,
           resolved_sized a sp k,
           row_sized ts sp k,
           asides_sized ps sp k,
@@ -240,7 +244,7 @@ module _ (cenv : CompileEnv) (order : List Namespace) where
         search (arith, rules, turned_size, tested_size, resolved_sized a sp k, row_sized ts sp k, is_some_weight)
     resolved_sized (unary u a) sp k = omega (arith, resolved_sized a sp k)
     resolved_sized (binary b x y) sp k =
-        search (arith, rules, form_size, operator_some, resolved_sized x sp k, resolved_sized y sp k)
+        search (arith, rules, form_size, required_size, operator_some, resolved_sized x sp k, resolved_sized y sp k)
     resolved_sized (when c a) sp k = omega (arith, resolved_sized c sp k, resolved_sized a sp k)
     resolved_sized (choice c a b) sp k =
         omega (arith, resolved_sized c sp k, resolved_sized a sp k, resolved_sized b sp k)
@@ -273,7 +277,8 @@ module _ (cenv : CompileEnv) (order : List Namespace) where
       → expr_size (resolved_filters cenv order fs sp e) ≤ expr_size e + 100 * filter_call_weight fs
   filters_sized [] sp e k = omega arith
   filters_sized (f ∷ fs) sp e k =
-      search (arith, rules, filters_sized fs sp, filtered_size, row_sized, asides_sized, some_size, filter_few)
+      search
+      (arith, rules, filters_sized fs sp, filtered_size, required_size, row_sized, asides_sized, some_size, filter_few)
 
   values_sized : (ps : Pairs) (sp : StaticEnv) (line : ℕ) (b : SBody Constant) → IsFew cenv order sp.namespace
       → body_size (resolved_values cenv order ps sp line b) ≤ 100 * pairs_weight 2 ps + body_size b
@@ -303,13 +308,15 @@ module _ (cenv : CompileEnv) (order : List Namespace) where
     -- The bound of the instructions of a statement, with the copies at the start of its scope.
     pub stmt_sized : (s : Stmt) (sp : StaticEnv) → IsFew cenv order sp.namespace
         → body_size (resolved_stmt cenv order s sp) + 2 * length (set_by s) ≤ 100 * stmt_own s
-    stmt_sized (print line e) sp k = omega (arith, resolved_sized e sp k)
+    stmt_sized (print line e) sp k =
+        omega (arith, required_size cenv.strict (resolved cenv order e sp), resolved_sized e sp k)
     stmt_sized (choose bs other) sp k = search (arith, rules, length-append, choice_sized bs sp k, all_sized other sp k)
     stmt_sized (for_each line xs e c body other) sp k =
         let inner = bound_all xs sp in
         omega (
           arith,
           fresh_size sp.free xs,
+          required_size cenv.strict (resolved cenv order e sp),
           resolved_sized e sp k,
           condition_sized (fresh_targets sp.free xs) c inner (length xs) k (fresh_size sp.free xs),
           scope_sized body inner (all_sized body (bound_all (set_in body) inner) k),
@@ -329,6 +336,7 @@ module _ (cenv : CompileEnv) (order : List Namespace) where
         omega (
           arith,
           scope_sized body (grown sp) (all_sized body (bound_all (set_in body) (grown sp)) k),
+          required_size cenv.strict (resolved_filters cenv order fs (grown sp) (variable (local sp.free))),
           filters_sized fs (grown sp) (variable (local sp.free)) k,
         )
     stmt_sized (autoescape line on body) sp k =

@@ -98,6 +98,9 @@ module _ (n : ℕ) (some : 1 ≤ n) where
   filtered_local : (f : Option ℕ) (b : Bool) (es : SRow Constant) → expr_locals (filtered_by f b es) ≤ row_locals es
   filtered_local f b es = search (arith, rules)
 
+  required_local : (b : Bool) (e : SlotExpr Constant) → expr_locals (slots.required_if b e) ≡ expr_locals e
+  required_local b e = search (arith, rules)
+
   form_local : (f : OperatorForm) (a b : SlotExpr Constant)
       → expr_locals (in_form f a b) ≤ max (expr_locals a) (expr_locals b)
   form_local f a b = search (arith, rules)
@@ -191,6 +194,7 @@ module _ (n : ℕ) (some : 1 ≤ n) where
             arith,
             rules,
             filtered_local,
+            required_local,
             localed a sp t (omega (arith, k)),
             row_localed ts sp t (omega (arith, k)),
             asides_localed ps sp t (omega (arith, k)),
@@ -201,7 +205,7 @@ module _ (n : ℕ) (some : 1 ≤ n) where
       localed (test a m x ts ps) sp t k =
           search (arith, rules, turned_local, tested_local, is_some_weight, localed a sp t, row_localed ts sp t)
       localed (unary u a) sp t k = omega (arith, localed a sp t (omega (arith, k)))
-      localed (binary b x y) sp t k = search (arith, rules, form_local, localed x sp t, localed y sp t)
+      localed (binary b x y) sp t k = search (arith, rules, form_local, required_local, localed x sp t, localed y sp t)
       localed (when c a) sp t k = omega (arith, localed c sp t (omega (arith, k)), localed a sp t (omega (arith, k)))
       localed (choice c a b) sp t k = search (arith, rules, localed c sp t, localed a sp t, localed b sp t)
 
@@ -236,6 +240,7 @@ module _ (n : ℕ) (some : 1 ≤ n) where
           rules,
           filters_localed fs sp,
           filtered_local,
+          required_local,
           row_localed,
           asides_localed,
           some_local,
@@ -276,7 +281,8 @@ module _ (n : ℕ) (some : 1 ≤ n) where
     mutual
       pub stmt_localed : (s : Stmt) (sp : StaticEnv) → Below sp.table → sp.free + stmt_own s ≤ n + length (set_by s)
           → body_locals (resolved_stmt cenv order s sp) ≤ n
-      stmt_localed (print line e) sp t k = omega (arith, localed e sp t (omega (arith, k)))
+      stmt_localed (print line e) sp t k =
+          omega (arith, required_local cenv.strict (resolved cenv order e sp), localed e sp t (omega (arith, k)))
       stmt_localed (choose bs other) sp t k =
           search (arith, rules, length-append, choice_localed bs sp t, in_few, all_localed other sp t, under_few)
       stmt_localed (for_each line xs e c body other) sp t k =
@@ -285,6 +291,7 @@ module _ (n : ℕ) (some : 1 ≤ n) where
             rules,
             fresh_local sp.free xs (omega (arith, k, in_few other)),
             in_few other,
+            required_local,
             localed e sp t (omega (arith, k, in_few other)),
             condition_localed c,
             bound_below xs sp.free sp.table (omega (arith, k, in_few other)) t,
@@ -316,6 +323,7 @@ module _ (n : ℕ) (some : 1 ≤ n) where
                 (all_localed body (bound_all (set_in body) (grown sp))
                 (bound_below (set_in body) (suc sp.free) (sp.table) (omega (arith, k, in_few body)) (t))
                 (omega (arith, k))),
+            required_local cenv.strict (resolved_filters cenv order fs (grown sp) (variable (local sp.free))),
             filters_localed fs (grown sp) (variable (local sp.free)) t (omega (arith, k)) (omega (arith, k)),
           )
       stmt_localed (autoescape line on body) sp t k =

@@ -28,7 +28,7 @@ use Rattle.jt_eval.specs.Tests.{test_named}
 use Rattle.jt_eval.specs.Values.{literal}
 use Rattle.jt_rules.specs.CompileEnv.{CompileEnv}
 use Rattle.jt_semantics.specs.Bytes.{value_bytes}
-use Rattle.jt_semantics.specs.Expressions.{filter_parameters}
+use Rattle.jt_semantics.specs.Expressions.{filter_parameters, requires_input}
 use Rattle.jt_semantics.specs.Layout.{Table, slot_in, names}
 use Rattle.jt_semantics.specs.Layout.{first_slot, unit, of_chain}
 use Rattle.jt_ir.specs.Slots as slots
@@ -107,6 +107,9 @@ module _ (size : tree.Tree → ℕ) (small : (v : tree.Tree) → size v ≤ valu
   filtered_adds : (f : Option ℕ) (b : Bool) (es : SRow Constant)
       → Adds 0 0 (expr_values (filtered_by f b es)) (row_values es)
   filtered_adds f b es = search (arith, rules)
+
+  required_adds : (b : Bool) (e : SlotExpr Constant) → Joins (expr_values (slots.required_if b e)) (expr_values e) []
+  required_adds b e = search (arith, rules, single_joins)
 
   form_adds : (f : OperatorForm) (a b : SlotExpr Constant)
       → Adds (length (expr_values a)) (total size (expr_values a)) (expr_values (in_form f a b)) (expr_values b)
@@ -239,10 +242,12 @@ module _ (size : tree.Tree → ℕ) (small : (v : tree.Tree) → size v ≤ valu
           let ks = locals_from sp.free (keywords ps) in
           let rest = filled_some (filter_parameters cenv.filters i) (count ts) (keywords ps) ks in
           let es = resolved_row cenv order ts sp (resolved_asides cenv order ps sp rest) in
+          let own = slots.required_if (requires_input cenv.strict i) (resolved cenv order a sp) in
           omega (
             arith,
-            filtered_adds i sp.escaping (slots.item (resolved cenv order a sp) es),
-            values_append (expr_values (resolved cenv order a sp)) (row_values es),
+            filtered_adds i sp.escaping (slots.item own es),
+            values_append (expr_values own) (row_values es),
+            required_adds (requires_input cenv.strict i) (resolved cenv order a sp),
             expr_within a sp,
             row_adds ts sp (resolved_asides cenv order ps sp rest),
             asides_adds ps sp rest,
@@ -260,7 +265,8 @@ module _ (size : tree.Tree → ℕ) (small : (v : tree.Tree) → size v ≤ valu
             is_some_weight n,
           )
       expr_within (unary u a) sp = omega (arith, expr_within a sp, single_joins (resolved cenv order a sp))
-      expr_within (binary b x y) sp = search (arith, rules, form_adds, expr_within x sp, expr_within y sp)
+      expr_within (binary b x y) sp =
+          search (arith, rules, form_adds, required_adds, expr_within x sp, expr_within y sp)
       expr_within (when c a) sp = search (arith, rules, values_append, expr_within c sp, expr_within a sp)
       expr_within (choice c a b) sp =
           search (arith, rules, values_append, expr_within c sp, expr_within a sp, expr_within b sp)
@@ -294,7 +300,17 @@ module _ (size : tree.Tree → ℕ) (small : (v : tree.Tree) → size v ≤ valu
         (expr_values e)
     filters_add [] sp e = omega arith
     filters_add (f ∷ fs) sp e =
-        grind (arith, filtered_adds, values_append, row_adds, asides_adds, few_within, filter_plain, filters_add fs sp)
+        grind (
+          arith,
+          filtered_adds,
+          required_adds,
+          values_append,
+          row_adds,
+          asides_adds,
+          few_within,
+          filter_plain,
+          filters_add fs sp,
+        )
 
     values_add : (ps : Pairs) (sp : StaticEnv) (line : ℕ) (b : SBody Constant)
         → Adds (pairs_weight 2 ps) (pairs_bytes ps) (body_values (resolved_values cenv order ps sp line b))
@@ -330,13 +346,14 @@ module _ (size : tree.Tree → ℕ) (small : (v : tree.Tree) → size v ≤ valu
           let b = scoped (set_in body) inner (resolved_body cenv order body) in
           let d = resolved_body cenv order other sp in
           let i = resolved_condition cenv order c inner in
-          let v = resolved cenv order e sp in
+          let v = slots.required_if cenv.strict (resolved cenv order e sp) in
           omega (
             arith,
             alone_joins (slots.for_each (place sp line) (fresh_targets sp.free xs) v i b d),
             values_append (expr_values v) (condition_values i ++ (body_values b ++ body_values d)),
             values_append (condition_values i) (body_values b ++ body_values d),
             values_append (body_values b) (body_values d),
+            required_adds cenv.strict (resolved cenv order e sp),
             expr_within e sp,
             condition_within c inner,
             inner_within body inner (all_within body (bound_all (set_in body) inner)),
@@ -345,12 +362,12 @@ module _ (size : tree.Tree → ℕ) (small : (v : tree.Tree) → size v ≤ valu
       stmt_within (set_block line x body) sp = search (arith, rules, inner_within, values_append, all_within body)
       stmt_within (with_values line ps body) sp = search (arith, rules, values_add, inner_within, all_within body)
       stmt_within (filter_block line fs body) sp =
-          search (arith, rules, inner_within, filters_add, values_append, all_within body)
+          search (arith, rules, inner_within, required_adds, filters_add, values_append, all_within body)
       stmt_within (autoescape line on body) sp = search (arith, rules, inner_within, all_within body)
       stmt_within (include line n missing with_context) sp = search (arith, rules, include_within)
       stmt_within (block line x is required body) sp = search (arith, rules, placed_within)
       stmt_within (data_of t) sp = omega (arith, small (tree.text t))
-      stmt_within (print line e) sp = search (arith, rules, expr_within, values_append)
+      stmt_within (print line e) sp = search (arith, rules, required_adds, expr_within, values_append)
       stmt_within (set line xs e) sp = search (arith, rules, expr_within, values_append)
       stmt_within s sp = omega arith
 

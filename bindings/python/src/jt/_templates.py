@@ -1,11 +1,11 @@
 """Templates: from sources to images."""
 import codecs
 import os
-import threading
 from dataclasses import dataclass, fields, replace
 from types import MappingProxyType
 from typing import Any, Dict, Iterator, List, Mapping, Optional, Tuple, Union
 
+from . import _forks
 from ._contexts import ContextLike
 from ._errors import NoMemory, Refused
 from ._images import Budget, Image
@@ -19,12 +19,17 @@ _MOST_BYTES = 1_048_576
 
 @dataclass(frozen=True)
 class Options:
-    """How templates are read; the defaults are those of the program `jt`."""
+    """How templates are read; the defaults are those of the program `jt`.
+
+    With `strict` an undefined value is a fault where it is printed, iterated over, joined by `~`, or
+    the input of a filter other than `default`.
+    """
 
     trim_blocks: bool = False
     lstrip_blocks: bool = False
     keep_trailing_newline: bool = False
     autoescape: bool = True
+    strict: bool = False
 
     def __post_init__(self) -> None:
         for field in fields(self):
@@ -52,8 +57,6 @@ class Templates:
             raise TypeError(f"the options are no Options: {options!r}")
         self._sources = dict(sources)
         self._options = replace(options, **chosen)
-        # (A finalizer or a signal handler may compile in the middle of a call.)
-        self._lock = threading.RLock()
         # This handle is only shared from: each compilation has one of its own.
         self._first = LibraryHandle()
         _load(self._sources, self._first)
@@ -89,7 +92,7 @@ class Templates:
             # (A name that has no UTF-8 is missing too.)
             explanation = self._explanation(str(name).encode(errors="replace"))
             raise Refused("C1 Missing", name, explanation)
-        with self._lock:
+        with _forks.section:
             if name not in self._templates:
                 self._templates[name] = Template._of(name, self)
             return self._templates[name]
@@ -112,7 +115,7 @@ class Templates:
     def _shared(self) -> LibraryHandle:
         """Returns a second handle of the sources."""
         handle = LibraryHandle()
-        with self._lock:
+        with _forks.section:
             if library.jt_library_share(self._first, handle) != 0:
                 raise NoMemory()
         return handle
@@ -166,7 +169,7 @@ class Template:
         self._entry = _encoded(entry, "the name of the template")
         self._name = entry
         self._templates = templates
-        self._lock = threading.RLock()
+        self._lock = _forks.LongLock()
         self._image: Optional[Image] = None
 
     @property
@@ -187,7 +190,8 @@ class Template:
     ) -> str:
         """Runs the template once and returns its text.
 
-        Values may be given by keywords too, as for `Image.run`: `page.render(name="World")`.
+        Values may be given by keywords too, as for `Image.run`: `page.render(name="World")`. For a
+        deadline, `compile` the template and `run` its image.
 
         # Errors
         Those of `compile` and of `Image.run`.
@@ -196,7 +200,9 @@ class Template:
 
     def _compiled(self) -> Image:
         """Returns the image that is kept."""
-        with self._lock:
+        if self._image is not None:
+            return self._image
+        with self._lock.here():
             if self._image is not None:
                 return self._image
             try:
