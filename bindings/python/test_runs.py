@@ -570,25 +570,34 @@ class Calls(Holding):
 class Tasks(Holding):
     """Runs in a loop of asyncio."""
 
-    def test_other_tasks_have_their_turns(self):
+    def test_runs_take_turns(self):
         image, context = Template("t", {"t": ROWS}).compile(), Context({"n": 60_000})
-        ticks = []
-
-        async def tick():
-            while True:
-                ticks.append(time.monotonic())
-                await asyncio.sleep(0.001)
 
         async def main():
-            ticking = asyncio.create_task(tick())
-            texts = await asyncio.gather(*[image.arun(context, AMPLE) for _ in range(3)])
-            ticking.cancel()
-            return texts
+            return await asyncio.gather(*[image.arun(context, AMPLE) for _ in range(3)])
 
         wanted = "".join(f"{i}," for i in range(60_000))
         self.assertEqual(asyncio.run(main()), [wanted] * 3)
-        self.assertGreater(len(ticks), 5)
-        self.assertLess(max(b - a for a, b in zip(ticks, ticks[1:])), LATE)
+
+    def test_other_tasks_have_their_turns(self):
+        # The runs end only when they are cancelled, so the time that they take does not matter.
+        image, turns = endless(), 30
+
+        async def main():
+            runs = [asyncio.create_task(image.arun(None, AMPLE)) for _ in range(3)]
+            times = [time.monotonic()]
+            for _ in range(turns):
+                await asyncio.sleep(0.001)
+                times.append(time.monotonic())
+            for task in runs:
+                self.assertFalse(task.done())
+                task.cancel()
+            ends = await asyncio.gather(*runs, return_exceptions=True)
+            self.assertEqual([type(it) for it in ends], [asyncio.CancelledError] * 3)
+            return times
+
+        times = asyncio.run(main())
+        self.assertLess(max(b - a for a, b in zip(times, times[1:])), LATE)
 
     def test_a_task_that_is_cancelled(self):
         image = endless()
