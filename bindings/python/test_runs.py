@@ -71,6 +71,18 @@ def by_slices(image, context, budget, steps):
         return outcome_of(run.outcome), count
 
 
+class Soon(threading.Event):
+    """An event that another thread sets a moment after a run has asked for it first."""
+
+    timer = None
+
+    def is_set(self):
+        if self.timer is None:
+            self.timer = threading.Timer(0.1, self.set)
+            self.timer.start()
+        return super().is_set()
+
+
 class Elapsed:
     """The seconds of a block."""
 
@@ -380,7 +392,8 @@ class Deadlines(Holding):
                 self.assertGreaterEqual(elapsed.seconds, timeout)
                 self.assertLess(elapsed.seconds, timeout + LATE)
                 used = caught.exception.used
-                self.assertGreater(used.fuel, 1000)
+                # (A machine that is busy may execute one slice alone.)
+                self.assertGreater(used.fuel, 0)
                 self.assertEqual(used.output, 0)
                 self.assertEqual(str(caught.exception), f"timed out after {used}")
                 self.assertIsInstance(caught.exception, builtins.TimeoutError)
@@ -439,12 +452,11 @@ class Deadlines(Holding):
         self.assertEqual(library.jt_memory_limit(jt._library.NO_LIMIT), jt._library.NO_LIMIT)
 
     def test_a_run_is_cancelled(self):
-        image, stop = endless(), threading.Event()
-        threading.Timer(0.1, stop.set).start()
+        image, stop = endless(), Soon()
         with Elapsed() as elapsed, self.assertRaises(Cancelled) as caught:
             image.run(None, AMPLE, cancel=stop)
         self.assertLess(elapsed.seconds, LATE)
-        self.assertGreater(caught.exception.used.fuel, 1000)
+        self.assertGreater(caught.exception.used.fuel, 0)
         self.assertEqual(str(caught.exception), f"cancelled after {caught.exception.used}")
         # it is set: no run begins
         with Counted() as counted, self.assertRaises(Cancelled):
