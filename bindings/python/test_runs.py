@@ -534,16 +534,24 @@ class Signals(Holding):
 
     def test_a_handler_runs_while_a_run_goes_on(self):
         image, other = endless(), Template("t", {"t": ROWS}).compile()
-        found = []
-        before = signal.signal(signal.SIGALRM, lambda *_: found.append(other.run({"n": 1})))
-        signal.setitimer(signal.ITIMER_REAL, 0.01, 0.01)
+        found, is_over = [], threading.Event()
+
+        def render(*_):
+            found.append(other.run({"n": 1}))
+            if len(found) == 3:
+                is_over.set()
+            # (A signal that comes again by itself could come within this handler, if that is slow.)
+            signal.setitimer(signal.ITIMER_REAL, 0.01)
+
+        before = signal.signal(signal.SIGALRM, render)
+        signal.setitimer(signal.ITIMER_REAL, 0.01)
         try:
-            with self.assertRaises(TimeoutError):
-                image.run(None, AMPLE, timeout=0.3)
+            with self.assertRaises(Cancelled):
+                image.run(None, AMPLE, cancel=is_over, timeout=60)
         finally:
             signal.setitimer(signal.ITIMER_REAL, 0)
             signal.signal(signal.SIGALRM, before)
-        self.assertGreater(len(found), 1)
+        self.assertGreaterEqual(len(found), 3)
         self.assertEqual(set(found), {"0,"})
 
 
