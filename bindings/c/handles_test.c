@@ -1,40 +1,18 @@
 /* Tests the calls over handles. Prints what fails; the last line is 'N passed, M failed'. */
 #include <pthread.h>
-#include <stdio.h>
 #include <stdlib.h>
 #include <string.h>
 
 #include "expect.h"
-#include "jt.h"
-
-#define BYTES(text) (const uint8_t *)(text), strlen(text)
 
 static const struct jt_budget budget = {
     .fuel = 100000, .output = 65536, .depth = 8, .size = 65536, .nesting = 8};
 static const struct jt_options options = JT_OPTIONS;
 
-/* What a call has answered and written; the rest of the buffer is 'x'. */
-struct result {
-    struct jt_answer answer;
-    uint8_t out[256];
-};
-
-static void clear(struct result *result) { memset(result->out, 'x', sizeof result->out); }
-
-static bool same(const struct result *a, const struct result *b) {
-    return a->answer.status == b->answer.status && a->answer.code == b->answer.code &&
-           a->answer.line == b->answer.line && a->answer.letter == b->answer.letter &&
-           a->answer.length == b->answer.length && memcmp(a->out, b->out, sizeof a->out) == 0;
-}
-
-static bool is(struct jt_answer answer, uint32_t status, uint32_t code) {
-    return answer.status == status && answer.code == code;
-}
-
 /* Templates, and the image of `page`. */
 static const char texts[] = "pageHello {{ name }}!listed{% include 'page' %}bad{{ 1 + }}";
 static const struct jt_lengths lengths[] = {{4, 17}, {6, 20}, {3, 9}};
-#define TEMPLATES BYTES(texts), lengths, sizeof lengths / sizeof *lengths
+#define TEMPLATES BYTES(texts), lengths, COUNT_OF(lengths)
 static uint8_t image[4096];
 static size_t image_length;
 
@@ -98,7 +76,7 @@ static void libraries(void) {
     struct result a, b;
     expect(is(jt_library_load(TEMPLATES, &library, a.out, 256), JT_DONE, 0) && library.full,
            "a library is loaded");
-    for (size_t which = 0; which < sizeof entries / sizeof *entries; which++) {
+    for (size_t which = 0; which < COUNT_OF(entries); which++) {
         clear(&a);
         clear(&b);
         const struct jt_answer usual = jt_compile(TEMPLATES, BYTES(entries[which]), options,
@@ -202,7 +180,7 @@ static void runs(void) {
     struct jt_outcome outcome = {0};
     struct result a, b;
     jt_image_load(image, image_length, &kept, a.out, 256);
-    for (size_t which = 0; which < sizeof contexts / sizeof *contexts; which++) {
+    for (size_t which = 0; which < COUNT_OF(contexts); which++) {
         expect(is(jt_context_load(BYTES(contexts[which]), &context, a.out, 256), JT_DONE, 0),
                "a context replaces a context");
         for (size_t room = 0; room <= 64; room++) {
@@ -238,7 +216,7 @@ static void runs(void) {
 /* Contexts of which one is refused, one makes a fault, and one is longer than what is left. */
 static const char many[] = "{\"name\": 7}{\"name\": []}[1{\"name\": \"<World>\"}{}[";
 static const uint64_t many_lengths[] = {11, 12, 2, 19, 2, 7, 1};
-enum { MANY = sizeof many_lengths / sizeof *many_lengths };
+enum { MANY = COUNT_OF(many_lengths) };
 
 /* Writes what a call of its own answers for a context of this length. */
 static struct result one_of_many(const uint8_t *context, uint64_t length, size_t left) {

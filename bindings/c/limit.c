@@ -7,13 +7,11 @@
 #include <sys/resource.h>
 
 #include "expect.h"
-#include "jt.h"
 
 #define PAGE                                                                                     \
     "{% extends 'base' %}{% block body %}{% for x in xs %}{{ x ~ '!' }}{% endfor %}"              \
     "{% set y = range(1000) %}{{ y | length }}{% endblock %}"
 #define BASE "<p>{% block body %}{% endblock %}</p>"
-#define LENGTH(text) (sizeof(text) - 1)
 #define STEP 64
 #define MOST (192 * 1024)
 
@@ -34,8 +32,6 @@ static struct jt_run filled_run;
 static const struct jt_lengths lengths[] = {{4, LENGTH(PAGE)}, {4, LENGTH(BASE)}};
 #define TEMPLATES bytes(texts), LENGTH(texts), lengths, 2
 static const struct jt_options options = JT_OPTIONS;
-
-static const uint8_t *bytes(const char *given) { return (const uint8_t *)given; }
 
 static struct jt_answer compile(uint8_t *to) {
     return jt_compile(TEMPLATES, bytes("page"), 4, options, to, sizeof out);
@@ -230,7 +226,7 @@ int main(void) {
     const int64_t held_first = jt_memory_held();
     expect(held_first > 0, "handles hold memory");
     numbers();
-    for (size_t which = 0; which < sizeof calls / sizeof *calls; which++) {
+    for (size_t which = 0; which < COUNT_OF(calls); which++) {
         each_limit(which);
     }
     many_lists();

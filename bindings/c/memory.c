@@ -4,7 +4,7 @@
 #include <stdlib.h>
 #include <string.h>
 
-#include "jt.h"
+#include "expect.h"
 
 struct tried {
     bool ok;
@@ -43,7 +43,6 @@ void rattle_dealloc(unsigned char *p) {
     "{% extends 'base' %}{% block body %}{% for x in xs %}{{ x ~ '!' }}{% endfor %}{% endblock " \
     "%}"
 #define BASE "<p>{% block body %}{% endblock %}</p>"
-#define LENGTH(text) (sizeof(text) - 1)
 
 static const char texts[] = "page" PAGE "base" BASE;
 static const char context[] = "{\"xs\": [\"a\", [1, 2]]}";
@@ -83,8 +82,6 @@ enum {
 
 static const struct jt_lengths lengths[] = {{4, LENGTH(PAGE)}, {4, LENGTH(BASE)}};
 #define TEMPLATES bytes(texts), LENGTH(texts), lengths, 2
-
-static const uint8_t *bytes(const char *text) { return (const uint8_t *)text; }
 
 static void free_all(void) {
     jt_library_free(&library);
@@ -167,10 +164,6 @@ static struct jt_answer call(int which, uint8_t *to) {
     }
 }
 
-static bool same(struct jt_answer a, struct jt_answer b) {
-    return a.status == b.status && a.code == b.code && a.line == b.line && a.length == b.length;
-}
-
 /* Returns whether the handle that a call fills is as its status says. */
 static bool is_filled(int which, uint32_t status) {
     switch (which) {
@@ -206,7 +199,6 @@ static bool is_filled(int which, uint32_t status) {
 
 int main(void) {
     static uint8_t wanted[65536];
-    int passed = 0, failed = 0;
     for (int which = 0; which < COUNT; which++) {
         const bool faults = which == RUN || which == RENDER || which == IMAGE_RUN ||
                             which == IMAGE_RUN_EACH || which == RUN_OUTCOME ||
@@ -231,11 +223,11 @@ int main(void) {
             last = growths;
             well = is_filled(which, answer.status) &&
                    (answer.status == JT_MEMORY ||
-                    (same(answer, usual) && memcmp(out, wanted, usual.length) == 0)) &&
+                    (equal_answers(answer, usual) && memcmp(out, wanted, usual.length) == 0)) &&
                    (at >= last || which < LIBRARY_LOAD || answer.status == JT_MEMORY);
             /* the handles are still good for the call, but a lost run stays lost */
             if (well && which >= LIBRARY_COMPILE && which != RUN_ADVANCE) {
-                well = same(call(which, out), usual);
+                well = equal_answers(call(which, out), usual);
             }
             free_all();
             well = well && held == 0;
@@ -246,6 +238,5 @@ int main(void) {
             printf("call %d, growth %ld: status %u, %ld held\n", which, at, usual.status, held);
         }
     }
-    printf("%d passed, %d failed\n", passed, failed);
-    return failed != 0;
+    return tally();
 }

@@ -1,14 +1,8 @@
 /* Tests runs in slices. Prints what fails; the last line is 'N passed, M failed'. */
-#include <stdio.h>
 #include <stdlib.h>
 #include <string.h>
 
 #include "expect.h"
-#include "jt.h"
-
-#define BYTES(text) (const uint8_t *)(text), strlen(text)
-#define COUNT(array) (sizeof(array) / sizeof *(array))
-#define ROOM 4096
 
 #define USUAL {.fuel = 100000, .output = 65536, .depth = 8, .size = 65536, .nesting = 8}
 static const struct jt_budget budget = USUAL;
@@ -23,7 +17,6 @@ static const struct jt_options options = JT_OPTIONS;
 #define PART "{% set kept %}<{{ name }}>{% endset %}{{ kept }}{{ 1 // n }}"
 #define LONG "{% for x in range(300) %}{{ x }}, {% endfor %}"
 #define ENDLESS "{% for x in range(30000) %}{% for y in range(30000) %}{% endfor %}{% endfor %}"
-#define LENGTH(text) (sizeof(text) - 1)
 static const char texts[] = "page" PAGE "part" PART "long" LONG "endless" ENDLESS;
 static const struct jt_lengths lengths[] = {
     {4, LENGTH(PAGE)}, {4, LENGTH(PART)}, {4, LENGTH(LONG)}, {7, LENGTH(ENDLESS)}};
@@ -47,24 +40,6 @@ static const struct {
     {"long", "{}", {0, 65536, 8, 65536, 8}, JT_SPENT, JT_FUEL},
 };
 
-/* What a call has answered and written; the rest of the buffer is 'x'. */
-struct result {
-    struct jt_answer answer;
-    uint8_t out[ROOM];
-};
-
-static void clear(struct result *result) { memset(result->out, 'x', sizeof result->out); }
-
-static bool same(const struct result *a, const struct result *b) {
-    return a->answer.status == b->answer.status && a->answer.code == b->answer.code &&
-           a->answer.line == b->answer.line && a->answer.letter == b->answer.letter &&
-           a->answer.length == b->answer.length && memcmp(a->out, b->out, sizeof a->out) == 0;
-}
-
-static bool is(struct jt_answer answer, uint32_t status, uint32_t code) {
-    return answer.status == status && answer.code == code;
-}
-
 static bool equal(struct jt_used a, struct jt_used b) {
     return a.fuel == b.fuel && a.output == b.output && a.depth == b.depth;
 }
@@ -76,8 +51,8 @@ static struct jt_context context;
 static void load(size_t work) {
     static uint8_t made[65536], out[ROOM];
     const struct jt_answer answer =
-        jt_compile(BYTES(texts), lengths, COUNT(lengths), BYTES(works[work].entry), options, made,
-                   sizeof made);
+        jt_compile(BYTES(texts), lengths, COUNT_OF(lengths), BYTES(works[work].entry), options,
+                   made, sizeof made);
     expect(is(answer, JT_DONE, 0), "a template compiles");
     expect(is(jt_image_load(made, answer.length, &image, out, ROOM), JT_DONE, 0), "an image");
     expect(is(jt_context_load(BYTES(works[work].context), &context, out, ROOM), JT_DONE, 0),
@@ -139,7 +114,7 @@ static void outcomes(size_t work) {
     clear(&wanted);
     wanted.answer = whole(works[work].budget, wanted.out, ROOM);
     expect(is(wanted.answer, works[work].status, works[work].code), "a workload");
-    for (size_t i = 0; i < COUNT(sizes); i++) {
+    for (size_t i = 0; i < COUNT_OF(sizes); i++) {
         struct jt_run run = {0};
         expect(jt_run_start(&image, &context, works[work].budget, &run) == JT_DONE && run.full,
                "a run starts");
@@ -198,9 +173,9 @@ static void stops(size_t work) {
 
 /* Checks that runs that take turns go on as if alone, after image and context were freed. */
 static void turns(void) {
-    struct jt_run runs[COUNT(works)] = {{0}};
-    struct result wanted[COUNT(works)], result;
-    for (size_t i = 0; i < COUNT(works); i++) {
+    struct jt_run runs[COUNT_OF(works)] = {{0}};
+    struct result wanted[COUNT_OF(works)], result;
+    for (size_t i = 0; i < COUNT_OF(works); i++) {
         load(i);
         clear(&wanted[i]);
         wanted[i].answer = whole(works[i].budget, wanted[i].out, ROOM);
@@ -209,11 +184,11 @@ static void turns(void) {
     }
     for (bool going = true; going;) {
         going = false;
-        for (size_t i = 0; i < COUNT(works); i++) {
+        for (size_t i = 0; i < COUNT_OF(works); i++) {
             going = jt_run_advance(&runs[i], 3) == JT_GOING || going;
         }
     }
-    for (size_t i = 0; i < COUNT(works); i++) {
+    for (size_t i = 0; i < COUNT_OF(works); i++) {
         clear(&result);
         result.answer = jt_run_outcome(&runs[i], result.out, ROOM);
         expect(same(&result, &wanted[i]), "the outcome of a run that took turns");
@@ -308,7 +283,7 @@ static void memory(void) {
 }
 
 int main(void) {
-    for (size_t work = 0; work < COUNT(works); work++) {
+    for (size_t work = 0; work < COUNT_OF(works); work++) {
         outcomes(work);
         expect(jt_memory_held() == 0, "nothing is held after outcomes");
     }

@@ -3,9 +3,6 @@
 #include <string.h>
 
 #include "expect.h"
-#include "jt.h"
-
-static const uint8_t *bytes(const char *text) { return (const uint8_t *)text; }
 
 static const struct jt_options usual = {.autoescape = 1};
 static const struct jt_budget budget = {
@@ -64,7 +61,7 @@ static void statuses(void) {
         {JT_FAULT_RANGE, "{{ range(1, 2, 0) }}"},
         {JT_FAULT_BAD_ARGUMENT, "{{ 'a'|replace('', 'b') }}"},
     };
-    for (size_t i = 0; i < sizeof faults / sizeof *faults; i++) {
+    for (size_t i = 0; i < COUNT_OF(faults); i++) {
         expect(tells(rendered(faults[i].source, "{}", 64), JT_FAULT, faults[i].code, 1, "t"),
                faults[i].source);
     }

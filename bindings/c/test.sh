@@ -7,27 +7,9 @@ library=$(realpath "${1:?usage: c/test.sh LIBRARY PROGRAM}") || exit 2
 program=$(realpath "${2:?usage: c/test.sh LIBRARY PROGRAM}") || exit 2
 here=$(realpath "$(dirname "$0")")
 cc=${CC:-cc}
-passed=0
-failed=0
-room=$(mktemp -d)
-trap 'rm -rf "$room"' EXIT
+# shellcheck source=bindings/trials.sh
+. "$here/../trials.sh"
 unset MAKEFLAGS MFLAGS LD_LIBRARY_PATH
-
-# Runs one trial: its name, and a command. Shows what the command prints if it fails.
-try() {
-    local name=$1
-    shift
-    if "$@" > "$room/said" 2>&1; then
-        passed=$((passed + 1))
-    else
-        failed=$((failed + 1))
-        echo "$name: failed"
-        tail -n 20 "$room/said"
-    fi
-}
-
-# Checks that a tool is there, and prints what is left out if it is not.
-have() { command -v "$1" > "$room/said" || { echo "left out: $1 is not installed" && false; }; }
 
 # Runs make over the tree, with all that it builds in the temporary folder.
 tree() {
@@ -269,5 +251,4 @@ if have valgrind; then
     try 'threads under helgrind' valgrind -q --tool=helgrind --error-exitcode=9 "$room/handles_test"
 fi
 
-echo "$passed passed, $failed failed"
-[ "$failed" -eq 0 ]
+tally

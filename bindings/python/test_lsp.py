@@ -190,6 +190,16 @@ def explained_rows(*files):
                 yield asked, sources, options, rows.unfolded(wanted)
 
 
+def refused_folders():
+    """Returns the rows of refused templates of usual length: sources, a folder of them, and what is wanted."""
+    for asked, sources, options, wanted in explained_rows():
+        if wanted != "ok" and len("".join(sources.values())) <= 20_000:
+            folder = Folder("/nowhere", jt.Options(**options))
+            for name, source in sources.items():
+                folder.put(name, source)
+            yield asked, sources, folder, wanted
+
+
 class Places(unittest.TestCase):
     def test_tags_and_tokens(self):
         source = '{%- if a -%}{{ {"}}": {}}.a -}}{# {{ #}{% raw %}{{ x {% endraw %}{{ "%}" }}'
@@ -225,12 +235,7 @@ class Places(unittest.TestCase):
 
     def test_each_refusal_of_the_rows_has_its_token(self):
         seen = named = 0
-        for asked, sources, options, wanted in explained_rows():
-            if wanted == "ok" or len("".join(sources.values())) > 20_000:
-                continue
-            folder = Folder("/nowhere", jt.Options(**options))
-            for name, source in sources.items():
-                folder.put(name, source)
+        for asked, sources, folder, wanted in refused_folders():
             refused = _verdicts.refusal(folder.templates, "t")
             with self.subTest(asked):
                 self.assertIsNotNone(refused)
@@ -260,12 +265,7 @@ class Places(unittest.TestCase):
 
     def test_each_fix_of_the_rows_removes_what_it_fixes(self):
         tried = {}
-        for asked, sources, options, wanted in explained_rows():
-            if wanted == "ok" or len("".join(sources.values())) > 20_000:
-                continue
-            folder = Folder("/nowhere", jt.Options(**options))
-            for name, source in sources.items():
-                folder.put(name, source)
+        for asked, sources, folder, wanted in refused_folders():
             for finding in _verdicts.check(folder, "t", 1).findings[:1]:
                 for fix in finding.fixes:
                     source = sources["t"]
@@ -332,7 +332,7 @@ class Places(unittest.TestCase):
             _verdicts.check(folder, "t", 0.1)
             _answers.completion(folder, "t", len(source), None)
             _answers.symbols(folder, "t")
-            self.assertLess(time.monotonic() - begin, 10, source[:20])
+            self.assertLess(time.monotonic() - begin, PATIENCE, source[:20])
 
 
 class Contexts(unittest.TestCase):
@@ -377,7 +377,7 @@ class Contexts(unittest.TestCase):
         folder.put("t", "{% for a in range(100000) %}{% for b in range(100000) %}{% endfor %}{% endfor %}")
         begin = time.monotonic()
         ran = _context.run(folder, "t", self.context({}))
-        self.assertLess(time.monotonic() - begin, 5)
+        self.assertLess(time.monotonic() - begin, PATIENCE)
         self.assertIsNotNone(ran.finding or ran.said)
 
 

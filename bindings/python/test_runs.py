@@ -71,6 +71,18 @@ def by_slices(image, context, budget, steps):
         return outcome_of(run.outcome), count
 
 
+class Soon(threading.Event):
+    """An event that another thread sets a moment after a run has asked for it first."""
+
+    timer = None
+
+    def is_set(self):
+        if self.timer is None:
+            self.timer = threading.Timer(0.1, self.set)
+            self.timer.start()
+        return super().is_set()
+
+
 class Elapsed:
     """The seconds of a block."""
 
@@ -380,7 +392,8 @@ class Deadlines(Holding):
                 self.assertGreaterEqual(elapsed.seconds, timeout)
                 self.assertLess(elapsed.seconds, timeout + LATE)
                 used = caught.exception.used
-                self.assertGreater(used.fuel, 1000)
+                # (A machine that is busy may execute one slice alone.)
+                self.assertGreater(used.fuel, 0)
                 self.assertEqual(used.output, 0)
                 self.assertEqual(str(caught.exception), f"timed out after {used}")
                 self.assertIsInstance(caught.exception, builtins.TimeoutError)
@@ -439,12 +452,11 @@ class Deadlines(Holding):
         self.assertEqual(library.jt_memory_limit(jt._library.NO_LIMIT), jt._library.NO_LIMIT)
 
     def test_a_run_is_cancelled(self):
-        image, stop = endless(), threading.Event()
-        threading.Timer(0.1, stop.set).start()
+        image, stop = endless(), Soon()
         with Elapsed() as elapsed, self.assertRaises(Cancelled) as caught:
             image.run(None, AMPLE, cancel=stop)
         self.assertLess(elapsed.seconds, LATE)
-        self.assertGreater(caught.exception.used.fuel, 1000)
+        self.assertGreater(caught.exception.used.fuel, 0)
         self.assertEqual(str(caught.exception), f"cancelled after {caught.exception.used}")
         # it is set: no run begins
         with Counted() as counted, self.assertRaises(Cancelled):
@@ -522,16 +534,24 @@ class Signals(Holding):
 
     def test_a_handler_runs_while_a_run_goes_on(self):
         image, other = endless(), Template("t", {"t": ROWS}).compile()
-        found = []
-        before = signal.signal(signal.SIGALRM, lambda *_: found.append(other.run({"n": 1})))
-        signal.setitimer(signal.ITIMER_REAL, 0.01, 0.01)
+        found, is_over = [], threading.Event()
+
+        def render(*_):
+            found.append(other.run({"n": 1}))
+            if len(found) == 3:
+                is_over.set()
+            # (A signal that comes again by itself could come within this handler, if that is slow.)
+            signal.setitimer(signal.ITIMER_REAL, 0.01)
+
+        before = signal.signal(signal.SIGALRM, render)
+        signal.setitimer(signal.ITIMER_REAL, 0.01)
         try:
-            with self.assertRaises(TimeoutError):
-                image.run(None, AMPLE, timeout=0.3)
+            with self.assertRaises(Cancelled):
+                image.run(None, AMPLE, cancel=is_over, timeout=60)
         finally:
             signal.setitimer(signal.ITIMER_REAL, 0)
             signal.signal(signal.SIGALRM, before)
-        self.assertGreater(len(found), 1)
+        self.assertGreaterEqual(len(found), 3)
         self.assertEqual(set(found), {"0,"})
 
 
