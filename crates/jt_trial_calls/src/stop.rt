@@ -8,8 +8,10 @@ use std::num::ParseIntError;
 /// The reason why the trials stop early: a growth outside of the calls was refused, or any other
 /// error.
 #[derive(Debug, Drop)]
-pub(crate) enum Stop {
+pub enum Stop {
+    /// A refused growth outside of the calls.
     NoMemory,
+    /// A line that names no trial, or an output that fails.
     Other,
 }
 
