@@ -22,6 +22,7 @@ pub mod TopValues
 pub mod MapSize
 pub mod AllocationPoints
 mod CacheCorrect
+pub mod CheckCorrect
 mod LoadedMember
 mod MemberCorrect
 mod MemberFound

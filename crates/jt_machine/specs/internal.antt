@@ -4,4 +4,5 @@ pub mod Iterating
 pub mod Making
 pub mod Meters
 pub mod Numbers
+pub mod Required
 pub mod StackView

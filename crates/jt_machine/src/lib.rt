@@ -32,6 +32,7 @@ mod measure;
 mod metered_run;
 mod numbers;
 mod outcome;
+mod required;
 mod runs;
 mod sink;
 mod stack;
