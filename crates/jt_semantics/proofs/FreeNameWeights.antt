@@ -44,7 +44,7 @@ abbrev mutual
   branch_free no_branches = 0
   branch_free (branch line c body rest) = 5 + weight c + body_free body + branch_free rest
 
-pairs_bound : (ps : Pairs) → pairs_weight 2 ps ≡ pairs_weight 0 ps + 2 * pairs_count ps
+pub pairs_bound : (ps : Pairs) → pairs_weight 2 ps ≡ pairs_weight 0 ps + 2 * pairs_count ps
 pairs_bound no_pairs = omega arith
 pairs_bound (pair x e ps) = omega (arith, pairs_bound ps)
 

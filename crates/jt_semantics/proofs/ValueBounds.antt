@@ -41,7 +41,7 @@ use Rattle.jt_semantics.specs.Resolve.{invoked_body, invoked_super, invoked, res
 use Rattle.jt_semantics.specs.Resolve.{resolved_entries, resolved_condition, resolved_filters, resolved_values}
 use Rattle.jt_semantics.specs.Resolve.{placed_body, resolved_stmt, resolved_body, resolved_choice, left_out}
 use Rattle.jt_semantics.specs.Measure.{stmt_own, body_own, branch_own}
-use Rattle.jt_semantics.proofs.InstructionBounds.{expr_some, is_some_weight, none_filled}
+use Rattle.jt_semantics.proofs.TreesHaveParts.{expr_some, is_some_weight, none_filled}
 
 pub literal_is : (l : Literal) → value_bytes (literal l) ≡ literal_bytes l
 literal_is l = search (arith, rules)
