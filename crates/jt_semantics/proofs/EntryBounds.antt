@@ -1,25 +1,25 @@
 -- A resolved tree needs at most half an entry for each of its tokens, and in addition one for each
 -- parameter that a call loads.
 use Rattle.std.proofs.Common.{◌≡◌, ℕ, suc, ◌+◌, ◌*◌, max, ◌≤◌, List, length, Option, arith, subst, rules}
-use Rattle.jt_ast.specs.Expressions.{Expr, weight}
+use Rattle.jt_ast.specs.Expressions.{weight}
 use Rattle.jt_chains.specs.Uses.{set_in}
-use Rattle.jt_ast.specs.Statements.{Stmt, Body, stmt_bound, body_bound}
-use Rattle.jt_chains.specs.Chain.{Namespace, given}
+use Rattle.jt_ast.specs.Statements.{Body, body_bound}
+use Rattle.jt_chains.specs.Chain.{Namespace, Template, given}
 use Rattle.jt_rules.specs.CompileEnv.{CompileEnv}
 use Rattle.jt_semantics.specs.Layout.{globals}
 use Rattle.jt_ir.specs.Slots as slots
 use Rattle.jt_ir.specs.Slots.{NaryOp, SlotExpr, SRow, Targets, SlotStmt, SBody}
 use Rattle.jt_ir.specs.Pool.{Constant}
-use Rattle.jt_semantics.specs.Resolve.{followed, StaticEnv, place, bound_all, scoped, resolved, resolved_stmt}
-use Rattle.jt_semantics.specs.Resolve.{resolved_body}
+use Rattle.jt_semantics.specs.Resolve.{followed, StaticEnv, place, bound_all, scoped, resolved_chain, resolved_body}
 use Rattle.jt_ir.specs.Size.{targets_height, nary_op_height, expr_height, row_height, condition_height, stmt_height}
 use Rattle.jt_ir.specs.Size.{body_height}
-use Rattle.jt_semantics.specs.Measure.{stmt_own, body_own, HasAtMost}
-use Rattle.jt_semantics.proofs.FreeNameWeights.{stmt_free, body_free}
+use Rattle.jt_semantics.specs.Measure.{body_own, HasAtMost}
+use Rattle.jt_semantics.proofs.FreeNameWeights.{body_free, templates_bound}
+use Rattle.jt_semantics.proofs.TreesHaveParts.{templates_own, templates_free}
 use Rattle.jt_semantics.proofs.InstructionBounds.{filter_few, CalleeFew, callee_few}
 use Rattle.jt_semantics.proofs.TreesHaveParts as parts
 
-pub followed_low : (a b : SBody Constant) → body_height (followed a b) ≡ max (body_height a) (body_height b)
+followed_low : (a b : SBody Constant) → body_height (followed a b) ≡ max (body_height a) (body_height b)
 followed_low slots.end b = omega arith
 followed_low (slots.stmt s rest) b = omega (arith, followed_low rest b)
 
@@ -128,13 +128,6 @@ module _ (cenv : CompileEnv) (order : List Namespace) (q : ℕ) where
     name_counts = λ h k l. tt;
   }
 
-  pub resolved_low : (e : Expr) (sp : StaticEnv) → HasAtMost cenv order q sp.namespace
-      → 2 * expr_height (resolved cenv order e sp) ≤ weight e + 1 + 2 * suc q
-  resolved_low e sp k =
-      let n = sp.free + weight e in
-      expr_lies q (parts.expr_of (Low q) n cenv order (HasAtMost cenv order q) (meets n) e sp k
-      (parts.all_fine (Low q) (λ s. tt) sp.table) (omega arith))
-
   -- The bound of the entries of a scope, whose copies come before the body.
   pub scope_low : (b : Body) (sp : StaticEnv)
       → 2 * body_height (resolved_body cenv order b (bound_all (set_in b) sp)) ≤ body_free b + 2 * q
@@ -149,16 +142,17 @@ module _ (cenv : CompileEnv) (order : List Namespace) (q : ℕ) where
             (parts.all_fine (Low q) (λ s. tt) sp.table)),
       )
 
-  pub stmt_low : (s : Stmt) (sp : StaticEnv) → HasAtMost cenv order q sp.namespace → stmt_bound s ≤ q
-      → 2 * body_height (resolved_stmt cenv order s sp) ≤ stmt_free s + 2 * q
-  stmt_low s sp k g =
-      let n = sp.free + stmt_own s in
-      body_lies q (parts.stmt_of (Low q) n cenv order (HasAtMost cenv order q) (meets n) s sp k
-      (parts.all_fine (Low q) (λ s. tt) sp.table) (omega arith) (λ i l. omega arith))
-
   pub all_low : (b : Body) (sp : StaticEnv) → HasAtMost cenv order q sp.namespace → body_bound b ≤ q
       → 2 * body_height (resolved_body cenv order b sp) ≤ body_free b + 2 * q
   all_low b sp k g =
       let n = sp.free + body_own b in
       body_lies q (parts.body_of (Low q) n cenv order (HasAtMost cenv order q) (meets n) b sp k
       (parts.all_fine (Low q) (λ s. tt) sp.table) (omega arith) (λ i l. omega arith))
+
+  -- The bound of the entries of a chain's templates.
+  pub chain_low : (h : Namespace) (ts : List Template) → HasAtMost cenv order q h → templates_bound ts ≤ q
+      → 2 * body_height (resolved_chain cenv order h ts) ≤ templates_free ts + 2 * q
+  chain_low h ts k g =
+      let n = templates_own ts in
+      body_lies q (parts.chain_of (Low q) n cenv order (HasAtMost cenv order q) (meets n) h ts k (omega arith)
+      (λ i l. omega arith))

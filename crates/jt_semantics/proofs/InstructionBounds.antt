@@ -3,22 +3,22 @@ use Rattle.std.proofs.Common.{◌≡◌, ℕ, ◌+◌, ◌*◌, min, ◌≤◌, 
 use Rattle.std.proofs.Common.{Option, None, arith, subst, rules}
 use Rattle.std.specs.List.{AllByRecursion as Each}
 use Rattle.jt_ast.specs.Expressions.{Expr, weight, Text}
-use Rattle.jt_chains.specs.Uses.{set_by, set_in}
-use Rattle.jt_ast.specs.Statements.{Stmt, Body}
+use Rattle.jt_chains.specs.Uses.{set_in}
+use Rattle.jt_ast.specs.Statements.{Body}
 use Rattle.jt_chains.specs.Chain.{Sources, Namespace, MacroBody, macro_of, is_private, public_macro, Definition}
 use Rattle.jt_chains.specs.Chain.{given_to, Callee, a_macro, named_alone, of_library, in_library, named_in, callee}
-use Rattle.jt_chains.specs.Chain.{a_cycle, given}
+use Rattle.jt_chains.specs.Chain.{a_cycle, given, Template}
 use Rattle.jt_rules.specs.CompileEnv.{CompileEnv}
 use Rattle.jt_semantics.specs.Expressions.{filter_parameters}
 use Rattle.jt_semantics.specs.Layout.{globals, block_parameters}
 use Rattle.jt_ir.specs.Slots as slots
 use Rattle.jt_ir.specs.Slots.{NaryOp, SlotExpr, SRow, Targets, SlotStmt, SBody}
 use Rattle.jt_ir.specs.Pool.{Constant}
-use Rattle.jt_semantics.specs.Resolve.{followed, StaticEnv, place, bound_all, scoped, resolved_stmt, resolved_body}
+use Rattle.jt_semantics.specs.Resolve.{followed, StaticEnv, place, bound_all, scoped, resolved_body, resolved_chain}
 use Rattle.jt_ir.specs.Size.{targets_size, nary_op_size, expr_size, row_size, condition_size, stmt_size, body_size}
-use Rattle.jt_semantics.specs.Measure.{stmt_own, body_own, GivenFew, IsFew, HasFewNames}
+use Rattle.jt_semantics.specs.Measure.{body_own, GivenFew, IsFew, HasFewNames}
 use Rattle.jt_semantics.proofs.TreesHaveParts as parts
-use Rattle.jt_semantics.proofs.TreesHaveParts.{stmt_owns, body_owns}
+use Rattle.jt_semantics.proofs.TreesHaveParts.{body_owns, templates_own, templates_owns}
 
 pub filter_few : (cenv : CompileEnv) (f : Option ℕ) → ((i : ℕ) → length (cenv.filters.parameters i) ≤ 3)
     → length (filter_parameters cenv.filters f) ≤ 3
@@ -67,7 +67,7 @@ module _ (q : ℕ) where
       → CalleeFew q (weight e) (callee sources ms e)
   callee_few sources ms e h = search (arith, rules, given_few, in_few)
 
-pub followed_size : (a b : SBody Constant) → body_size (followed a b) ≡ body_size a + body_size b
+followed_size : (a b : SBody Constant) → body_size (followed a b) ≡ body_size a + body_size b
 followed_size slots.end b = omega arith
 followed_size (slots.stmt s rest) b = omega (arith, followed_size rest b)
 
@@ -199,18 +199,6 @@ module _ (cenv : CompileEnv) (order : List Namespace) where
             (parts.all_fine Small (λ s. tt) sp.table)),
       )
 
-  -- The bound of the instructions of a statement, with the copies at the start of its scope.
-  pub stmt_sized : (s : Stmt) (sp : StaticEnv) → IsFew cenv order sp.namespace
-      → body_size (resolved_stmt cenv order s sp) + 2 * length (set_by s) ≤ 100 * stmt_own s
-  stmt_sized s sp k =
-      let n = sp.free + stmt_own s in
-      omega (
-        arith,
-        stmt_owns s,
-        body_size_of (parts.stmt_of Small n cenv order (IsFew cenv order) (meets n) s sp k
-            (parts.all_fine Small (λ s. tt) sp.table) (omega arith) (λ i l. tt)),
-      )
-
   pub all_sized : (b : Body) (sp : StaticEnv) → IsFew cenv order sp.namespace
       → body_size (resolved_body cenv order b sp) + 2 * length (set_in b) ≤ 100 * body_own b
   all_sized b sp k =
@@ -220,4 +208,16 @@ module _ (cenv : CompileEnv) (order : List Namespace) where
         body_owns b,
         body_size_of (parts.body_of Small n cenv order (IsFew cenv order) (meets n) b sp k
             (parts.all_fine Small (λ s. tt) sp.table) (omega arith) (λ i l. tt)),
+      )
+
+  -- The bound of the instructions of a chain's templates.
+  pub chain_sized : (h : Namespace) → IsFew cenv order h → (ts : List Template)
+      → body_size (resolved_chain cenv order h ts) ≤ 100 * templates_own ts
+  chain_sized h k ts =
+      let n = templates_own ts in
+      omega (
+        arith,
+        templates_owns ts,
+        body_size_of (parts.chain_of Small n cenv order (IsFew cenv order) (meets n) h ts k (omega arith)
+            (λ i l. tt)),
       )

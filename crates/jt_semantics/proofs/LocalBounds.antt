@@ -1,22 +1,21 @@
 -- A resolved tree uses at most the locals that are in use before it, and one more for each token.
 use Rattle.std.proofs.Common.{◌≡◌, ℕ, suc, ◌+◌, max, ◌≤◌, List, [], ◌∷◌, length, Option, Some, None, arith, rules}
 use Rattle.std.specs.List.{AllByRecursion as Each}
-use Rattle.jt_ast.specs.Expressions.{Expr, weight, Text}
-use Rattle.jt_chains.specs.Uses.{set_by, set_in}
-use Rattle.jt_ast.specs.Statements.{Stmt, Body}
-use Rattle.jt_chains.specs.Chain.{Namespace}
+use Rattle.jt_ast.specs.Expressions.{Text}
+use Rattle.jt_chains.specs.Uses.{set_in}
+use Rattle.jt_ast.specs.Statements.{Body}
+use Rattle.jt_chains.specs.Chain.{Namespace, Template}
 use Rattle.jt_rules.specs.CompileEnv.{CompileEnv}
 use Rattle.jt_semantics.specs.Layout.{Table, globals_from, names, block_parameters, first_slot}
 use Rattle.jt_ir.specs.Slots as slots
-use Rattle.jt_ir.specs.Slots.{Slot, local, SlotExpr, SRow, Targets, SlotStmt, SBody}
+use Rattle.jt_ir.specs.Slots.{Slot, SlotExpr, SRow, Targets, SlotStmt, SBody}
 use Rattle.jt_ir.specs.Pool.{Constant}
-use Rattle.jt_semantics.specs.Resolve.{followed, StaticEnv, place, bound_table, bound_all, scoped, resolved}
-use Rattle.jt_semantics.specs.Resolve.{resolved_stmt, resolved_body}
+use Rattle.jt_semantics.specs.Resolve.{followed, StaticEnv, bound_all, scoped, resolved_body, resolved_chain}
 use Rattle.jt_ir.specs.Locals.{slot_locals, slots_locals, targets_locals, expr_locals, row_locals, condition_locals}
 use Rattle.jt_ir.specs.Locals.{stmt_locals, body_locals}
-use Rattle.jt_semantics.specs.Measure.{stmt_own, body_own}
+use Rattle.jt_semantics.specs.Measure.{body_own}
 use Rattle.jt_semantics.proofs.TreesHaveParts as parts
-pub use Rattle.jt_semantics.proofs.TreesHaveParts.{in_few}
+use Rattle.jt_semantics.proofs.TreesHaveParts.{templates_own}
 
 module _ (n : ℕ) (some : 1 ≤ n) where
   -- Each local is below the limit.
@@ -81,7 +80,7 @@ module _ (n : ℕ) (some : 1 ≤ n) where
   values_local parts.no_values h = h
   values_local (parts.value s e v) h = omega (arith, s, expr_local e, values_local v h)
 
-  pub followed_local : (a b : SBody Constant) → body_locals (followed a b) ≡ max (body_locals a) (body_locals b)
+  followed_local : (a b : SBody Constant) → body_locals (followed a b) ≡ max (body_locals a) (body_locals b)
   followed_local slots.end b = omega arith
   followed_local (slots.stmt s rest) b = omega (arith, followed_local rest b)
 
@@ -113,10 +112,6 @@ module _ (n : ℕ) (some : 1 ≤ n) where
   globals_below m [] = tt
   globals_below m (x ∷ xs) = (omega arith, globals_below (suc m) xs)
 
-  pub bound_below : (xs : List Text) (m : ℕ) (t : Table) → m + length xs ≤ n → Below t → Below (bound_table xs m t)
-  bound_below [] m t h g = g
-  bound_below (x ∷ xs) m t h g = bound_below xs (suc m) ((x, local m) ∷ t) (omega (arith, h)) (omega (arith, h), g)
-
   module _ (cenv : CompileEnv) (order : List Namespace)
       (few : (h : Namespace) (x : Text) → length (block_parameters cenv order h x) ≤ n) where
     abbrev Any : Namespace → Type 0
@@ -138,21 +133,13 @@ module _ (n : ℕ) (some : 1 ≤ n) where
       name_counts = λ h k l. tt;
     }
 
-    pub localed : (e : Expr) (sp : StaticEnv) → Below sp.table → sp.free + weight e ≤ n
-        → expr_locals (resolved cenv order e sp) ≤ n
-    localed e sp t k = expr_local (parts.expr_of Local n cenv order Any meets e sp tt t k)
+    pub chain_localed : (h : Namespace) (ts : List Template) → templates_own ts ≤ n
+        → body_locals (resolved_chain cenv order h ts) ≤ n
+    chain_localed h ts k = body_local (parts.chain_of Local n cenv order Any meets h ts tt k (λ i l. tt))
 
-    pub scope_localed : (b : Body) (sp : StaticEnv) → Below sp.table → sp.free + body_own b ≤ n
-        → body_locals (resolved_body cenv order b (bound_all (set_in b) sp)) ≤ n
-        → body_locals (scoped (set_in b) sp (resolved_body cenv order b)) ≤ n
-    scope_localed b sp t k h =
-        copies_local (parts.copied_of Local n cenv order Any meets (place sp 1) sp.table sp.free (set_in b)
-        (resolved_body cenv order b (bound_all (set_in b) sp)) (omega (arith, k, in_few b)) t) h
-
-    pub stmt_localed : (s : Stmt) (sp : StaticEnv) → Below sp.table → sp.free + stmt_own s ≤ n + length (set_by s)
-        → body_locals (resolved_stmt cenv order s sp) ≤ n
-    stmt_localed s sp t k = body_local (parts.stmt_of Local n cenv order Any meets s sp tt t k (λ i l. tt))
-
-    pub all_localed : (b : Body) (sp : StaticEnv) → Below sp.table → sp.free + body_own b ≤ n + length (set_in b)
-        → body_locals (resolved_body cenv order b sp) ≤ n
-    all_localed b sp t k = body_local (parts.body_of Local n cenv order Any meets b sp tt t k (λ i l. tt))
+    -- The bound of the locals of a body with parameters.
+    pub routine_localed : (xs : List Text) (b : Body) (sp : StaticEnv) → Below sp.table
+        → sp.free + length xs + body_own b ≤ n
+        → body_locals (scoped (set_in b) (bound_all xs sp) (resolved_body cenv order b)) ≤ n
+    routine_localed xs b sp t k =
+        body_local (parts.routine_of Local n cenv order Any meets xs b sp tt t k (λ i l. tt))

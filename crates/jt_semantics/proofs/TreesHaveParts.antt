@@ -27,7 +27,7 @@ use Rattle.jt_ast.specs.Statements.{no_branches, branch, condition_weight, filte
 use Rattle.jt_ast.specs.Statements.{branch_bound, pairs_count}
 use Rattle.jt_chains.specs.Chain.{Sources, Namespace, a_chain, MacroBody, Definition, given, Callee, a_macro, a_range}
 use Rattle.jt_chains.specs.Chain.{a_super, a_block, a_cycle, no_callee, callee, named_alone, of_library, in_library}
-use Rattle.jt_chains.specs.Chain.{is_loop}
+use Rattle.jt_chains.specs.Chain.{is_loop, Template}
 use Rattle.jt_ids.specs.declared.loop_field.LoopField.{LoopField}
 use Rattle.jt_ids.specs.declared.loop_field.LoopField.TheVariants.{Index0}
 use Rattle.jt_ids.specs.LoopTable.{field_named}
@@ -47,9 +47,10 @@ use Rattle.jt_semantics.specs.Resolve.{StaticEnv, place, grown, left_out, bound_
 use Rattle.jt_semantics.specs.Resolve.{next_given, first_body, invoked_body, invoked_super, invoked, resolved}
 use Rattle.jt_semantics.specs.Resolve.{resolved_row, resolved_asides, resolved_entries, resolved_condition}
 use Rattle.jt_semantics.specs.Resolve.{resolved_filters, resolved_values, placed_body, resolved_stmt, resolved_body}
-use Rattle.jt_semantics.specs.Resolve.{resolved_choice}
+use Rattle.jt_semantics.specs.Resolve.{resolved_choice, resolved_sets, top_senv, resolved_chain}
+use Rattle.jt_semantics.specs.Meaning.{is_set}
 use Rattle.jt_semantics.specs.Measure.{stmt_own, body_own, branch_own}
-use Rattle.jt_semantics.proofs.FreeNameWeights.{stmt_free, body_free, branch_free, pairs_bound}
+use Rattle.jt_semantics.proofs.FreeNameWeights.{stmt_free, body_free, branch_free, pairs_bound, templates_bound}
 
 -- ---- Weights are positive
 
@@ -107,6 +108,24 @@ mutual
   branch_owns : (bs : Branches) → branch_own bs ≡ branch_free bs + 2 * branch_binds bs
   branch_owns no_branches = omega arith
   branch_owns (branch line c body rest) = omega (arith, body_owns body, branch_owns rest)
+
+-- ---- The weights of the templates of a chain
+
+abbrev pub templates_own : List Template → ℕ
+templates_own [] = 0
+templates_own (t ∷ ts) = body_own t.body + templates_own ts
+
+abbrev pub templates_free : List Template → ℕ
+templates_free [] = 0
+templates_free (t ∷ ts) = body_free t.body + templates_free ts
+
+abbrev pub templates_bind : List Template → ℕ
+templates_bind [] = 0
+templates_bind (t ∷ ts) = body_binds t.body + templates_bind ts
+
+pub templates_owns : (ts : List Template) → templates_own ts ≡ templates_free ts + 2 * templates_bind ts
+templates_owns [] = omega arith
+templates_owns (t ∷ ts) = omega (arith, body_owns t.body, templates_owns ts)
 
 pub names_few : (ps : Pairs) → length (keywords ps) ≤ pairs_weight 2 ps
 names_few no_pairs = omega arith
@@ -540,7 +559,8 @@ module _ (p : Parts) (n : ℕ) (cenv : CompileEnv) (order : List Namespace) (Kno
 
   placed_of : (sp : StaticEnv) (i : Option ℕ) (x : Text) (t : Table) → Known sp.namespace → Fine p t
       → BodyOf p 9 0 0 (placed_body cenv order sp i x t)
-  placed_of sp None x t g h = wide (omega arith) (omega arith) (omega arith) (alone (print_part (plain (leaf absent_leaf))))
+  placed_of sp None x t g h =
+      wide (omega arith) (omega arith) (omega arith) (alone (print_part (plain (leaf absent_leaf))))
   placed_of sp (Some i) x t g h =
       let xs = block_parameters cenv order sp.namespace x in
       wide (omega arith) (omega arith) (omega arith)
@@ -648,3 +668,38 @@ module _ (p : Parts) (n : ℕ) (cenv : CompileEnv) (order : List Namespace) (Kno
         (alone (branch_part (expr_of e sp g t (omega (arith, k, l, in_few body, under_few rest)))
         (body_of body sp g t (omega (arith, k, l, under_few rest)) (λ i h. f i (omega arith)))
         (choice_of rest sp w c d other g t (omega (arith, k, l, in_few body)) (λ i h. f i (omega arith)) h)))
+
+  -- ---- Routines
+
+  sets_of : (h : Namespace) (b : Body) (x : Text) → Known h → body_own b ≤ n → AreFew (body_bound b)
+      → BodyOf p (body_free b) (body_binds b) 0 (resolved_sets cenv order b (top_senv cenv order h x))
+  sets_of h end x g k f = empty
+  sets_of h (stmt s rest) x g k f =
+      let sp = top_senv cenv order h x in
+      let left = resolved_sets cenv order rest sp in
+      let later = sets_of h rest x g (omega arith) (λ i l. f i (omega arith)) in
+      either_of (BodyOf p (body_free (stmt s rest)) (body_binds (stmt s rest)) 0) (is_set s)
+      (followed (resolved_stmt cenv order s sp) left) left
+      (wide (omega arith) (omega arith) (omega arith)
+      (after (stmt_of s sp g (m.tables h) (omega arith) (λ i l. f i (omega arith))) later))
+      (wide (omega arith) (omega arith) (omega arith) later)
+
+  pub chain_of : (h : Namespace) (ts : List Template) → Known h → templates_own ts ≤ n → AreFew (templates_bound ts)
+      → BodyOf p (templates_free ts) (templates_bind ts) 0 (resolved_chain cenv order h ts)
+  chain_of h [] g k f = empty
+  chain_of h (t ∷ []) g k f =
+      wide (omega arith) (omega arith) (omega arith)
+      (body_of t.body (top_senv cenv order h t.name) g (m.tables h) (omega arith) (λ i l. f i (omega arith)))
+  chain_of h (t ∷ (u ∷ us)) g k f =
+      after (sets_of h t.body t.name g (omega arith) (λ i l. f i (omega arith)))
+      (chain_of h (u ∷ us) g (omega arith) (λ i l. f i (omega arith)))
+
+  -- A body with parameters, in a scope of its own.
+  pub routine_of : (xs : List Text) (b : Body) (sp : StaticEnv) → Known sp.namespace → Fine p sp.table
+      → sp.free + length xs + body_own b ≤ n → AreFew (body_bound b)
+      → BodyOf p (max 2 (body_free b)) (body_binds b) 0
+      (scoped (set_in b) (bound_all xs sp) (resolved_body cenv order b))
+  routine_of xs b sp g t k f =
+      let inner = bound_all xs sp in
+      inner_of b inner (bound_of xs sp.free sp.table (omega arith) t) (omega arith)
+      (λ r l. body_of b (bound_all (set_in b) inner) g r l f)
