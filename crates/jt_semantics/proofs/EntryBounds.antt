@@ -13,8 +13,8 @@ use Rattle.jt_ir.specs.Pool.{Constant}
 use Rattle.jt_semantics.specs.Resolve.{followed, StaticEnv, place, bound_all, scoped, resolved_chain, resolved_body}
 use Rattle.jt_ir.specs.Size.{targets_height, nary_op_height, expr_height, row_height, condition_height, stmt_height}
 use Rattle.jt_ir.specs.Size.{body_height}
-use Rattle.jt_semantics.specs.Measure.{body_own, HasAtMost}
-use Rattle.jt_semantics.proofs.FreeNameWeights.{body_free, templates_bound}
+use Rattle.jt_semantics.specs.Measure.{HasAtMost}
+use Rattle.jt_semantics.proofs.FreeNameWeights.{body_free, body_own, templates_bound}
 use Rattle.jt_semantics.proofs.TreesHaveParts.{templates_own, templates_free}
 use Rattle.jt_semantics.proofs.InstructionBounds.{filter_few, CalleeFew, callee_few}
 use Rattle.jt_semantics.proofs.TreesHaveParts as parts

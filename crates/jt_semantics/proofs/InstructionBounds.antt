@@ -16,9 +16,10 @@ use Rattle.jt_ir.specs.Slots.{NaryOp, SlotExpr, SRow, Targets, SlotStmt, SBody}
 use Rattle.jt_ir.specs.Pool.{Constant}
 use Rattle.jt_semantics.specs.Resolve.{followed, StaticEnv, place, bound_all, scoped, resolved_body, resolved_chain}
 use Rattle.jt_ir.specs.Size.{targets_size, nary_op_size, expr_size, row_size, condition_size, stmt_size, body_size}
-use Rattle.jt_semantics.specs.Measure.{body_own, GivenFew, IsFew, HasFewNames}
+use Rattle.jt_semantics.specs.Measure.{GivenFew, IsFew, HasFewNames}
+use Rattle.jt_semantics.proofs.FreeNameWeights.{body_own}
 use Rattle.jt_semantics.proofs.TreesHaveParts as parts
-use Rattle.jt_semantics.proofs.TreesHaveParts.{body_owns, templates_own, templates_owns}
+use Rattle.jt_semantics.proofs.TreesHaveParts.{templates_own}
 
 pub filter_few : (cenv : CompileEnv) (f : Option ℕ) → ((i : ℕ) → length (cenv.filters.parameters i) ≤ 3)
     → length (filter_parameters cenv.filters f) ≤ 3
@@ -205,7 +206,6 @@ module _ (cenv : CompileEnv) (order : List Namespace) where
       let n = sp.free + body_own b in
       omega (
         arith,
-        body_owns b,
         body_size_of (parts.body_of Small n cenv order (IsFew cenv order) (meets n) b sp k
             (parts.all_fine Small (λ s. tt) sp.table) (omega arith) (λ i l. tt)),
       )
@@ -217,7 +217,6 @@ module _ (cenv : CompileEnv) (order : List Namespace) where
       let n = templates_own ts in
       omega (
         arith,
-        templates_owns ts,
         body_size_of (parts.chain_of Small n cenv order (IsFew cenv order) (meets n) h ts k (omega arith)
             (λ i l. tt)),
       )

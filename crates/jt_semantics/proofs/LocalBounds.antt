@@ -13,7 +13,7 @@ use Rattle.jt_ir.specs.Pool.{Constant}
 use Rattle.jt_semantics.specs.Resolve.{followed, StaticEnv, bound_all, scoped, resolved_body, resolved_chain}
 use Rattle.jt_ir.specs.Locals.{slot_locals, slots_locals, targets_locals, expr_locals, row_locals, condition_locals}
 use Rattle.jt_ir.specs.Locals.{stmt_locals, body_locals}
-use Rattle.jt_semantics.specs.Measure.{body_own}
+use Rattle.jt_semantics.proofs.FreeNameWeights.{body_own}
 use Rattle.jt_semantics.proofs.TreesHaveParts as parts
 use Rattle.jt_semantics.proofs.TreesHaveParts.{templates_own}
 

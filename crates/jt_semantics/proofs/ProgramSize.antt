@@ -26,7 +26,8 @@ use Rattle.jt_semantics.specs.Programs.{body_routines, entry_routines, chain_rou
 use Rattle.jt_ir.specs.Size.{expr_size, row_size, condition_size, stmt_size, body_size, routines_size, expr_height}
 use Rattle.jt_ir.specs.Size.{row_height, condition_height, stmt_height, body_height}
 use Rattle.jt_ir.specs.Locals.{body_locals}
-use Rattle.jt_semantics.specs.Measure.{stmt_own, body_own, branch_own, IsFew, HasAtMost, AreFew, IsSized}
+use Rattle.jt_semantics.specs.Measure.{IsFew, HasAtMost, AreFew, IsSized}
+use Rattle.jt_semantics.proofs.FreeNameWeights.{stmt_own, body_own, branch_own, pairs_bound}
 use Rattle.jt_chains.specs.Weights.{templates_weight, chains_weight}
 use Rattle.jt_semantics.proofs.InstructionBounds.{parameters_few, all_sized, scope_sized, chain_sized}
 use Rattle.jt_semantics.proofs.LocalBounds.{Below, globals_below, chain_localed, routine_localed}
@@ -65,7 +66,7 @@ module _ (t : Text) where
     stmt_once (choose bs other) on = search (arith, rules, bodies_append, branch_once bs on, body_once other on)
     stmt_once (for_each line xs e c body other) on = grind (arith, bodies_append, body_once body on, body_once other on)
     stmt_once (set_block line x body) on = omega (arith, body_once body on)
-    stmt_once (with_values line ps body) on = omega (arith, body_once body on)
+    stmt_once (with_values line ps body) on = omega (arith, pairs_bound ps, body_once body on)
     stmt_once (filter_block line fs body) on = omega (arith, body_once body on)
     stmt_once (autoescape line now body) on = omega (arith, body_once body now)
     stmt_once (macro line x ps body) on = omega (arith, body_once body on)

@@ -49,8 +49,8 @@ use Rattle.jt_semantics.specs.Resolve.{resolved_row, resolved_asides, resolved_e
 use Rattle.jt_semantics.specs.Resolve.{resolved_filters, resolved_values, placed_body, resolved_stmt, resolved_body}
 use Rattle.jt_semantics.specs.Resolve.{resolved_choice, resolved_sets, top_senv, resolved_chain}
 use Rattle.jt_semantics.specs.Meaning.{is_set}
-use Rattle.jt_semantics.specs.Measure.{stmt_own, body_own, branch_own}
-use Rattle.jt_semantics.proofs.FreeNameWeights.{stmt_free, body_free, branch_free, pairs_bound, templates_bound}
+use Rattle.jt_semantics.proofs.FreeNameWeights.{stmt_free, body_free, branch_free, stmt_binds, body_binds, branch_binds}
+use Rattle.jt_semantics.proofs.FreeNameWeights.{stmt_own, body_own, branch_own, pairs_bound, templates_bound}
 
 -- ---- Weights are positive
 
@@ -70,50 +70,7 @@ expr_some e = omega arith
 pub is_some_weight : (b : Bool) → 2 ≤ is_weight b
 is_some_weight b = search (arith, rules)
 
--- ---- The names that a body binds, without the bodies of its blocks and macros
-
-abbrev mutual
-  pub stmt_binds : Stmt → ℕ
-  stmt_binds (choose bs other) = branch_binds bs + body_binds other
-  stmt_binds (for_each line xs e c body other) = length xs + body_binds body + body_binds other
-  stmt_binds (set line xs e) = length xs
-  stmt_binds (set_block line x body) = 1 + body_binds body
-  stmt_binds (with_values line ps body) = pairs_count ps + body_binds body
-  stmt_binds (filter_block line fs body) = body_binds body
-  stmt_binds (autoescape line on body) = body_binds body
-  stmt_binds s = 0
-
-  pub body_binds : Body → ℕ
-  body_binds end = 0
-  body_binds (stmt s rest) = stmt_binds s + body_binds rest
-
-  pub branch_binds : Branches → ℕ
-  branch_binds no_branches = 0
-  branch_binds (branch line c body rest) = body_binds body + branch_binds rest
-
-mutual
-  pub stmt_owns : (s : Stmt) → stmt_own s ≡ stmt_free s + 2 * stmt_binds s
-  stmt_owns (choose bs other) = omega (arith, branch_owns bs, body_owns other)
-  stmt_owns (for_each line xs e c body other) = omega (arith, body_owns body, body_owns other)
-  stmt_owns (set_block line x body) = omega (arith, body_owns body)
-  stmt_owns (with_values line ps body) = omega (arith, pairs_bound ps, body_owns body)
-  stmt_owns (filter_block line fs body) = omega (arith, body_owns body)
-  stmt_owns (autoescape line on body) = omega (arith, body_owns body)
-  stmt_owns s = omega arith
-
-  pub body_owns : (b : Body) → body_own b ≡ body_free b + 2 * body_binds b
-  body_owns end = omega arith
-  body_owns (stmt s rest) = omega (arith, stmt_owns s, body_owns rest)
-
-  branch_owns : (bs : Branches) → branch_own bs ≡ branch_free bs + 2 * branch_binds bs
-  branch_owns no_branches = omega arith
-  branch_owns (branch line c body rest) = omega (arith, body_owns body, branch_owns rest)
-
 -- ---- The weights of the templates of a chain
-
-abbrev pub templates_own : List Template → ℕ
-templates_own [] = 0
-templates_own (t ∷ ts) = body_own t.body + templates_own ts
 
 abbrev pub templates_free : List Template → ℕ
 templates_free [] = 0
@@ -123,9 +80,8 @@ abbrev pub templates_bind : List Template → ℕ
 templates_bind [] = 0
 templates_bind (t ∷ ts) = body_binds t.body + templates_bind ts
 
-pub templates_owns : (ts : List Template) → templates_own ts ≡ templates_free ts + 2 * templates_bind ts
-templates_owns [] = omega arith
-templates_owns (t ∷ ts) = omega (arith, body_owns t.body, templates_owns ts)
+abbrev pub templates_own : List Template → ℕ
+templates_own ts = templates_free ts + 2 * templates_bind ts
 
 pub names_few : (ps : Pairs) → length (keywords ps) ≤ pairs_weight 2 ps
 names_few no_pairs = omega arith
@@ -606,11 +562,12 @@ module _ (p : Parts) (n : ℕ) (cenv : CompileEnv) (order : List Namespace) (Kno
         (λ r l. body_of body (bound_all (set_in body) sp) g r l (λ i h. f i (omega arith))))))
     stmt_of (with_values line ps body) sp g t k f =
         let inner = bound_all (keywords ps) sp in
-        let bound = bound_of (keywords ps) sp.free sp.table (omega (arith, k, names_few ps)) t in
+        let bound = bound_of (keywords ps) sp.free sp.table (omega (arith, k, names_few ps, pairs_bound ps)) t in
         wide (omega arith) (omega arith) (omega arith)
         (within
-        (values_of ps sp line (scoped (set_in body) inner (resolved_body cenv order body)) g t (omega arith))
-        (inner_of body inner bound (omega (arith, k, names_few ps))
+        (values_of ps sp line (scoped (set_in body) inner (resolved_body cenv order body)) g t
+        (omega (arith, k, pairs_bound ps)))
+        (inner_of body inner bound (omega (arith, k, names_few ps, pairs_bound ps))
         (λ r l. body_of body (bound_all (set_in body) inner) g r l (λ i h. f i (omega arith)))))
     stmt_of (filter_block line fs body) sp g t k f =
         let inner = grown sp in

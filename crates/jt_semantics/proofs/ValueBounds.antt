@@ -40,7 +40,7 @@ use Rattle.jt_semantics.specs.Resolve.{Part, StaticEnv, place, bound_all, copied
 use Rattle.jt_semantics.specs.Resolve.{invoked_body, invoked_super, invoked, resolved, resolved_row, resolved_asides}
 use Rattle.jt_semantics.specs.Resolve.{resolved_entries, resolved_condition, resolved_filters, resolved_values}
 use Rattle.jt_semantics.specs.Resolve.{placed_body, resolved_stmt, resolved_body, resolved_choice, left_out}
-use Rattle.jt_semantics.specs.Measure.{stmt_own, body_own, branch_own}
+use Rattle.jt_semantics.proofs.FreeNameWeights.{stmt_own, body_own, branch_own, pairs_bound}
 use Rattle.jt_semantics.proofs.TreesHaveParts.{expr_some, is_some_weight, none_filled}
 
 pub literal_is : (l : Literal) → value_bytes (literal l) ≡ literal_bytes l
@@ -360,7 +360,7 @@ module _ (size : tree.Tree → ℕ) (small : (v : tree.Tree) → size v ≤ valu
             all_within other sp,
           )
       stmt_within (set_block line x body) sp = search (arith, rules, inner_within, values_append, all_within body)
-      stmt_within (with_values line ps body) sp = search (arith, rules, values_add, inner_within, all_within body)
+      stmt_within (with_values line ps body) sp = search (arith, rules, values_add, pairs_bound, inner_within, all_within body)
       stmt_within (filter_block line fs body) sp =
           search (arith, rules, inner_within, required_adds, filters_add, values_append, all_within body)
       stmt_within (autoescape line on body) sp = search (arith, rules, inner_within, all_within body)
