@@ -1,21 +1,22 @@
 -- A resolved tree needs at most half an entry for each of its tokens, and in addition one for each
 -- parameter that a call loads.
-use Rattle.std.proofs.Common.{◌≡◌, ℕ, suc, ◌+◌, ◌*◌, max, ◌≤◌, List, length, Option, arith, subst, rules}
-use Rattle.jt_ast.specs.Expressions.{weight}
+use Rattle.std.proofs.Common.{◌≡◌, ℕ, suc, ◌+◌, ◌*◌, max, min, ◌≤◌, List, Option, arith, subst, rules}
+use Rattle.jt_ast.specs.Expressions.{weight, Text}
 use Rattle.jt_chains.specs.Uses.{set_in}
 use Rattle.jt_ast.specs.Statements.{Body, body_bound}
 use Rattle.jt_chains.specs.Chain.{Namespace, Template, given}
 use Rattle.jt_rules.specs.CompileEnv.{CompileEnv}
+use Rattle.jt_semantics.specs.Expressions.{filter_parameters}
 use Rattle.jt_semantics.specs.Layout.{globals}
 use Rattle.jt_ir.specs.Slots as slots
 use Rattle.jt_ir.specs.Slots.{NaryOp, SlotExpr, SRow, Targets, SlotStmt, SBody}
 use Rattle.jt_ir.specs.Pool.{Constant}
-use Rattle.jt_semantics.specs.Resolve.{followed, StaticEnv, place, bound_all, scoped, resolved_chain, resolved_body}
+use Rattle.jt_semantics.specs.Resolve.{followed, StaticEnv, bound_all, scoped, resolved_chain, resolved_body}
 use Rattle.jt_ir.specs.Size.{targets_height, nary_op_height, expr_height, row_height, condition_height, stmt_height}
 use Rattle.jt_ir.specs.Size.{body_height}
 use Rattle.jt_semantics.specs.Measure.{HasAtMost}
-use Rattle.jt_semantics.proofs.FreeNameWeights.{body_free, body_own, templates_bound}
-use Rattle.jt_semantics.proofs.TreesHaveParts.{templates_own, templates_free}
+use Rattle.jt_semantics.proofs.FreeNameWeights.{body_free, templates_bound}
+use Rattle.jt_semantics.proofs.TreesHaveParts.{templates_free}
 use Rattle.jt_semantics.proofs.InstructionBounds.{filter_few, CalleeFew, callee_few}
 use Rattle.jt_semantics.proofs.TreesHaveParts as parts
 
@@ -37,16 +38,21 @@ module _ (q : ℕ) where
     names = λ n. Unit {0};
   }
 
+  read_low : {e : SlotExpr Constant} → parts.IsRead Low e → expr_height e ≡ 1
+  read_low e = search (arith, rules)
+
   leaf_low : {e : SlotExpr Constant} → parts.IsLeaf Low e → expr_height e ≡ 1
-  leaf_low e = search (arith, rules)
+  leaf_low e = search (arith, rules, read_low)
 
-  loads_low : {n : ℕ} {es : SRow Constant} → parts.LoadsOf Low n es → row_height es ≡ n
+  loads_low : {n k : ℕ} {es : SRow Constant} → parts.LoadsOf Low n k es → row_height es ≡ n
   loads_low parts.no_loads = omega arith
-  loads_low (parts.load e es) = omega (arith, leaf_low e, loads_low es)
+  loads_low (parts.load l e es) = omega (arith, read_low e, loads_low es)
+  loads_low (parts.default k es) = omega (arith, loads_low es)
 
-  copies_low : {n : ℕ} {a b : SBody Constant} → parts.CopiesOf Low n a b → body_height b ≤ max 1 (body_height a)
+  copies_low : {n : ℕ} {a b : SBody Constant} → parts.CopiesOf Low n a b
+      → body_height b ≤ max (min 1 n) (body_height a)
   copies_low parts.no_copies = omega arith
-  copies_low (parts.copy s e c) = omega (arith, leaf_low e, copies_low c)
+  copies_low (parts.copy s e c) = omega (arith, read_low e, copies_low c)
 
   mutual
     expr_lies : {w : ℕ} {e : SlotExpr Constant} → parts.ExprOf Low w e → 2 * expr_height e ≤ w + 1 + 2 * suc q
@@ -57,7 +63,7 @@ module _ (q : ℕ) where
     expr_lies (parts.filter {k = o} l m k es) = omega (arith, made_low o, l, m, k, row_lies es, parts.names_pay es)
     expr_lies (parts.both a b) = omega (arith, operand_lies a, operand_lies b)
     expr_lies (parts.either a b) = omega (arith, operand_lies a, operand_lies b)
-    expr_lies (parts.when c a b) = omega (arith, expr_lies c, expr_lies a, leaf_low b)
+    expr_lies (parts.when c a b) = omega (arith, expr_lies c, expr_lies a, read_low b)
     expr_lies (parts.chosen c a b) = omega (arith, expr_lies c, expr_lies a, expr_lies b)
     expr_lies (parts.call l m es) = omega (arith, l, m, row_lies es)
     expr_lies (parts.more l e) = omega (arith, expr_lies e)
@@ -67,7 +73,7 @@ module _ (q : ℕ) where
     operand_lies (parts.plain e) = omega (arith, expr_lies e, parts.pays e)
     operand_lies (parts.needed e) = omega (arith, expr_lies e, parts.pays e)
 
-    row_lies : {w v n : ℕ} {es : SRow Constant} → parts.RowOf Low w v n es
+    row_lies : {w v n k : ℕ} {es : SRow Constant} → parts.RowOf Low w v n k es
         → 2 * row_height es ≤ w + max (v + 2 * suc q) (2 * n)
     row_lies (parts.loads l) = omega (arith, loads_low l)
     row_lies (parts.named s e es) = omega (arith, expr_lies e, row_lies es)
@@ -102,21 +108,20 @@ module _ (q : ℕ) where
     body_lies parts.empty = omega arith
     body_lies (parts.alone s) = omega (arith, stmt_lies s)
     body_lies (parts.after {a = a} {b = b} x y) = omega (arith, followed_low a b, body_lies x, body_lies y)
-    body_lies (parts.scope c b) = omega (arith, copies_low c, body_lies b)
+    body_lies (parts.scope l c b) = omega (arith, l, copies_low c, body_lies b)
     body_lies (parts.within v b) = omega (arith, values_low v, body_lies b)
     body_lies (parts.handed n c) = omega (arith, copies_low c)
     body_lies (parts.wide l m k b) = omega (arith, body_lies b)
 
 module _ (cenv : CompileEnv) (order : List Namespace) (q : ℕ) where
-  meets : (n : ℕ) → parts.Meets (Low q) n cenv order (HasAtMost cenv order q)
-  meets n = record {
+  meets : (n z : ℕ) → parts.Meets (Low q) n z cenv order (HasAtMost cenv order q)
+  meets n z = record {
     first = tt;
     locals = λ i l. tt;
     global_slots = λ h i l k. tt;
     tables = λ h. parts.all_fine (Low q) (λ s. tt) (globals cenv order h);
     undefined = tt;
-    literals = λ l. tt;
-    absent = tt;
+    literals = λ l b. tt;
     macros =
         λ h k f z b e. (
           subst (CalleeFew q (weight f)) e (callee_few q cenv.sources (given cenv.sources h) f k.macros),
@@ -124,35 +129,26 @@ module _ (cenv : CompileEnv) (order : List Namespace) (q : ℕ) where
         );
     blocks = λ h k. k.blocks;
     parameters = λ h x i l. tt;
-    filters = λ h k f. filter_few cenv f k.filters;
+    filters =
+        λ h k f. (
+          filter_few cenv f k.filters,
+          parts.all_defaults (Low q) (λ c. tt) (filter_parameters cenv.filters f),
+        );
     name_counts = λ h k l. tt;
   }
-
-  -- The bound of the entries of a scope, whose copies come before the body.
-  pub scope_low : (b : Body) (sp : StaticEnv)
-      → 2 * body_height (resolved_body cenv order b (bound_all (set_in b) sp)) ≤ body_free b + 2 * q
-      → 2 * body_height (scoped (set_in b) sp (resolved_body cenv order b)) ≤ max 2 (body_free b + 2 * q)
-  scope_low b sp h =
-      let n = sp.free + length (set_in b) in
-      omega (
-        arith,
-        h,
-        copies_low q (parts.copied_of (Low q) n cenv order (HasAtMost cenv order q) (meets n) (place sp 1)
-            sp.table sp.free (set_in b) (resolved_body cenv order b (bound_all (set_in b) sp)) (omega arith)
-            (parts.all_fine (Low q) (λ s. tt) sp.table)),
-      )
-
-  pub all_low : (b : Body) (sp : StaticEnv) → HasAtMost cenv order q sp.namespace → body_bound b ≤ q
-      → 2 * body_height (resolved_body cenv order b sp) ≤ body_free b + 2 * q
-  all_low b sp k g =
-      let n = sp.free + body_own b in
-      body_lies q (parts.body_of (Low q) n cenv order (HasAtMost cenv order q) (meets n) b sp k
-      (parts.all_fine (Low q) (λ s. tt) sp.table) (omega arith) (λ i l. omega arith))
 
   -- The bound of the entries of a chain's templates.
   pub chain_low : (h : Namespace) (ts : List Template) → HasAtMost cenv order q h → templates_bound ts ≤ q
       → 2 * body_height (resolved_chain cenv order h ts) ≤ templates_free ts + 2 * q
   chain_low h ts k g =
-      let n = templates_own ts in
-      body_lies q (parts.chain_of (Low q) n cenv order (HasAtMost cenv order q) (meets n) h ts k (omega arith)
-      (λ i l. omega arith))
+      body_lies q
+      (parts.chain_parts (Low q) cenv order (HasAtMost cenv order q) meets h ts k (λ i l. omega arith))
+
+  -- The bound of the entries of a body with parameters.
+  pub routine_low : (xs : List Text) (b : Body) (sp : StaticEnv) → HasAtMost cenv order q sp.namespace
+      → body_bound b ≤ q
+      → 2 * body_height (scoped (set_in b) (bound_all xs sp) (resolved_body cenv order b)) ≤ body_free b + 2 * q
+  routine_low xs b sp k g =
+      body_lies q
+      (parts.routine_parts (Low q) cenv order (HasAtMost cenv order q) meets xs b sp k
+      (parts.all_fine (Low q) (λ s. tt) sp.table) (λ i l. omega arith))

@@ -14,7 +14,7 @@ use Rattle.jt_semantics.specs.Layout.{globals, block_parameters}
 use Rattle.jt_ir.specs.Slots as slots
 use Rattle.jt_ir.specs.Slots.{NaryOp, SlotExpr, SRow, Targets, SlotStmt, SBody}
 use Rattle.jt_ir.specs.Pool.{Constant}
-use Rattle.jt_semantics.specs.Resolve.{followed, StaticEnv, place, bound_all, scoped, resolved_body, resolved_chain}
+use Rattle.jt_semantics.specs.Resolve.{followed, StaticEnv, bound_all, scoped, resolved_body, resolved_chain}
 use Rattle.jt_ir.specs.Size.{targets_size, nary_op_size, expr_size, row_size, condition_size, stmt_size, body_size}
 use Rattle.jt_semantics.specs.Measure.{GivenFew, IsFew, HasFewNames}
 use Rattle.jt_semantics.proofs.FreeNameWeights.{body_own}
@@ -82,12 +82,16 @@ Small = record {
   names = λ c. c ≤ 200;
 }
 
-leaf_size : {e : SlotExpr Constant} → parts.IsLeaf Small e → expr_size e ≤ 1
-leaf_size e = search (arith, rules)
+read_size : {e : SlotExpr Constant} → parts.IsRead Small e → expr_size e ≤ 1
+read_size e = search (arith, rules)
 
-loads_size : {c : ℕ} {es : SRow Constant} → parts.LoadsOf Small c es → row_size es ≤ c
+leaf_size : {e : SlotExpr Constant} → parts.IsLeaf Small e → expr_size e ≤ 1
+leaf_size e = search (arith, rules, read_size)
+
+loads_size : {c d : ℕ} {es : SRow Constant} → parts.LoadsOf Small c d es → row_size es ≤ c
 loads_size parts.no_loads = omega arith
-loads_size (parts.load e es) = omega (arith, leaf_size e, loads_size es)
+loads_size (parts.load l e es) = omega (arith, read_size e, loads_size es)
+loads_size (parts.default k es) = omega (arith, loads_size es)
 
 made_size : (k : NaryOp) → nary_op_size k ≤ 4
 made_size k = search (arith, rules)
@@ -101,7 +105,7 @@ mutual
   expr_sized (parts.filter {k = o} f l m es) = omega (arith, made_size o, f, l, m, row_sized es)
   expr_sized (parts.both a b) = omega (arith, operand_sized a, operand_sized b)
   expr_sized (parts.either a b) = omega (arith, operand_sized a, operand_sized b)
-  expr_sized (parts.when c a b) = omega (arith, expr_sized c, expr_sized a, leaf_size b)
+  expr_sized (parts.when c a b) = omega (arith, expr_sized c, expr_sized a, read_size b)
   expr_sized (parts.chosen c a b) = omega (arith, expr_sized c, expr_sized a, expr_sized b)
   expr_sized (parts.call f l es) = omega (arith, f, l, row_sized es)
   expr_sized (parts.more l e) = omega (arith, l, expr_sized e)
@@ -110,7 +114,7 @@ mutual
   operand_sized (parts.plain e) = omega (arith, expr_sized e)
   operand_sized (parts.needed e) = omega (arith, expr_sized e)
 
-  row_sized : {w v c : ℕ} {es : SRow Constant} → parts.RowOf Small w v c es
+  row_sized : {w v c d : ℕ} {es : SRow Constant} → parts.RowOf Small w v c d es
       → row_size es + 90 * min 1 (w + v) ≤ 100 * (w + v) + c
   row_sized (parts.loads l) = omega (arith, loads_size l)
   row_sized (parts.named s e es) = omega (arith, expr_sized e, row_sized es)
@@ -126,7 +130,7 @@ condition_sized xs c = search (arith, rules, expr_sized)
 
 copies_sized : {c : ℕ} {a b : SBody Constant} → parts.CopiesOf Small c a b → body_size b ≤ 2 * c + body_size a
 copies_sized parts.no_copies = omega arith
-copies_sized (parts.copy s e c) = omega (arith, leaf_size e, copies_sized c)
+copies_sized (parts.copy s e c) = omega (arith, read_size e, copies_sized c)
 
 values_sized : {w c : ℕ} {a b : SBody Constant} → parts.ValuesOf Small w c a b → body_size b ≤ 100 * w + body_size a
 values_sized parts.no_values = omega arith
@@ -156,7 +160,7 @@ mutual
   body_size_of parts.empty = omega arith
   body_size_of (parts.alone s) = omega (arith, stmt_size_of s)
   body_size_of (parts.after {a = a} {b = b} x y) = omega (arith, followed_size a b, body_size_of x, body_size_of y)
-  body_size_of (parts.scope c b) = omega (arith, copies_sized c, body_size_of b)
+  body_size_of (parts.scope l c b) = omega (arith, copies_sized c, body_size_of b)
   body_size_of (parts.within v b) = omega (arith, values_sized v, body_size_of b)
   body_size_of (parts.handed f c) = omega (arith, f, copies_sized c)
   body_size_of (parts.wide l m k b) = omega (arith, l, m, k, body_size_of b)
@@ -166,15 +170,14 @@ module _ (cenv : CompileEnv) (order : List Namespace) where
       → length (block_parameters cenv order h x) ≤ 200
   parameters_few h x k = search (arith, rules)
 
-  meets : (n : ℕ) → parts.Meets Small n cenv order (IsFew cenv order)
-  meets n = record {
+  meets : (n z : ℕ) → parts.Meets Small n z cenv order (IsFew cenv order)
+  meets n z = record {
     first = tt;
     locals = λ i l. tt;
     global_slots = λ h i l k. tt;
     tables = λ h. parts.all_fine Small (λ s. tt) (globals cenv order h);
     undefined = tt;
-    literals = λ l. tt;
-    absent = tt;
+    literals = λ l b. tt;
     macros =
         λ h k f z b e. (
           subst (CalleeFew 200 (weight f)) e (callee_few 200 cenv.sources (given cenv.sources h) f k.macros),
@@ -182,41 +185,27 @@ module _ (cenv : CompileEnv) (order : List Namespace) where
         );
     blocks = λ h k x. parameters_few h x (k.names h);
     parameters = λ h x i l. tt;
-    filters = λ h k f. filter_few cenv f k.filters;
+    filters =
+        λ h k f. (
+          filter_few cenv f k.filters,
+          parts.all_defaults Small (λ c. tt) (filter_parameters cenv.filters f),
+        );
     name_counts = λ h k l. (k.names l).0;
   }
-
-  -- The bound of the instructions of a scope, whose copies come before the body.
-  pub scope_sized : (b : Body) (sp : StaticEnv)
-      → body_size (resolved_body cenv order b (bound_all (set_in b) sp)) + 2 * length (set_in b) ≤ 100 * body_own b
-      → body_size (scoped (set_in b) sp (resolved_body cenv order b)) ≤ 100 * body_own b
-  scope_sized b sp h =
-      let n = sp.free + length (set_in b) in
-      omega (
-        arith,
-        h,
-        copies_sized (parts.copied_of Small n cenv order (IsFew cenv order) (meets n) (place sp 1) sp.table sp.free
-            (set_in b) (resolved_body cenv order b (bound_all (set_in b) sp)) (omega arith)
-            (parts.all_fine Small (λ s. tt) sp.table)),
-      )
-
-  pub all_sized : (b : Body) (sp : StaticEnv) → IsFew cenv order sp.namespace
-      → body_size (resolved_body cenv order b sp) + 2 * length (set_in b) ≤ 100 * body_own b
-  all_sized b sp k =
-      let n = sp.free + body_own b in
-      omega (
-        arith,
-        body_size_of (parts.body_of Small n cenv order (IsFew cenv order) (meets n) b sp k
-            (parts.all_fine Small (λ s. tt) sp.table) (omega arith) (λ i l. tt)),
-      )
 
   -- The bound of the instructions of a chain's templates.
   pub chain_sized : (h : Namespace) → IsFew cenv order h → (ts : List Template)
       → body_size (resolved_chain cenv order h ts) ≤ 100 * templates_own ts
   chain_sized h k ts =
-      let n = templates_own ts in
+      omega
+      (arith, body_size_of (parts.chain_parts Small cenv order (IsFew cenv order) meets h ts k (λ i l. tt)))
+
+  -- The bound of the instructions of a body with parameters.
+  pub routine_sized : (xs : List Text) (b : Body) (sp : StaticEnv) → IsFew cenv order sp.namespace
+      → body_size (scoped (set_in b) (bound_all xs sp) (resolved_body cenv order b)) ≤ 100 * body_own b
+  routine_sized xs b sp k =
       omega (
         arith,
-        body_size_of (parts.chain_of Small n cenv order (IsFew cenv order) (meets n) h ts k (omega arith)
-            (λ i l. tt)),
+        body_size_of (parts.routine_parts Small cenv order (IsFew cenv order) meets xs b sp k
+            (parts.all_fine Small (λ s. tt) sp.table) (λ i l. tt)),
       )

@@ -4,8 +4,10 @@ use Rattle.std.specs.List.{AllByRecursion as Each}
 use Rattle.jt_ast.specs.Expressions.{Text}
 use Rattle.jt_chains.specs.Uses.{set_in}
 use Rattle.jt_ast.specs.Statements.{Body}
+use Rattle.jt_ast.specs.Sizes.{body_bytes}
 use Rattle.jt_chains.specs.Chain.{Namespace, Template}
 use Rattle.jt_rules.specs.CompileEnv.{CompileEnv}
+use Rattle.jt_semantics.specs.Expressions.{filter_parameters}
 use Rattle.jt_semantics.specs.Layout.{Table, globals_from, names, block_parameters, first_slot}
 use Rattle.jt_ir.specs.Slots as slots
 use Rattle.jt_ir.specs.Slots.{Slot, SlotExpr, SRow, Targets, SlotStmt, SBody}
@@ -29,12 +31,16 @@ module _ (n : ℕ) (some : 1 ≤ n) where
     names = λ c. Unit {0};
   }
 
-  leaf_local : {e : SlotExpr Constant} → parts.IsLeaf Local e → expr_locals e ≤ n
-  leaf_local e = search (arith, rules)
+  read_local : {e : SlotExpr Constant} → parts.IsRead Local e → expr_locals e ≤ n
+  read_local e = search (arith, rules)
 
-  loads_local : {c : ℕ} {es : SRow Constant} → parts.LoadsOf Local c es → row_locals es ≤ n
+  leaf_local : {e : SlotExpr Constant} → parts.IsLeaf Local e → expr_locals e ≤ n
+  leaf_local e = search (arith, rules, read_local)
+
+  loads_local : {c d : ℕ} {es : SRow Constant} → parts.LoadsOf Local c d es → row_locals es ≤ n
   loads_local parts.no_loads = omega arith
-  loads_local (parts.load e es) = omega (arith, leaf_local e, loads_local es)
+  loads_local (parts.load l e es) = omega (arith, read_local e, loads_local es)
+  loads_local (parts.default k es) = omega (arith, loads_local es)
 
   mutual
     expr_local : {w : ℕ} {e : SlotExpr Constant} → parts.ExprOf Local w e → expr_locals e ≤ n
@@ -45,7 +51,7 @@ module _ (n : ℕ) (some : 1 ≤ n) where
     expr_local (parts.filter f l m es) = row_local es
     expr_local (parts.both a b) = omega (arith, operand_local a, operand_local b)
     expr_local (parts.either a b) = omega (arith, operand_local a, operand_local b)
-    expr_local (parts.when c a b) = omega (arith, expr_local c, expr_local a, leaf_local b)
+    expr_local (parts.when c a b) = omega (arith, expr_local c, expr_local a, read_local b)
     expr_local (parts.chosen c a b) = omega (arith, expr_local c, expr_local a, expr_local b)
     expr_local (parts.call f l es) = row_local es
     expr_local (parts.more l e) = expr_local e
@@ -54,7 +60,7 @@ module _ (n : ℕ) (some : 1 ≤ n) where
     operand_local (parts.plain e) = expr_local e
     operand_local (parts.needed e) = omega (arith, expr_local e)
 
-    row_local : {w v c : ℕ} {es : SRow Constant} → parts.RowOf Local w v c es → row_locals es ≤ n
+    row_local : {w v c d : ℕ} {es : SRow Constant} → parts.RowOf Local w v c d es → row_locals es ≤ n
     row_local (parts.loads l) = loads_local l
     row_local (parts.named s e es) = omega (arith, s, expr_local e, row_local es)
     row_local (parts.positional e es) = omega (arith, operand_local e, row_local es)
@@ -74,7 +80,7 @@ module _ (n : ℕ) (some : 1 ≤ n) where
 
   copies_local : {c : ℕ} {a b : SBody Constant} → parts.CopiesOf Local c a b → body_locals a ≤ n → body_locals b ≤ n
   copies_local parts.no_copies h = h
-  copies_local (parts.copy s e c) h = omega (arith, s, leaf_local e, copies_local c h)
+  copies_local (parts.copy s e c) h = omega (arith, s, read_local e, copies_local c h)
 
   values_local : {w c : ℕ} {a b : SBody Constant} → parts.ValuesOf Local w c a b → body_locals a ≤ n → body_locals b ≤ n
   values_local parts.no_values h = h
@@ -99,7 +105,7 @@ module _ (n : ℕ) (some : 1 ≤ n) where
     body_local parts.empty = omega arith
     body_local (parts.alone s) = omega (arith, stmt_local s)
     body_local (parts.after {a = a} {b = b} x y) = omega (arith, followed_local a b, body_local x, body_local y)
-    body_local (parts.scope c b) = copies_local c (body_local b)
+    body_local (parts.scope l c b) = copies_local c (body_local b)
     body_local (parts.within v b) = values_local v (body_local b)
     body_local (parts.handed f c) = copies_local c (omega arith)
     body_local (parts.wide l m k b) = body_local b
@@ -117,29 +123,32 @@ module _ (n : ℕ) (some : 1 ≤ n) where
     abbrev Any : Namespace → Type 0
     Any h = Unit {0}
 
-    meets : parts.Meets Local n cenv order Any
-    meets = record {
+    meets : (z : ℕ) → parts.Meets Local n z cenv order Any
+    meets z = record {
       first = some;
       locals = λ i l. omega arith;
       global_slots = λ h i l k. omega arith;
       tables = λ h. globals_below (first_slot cenv order h) (names cenv order h);
       undefined = tt;
-      literals = λ l. tt;
-      absent = tt;
+      literals = λ l b. tt;
       macros = λ h k f z b e. (tt, λ i l g. tt);
       blocks = λ h k x. tt;
       parameters = λ h x i l. omega (arith, few h x);
-      filters = λ h k f. tt;
+      filters = λ h k f. (tt, parts.all_defaults Local (λ c. tt) (filter_parameters cenv.filters f));
       name_counts = λ h k l. tt;
     }
 
     pub chain_localed : (h : Namespace) (ts : List Template) → templates_own ts ≤ n
         → body_locals (resolved_chain cenv order h ts) ≤ n
-    chain_localed h ts k = body_local (parts.chain_of Local n cenv order Any meets h ts tt k (λ i l. tt))
+    chain_localed h ts k =
+        let z = parts.longest ts in
+        body_local
+        (parts.chain_of Local n z cenv order Any (meets z) h ts tt k (parts.are_short z ts (omega arith)) (λ i l. tt))
 
     -- The bound of the locals of a body with parameters.
     pub routine_localed : (xs : List Text) (b : Body) (sp : StaticEnv) → Below sp.table
         → sp.free + length xs + body_own b ≤ n
         → body_locals (scoped (set_in b) (bound_all xs sp) (resolved_body cenv order b)) ≤ n
     routine_localed xs b sp t k =
-        body_local (parts.routine_of Local n cenv order Any meets xs b sp tt t k (λ i l. tt))
+        let z = body_bytes b in
+        body_local (parts.routine_of Local n z cenv order Any (meets z) xs b sp tt t (omega arith) (λ i l. tt))

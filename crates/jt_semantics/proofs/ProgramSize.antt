@@ -20,7 +20,7 @@ use Rattle.jt_ir.specs.Slots as slots
 use Rattle.jt_ir.specs.Slots.{SlotExpr, SRow, SlotStmt, SBody, Routine}
 use Rattle.jt_ir.specs.Pool.{Constant, expr_values, condition_values, body_values, routines_values, placed_expr}
 use Rattle.jt_ir.specs.Pool.{placed_row, placed_condition, placed_stmt, placed_body, placed_routines}
-use Rattle.jt_semantics.specs.Resolve.{Part, bound_all, scoped, resolved_body, resolved_sets, top_senv, resolved_chain}
+use Rattle.jt_semantics.specs.Resolve.{Part, bound_all, scoped, resolved_body, top_senv, resolved_chain}
 use Rattle.jt_semantics.specs.Resolve.{macro_routine}
 use Rattle.jt_semantics.specs.Programs.{body_routines, entry_routines, chain_routines, routines, count_globals, program}
 use Rattle.jt_ir.specs.Size.{expr_size, row_size, condition_size, stmt_size, body_size, routines_size, expr_height}
@@ -29,11 +29,11 @@ use Rattle.jt_ir.specs.Locals.{body_locals}
 use Rattle.jt_semantics.specs.Measure.{IsFew, HasAtMost, AreFew, IsSized}
 use Rattle.jt_semantics.proofs.FreeNameWeights.{stmt_own, body_own, branch_own, pairs_bound}
 use Rattle.jt_chains.specs.Weights.{templates_weight, chains_weight}
-use Rattle.jt_semantics.proofs.InstructionBounds.{parameters_few, all_sized, scope_sized, chain_sized}
+use Rattle.jt_semantics.proofs.InstructionBounds.{parameters_few, chain_sized, routine_sized}
 use Rattle.jt_semantics.proofs.LocalBounds.{Below, globals_below, chain_localed, routine_localed}
 use Rattle.jt_semantics.proofs.TreesHaveParts.{templates_own, templates_free}
-use Rattle.jt_semantics.proofs.ValueBounds.{followed_count, stmt_counted, all_counted, scope_counted}
-use Rattle.jt_semantics.proofs.EntryBounds.{all_low, scope_low, chain_low}
+use Rattle.jt_semantics.proofs.ValueBounds.{chain_counted, routine_counted}
+use Rattle.jt_semantics.proofs.EntryBounds.{chain_low, routine_low}
 use Rattle.jt_semantics.proofs.FreeNameWeights.{AllPaid, MacrosPaid, all_more, macros_more, body_paid, templates_bound}
 use Rattle.jt_semantics.proofs.FreeNameWeights.{templates_pay, chain_blocks, chain_macros, scopes_few, parameters_bound}
 use Rattle.jt_chains.specs.Includes.{InOrder}
@@ -109,12 +109,12 @@ module _ (cenv : CompileEnv) (order : List Namespace) (h : Namespace) where
   module _ (k : IsFew cenv order h) where
     macros_sized : (ms : List MacroBody) → routines_size (map (macro_routine cenv order h) ms) ≤ 100 * macros_own ms
     macros_sized [] = omega arith
-    macros_sized (m ∷ ms) = search (arith, rules, macros_sized ms, scope_sized, all_sized)
+    macros_sized (m ∷ ms) = search (arith, rules, macros_sized ms, routine_sized)
 
     blocks_sized : (n : ℕ) (bs : List BlockBody)
         → routines_size (body_routines cenv order h (counted_from n bs)) ≤ 100 * bodies_own bs
     blocks_sized n [] = omega arith
-    blocks_sized n (b ∷ bs) = search (arith, rules, blocks_sized (suc n) bs, scope_sized, all_sized)
+    blocks_sized n (b ∷ bs) = search (arith, rules, blocks_sized (suc n) bs, routine_sized)
 
     entry_sized : (g : Namespace) → body_size (resolved_chain cenv order g (templates cenv.sources g))
         ≤ 100 * templates_own (templates cenv.sources g)
@@ -195,14 +195,10 @@ module _ (cenv : CompileEnv) (order : List Namespace) (h : Namespace) (q : ℕ) 
   blocks_low w n (b ∷ bs) g =
       let part : Part =
       record { name = b.name; behind = filter (λ c. bytes_eq c.1.name b.name) (counted_from (suc n) bs) } in
-      let sp = bound_all (block_parameters cenv order h b.name)
-      (record (top_senv cenv order h b.template) { escaping = b.escaping; part = Some part }) in
+      let sp = record (top_senv cenv order h b.template) { escaping = b.escaping; part = Some part } in
       let f = g.0.free in (
-        omega (
-          arith,
-          f,
-          scope_low cenv order q b.body sp (all_low cenv order q b.body (bound_all (set_in b.body) sp) k g.0.bound),
-        ),
+        omega
+            (arith, f, routine_low cenv order q (block_parameters cenv order h b.name) b.body sp k g.0.bound),
         blocks_low w (suc n) bs g.1,
       )
 
@@ -210,14 +206,10 @@ module _ (cenv : CompileEnv) (order : List Namespace) (h : Namespace) (q : ℕ) 
       → Each (Low (max 2 w)) (map (macro_routine cenv order h) ms)
   macros_low w [] g = tt
   macros_low w (m ∷ ms) g =
-      let sp = bound_all (map (λ p. p.name) m.parameters) (top_senv cenv order h m.template) in
+      let xs = map (λ (p : Parameter). p.name) m.parameters in
       let f = g.0.body.free in (
-        omega (
-          arith,
-          f,
-          scope_low cenv order q m.body sp
-              (all_low cenv order q m.body (bound_all (set_in m.body) sp) k g.0.body.bound),
-        ),
+        omega
+            (arith, f, routine_low cenv order q xs m.body (top_senv cenv order h m.template) k g.0.body.bound),
         macros_low w ms g.1,
       )
 
@@ -343,33 +335,16 @@ values_append (r ∷ a) b = search (arith, rules, length-append, values_append a
 
 module _ (cenv : CompileEnv) (order : List Namespace) (h : Namespace)
     (k : (f : ℕ) → length (cenv.filters.parameters f) ≤ 3) where
-  sets_counted : (b : Body) (t : Text)
-      → length (body_values (resolved_sets cenv order b (top_senv cenv order h t))) ≤ body_own b
-  sets_counted end t = omega arith
-  sets_counted (stmt s rest) t = search (arith, rules, sets_counted rest t, stmt_counted, followed_count)
-
-  chain_counted : (ts : List Template) → length (body_values (resolved_chain cenv order h ts)) ≤ templates_own ts
-  chain_counted [] = omega arith
-  chain_counted (t ∷ []) = omega (arith, all_counted cenv order k t.body (top_senv cenv order h t.name))
-  chain_counted (t ∷ (u ∷ us)) =
-      omega (
-        arith,
-        chain_counted (u ∷ us),
-        sets_counted t.body t.name,
-        followed_count (resolved_sets cenv order t.body (top_senv cenv order h t.name))
-            (resolved_chain cenv order h (u ∷ us)),
-      )
-
   macros_counted : (ms : List MacroBody)
       → length (routines_values (map (macro_routine cenv order h) ms)) + length (defaults_of ms) ≤ macros_own ms
   macros_counted [] = omega arith
   macros_counted (m ∷ ms) =
-      let sp = bound_all (map (λ p. p.name) m.parameters) (top_senv cenv order h m.template) in
+      let xs = map (λ (p : Parameter). p.name) m.parameters in
       let r = macro_routine cenv order h m in
       omega (
         arith,
         macros_counted ms,
-        scope_counted cenv order k m.body sp,
+        routine_counted cenv order k xs m.body (top_senv cenv order h m.template),
         length-append (body_values r.body) (routines_values (map (macro_routine cenv order h) ms)),
         length-append (map (λ p. default_value p.default) m.parameters) (defaults_of ms),
         length-map m.parameters (λ (p : Parameter). default_value p.default),
@@ -381,13 +356,13 @@ module _ (cenv : CompileEnv) (order : List Namespace) (h : Namespace)
   blocks_counted n (b ∷ bs) =
       let part : Part =
       record { name = b.name; behind = filter (λ c. bytes_eq c.1.name b.name) (counted_from (suc n) bs) } in
-      let sp = bound_all (block_parameters cenv order h b.name)
-      (record (top_senv cenv order h b.template) { escaping = b.escaping; part = Some part }) in
-      let r = scoped (set_in b.body) sp (resolved_body cenv order b.body) in
+      let sp = record (top_senv cenv order h b.template) { escaping = b.escaping; part = Some part } in
+      let xs = block_parameters cenv order h b.name in
+      let r = scoped (set_in b.body) (bound_all xs sp) (resolved_body cenv order b.body) in
       omega (
         arith,
         blocks_counted (suc n) bs,
-        scope_counted cenv order k b.body sp,
+        routine_counted cenv order k xs b.body sp,
         length-append (body_values r) (routines_values (body_routines cenv order h (counted_from (suc n) bs))),
       )
 
@@ -400,7 +375,8 @@ module _ (cenv : CompileEnv) (order : List Namespace) (h : Namespace)
       + length (defaults_of (macros cenv.sources h))
       ≤ templates_weight (templates cenv.sources h)
   counted_in_chain =
-      search (arith, rules, chain_once, entry_counted, chain_counted, macros_counted, blocks_counted, values_append)
+      let counted = chain_counted cenv order k h in
+      search (arith, rules, chain_once, entry_counted, counted, macros_counted, blocks_counted, values_append)
 
   -- A chain has one unit for itself, one for each macro, and one for each body.
   macros_number : (ms : List MacroBody) → length (map (macro_routine cenv order h) ms) ≤ macros_own ms

@@ -7,6 +7,7 @@ use Rattle.std.specs.Option.{is_none}
 use Rattle.std.specs.List.{AllByRecursion as Each}
 use Rattle.std.specs.Prelude.{pos}
 use Rattle.jt_value.specs.Tree as tree
+use Rattle.jt_value.specs.Tree.{Tree}
 use Rattle.jt_ids.specs.declared.op_id.OpId.TheVariants as op
 use Rattle.jt_ids.specs.declared.test_id.TestId.{TestId}
 use Rattle.jt_ast.specs.Expressions as written
@@ -16,6 +17,8 @@ use Rattle.jt_ast.specs.Expressions.{enclosed, literal_weight, operator_weight, 
 use Rattle.jt_ast.specs.declared.expression.BinaryOperator.{BinaryOperator}
 use Rattle.jt_ast.specs.declared.expression.BinaryOperator.TheVariants as o
 use Rattle.jt_semantics.specs.Operators.{form, joins}
+use Rattle.jt_ast.specs.Sizes.{literal_bytes, expr_bytes, exprs_bytes, pairs_bytes, condition_bytes, filter_call_bytes}
+use Rattle.jt_ast.specs.Sizes.{stmt_bytes, body_bytes, branch_bytes}
 use Rattle.jt_value.specs.Place.{Place}
 use Rattle.jt_eval.specs.Values.{literal}
 use Rattle.jt_eval.specs.Tests.{test_named}
@@ -83,21 +86,35 @@ templates_bind (t ∷ ts) = body_binds t.body + templates_bind ts
 abbrev pub templates_own : List Template → ℕ
 templates_own ts = templates_free ts + 2 * templates_bind ts
 
+-- The bytes of the longest template.
+abbrev pub longest : List Template → ℕ
+longest [] = 0
+longest (t ∷ ts) = max (body_bytes t.body) (longest ts)
+
+-- Holds if no template has more bytes.
+abbrev pub AreShort : ℕ → List Template → Type 0
+AreShort n ts = Each (λ t. body_bytes t.body ≤ n) ts
+
+pub are_short : (n : ℕ) (ts : List Template) → longest ts ≤ n → AreShort n ts
+are_short n [] h = tt
+are_short n (t ∷ ts) h = (omega arith, are_short n ts (omega arith))
+
 pub names_few : (ps : Pairs) → length (keywords ps) ≤ pairs_weight 2 ps
 names_few no_pairs = omega arith
 names_few (written.pair k a ps) = omega (arith, names_few ps)
 
 mutual
-  by_few : (s : Stmt) → length (set_by s) ≤ stmt_own s
+  by_few : (s : Stmt) → (2 * min 1 (length (set_by s)) ≤ stmt_free s) × (length (set_by s) ≤ stmt_own s)
   by_few (choose bs other) = omega (arith, under_few bs, in_few other, length-append (set_under bs) (set_in other))
   by_few (for_each line xs e c body other) = omega (arith, in_few other)
   by_few s = omega arith
 
-  pub in_few : (b : Body) → length (set_in b) ≤ body_own b
+  in_few : (b : Body) → (2 * min 1 (length (set_in b)) ≤ body_free b) × (length (set_in b) ≤ body_own b)
   in_few end = omega arith
   in_few (stmt s rest) = omega (arith, by_few s, in_few rest, length-append (set_by s) (set_in rest))
 
-  under_few : (bs : Branches) → length (set_under bs) ≤ branch_own bs
+  under_few : (bs : Branches)
+      → (2 * min 1 (length (set_under bs)) ≤ branch_free bs) × (length (set_under bs) ≤ branch_own bs)
   under_few no_branches = omega arith
   under_few (branch line c body rest) = search (arith, rules, in_few body, under_few rest, length-append)
 
@@ -142,9 +159,14 @@ module _ (p : Parts) where
   of_fine f [] x h = f
   of_fine f (b ∷ bs) x h = search (arith, rules, of_fine f bs x h.1)
 
-  value_is : (s : Option Slot) (k : Constant) → SomeSlot p s → p.constant k → IsLeaf p (value_or s k)
-  value_is None k h c = pooled_leaf c
-  value_is (Some s) k h c = variable_leaf h
+  known_is : (s : Option Slot) (i : ℕ) → SomeSlot p s → p.constant (known i) → IsRead p (value_or s (known i))
+  known_is None i h c = known_read c
+  known_is (Some s) i h c = variable_read h
+
+  default_is : (s : Option Slot) (v : Tree) (i : ℕ) (es : SRow Constant) → SomeSlot p s → p.constant (own v)
+      → LoadsOf p i i es → LoadsOf p (suc i) (suc i) (slots.item (value_or s (own v)) es)
+  default_is None v i es h c l = default c l
+  default_is (Some s) v i es h c l = load (omega arith) (variable_read h) l
 
   field_is : (f : Option LoopField) → IsLeaf p (field_from f)
   field_is None = absent_leaf
@@ -155,12 +177,13 @@ module _ (p : Parts) where
   turned_of false w v e l h = more (omega arith) h
   turned_of true w v e l h = more (omega arith) (single h)
 
-  tested_of : (t : Option TestId) (w : ℕ) (es : SRow Constant) → RowOf p w 0 0 es → ExprOf p (max 1 w) (tested_by t es)
+  tested_of : (t : Option TestId) (w : ℕ) (es : SRow Constant) → RowOf p w 0 0 0 es
+      → ExprOf p (max 1 w) (tested_by t es)
   tested_of None w es h = more (omega arith) (leaf absent_leaf)
   tested_of (Some t) w es h = operation h
 
   filtered_of : (f : Option ℕ) (on : Bool) (w v n m : ℕ) (es : SRow Constant) → p.filtered m → n ≤ m → min 1 n ≤ v
-      → RowOf p w v n es → ExprOf p (w + v + 1) (filtered_by f on es)
+      → RowOf p w v n n es → ExprOf p (w + v + 1) (filtered_by f on es)
   filtered_of None on w v n m es a b c h = more (omega arith) (leaf absent_leaf)
   filtered_of (Some f) on w v n m es a b c h = filter a b c h
 
@@ -177,35 +200,43 @@ module _ (p : Parts) where
 
   filled_of : (ps : List Parameter) (m d : ℕ) (ks : Table) → Fine ks
       → ((i : ℕ) → d ≤ i → i < d + length ps → p.constant (known i))
-      → LoadsOf p (row_count (filled ps m d ks)) (filled ps m d ks)
+      → LoadsOf p (row_count (filled ps m d ks)) 0 (filled ps m d ks)
   filled_of [] m d ks h c = no_loads
   filled_of (q ∷ ps) (suc m) d ks h c = filled_of ps m (suc d) ks h (λ i l g. c i (omega arith) (omega arith))
   filled_of (q ∷ ps) zero d ks h c =
-      load (value_is (slot_in q.name ks) (known d) (slot_fine ks q.name h) (c d (omega arith) (omega arith)))
+      load (omega arith) (known_is (slot_in q.name ks) d (slot_fine ks q.name h) (c d (omega arith) (omega arith)))
       (filled_of ps zero (suc d) ks h (λ i l g. c i (omega arith) (omega arith)))
 
-  some_of : ((l : Option Literal) → p.constant (own (default_value l))) → (ps : List Parameter) (m : ℕ)
-      (xs : List Text) (ks : Table)
-      → Fine ks → LoadsOf p (row_count (filled_some ps m xs ks)) (filled_some ps m xs ks)
-  some_of c [] m xs ks h = no_loads
-  some_of c (q ∷ ps) (suc m) xs ks h = some_of c ps m xs ks h
-  some_of c (q ∷ ps) zero xs ks h =
+  -- The demand on the defaults of parameters.
+  abbrev pub Defaults : List Parameter → Type 0
+  Defaults ps = Each (λ q. p.constant (own (default_value q.default))) ps
+
+  pub all_defaults : ((k : Constant) → p.constant k) → (ps : List Parameter) → Defaults ps
+  all_defaults h [] = tt
+  all_defaults h (q ∷ ps) = (h (own (default_value q.default)), all_defaults h ps)
+
+  some_of : (ps : List Parameter) (m : ℕ) (xs : List Text) (ks : Table) → Fine ks → Defaults ps
+      → LoadsOf p (row_count (filled_some ps m xs ks)) (row_count (filled_some ps m xs ks)) (filled_some ps m xs ks)
+  some_of [] m xs ks h d = no_loads
+  some_of (q ∷ ps) (suc m) xs ks h d = some_of ps m xs ks h d.1
+  some_of (q ∷ ps) zero xs ks h d =
       let rest = filled_some ps zero xs ks in
-      let first = value_or (slot_in q.name ks) (own (default_value q.default)) in
-      either_of (λ es. LoadsOf p (row_count es) es) (some_given (q ∷ ps) xs) (slots.item first rest) slots.none
-      (load (value_is (slot_in q.name ks) (own (default_value q.default)) (slot_fine ks q.name h) (c q.default))
-      (some_of c ps zero xs ks h)) no_loads
+      let v = default_value q.default in
+      either_of (λ es. LoadsOf p (row_count es) (row_count es) es) (some_given (q ∷ ps) xs)
+      (slots.item (value_or (slot_in q.name ks) (own v)) rest) slots.none
+      (default_is (slot_in q.name ks) v (row_count rest) rest (slot_fine ks q.name h) d.0 (some_of ps zero xs ks h d.1))
+      no_loads
 
   first_of : (m : ℕ) (xs : List Text) → ((i : ℕ) → m ≤ i → i < m + length xs → p.slot (local i))
-      → LoadsOf p (length xs) (first_locals m xs)
+      → LoadsOf p (length xs) 0 (first_locals m xs)
   first_of m [] h = no_loads
   first_of m (x ∷ xs) h =
-      load (variable_leaf (h m (omega arith) (omega arith)))
+      load (omega arith) (variable_read (h m (omega arith) (omega arith)))
       (first_of (suc m) xs (λ i l g. h i (omega arith) (omega arith)))
 
-  reads_of : p.constant (known 0) → (t : Table) (xs : List Text) → Fine t → LoadsOf p (length xs) (reads t xs)
+  reads_of : p.constant (known 0) → (t : Table) (xs : List Text) → Fine t → LoadsOf p (length xs) 0 (reads t xs)
   reads_of c t [] h = no_loads
-  reads_of c t (x ∷ xs) h = load (value_is (slot_in x t) (known 0) (slot_fine t x h) c) (reads_of c t xs h)
+  reads_of c t (x ∷ xs) h = load (omega arith) (known_is (slot_in x t) 0 (slot_fine t x h) c) (reads_of c t xs h)
 
 none_given : (ps : List Parameter) → some_given ps [] ≡ false
 none_given [] = refl
@@ -243,9 +274,9 @@ some_paid ps m (x ∷ xs) ks = omega arith
 
 -- ---- The chains of a program
 
--- Holds if the parts of the trees of a program meet the demands. Trees use locals below n. `Known`
--- is what is known of each chain.
-pub record Meets (p : Parts) (n : ℕ) (cenv : CompileEnv) (order : List Namespace) (Known : Namespace → Type 0)
+-- Holds if the parts of the trees of a program meet the demands. Trees use locals below n, and no
+-- tree is longer than z bytes. `Known` is what is known of each chain.
+pub record Meets (p : Parts) (n z : ℕ) (cenv : CompileEnv) (order : List Namespace) (Known : Namespace → Type 0)
     : Type 0 where
   pub first : p.slot (local 0)
   pub locals : (i : ℕ) → i < n → p.slot (local i)
@@ -253,8 +284,7 @@ pub record Meets (p : Parts) (n : ℕ) (cenv : CompileEnv) (order : List Namespa
       → i < first_slot cenv order h + length (names cenv order h) → p.slot (global i)
   pub tables : (h : Namespace) → Fine p (globals cenv order h)
   pub undefined : p.constant (known 0)
-  pub literals : (l : Literal) → p.constant (own (literal l))
-  pub absent : p.constant (own tree.undefined)
+  pub literals : (l : Literal) → literal_bytes l ≤ z → p.constant (own (literal l))
   pub macros : (h : Namespace) → Known h → (f : Expr) (k : Namespace) (m : MacroBody)
       → callee cenv.sources (given cenv.sources h) f ≡ a_macro k m
       → p.called (length m.parameters)
@@ -263,14 +293,16 @@ pub record Meets (p : Parts) (n : ℕ) (cenv : CompileEnv) (order : List Namespa
   pub blocks : (h : Namespace) → Known h → (x : Text) → p.called (length (block_parameters cenv order h x))
   pub parameters : (h : Namespace) (x : Text) (i : ℕ) → i < length (block_parameters cenv order h x)
       → p.slot (local i)
-  pub filters : (h : Namespace) → Known h → (f : Option ℕ) → p.filtered (length (filter_parameters cenv.filters f))
+  pub filters : (h : Namespace) → Known h → (f : Option ℕ)
+      → p.filtered (length (filter_parameters cenv.filters f)) × Defaults p (filter_parameters cenv.filters f)
   pub name_counts : (h : Namespace) → Known h → (k : Namespace) → p.names (length (names cenv order k))
 
-module _ (p : Parts) (n : ℕ) (cenv : CompileEnv) (order : List Namespace) (Known : Namespace → Type 0)
-    (m : Meets p n cenv order Known) where
-  defaults_of : (l : Option Literal) → p.constant (own (default_value l))
-  defaults_of None = m.absent
-  defaults_of (Some l) = m.literals l
+module _ (p : Parts) (n z : ℕ) (cenv : CompileEnv) (order : List Namespace) (Known : Namespace → Type 0)
+    (m : Meets p n z cenv order Known) where
+  -- Holds if there are locals for the tokens of a tree, except for c of them, and the tree is no
+  -- longer than z bytes.
+  abbrev Fits : StaticEnv → ℕ → ℕ → ℕ → Type 0
+  Fits sp w c bytes = (sp.free + w ≤ n + c) × (bytes ≤ z)
 
   from_of : (d : ℕ) (xs : List Text) → d + length xs ≤ n → Fine p (locals_from d xs)
   from_of d [] h = tt
@@ -280,18 +312,18 @@ module _ (p : Parts) (n : ℕ) (cenv : CompileEnv) (order : List Namespace) (Kno
   bound_of [] d t h g = g
   bound_of (x ∷ xs) d t h g = bound_of xs (suc d) ((x, local d) ∷ t) (omega arith) (m.locals d (omega arith), g)
 
-  read_is : (t : Table) (x : Text) → Fine p t → IsLeaf p (value_or (slot_in x t) (known 0))
-  read_is t x h = value_is p (slot_in x t) (known 0) (slot_fine p t x h) m.undefined
+  read_is : (t : Table) (x : Text) → Fine p t → IsRead p (value_or (slot_in x t) (known 0))
+  read_is t x h = known_is p (slot_in x t) 0 (slot_fine p t x h) m.undefined
 
   -- ---- Calls: a function puts arguments before a row
 
   abbrev IsFront : ℕ → (SRow Constant → SRow Constant) → Type 0
-  IsFront w f = (v i : ℕ) (b : SRow Constant) → RowOf p 0 v i b → RowOf p w v i (f b)
+  IsFront w f = (v i j : ℕ) (b : SRow Constant) → RowOf p 0 v i j b → RowOf p w v i j (f b)
 
   abbrev IsNamed : ℕ → (SRow Constant → SRow Constant) → Type 0
-  IsNamed v f = (i : ℕ) (b : SRow Constant) → LoadsOf p i b → RowOf p 0 v i (f b)
+  IsNamed v f = (i j : ℕ) (b : SRow Constant) → LoadsOf p i j b → RowOf p 0 v i j (f b)
 
-  body_called : (h : Namespace) (on : Bool) (i : Option ℕ) (c : ℕ) (es : SRow Constant) → p.called c → LoadsOf p c es
+  body_called : (h : Namespace) (on : Bool) (i : Option ℕ) (c : ℕ) (es : SRow Constant) → p.called c → LoadsOf p c 0 es
       → ExprOf p 3 (invoked_body cenv order h on i es)
   body_called h on None c es k l = more (omega arith) (leaf absent_leaf)
   body_called h on (Some i) c es k l = more (omega arith) (call k (omega arith) (loads l))
@@ -318,9 +350,9 @@ module _ (p : Parts) (n : ℕ) (cenv : CompileEnv) (order : List Namespace) (Kno
       let fits = f k b refl in
       more (omega arith)
       (call fits.0 (filled_few b.parameters i d ks)
-      (r v (row_count rest) (asides rest) (a (row_count rest) rest (filled_of p b.parameters i d ks h fits.1))))
+      (r v (row_count rest) 0 (asides rest) (a (row_count rest) 0 rest (filled_of p b.parameters i d ks h fits.1))))
   invoked_of a_range sp row asides i ks u w v s t g f h r a =
-      more (omega arith) (operation (r 0 0 slots.none (loads no_loads)))
+      more (omega arith) (operation (r 0 0 0 slots.none (loads no_loads)))
   invoked_of a_super sp row asides i ks u w v s t g f h r a = more (omega arith) (super_called sp sp.part g)
   invoked_of (a_block x) sp row asides i ks u w v s t g f h r a =
       let xs = block_parameters cenv order sp.namespace x in
@@ -330,28 +362,29 @@ module _ (p : Parts) (n : ℕ) (cenv : CompileEnv) (order : List Namespace) (Kno
       (reads_of p m.undefined (globals cenv order sp.namespace) xs (m.tables sp.namespace)))
   invoked_of a_cycle sp row asides i ks u w v s t g f h r a =
       let index : ExprOf p 3 (operation_of op.Remainder (slots.field Index0) (slots.pooled (own (tree.number (pos i)))))
-      = pair (plain (leaf field_leaf)) (plain (leaf (pooled_leaf (m.literals (written.number (pos i)))))) in
+      = pair (plain (leaf field_leaf)) (plain (leaf (own_leaf (m.literals (written.number (pos i)) (omega arith))))) in
       more (omega arith)
-      (pair (plain (operation {k = slots.a_list} (r 0 0 slots.none (loads no_loads)))) (plain index))
+      (pair (plain (operation {k = slots.a_list} (r 0 0 0 slots.none (loads no_loads)))) (plain index))
   invoked_of no_callee sp row asides i ks u w v s t g f h r a = more (omega arith) (leaf absent_leaf)
 
   -- ---- Expressions
 
   mutual
-    pub expr_of : (e : Expr) (sp : StaticEnv) → Known sp.namespace → Fine p sp.table → sp.free + weight e ≤ n
+    expr_of : (e : Expr) (sp : StaticEnv) → Known sp.namespace → Fine p sp.table → Fits sp (weight e) 0 (expr_bytes e)
         → ExprOf p (weight e) (resolved cenv order e sp)
-    expr_of (constant l) sp g t k = more (expr_some (constant l)) (leaf (pooled_leaf (m.literals l)))
-    expr_of (name x) sp g t k = leaf (read_is sp.table x t)
+    expr_of (constant l) sp g t k = more (expr_some (constant l)) (leaf (own_leaf (m.literals l k.1)))
+    expr_of (name x) sp g t k = leaf (read_leaf (read_is sp.table x t))
     expr_of (group a) sp g t k = more (omega arith) (expr_of a sp g t (omega arith))
     expr_of (list_of ts) sp g t k =
-        more (omega arith) (operation (row_of ts sp g t (omega arith) 0 0 slots.none (loads no_loads)))
+        more (omega arith) (operation (row_of ts sp g t (omega arith) 0 0 0 slots.none (loads no_loads)))
     expr_of (map_of ps) sp g t k = more (omega arith) (operation (entries_of ps sp g t (omega arith)))
     expr_of (attribute a x) sp g t k =
         either_of (ExprOf p (2 + weight a)) (is_loop a) (field_from (field_named x))
         (operation_of op.Item (resolved cenv order a sp) (slots.pooled (own (tree.text x))))
         (more (omega arith) (leaf (field_is p (field_named x))))
         (more (omega arith)
-        (pair (plain (expr_of a sp g t (omega arith))) (plain (leaf (pooled_leaf (m.literals (written.text x)))))))
+        (pair (plain (expr_of a sp g t (omega arith)))
+        (plain (leaf (own_leaf (m.literals (written.text x) (omega arith)))))))
     expr_of (item a b) sp g t k =
         more (omega arith) (pair (plain (expr_of a sp g t (omega arith))) (plain (expr_of b sp g t (omega arith))))
     expr_of (written.call f ts ps) sp g t k =
@@ -368,22 +401,24 @@ module _ (p : Parts) (n : ℕ) (cenv : CompileEnv) (order : List Namespace) (Kno
         more (omega arith)
         (filtered_of p i sp.escaping (1 + weight a + exprs_weight ts) (pairs_weight 2 ps) (row_count rest) (length qs)
         (slots.item (required_if (requires_input cenv.strict i) (resolved cenv order a sp))
-        (resolved_row cenv order ts sp (resolved_asides cenv order ps sp rest))) (m.filters sp.namespace g i)
+        (resolved_row cenv order ts sp (resolved_asides cenv order ps sp rest))) (m.filters sp.namespace g i).0
         (some_few qs (count ts) (keywords ps) ks)
         (omega (arith, some_paid qs (count ts) (keywords ps) ks, names_few ps))
         (positional
         (required_of p (requires_input cenv.strict i) (weight a) (resolved cenv order a sp)
         (expr_of a sp g t (omega arith)))
-        (row_of ts sp g t (omega arith) (pairs_weight 2 ps) (row_count rest) (resolved_asides cenv order ps sp rest)
-        (named_of ps sp g t (omega arith) (row_count rest) rest (some_of p defaults_of qs (count ts) (keywords ps) ks
-        (from_of sp.free (keywords ps) (omega (arith, names_few ps))))))))
+        (row_of ts sp g t (omega arith) (pairs_weight 2 ps) (row_count rest) (row_count rest)
+        (resolved_asides cenv order ps sp rest)
+        (named_of ps sp g t (omega arith) (row_count rest) (row_count rest) rest
+        (some_of p qs (count ts) (keywords ps) ks (from_of sp.free (keywords ps) (omega (arith, names_few ps)))
+        (m.filters sp.namespace g i).1)))))
     expr_of (written.test a b x ts ps) sp g t k =
         let es = slots.item (resolved cenv order a sp) (resolved_row cenv order ts sp slots.none) in
         turned_of p b (max 1 (1 + weight a + exprs_weight ts)) (weight (written.test a b x ts ps))
         (tested_by (test_named x) es) (omega (arith, is_some_weight b))
         (tested_of p (test_named x) (1 + weight a + exprs_weight ts) es
         (positional (plain (expr_of a sp g t (omega (arith, is_some_weight b))))
-        (row_of ts sp g t (omega (arith, is_some_weight b)) 0 0 slots.none (loads no_loads))))
+        (row_of ts sp g t (omega (arith, is_some_weight b)) 0 0 0 slots.none (loads no_loads))))
     expr_of (unary u a) sp g t k = single (expr_of a sp g t (omega arith))
     expr_of (binary b x y) sp g t k =
         let strict = cenv.strict && joins b in
@@ -393,40 +428,43 @@ module _ (p : Parts) (n : ℕ) (cenv : CompileEnv) (order : List Namespace) (Kno
         (required_of p strict (weight x) first (expr_of x sp g t (omega arith)))
         (required_of p strict (weight y) second (expr_of y sp g t (omega arith)))
     expr_of (written.when c a) sp g t k =
-        when (expr_of c sp g t (omega arith)) (expr_of a sp g t (omega arith)) (pooled_leaf m.undefined)
+        when (expr_of c sp g t (omega arith)) (expr_of a sp g t (omega arith)) (known_read m.undefined)
     expr_of (choice c a b) sp g t k =
         chosen (expr_of c sp g t (omega arith)) (expr_of a sp g t (omega arith)) (expr_of b sp g t (omega arith))
 
-    pub row_of : (ts : Exprs) (sp : StaticEnv) → Known sp.namespace → Fine p sp.table → sp.free + exprs_weight ts ≤ n
-        → IsFront (exprs_weight ts) (resolved_row cenv order ts sp)
-    row_of no_exprs sp g t k v i b h = h
-    row_of (expr a ts) sp g t k v i b h =
-        positional (plain (expr_of a sp g t (omega arith))) (row_of ts sp g t (omega arith) v i b h)
+    row_of : (ts : Exprs) (sp : StaticEnv) → Known sp.namespace → Fine p sp.table
+        → Fits sp (exprs_weight ts) 0 (exprs_bytes ts) → IsFront (exprs_weight ts) (resolved_row cenv order ts sp)
+    row_of no_exprs sp g t k v i j b h = h
+    row_of (expr a ts) sp g t k v i j b h =
+        positional (plain (expr_of a sp g t (omega arith))) (row_of ts sp g t (omega arith) v i j b h)
 
-    pub named_of : (ps : Pairs) (sp : StaticEnv) → Known sp.namespace → Fine p sp.table
-        → sp.free + pairs_weight 2 ps ≤ n → IsNamed (pairs_weight 2 ps) (resolved_asides cenv order ps sp)
-    named_of no_pairs sp g t k i b h = loads h
-    named_of (written.pair x a ps) sp g t k i b h =
+    named_of : (ps : Pairs) (sp : StaticEnv) → Known sp.namespace → Fine p sp.table
+        → Fits sp (pairs_weight 2 ps) 0 (pairs_bytes ps)
+        → IsNamed (pairs_weight 2 ps) (resolved_asides cenv order ps sp)
+    named_of no_pairs sp g t k i j b h = loads h
+    named_of (written.pair x a ps) sp g t k i j b h =
         named (m.locals sp.free (omega (arith, expr_some a))) (expr_of a sp g t (omega arith))
-        (named_of ps (grown sp) g t (omega arith) i b h)
+        (named_of ps (grown sp) g t (omega arith) i j b h)
 
     entries_of : (ps : Pairs) (sp : StaticEnv) → Known sp.namespace → Fine p sp.table
-        → sp.free + pairs_weight 3 ps ≤ n → RowOf p (pairs_weight 3 ps) 0 0 (resolved_entries cenv order ps sp)
+        → Fits sp (pairs_weight 3 ps) 0 (pairs_bytes ps)
+        → RowOf p (pairs_weight 3 ps) 0 0 0 (resolved_entries cenv order ps sp)
     entries_of no_pairs sp g t k = loads no_loads
     entries_of (written.pair x a ps) sp g t k =
         wider (omega arith)
-        (positional (plain (leaf (pooled_leaf (m.literals (written.text x)))))
+        (positional (plain (leaf (own_leaf (m.literals (written.text x) (omega arith)))))
         (positional (plain (expr_of a sp g t (omega arith))) (entries_of ps sp g t (omega arith))))
 
   -- ---- Statements: the names that a scope sets have their locals before its statements
 
   condition_of : (c : Option Expr) (sp : StaticEnv) → Known sp.namespace → Fine p sp.table
-      → sp.free + condition_weight c ≤ n → ConditionOf p (condition_weight c) (resolved_condition cenv order c sp)
+      → Fits sp (condition_weight c) 0 (condition_bytes c)
+      → ConditionOf p (condition_weight c) (resolved_condition cenv order c sp)
   condition_of None sp g t k = no_condition
   condition_of (Some c) sp g t k = condition (expr_of c sp g t (omega arith))
 
   filters_of : (fs : List FilterCall) (sp : StaticEnv) (w : ℕ) (e : SlotExpr Constant) → Known sp.namespace
-      → Fine p sp.table → sp.free + filter_call_weight fs ≤ n → ExprOf p w e
+      → Fine p sp.table → Fits sp (filter_call_weight fs) 0 (filter_call_bytes fs) → ExprOf p w e
       → ExprOf p (w + filter_call_weight fs) (resolved_filters cenv order fs sp e)
   filters_of [] sp w e g t k h = more (omega arith) h
   filters_of (f ∷ fs) sp w e g t k h =
@@ -443,12 +481,14 @@ module _ (p : Parts) (n : ℕ) (cenv : CompileEnv) (order : List Namespace) (Kno
       (filters_of fs sp (1 + w + exprs_weight ts + pairs_weight 2 ps + 1) (filtered_by i sp.escaping es) g t
       (omega arith)
       (filtered_of p i sp.escaping (1 + w + exprs_weight ts) (pairs_weight 2 ps) (row_count rest) (length qs) es
-      (m.filters sp.namespace g i) (some_few qs (count ts) (keywords ps) ks)
+      (m.filters sp.namespace g i).0 (some_few qs (count ts) (keywords ps) ks)
       (omega (arith, some_paid qs (count ts) (keywords ps) ks, names_few ps))
       (positional (required_of p strict w e h)
-      (row_of ts sp g t (omega arith) (pairs_weight 2 ps) (row_count rest) (resolved_asides cenv order ps sp rest)
-      (named_of ps sp g t (omega arith) (row_count rest) rest (some_of p defaults_of qs (count ts) (keywords ps) ks
-      (from_of sp.free (keywords ps) (omega (arith, names_few ps)))))))))
+      (row_of ts sp g t (omega arith) (pairs_weight 2 ps) (row_count rest) (row_count rest)
+      (resolved_asides cenv order ps sp rest)
+      (named_of ps sp g t (omega arith) (row_count rest) (row_count rest) rest
+      (some_of p qs (count ts) (keywords ps) ks (from_of sp.free (keywords ps) (omega (arith, names_few ps)))
+      (m.filters sp.namespace g i).1))))))
 
   fresh_each : (d : ℕ) (xs : List Text) → d + length xs ≤ n → EachSlot p (fresh d xs)
   fresh_each d [] h = tt
@@ -469,7 +509,7 @@ module _ (p : Parts) (n : ℕ) (cenv : CompileEnv) (order : List Namespace) (Kno
   set_of t (x ∷ []) h = one_target (of_fine p m.first t x h)
   set_of t (x ∷ (y ∷ ys)) h = targets (kept_len t (x ∷ (y ∷ ys))) (kept_each t (x ∷ (y ∷ ys)) h)
 
-  pub copied_of : (q : Place) (t : Table) (d : ℕ) (xs : List Text) (b : SBody Constant) → d + length xs ≤ n → Fine p t
+  copied_of : (q : Place) (t : Table) (d : ℕ) (xs : List Text) (b : SBody Constant) → d + length xs ≤ n → Fine p t
       → CopiesOf p (length xs) b (copied q t d xs b)
   copied_of q t d [] b h g = no_copies
   copied_of q t d (x ∷ xs) b h g =
@@ -483,26 +523,21 @@ module _ (p : Parts) (n : ℕ) (cenv : CompileEnv) (order : List Namespace) (Kno
       copy (h d (omega arith) (omega arith)) (read_is t x g)
       (handed_of q t (suc d) xs b g (λ i l r. h i (omega arith) (omega arith)))
 
-  pub scope_of : (b : Body) (sp : StaticEnv) (w c : ℕ) → Fine p sp.table → sp.free + length (set_in b) ≤ n
-      → BodyOf p w c (length (set_in b)) (resolved_body cenv order b (bound_all (set_in b) sp))
-      → BodyOf p (max 2 w) c 0 (scoped (set_in b) sp (resolved_body cenv order b))
-  scope_of b sp w c t k h =
-      scope (copied_of (place sp 1) sp.table sp.free (set_in b)
-      (resolved_body cenv order b (bound_all (set_in b) sp)) k t) h
-
   -- The body of a scope with the copies at its start, by the body alone.
-  inner_of : (b : Body) (sp : StaticEnv) → Fine p sp.table → sp.free + body_own b ≤ n
+  inner_of : (b : Body) (sp : StaticEnv) → Fine p sp.table → Fits sp (body_own b) 0 (body_bytes b)
       → (Fine p (bound_table (set_in b) sp.free sp.table)
-      → sp.free + length (set_in b) + body_own b ≤ n + length (set_in b)
+      → Fits (bound_all (set_in b) sp) (body_own b) (length (set_in b)) (body_bytes b)
       → BodyOf p (body_free b) (body_binds b) (length (set_in b))
       (resolved_body cenv order b (bound_all (set_in b) sp)))
-      → BodyOf p (max 2 (body_free b)) (body_binds b) 0 (scoped (set_in b) sp (resolved_body cenv order b))
+      → BodyOf p (body_free b) (body_binds b) 0 (scoped (set_in b) sp (resolved_body cenv order b))
   inner_of b sp t k h =
-      scope_of b sp (body_free b) (body_binds b) t (omega (arith, k, in_few b))
-      (h (bound_of (set_in b) sp.free sp.table (omega (arith, k, in_few b)) t) (omega arith))
+      let few : sp.free + length (set_in b) ≤ n = omega (arith, k, in_few b) in
+      scope (in_few b).0
+      (copied_of (place sp 1) sp.table sp.free (set_in b) (resolved_body cenv order b (bound_all (set_in b) sp)) few t)
+      (h (bound_of (set_in b) sp.free sp.table few t) (omega arith))
 
   values_of : (ps : Pairs) (sp : StaticEnv) (line : ℕ) (b : SBody Constant) → Known sp.namespace
-      → Fine p sp.table → sp.free + pairs_weight 2 ps ≤ n
+      → Fine p sp.table → Fits sp (pairs_weight 2 ps) 0 (pairs_bytes ps)
       → ValuesOf p (pairs_weight 0 ps) (pairs_count ps) b (resolved_values cenv order ps sp line b)
   values_of no_pairs sp line b g t k = no_values
   values_of (written.pair x e ps) sp line b g t k =
@@ -526,10 +561,10 @@ module _ (p : Parts) (n : ℕ) (cenv : CompileEnv) (order : List Namespace) (Kno
   AreFew c = (i : ℕ) → i ≤ c → p.targets i
 
   mutual
-    pub stmt_of : (s : Stmt) (sp : StaticEnv) → Known sp.namespace → Fine p sp.table
-        → sp.free + stmt_own s ≤ n + length (set_by s) → AreFew (stmt_bound s)
+    stmt_of : (s : Stmt) (sp : StaticEnv) → Known sp.namespace → Fine p sp.table
+        → Fits sp (stmt_own s) (length (set_by s)) (stmt_bytes s) → AreFew (stmt_bound s)
         → BodyOf p (stmt_free s) (stmt_binds s) (length (set_by s)) (resolved_stmt cenv order s sp)
-    stmt_of (data_of x) sp g t k f = alone (data_part (m.literals (written.text x)))
+    stmt_of (data_of x) sp g t k f = alone (data_part (m.literals (written.text x) k.1))
     stmt_of (print line e) sp g t k f =
         alone
         (print_part
@@ -581,7 +616,7 @@ module _ (p : Parts) (n : ℕ) (cenv : CompileEnv) (order : List Namespace) (Kno
         (required_of p cenv.strict (1 + filter_call_weight fs)
         (resolved_filters cenv order fs inner (variable (local sp.free)))
         (filters_of fs inner 1 (variable (local sp.free)) g t (omega arith)
-        (leaf (variable_leaf (m.locals sp.free (omega arith)))))))))
+        (leaf (read_leaf (variable_read (m.locals sp.free (omega arith))))))))))
     stmt_of (autoescape line on body) sp g t k f =
         let inner = record sp { escaping = on } in
         wide (omega arith) (omega arith) (omega arith)
@@ -603,8 +638,8 @@ module _ (p : Parts) (n : ℕ) (cenv : CompileEnv) (order : List Namespace) (Kno
         (either_of (Fine p) is sp.table (globals cenv order sp.namespace) t (m.tables sp.namespace))
     stmt_of s sp g t k f = wide (omega arith) (omega arith) (omega arith) empty
 
-    pub body_of : (b : Body) (sp : StaticEnv) → Known sp.namespace → Fine p sp.table
-        → sp.free + body_own b ≤ n + length (set_in b) → AreFew (body_bound b)
+    body_of : (b : Body) (sp : StaticEnv) → Known sp.namespace → Fine p sp.table
+        → Fits sp (body_own b) (length (set_in b)) (body_bytes b) → AreFew (body_bound b)
         → BodyOf p (body_free b) (body_binds b) (length (set_in b)) (resolved_body cenv order b sp)
     body_of end sp g t k f = empty
     body_of (stmt s rest) sp g t k f =
@@ -614,7 +649,8 @@ module _ (p : Parts) (n : ℕ) (cenv : CompileEnv) (order : List Namespace) (Kno
         (body_of rest sp g t (omega (arith, k, l, by_few s)) (λ i h. f i (omega arith))))
 
     choice_of : (bs : Branches) (sp : StaticEnv) (w c d : ℕ) (other : SBody Constant) → Known sp.namespace
-        → Fine p sp.table → sp.free + branch_own bs ≤ n + length (set_under bs) → AreFew (branch_bound bs)
+        → Fine p sp.table → Fits sp (branch_own bs) (length (set_under bs)) (branch_bytes bs)
+        → AreFew (branch_bound bs)
         → BodyOf p w c d other
         → BodyOf p (branch_free bs + w) (branch_binds bs + c) (length (set_under bs) + d)
         (resolved_choice cenv order bs sp other)
@@ -628,7 +664,8 @@ module _ (p : Parts) (n : ℕ) (cenv : CompileEnv) (order : List Namespace) (Kno
 
   -- ---- Routines
 
-  sets_of : (h : Namespace) (b : Body) (x : Text) → Known h → body_own b ≤ n → AreFew (body_bound b)
+  sets_of : (h : Namespace) (b : Body) (x : Text) → Known h
+      → Fits (top_senv cenv order h x) (body_own b) 0 (body_bytes b) → AreFew (body_bound b)
       → BodyOf p (body_free b) (body_binds b) 0 (resolved_sets cenv order b (top_senv cenv order h x))
   sets_of h end x g k f = empty
   sets_of h (stmt s rest) x g k f =
@@ -641,22 +678,44 @@ module _ (p : Parts) (n : ℕ) (cenv : CompileEnv) (order : List Namespace) (Kno
       (after (stmt_of s sp g (m.tables h) (omega arith) (λ i l. f i (omega arith))) later))
       (wide (omega arith) (omega arith) (omega arith) later)
 
-  pub chain_of : (h : Namespace) (ts : List Template) → Known h → templates_own ts ≤ n → AreFew (templates_bound ts)
+  pub chain_of : (h : Namespace) (ts : List Template) → Known h → templates_own ts ≤ n → AreShort z ts
+      → AreFew (templates_bound ts)
       → BodyOf p (templates_free ts) (templates_bind ts) 0 (resolved_chain cenv order h ts)
-  chain_of h [] g k f = empty
-  chain_of h (t ∷ []) g k f =
+  chain_of h [] g k y f = empty
+  chain_of h (t ∷ []) g k y f =
       wide (omega arith) (omega arith) (omega arith)
-      (body_of t.body (top_senv cenv order h t.name) g (m.tables h) (omega arith) (λ i l. f i (omega arith)))
-  chain_of h (t ∷ (u ∷ us)) g k f =
-      after (sets_of h t.body t.name g (omega arith) (λ i l. f i (omega arith)))
-      (chain_of h (u ∷ us) g (omega arith) (λ i l. f i (omega arith)))
+      (body_of t.body (top_senv cenv order h t.name) g (m.tables h) (omega (arith, y.0)) (λ i l. f i (omega arith)))
+  chain_of h (t ∷ (u ∷ us)) g k y f =
+      after (sets_of h t.body t.name g (omega (arith, y.0)) (λ i l. f i (omega arith)))
+      (chain_of h (u ∷ us) g (omega arith) y.1 (λ i l. f i (omega arith)))
 
   -- A body with parameters, in a scope of its own.
   pub routine_of : (xs : List Text) (b : Body) (sp : StaticEnv) → Known sp.namespace → Fine p sp.table
-      → sp.free + length xs + body_own b ≤ n → AreFew (body_bound b)
-      → BodyOf p (max 2 (body_free b)) (body_binds b) 0
+      → Fits sp (length xs + body_own b) 0 (body_bytes b) → AreFew (body_bound b)
+      → BodyOf p (body_free b) (body_binds b) 0
       (scoped (set_in b) (bound_all xs sp) (resolved_body cenv order b))
   routine_of xs b sp g t k f =
       let inner = bound_all xs sp in
       inner_of b inner (bound_of xs sp.free sp.table (omega arith) t) (omega arith)
       (λ r l. body_of b (bound_all (set_in b) inner) g r l f)
+
+-- The parts of chains and of routines, if no demand depends on the number of locals or on the length
+-- of trees.
+module _ (p : Parts) (cenv : CompileEnv) (order : List Namespace) (Known : Namespace → Type 0)
+    (m : (n z : ℕ) → Meets p n z cenv order Known) where
+  pub chain_parts : (h : Namespace) (ts : List Template) → Known h
+      → ((i : ℕ) → i ≤ templates_bound ts → p.targets i)
+      → BodyOf p (templates_free ts) (templates_bind ts) 0 (resolved_chain cenv order h ts)
+  chain_parts h ts g f =
+      let n = templates_own ts in
+      let z = longest ts in
+      chain_of p n z cenv order Known (m n z) h ts g (omega arith) (are_short z ts (omega arith)) f
+
+  pub routine_parts : (xs : List Text) (b : Body) (sp : StaticEnv) → Known sp.namespace → Fine p sp.table
+      → ((i : ℕ) → i ≤ body_bound b → p.targets i)
+      → BodyOf p (body_free b) (body_binds b) 0
+      (scoped (set_in b) (bound_all xs sp) (resolved_body cenv order b))
+  routine_parts xs b sp g t f =
+      let n = sp.free + (length xs + body_own b) in
+      let z = body_bytes b in
+      routine_of p n z cenv order Known (m n z) xs b sp g t (omega arith) f
