@@ -91,7 +91,7 @@ abbrev pub longest : List Template → ℕ
 longest [] = 0
 longest (t ∷ ts) = max (body_bytes t.body) (longest ts)
 
--- Holds if no template has more bytes.
+-- Holds if no template has more than n bytes.
 abbrev pub AreShort : ℕ → List Template → Type 0
 AreShort n ts = Each (λ t. body_bytes t.body ≤ n) ts
 

@@ -45,8 +45,8 @@ pub data IsLeaf (p : Parts) : SlotExpr Constant → Type 0 where
   field_leaf : {f : LoopField} → IsLeaf p (field f)
   absent_leaf : IsLeaf p absent
 
--- A row of loads. The first number counts them, and at most the second number are values of their
--- own, the defaults of a filter.
+-- A row of loads. The first number counts them. The second number is at least that of the defaults
+-- of a filter among them, which are values of their own.
 pub data LoadsOf (p : Parts) : ℕ → ℕ → SRow Constant → Type 0 where
   no_loads : LoadsOf p zero zero none
   load : {n k j : ℕ} {e : SlotExpr Constant} {es : SRow Constant} → k ≤ j → IsRead p e → LoadsOf p n k es
@@ -134,6 +134,7 @@ mutual
         → BodyOf p w m 0 body → StmtOf p (2 + w) m c (capture escaping s body)
     run_part : {n m u : ℕ} {es : SRow Constant} → p.called m → n ≤ m → LoadsOf p n 0 es → StmtOf p 3 0 0 (run u es)
 
+  -- A body of parts. Its numbers add up those of its statements. A scope sets no names outside.
   pub data BodyOf (p : Parts) : ℕ → ℕ → ℕ → SBody Constant → Type 0 where
     empty : BodyOf p 0 0 0 end
     alone : {w m c : ℕ} {s : SlotStmt Constant} → StmtOf p w m c s → BodyOf p w m c (stmt s end)
