@@ -124,3 +124,19 @@ methods =
 
 abbrev pub left_out_method : List ℕ → Option (List ℕ)
 left_out_method name = sentence_in methods name
+
+-- The characters that other languages, or texts from elsewhere, have in a tag.
+abbrev pub characters : List (List ℕ × List ℕ)
+characters =
+    (codes "!", codes "write not, or != between two values")
+    ∷ (codes "#", codes "a comment is written {# .. #}")
+    ∷ (codes "&", codes "write and")
+    ∷ (codes "/", codes "numbers are whole: // divides and rounds down")
+    ∷ (codes ";", codes "a tag has one statement or expression")
+    ∷ (codes "?", codes "write a if x else b")
+    ∷ (codes "^", codes "the power is **")
+    ∷ (codes "`", codes "a text stands in \" or '")
+    ∷ []
+
+abbrev pub left_out_character : List ℕ → Option (List ℕ)
+left_out_character x = sentence_in characters x

@@ -1,5 +1,5 @@
 //! Looks up what to write in place of Jinja's filters, tests and functions that the
-//! language leaves out, and of the methods of Python's values.
+//! language leaves out, of the methods of Python's values, and of characters that begin no token.
 
 ghost use Rattle.std.specs.Prelude.{◌≡◌, map, option_map};
 ghost use Rattle.jt_hints.specs.LeftOut as table;
@@ -90,6 +90,17 @@ static FUNCTIONS: [Row; 10] = [
     ("ngettext", "the host passes the translated texts"),
     ("now", "the host passes the time in the context"),
     ("_", "the host passes the translated texts"),
+];
+
+static CHARACTERS: [Row; 8] = [
+    ("!", "write not, or != between two values"),
+    ("#", "a comment is written {# .. #}"),
+    ("&", "write and"),
+    ("/", "numbers are whole: // divides and rounds down"),
+    (";", "a tag has one statement or expression"),
+    ("?", "write a if x else b"),
+    ("^", "the power is **"),
+    ("`", "a text stands in \" or '"),
 ];
 
 static LOOP_FIELDS: [Row; 8] = [
@@ -233,4 +244,11 @@ pub fn left_out_method(name: &str) -> Option<&'static str>
     ensures { option_map (λ s. s.now) result ≡ table.left_out_method name.now }
 {
     sentence_in(&METHODS, name)
+}
+
+/// Returns what to write in place of a character that begins no token, or `None` for another one.
+pub fn left_out_character(character: &str) -> Option<&'static str>
+    ensures { option_map (λ s. s.now) result ≡ table.left_out_character character.now }
+{
+    sentence_in(&CHARACTERS, character)
 }

@@ -14,6 +14,7 @@ pub mod Subjects
 pub mod Suggestions
 pub mod SyntaxHints
 pub mod Templates
+pub mod TokenMarks
 -- The modules that the clauses of the exported calls cite, and that an embedder's own clauses may
 -- need.
 pub use Rattle.jt_checks.specs.Findings

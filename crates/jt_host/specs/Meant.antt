@@ -1,4 +1,5 @@
--- The name in the sources that the name of a refusal probably means.
+-- The name in the sources that the name of a refusal probably means, the method that is called, and what
+-- a macro takes.
 use Rattle.std.specs.Str.{bytes_eq}
 use Rattle.std.specs.Prelude.{◌≡◌, ◌⊎◌, ℕ, true, List, codes, Option, Some, None, string_bytes}
 use Rattle.jt_scan.specs.Cut.{IsCut}
@@ -9,6 +10,7 @@ use Rattle.jt_ast.specs.Expressions.{Text}
 use Rattle.jt_hints.specs.CalledMethods.{called_method}
 use Rattle.jt_hints.specs.DefinedNames.{defined_names, layout_named, library_named}
 use Rattle.jt_hints.specs.Edits.{nearest}
+use Rattle.jt_hints.specs.Fitting.{macro_arguments}
 use Rattle.jt_hints.specs.KnownStatements.{statement_names, unknown_statement}
 use Rattle.jt_hints.specs.declared.definitions.NameKind.{NameKind}
 use Rattle.jt_hints.specs.declared.definitions.NameKind.TheVariants as kind
@@ -42,6 +44,8 @@ pub data Wanted : Type 0 where
   method : ℕ → Wanted
   -- The word of a statement that is nearest to the first one of a tag at a line.
   statement : ℕ → Wanted
+  -- What the macro of a name takes.
+  macro_of : Text → Wanted
 
 abbrev pub wanted : Sought → Wanted
 wanted (sought.Near k x) = near_name k x.now
@@ -49,6 +53,7 @@ wanted (sought.Library x) = library x.now
 wanted sought.Layout = layout
 wanted (sought.Method line) = method line
 wanted (sought.Statement line) = statement line
+wanted (sought.Macro x) = macro_of x.now
 
 abbrev pub near_word : Option Text → Option Text
 near_word (Some word) = nearest word statement_names
@@ -64,6 +69,7 @@ found_in (library x) segments = library_named x segments
 found_in layout segments = layout_named segments
 found_in (method line) segments = called_method line segments
 found_in (statement line) segments = near_statement line segments
+found_in (macro_of x) segments = macro_arguments x segments
 
 -- The source is cut into segments, in which this is found.
 pub record HasFound (options : Options) (source : Text) (w : Wanted) (y : Text) : Type 0 where
@@ -151,3 +157,34 @@ module _ (sources : SourceTexts) (options : Options) where
   abbrev pub IsMethodFor : Explained → Text → Type 0
   IsMethodFor (explained.Refused f) y = IsMethodBy f y
   IsMethodFor explained.Compiles y = ⊥
+
+  -- The template imports a library by this name, whose macro takes this.
+  pub record IsTakenByField (template of x y : Text) : Type 0 where
+    pub name : Text
+    pub imported : IsFound template (library of) name
+    pub taken : IsFound name (macro_of x) y
+
+  -- The template extends another one, whose macro takes this.
+  pub record IsTakenInLayout (template x y : Text) : Type 0 where
+    pub name : Text
+    pub extended : IsFound template layout name
+    pub taken : IsFound name (macro_of x) y
+
+  -- A macro of the template, or of the template that it extends.
+  abbrev pub IsTakenByName : Text → Text → Text → Type 0
+  IsTakenByName template x y = IsFound template (macro_of x) y ⊎ IsTakenInLayout template x y
+
+  -- What the macro takes whose arguments do not fit.
+  abbrev pub IsTakenAt : CompileError → Option TagPlace → Option Subject → Text → Type 0
+  IsTakenAt (compile_error.Scope scope_error.BadArguments) (Some place) (Some (subject.CalledName x)) y =
+      IsTakenByName (string_bytes place.template) (string_bytes x) y
+  IsTakenAt (compile_error.Scope scope_error.BadArguments) (Some place) (Some (subject.CalledField of k)) y =
+      IsTakenByField (string_bytes place.template) (string_bytes of) (string_bytes k) y
+  IsTakenAt e place about y = ⊥
+
+  abbrev pub IsTakenBy : Finding → Text → Type 0
+  IsTakenBy f y = IsTakenAt f.error f.place f.subject y
+
+  abbrev pub IsTakenFor : Explained → Text → Type 0
+  IsTakenFor (explained.Refused f) y = IsTakenBy f y
+  IsTakenFor explained.Compiles y = ⊥

@@ -42,6 +42,7 @@ mod subjects;
 mod suggestions;
 mod syntax_hints;
 mod templates;
+mod token_marks;
 
 pub use call_error::CallError;
 pub use calls::{

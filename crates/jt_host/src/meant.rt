@@ -1,5 +1,5 @@
-//! Finds the name in the sources that the name of a refusal probably means, and the method that is
-//! called.
+//! Finds the name in the sources that the name of a refusal probably means, the method that is
+//! called, and what a macro takes.
 
 ghost use Rattle.std.specs.Prelude.{◌≡◌, IfOk, IfSome, option_map, string_bytes};
 ghost use Rattle.jt_host.specs.Meant as spec;
@@ -10,8 +10,8 @@ use jt_codegen::{
     ChainError, ChainSubject, CompileError, Explained, Finding, ParseError, ScopeError, Subject,
 };
 use jt_hints::{
-    NameKind, called_method, defined_names, layout_named, library_named, nearest, statement_names,
-    unknown_statement,
+    NameKind, called_method, defined_names, layout_named, library_named, macro_arguments, nearest,
+    statement_names, unknown_statement,
 };
 use jt_inherit::Library;
 use jt_scan::{Options, ScanError, Segment, Source, scan};
@@ -30,6 +30,8 @@ pub enum Sought<'a> {
     Method(u32),
     /// The word of a statement that is nearest to the first one of a tag at a line.
     Statement(u32),
+    /// What the macro of a name takes.
+    Macro(&'a str),
 }
 
 /// The templates of a library, and the options under which they are read.
@@ -79,6 +81,7 @@ fn found_in(
         Sought::Layout => copied(alloc, layout_named(segments)),
         Sought::Method(line) => copied(alloc, called_method(line, segments)),
         Sought::Statement(line) => copied(alloc, near_statement(line, segments)),
+        Sought::Macro(name) => macro_arguments(alloc, name, segments),
     }
 }
 
@@ -295,5 +298,87 @@ pub(crate) fn method_for(
     match explained {
         Explained::Compiles => Ok(None),
         Explained::Refused(finding) => method_by(alloc, Sources { templates, options }, finding),
+    }
+}
+
+/// Returns what the macro takes that a field of a library is.
+fn taken_by_field(
+    alloc: Global,
+    sources: Sources<'_>,
+    template: &str,
+    of: &str,
+    field: &str,
+) -> Result<Option<String>, AllocError>
+    ensures { IfOk result (λ found. IfSome found (λ y.
+        spec.IsTakenByField (source_of sources.entry.templates.now) sources.entry.options
+        template.now of.now field.now (string_bytes y))) }
+{
+    match found_by(alloc, sources, template, Sought::Library(of))? {
+        Some(library) => found_by(alloc, sources, &library, Sought::Macro(field)),
+        None => Ok(None),
+    }
+}
+
+/// Returns what the macro of a name takes: one of the template, or of the template that it extends.
+fn taken_by_name(
+    alloc: Global,
+    sources: Sources<'_>,
+    template: &str,
+    name: &str,
+) -> Result<Option<String>, AllocError>
+    ensures { IfOk result (λ found. IfSome found (λ y.
+        spec.IsTakenByName (source_of sources.entry.templates.now) sources.entry.options
+        template.now name.now (string_bytes y))) }
+{
+    let sought = Sought::Macro(name);
+    if let Some(taken) = found_by(alloc, sources, template, sought)? {
+        return Ok(Some(taken));
+    }
+    match found_by(alloc, sources, template, Sought::Layout)? {
+        Some(layout) => found_by(alloc, sources, &layout, sought),
+        None => Ok(None),
+    }
+}
+
+/// Returns what the macro takes whose arguments do not fit.
+fn taken_by(
+    alloc: Global,
+    sources: Sources<'_>,
+    finding: &Finding,
+) -> Result<Option<String>, AllocError>
+    ensures { IfOk result (λ found. IfSome found (λ y.
+        spec.IsTakenBy (source_of sources.entry.templates.now) sources.entry.options finding.now
+        (string_bytes y))) }
+{
+    let Finding {
+        error: CompileError::Scope(ScopeError::BadArguments),
+        place: Some(place),
+        subject: Some(subject),
+    } = finding
+    else {
+        return Ok(None);
+    };
+    match subject {
+        Subject::CalledName(name) => taken_by_name(alloc, sources, &place.template, name),
+        Subject::CalledField { of, field } => {
+            taken_by_field(alloc, sources, &place.template, of, field)
+        }
+        _ => Ok(None),
+    }
+}
+
+/// Returns what the macro takes for whose arguments an entry does not compile.
+pub(crate) fn taken_for(
+    alloc: Global,
+    templates: &Templates,
+    options: Options,
+    explained: &Explained,
+) -> Result<Option<String>, AllocError>
+    ensures { IfOk result (λ found. IfSome found (λ y.
+        spec.IsTakenFor (source_of templates.now) options explained.now (string_bytes y))) }
+{
+    match explained {
+        Explained::Compiles => Ok(None),
+        Explained::Refused(finding) => taken_by(alloc, Sources { templates, options }, finding),
     }
 }
