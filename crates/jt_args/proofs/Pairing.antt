@@ -90,11 +90,11 @@ pub come_of : (words : List (Bor Text)) (all : List Text) → texts words ≡ al
     → (0 < length words) × (length words % 2 ≡ 0)
 come_of words all e paired = search (arith, rules, length-map)
 
--- A known name is one of eight.
+-- A known name is one of nine.
 pub no_other : (o : Option Text) (name : Text) → o ≡ Some name → IsKnown o → name ≢ codes "compile"
     → name ≢ codes "explain" → name ≢ codes "check" → name ≢ codes "show"
-    → name ≢ codes "run" → name ≢ codes "render" → name ≢ codes "turns" → name ≢ codes "upgrade" → ⊥
-no_other o name same known a b c d e f g h = search (arith, rules)
+    → name ≢ codes "run" → name ≢ codes "render" → name ≢ codes "turns" → name ≢ codes "upgrade" → name ≢ codes "needs" → ⊥
+no_other o name same known a b c d e f g h i = search (arith, rules)
 
 pub no_name : (o : Option Text) → o ≡ None → IsKnown o → ⊥
 no_name o none known = search (arith, rules)

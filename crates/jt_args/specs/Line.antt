@@ -102,11 +102,16 @@ upgrade_app =
     with_rule (with_rule (new_app (codes "upgrade")) (word_rule (codes "IN")))
     (word_rule (codes "OUT"))
 
+-- The command `needs DIR NAME`.
+abbrev pub needs_app : App
+needs_app =
+    with_flags (with_rule (with_rule (new_app (codes "needs")) (word_rule (codes "DIR"))) (word_rule (codes "NAME")))
+
 -- The program: a command, then the words and options of that command.
 abbrev pub program_app : App
 program_app = let a = new_app (codes "jt") in
     with_subcommand (with_subcommand (with_subcommand (with_subcommand (with_subcommand
-    (with_subcommand (with_subcommand (with_subcommand (record a {
+    (with_subcommand (with_subcommand (with_subcommand (with_subcommand (record a {
       top = record a.top {
         no_binary_name = true;
         has_version = true;
@@ -114,7 +119,7 @@ program_app = let a = new_app (codes "jt") in
         subcommand_required = true;
       };
     }) compile_app.top) explain_app.top) check_app.top) show_app.top) run_app.top)
-    render_app.top) turns_app.top) upgrade_app.top
+    render_app.top) turns_app.top) upgrade_app.top) needs_app.top
 
 -- The line has no fault.
 abbrev pub IsClear : List Text → Type 0
@@ -243,6 +248,10 @@ IsCommand name rows (command.Upgrade image out) options budget slice = (name ≡
     × (string_bytes image ≡ word_of (codes "IN") rows)
     × (string_bytes out ≡ word_of (codes "OUT") rows)
     × (options ≡ usual_options) × (budget ≡ usual_budget) × (slice ≡ usual_slice)
+IsCommand name rows (command.Needs dir template) options budget slice = (name ≡ codes "needs")
+    × (string_bytes dir ≡ word_of (codes "DIR") rows)
+    × (string_bytes template ≡ word_of (codes "NAME") rows)
+    × IsOptions rows options × (budget ≡ usual_budget) × (slice ≡ usual_slice)
 
 -- The job that the command of a line requests, by its name and the rows that were found.
 abbrev pub IsAsked : Option (Text × List Row) → Job → Type 0
@@ -255,7 +264,8 @@ abbrev pub IsKnown : Option Text → Type 0
 IsKnown name = (name ≡ Some (codes "compile")) ⊎ ((name ≡ Some (codes "explain"))
     ⊎ ((name ≡ Some (codes "check")) ⊎ ((name ≡ Some (codes "show"))
     ⊎ ((name ≡ Some (codes "run")) ⊎ ((name ≡ Some (codes "render"))
-    ⊎ ((name ≡ Some (codes "turns")) ⊎ (name ≡ Some (codes "upgrade"))))))))
+    ⊎ ((name ≡ Some (codes "turns")) ⊎ ((name ≡ Some (codes "upgrade"))
+    ⊎ (name ≡ Some (codes "needs")))))))))
 
 -- The line names this command.
 abbrev pub Asks : Text → List Text → Type 0

@@ -153,7 +153,7 @@ const SLICE: Argument = Argument {
     help: "The number of instructions in a turn, 1 to 1000000 [default: 100]",
 };
 
-const COMMANDS: [CommandForm; 8] = [
+const COMMANDS: [CommandForm; 9] = [
     CommandForm {
         name: "compile",
         about: "Compiles a template into an image",
@@ -230,6 +230,19 @@ const COMMANDS: [CommandForm; 8] = [
         name: "upgrade",
         about: "Writes an image in version 2, whose faults may have places",
         arguments: &[IN, OUT],
+    },
+    CommandForm {
+        name: "needs",
+        about: "Lists the names and templates that a template needs",
+        arguments: &[
+            DIR,
+            NAME,
+            TRIM_BLOCKS,
+            LSTRIP_BLOCKS,
+            KEEP_TRAILING_NEWLINE,
+            NO_AUTOESCAPE,
+            STRICT,
+        ],
     },
 ];
 

@@ -51,6 +51,12 @@ pub enum Command {
         image: String,
         out: String,
     },
+    /// Lists what the template `name` from the files of the directory `dir` needs: names of a
+    /// context, and templates.
+    Needs {
+        dir: String,
+        name: String,
+    },
 }
 
 /// The paths of an image and of a context file.

@@ -63,6 +63,7 @@ fn asked(alloc: Global, matches: &ArgMatches<'_>) -> Result<Job, JobError>
         Some(("render", found)) => render_job(alloc, found),
         Some(("turns", found)) => turns_job(alloc, found),
         Some(("upgrade", found)) => upgrade_job(alloc, found),
+        Some(("needs", found)) => needs_job(alloc, found),
         _ => unreachable!(),
     }
 }
@@ -167,6 +168,21 @@ fn upgrade_job(alloc: Global, found: &ArgMatches<'_>) -> Result<Job, JobError>
     Ok(Job {
         command: jobs::Command::Upgrade { image, out },
         options: Options::new(),
+        budget: DEFAULT,
+        slice: SLICE,
+    })
+}
+
+fn needs_job(alloc: Global, found: &ArgMatches<'_>) -> Result<Job, JobError>
+    requires { HasSwitches (rows_of (found_of found.now)) }
+    ensures ok { IfOk result (IsAsked (Some (codes "needs", rows_of (found_of found.now)))) }
+    ensures err { IfErr result (λ e. e ≡ JobError.NoMemory) }
+{
+    let dir = String::from_str(alloc, word(found, "DIR"))?;
+    let name = String::from_str(alloc, word(found, "NAME"))?;
+    Ok(Job {
+        command: jobs::Command::Needs { dir, name },
+        options: options(found),
         budget: DEFAULT,
         slice: SLICE,
     })

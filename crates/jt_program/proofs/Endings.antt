@@ -121,6 +121,16 @@ named name rows (command.Compile dir template out) o b n h is = inl h.0
 named name rows (command.Upgrade image out) o b n h is = inr h.0
 named name rows k o b n h is = absurd is
 
+-- If a line is one of neither command that writes an image, its job writes none.
+pub not_writing : (found : Option (Word × List Row)) (j : Job) → IsAsked found j
+    → (option_map (λ c. c.0) found ≡ Some (codes "compile") → ⊥)
+    → (option_map (λ c. c.0) found ≡ Some (codes "upgrade") → ⊥)
+    → IsWriting j.command → ⊥
+not_writing None j asked compiles upgrades writes = absurd asked
+not_writing (Some c) j asked compiles upgrades writes =
+    ⊎_elim (λ e. compiles (ap Some e)) (λ e. upgrades (ap Some e))
+    (named c.0 c.1 j.command j.options j.budget j.slice asked writes)
+
 module _ (files after : Known) where
   -- A command changes no file except OUT, if a command that writes no image changes none.
   only_of : (name : Word) (rows : List Row) (k : Command) (o : Options) (b : Budget) (n : ℕ) (e : Ending)

@@ -31,7 +31,7 @@ use Rattle.jt_turns.specs.Outcomes.{AreOutcomes}
 use Rattle.jt_turns.specs.SessionStates.{Stands}
 use Rattle.jt_turns.specs.declared.Start.{Start}
 use Rattle.jt_host.specs.Calls.{ComesTo, ExplainsTo, IsCounted, IsImage, IsImageOf, IsNoContext, IsNoImage}
-use Rattle.jt_host.specs.Calls.{IsNoUpgrade, IsUpgraded, RendersTo}
+use Rattle.jt_host.specs.Calls.{IsNoUpgrade, IsUpgraded, ListsNeeds, RendersTo}
 use Rattle.jt_host.specs.RunExplanations.{ExplainsRunTo}
 use Rattle.jt_host.specs.declared.CallError.{CallError}
 use Rattle.jt_host.specs.declared.CallError.TheVariants as call_error
@@ -186,6 +186,12 @@ module _ (files : Known) where
     pub library : IsLibrary files dir sources
     pub explained : EndsAs (ExplainsTo sources name options) e
 
+  -- The text lists what the template of a name needs, from the files of a directory.
+  pub record FindsNeeds (dir name : Text) (options : Options) (e : Ending) : Type 0 where
+    pub sources : SourceTexts
+    pub library : IsLibrary files dir sources
+    pub listed : EndsAs (ListsNeeds sources name options) e
+
   -- The template is explained as `Diagnoses` states, and if it compiles how its run for a context
   -- ends.
   pub record DiagnosesRun (dir name : Text) (options : Options) (context : Option (String Global))
@@ -301,6 +307,9 @@ module _ (files after : Known) where
   CommandEnds (command.Upgrade image out) o b e = ChangesOnly (string_bytes out)
       × (IsUnread files (IsPath (string_bytes image)) None e
       ⊎ Upgrades (string_bytes image) (string_bytes out) e)
+  CommandEnds (command.Needs dir name) o b e =
+      IsUnread files (IsOfDirectory files (string_bytes dir)) None e
+      ⊎ FindsNeeds files (string_bytes dir) (string_bytes name) o e
 
   abbrev pub JobEnds : Job → Ending → Type 0
   JobEnds j = CommandEnds j.command j.options j.budget

@@ -9,7 +9,7 @@ ghost use Rattle.jt_value.specs.ContextView.{pairs_of};
 ghost use Rattle.jt_args.specs.Line.{Takes, Asks, program_app};
 ghost use Rattle.jt_program.specs.Commands.{Answers, ChangesOnly, Checks, Compiles, Diagnoses};
 ghost use Rattle.jt_program.specs.Commands.{DiagnosesFor, DiagnosesRun};
-ghost use Rattle.jt_program.specs.Commands.{Ending, HasImage, HasUpgrade, IsContextAt, IsOfContext};
+ghost use Rattle.jt_program.specs.Commands.{Ending, FindsNeeds, HasImage, HasUpgrade, IsContextAt, IsOfContext};
 ghost use Rattle.jt_program.specs.Commands.{IsPath, IsUnread, IsWriting, JobEnds, LacksImage};
 ghost use Rattle.jt_program.specs.Commands.{LacksTemplates, LineEnds};
 ghost use Rattle.jt_program.specs.Commands.{LineWrites, Renders, Runs, Shows, Upgrades};
@@ -28,7 +28,7 @@ use jt_args::{Command, Job, job};
 use jt_budget::Budget;
 use jt_host::{
     EntryTemplate, Templates, context_of, counts_of, explained, explained_run, image_of,
-    render_text, run_image, upgraded,
+    listed_needs, render_text, run_image, upgraded,
 };
 use jt_machine::{Sink, put_all};
 use jt_scan::Options;
@@ -179,6 +179,7 @@ fn perform_job<F: Files>(alloc: Global, job: Job, files: &mut F) -> Result<Strin
         }
         Command::Turns { sessions } => run_turns(alloc, files, sessions, budget, slice),
         Command::Upgrade { image, out } => upgrade_to(alloc, files, image, out),
+        Command::Needs { dir, name } => needs_in(alloc, files, EntryFile { dir, name, options }),
     }
 }
 
@@ -293,6 +294,25 @@ fn explain_run_in<F: Files>(
         options,
     };
     Ok(explained_run(alloc, &entry, &context, budget)?)
+}
+
+/// Returns the lines that list what the entry needs.
+#[inline(never)]
+fn needs_in<F: Files>(alloc: Global, files: &mut F, entry: EntryFile) -> Result<String, Failure>
+    ensures ends { IsUnread (F.known (F.contents files.old))
+        (IsOfDirectory (F.known (F.contents files.old)) (string_bytes entry.dir)) None result
+        ⊎ FindsNeeds (F.known (F.contents files.old)) (string_bytes entry.dir)
+        (string_bytes entry.name) entry.options result }
+    ensures kept { F.contents files.new ≡ F.contents files.old }
+{
+    let EntryFile { dir, name, options } = entry;
+    let templates = templates_in(alloc, files, dir)?;
+    let entry = EntryTemplate {
+        name: name.as_str(),
+        templates: &templates,
+        options,
+    };
+    Ok(listed_needs(alloc, &entry)?)
 }
 
 /// Writes the image at a path in version 2 to the file at `out`. Returns an empty text.

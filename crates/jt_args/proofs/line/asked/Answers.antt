@@ -21,6 +21,11 @@ render_job-requires-clause-numbers c =
     at_rows HasNumbers (subcommand_rows_of c.args.matches.now) _ c.in-Some-render-default.ensures.rows
     c.requires.numbers
 
+pub needs_job-requires : goal.needs_job-requires
+needs_job-requires c =
+    at_rows HasSwitches (subcommand_rows_of c.args.matches.now) _ c.in-Some-needs-default.ensures.rows
+    c.requires.switches
+
 pub turns_job-requires-clause-numbers : goal.turns_job-requires-clause-numbers
 turns_job-requires-clause-numbers c =
     at_rows HasNumbers (subcommand_rows_of c.args.matches.now) _ c.in-Some-turns-default.ensures.rows c.requires.numbers

@@ -3,7 +3,7 @@ use Rattle.clap.specs.Walk.{texts}
 use Rattle.clap.specs.Words.{subcommand_of}
 use Rattle.jt_args.specs.Line.{program_app}
 use Rattle.jt_program.specs.Commands.{Answers, out_of}
-use Rattle.jt_program.proofs.Endings.{job_told, line_ends, line_told, line_writes, only_out, same_files}
+use Rattle.jt_program.proofs.Endings.{job_told, line_ends, line_told, line_writes, not_writing, only_out, same_files}
 use Rattle.jt_program.proofs.program.perform_line.Goals as goal
 
 pub returns-clause-ends : goal.returns-clause-ends
@@ -26,6 +26,12 @@ returns-clause-only g c =
     only_out files after found c.in_ok-job.job c.perform_job.result
     c.in_ok-job.ensures.asked c.perform_job.ensures.ends
     (λ not. rw (c.perform_job.ensures.kept not) (same_files files (out_of found)))
+
+pub returns-clause-kept : goal.returns-clause-kept
+returns-clause-kept g c not_compiling not_upgrading =
+    c.perform_job.ensures.kept
+    (not_writing (subcommand_of program_app (texts c.args.words.now)) c.in_ok-job.job c.in_ok-job.ensures.asked
+    not_compiling not_upgrading)
 
 pub returns-clause-touched : goal.returns-clause-touched
 returns-clause-touched g c =
