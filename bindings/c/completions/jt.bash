@@ -13,8 +13,9 @@ _jt() {
     case $command in
         compile | needs) options=$templates ;;
         check | show | upgrade) ;;
-        run) options=$budget ;;
-        explain | render) options="$templates $budget" ;;
+        run) options="$budget --report" ;;
+        explain) options="$templates $budget" ;;
+        render) options="$templates $budget --report" ;;
         turns) options="--slice $budget" ;;
         *) return ;;
     esac

@@ -52,6 +52,7 @@ complete -c jt -n $budget -x -l depth -d 'How many calls may be open'
 complete -c jt -n $budget -x -l output -d 'How many bytes may be written'
 complete -c jt -n $budget -x -l size -d 'How large a value may be'
 complete -c jt -n $budget -x -l nesting -d 'How deep a value may nest'
+complete -c jt -n '__fish_seen_subcommand_from run render' -l report -d 'Write what the run used of its budget to standard error'
 complete -c jt -n '__fish_seen_subcommand_from turns' -x -l slice -d 'How many instructions a turn has'
 
 complete -c jt -n '__jt_at 0 compile explain needs render' -a '(__fish_complete_directories)'
