@@ -10,6 +10,7 @@ use Rattle.jt_args.specs.declared.jobs.Command.{Command}
 use Rattle.jt_args.specs.declared.jobs.Job.{Job}
 use Rattle.jt_scan.specs.declared.Options.{Options}
 use Rattle.jt_args.specs.declared.jobs.Pair.{Pair}
+use Rattle.jt_args.specs.declared.jobs.UseReport.{UseReport}
 use Rattle.jt_args.specs.Line.{ArePaired, ComeInPairs, IsAsked, IsCommand, IsKnown, words_of_pairs}
 use Rattle.std.specs.Prelude.{IfSome, slice_get, string_bytes, unwrap_or}
 
@@ -33,14 +34,15 @@ of_other rows name other e d turns = absurd (d (sym e ∙ turns))
 apart : (s : Text) → unwrap_or (slice_get s 0) 0 ≢ 116 → s ≢ codes "turns"
 apart s d e = d (ap (λ (t : Text). unwrap_or (slice_get t 0) 0) e)
 
-paired : (name : Text) (rows : List Row) (k : Command) (o : Options) (b : Budget) (n : ℕ) → IsCommand name rows k o b n
+paired : (name : Text) (rows : List Row) (k : Command) (o : Options) (b : Budget) (n : ℕ) (r : UseReport)
+    → IsCommand name rows k o b n r
     → ArePaired (Some (name, rows))
-paired name rows k o b n a6 = search (arith, rules, of_other, apart, come)
+paired name rows k o b n r a7 = search (arith, rules, of_other, apart, come)
 
 -- The words of a job that is requested come in pairs.
 pub paired_of : (found : Option (Text × List Row)) (j : Job) → IsAsked found j → ArePaired found
 paired_of None j h = absurd h
-paired_of (Some c) j h = paired c.0 c.1 j.command j.options j.budget j.slice h
+paired_of (Some c) j h = paired c.0 c.1 j.command j.options j.budget j.slice j.report h
 
 -- The words of one more pair are appended.
 pub one_pair_more : (ps : List Pair) (p : Pair)

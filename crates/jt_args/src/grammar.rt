@@ -153,6 +153,12 @@ const SLICE: Argument = Argument {
     help: "The number of instructions in a turn, 1 to 1000000 [default: 100]",
 };
 
+const REPORT: Argument = Argument {
+    name: "report",
+    kind: ArgumentKind::Flag,
+    help: "Writes what the run used of its budget to standard error",
+};
+
 const COMMANDS: [CommandForm; 9] = [
     CommandForm {
         name: "compile",
@@ -200,7 +206,7 @@ const COMMANDS: [CommandForm; 9] = [
     CommandForm {
         name: "run",
         about: "Runs an image and prints its text",
-        arguments: &[IMAGE, CONTEXT, FUEL, DEPTH, OUTPUT, SIZE, NESTING],
+        arguments: &[IMAGE, CONTEXT, FUEL, DEPTH, OUTPUT, SIZE, NESTING, REPORT],
     },
     CommandForm {
         name: "render",
@@ -219,6 +225,7 @@ const COMMANDS: [CommandForm; 9] = [
             OUTPUT,
             SIZE,
             NESTING,
+            REPORT,
         ],
     },
     CommandForm {

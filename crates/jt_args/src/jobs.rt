@@ -66,6 +66,15 @@ pub struct Pair {
     pub context: String,
 }
 
+/// Whether standard error receives the line of what a run used of its budget.
+#[derive(Clone, Copy, Debug, PartialEq, Eq)]
+pub enum UseReport {
+    /// No line.
+    Omitted,
+    /// One line, after the run has ended.
+    Written,
+}
+
 /// A command with its options and numbers. Options and numbers that the command does not take have
 /// their defaults.
 #[derive(Debug, Drop, PartialEq, Eq)]
@@ -76,6 +85,8 @@ pub struct Job {
     pub budget: Budget,
     /// The number of instructions in a turn.
     pub slice: u32,
+    /// The report of what the run of `Run` or `Render` used.
+    pub report: UseReport,
 }
 
 /// The reason why a command line requests no job.

@@ -9,21 +9,23 @@ use Rattle.jt_machine.specs.Metering.{Metered, MeteringLaws, metered_after, mete
 use Rattle.jt_machine.specs.declared.Used.{Used}
 use Rattle.jt_host.specs.Metered.{EndsUsing}
 
--- Before its first step a run has executed 0 steps.
-pub at_start : (code : Code) (context : Pairs) (b : config.Budget)
-    → metered_after 0 (metered_start code context b) ≡ metered_start code context b
-at_start code context b = go (passed b context code.names)
-  where
-    from : Option config.Limit → Metered
-    from limit = record {
-      session = record { code = code; stage = begun limit code context b };
-      used = nothing_used;
-    }
+-- A run before its first step, by the limit that a value of the context exceeds.
+abbrev from : Code → Pairs → config.Budget → Option config.Limit → Metered
+from code context b limit = record {
+  session = record { code = code; stage = begun limit code context b };
+  used = nothing_used;
+}
 
-    go : (limit : Option config.Limit) → metered_after 0 (from limit) ≡ from limit
-    unfolding from
-    go None = refl
-    go (Some limit) = refl
+none_more : (code : Code) (context : Pairs) (b : config.Budget) (limit : Option config.Limit)
+    → metered_after 0 (from code context b limit) ≡ from code context b limit
+none_more code context b None = refl
+none_more code context b (Some limit) = refl
+
+-- Before its first step a run has executed 0 steps.
+pub at_start : (code : Code) (context : Pairs) (b : config.Budget) (run : Metered) → run ≡ metered_start code context b
+    → run ≡ metered_after 0 run
+at_start code context b run begins =
+    begins ∙ (sym (none_more code context b (passed b context code.names)) ∙ ap (metered_after 0) (sym begins))
 
 -- A slice more is executed after those before it.
 pub slice_more : MeteringLaws → (n k : ℕ) (start run next : Metered) → run ≡ metered_after n start

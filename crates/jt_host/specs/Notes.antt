@@ -16,7 +16,7 @@ use Rattle.jt_image.specs.Run.{Run}
 use Rattle.jt_image.specs.declared.Instruction.{Instruction}
 use Rattle.jt_image.specs.declared.Instruction.TheVariants as op
 use Rattle.jt_machine.specs.Session.{RunStage, outcome_of}
-use Rattle.jt_machine.specs.Metering.{Metered, metered_after, metered_start, next_instruction, next_place, prints_undefined}
+use Rattle.jt_machine.specs.Metering.{metered_after, metered_start, next_instruction, next_place, prints_undefined}
 use Rattle.jt_host.specs.Subjects.{quoted}
 use Rattle.jt_host.specs.declared.notes.Printed.{Printed as PrintedRef}
 use Rattle.jt_host.specs.declared.notes.Printed.TheVariants as printed_ref
@@ -122,6 +122,9 @@ abbrev pub others : ℕ → Text
 others zero = []
 others (suc n) = codes "note: and " ++ (decimal (suc n) ++ codes " more\n")
 
+abbrev pub lines_of : List Text → Text
+lines_of notes = flat_map (λ note. note ++ codes "\n") notes
+
 -- The lines of the first 20 notes, and the number of the others.
 abbrev pub notes_text : List Text → Text
-notes_text notes = flat_map (λ note. note ++ codes "\n") (take 20 notes) ++ others (length notes - 20)
+notes_text notes = lines_of (take 20 notes) ++ others (length notes - 20)

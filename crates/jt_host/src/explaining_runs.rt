@@ -20,8 +20,8 @@ use std::alloc::{AllocError, Global};
 
 /// Returns what is to say of an entry and of its run for a context, in lines for a person. If the
 /// entry does not compile, the lines are those of `explained`. If its run ends with a text, the
-/// first line is `ok`, and a note follows for each print of an undefined value, at most 20 notes, each
-/// once. Otherwise the first line has the place and the name of the fault, or the
+/// first line is `ok`, and a note follows for each print of an undefined value, at most 20 notes,
+/// each once. Otherwise the first line has the place and the name of the fault, or the
 /// spent number. The line of the source follows if the place is known. The last line states the
 /// reason.
 ///
@@ -43,7 +43,9 @@ pub fn explained_run(
         Err(_) => return Err(CallError::NoMemory),
     };
     let EntryTemplate {
-        templates, options, ..
+        templates,
+        options,
+        ..
     } = *entry;
     let noted = run_noting(alloc, verified, context, budget)?;
     match ending_text(alloc, templates, options, budget, noted) {

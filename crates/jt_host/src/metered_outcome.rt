@@ -1,7 +1,8 @@
 //! Runs images and templates to the end, and counts what each run uses of its budget.
 
-ghost use Rattle.std.specs.Prelude.{◌≡◌, IfOk};
+ghost use Rattle.std.specs.Prelude.{◌≡◌, IfOk, Some};
 ghost use Rattle.jt_value.specs.ContextView.{pairs_of};
+ghost use Rattle.jt_machine.specs.Session.{outcome_of};
 ghost use Rattle.jt_machine.specs.View.{budget_view, outcome_view};
 ghost use Rattle.jt_host.specs.CallErrors.{of_outcome};
 ghost use Rattle.jt_host.specs.Metered.{EndsUsing, MetersImage, MetersTemplate};
@@ -17,7 +18,7 @@ use std::alloc::Global;
 use std::sync::Arc;
 
 /// The outcome of a run, and what the run used of its budget.
-#[derive(Debug, Drop, PartialEq, Eq)]
+#[derive(Drop)]
 pub struct MeteredOutcome {
     pub outcome: Outcome,
     pub used: Used,
@@ -36,8 +37,8 @@ impl MeteredOutcome {
     }
 }
 
-/// Verifies and runs the image that `bytes` spell for a context, as `run_image` does, and counts what
-/// the run uses.
+/// Verifies and runs the image that `bytes` spell for a context, as `run_image` does, and counts
+/// what the run uses.
 ///
 /// # Errors
 ///
@@ -93,11 +94,19 @@ fn run_to_end(
         return Err(NoMemory);
     };
     let mut run = MeteredRun::start(alloc, image, context, budget)?;
-    'slices: for _slice in 0..u64::MAX {
+    for _slice in 0..u64::MAX {
         if run.advance(SLICE)? == Progress::Done {
-            break 'slices;
+            return ended(run);
         }
     }
+    Err(NoMemory)
+}
+
+/// Returns the outcome of a run that has ended, and what the run used.
+fn ended(run: MeteredRun) -> Result<MeteredOutcome, NoMemory>
+    ensures outcome { IfOk result (λ m. outcome_of run.session ≡ Some (outcome_view m.outcome)) }
+    ensures used { IfOk result (λ m. m.used ≡ run.used) }
+{
     let used = run.used();
     match run.into_outcome() {
         Some(outcome) => Ok(MeteredOutcome { outcome, used }),

@@ -1,6 +1,7 @@
 //! Runs an image one step at a time, and notes each print of an undefined value.
 
-ghost use Rattle.std.specs.Prelude.{◌≡◌, IfOk, OnOk, Some, map, option_map, slice_get, string_bytes};
+ghost use Rattle.std.specs.Prelude.{◌≡◌, ◌++◌, IfOk, OnOk, Some, map, option_map, slice_get};
+ghost use Rattle.std.specs.Prelude.{string_bytes};
 ghost use Rattle.jt_value.specs.ContextView.{pairs_of};
 ghost use Rattle.jt_machine.specs.Session.{outcome_of};
 ghost use Rattle.jt_machine.specs.View.{budget_view, outcome_view, place_view};
@@ -65,7 +66,7 @@ pub(crate) fn run_noting(
         last: None,
         earlier: None,
     };
-    'steps: for _step in 0..u64::MAX {
+    for _step in 0..u64::MAX {
         note_step(alloc, names, &run, trail, &mut notes)?;
         trail = Trail {
             last: run.next_instruction(),
@@ -181,11 +182,7 @@ fn printed<'a>(names: Names<'a>, trail: Trail) -> Printed<'a>
 
 /// Returns what the result of an operator was read from: a key that is a constant, or something
 /// else.
-fn printed_item<'a>(
-    names: Names<'a>,
-    operator: u8,
-    earlier: Option<Instruction>,
-) -> Printed<'a>
+fn printed_item<'a>(names: Names<'a>, operator: u8, earlier: Option<Instruction>) -> Printed<'a>
     ensures { spec.printed_view result ≡ spec.printed_item names.image.now operator earlier }
 {
     if operator != OpId::Item.id() {
@@ -225,7 +222,7 @@ fn absent_name<'a>(names: Names<'a>, global: u32) -> Option<&'a str>
         ≡ spec.absent_name (pairs_of names.context.now) global (names.image.now).names }
 {
     let image = names.image.image();
-    'names: for index in 0..image.names() {
+    for index in 0..image.names() {
         if let Some((slot, name)) = image.name(index)
             && u32::from(slot) == global
             && names.context.get(name).is_none()
@@ -244,15 +241,25 @@ pub(crate) fn notes_text(alloc: Global, notes: &[String]) -> Result<String, Allo
     ensures { IfOk result (λ text. string_bytes text
         ≡ spec.notes_text (map string_bytes notes.now)) }
 {
+    let shown = notes.len().min(MOST);
     let mut text = String::new(alloc);
-    for note in notes.iter().take(MOST) {
-        text.push_str(note)?;
-        text.push_str("\n")?;
-    }
+    push_notes(&mut text, &notes[..shown])?;
     if notes.len() > MOST {
         let others = notes.len() - MOST;
         let line = format!(in alloc; "note: and {others} more\n")?;
         text.push_str(&line)?;
     }
     Ok(text)
+}
+
+/// Appends the lines of notes.
+fn push_notes(text: &mut String, notes: &[String]) -> Result<(), AllocError>
+    ensures { IfOk result (λ _. string_bytes text.new
+        ≡ string_bytes text.old ++ spec.lines_of (map string_bytes notes.now)) }
+{
+    for note in notes {
+        text.push_str(note)?;
+        text.push_str("\n")?;
+    }
+    Ok(())
 }

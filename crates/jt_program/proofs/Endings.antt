@@ -85,7 +85,8 @@ module _ (files : Known) where
 
 module _ (files after : Known) (found : Option (Word × List Row)) where
   -- The end of a job is the end of its line.
-  pub line_ends : (e : Ending) (used : Option Used) → Answers files after found e used → LineEnds files after found e used
+  pub line_ends : (e : Ending) (used : Option Used) → Answers files after found e used
+      → LineEnds files after found e used
   line_ends (Err (failure.Usage text)) used a =
       job_unused files a.job.report a.job.command a.job.options a.job.budget (Err (failure.Usage text)) used refl a.uses
   line_ends (Err (failure.Call call_error.NoMemory)) used a =
@@ -94,7 +95,8 @@ module _ (files after : Known) (found : Option (Word × List Row)) where
   line_ends e used a = a
 
   -- A line that is not taken reports nothing as used.
-  pub line_failed : (e : JobError) (used : Option Used) → used ≡ None → LineEnds files after found (Err (of_line e)) used
+  pub line_failed : (e : JobError) (used : Option Used) → used ≡ None
+      → LineEnds files after found (Err (of_line e)) used
   line_failed (job_error.Usage text) used none = none
   line_failed job_error.NoMemory used none = none
 
@@ -162,7 +164,8 @@ not_writing (Some c) j asked compiles upgrades writes =
 
 module _ (files after : Known) where
   -- A command changes no file except OUT, if a command that writes no image changes none.
-  only_of : (name : Word) (rows : List Row) (k : Command) (o : Options) (b : Budget) (n : ℕ) (r : UseReport) (e : Ending)
+  only_of : (name : Word) (rows : List Row) (k : Command) (o : Options) (b : Budget) (n : ℕ) (r : UseReport)
+      (e : Ending)
       → IsCommand name rows k o b n r → CommandEnds files after k o b e
       → ((IsWriting k → ⊥) → ChangesOnly files after (word_of (codes "OUT") rows))
       → ChangesOnly files after (word_of (codes "OUT") rows)

@@ -1,6 +1,6 @@
 -- What commands report as used.
-use Rattle.std.proofs.Common.{◌≡◌, ◌≢◌, ◌∙◌, ◌⊎◌, ◌++◌, inl, inr, Bool, true, false, List, [], ℕ, Option, Some, None, String}
-use Rattle.std.proofs.Common.{Global, Result, Ok, Err, IfErr, IfOk, ap, append-nil, arith, codes, refl, subst, sym}
+use Rattle.std.proofs.Common.{◌≡◌, ◌≢◌, ◌∙◌, ◌⊎◌, ◌++◌, inl, inr, Bool, true, List, ℕ, Option, Some, None, String}
+use Rattle.std.proofs.Common.{Global, Result, Ok, Err, IfErr, IfOk, ap, append-nil, codes, refl, subst, sym}
 use Rattle.std.proofs.lemmas.Bool.{true≢false}
 use Rattle.clap.specs.Words.{Row, Text as Word, one_of}
 use Rattle.jt_scan.specs.declared.Options.{Options}
@@ -154,6 +154,12 @@ pub metered_other : (r : Result MeteredOutcome Failure) (e : Ending) (old new : 
 metered_other (Ok m) e old new other kept = subst (λ (x : Ending). IfErr x IsOther) (sym kept.0) (run_other m.outcome)
 metered_other (Err f) e old new other kept = subst (λ (x : Ending). IfErr x IsOther) (sym kept.0) other
 
+-- What holds anyway holds of each failure.
+pub if_failed : {T : Type 0} (r : Result T Failure) (A B : Failure → Type 0) (P : Type 0) → P
+    → IfErr r (λ e. A e → B e → P)
+if_failed (Ok x) A B P p = tt
+if_failed (Err e) A B P p = λ a b. p
+
 -- An input that is missing is neither the usage nor that of standard output, and no run has ended.
 pub unread_other : (files : Known) (asks : Text → Type 0) (context : Option (String Global)) (e : Failure)
     → IsUnread files asks context (Err e) → IsOther e × (run_end (Err e) ≡ None)
@@ -176,7 +182,8 @@ no_image_other bytes pairs b e h = absurd h
 pub uncompiled_other : (sources : SourceTexts) (name : Text) (options : Options) (pairs : Pairs) (b : Budget)
     (e : CallError)
     → MetersTemplate sources name options pairs b (Err e)
-    → RendersTo sources name options pairs b (Err e) × IsOther (failure.Call e) × (run_end (Err (failure.Call e)) ≡ None)
+    → RendersTo sources name options pairs b (Err e) × IsOther (failure.Call e)
+    × (run_end (Err (failure.Call e)) ≡ None)
 uncompiled_other sources name options pairs b (call_error.Template x) h =
     (h, ((λ e. absurd (cc)), (λ e. absurd (cc))), refl)
 uncompiled_other sources name options pairs b call_error.NoMemory h =

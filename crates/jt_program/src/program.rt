@@ -1,20 +1,22 @@
 //! Performs a line of the program.
 ghost use Rattle.std.specs.Prelude.{◌≡◌, ◌≢◌, ◌≤◌, ◌⊎◌, ◌++◌, ℕ, true, List, [], ◌∷◌, Ok, Err, map};
-ghost use Rattle.std.specs.Prelude.{codes, string_bytes, None, IfOk, IfErr, IsErrOf, OnOk};
+ghost use Rattle.std.specs.Prelude.{codes, string_bytes, Option, None, IfOk, IfErr, IsErrOf, OnOk};
 ghost use Rattle.std.specs.List.Sorted.{IsPermutation, IsSorted};
 ghost use Rattle.std.specs.String.{string_cmp};
 ghost use Rattle.clap.specs.Walk.{texts};
 ghost use Rattle.clap.specs.Words.{subcommand_of};
 ghost use Rattle.jt_value.specs.ContextView.{pairs_of};
+ghost use Rattle.jt_machine.specs.declared.Used.{Used as RunUse};
 ghost use Rattle.jt_args.specs.Line.{Takes, Asks, AsksReport, program_app};
 ghost use Rattle.jt_program.specs.Commands.{Answers, ChangesOnly, Checks, Compiles, Diagnoses};
 ghost use Rattle.jt_program.specs.Commands.{DiagnosesFor, DiagnosesRun};
-ghost use Rattle.jt_program.specs.Commands.{Ending, FindsNeeds, HasImage, HasUpgrade, IsContextAt, IsOfContext};
+ghost use Rattle.jt_program.specs.Commands.{Ending, FindsNeeds, HasImage, HasUpgrade};
+ghost use Rattle.jt_program.specs.Commands.{IsContextAt, IsOfContext};
 ghost use Rattle.jt_program.specs.Commands.{IsPath, IsUnread, IsWriting, JobEnds, LacksImage};
 ghost use Rattle.jt_program.specs.Commands.{LacksTemplates, LineEnds};
 ghost use Rattle.jt_program.specs.Commands.{LineWrites, Renders, Runs, Shows, Upgrades};
-ghost use Rattle.jt_program.specs.Commands.{JobUses, RenderUses, RunUses, WritesImage, of_run, out_of};
-ghost use Rattle.jt_program.specs.Commands.{run_end};
+ghost use Rattle.jt_program.specs.Commands.{JobUses, RenderUses, RunUses, WritesImage};
+ghost use Rattle.jt_program.specs.Commands.{of_run, out_of, run_end};
 ghost use Rattle.jt_program.specs.Ending.{HasUsage, IfUntaken, status_of};
 ghost use Rattle.jt_program.specs.Files.{AreSources, IsLibrary, IsOfDirectory, path_in};
 ghost use Rattle.jt_program.specs.Reports.{Explains, Prints, ReportsUsage, TookUnlessFailed};
@@ -66,7 +68,7 @@ pub fn perform<F: Files, W: Sink, E: Sink>(
     ensures ends { result ≢ 2
         → result ≢ 6
         → (e : Ending)
-        × (used : Option Used)
+        × (used : Option RunUse)
         × Answers (F.known (F.contents files.old)) (F.known (F.contents files.new))
         (subcommand_of program_app (texts words.now)) e used
         × Prints (W.taken out.old) (W.taken out.new) (W.failed out.new) e result
@@ -75,8 +77,8 @@ pub fn perform<F: Files, W: Sink, E: Sink>(
     ensures memory { result ≡ 6
         → TookUnlessFailed memory_line (E.taken errors.old) (E.taken errors.new)
         (E.failed errors.new) }
-    // If the status is 0, nothing was added to standard error, unless the line asks for what its run
-    // used.
+    // If the status is 0, nothing was added to standard error, unless the line asks for what its
+    // run used.
     ensures silent { result ≡ 0 → ¬ AsksReport (texts words.now) → errors.new ≡ errors.old }
     // If the status is neither 0 nor 5, standard output is as it was.
     ensures untouched { result ≢ 0 → result ≢ 5 → out.new ≡ out.old }
@@ -107,12 +109,7 @@ pub fn perform<F: Files, W: Sink, E: Sink>(
 }
 
 /// Prints the text of a command that succeeded, reports what its run used, and returns the status.
-fn print<W: Sink, E: Sink>(
-    text: String,
-    used: Option<Used>,
-    out: &mut W,
-    errors: &mut E,
-) -> u8
+fn print<W: Sink, E: Sink>(text: String, used: Option<Used>, out: &mut W, errors: &mut E) -> u8
     ensures printed { Prints (W.taken out.old) (W.taken out.new) (W.failed out.new) (Ok text)
         result }
     ensures failed_before { W.failed out.old ≡ true → out.new ≡ out.old }
@@ -521,9 +518,9 @@ fn run_metered_at<F: Files>(
     ensures other { IfErr result (λ e. (status_of e ≢ Status.Usage) × (e ≢ Failure.Output)) }
     ensures kept { F.contents files.new ≡ F.contents files.old }
 {
-    let encoded = bytes_at(files, image)?;
+    let image = bytes_at(files, image)?;
     let context = context_at(alloc, files, context)?;
-    let metered = meter_image(alloc, &encoded, &context, budget);
+    let metered = meter_image(alloc, &image, &context, budget);
     // The context is not dropped, as in `run_at`.
     std::mem::forget(context);
     Ok(metered?)
@@ -542,7 +539,8 @@ fn render_metered_in<F: Files>(
         (λ m. RenderUses (F.known (F.contents files.old)) (string_bytes entry.dir)
         (string_bytes entry.name) entry.options context budget m.outcome m.used) }
     ensures err { IfErr result
-        (λ e. LacksTemplates (F.known (F.contents files.old)) (string_bytes entry.dir) context (Err e)
+        (λ e. LacksTemplates (F.known (F.contents files.old)) (string_bytes entry.dir) context
+        (Err e)
         ⊎ Renders (F.known (F.contents files.old)) (string_bytes entry.dir)
         (string_bytes entry.name) entry.options context budget (Err e)) }
     ensures unended { IfErr result (λ e. run_end (Err e) ≡ None) }

@@ -43,9 +43,10 @@ pub(crate) fn report_run<E: Sink>(errors: &mut E, failure: &Failure, used: Optio
         (E.taken errors.old) (E.taken errors.new) (E.failed errors.new) }
 {
     let status = report(errors, failure);
-    if !errors.has_failed() {
-        report_use(errors, used);
+    if errors.has_failed() {
+        return status;
     }
+    report_use(errors, used);
     status
 }
 
@@ -55,8 +56,9 @@ pub(crate) fn report_use<E: Sink>(errors: &mut E, used: Option<Used>)
         (E.failed errors.new) }
     ensures silent { used ≡ None → errors.new ≡ errors.old }
 {
-    if let Some(used) = used {
-        report_used(errors, used);
+    match used {
+        Some(used) => report_used(errors, used),
+        None => {}
     }
 }
 
@@ -82,14 +84,7 @@ fn report_numbers<E: Sink>(errors: &mut E, fuel: &str, depth: &str, output: &str
 {
     report_line(
         errors,
-        &[
-            "jt: used fuel ",
-            fuel,
-            " depth ",
-            depth,
-            " output ",
-            output,
-        ],
+        &["jt: used fuel ", fuel, " depth ", depth, " output ", output],
     );
 }
 

@@ -3,5 +3,5 @@ use Rattle.jt_machine.specs.Metering.{metered_after}
 use Rattle.jt_host.proofs.metered_outcome.run_to_end.Given as goal
 
 -- Some number of steps were executed since the start.
-abbrev pub invariant-slices : goal.invariant-slices
-invariant-slices l = (n : ℕ) × (l.run ≡ metered_after n l.initial.run)
+abbrev pub invariant-loop-slice : goal.invariant-loop-slice
+invariant-loop-slice l = (n : ℕ) × (l.run ≡ metered_after n l.initial.run)

@@ -32,7 +32,7 @@ returns-in_err-job-clause-ends g c =
     let p = err_from_is_err_and c.from_residual.result c.from_residual.ensures.1 in
     let files = g.F.Files.known (g.F.Files.contents c.args.files.now) in
     rw (p.1, p.2) (line_failed files files (subcommand_of program_app (texts c.args.words.now))
-    c.in_err-job.field-0.0 c.args.used.now c.requires)
+    c.in_err-job.field-0.0 c.args.used.now c.requires.fresh)
 
 pub returns-clause-only : goal.returns-clause-only
 returns-clause-only g c =
