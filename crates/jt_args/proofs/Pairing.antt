@@ -95,7 +95,8 @@ come_of words all e paired = search (arith, rules, length-map)
 -- A known name is one of nine.
 pub no_other : (o : Option Text) (name : Text) → o ≡ Some name → IsKnown o → name ≢ codes "compile"
     → name ≢ codes "explain" → name ≢ codes "check" → name ≢ codes "show"
-    → name ≢ codes "run" → name ≢ codes "render" → name ≢ codes "turns" → name ≢ codes "upgrade" → name ≢ codes "needs" → ⊥
+    → name ≢ codes "run" → name ≢ codes "render" → name ≢ codes "turns" → name ≢ codes "upgrade"
+    → name ≢ codes "needs" → ⊥
 no_other o name same known a b c d e f g h i = search (arith, rules)
 
 pub no_name : (o : Option Text) → o ≡ None → IsKnown o → ⊥

@@ -16,7 +16,9 @@ bare = let a = new_app (codes "jt") in record a {
 abbrev with_all : App → App
 with_all a =
     with_subcommand (with_subcommand (with_subcommand (with_subcommand (with_subcommand
-    (with_subcommand (with_subcommand (with_subcommand (with_subcommand a compile_app.top) explain_app.top) check_app.top) show_app.top)
+    (with_subcommand (with_subcommand (with_subcommand (with_subcommand a compile_app.top) explain_app.top)
+    check_app.top)
+    show_app.top)
     run_app.top)
     render_app.top)
     turns_app.top)

@@ -47,3 +47,6 @@ returns-in-Some-turns-default-clause-err c =
 
 pub unreachable-unreachable : goal.unreachable-unreachable
 unreachable-unreachable c = search (arith, rules, no_other, no_name)
+
+pub unreachable-requires : goal.unreachable-requires
+unreachable-requires c = search (arith, rules, no_other, no_name)
