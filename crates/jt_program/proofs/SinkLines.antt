@@ -1,7 +1,7 @@
 -- Bytes that a sink takes in parts: all of them, or a beginning.
 use Rattle.std.proofs.Common.{◌≡◌, ◌∙◌, Bool, Bor, Global, List, Ok, Err, OnErr, OnOk, Option, Result, String, [], ◌+◌}
-use Rattle.std.proofs.Common.{Some, None, ◌++◌, ◌<◌, ◌≤◌, ◌∷◌, add-one, ap, append_assoc, arith, codes, drop, false, get_or, inl}
-use Rattle.std.proofs.Common.{inr, length, refl, sym, true, ℕ}
+use Rattle.std.proofs.Common.{Some, None, ◌++◌, ◌<◌, ◌≤◌, ◌∷◌, add-one, ap, append_assoc, arith, codes, drop, false}
+use Rattle.std.proofs.Common.{get_or, inl, inr, length, refl, sym, true, ℕ}
 use Rattle.std.proofs.Math.Seq.{drop-cons}
 use Rattle.std.proofs.lemmas.Bool.{true≢false}
 use Rattle.std.proofs.lemmas.List.{append-nil, drop_all}
