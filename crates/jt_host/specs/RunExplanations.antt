@@ -1,6 +1,6 @@
--- What an explanation prints of a run: notes on a text; the place and the name of a fault, the line of
--- the source and the reason; or the number of the budget that was spent.
-use Rattle.std.specs.Prelude.{◌≡◌, ◌⊎◌, ◌++◌, ℕ, List, codes, Option, Some, None, Result, Ok, Err, String, string_bytes}
+-- What an explanation prints of a run: the place and the name of a fault, the line of the source and
+-- the reason; or the number of the budget that was spent.
+use Rattle.std.specs.Prelude.{◌≡◌, ◌⊎◌, ◌++◌, ℕ, codes, Option, Some, None, Result, Ok, Err, String, string_bytes}
 use Rattle.std.specs.Fmt.{decimal}
 use Rattle.std.specs.declared.alloc.Global.{Global}
 use Rattle.jt_scan.specs.declared.Options.{Options}
@@ -13,19 +13,16 @@ use Rattle.jt_budget.specs.declared.Budget.{Budget}
 use Rattle.jt_budget.specs.declared.Spent.{Spent}
 use Rattle.jt_budget.specs.declared.Spent.TheVariants as spent
 use Rattle.jt_inherit.specs.Chains.{SourceTexts}
-use Rattle.jt_image.specs.Code.{Code}
-use Rattle.jt_codegen.specs.Compiled.{IsCompiled}
 use Rattle.jt_codegen.specs.declared.CompileError.{CompileError}
 use Rattle.jt_codegen.specs.declared.TagPlace.{TagPlace}
-use Rattle.jt_machine.specs.View.{budget_view, limit_view, outcome_view}
+use Rattle.jt_machine.specs.View.{limit_view}
 use Rattle.jt_machine.specs.declared.Outcome.{Outcome}
 use Rattle.jt_machine.specs.declared.Outcome.TheVariants as outcome
 use Rattle.jt_machine.specs.declared.Place.{Place}
 use Rattle.jt_turns.specs.Lines.{limit_name}
 use Rattle.jt_host.specs.Calls.{IsTold}
 use Rattle.jt_host.specs.Explanations.{place_text, source_text}
-use Rattle.jt_host.specs.Notes.{EndsNoting, notes_text}
-use Rattle.jt_host.specs.Rendering.{IsRefused as IsUncompiled}
+use Rattle.jt_host.specs.Rendering.{IsRefused as IsUncompiled, IsRendered}
 use Rattle.jt_host.specs.declared.call_error.CallError.{CallError}
 use Rattle.jt_host.specs.declared.call_error.CallError.TheVariants as error
 
@@ -81,15 +78,11 @@ spent_lines b s =
     ++ (limit_name (limit_view s)
     ++ (codes " " ++ (decimal (number_of b s) ++ (codes "\n  " ++ (spent_sentence s ++ codes "\n")))))
 
--- `ok`, and the lines of the notes.
-abbrev pub text_lines : List Text → Text
-text_lines notes = codes "ok\n" ++ notes_text notes
-
--- The lines of a run that ended so. Only a text has notes.
-abbrev pub ending_lines : SourceTexts → Options → Budget → List Text → Outcome → Text
-ending_lines sources options b notes (outcome.Text text) = text_lines notes
-ending_lines sources options b notes (outcome.Fault f place) = fault_lines sources options f (tag_place place)
-ending_lines sources options b notes (outcome.Spent s) = spent_lines b s
+-- The lines of a run that ended so.
+abbrev pub ending_lines : SourceTexts → Options → Budget → Outcome → Text
+ending_lines sources options b (outcome.Text text) = codes "ok\n"
+ending_lines sources options b (outcome.Fault f place) = fault_lines sources options f (tag_place place)
+ending_lines sources options b (outcome.Spent s) = spent_lines b s
 
 -- ---- what is explained
 
@@ -99,14 +92,10 @@ module _ (sources : SourceTexts) (entry : Text) (options : Options) (context : P
   IsToldOfEntry text =
       ((e : CompileError) × IsUncompiled sources entry options e) × IsTold sources entry options text
 
-  -- The entry compiles, its run for the context ends so, with these notes, and the text prints that.
-  pub record IsToldOfRun (text : Text) : Type 0 where
-    pub code : Code
-    pub compiled : IsCompiled sources entry options code
-    pub outcome : Outcome
-    pub notes : List Text
-    pub ends : EndsNoting code context (budget_view b) (outcome_view outcome) notes
-    pub told : text ≡ ending_lines sources options b notes outcome
+  -- The entry compiles, its run for the context ends so, and the text prints that.
+  abbrev pub IsToldOfRun : Text → Type 0
+  IsToldOfRun text =
+      (o : Outcome) × IsRendered sources entry options context b o × (text ≡ ending_lines sources options b o)
 
   -- The result is the text of an explanation; it exists unless memory is refused.
   abbrev pub ExplainsRunTo : Result (String Global) CallError → Type 0

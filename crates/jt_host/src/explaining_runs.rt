@@ -1,14 +1,14 @@
 //! Explains, in words, how a run of an entry ends.
 
-ghost use Rattle.std.specs.Prelude.{◌≡◌, IfOk, map, string_bytes};
+ghost use Rattle.std.specs.Prelude.{◌≡◌, IfOk, string_bytes};
 ghost use Rattle.jt_value.specs.ContextView.{pairs_of};
 ghost use Rattle.jt_host.specs.RunExplanations as spec;
 ghost use Rattle.jt_host.specs.Templates.{source_of};
 
 use crate::call_error::CallError;
-use crate::calls::{EntryTemplate, verified_template};
+use crate::calls::EntryTemplate;
 use crate::explaining::{explained, place_text, source_text};
-use crate::notes::{NotedRun, notes_text, run_noting};
+use crate::rendering::{RenderError, render};
 use crate::templates::Templates;
 use jt_budget::{Budget, Spent};
 use jt_codegen::TagPlace;
@@ -20,8 +20,7 @@ use std::alloc::{AllocError, Global};
 
 /// Returns what is to say of an entry and of its run for a context, in lines for a person. If the
 /// entry does not compile, the lines are those of `explained`. If its run ends with a text, the
-/// first line is `ok`, and a note follows for each print of an undefined value, at most 20 notes,
-/// each once. Otherwise the first line has the place and the name of the fault, or the
+/// only line is `ok`. Otherwise the first line has the place and the name of the fault, or the
 /// spent number. The line of the source follows if the place is known. The last line states the
 /// reason.
 ///
@@ -37,18 +36,17 @@ pub fn explained_run(
     ensures { spec.ExplainsRunTo (source_of entry.now.templates.now) entry.now.name.now
         entry.now.options (pairs_of context.now) budget result }
 {
-    let verified = match verified_template(alloc, entry) {
-        Ok(verified) => verified,
-        Err(CallError::Template(_)) => return explained(alloc, entry),
-        Err(_) => return Err(CallError::NoMemory),
-    };
     let EntryTemplate {
+        name,
         templates,
         options,
-        ..
     } = *entry;
-    let noted = run_noting(alloc, verified, context, budget)?;
-    match ending_text(alloc, templates, options, budget, noted) {
+    let outcome = match render(alloc, name, templates, options, context, budget) {
+        Ok(outcome) => outcome,
+        Err(RenderError::NoMemory) => return Err(CallError::NoMemory),
+        Err(RenderError::Compile(_)) => return explained(alloc, entry),
+    };
+    match ending_text(alloc, templates, options, budget, outcome) {
         Ok(text) => Ok(text),
         Err(_) => Err(CallError::NoMemory),
     }
@@ -60,30 +58,19 @@ fn ending_text(
     templates: &Templates,
     options: Options,
     budget: Budget,
-    noted: NotedRun,
+    outcome: Outcome,
 ) -> Result<String, AllocError>
     ensures { IfOk result (λ text. string_bytes text
-        ≡ spec.ending_lines (source_of templates.now) options budget
-        (map string_bytes noted.notes.items) noted.outcome) }
+        ≡ spec.ending_lines (source_of templates.now) options budget outcome) }
 {
-    let NotedRun { outcome, notes } = noted;
     match outcome {
-        Outcome::Text(_) => text_lines(alloc, &notes),
+        Outcome::Text(_) => String::from_str(alloc, "ok\n"),
         Outcome::Fault(fault, place) => {
             let place = tag_place(place);
             fault_lines(alloc, templates, options, fault, &place)
         }
         Outcome::Spent(spent) => spent_lines(alloc, budget, spent),
     }
-}
-
-/// Returns the lines of a run that ended with a text.
-fn text_lines(alloc: Global, notes: &[String]) -> Result<String, AllocError>
-    ensures { IfOk result (λ text. string_bytes text
-        ≡ spec.text_lines (map string_bytes notes.now)) }
-{
-    let notes = notes_text(alloc, notes)?;
-    format!(in alloc; "ok\n{notes}")
 }
 
 /// Returns the place of a fault as that of its tag.
