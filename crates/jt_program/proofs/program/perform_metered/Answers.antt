@@ -105,7 +105,8 @@ pub returns-in-Render-clause-kept : goal.returns-in-Render-clause-kept
 returns-in-Render-clause-kept g c reads = c.render_metered_in-metered.ensures.kept
 
 pub returns-in-Render-clause-unwritten : goal.returns-in-Render-clause-unwritten
-returns-in-Render-clause-unwritten g c = if_failed c.keep_use-in-Render.result _ _ _ c.render_metered_in-metered.ensures.kept
+returns-in-Render-clause-unwritten g c =
+    if_failed c.keep_use-in-Render.result _ _ _ c.render_metered_in-metered.ensures.kept
 
 pub returns-in-Render-clause-touched : goal.returns-in-Render-clause-touched
 returns-in-Render-clause-touched g c = inl c.render_metered_in-metered.ensures.kept
