@@ -10,11 +10,11 @@ use Rattle.jt_host.proofs.metered_outcome.run_to_end.Goals as goal
 pub loop-slice-init : goal.loop-slice-init
 loop-slice-init c =
     (0, at_start (arc_value c.in-Ok.image) (pairs_of c.args.context.now) (budget_view c.args.budget)
-    c.in_ok-run.run c.in_ok-run.ensures.started)
+    c.in_ok-run.run' c.in_ok-run.ensures.started)
 
 pub loop-slice-preserved : goal.loop-slice-preserved
 loop-slice-preserved c = (
   c.loop-slice.invariant.0 + 4294967295,
-  slice_more c.metering_laws.ensures c.loop-slice.invariant.0 4294967295 c.in_ok-run.run c.loop-slice.run
+  slice_more c.metering_laws.ensures c.loop-slice.invariant.0 4294967295 c.in_ok-run.run' c.loop-slice.run
       c.advance.new.self c.loop-slice.invariant.1 c.in_ok-advance.ensures.steps,
 )
