@@ -112,6 +112,12 @@ prints_undefined code (going c) =
 prints_undefined code (done o) = false
 prints_undefined code lost = false
 
+-- The next instruction of a run, if the run goes on.
+abbrev pub next_instruction : Code → RunStage → Option Instruction
+next_instruction code (going c) = instruction_at code c.machine.unit c.machine.point
+next_instruction code (done o) = None
+next_instruction code lost = None
+
 -- The place of the next instruction of a run, if the run goes on and the instruction has a place.
 abbrev pub next_place : Code → RunStage → Option Place
 next_place code (going c) = place_there code c.machine.unit c.machine.point

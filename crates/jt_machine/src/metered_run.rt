@@ -109,8 +109,8 @@ impl Model for MeteredRun {
 
 impl MeteredRun {
     ghost use Rattle.jt_machine.specs.Growing.{HasTables, MayLose};
-    ghost use Rattle.jt_machine.specs.Metering.{metered_after, metered_start, next_place};
-    ghost use Rattle.jt_machine.specs.Metering.{prints_undefined};
+    ghost use Rattle.jt_machine.specs.Metering.{metered_after, metered_start};
+    ghost use Rattle.jt_machine.specs.Metering.{next_instruction, next_place, prints_undefined};
     ghost use Rattle.jt_machine.specs.Session.{is_lost, lost_session, outcome_of, stage_progress};
     ghost use Rattle.jt_machine.specs.Session.{RunsInSlices};
     ghost use Rattle.jt_machine.specs.View.{budget_view, outcome_view, place_view};
@@ -212,6 +212,17 @@ impl MeteredRun {
     {
         let MeteredRun { used, .. } = self;
         *used
+    }
+
+    /// Returns the next instruction, if the run goes on.
+    pub fn next_instruction(&self) -> Option<Instruction>
+        ensures { result ≡ next_instruction self.now.session.code self.now.session.stage }
+    {
+        match &self.stage {
+            Stage::Going(state) => self.image.image().instruction(state.unit, state.point),
+            Stage::Done(_) => None,
+            Stage::Lost => None,
+        }
     }
 
     /// Returns whether the next instruction prints the value undefined.
