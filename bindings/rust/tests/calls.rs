@@ -4,7 +4,7 @@ use jt::{
 };
 use std::cell::Cell;
 use std::num::NonZeroUsize;
-use std::sync::atomic::{AtomicBool, AtomicI64, Ordering};
+use std::sync::atomic::{AtomicBool, AtomicI64, AtomicUsize, Ordering};
 use std::time::{Duration, Instant};
 use std::{fs, io, iter, panic, thread};
 
@@ -16,6 +16,10 @@ fn held() -> i64 {
     // SAFETY: the call only reads a number of this thread.
     unsafe { jt_memory_held() }
 }
+
+/// The time by which a run may end late. An idle machine needs some milliseconds; that of the gate
+/// is busy.
+const LATE: Duration = Duration::from_secs(3);
 
 /// Checks at the end of a test that the library holds nothing for its thread.
 struct HoldsNothing;
@@ -278,6 +282,29 @@ fn a_site_is_compiled_from_one_library() {
 }
 
 #[test]
+fn a_template_needs_names_and_templates() {
+    let _end = HoldsNothing;
+    let many: Vec<_> = (0..500).map(|n| format!("name_{n:03}")).collect();
+    let long: String = many.iter().map(|name| format!("{{{{ {name} }}}}")).collect();
+    let templates = Templates::new(&[
+        ("page", "{% extends 'base' %}{% block b %}{{ x }}{{ title }}{% endblock %}"),
+        ("base", "{{ site }}{% include 'a b' ignore missing %}{% block b %}{% endblock %}"),
+        ("bad", "{{ x|uper }}"),
+        ("long", &long),
+    ]);
+    let needs = templates.needs("page", Options::default()).unwrap();
+    assert_eq!(needs.names, ["site", "title", "x"]);
+    assert_eq!(needs.templates, ["base", "page"]);
+    assert_eq!(needs.missing, ["a b"]);
+    assert_eq!(templates.needs("long", Options::default()).unwrap().names, many);
+    assert_eq!(template("").needs().unwrap().templates, ["t"]);
+    for name in ["bad", "none"] {
+        let error = templates.needs(name, Options::default()).unwrap_err();
+        assert_eq!(error, templates.compile(name, Options::default()).unwrap_err());
+    }
+}
+
+#[test]
 fn a_folder_has_its_files_as_templates() {
     let _end = HoldsNothing;
     let folder = std::env::temp_dir().join(format!("jt-{}", std::process::id()));
@@ -428,18 +455,33 @@ fn few_contexts_are_read_ahead() {
 
 #[test]
 fn a_dropped_iterator_ends_its_threads() {
-    let image = template("{% for i in range(60000) %}{% endfor %}").compile().unwrap();
-    let begin = Instant::now();
+    /// A context that counts its run. After the first batch it waits until the iterator is dropped.
+    struct Counting<'a> {
+        at: usize,
+        begun: &'a AtomicUsize,
+        is_dropped: &'a AtomicBool,
+    }
+    impl AsRef<[u8]> for Counting<'_> {
+        fn as_ref(&self) -> &[u8] {
+            self.begun.fetch_add(1, Ordering::SeqCst);
+            while self.at >= 32 && !self.is_dropped.load(Ordering::SeqCst) {
+                thread::sleep(Duration::from_millis(1));
+            }
+            b"{}"
+        }
+    }
+    let image = template("a").compile().unwrap();
+    let (begun, is_dropped) = (AtomicUsize::new(0), AtomicBool::new(false));
     thread::scope(|scope| {
+        let contexts = (0..).map(|at| Counting { at, begun: &begun, is_dropped: &is_dropped });
         let workers = NonZeroUsize::new(2).unwrap();
-        let contexts = iter::repeat("{}");
         let mut outcomes = image.run_each(scope, contexts, Budget::default(), workers);
-        assert_eq!(outcomes.next(), Some(text("")));
+        assert_eq!(outcomes.next(), Some(text("a")));
+        drop(outcomes);
+        is_dropped.store(true, Ordering::SeqCst);
     });
-    // (192 runs are asked for, of which each takes some milliseconds.)
-    let one = Instant::now();
-    image.run(&context("{}"), Budget::default()).unwrap().into_text().unwrap();
-    assert!(begin.elapsed() < one.elapsed() * 180 + Duration::from_secs(1));
+    // The first batch is run, and of 5 other batches at most one context by each thread.
+    assert!((32..=34).contains(&begun.into_inner()));
 }
 
 #[test]
@@ -577,10 +619,11 @@ fn a_run_is_stopped_at_a_deadline() {
     let (mut run, begin) = (endless(), Instant::now());
     let deadline = begin + Duration::from_millis(100);
     assert_eq!(run.run_until(deadline), Ok(Progress::Going));
-    assert!(Instant::now() >= deadline && begin.elapsed() < Duration::from_millis(400));
+    assert!(Instant::now() >= deadline && Instant::now() < deadline + LATE);
     assert_eq!(run.outcome(), Ok(None));
     let used = run.used();
-    assert!(used.fuel > 1000 && used.output == 0 && used.depth == 0, "{used}");
+    // (A machine that is busy may execute one slice alone.)
+    assert!(used.fuel > 0 && used.output == 0 && used.depth == 0, "{used}");
     // It goes on where it was.
     assert_eq!(run.run_until(deadline), Ok(Progress::Going));
     assert_eq!(run.used(), used);
@@ -599,7 +642,7 @@ fn a_run_is_cancelled_by_another_thread() {
         });
         let (mut run, begin) = (endless(), Instant::now());
         assert_eq!(run.run_unless(&cancel), Ok(Progress::Going));
-        assert!(begin.elapsed() < Duration::from_millis(400));
+        assert!(begin.elapsed() < LATE);
         let used = run.used();
         assert_eq!(run.run_unless(&cancel), Ok(Progress::Going));
         assert_eq!(run.used(), used);
