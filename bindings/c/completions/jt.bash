@@ -7,15 +7,14 @@ _jt() {
     COMPREPLY=()
     if ((COMP_CWORD == 1)); then
         mapfile -t COMPREPLY < <(compgen -W \
-            'compile explain needs check show run render turns upgrade --help --version' -- "$current")
+            'compile explain check show run render turns upgrade --help --version' -- "$current")
         return
     fi
     case $command in
-        compile | needs) options=$templates ;;
+        compile) options=$templates ;;
         check | show | upgrade) ;;
-        run) options="$budget --report" ;;
-        explain) options="$templates $budget" ;;
-        render) options="$templates $budget --report" ;;
+        run) options=$budget ;;
+        explain | render) options="$templates $budget" ;;
         turns) options="--slice $budget" ;;
         *) return ;;
     esac
@@ -38,9 +37,9 @@ _jt() {
         esac
     done
     compopt -o filenames 2> /dev/null
-    if [[ $command == @(compile|explain|needs|render) ]] && ((position == 0)); then
+    if [[ $command == @(compile|explain|render) ]] && ((position == 0)); then
         mapfile -t COMPREPLY < <(compgen -d -- "$current")
-    elif [[ $command == @(compile|explain|needs|render) ]] && ((position == 1)); then
+    elif [[ $command == @(compile|explain|render) ]] && ((position == 1)); then
         mapfile -t COMPREPLY < <(cd -- "$directory" 2> /dev/null && compgen -f -- "$current")
     else
         mapfile -t COMPREPLY < <(compgen -f -- "$current")

@@ -8,13 +8,12 @@ ghost use Rattle.clap.specs.Walk.{texts};
 ghost use Rattle.jt_args.specs.Line.{Takes, IsAsked, IsKnown, IsBudget, IsOptions, IsGiven};
 ghost use Rattle.jt_args.specs.Line.{HasText, IsSlice, IsFlag, IfUsage};
 ghost use Rattle.jt_args.specs.Line.{program_app, word_of};
-ghost use Rattle.jt_args.specs.Line.{HasNumbers, HasReport, HasSlice, HasSwitches, IsNumber};
-ghost use Rattle.jt_args.specs.Line.{IsReport, IsSwitch};
+ghost use Rattle.jt_args.specs.Line.{HasNumbers, HasSlice, HasSwitches, IsNumber, IsSwitch};
 ghost use Rattle.jt_args.specs.Line.{ComeInPairs, ArePaired, pair_words, words_of_pairs};
 
 use crate::grammar::program;
 use crate::jobs;
-use crate::jobs::{DEFAULT, Job, JobError, Pair, SLICE, UseReport};
+use crate::jobs::{DEFAULT, Job, JobError, Pair, SLICE};
 use clap::ArgMatches;
 use clap::error::ErrorKind;
 use jt_budget::Budget;
@@ -51,7 +50,6 @@ fn asked(alloc: Global, matches: &ArgMatches<'_>) -> Result<Job, JobError>
     requires numbers { IfSome (subcommand_rows_of matches.now) (λ p. HasNumbers p.1) }
     requires switches { IfSome (subcommand_rows_of matches.now) (λ p. HasSwitches p.1) }
     requires slice { IfSome (subcommand_rows_of matches.now) (λ p. HasSlice p.1) }
-    requires report { IfSome (subcommand_rows_of matches.now) (λ p. HasReport p.1) }
     ensures ok { IfOk result (IsAsked (subcommand_rows_of matches.now)) }
     ensures err { IfErr result (IfUsage (¬ ArePaired (subcommand_rows_of matches.now))) }
     ensures told { IfErr result HasText }
@@ -65,7 +63,6 @@ fn asked(alloc: Global, matches: &ArgMatches<'_>) -> Result<Job, JobError>
         Some(("render", found)) => render_job(alloc, found),
         Some(("turns", found)) => turns_job(alloc, found),
         Some(("upgrade", found)) => upgrade_job(alloc, found),
-        Some(("needs", found)) => needs_job(alloc, found),
         _ => unreachable!(),
     }
 }
@@ -83,7 +80,6 @@ fn compile_job(alloc: Global, found: &ArgMatches<'_>) -> Result<Job, JobError>
         options: options(found),
         budget: DEFAULT,
         slice: SLICE,
-        report: UseReport::Omitted,
     })
 }
 
@@ -101,7 +97,6 @@ fn explain_job(alloc: Global, found: &ArgMatches<'_>) -> Result<Job, JobError>
         options: options(found),
         budget: budget(found),
         slice: SLICE,
-        report: UseReport::Omitted,
     })
 }
 
@@ -115,7 +110,6 @@ fn check_job(alloc: Global, found: &ArgMatches<'_>) -> Result<Job, JobError>
         options: Options::new(),
         budget: DEFAULT,
         slice: SLICE,
-        report: UseReport::Omitted,
     })
 }
 
@@ -129,13 +123,11 @@ fn show_job(alloc: Global, found: &ArgMatches<'_>) -> Result<Job, JobError>
         options: Options::new(),
         budget: DEFAULT,
         slice: SLICE,
-        report: UseReport::Omitted,
     })
 }
 
 fn run_job(alloc: Global, found: &ArgMatches<'_>) -> Result<Job, JobError>
-    requires numbers { HasNumbers (rows_of (found_of found.now)) }
-    requires report { HasReport (rows_of (found_of found.now)) }
+    requires { HasNumbers (rows_of (found_of found.now)) }
     ensures ok { IfOk result (IsAsked (Some (codes "run", rows_of (found_of found.now)))) }
     ensures err { IfErr result (λ e. e ≡ JobError.NoMemory) }
 {
@@ -146,14 +138,12 @@ fn run_job(alloc: Global, found: &ArgMatches<'_>) -> Result<Job, JobError>
         options: Options::new(),
         budget: budget(found),
         slice: SLICE,
-        report: report(found),
     })
 }
 
 fn render_job(alloc: Global, found: &ArgMatches<'_>) -> Result<Job, JobError>
     requires numbers { HasNumbers (rows_of (found_of found.now)) }
     requires switches { HasSwitches (rows_of (found_of found.now)) }
-    requires report { HasReport (rows_of (found_of found.now)) }
     ensures ok { IfOk result (IsAsked (Some (codes "render", rows_of (found_of found.now)))) }
     ensures err { IfErr result (λ e. e ≡ JobError.NoMemory) }
 {
@@ -165,7 +155,6 @@ fn render_job(alloc: Global, found: &ArgMatches<'_>) -> Result<Job, JobError>
         options: options(found),
         budget: budget(found),
         slice: SLICE,
-        report: report(found),
     })
 }
 
@@ -180,23 +169,6 @@ fn upgrade_job(alloc: Global, found: &ArgMatches<'_>) -> Result<Job, JobError>
         options: Options::new(),
         budget: DEFAULT,
         slice: SLICE,
-        report: UseReport::Omitted,
-    })
-}
-
-fn needs_job(alloc: Global, found: &ArgMatches<'_>) -> Result<Job, JobError>
-    requires { HasSwitches (rows_of (found_of found.now)) }
-    ensures ok { IfOk result (IsAsked (Some (codes "needs", rows_of (found_of found.now)))) }
-    ensures err { IfErr result (λ e. e ≡ JobError.NoMemory) }
-{
-    let dir = String::from_str(alloc, word(found, "DIR"))?;
-    let name = String::from_str(alloc, word(found, "NAME"))?;
-    Ok(Job {
-        command: jobs::Command::Needs { dir, name },
-        options: options(found),
-        budget: DEFAULT,
-        slice: SLICE,
-        report: UseReport::Omitted,
     })
 }
 
@@ -218,7 +190,6 @@ fn turns_job(alloc: Global, found: &ArgMatches<'_>) -> Result<Job, JobError>
         options: Options::new(),
         budget: budget(found),
         slice: slice(found),
-        report: UseReport::Omitted,
     })
 }
 
@@ -274,18 +245,6 @@ fn options(found: &ArgMatches<'_>) -> Options
         keep_trailing_newline: flag(found, "keep-trailing-newline"),
         autoescape: !flag(found, "no-autoescape"),
         strict: flag(found, "strict"),
-    }
-}
-
-/// Returns whether the line asks for what its run used.
-fn report(found: &ArgMatches<'_>) -> UseReport
-    requires { HasReport (rows_of (found_of found.now)) }
-    ensures { IsReport (rows_of (found_of found.now)) result }
-{
-    if flag(found, "report") {
-        UseReport::Written
-    } else {
-        UseReport::Omitted
     }
 }
 

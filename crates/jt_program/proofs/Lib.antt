@@ -2,4 +2,3 @@ mod Endings
 mod SourceCollection
 mod SinkLines
 mod PairStarts
-mod Uses
