@@ -4,6 +4,7 @@ pub mod Clues
 pub mod Explanations
 pub mod Marks
 pub mod Meant
+pub mod Metered
 pub mod NeedsText
 pub mod Reasons
 pub mod Rendering
@@ -31,6 +32,8 @@ pub use Rattle.jt_image.specs.Typed
 pub use Rattle.jt_inherit.specs.Chains
 pub use Rattle.jt_inherit.specs.Small
 pub use Rattle.jt_machine.specs.Growing
+pub use Rattle.jt_machine.specs.Metering
+pub use Rattle.jt_machine.specs.Session
 pub use Rattle.jt_machine.specs.View
 pub use Rattle.jt_value.specs.ContextView
 pub use Rattle.jt_value.specs.FaultText

@@ -32,6 +32,7 @@ mod explaining_runs;
 mod explanation;
 mod marks;
 mod meant;
+mod metered_outcome;
 mod needs;
 mod reasons;
 mod refusal_code;
@@ -70,6 +71,7 @@ pub use jt_value::{
     Context, Fault, ListItems, NoMemory, NumberRange, Text, Value, ValueError, ValueList, ValueMap,
 };
 pub use jt_verify::{Flaw, Refusal, Verified, VerifiedView, verify, verify_view};
+pub use metered_outcome::{MeteredOutcome, meter_image, meter_template};
 pub use needs::listed_needs;
 pub use reasons::Reason;
 pub use refusal_code::RefusalCode;
