@@ -46,6 +46,11 @@ static void empty_handles(void) {
     expect(is(jt_library_explain(&library, BYTES("page"), options, result.out, 256), JT_USAGE,
               JT_NOT_HELD),
            "no library to explain from");
+    clear(&result);
+    expect(is(jt_library_needs(&library, BYTES("page"), options, result.out, 256), JT_USAGE,
+              JT_NOT_HELD) &&
+               result.out[0] == 'x' && !library.full,
+           "no library that needs something");
     expect(is(jt_image_save(&nothing, result.out, 256), JT_USAGE, JT_NOT_HELD),
            "no image to save");
     expect(is(jt_image_run(&nothing, &context, budget, &outcome, result.out, 256), JT_USAGE,
@@ -119,6 +124,55 @@ static void libraries(void) {
     jt_image_free(&made);
 }
 
+/* A template that needs names and templates, and one that needs a name alone. */
+#define HOME                                                                                      \
+    "{% extends 'base' %}{% block body %}{{ title }}{% include 'ad' ignore missing %}"            \
+    "{% include 'menu' %}{% endblock %}"
+#define BASE "{{ site }}{% block body %}{% endblock %}"
+#define MENU "{% for link in links %}{{ link }}{% endfor %}"
+#define OTHER "{{ title }}"
+static const char site[] = "home" HOME "base" BASE "menu" MENU "other" OTHER;
+static const struct jt_lengths site_lengths[] = {
+    {4, LENGTH(HOME)}, {4, LENGTH(BASE)}, {4, LENGTH(MENU)}, {5, LENGTH(OTHER)}};
+
+static const char site_needs[] = "name link\nname links\nname site\nname title\n"
+                                 "template base\ntemplate home\ntemplate menu\nmissing ad\n";
+
+/* Checks what templates need, in buffers of each length, and that refusals are those of a
+ * compilation. */
+static void needs(void) {
+    const char *refused[] = {"none", "bad", "", "\xff"};
+    const size_t length = LENGTH(site_needs);
+    struct jt_library library = {0};
+    struct jt_image made = {0};
+    struct result a, b;
+    jt_library_load(BYTES(site), site_lengths, COUNT_OF(site_lengths), &library, a.out, 256);
+    for (size_t room = 0; room <= length + 1; room++) {
+        clear(&a);
+        clear(&b);
+        a.answer = jt_library_needs(&library, BYTES("home"), options, a.out, room);
+        b.answer = (struct jt_answer){.status = JT_DONE, .length = length};
+        if (room >= length) {
+            memcpy(b.out, site_needs, length);
+        }
+        expect(same(&a, &b) && library.full, "the needs of a template");
+    }
+    expect(jt_library_needs(&library, BYTES("other"), options, a.out, 256).length ==
+               LENGTH("name title\ntemplate other\n"),
+           "the needs of a template without others");
+    jt_library_load(TEMPLATES, &library, a.out, 256);
+    for (size_t which = 0; which < COUNT_OF(refused); which++) {
+        clear(&a);
+        clear(&b);
+        a.answer = jt_library_needs(&library, BYTES(refused[which]), options, a.out, 256);
+        b.answer =
+            jt_library_compile(&library, BYTES(refused[which]), options, &made, b.out, 256);
+        expect(a.answer.status != JT_DONE && same(&a, &b) && library.full,
+               "a refused template needs nothing");
+    }
+    jt_library_free(&library);
+}
+
 static void refusals(void) {
     struct jt_image kept = {0};
     struct jt_context context = {0};
@@ -160,6 +214,9 @@ static void other_kinds(struct jt_image *kept, struct jt_context *context,
     expect(is(jt_library_explain((struct jt_library *)kept, BYTES("page"), options, a.out, 256),
               JT_USAGE, JT_NOT_HELD),
            "an image is no library to explain from");
+    expect(is(jt_library_needs((struct jt_library *)kept, BYTES("page"), options, a.out, 256),
+              JT_USAGE, JT_NOT_HELD),
+           "an image is no library that needs something");
     jt_library_load(TEMPLATES, &library, a.out, 256);
     expect(is(jt_image_run((struct jt_image *)&library, context, budget, &other, a.out, 256),
               JT_USAGE, JT_NOT_HELD),
@@ -418,6 +475,7 @@ int main(void) {
     alone(version);
     alone(empty_handles);
     alone(libraries);
+    alone(needs);
     alone(refusals);
     alone(runs);
     alone(each);

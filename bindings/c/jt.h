@@ -15,6 +15,7 @@
  * jt_compile, jt_check, jt_explain, jt_run and jt_render keep nothing.
  *
  * If templates are refused, jt_explain and jt_library_explain say more of it to their author.
+ * jt_library_needs lists the names of a context and the templates that a template needs.
  *
  * ANSWERS. Each call returns a struct jt_answer. A text, an image, a reason or an explanation goes
  * into the buffer `out`, which has `room` bytes. It is not terminated by a zero byte. If it is
@@ -229,6 +230,22 @@ struct jt_answer jt_library_compile(struct jt_library *library, const uint8_t *e
 struct jt_answer jt_library_explain(struct jt_library *library, const uint8_t *entry,
                                     size_t entry_length, struct jt_options options, uint8_t *out,
                                     size_t room);
+
+/* Writes what the image of the template `entry` depends on, a line for each, with its end:
+ *
+ *     name title          a name of the context that the image reads, or that its templates set
+ *     template page.html  a template that the image is made of: the entry, and all that it extends,
+ *                         includes and imports, also through others
+ *     missing ad.html     a template that an `include` with `ignore missing` names, which the
+ *                         library lacks
+ *
+ * The lines of each kind ascend by their bytes, and none occurs twice. (No name has a line end: the
+ * name of a template has no byte below 32.) As long as these templates have the same sources and
+ * the missing ones are missing, the entry compiles to the same image, whatever else the library
+ * holds. A refusal is that of jt_library_compile. */
+struct jt_answer jt_library_needs(struct jt_library *library, const uint8_t *entry,
+                                  size_t entry_length, struct jt_options options, uint8_t *out,
+                                  size_t room);
 
 /* Reads and verifies the bytes of an image into `image`; the bytes are copied. The image holds
  * nothing if the status is not JT_DONE. */

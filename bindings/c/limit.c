@@ -58,6 +58,10 @@ static struct jt_answer compile_of(uint8_t *to) {
     return jt_library_compile(&library, bytes("page"), 4, options, &filled_image, to, sizeof out);
 }
 
+static struct jt_answer needs_of(uint8_t *to) {
+    return jt_library_needs(&library, bytes("page"), 4, options, to, sizeof out);
+}
+
 static struct jt_answer share_library(uint8_t *to) {
     (void)to;
     return (struct jt_answer){.status = jt_library_share(&library, &filled_library)};
@@ -114,6 +118,7 @@ static const struct {
     {"jt_render", render},
     {"jt_library_load", load_library},
     {"jt_library_compile", compile_of},
+    {"jt_library_needs", needs_of},
     {"jt_library_share", share_library},
     {"jt_image_load", load_image},
     {"jt_image_save", save},

@@ -68,6 +68,7 @@ enum {
     IMAGE_LOAD,
     CONTEXT_LOAD,
     LIBRARY_COMPILE,
+    LIBRARY_NEEDS,
     LIBRARY_SHARE,
     IMAGE_SAVE,
     IMAGE_RUN,
@@ -137,6 +138,8 @@ static struct jt_answer call(int which, uint8_t *to) {
         return jt_context_load(bytes(context), LENGTH(context), &values, to, room);
     case LIBRARY_COMPILE:
         return jt_library_compile(&library, bytes("page"), 4, options, &other, to, room);
+    case LIBRARY_NEEDS:
+        return jt_library_needs(&library, bytes("page"), 4, options, to, room);
     case LIBRARY_SHARE:
         answer.status = jt_library_share(&library, &other_library);
         return answer;
@@ -175,6 +178,8 @@ static bool is_filled(int which, uint32_t status) {
         return values.full == (status == JT_DONE);
     case LIBRARY_COMPILE:
         return library.full && other.full == (status == JT_DONE);
+    case LIBRARY_NEEDS:
+        return library.full;
     case LIBRARY_SHARE:
         return library.full && other_library.full == (status == JT_DONE);
     case IMAGE_SAVE:

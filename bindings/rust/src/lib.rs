@@ -32,6 +32,7 @@
 mod each;
 mod error;
 mod image;
+mod needs;
 mod outcome;
 #[allow(unsafe_code)]
 mod raw;
@@ -56,6 +57,7 @@ pub fn version() -> String {
 pub use each::RunEach;
 pub use error::{Error, Refusal};
 pub use image::{Context, Image};
+pub use needs::Needs;
 pub use outcome::{Budget, Fault, Outcome, Place, Spent};
 pub use run::{Progress, Run, Used};
 pub use templates::{Options, Template, Templates};

@@ -219,6 +219,7 @@ calls! {
         (library: &mut LibraryHandle), [entry: u8], options: Options, image: &mut ImageHandle
     );
     fn jt_library_explain((library: &mut LibraryHandle), [entry: u8], options: Options);
+    fn jt_library_needs((library: &mut LibraryHandle), [entry: u8], options: Options);
     fn jt_image_load((), [bytes: u8], image: &mut ImageHandle);
     fn jt_image_save((image: &mut ImageHandle), [],);
     fn jt_context_load((), [bytes: u8], context: &mut ContextHandle);

@@ -282,6 +282,29 @@ fn a_site_is_compiled_from_one_library() {
 }
 
 #[test]
+fn a_template_needs_names_and_templates() {
+    let _end = HoldsNothing;
+    let many: Vec<_> = (0..500).map(|n| format!("name_{n:03}")).collect();
+    let long: String = many.iter().map(|name| format!("{{{{ {name} }}}}")).collect();
+    let templates = Templates::new(&[
+        ("page", "{% extends 'base' %}{% block b %}{{ x }}{{ title }}{% endblock %}"),
+        ("base", "{{ site }}{% include 'a b' ignore missing %}{% block b %}{% endblock %}"),
+        ("bad", "{{ x|uper }}"),
+        ("long", &long),
+    ]);
+    let needs = templates.needs("page", Options::default()).unwrap();
+    assert_eq!(needs.names, ["site", "title", "x"]);
+    assert_eq!(needs.templates, ["base", "page"]);
+    assert_eq!(needs.missing, ["a b"]);
+    assert_eq!(templates.needs("long", Options::default()).unwrap().names, many);
+    assert_eq!(template("").needs().unwrap().templates, ["t"]);
+    for name in ["bad", "none"] {
+        let error = templates.needs(name, Options::default()).unwrap_err();
+        assert_eq!(error, templates.compile(name, Options::default()).unwrap_err());
+    }
+}
+
+#[test]
 fn a_folder_has_its_files_as_templates() {
     let _end = HoldsNothing;
     let folder = std::env::temp_dir().join(format!("jt-{}", std::process::id()));

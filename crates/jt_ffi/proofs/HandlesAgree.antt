@@ -14,6 +14,7 @@ use Rattle.jt_ffi.specs.Handles.{CompilesFrom, CompilesHeld, CompilesInto, Expla
 use Rattle.jt_ffi.specs.Handles.{HoldsContext, HoldsImage, HoldsLibrary}
 use Rattle.jt_ffi.specs.Handles.{HoldsTemplate, ReportsKept, RunsAndKeeps, RunsFor, RunsHeld, SavesHeld}
 use Rattle.jt_ffi.specs.HostTemplates.{AreTexts, sources_in, total}
+use Rattle.jt_ffi.specs.Needs.{NeedsFrom, NeedsHeld}
 use Rattle.jt_ffi.specs.declared.answer.Answer.{Answer}
 use Rattle.jt_ffi.specs.declared.local.Local.{Local}
 use Rattle.jt_ffi.specs.declared.local.Local.TheVariants.{Context, Outcome, Run}
@@ -183,6 +184,24 @@ pub answers_explain : (library : Option Shared) (ns : List Lengths) (texts entry
     → AnswersExplained (Explains ns texts entry o) old new a
 answers_explain library ns texts entry o holds old new a h =
     (h.0, explains_held library ns texts entry o holds h.0 h.1, h.2)
+
+-- ---- needs
+
+needs_held : (library : Option Shared) (ns : List Lengths) (texts entry : List ℕ) (o : Options)
+    → HoldsLibrary ns texts library
+    → (r : CallResult) → NeedsHeld library entry o r → NeedsFrom (sources_in ns texts) entry o r
+needs_held (Some (Library t)) ns texts entry o holds r h =
+    subst (λ (sources : List ℕ → Option (List ℕ)). NeedsFrom sources entry o r) (λ j name. holds.2 name j) h
+needs_held (Some (Image p)) ns texts entry o holds r h = absurd holds
+needs_held None ns texts entry o holds r h = absurd holds
+
+-- The needs of a template of a held library are those of the sources that bytes spell.
+pub answers_needs : (library : Option Shared) (ns : List Lengths) (texts entry : List ℕ) (o : Options)
+    → HoldsLibrary ns texts library
+    → (old new : List ℕ) (a : Answer) → Answers (NeedsHeld library entry o) old new a
+    → Answers (NeedsFrom (sources_in ns texts) entry o) old new a
+answers_needs library ns texts entry o holds old new a h =
+    (h.0, needs_held library ns texts entry o holds h.0 h.1, h.2)
 
 -- ---- bytes of images
 

@@ -2,6 +2,7 @@ pub mod Answers
 pub mod Calls
 pub mod Handles
 pub mod HostTemplates
+pub mod Needs
 pub mod Owning
 pub mod Plain
 pub mod Slices

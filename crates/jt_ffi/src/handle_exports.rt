@@ -14,6 +14,7 @@ ghost use Rattle.jt_ffi.specs.Handles.{HoldsImage, HoldsLibrary, HoldsTemplate, 
 ghost use Rattle.jt_ffi.specs.Handles.{LoadsImage, LoadsLibrary, ReportsOutcome, RunsAndKeeps};
 ghost use Rattle.jt_ffi.specs.Handles.{SavesHeld};
 ghost use Rattle.jt_ffi.specs.HostTemplates.{sources_in};
+ghost use Rattle.jt_ffi.specs.Needs.{NeedsFrom, NeedsHeld};
 ghost use Rattle.jt_ffi.specs.Plain.{budget_of, options_of};
 
 use crate::answer::{Answer, write_explanation, write_result};
@@ -25,6 +26,7 @@ use crate::held::{
     save_held, share_held,
 };
 use crate::local_handle::LocalHandle;
+use crate::needs::list_held;
 use crate::repr::{FfiBudget, FfiOptions};
 use crate::shared_handle::SharedHandle;
 use crate::templates::Lengths;
@@ -100,6 +102,37 @@ pub extern "C" fn jt_library_explain(
     let outcome = explain_held(alloc, &taken, entry, options.options());
     library.put_back(taken);
     write_explanation(alloc, out, &outcome)
+}
+
+/// Writes what the template `entry` of a library needs: a line `name ..`, `template ..` or
+/// `missing ..` for each name of a context that its image reads or binds, each template that it is
+/// compiled from, and each missing one that it includes.
+///
+/// The entry compiles to the same code as long as these templates stay the same and the missing
+/// ones stay missing.
+#[unsafe(no_mangle)]
+pub extern "C" fn jt_library_needs(
+    alloc: Global,
+    library: &mut SharedHandle,
+    entry: &[u8],
+    options: FfiOptions,
+    out: &mut [u8],
+) -> Answer
+    ensures library { library.new.held ≡ library.old.held }
+    // The result is that of the held library.
+    ensures answer { Answers (NeedsHeld library.old.held entry.now (options_of options)) out.old
+        out.new result }
+    // The needs are those of the sources that the library was loaded from, and so is the reason of
+    // a refusal.
+    ensures sources { (lengths : List Lengths) (texts : List ℕ)
+        → HoldsLibrary lengths texts library.old.held
+        → Answers (NeedsFrom (sources_in lengths texts) entry.now (options_of options)) out.old
+        out.new result }
+{
+    let kept = library.take(alloc);
+    let outcome = list_held(alloc, &kept, entry, options.options());
+    library.put_back(kept);
+    write_result(alloc, out, &outcome)
 }
 
 /// Reads and verifies an image into a handle, and writes nothing, or the reason why the handle

@@ -16,7 +16,7 @@ from ._images import Budget, Image
 from ._library import LIBRARY_VERSION as library_version
 from ._library import check_version
 from ._runs import Report, Run
-from ._templates import Options, Template, Templates
+from ._templates import Needs, Options, Template, Templates
 
 __version__ = "0.1.0"
 check_version(__version__)
@@ -28,6 +28,7 @@ __all__ = [
     "Fault",
     "Image",
     "JtError",
+    "Needs",
     "NoMemory",
     "Options",
     "Refused",

@@ -8,7 +8,7 @@ import struct
 import time
 import warnings
 from itertools import islice
-from typing import Any, List, Optional, Tuple, Union
+from typing import Any, Dict, List, Optional, Tuple, Union
 
 from ._errors import Fault, JtError, NoMemory, Refused, Spent
 
@@ -79,58 +79,48 @@ class UsedNumbers(ctypes.Structure):
     _fields_: _Fields = [("fuel", _U64), ("output", _U64), ("depth", _U32)]
 
 
-_HANDLE: _Fields = [("at", ctypes.c_void_p), ("full", ctypes.c_bool)]
+class _Handle(ctypes.Structure):
+    """What a call fills and `free` empties."""
+
+    _fields_: _Fields = [("at", ctypes.c_void_p), ("full", ctypes.c_bool)]
+    _freeing = ""
+
+    def free(self) -> None:
+        """Frees what is held, if there is something."""
+        if library is not None:  # (as it is at the end of the process)
+            getattr(library, self._freeing)(self)
 
 
-class LibraryHandle(ctypes.Structure):
+class LibraryHandle(_Handle):
     """A `struct jt_library`. Any thread may free it, so its finalizer does."""
 
-    _fields_ = _HANDLE
-
-    def __del__(self) -> None:
-        if library is not None:  # (as it is at the end of the process)
-            library.jt_library_free(self)
+    _freeing = "jt_library_free"
+    __del__ = _Handle.free
 
 
-class ImageHandle(ctypes.Structure):
+class ImageHandle(_Handle):
     """A `struct jt_image`. Any thread may free it, so its finalizer does."""
 
-    _fields_ = _HANDLE
-
-    def free(self) -> None:
-        """Frees the image, if one is held."""
-        if library is not None:
-            library.jt_image_free(self)
-
-    __del__ = free
+    _freeing = "jt_image_free"
+    __del__ = _Handle.free
 
 
-class ContextHandle(ctypes.Structure):
+class ContextHandle(_Handle):
     """A `struct jt_context`. Only the thread that filled it may use it or free it."""
 
-    _fields_ = _HANDLE
-
-    def free(self) -> None:
-        """Frees the context, if one is held."""
-        if library is not None:
-            library.jt_context_free(self)
+    _freeing = "jt_context_free"
 
 
-class RunHandle(ctypes.Structure):
+class RunHandle(_Handle):
     """A `struct jt_run`. Only the thread that filled it may use it or free it."""
 
-    _fields_ = _HANDLE
-
-    def free(self) -> None:
-        """Frees the run, if one is held."""
-        if library is not None:
-            library.jt_run_free(self)
+    _freeing = "jt_run_free"
 
 
-class OutcomeHandle(ctypes.Structure):
+class OutcomeHandle(_Handle):
     """A `struct jt_outcome`. Only the thread that filled it may use it or free it."""
 
-    _fields_ = _HANDLE
+    _freeing = "jt_outcome_free"
 
 
 _BYTES = [ctypes.c_char_p, ctypes.c_size_t]
@@ -143,6 +133,7 @@ _CALLS = {
     "jt_library_load": (Answer, [*_TEMPLATES, _LIBRARY, *_BYTES]),
     "jt_library_compile": (Answer, [_LIBRARY, *_BYTES, FlagBytes, _IMAGE, *_BYTES]),
     "jt_library_explain": (Answer, [_LIBRARY, *_BYTES, FlagBytes, *_BYTES]),
+    "jt_library_needs": (Answer, [_LIBRARY, *_BYTES, FlagBytes, *_BYTES]),
     "jt_image_load": (Answer, [*_BYTES, _IMAGE, *_BYTES]),
     "jt_image_save": (Answer, [_IMAGE, *_BYTES]),
     "jt_context_load": (Answer, [*_BYTES, _CONTEXT, *_BYTES]),
@@ -212,6 +203,16 @@ def explain(templates: LibraryHandle, entry: bytes, flags: FlagBytes) -> Optiona
         return tell(library.jt_library_explain, templates, entry, len(entry), flags).decode()
     except NoMemory:
         return None
+
+
+def needs(templates: LibraryHandle, entry: bytes, flags: FlagBytes) -> Dict[str, List[str]]:
+    """Returns what a template needs, by the first words of the lines of `jt_library_needs`."""
+    lines = tell(library.jt_library_needs, templates, entry, len(entry), flags).decode()
+    found: Dict[str, List[str]] = {"name": [], "template": [], "missing": []}
+    for line in lines.split("\n")[:-1]:
+        kind, _, name = line.partition(" ")
+        found[kind].append(name)
+    return found
 
 
 def run(image: ImageHandle, context: ContextHandle, budget: Numbers) -> str:

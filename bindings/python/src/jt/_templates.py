@@ -9,7 +9,7 @@ from . import _forks
 from ._contexts import ContextLike
 from ._errors import NoMemory, Refused
 from ._images import Budget, Image
-from ._library import FlagBytes, Lengths, LibraryHandle, explain, library, tell
+from ._library import FlagBytes, Lengths, LibraryHandle, explain, library, needs, tell
 
 # The name of a template of a text alone.
 _NAMELESS = "<template>"
@@ -36,6 +36,23 @@ class Options:
             value = getattr(self, field.name)
             if not isinstance(value, bool):
                 raise TypeError(f"{field.name} is no bool: {value!r}")
+
+
+@dataclass(frozen=True)
+class Needs:
+    """What the image of a template depends on, each in ascending order.
+
+    `names` are the names of a context that it reads, those that its templates set too. `templates`
+    are those that it is made of: itself, and all that it extends, includes and imports, also
+    through others. `missing` are those that an `include` names and that do not exist.
+
+    While the sources of `templates` stay the same and those of `missing` do not exist, the image
+    stays the same. While the values of `names` stay the same too, so does its text.
+    """
+
+    names: Tuple[str, ...]
+    templates: Tuple[str, ...]
+    missing: Tuple[str, ...]
 
 
 class Templates:
@@ -97,6 +114,14 @@ class Templates:
                 self._templates[name] = Template._of(name, self)
             return self._templates[name]
 
+    def needs(self, name: str) -> Needs:
+        """Returns what the template of a name depends on.
+
+        # Errors
+        Those of `template` and of `Template.needs`.
+        """
+        return self.template(name).needs()
+
     def __getitem__(self, name: str) -> "Template":
         """Returns the template of a name, or raises `KeyError` if there is none."""
         if name not in self._sources:
@@ -127,6 +152,11 @@ class Templates:
     def _image(self, entry: bytes) -> Image:
         """Compiles a template."""
         return Image._compiled(self._shared(), entry, self._flags())
+
+    def _needs(self, entry: bytes) -> Needs:
+        """Returns what a template depends on."""
+        found = needs(self._shared(), entry, self._flags())
+        return Needs(tuple(found["name"]), tuple(found["template"]), tuple(found["missing"]))
 
     def _explanation(self, entry: bytes) -> Optional[str]:
         """Returns why a template was refused, in words. It is compiled again for that."""
@@ -185,6 +215,18 @@ class Template:
         """
         return self._compiled().share()
 
+    def needs(self) -> Needs:
+        """Returns what the image of the template depends on. It is compiled again for that.
+
+        # Errors
+        `Refused` for the sources, `NoMemory`.
+        """
+        try:
+            return self._templates._needs(self._entry)
+        except Refused as error:
+            reason = error.reason
+        raise self._refused(reason)
+
     def render(
         self, /, context: ContextLike = None, budget: Budget = Budget(), **names: Any
     ) -> str:
@@ -210,7 +252,11 @@ class Template:
                 return self._image
             except Refused as error:
                 reason = error.reason
-        raise Refused(reason, self._name, self._templates._explanation(self._entry))
+        raise self._refused(reason)
+
+    def _refused(self, reason: str) -> Refused:
+        """Returns the refusal of the template with its explanation."""
+        return Refused(reason, self._name, self._templates._explanation(self._entry))
 
     def __repr__(self) -> str:
         return f"<jt.Template {self._name!r}>"
