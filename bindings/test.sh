@@ -111,7 +111,7 @@ done
 try 'messages of the build in Python' python3 "$here/python/test_install.py"
 try 'the wheel in a fresh environment' environment
 try 'the tests in Python' installed_python "$here/python/test_jt.py"
-for name in runs each forks; do
+for name in runs each forks site; do
     try "$name of the installed package" installed_python "$here/python/test_$name.py"
 done
 try_script 'the words of the language server' installed_python "$here/python/words.py"
