@@ -254,7 +254,7 @@ class Places(unittest.TestCase):
                     continue
                 tag = next((it for it in tags if it.start <= start < it.end), None)
                 first = tag.start if tag else start
-                self.assertEqual(lines.line_of(first) + 1, refused.line)
+                self.assertIn(refused.line, (lines.line_of(first) + 1, lines.line_of(start) + 1))
                 if refused.subject and refused.code not in ("C7", "V5"):
                     last = refused.subject.rpartition(".")[2]
                     found = sources[where][start:end]

@@ -87,8 +87,9 @@ class Refused(JtError):
 
     `reason` is the line of the program, as `P1 Syntax in page line 2`, and begins with `code` and
     `name`. `template`, `line` and `subject`, the name that the refusal is about, are `None` where
-    they are not known. `entry` is the template that was compiled, if one was, and `explanation`
-    is what `jt explain` prints of it: `str(error)` is that, or the reason if there is none.
+    they are not known. The line is that of the name, or else of its tag; the reason has that of the
+    tag. `entry` is the template that was compiled, if one was, and `explanation` is what `jt explain`
+    prints of it: `str(error)` is that, or the reason if there is none.
     """
 
     reason: str

@@ -29,19 +29,24 @@ _OPERATORS = frozenset("+ - * ** // % ~ == != < <= > >= = . , : | ( ) [ ] { }".s
 
 
 def tags_of_line(tags: List[Tag], lines: Lines, line: int) -> List[Tag]:
-    """Returns the tags that begin on a line, counted from 0."""
+    """Returns the tags of which a part is on a line, counted from 0."""
     if line >= len(lines.starts):
         return []
-    start = lines.starts[line]
-    end = lines.starts[line + 1] if line + 1 < len(lines.starts) else len(lines.source) + 1
-    return [tag for tag in tags if start <= tag.start < end]
+    start, end = _line_span(lines, line)
+    return [tag for tag in tags if tag.start < end and start < max(tag.end, tag.start + 1)]
+
+
+def _line_span(lines: Lines, line: int) -> Span:
+    """Returns the start of a line, counted from 0, and that of the next one."""
+    is_last = line + 1 == len(lines.starts)
+    return lines.starts[line], len(lines.source) + 1 if is_last else lines.starts[line + 1]
 
 
 def mark(refused: Refused, name: str, tags: List[Tag], lines: Lines, options: Options) -> Span:
     """Returns the characters that a refusal of a template is about: a token, a tag or a line."""
     line = (refused.line or 1) - 1
     here = tags_of_line(tags, lines, line)
-    found = _token(refused, here) if here else None
+    found = _token(refused, here, lines, line) if here else None
     if found is not None:
         return found
     tag = _tag(refused, name, here, lines, options)
@@ -70,12 +75,23 @@ def _end_of_line(tag: Tag, lines: Lines) -> int:
     return lines.starts[line] + len(lines.line_text(line))
 
 
-def _token(refused: Refused, tags: List[Tag]) -> Optional[Span]:
-    """Returns the token of the name that a refusal is about."""
+def _token(refused: Refused, tags: List[Tag], lines: Lines, line: int) -> Optional[Span]:
+    """Returns the token of the name that a refusal is about, on its line if it is there."""
+    start, end = _line_span(lines, line)
+    found = list(_tokens_of(refused, tags))
+    return next((it for it in found if start <= it[0] < end), found[0] if found else None)
+
+
+def _tokens_of(refused: Refused, tags: List[Tag]) -> Iterator[Span]:
+    """Returns the tokens that a refusal may be about, those of the right form first."""
     if refused.code in ("S3", "S4", "S5"):
-        return next((it for tag in tags for it in _bad_tokens(refused.code, tag)), None)
+        for tag in tags:
+            yield from _bad_tokens(refused.code, tag)
+        return
     if refused.subject is None:
-        return _method(tags) if refused.code == "V3" else None
+        if refused.code == "V3":
+            yield from _methods(tags)
+        return
     name = refused.subject
     if refused.code in ("V1", "V3", "V4"):
         name = name.rpartition(".")[2]
@@ -87,27 +103,26 @@ def _token(refused: Refused, tags: List[Tag]) -> Optional[Span]:
             for at, token in enumerate(tag.tokens):
                 said = token.inner if token.kind == "text" else token.text
                 if said == name and test(tag.tokens, at):
-                    return token.span
-    return _escaped_name(tags) if fits is _is_link else None
+                    yield token.span
+    if fits is _is_link:
+        yield from _escaped_names(tags)
 
 
-def _method(tags: List[Tag]) -> Optional[Span]:
-    """Returns the first method of a Python value that is called."""
+def _methods(tags: List[Tag]) -> Iterator[Span]:
+    """Returns the methods of Python's values that are called."""
     for tag in tags:
         for at in range(1, len(tag.tokens) - 1):
             dot, name, after = tag.tokens[at - 1 : at + 2]
             if dot.text == "." and name.text in METHODS and after.text == "(":
-                return name.span
-    return None
+                yield name.span
 
 
-def _escaped_name(tags: List[Tag]) -> Optional[Span]:
-    """Returns the name of a template that is written with escapes, so not as it is said."""
+def _escaped_names(tags: List[Tag]) -> Iterator[Span]:
+    """Returns the names of templates that are written with escapes, so not as they are said."""
     for tag in tags:
         for at, token in enumerate(tag.tokens):
             if "\\" in token.text and _is_link(tag.tokens, at):
-                return token.span
-    return None
+                yield token.span
 
 
 def _bad_tokens(code: str, tag: Tag) -> Iterator[Span]:
