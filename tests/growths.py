@@ -1,7 +1,7 @@
 #!/usr/bin/env python3
 """Refuses each single growth of memory, and lets each read and each write fail: tests/growths.py PROGRAM [TRIALS] [--table]
 
-TRIALS is the program of jt_trials, which is found beside PROGRAM's crate; lib.rt of jt_trial_calls describes its trials. `cc` or a clang builds
+TRIALS is the program of jt_trials, which is found beside PROGRAM's crate; its main.rt describes its trials. `cc` or a clang builds
 refuse.c, which is preloaded and refuses the requested growth. growth_cases.py has the cases.
 
 Lines of the program: for N from 1, until the line needs no Nth growth, growth N is refused, and in a second run growth N and all later

@@ -1,8 +1,8 @@
 #!/usr/bin/env python3
 """Changes images and sources byte by byte, as a stranger would: tests/hostile.py PROGRAM [TRIALS]
 
-TRIALS is the program of jt_trials, which is found beside PROGRAM's crate. Its library jt_trial_calls describes how a trial is requested (lib.rt),
-and the letters of the results (images.rt and sources.rt).
+TRIALS is the program of jt_trials, which is found beside PROGRAM's crate. Its main.rt describes how a trial is requested, and its images.rt
+and sources.rt the letters of the results.
 
 Images: X, N, Z and Y of images.txt, Y with Drop in place of its jump, and those that PROGRAM compiles of the sources below, in each
 version of the format. Every proper prefix is Truncated. Every change of one byte to each of its 255 other values has one of two results.

@@ -1,7 +1,7 @@
 #!/usr/bin/env python3
 """Runs the images of all rows beside the reference machine: tests/reference.py PROGRAM [TRIALS]
 
-TRIALS is the program of jt_trials, which is found beside PROGRAM's crate; plain.rt of jt_trial_calls describes the letters of the results. The images are
+TRIALS is the program of jt_trials, which is found beside PROGRAM's crate; its plain.rt describes the letters of the results. The images are
 those that PROGRAM compiles of the rows of templates, those of images.txt, and those of reference.txt, which no other script runs. Refused
 and changed images are left out, and those of which 600 runs take too long: of more than MOST bytes, and of rows with a bound on the time.
 A line names these. Each image runs for its row's context with every fuel from 0 to 200, under ample, narrow and tiny limits, as an image

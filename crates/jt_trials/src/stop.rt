@@ -8,10 +8,8 @@ use std::num::ParseIntError;
 /// The reason why the trials stop early: a growth outside of the calls was refused, or any other
 /// error.
 #[derive(Debug, Drop)]
-pub enum Stop {
-    /// A refused growth outside of the calls.
+pub(crate) enum Stop {
     NoMemory,
-    /// A line that names no trial, or an output that fails.
     Other,
 }
 
