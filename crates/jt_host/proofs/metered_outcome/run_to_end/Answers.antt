@@ -8,9 +8,11 @@ use Rattle.jt_host.proofs.MeteredRuns.{at_start, ends_using, slice_more}
 use Rattle.jt_host.proofs.metered_outcome.run_to_end.Goals as goal
 
 pub loop-slice-init : goal.loop-slice-init
-loop-slice-init c =
-    (0, at_start (arc_value c.in-Ok.image) (pairs_of c.args.context.now) (budget_view c.args.budget)
-    c.in_ok-run.run' c.in_ok-run.ensures.started)
+loop-slice-init c = (
+  0,
+  at_start (arc_value c.in-Ok.image) (pairs_of c.args.context.now) (budget_view c.args.budget)
+      c.in_ok-run.run' c.in_ok-run.ensures.started,
+)
 
 pub loop-slice-preserved : goal.loop-slice-preserved
 loop-slice-preserved c = (
