@@ -14,11 +14,11 @@ from ._library import RunHandle, UsedNumbers, library, run, tell
 
 # A run is made in one call if it needs at most this fuel: the first number if nothing but a signal
 # may stop it. Usual templates take a tenth of a microsecond for each, the slowest known ones 21.
-MOST_FUEL, _MOST_WATCHED_FUEL = 30_000, 5_000
+MOST_FUEL, _MOST_WATCHED_FUEL = 30_000, 10_000
 # A run is in slices from its start if one of this number of runs before it was.
 MOST_RUNS = 16
 # The instructions of a first slice (the first ones may be slow), of a first slice of a run without a
-# deadline, and of a longest.
+# deadline or of an image whose slices were short, and of a longest.
 FIRST_STEPS, MANY_STEPS, _MOST_STEPS = 4, 1_024, 8_192
 # A slice takes from the first to the second number of seconds, unless it has `_MOST_STEPS`.
 _SHORT, _LONG = 0.001, 0.004
@@ -171,15 +171,18 @@ class Run(Closing):
     def _slices(self, watch: "Watch", steps: int = FIRST_STEPS) -> Iterator[None]:
         """Executes the run to its end, and yields after each slice, or after some short ones.
 
-        The first slice has `steps` instructions.
+        The first slice has `steps` instructions, or what the pace of the image has, if that is more.
 
         # Errors
         Those of `Watch.check` and `advance`.
         """
+        pace = watch.pace
+        steps = max(steps, pace.steps)
         turn = begin = time.monotonic()
         while self._advance(steps):
             now = watch.check(self)
             took, begin = now - begin, now
+            pace.see(steps, took)
             if took < _SHORT:
                 steps = min(2 * steps, _MOST_STEPS)
             elif took > _LONG:
@@ -187,13 +190,24 @@ class Run(Closing):
             if now - turn >= _SHORT:
                 yield
                 turn = begin = time.monotonic()
+        pace.see(0, time.monotonic() - begin)
 
 
 class Pace:
-    """How many of the next runs of an image are in slices from their start."""
+    """What the last runs of an image say of the next ones.
+
+    `long_runs` of them are in slices from their start, and a first slice has `steps` instructions.
+    """
 
     def __init__(self) -> None:
-        self.long_runs = 0
+        self.long_runs, self.steps = 0, FIRST_STEPS
+
+    def see(self, steps: int, took: float) -> None:
+        """Keeps the instructions of a short slice, and forgets them after a long one."""
+        if took > _LONG:
+            self.steps = FIRST_STEPS
+        elif took < _SHORT:
+            self.steps = max(self.steps, min(steps, MANY_STEPS))
 
 
 class Watch:
