@@ -25,8 +25,8 @@ use Rattle.jt_inherit.specs.Chains.{SourceTexts}
 use Rattle.jt_program.specs.declared.messages.Failure.{Failure}
 use Rattle.jt_program.specs.declared.messages.Failure.TheVariants as failure
 use Rattle.jt_program.specs.declared.messages.Status.TheVariants as status
-use Rattle.jt_program.specs.Commands.{CommandUses, Ending, IsUnread, IsUse, JobUses, RenderUses, Renders, RunUses, Runs}
-use Rattle.jt_program.specs.Commands.{UsesIf, of_run, run_end}
+use Rattle.jt_program.specs.Commands.{CommandUses, Ending, IsOfContext, IsUnread, IsUse, JobUses, RenderUses, Renders}
+use Rattle.jt_program.specs.Commands.{RunUses, Runs, UsesIf, of_run, run_end}
 use Rattle.jt_program.specs.Ending.{code_of, status_of}
 use Rattle.jt_program.specs.Files.{Known}
 use Rattle.jt_program.specs.Reports.{ReportsFailure, TookUnlessFailed, failure_text, use_text}
@@ -169,6 +169,13 @@ unread_other files asks context (failure.Call call_error.NoMemory) h =
 unread_other files asks context (failure.Call (call_error.Context x)) h =
     (((λ e. absurd (cc)), (λ e. absurd (cc))), refl)
 unread_other files asks context e h = absurd h
+
+-- Inputs that are missing are neither the usage nor that of standard output, and no run has ended.
+pub lacks_other : (files : Known) (asks : Text → Type 0) (L : Type 0) (context : Option (String Global)) (e : Failure)
+    → IsUnread files asks None (Err e) ⊎ (L × IsUnread files (IsOfContext context) context (Err e))
+    → IsOther e × (run_end (Err e) ≡ None)
+lacks_other files asks L context e (inl h) = unread_other files asks None e h
+lacks_other files asks L context e (inr h) = unread_other files (IsOfContext context) context e h.1
 
 -- Bytes that are no image come to that error, which is neither the usage nor that of standard output.
 pub no_image_other : (bytes : List ℕ) (pairs : Pairs) (b : Budget) (e : CallError) → IsNoImage bytes e
